@@ -1,0 +1,4 @@
+pub mod Message
+pub mod Room
+pub mod Causes
+pub mod InPlace

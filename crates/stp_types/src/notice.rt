@@ -1,0 +1,73 @@
+//! What the node notes for its operator.
+
+use crate::cause::Cause;
+use crate::point::{LinkId, PointCode, Sls};
+
+/// What is wrong with the octets of a frame: the first fault that reading meets (RFC 4165 §2).
+#[derive(Clone, Copy, Debug, PartialEq, Eq)]
+pub enum FrameFault {
+    /// Too few octets for what the frame announces.
+    Short = 1,
+    /// The length field isn't the number of octets.
+    Length = 2,
+    /// The version isn't 1.
+    Version = 3,
+    /// A class, type or link state that M2PA doesn't have.
+    Unknown = 4,
+}
+
+/// Why a link failed.
+#[derive(Clone, Copy, Debug, PartialEq, Eq)]
+pub enum FailureReason {
+    /// Its association was lost.
+    Association,
+    /// A timer of the link ran out.
+    Timer,
+    /// A frame with a number out of place.
+    Sequence,
+    /// A link status that fails the link.
+    Status,
+    /// A frame whose length field is wrong.
+    Length,
+    /// The adjacent point began a changeover of the link.
+    Changeover,
+    /// An order of the operator.
+    Operator,
+}
+
+/// The timers that end a changeover (Q.704 §16.8).
+#[derive(Clone, Copy, Debug, PartialEq, Eq)]
+pub enum ChangeoverTimer {
+    /// No link was left to the adjacent point.
+    T1,
+    /// The acknowledgement of the changeover order didn't come.
+    T2,
+}
+
+/// The timers that end a changeback or a rerouting (Q.704 §16.8), with what they ran for.
+#[derive(Clone, Copy, Debug, PartialEq, Eq)]
+pub enum LateTimer {
+    /// The hold of messages that come to this link.
+    T3(LinkId),
+    /// The changeback declaration of this code.
+    T4(u8),
+}
+
+/// What the node notes for its operator.
+#[derive(Clone, Copy, Debug, PartialEq, Eq)]
+pub enum Notice {
+    /// A message in a frame of this link was refused.
+    Refused(Cause, LinkId),
+    /// A frame of this link was left aside.
+    Frame(FrameFault, LinkId),
+    /// The link failed.
+    Failed(LinkId, FailureReason),
+    /// A message to this point with this signalling link selection was lost.
+    Lost(Cause, PointCode, Sls),
+    /// A management message to this point could not go out.
+    Unsent(Cause, PointCode),
+    /// A changeover of this link ended by its timer.
+    Expired(ChangeoverTimer, LinkId),
+    /// A changeback or rerouting ended by its timer.
+    Late(LateTimer),
+}
