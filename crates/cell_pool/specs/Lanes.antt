@@ -1,0 +1,38 @@
+-- Numbered lists of messages, under one limit on all user messages and one on all management messages.
+use Rattle.std.specs.Prelude.{ℕ, Bool, List, [], ◌∷◌, ◌++◌, Option, Some, None, drop, count_by, sum_by, nat_le, not, if◌then◌else◌, slice_index_or, slice_set}
+use Rattle.stp_types.specs.Message.{Message, is_management}
+use Rattle.stp_types.specs.declared.cause.Cause.{Cause}
+use Rattle.stp_types.specs.declared.cause.Cause.TheVariants.{PoolFull, ManagementFull}
+
+-- how many management messages a list has; every other message is a user message
+abbrev pub managements_in : List Message → ℕ
+managements_in ms = count_by is_management ms
+
+abbrev pub users_in : List Message → ℕ
+users_in ms = count_by (λ m. not (is_management m)) ms
+
+-- how many of each stand in all lists together
+abbrev pub managements : List (List Message) → ℕ
+managements lists = sum_by managements_in lists
+
+abbrev pub users : List (List Message) → ℕ
+users lists = sum_by users_in lists
+
+-- why one more message is refused, if it is: as many of its kind stand as may
+abbrev pub push_refusal : ℕ → List (List Message) → Message → Option Cause
+push_refusal pool lists m =
+    if is_management m
+    then (if nat_le 256 (managements lists) then Some ManagementFull else None)
+    else (if nat_le pool (users lists) then Some PoolFull else None)
+
+-- one list of them
+abbrev pub lane_at : List (List Message) → ℕ → List Message
+lane_at lists lane = slice_index_or lists lane []
+
+-- a message at the end of a list
+abbrev pub pushed : List (List Message) → ℕ → Message → List (List Message)
+pushed lists lane m = slice_set lists lane (lane_at lists lane ++ m ∷ [])
+
+-- a list without its first messages
+abbrev pub dropped : List (List Message) → ℕ → ℕ → List (List Message)
+dropped lists lane count = slice_set lists lane (drop count (lane_at lists lane))

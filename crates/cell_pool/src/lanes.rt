@@ -1,0 +1,58 @@
+//! What every store of messages does.
+
+ghost use Rattle.std.specs.Prelude.{◌≡◌, ℕ, ◌<◌, List, None, Some, length, IfErr, OnOk, is_ok, slice_get, if◌then◌else◌};
+ghost use Rattle.std.specs.Option.{option_copied};
+ghost use Rattle.stp_types.specs.Message.{Message};
+ghost use Rattle.cell_pool.specs.Lanes.{lane_at, push_refusal, pushed, dropped};
+
+use stp_types::{Cause, Msu};
+
+/// Numbered lists of messages. All lists together keep at most a stated number of user messages, and
+/// at most 256 management messages.
+pub trait Lanes {
+    /// The lists, in the order of their numbers.
+    ghost lists: { Self → List (List Message) };
+
+    /// How many user messages may stand in all lists together.
+    ghost pool: { Self → ℕ };
+
+    /// How many lists there are.
+    fn lanes(&self) -> usize
+        ensures { result ≡ length (lists self.now) };
+
+    /// Why this message would be refused now: PoolFull for a user message, ManagementFull for a
+    /// management message, exactly where as many of its kind stand as may.
+    fn refusal(&self, message: &Msu) -> Option<Cause>
+        ensures { result ≡ push_refusal (pool self.now) (lists self.now) message.now };
+
+    /// Puts a message at the end of a list. Refused as `refusal` says, and then nothing changes.
+    fn push_back(&mut self, lane: usize, message: &Msu) -> Result<(), Cause>
+        requires { lane < length (lists self.old) }
+        ensures refused { IfErr result (λ cause. push_refusal (pool self.old) (lists self.old) message.now ≡ Some cause) }
+        ensures taken { OnOk result (push_refusal (pool self.old) (lists self.old) message.now ≡ None) }
+        ensures lists { lists self.new ≡ (if is_ok result then pushed (lists self.old) lane message.now else lists self.old) }
+        ensures pool { pool self.new ≡ pool self.old };
+
+    /// Takes the first message of a list, where there is one.
+    fn pop_front(&mut self, lane: usize) -> Option<Msu>
+        requires { lane < length (lists self.old) }
+        ensures first { result ≡ slice_get (lane_at (lists self.old) lane) 0 }
+        ensures lists { lists self.new ≡ dropped (lists self.old) lane 1 }
+        ensures pool { pool self.new ≡ pool self.old };
+
+    /// Drops the first `count` messages of a list, or all where it has fewer.
+    fn drop_front(&mut self, lane: usize, count: usize)
+        requires { lane < length (lists self.old) }
+        ensures lists { lists self.new ≡ dropped (lists self.old) lane count }
+        ensures pool { pool self.new ≡ pool self.old };
+
+    /// The message at a place of a list, from 0, where there is one.
+    fn get(&self, lane: usize, index: usize) -> Option<&Msu>
+        requires { lane < length (lists self.now) }
+        ensures { option_copied result ≡ slice_get (lane_at (lists self.now) lane) index };
+
+    /// How many messages a list has.
+    fn count(&self, lane: usize) -> usize
+        requires { lane < length (lists self.now) }
+        ensures { result ≡ length (lane_at (lists self.now) lane) };
+}

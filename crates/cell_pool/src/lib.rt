@@ -1,0 +1,6 @@
+//! Numbered lists of messages under fixed limits.
+#![tactic(auto)]
+
+pub mod lanes;
+
+pub use lanes::Lanes;
