@@ -1,0 +1,38 @@
+//! Whether a message is for this point or another.
+
+ghost use Rattle.std.specs.Prelude.{◌≡◌};
+ghost use Rattle.routing_label.specs.Discrimination.{discrimination};
+
+use crate::label::Label;
+use stp_types::{Cause, Msu, PointCode};
+
+/// Where a message goes (Q.704 §2.3).
+#[derive(Clone, Copy, Debug, PartialEq, Eq)]
+pub enum Discrimination {
+    /// It is for this point.
+    Here,
+    /// It is for another point.
+    Transfer,
+    /// It is refused before its destination is looked at.
+    Refused(Cause),
+}
+
+/// Whether a message is for the point `own` of the network with this indicator, or for another (Q.704 §2.3).
+///
+/// Refused NoLabel where its signalling information field has fewer than four octets; else WrongNetwork where
+/// its network indicator is another. Else its destination point code decides.
+pub fn discriminate(message: &Msu, own: PointCode, network: u8) -> Discrimination
+    ensures { result ≡ discrimination message.now own network }
+{
+    let Some(label) = Label::of(message) else {
+        return Discrimination::Refused(Cause::NoLabel);
+    };
+    if message.sio() >> 6 != network {
+        return Discrimination::Refused(Cause::WrongNetwork);
+    }
+    if label.dpc == own {
+        Discrimination::Here
+    } else {
+        Discrimination::Transfer
+    }
+}

@@ -1,0 +1,62 @@
+//! The routing label of a message.
+
+ghost use Rattle.std.specs.Prelude.{◌≡◌, ℕ, ◌<◌, ◌++◌, List, All};
+ghost use Rattle.stp_types.specs.Message.{label_number};
+ghost use Rattle.routing_label.specs.Label.{IsLabel, label_in, label_octets, number_of_label};
+ghost use Rattle.routing_label.specs.declared.label.Label.{Label};
+
+use stp_types::{Msu, PointCode, Sls};
+
+/// The first four octets of a message's signalling information field (Q.704 §2.2).
+#[derive(Clone, Copy, Debug, PartialEq, Eq, Hash)]
+pub struct Label {
+    /// Where the message goes.
+    pub dpc: PointCode,
+    /// Where the message comes from.
+    pub opc: PointCode,
+    /// How it chooses its link.
+    pub sls: Sls,
+}
+
+impl Label {
+    /// The label of a signalling information field. None where the field has fewer than four octets.
+    pub fn read(sif: &[u8]) -> Option<Label>
+        ensures { result ≡ label_in sif.now }
+    {
+        let [first, second, third, fourth, ..] = sif else {
+            return None;
+        };
+        let number = u32::from_le_bytes([*first, *second, *third, *fourth]);
+        Some(Label {
+            dpc: PointCode::new((number & 0x3fff) as u16)?,
+            opc: PointCode::new((number >> 14 & 0x3fff) as u16)?,
+            sls: Sls::new((number >> 28) as u8)?,
+        })
+    }
+
+    /// The label of a message. None where its signalling information field has fewer than four octets.
+    pub fn of(message: &Msu) -> Option<Label>
+        ensures { result ≡ label_in message.now.sif }
+    {
+        Label::read(message.sif())
+    }
+
+    /// The label's four octets, low octet first.
+    pub fn write(self) -> [u8; 4]
+        ensures octets { result ≡ label_octets self }
+        ensures number { label_number result ≡ number_of_label self }
+        ensures read_back { label_in result ≡ Some self }
+    {
+        let number = self.dpc.code() as u32
+            + ((self.opc.code() as u32) << 14)
+            + ((self.sls.number() as u32) << 28);
+        number.to_le_bytes()
+    }
+}
+
+/// Every label, written, is one number low octet first, and is read back from in front of any octets.
+pub fn every_label_reads_back()
+    ensures octets { (label : Label) → All (λ octet. octet < 256) (label_octets label) }
+    ensures number { (label : Label) → IsLabel label → label_number (label_octets label) ≡ number_of_label label }
+    ensures read_back { (label : Label) (rest : List ℕ) → IsLabel label → label_in (label_octets label ++ rest) ≡ Some label }
+{}
