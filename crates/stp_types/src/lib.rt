@@ -3,11 +3,14 @@
 #![tactic(auto)]
 
 pub mod cause;
+pub mod configuration;
+pub mod draft;
 pub mod limits;
 pub mod message;
 pub mod notice;
 pub mod outcome;
 pub mod point;
+pub mod settings;
 
 pub use cause::Cause;
 pub use limits::Limits;

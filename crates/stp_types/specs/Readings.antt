@@ -1,0 +1,12 @@
+-- What is read from checked settings.
+use Rattle.std.specs.Prelude.{ℕ, Option, position, nat_eq, ◌+◌, List, length, option_map, slice_get}
+use Rattle.std.specs.Str.{bytes_eq}
+use Rattle.stp_types.specs.Configuration.{Configuration, SetEntry, LinkEntry, DestinationEntry}
+
+-- the number of the link of this name
+abbrev pub link_place : Configuration → List ℕ → Option ℕ
+link_place c name = position (λ l. bytes_eq l.name name) c.links
+
+-- the number of the destination of this point code
+abbrev pub destination_place : Configuration → ℕ → Option ℕ
+destination_place c point = position (λ d. nat_eq point d.point) c.destinations
