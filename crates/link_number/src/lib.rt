@@ -2,7 +2,7 @@
 #![tactic(auto)]
 
 ghost use Rattle.std.specs.Prelude.{◌≡◌, ℕ, ◌+◌, ◌%◌, ◌^◌, ◌<◌, ◌≤◌, ◌↔◌, IsTrue, IsSome, IfSome};
-ghost use Rattle.link_number.specs.Numbers.{next_number, previous_number, steps_between, is_within};
+ghost use Rattle.link_number.specs.Numbers.{next_number, previous_number, steps_between, is_within, three_octets, number_of};
 
 use std::marker::Model;
 
@@ -51,6 +51,26 @@ impl Number24 {
         ensures fits { self < 2 ^ 24 }
     {
         self.value
+    }
+
+    /// The number in three octets, most significant first.
+    pub fn from_be_bytes(octets: [u8; 3]) -> Number24
+        ensures number { result ≡ number_of octets }
+        ensures back { three_octets result ≡ octets }
+    {
+        let [high, middle, low] = octets;
+        Number24 {
+            value: u32::from_be_bytes([0, high, middle, low]),
+        }
+    }
+
+    /// The number's three octets, most significant first.
+    pub fn to_be_bytes(self) -> [u8; 3]
+        ensures octets { result ≡ three_octets self }
+        ensures back { number_of result ≡ self }
+    {
+        let [_, high, middle, low] = self.value.to_be_bytes();
+        [high, middle, low]
     }
 
     /// The number before this one; before 0 comes the last.
