@@ -1,5 +1,5 @@
 -- Numbered lists of messages, under one limit on all user messages and one on all management messages.
-use Rattle.std.specs.Prelude.{ℕ, Bool, List, [], ◌∷◌, ◌++◌, Option, Some, None, drop, count_by, sum_by, nat_le, not, if◌then◌else◌, slice_index_or, slice_set}
+use Rattle.std.specs.Prelude.{ℕ, List, [], ◌∷◌, ◌++◌, Option, Some, None, drop, count_by, sum_by, nat_le, not, if◌then◌else◌, slice_index_or, slice_set}
 use Rattle.stp_types.specs.Message.{Message, is_management}
 use Rattle.stp_types.specs.declared.cause.Cause.{Cause}
 use Rattle.stp_types.specs.declared.cause.Cause.TheVariants.{PoolFull, ManagementFull}

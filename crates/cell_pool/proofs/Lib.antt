@@ -1,0 +1,4 @@
+pub mod Buffers
+pub mod Counting
+pub mod Reading
+pub mod Sharing

@@ -1,0 +1,88 @@
+//! Numbered lists of messages, each message in a cell of one row.
+
+ghost use Rattle.std.specs.Prelude.{◌≡◌, ℕ, ◌^◌, ◌<◌, List, [], length, replicate, sum_by, slice_get, IfOk};
+ghost use Rattle.std.specs.Option.{option_copied};
+ghost use Rattle.cell_pool.specs.Lanes.{lane_at, pushed, dropped};
+
+use crate::cell_numbers::CellNumbers;
+use std::alloc::{AllocError, Global};
+use std::marker::Model;
+use stp_types::Msu;
+
+/// Numbered lists of messages in a row of cells. A message is copied into its cell once, and stays
+/// there; the lists are rings of cell numbers.
+#[derive(Drop)]
+pub(crate) struct CellLists {
+    cells: Vec<Msu>,
+    numbers: CellNumbers,
+}
+
+impl Model for CellLists {
+    ghost use Rattle.cell_pool.specs.Cells.{Occupied};
+
+    ghost Value = { Occupied };
+
+    ghost use Rattle.cell_pool.specs.Row.{occupied_in, HasRow};
+
+    ghost view = { occupied_in };
+
+    ghost invariant = { HasRow };
+}
+
+impl CellLists {
+    /// Empty lists over a row of free cells.
+    pub(crate) fn new(alloc: Global, lists: usize, cells: usize) -> Result<CellLists, AllocError>
+        requires { cells < 2 ^ 32 }
+        ensures { IfOk result (λ s. s ≡ record { lists = replicate lists []; cells = cells }) }
+    {
+        let Ok(blank) = Msu::new(0, &[]) else {
+            unreachable!()
+        };
+        Ok(CellLists {
+            cells: vec![in alloc; blank; cells]?,
+            numbers: CellNumbers::new(alloc, lists, cells)?,
+        })
+    }
+
+    /// How many lists there are.
+    pub(crate) fn lists(&self) -> usize
+        ensures { result ≡ length self.now.lists }
+    {
+        self.numbers.rings()
+    }
+
+    /// How many messages a list has.
+    pub(crate) fn count(&self, list: usize) -> usize
+        requires { list < length self.now.lists }
+        ensures { result ≡ length (lane_at self.now.lists list) }
+    {
+        self.numbers.count(list)
+    }
+
+    /// The message at a place of a list, where there is one.
+    pub(crate) fn get(&self, list: usize, index: usize) -> Option<&Msu>
+        requires { list < length self.now.lists }
+        ensures { option_copied result ≡ slice_get (lane_at self.now.lists list) index }
+    {
+        let number = self.numbers.get(list, index)?;
+        Some(&self.cells[number])
+    }
+
+    /// Copies a message into a free cell, at the end of a list.
+    pub(crate) fn push_back(&mut self, list: usize, message: &Msu)
+        requires list { list < length self.old.lists }
+        requires room { sum_by length self.old.lists < self.old.cells }
+        ensures { self.new ≡ record self.old { lists = pushed self.old.lists list message.now } }
+    {
+        let number = self.numbers.claim(list);
+        self.cells[number] = *message;
+    }
+
+    /// Drops the first message of a list, where there is one.
+    pub(crate) fn drop_first(&mut self, list: usize)
+        requires { list < length self.old.lists }
+        ensures { self.new ≡ record self.old { lists = dropped self.old.lists list 1 } }
+    {
+        self.numbers.release(list);
+    }
+}

@@ -1,0 +1,116 @@
+//! Lanes as rings of cell numbers over one row of messages.
+
+ghost use Rattle.std.specs.Prelude.{◌≡◌, ℕ, ◌+◌, ◌<◌, ◌≤◌, List, [], length, replicate, IfOk};
+ghost use Rattle.cell_pool.specs.Lanes.{dropped};
+
+use crate::cell_lists::CellLists;
+use crate::lanes::Lanes;
+use std::alloc::{AllocError, Global};
+use std::marker::Model;
+use stp_types::{Cause, Limits, Msu};
+
+/// Numbered lists of messages over one row of cells, which holds as many user messages as the pool
+/// and 256 management messages. All room is made by `new`: no other call takes memory.
+#[derive(Drop)]
+pub struct RingLanes {
+    lists: CellLists,
+    users: usize,
+    managements: usize,
+    pool: usize,
+}
+
+impl Model for RingLanes {
+    ghost use Rattle.cell_pool.specs.Stored.{Stored};
+
+    ghost Value = { Stored };
+
+    ghost use Rattle.cell_pool.specs.Counted.{stored_in, IsCounted};
+
+    ghost view = { stored_in };
+
+    ghost invariant = { IsCounted };
+}
+
+impl RingLanes {
+    /// Empty lists, and room for a pool of user messages and for 256 management messages.
+    ///
+    /// The error means that memory ran out.
+    pub fn new(alloc: Global, lanes: usize, pool: usize) -> Result<RingLanes, AllocError>
+        requires lanes { lanes ≤ Limits.LINKS + 1 }
+        requires pool { pool ≤ Limits.POOL }
+        ensures { IfOk result (λ stored. stored ≡ record { lists = replicate lanes []; pool = pool }) }
+    {
+        Ok(RingLanes {
+            lists: CellLists::new(alloc, lanes, pool + Limits::MANAGEMENT_MESSAGES)?,
+            users: 0,
+            managements: 0,
+            pool,
+        })
+    }
+
+    /// Drops the first message of a list, where there is one.
+    fn drop_first(&mut self, lane: usize)
+        requires { lane < length self.old.lists }
+        ensures { self.new ≡ record self.old { lists = dropped self.old.lists lane 1 } }
+    {
+        if let Some(message) = self.lists.get(lane, 0) {
+            if message.is_management() {
+                self.managements -= 1;
+            } else {
+                self.users -= 1;
+            }
+            self.lists.drop_first(lane);
+        }
+    }
+}
+
+impl Lanes for RingLanes {
+    ghost lists = { λ stored. stored.lists };
+
+    ghost pool = { λ stored. stored.pool };
+
+    fn lanes(&self) -> usize {
+        self.lists.lists()
+    }
+
+    fn refusal(&self, message: &Msu) -> Option<Cause> {
+        if message.is_management() {
+            (self.managements >= Limits::MANAGEMENT_MESSAGES).then_some(Cause::ManagementFull)
+        } else {
+            (self.users >= self.pool).then_some(Cause::PoolFull)
+        }
+    }
+
+    fn push_back(&mut self, lane: usize, message: &Msu) -> Result<(), Cause> {
+        if let Some(cause) = self.refusal(message) {
+            return Err(cause);
+        }
+        self.lists.push_back(lane, message);
+        if message.is_management() {
+            self.managements += 1;
+        } else {
+            self.users += 1;
+        }
+        Ok(())
+    }
+
+    fn pop_front(&mut self, lane: usize) -> Option<Msu> {
+        let first = self.lists.get(lane, 0).copied();
+        self.drop_first(lane);
+        first
+    }
+
+    fn drop_front(&mut self, lane: usize, count: usize) {
+        for _ in 0..count.min(self.lists.count(lane)) {
+            self.drop_first(lane);
+        }
+    }
+
+    fn get(&self, lane: usize, index: usize) -> Option<&Msu> {
+        self.lists.get(lane, index)
+    }
+
+    fn count(&self, lane: usize) -> usize {
+        self.lists.count(lane)
+    }
+}

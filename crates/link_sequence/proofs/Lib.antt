@@ -1,0 +1,4 @@
+pub mod Named
+pub mod Kept
+pub mod Sound
+pub mod Keeping

@@ -1,0 +1,65 @@
+-- Each word leaves a queue a queue.
+use Rattle.std.proofs.Common.{◌≡◌, ℕ, Bool, true, false, ◌-◌, ◌<◌, ◌≤◌, length, nat_lt, nat_le, slice_get, arith, refl, Option, Some, None, Result, Ok, Err, nat_eq, subst, if◌then◌else◌}
+use Rattle.std.proofs.lemmas.Grind.{common_steps}
+use Rattle.std.proofs.lemmas.Bool.Decides.{nat_tests}
+use Rattle.std.proofs.lemmas.Option.{slice_get_within}
+use Rattle.stp_types.specs.Message.{Message}
+use Rattle.stp_types.specs.declared.limits.TheConstants.Limits.{WINDOW}
+use Rattle.link_sequence.specs.declared.fault.SeqFault.{SeqFault}
+use Rattle.link_number.specs.Numbers.{steps_between, next_number}
+use Rattle.link_sequence.proofs.Kept.{kept-newly_confirmed}
+use Rattle.link_sequence.specs.Queue.{Queue, IsQueue, confirmation, count_confirmed, number_of, numbered, first_queue, first_queue_at, expected, accept_answer, after_answer, accepted, after_sending, sent_one, appended, emptied}
+
+pub sound-first : IsQueue first_queue
+sound-first = record { confirmed = omega arith; sent = omega arith; window = omega arith }
+
+pub sound-first_at : (number : ℕ) → IsQueue (first_queue_at number)
+sound-first_at number = record { confirmed = omega arith; sent = omega arith; window = omega arith }
+
+pub sound-emptied : (q : Queue) → IsQueue (emptied q)
+sound-emptied q = record { confirmed = omega arith; sent = omega arith; window = omega arith }
+
+pub sound-appended : (q : Queue) (m : Message) → IsQueue q → IsQueue (appended q m)
+sound-appended q m h = record { confirmed = h.confirmed; sent = grind (arith, common_steps, h.sent); window = h.window }
+
+-- ---- no more is confirmed than was sent and not confirmed
+
+near-within : (d many : ℕ) (fits : Bool) → count_confirmed (if fits then confirmation (if nat_le d many then Some d else None) else Err SeqFault.BadFsn) ≤ many
+near-within d many true = grind (arith, common_steps, nat_tests)
+near-within d many false = omega arith
+
+pub confirmed-within : (q : Queue) (fsn bsn : ℕ) (carries : Bool) → IsQueue q →
+    count_confirmed (accept_answer q fsn bsn carries) ≤ q.sent - q.confirmed
+confirmed-within q fsn bsn carries h =
+    let P : Option ℕ → Type 0 = λ o. count_confirmed (if nat_eq fsn (expected q carries) then confirmation o else Err SeqFault.BadFsn) ≤ q.sent - q.confirmed in
+    subst P (kept-newly_confirmed q bsn h) (near-within (steps_between (number_of q q.confirmed) (next_number bsn)) (q.sent - q.confirmed) (nat_eq fsn (expected q carries)))
+
+sound-after_answer : (q : Queue) (carries : Bool) (r : Result ℕ SeqFault) → IsQueue q → count_confirmed r ≤ q.sent - q.confirmed →
+    IsQueue (after_answer q carries r)
+sound-after_answer q carries (Ok count) h w = record { confirmed = omega (arith, h.confirmed, w); sent = h.sent; window = omega (arith, h.window) }
+sound-after_answer q carries (Err fault) h w = h
+
+pub sound-accepted : (q : Queue) (fsn bsn : ℕ) (carries : Bool) → IsQueue q → IsQueue (accepted q fsn bsn carries)
+sound-accepted q fsn bsn carries h =
+    sound-after_answer q carries (accept_answer q fsn bsn carries) h (confirmed-within q fsn bsn carries h)
+
+-- ---- one more is sent within the window
+
+sound-one : (q : Queue) (room : Bool) (number : ℕ) (o : Option Message) → IsQueue q →
+    (room ≡ true → q.sent - q.confirmed < WINDOW) → ((m : Message) → o ≡ Some m → q.sent < length q.all) →
+    IsQueue (after_sending q (if room then numbered number o else None))
+sound-one q true number (Some m) h within inside =
+    let w : q.sent - q.confirmed < WINDOW = within refl in
+    let l : q.sent < length q.all = inside m refl in
+    record { confirmed = omega (arith, h.confirmed); sent = omega arith; window = omega (arith, w, h.confirmed) }
+sound-one q true number None h within inside = h
+sound-one q false number o h within inside = h
+
+below-window : (outstanding window most : ℕ) → window ≤ most → nat_lt outstanding window ≡ true → outstanding < most
+below-window outstanding window most h e = grind (arith, nat_tests)
+
+pub sound-sent_one : (q : Queue) (window : ℕ) → window ≤ WINDOW → IsQueue q → IsQueue (sent_one q window)
+sound-sent_one q window w h =
+    sound-one q (nat_lt (q.sent - q.confirmed) window) (number_of q q.sent) (slice_get q.all q.sent) h
+      (below-window (q.sent - q.confirmed) window WINDOW w)
+      (slice_get_within q.all q.sent)

@@ -1,0 +1,69 @@
+-- What is kept of a queue: the messages that aren't confirmed, the number of the first of them, how many of them
+-- were sent, and the number that the peer's next message must have.
+use Rattle.std.specs.Prelude.{ℕ, Bool, ◌+◌, ◌-◌, ◌%◌, List, drop, Option, Some, None, Result, Ok, Err, nat_eq, nat_lt, nat_le, slice_get, if◌then◌else◌}
+use Rattle.stp_types.specs.Message.{Message}
+use Rattle.link_number.specs.Numbers.{modulus, next_number, previous_number, steps_between}
+use Rattle.link_sequence.specs.declared.fault.SeqFault.{SeqFault}
+use Rattle.link_sequence.specs.declared.fault.SeqFault.TheVariants.{BadFsn}
+use Rattle.link_sequence.specs.Queue.{Queue, Sending, number_of, confirmation, numbered}
+
+pub record Counts : Type 0 where
+  pub oldest : ℕ
+  pub outstanding : ℕ
+  pub expected : ℕ
+
+-- what is kept of a queue's counts
+abbrev pub counts_of : Queue → Counts
+counts_of q = record { oldest = number_of q q.confirmed; outstanding = q.sent - q.confirmed; expected = q.received % modulus }
+
+-- what is kept of its messages
+abbrev pub unconfirmed : Queue → List Message
+unconfirmed q = drop q.confirmed q.all
+
+abbrev pub kept_first : Counts
+kept_first = record { oldest = 0; outstanding = 0; expected = 0 }
+
+abbrev pub kept_first_at : ℕ → Counts
+kept_first_at number = record { oldest = number; outstanding = 0; expected = 0 }
+
+abbrev pub kept_newly_confirmed : Counts → ℕ → Option ℕ
+kept_newly_confirmed k bsn =
+    if nat_le (steps_between k.oldest (next_number bsn)) k.outstanding then Some (steps_between k.oldest (next_number bsn)) else None
+
+abbrev pub kept_expected : Counts → Bool → ℕ
+kept_expected k carries = if carries then k.expected else previous_number k.expected
+
+abbrev pub kept_accept_answer : Counts → ℕ → ℕ → Bool → Result ℕ SeqFault
+kept_accept_answer k fsn bsn carries =
+    if nat_eq fsn (kept_expected k carries) then confirmation (kept_newly_confirmed k bsn) else Err BadFsn
+
+abbrev pub kept_after_answer : Counts → Bool → Result ℕ SeqFault → Counts
+kept_after_answer k carries (Ok count) = record {
+  oldest = (k.oldest + count) % modulus;
+  outstanding = k.outstanding - count;
+  expected = if carries then next_number k.expected else k.expected;
+}
+kept_after_answer k carries (Err fault) = k
+
+abbrev pub kept_accepted : Counts → ℕ → ℕ → Bool → Counts
+kept_accepted k fsn bsn carries = kept_after_answer k carries (kept_accept_answer k fsn bsn carries)
+
+abbrev pub kept_to_send : Counts → List Message → ℕ → Option Sending
+kept_to_send k lane window =
+    if nat_lt k.outstanding window then numbered ((k.oldest + k.outstanding) % modulus) (slice_get lane k.outstanding) else None
+
+abbrev pub kept_after_sending : Counts → Option Sending → Counts
+kept_after_sending k (Some sending) = record k { outstanding = k.outstanding + 1 }
+kept_after_sending k None = k
+
+abbrev pub kept_sent_one : Counts → List Message → ℕ → Counts
+kept_sent_one k lane window = kept_after_sending k (kept_to_send k lane window)
+
+abbrev pub kept_emptied : Counts → Counts
+kept_emptied k = record { oldest = 0; outstanding = 0; expected = k.expected }
+
+abbrev pub kept_last_sent : Counts → ℕ
+kept_last_sent k = previous_number (k.oldest + k.outstanding)
+
+abbrev pub kept_last_accepted : Counts → ℕ
+kept_last_accepted k = previous_number k.expected

@@ -1,0 +1,4 @@
+pub mod Queue
+pub mod Counts
+pub mod Keeps
+pub mod Inside

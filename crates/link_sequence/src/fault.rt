@@ -1,0 +1,10 @@
+//! What is wrong with the numbers of a frame.
+
+/// What is wrong with the numbers of a frame: the first fault, in this order (RFC 4165 §2.2).
+#[derive(Clone, Copy, Debug, PartialEq, Eq)]
+pub enum SeqFault {
+    /// The forward number isn't the next one, or without a message not the last one again.
+    BadFsn = 1,
+    /// The backward number names nothing that was sent and not confirmed.
+    BadBsn = 2,
+}

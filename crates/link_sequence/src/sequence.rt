@@ -1,0 +1,162 @@
+//! The numbers of one link.
+
+ghost use Rattle.std.specs.Prelude.{◌≡◌, ℕ, ◌<◌, length};
+ghost use Rattle.std.specs.Option.{option_map};
+ghost use Rattle.cell_pool.specs.Lanes.{lane_at, dropped};
+ghost use Rattle.link_sequence.specs.Queue.{count_confirmed};
+ghost use Rattle.link_sequence.specs.Counts.{
+  kept_first,
+  kept_first_at,
+  kept_newly_confirmed,
+  kept_accept_answer,
+  kept_accepted,
+  kept_to_send,
+  kept_sent_one,
+  kept_emptied,
+  kept_last_sent,
+  kept_last_accepted,
+};
+
+use crate::fault::SeqFault;
+use cell_pool::Lanes;
+use link_number::{Number24, distance, next};
+use std::marker::Model;
+use stp_types::Msu;
+
+/// The numbers of one link in one epoch (RFC 4165 §2.2).
+#[derive(Debug)]
+pub struct Sequence {
+    oldest: Number24,
+    next: Number24,
+    outstanding: usize,
+    expected: Number24,
+}
+
+impl Model for Sequence {
+    ghost use Rattle.link_sequence.specs.Counts.{Counts};
+
+    ghost Value = { Counts };
+
+    ghost use Rattle.link_sequence.specs.Inside.{counts_in, IsInStep};
+
+    ghost view = { counts_in };
+
+    ghost invariant = { IsInStep };
+}
+
+impl Sequence {
+    /// The numbers of a new epoch: nothing sent, nothing received, and 0 comes first.
+    pub fn start() -> Sequence
+        ensures { result ≡ kept_first }
+    {
+        Sequence::starting_at(Number24::zero())
+    }
+
+    /// The same, where the first message that goes out has this number.
+    pub fn starting_at(number: Number24) -> Sequence
+        ensures { result ≡ kept_first_at number }
+    {
+        Sequence {
+            oldest: number,
+            next: number,
+            outstanding: 0,
+            expected: Number24::zero(),
+        }
+    }
+
+    /// How many more messages are confirmed by a frame with this backward number: up to the count that it names.
+    /// None where it names none from what is confirmed to what was sent.
+    pub fn retrieve(&self, confirmed: Number24) -> Option<usize>
+        ensures { result ≡ kept_newly_confirmed self.now confirmed }
+    {
+        let count = distance(self.oldest, next(confirmed)) as usize;
+        if count <= self.outstanding {
+            Some(count)
+        } else {
+            None
+        }
+    }
+
+    /// Takes the numbers of a frame of User Data, which carries a message or not: what it confirms leaves the front
+    /// of the lane, and a message that it carries counts as received. Answers how many messages it confirmed.
+    ///
+    /// Refused BadFsn where the forward number isn't the next one, or without a message not that of the last
+    /// accepted message; else BadBsn where the backward number names no count from what is confirmed to what
+    /// was sent. Then nothing changes.
+    pub fn accept<L: Lanes>(
+        &mut self,
+        lanes: &mut L,
+        lane: usize,
+        fsn: Number24,
+        bsn: Number24,
+        carries: bool,
+    ) -> Result<usize, SeqFault>
+        requires { lane < length (L.lists lanes.old) }
+        ensures answer { result ≡ kept_accept_answer self.old fsn bsn carries }
+        ensures counts { self.new ≡ kept_accepted self.old fsn bsn carries }
+        ensures lists { L.lists lanes.new ≡ dropped (L.lists lanes.old) lane (count_confirmed result) }
+        ensures pool { L.pool lanes.new ≡ L.pool lanes.old }
+    {
+        let awaited = if carries {
+            self.expected
+        } else {
+            self.expected.previous()
+        };
+        if fsn != awaited {
+            return Err(SeqFault::BadFsn);
+        }
+        let count = self.retrieve(bsn).ok_or(SeqFault::BadBsn)?;
+        lanes.drop_front(lane, count);
+        self.oldest = next(bsn);
+        self.outstanding -= count;
+        if carries {
+            self.expected = next(self.expected);
+        }
+        Ok(count)
+    }
+
+    /// The next message that goes out, with its number; it counts as sent from now on. None where as many as the
+    /// window are unconfirmed, or no message is left.
+    pub fn next_to_send<'l, L: Lanes>(
+        &mut self,
+        lanes: &'l L,
+        lane: usize,
+        window: usize,
+    ) -> Option<(Number24, &'l Msu)>
+        requires { lane < length (L.lists lanes.now) }
+        ensures sending { option_map (λ s. record { number = s.0; message = s.1.now }) result ≡ kept_to_send self.old (lane_at (L.lists lanes.now) lane) window }
+        ensures counts { self.new ≡ kept_sent_one self.old (lane_at (L.lists lanes.now) lane) window }
+    {
+        if self.outstanding >= window {
+            return None;
+        }
+        let message = lanes.get(lane, self.outstanding)?;
+        let number = self.next;
+        self.next = next(number);
+        self.outstanding += 1;
+        Some((number, message))
+    }
+
+    /// Forgets what was sent: the next message that goes out has the number 0. What was received stays.
+    pub fn empty(&mut self)
+        ensures { self.new ≡ kept_emptied self.old }
+    {
+        self.oldest = Number24::zero();
+        self.next = Number24::zero();
+        self.outstanding = 0;
+    }
+
+    /// The number of the last message that was sent; before any was sent, the one before the first.
+    pub fn last_sent(&self) -> Number24
+        ensures { result ≡ kept_last_sent self.now }
+    {
+        self.next.previous()
+    }
+
+    /// The number of the last message that was accepted; before any was accepted, the one before 0.
+    pub fn last_accepted(&self) -> Number24
+        ensures { result ≡ kept_last_accepted self.now }
+    {
+        self.expected.previous()
+    }
+}
