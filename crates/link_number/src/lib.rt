@@ -57,6 +57,7 @@ impl Number24 {
     pub fn from_be_bytes(octets: [u8; 3]) -> Number24
         ensures number { result ≡ number_of octets }
         ensures back { three_octets result ≡ octets }
+        ensures fits { result < 2 ^ 24 }
     {
         let [high, middle, low] = octets;
         Number24 {
@@ -68,6 +69,7 @@ impl Number24 {
     pub fn to_be_bytes(self) -> [u8; 3]
         ensures octets { result ≡ three_octets self }
         ensures back { number_of result ≡ self }
+        ensures fits { self < 2 ^ 24 }
     {
         let [_, high, middle, low] = self.value.to_be_bytes();
         [high, middle, low]

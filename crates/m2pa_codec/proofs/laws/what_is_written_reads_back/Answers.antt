@@ -1,0 +1,5 @@
+use Rattle.m2pa_codec.proofs.FrameTexts.{spelled-is_frame}
+use Rattle.m2pa_codec.proofs.laws.what_is_written_reads_back.Goals as goal
+
+pub returns-clause-frame : goal.returns-clause-frame
+returns-clause-frame c = spelled-is_frame

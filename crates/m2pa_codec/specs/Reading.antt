@@ -1,0 +1,59 @@
+-- Reading a frame, with the first fault that is met (RFC 4165 §2).
+use Rattle.std.specs.Prelude.{ℕ, List, [], ◌∷◌, length, drop, Option, Some, None, Result, Ok, Err, nat_lt, ◌==◌, not, if◌then◌else◌, slice_index}
+use Rattle.std.specs.Int.{w32, from_be_bytes}
+use Rattle.stp_types.specs.declared.notice.FrameFault.{FrameFault}
+use Rattle.stp_types.specs.declared.notice.FrameFault.TheVariants.{Short, Length, Version, Unknown}
+use Rattle.link_number.specs.Numbers.{number_of}
+use Rattle.m2pa_codec.specs.Frames.{FrameValue, EmptyFrame, MessageFrame, user_data}
+
+-- the length that the text says it has: octets 4 to 7
+abbrev pub length_field : List ℕ → ℕ
+length_field text = from_be_bytes w32 (slice_index text 4 ∷ slice_index text 5 ∷ slice_index text 6 ∷ slice_index text 7 ∷ [])
+
+-- the backward sequence number: octets 9 to 11
+abbrev pub bsn_field : List ℕ → ℕ
+bsn_field text = number_of (slice_index text 9 ∷ slice_index text 10 ∷ slice_index text 11 ∷ [])
+
+-- the forward sequence number: octets 13 to 15
+abbrev pub fsn_field : List ℕ → ℕ
+fsn_field text = number_of (slice_index text 13 ∷ slice_index text 14 ∷ slice_index text 15 ∷ [])
+
+-- the first fault of the common header
+abbrev pub header_fault : List ℕ → Option FrameFault
+header_fault text =
+    if nat_lt (length text) 8 then Some Short
+    else if not (length_field text == length text) then Some Length
+    else if not (slice_index text 0 == 1) then Some Version
+    else if not (slice_index text 2 == 11) then Some Unknown
+    else if not (slice_index text 3 == user_data) then Some Unknown
+    else None
+
+-- the first fault of User Data: it has no body, or at least a priority octet and a service information octet
+abbrev pub user_data_fault : List ℕ → Option FrameFault
+user_data_fault text =
+    if nat_lt (length text) 16 then Some Short
+    else if length text == 17 then Some Short
+    else None
+
+-- the first of two faults
+abbrev pub first_fault : Option FrameFault → Option FrameFault → Option FrameFault
+first_fault (Some fault) other = Some fault
+first_fault None other = other
+
+-- the first fault of a text
+abbrev pub fault_of : List ℕ → Option FrameFault
+fault_of text = first_fault (header_fault text) (user_data_fault text)
+
+-- what a text without fault says
+abbrev pub value_in : List ℕ → FrameValue
+value_in text =
+    if length text == 16 then EmptyFrame (bsn_field text) (fsn_field text)
+    else MessageFrame (bsn_field text) (fsn_field text) (slice_index text 17) (drop 18 text)
+
+abbrev pub unless : Option FrameFault → FrameValue → Result FrameValue FrameFault
+unless None value = Ok value
+unless (Some fault) value = Err fault
+
+-- what reading a text gives: the first fault, or what it says
+abbrev pub read_frame : List ℕ → Result FrameValue FrameFault
+read_frame text = unless (fault_of text) (value_in text)

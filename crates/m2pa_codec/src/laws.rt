@@ -1,0 +1,26 @@
+//! Laws of frames, for whoever reads a stream of them. Each function says its law by its contract, and does nothing.
+
+ghost use Rattle.std.specs.Prelude.{◌≡◌, ℕ, ◌++◌, ◌↔◌, List, [], Ok};
+ghost use Rattle.m2pa_codec.specs.Frames.{FrameValue, IsFrame, IsSayable, AreOctets, spelled};
+ghost use Rattle.m2pa_codec.specs.Reading.{read_frame};
+
+/// No frame is a proper prefix of another.
+pub fn no_frame_begins_another()
+    ensures { (x y rest : List ℕ) (v w : FrameValue) → IsFrame x v → IsFrame y w → x ++ rest ≡ y → rest ≡ [] }
+{}
+
+/// Octets are a frame that says a value exactly where reading gives that value.
+pub fn frames_are_what_is_read()
+    ensures { (text : List ℕ) (v : FrameValue) → AreOctets text → IsFrame text v ↔ (read_frame text ≡ Ok v) }
+{}
+
+/// A text says one value at most.
+pub fn one_value()
+    ensures { (text : List ℕ) (v w : FrameValue) → IsFrame text v → IsFrame text w → v ≡ w }
+{}
+
+/// What is written for a value is a frame that says it, and reads back as it.
+pub fn what_is_written_reads_back()
+    ensures frame { (v : FrameValue) → IsSayable v → IsFrame (spelled v) v }
+    ensures back { (v : FrameValue) → IsSayable v → read_frame (spelled v) ≡ Ok v }
+{}

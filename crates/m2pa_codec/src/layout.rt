@@ -1,0 +1,20 @@
+//! The octets of a frame that never change, and how many the headers have (RFC 4165 §2).
+
+/// The version of M2PA (RFC 4165 §2.1.1).
+pub(crate) const VERSION: u8 = 1;
+
+/// The message class of M2PA (RFC 4165 §2.1.3).
+pub(crate) const CLASS: u8 = 11;
+
+/// The message type of User Data (RFC 4165 §2.1.4).
+pub(crate) const USER_DATA: u8 = 1;
+
+/// What is written where readers pass over an octet.
+pub(crate) const SPARE: u8 = 0;
+
+/// Octets of both headers (RFC 4165 §2.1, §2.2).
+pub(crate) const HEADER_OCTETS: usize = 16;
+
+/// Octets before the field of a message: both headers, the priority octet and the service
+/// information octet (RFC 4165 §2.3.1).
+pub(crate) const MESSAGE_HEADER_OCTETS: usize = HEADER_OCTETS + 2;

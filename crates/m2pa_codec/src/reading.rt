@@ -1,0 +1,88 @@
+//! Frames read from their octets.
+
+ghost use Rattle.std.specs.Prelude.{◌≡◌, ℕ, ◌≤◌, ◌<◌, ◌^◌, List, length, IfOk, IfErr, IsOkAnd, MatchResult, Ok, Err, Some, None};
+ghost use Rattle.m2pa_codec.specs.Frames.{FrameValue, IsFrame, bsn_of, fsn_of, sif_of};
+ghost use Rattle.m2pa_codec.specs.Values.{value_of};
+ghost use Rattle.m2pa_codec.specs.Reading.{header_fault, read_frame, fault_of};
+
+use crate::frame::Frame;
+use crate::layout::{CLASS, USER_DATA, VERSION};
+use link_number::Number24;
+use stp_types::FrameFault;
+
+/// The frame that the octets are, all of them, or their first fault (RFC 4165 §2).
+///
+/// In this order: Short under 8 octets; Length where the length field isn't the number of octets;
+/// Version where the version isn't 1; Unknown where the class isn't 11 or the message type isn't 1;
+/// Short under 16 octets, and where a single octet follows these. Spare, unused and priority octets
+/// may be any, and the message's field may have any length.
+pub fn decode(octets: &[u8]) -> Result<Frame<'_>, FrameFault>
+    // What reading gives, by the definition.
+    ensures exact { MatchResult result (λ frame. read_frame octets.now ≡ Ok (value_of frame)) (λ fault. read_frame octets.now ≡ Err fault) }
+    // What is read is a frame.
+    ensures value { IfOk result (λ frame. IsFrame octets.now (value_of frame)) }
+    // What is a frame is read.
+    ensures only { (v : FrameValue) → IsFrame octets.now v → IsOkAnd result (λ frame. value_of frame ≡ v) }
+    // An error is the first fault.
+    ensures fault { IfErr result (λ fault. fault_of octets.now ≡ Some fault) }
+    ensures bsn { IfOk result (λ frame. bsn_of (value_of frame) < 2 ^ 24) }
+    ensures fsn { IfOk result (λ frame. fsn_of (value_of frame) < 2 ^ 24) }
+    ensures field { IfOk result (λ frame. length (sif_of (value_of frame)) ≤ length octets.now) }
+{
+    read(octets)
+}
+
+/// The frame, or the first fault.
+fn read(octets: &[u8]) -> Result<Frame<'_>, FrameFault>
+    ensures { MatchResult result (λ frame. read_frame octets.now ≡ Ok (value_of frame)) (λ fault. read_frame octets.now ≡ Err fault) }
+{
+    check_header(octets)?;
+    let [
+        _,
+        _,
+        _,
+        _,
+        _,
+        _,
+        _,
+        _,
+        _,
+        b2,
+        b1,
+        b0,
+        _,
+        f2,
+        f1,
+        f0,
+        ref body @ ..,
+    ] = *octets
+    else {
+        return Err(FrameFault::Short);
+    };
+    let bsn = Number24::from_be_bytes([b2, b1, b0]);
+    let fsn = Number24::from_be_bytes([f2, f1, f0]);
+    match *body {
+        [] => Ok(Frame::Empty { bsn, fsn }),
+        [_] => Err(FrameFault::Short),
+        [_, sio, ref sif @ ..] => Ok(Frame::Message { bsn, fsn, sio, sif }),
+    }
+}
+
+/// Whether the common header is without fault, or its first fault (RFC 4165 §2.1).
+fn check_header(octets: &[u8]) -> Result<(), FrameFault>
+    ensures { MatchResult result (λ _. header_fault octets.now ≡ None) (λ fault. header_fault octets.now ≡ Some fault) }
+{
+    let [version, _, class, kind, l3, l2, l1, l0, ..] = *octets else {
+        return Err(FrameFault::Short);
+    };
+    if u32::from_be_bytes([l3, l2, l1, l0]) as usize != octets.len() {
+        return Err(FrameFault::Length);
+    }
+    if version != VERSION {
+        return Err(FrameFault::Version);
+    }
+    if class != CLASS || kind != USER_DATA {
+        return Err(FrameFault::Unknown);
+    }
+    Ok(())
+}

@@ -1,0 +1,72 @@
+//! Frames written into a buffer.
+
+ghost use Rattle.std.specs.Prelude.{◌≡◌, ◌+◌, ◌<◌, ◌≤◌, ◌^◌, ◌++◌, length, take, Ok};
+ghost use Rattle.m2pa_codec.specs.Frames.{common_header, number_header, bsn_of, fsn_of, sif_of, spelled, IsFrame};
+ghost use Rattle.m2pa_codec.specs.Values.{value_of};
+ghost use Rattle.m2pa_codec.specs.Reading.{read_frame};
+
+use crate::frame::{BUFFER_OCTETS, Frame};
+use crate::layout::{CLASS, HEADER_OCTETS, MESSAGE_HEADER_OCTETS, SPARE, USER_DATA, VERSION};
+use link_number::Number24;
+use stp_types::Limits;
+
+/// Writes the frame at the front of the buffer, and answers how many octets it has: 16, or 18 and
+/// those of the message's field. Spare, unused and priority octets are 0. The buffer behind the
+/// frame may hold anything afterwards (RFC 4165 §2).
+pub fn encode(frame: &Frame<'_>, out: &mut [u8; BUFFER_OCTETS]) -> usize
+    requires { length (sif_of (value_of frame.now)) ≤ Limits.SIF_OCTETS }
+    ensures count { result ≡ length (spelled (value_of frame.now)) }
+    ensures text { take result out.new ≡ spelled (value_of frame.now) }
+    ensures room { result ≤ 300 }
+    ensures frame { IsFrame (take result out.new) (value_of frame.now) }
+    ensures back { read_frame (take result out.new) ≡ Ok (value_of frame.now) }
+{
+    write(frame, out)
+}
+
+/// Writes the frame at the front of the buffer.
+fn write(frame: &Frame<'_>, out: &mut [u8; BUFFER_OCTETS]) -> usize
+    requires { length (sif_of (value_of frame.now)) ≤ Limits.SIF_OCTETS }
+    ensures count { result ≡ length (spelled (value_of frame.now)) }
+    ensures text { take result out.new ≡ spelled (value_of frame.now) }
+    ensures room { result ≤ 18 + Limits.SIF_OCTETS }
+    ensures bsn { bsn_of (value_of frame.now) < 2 ^ 24 }
+    ensures fsn { fsn_of (value_of frame.now) < 2 ^ 24 }
+{
+    match *frame {
+        Frame::Empty { bsn, fsn } => {
+            write_at(out, 0, &header(USER_DATA, HEADER_OCTETS as u32, bsn, fsn))
+        }
+        Frame::Message { bsn, fsn, sio, sif } => {
+            let octets = (MESSAGE_HEADER_OCTETS + sif.len()) as u32;
+            let at = write_at(out, 0, &header(USER_DATA, octets, bsn, fsn));
+            let at = write_at(out, at, &[SPARE, sio]);
+            write_at(out, at, sif)
+        }
+    }
+}
+
+/// Both headers of a frame of this message type, of this many octets in all.
+fn header(kind: u8, octets: u32, bsn: Number24, fsn: Number24) -> [u8; HEADER_OCTETS]
+    ensures text { result ≡ common_header 0 kind octets ++ number_header 0 bsn 0 fsn }
+    ensures bsn { bsn < 2 ^ 24 }
+    ensures fsn { fsn < 2 ^ 24 }
+{
+    let [l3, l2, l1, l0] = octets.to_be_bytes();
+    let [b2, b1, b0] = bsn.to_be_bytes();
+    let [f2, f1, f0] = fsn.to_be_bytes();
+    [
+        VERSION, SPARE, CLASS, kind, l3, l2, l1, l0, SPARE, b2, b1, b0, SPARE, f2, f1, f0,
+    ]
+}
+
+/// Writes the octets from a place on, and answers the place behind them.
+fn write_at(out: &mut [u8; BUFFER_OCTETS], at: usize, octets: &[u8]) -> usize
+    requires { at + length octets.now ≤ 300 }
+    ensures count { result ≡ at + length octets.now }
+    ensures text { take result out.new ≡ take at out.old ++ octets.now }
+{
+    let end = at + octets.len();
+    out[at..end].copy_from_slice(octets);
+    end
+}
