@@ -41,7 +41,7 @@ pub keeps-accepted : (k : Counts) (lane : List Message) (q : Queue) (fsn bsn : �
 keeps-accepted k lane q fsn bsn carries h = record {
   sound = sound-accepted q fsn bsn carries h.sound;
   counts = rw h.counts (sym (counts-accepted q fsn bsn carries h.sound));
-  messages = rw (answers-accept k lane q fsn bsn carries h, h.messages) (sym (unconfirmed-accepted q fsn bsn carries))
+  messages = rw (answers-accept k lane q fsn bsn carries h, h.messages) (sym (unconfirmed-accepted q fsn bsn carries));
 }
 
 pub keeps-sent_one : (k : Counts) (lane : List Message) (q : Queue) (window : ℕ) → window ≤ WINDOW → Keeps k lane q →
@@ -49,14 +49,14 @@ pub keeps-sent_one : (k : Counts) (lane : List Message) (q : Queue) (window : �
 keeps-sent_one k lane q window w h = record {
   sound = sound-sent_one q window w h.sound;
   counts = rw (h.counts, h.messages) (sym (counts-sent_one q window h.sound));
-  messages = h.messages ∙ sym (unconfirmed-sent_one q window)
+  messages = h.messages ∙ sym (unconfirmed-sent_one q window);
 }
 
 pub keeps-appended : (k : Counts) (lane : List Message) (q : Queue) (m : Message) → Keeps k lane q → Keeps k (lane ++ m ∷ []) (appended q m)
 keeps-appended k lane q m h = record {
   sound = sound-appended q m h.sound;
   counts = h.counts;
-  messages = rw h.messages (sym (unconfirmed-appended q m h.sound))
+  messages = rw h.messages (sym (unconfirmed-appended q m h.sound));
 }
 
 pub keeps-emptied : (k : Counts) (lane : List Message) (q : Queue) → Keeps k lane q → Keeps (kept_emptied k) [] (emptied q)

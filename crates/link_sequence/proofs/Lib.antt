@@ -2,3 +2,4 @@ pub mod Named
 pub mod Kept
 pub mod Sound
 pub mod Keeping
+pub mod Lanes

@@ -61,5 +61,5 @@ below-window outstanding window most h e = grind (arith, nat_tests)
 pub sound-sent_one : (q : Queue) (window : ℕ) → window ≤ WINDOW → IsQueue q → IsQueue (sent_one q window)
 sound-sent_one q window w h =
     sound-one q (nat_lt (q.sent - q.confirmed) window) (number_of q q.sent) (slice_get q.all q.sent) h
-      (below-window (q.sent - q.confirmed) window WINDOW w)
-      (slice_get_within q.all q.sent)
+    (below-window (q.sent - q.confirmed) window WINDOW w)
+    (slice_get_within q.all q.sent)

@@ -2,3 +2,4 @@ pub mod Queue
 pub mod Counts
 pub mod Keeps
 pub mod Inside
+pub mod Outgoing

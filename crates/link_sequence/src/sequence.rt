@@ -1,9 +1,25 @@
 //! The numbers of one link.
 
-ghost use Rattle.std.specs.Prelude.{◌≡◌, ℕ, ◌<◌, length};
-ghost use Rattle.std.specs.Option.{option_map};
+ghost use Rattle.std.specs.Prelude.{◌≡◌, ℕ, ◌<◌, ◌≤◌, List, [], None, length, nat_lt, slice_get, if◌then◌else◌};
+ghost use Rattle.std.specs.Option.{option_map, option_copied};
 ghost use Rattle.cell_pool.specs.Lanes.{lane_at, dropped};
-ghost use Rattle.link_sequence.specs.Queue.{count_confirmed};
+ghost use Rattle.stp_types.specs.Message.{Message};
+ghost use Rattle.link_sequence.specs.Queue.{
+  Queue,
+  first_queue,
+  first_queue_at,
+  newly_confirmed,
+  accept_answer,
+  count_confirmed,
+  accepted,
+  to_send,
+  sent_one,
+  emptied,
+  last_sent,
+  last_accepted,
+};
+ghost use Rattle.link_sequence.specs.Keeps.{Keeps};
+ghost use Rattle.link_sequence.specs.Outgoing.{sending_of};
 ghost use Rattle.link_sequence.specs.Counts.{
   kept_first,
   kept_first_at,
@@ -21,10 +37,10 @@ use crate::fault::SeqFault;
 use cell_pool::Lanes;
 use link_number::{Number24, distance, next};
 use std::marker::Model;
-use stp_types::Msu;
+use stp_types::{Limits, Msu};
 
 /// The numbers of one link in one epoch (RFC 4165 §2.2).
-#[derive(Debug)]
+#[derive(Debug, Drop)]
 pub struct Sequence {
     oldest: Number24,
     next: Number24,
@@ -47,14 +63,16 @@ impl Model for Sequence {
 impl Sequence {
     /// The numbers of a new epoch: nothing sent, nothing received, and 0 comes first.
     pub fn start() -> Sequence
-        ensures { result ≡ kept_first }
+        ensures counts { result ≡ kept_first }
+        ensures queue { Keeps result [] first_queue }
     {
         Sequence::starting_at(Number24::zero())
     }
 
     /// The same, where the first message that goes out has this number.
     pub fn starting_at(number: Number24) -> Sequence
-        ensures { result ≡ kept_first_at number }
+        ensures counts { result ≡ kept_first_at number }
+        ensures queue { Keeps result [] (first_queue_at number) }
     {
         Sequence {
             oldest: number,
@@ -67,14 +85,11 @@ impl Sequence {
     /// How many more messages are confirmed by a frame with this backward number: up to the count that it names.
     /// None where it names none from what is confirmed to what was sent.
     pub fn retrieve(&self, confirmed: Number24) -> Option<usize>
-        ensures { result ≡ kept_newly_confirmed self.now confirmed }
+        ensures count { result ≡ kept_newly_confirmed self.now confirmed }
+        ensures queue { (lane : List Message) (q : Queue) → Keeps self.now lane q → result ≡ newly_confirmed q confirmed }
     {
         let count = distance(self.oldest, next(confirmed)) as usize;
-        if count <= self.outstanding {
-            Some(count)
-        } else {
-            None
-        }
+        (count <= self.outstanding).then_some(count)
     }
 
     /// Takes the numbers of a frame of User Data, which carries a message or not: what it confirms leaves the front
@@ -96,6 +111,23 @@ impl Sequence {
         ensures counts { self.new ≡ kept_accepted self.old fsn bsn carries }
         ensures lists { L.lists lanes.new ≡ dropped (L.lists lanes.old) lane (count_confirmed result) }
         ensures pool { L.pool lanes.new ≡ L.pool lanes.old }
+        ensures queue_answer { (q : Queue) → Keeps self.old (lane_at (L.lists lanes.old) lane) q → result ≡ accept_answer q fsn bsn carries }
+        ensures queue { (q : Queue) → Keeps self.old (lane_at (L.lists lanes.old) lane) q → Keeps self.new (lane_at (L.lists lanes.new) lane) (accepted q fsn bsn carries) }
+    {
+        let answer = self.take_numbers(fsn, bsn, carries);
+        lanes.drop_front(lane, answer.unwrap_or(0));
+        answer
+    }
+
+    // What `accept` does to the numbers alone.
+    fn take_numbers(
+        &mut self,
+        fsn: Number24,
+        bsn: Number24,
+        carries: bool,
+    ) -> Result<usize, SeqFault>
+        ensures answer { result ≡ kept_accept_answer self.old fsn bsn carries }
+        ensures counts { self.new ≡ kept_accepted self.old fsn bsn carries }
     {
         let awaited = if carries {
             self.expected
@@ -106,7 +138,6 @@ impl Sequence {
             return Err(SeqFault::BadFsn);
         }
         let count = self.retrieve(bsn).ok_or(SeqFault::BadBsn)?;
-        lanes.drop_front(lane, count);
         self.oldest = next(bsn);
         self.outstanding -= count;
         if carries {
@@ -124,22 +155,34 @@ impl Sequence {
         window: usize,
     ) -> Option<(Number24, &'l Msu)>
         requires { lane < length (L.lists lanes.now) }
-        ensures sending { option_map (λ s. record { number = s.0; message = s.1.now }) result ≡ kept_to_send self.old (lane_at (L.lists lanes.now) lane) window }
+        ensures sending { option_map sending_of result ≡ kept_to_send self.old (lane_at (L.lists lanes.now) lane) window }
         ensures counts { self.new ≡ kept_sent_one self.old (lane_at (L.lists lanes.now) lane) window }
+        ensures queue_sending { (q : Queue) → Keeps self.old (lane_at (L.lists lanes.now) lane) q → option_map sending_of result ≡ to_send q window }
+        ensures queue { (q : Queue) → window ≤ Limits.WINDOW → Keeps self.old (lane_at (L.lists lanes.now) lane) q → Keeps self.new (lane_at (L.lists lanes.now) lane) (sent_one q window) }
     {
-        if self.outstanding >= window {
-            return None;
-        }
-        let message = lanes.get(lane, self.outstanding)?;
+        let message = self.unsent(lanes, lane, window)?;
         let number = self.next;
         self.next = next(number);
         self.outstanding += 1;
         Some((number, message))
     }
 
+    // The next message that goes out, if one may.
+    fn unsent<'l, L: Lanes>(&self, lanes: &'l L, lane: usize, window: usize) -> Option<&'l Msu>
+        requires { lane < length (L.lists lanes.now) }
+        ensures message { option_copied result ≡ (if nat_lt self.now.outstanding window then slice_get (lane_at (L.lists lanes.now) lane) self.now.outstanding else None) }
+    {
+        if self.outstanding < window {
+            lanes.get(lane, self.outstanding)
+        } else {
+            None
+        }
+    }
+
     /// Forgets what was sent: the next message that goes out has the number 0. What was received stays.
     pub fn empty(&mut self)
-        ensures { self.new ≡ kept_emptied self.old }
+        ensures counts { self.new ≡ kept_emptied self.old }
+        ensures queue { (lane : List Message) (q : Queue) → Keeps self.old lane q → Keeps self.new [] (emptied q) }
     {
         self.oldest = Number24::zero();
         self.next = Number24::zero();
@@ -148,14 +191,16 @@ impl Sequence {
 
     /// The number of the last message that was sent; before any was sent, the one before the first.
     pub fn last_sent(&self) -> Number24
-        ensures { result ≡ kept_last_sent self.now }
+        ensures number { result ≡ kept_last_sent self.now }
+        ensures queue { (lane : List Message) (q : Queue) → Keeps self.now lane q → result ≡ last_sent q }
     {
         self.next.previous()
     }
 
     /// The number of the last message that was accepted; before any was accepted, the one before 0.
     pub fn last_accepted(&self) -> Number24
-        ensures { result ≡ kept_last_accepted self.now }
+        ensures number { result ≡ kept_last_accepted self.now }
+        ensures queue { (lane : List Message) (q : Queue) → Keeps self.now lane q → result ≡ last_accepted q }
     {
         self.expected.previous()
     }
