@@ -44,13 +44,13 @@ pub enum ChangeoverTimer {
     T2,
 }
 
-/// The timers that end a changeback or a rerouting (Q.704 §16.8), with what they ran for.
+/// The timers that end a changeback or a rerouting (Q.704 §16.8).
 #[derive(Clone, Copy, Debug, PartialEq, Eq)]
 pub enum LateTimer {
-    /// The hold of messages that come to this link.
-    T3(LinkId),
-    /// The changeback declaration of this code.
-    T4(u8),
+    /// The hold of messages that come to a link.
+    T3,
+    /// The wait for the answer to a changeback declaration.
+    T4,
 }
 
 /// What the node notes for its operator.
@@ -68,6 +68,6 @@ pub enum Notice {
     Unsent(Cause, PointCode),
     /// A changeover of this link ended by its timer.
     Expired(ChangeoverTimer, LinkId),
-    /// A changeback or rerouting ended by its timer.
-    Late(LateTimer),
+    /// A changeback ended by its timer: T3 of the link of this number, or T4 of this code.
+    Late(LateTimer, u8),
 }

@@ -1,0 +1,5 @@
+pub mod Keeping
+pub mod Lists
+pub mod KeptQueues
+pub mod Sound
+pub mod Standing

@@ -1,0 +1,7 @@
+use Rattle.std.proofs.Common.{◌≡◌, replicate, vec_len}
+use Rattle.link_sequence.specs.Counts.{kept_first}
+use Rattle.exchange.proofs.exchange.first_sequences.Given as goal
+
+-- as many as the loop has gone round
+abbrev pub invariant-loop-index : goal.invariant-loop-index
+invariant-loop-index l = l.sequences.items ≡ replicate l.index kept_first

@@ -1,0 +1,20 @@
+-- How an exchange lies in its parts, and the room that they have.
+use Rattle.std.specs.Prelude.{◌≡◌, ℕ, ◌≤◌, length, vec_len}
+use Rattle.exchange.specs.State.{State}
+use Rattle.exchange.specs.Queues.{KeptQueues}
+use Rattle.exchange.specs.declared.exchange.Exchange.TheInside.{Inside}
+
+abbrev pub kept_in : Inside → State KeptQueues
+kept_in e = record {
+  settings = e.settings;
+  queues = record { lanes = e.lanes.lists; counts = e.sequences.items };
+  links = e.links.items;
+  notices = e.notices.items;
+}
+
+-- each link has its list, its numbers and its state; the pool and the notices have the room that they are to have
+pub record HasRoom (e : Inside) : Type 0 where
+  pub lanes : length e.lanes.lists ≡ vec_len e.links
+  pub sequences : vec_len e.sequences ≡ vec_len e.links
+  pub pool : e.lanes.pool ≡ e.settings.pool
+  pub notices : e.notices.capacity ≡ 64

@@ -1,0 +1,13 @@
+//! The exchange: the links, queues and messages of one node, as a machine without input or output.
+//! One call is one atomic step.
+#![tactic(auto)]
+
+pub mod event;
+pub mod exchange;
+pub mod link_state;
+pub mod memory;
+
+pub use event::{Call, Event};
+pub use exchange::Exchange;
+pub use link_state::{LinkState, Phase};
+pub use memory::NoMemory;
