@@ -3,3 +3,4 @@ pub mod Lists
 pub mod KeptQueues
 pub mod Sound
 pub mod Standing
+pub mod Calls

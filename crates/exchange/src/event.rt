@@ -1,6 +1,7 @@
-//! What happens to an exchange, and what it is asked for.
+//! What happens to an exchange, what it is asked for, and what it answers.
 
-use stp_types::{LinkId, Msu};
+use crate::frame_text::FrameText;
+use stp_types::{LinkId, Msu, Outcome};
 
 /// What happens to an exchange.
 #[derive(Clone, Copy)]
@@ -18,6 +19,15 @@ pub enum Event<'a> {
 pub enum Call<'a> {
     /// Something happens.
     Step(Event<'a>),
-    /// The next frame that goes out by a link is asked for.
+    /// The next frame that goes out on a link is asked for.
     Take(LinkId),
+}
+
+/// What an exchange answers to a call.
+#[derive(Drop)]
+pub enum Answer {
+    /// What became of what happened.
+    Stepped(Outcome),
+    /// The frame that goes out, where there is one.
+    Taken(Option<FrameText>),
 }

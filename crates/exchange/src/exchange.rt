@@ -1,18 +1,20 @@
 //! The exchange.
 
-ghost use Rattle.std.specs.Prelude.{◌≡◌, ℕ, [], ◌<◌, ◌≤◌, Some, None, Ok, Err, length, take, replicate, is_ok, slice_set, if◌then◌else◌, IfOk, IfSome};
+ghost use Rattle.std.specs.Prelude.{◌≡◌, ℕ, [], ◌<◌, ◌≤◌, Some, None, Ok, Err, length, take, replicate, is_ok, slice_set, if◌then◌else◌, IfOk, IfSome, OnOk, OnErr};
 ghost use Rattle.std.specs.Option.{option_map};
 ghost use Rattle.cell_pool.specs.Lanes.{lane_at};
 ghost use Rattle.link_sequence.specs.Counts.{kept_first, kept_last_accepted, kept_last_sent, kept_to_send, kept_sent_one};
-ghost use Rattle.m2pa_codec.specs.Frames.{sif_of};
+ghost use Rattle.m2pa_codec.specs.Frames.{sif_of, spelled};
 ghost use Rattle.m2pa_codec.specs.Values.{value_of};
 ghost use Rattle.exchange.specs.State.{State, down_link, in_service};
 ghost use Rattle.exchange.specs.Queues.{KeptQueues, kept, whole};
 ghost use Rattle.exchange.specs.Rules.{outcome_of, after, frame_to_take, taken, outgoing, up_outcome, up, opened, failed, with_notice, frame_outcome, framed, taken_outcome, taken_in, answer_to, carried_outcome, carried, arrival_outcome, stored, message_outcome, submit_outcome, submitted, local_outcome, read_outcome, read_in, with_accepted};
+ghost use Rattle.exchange.specs.Runs.{answer_to_call, after_call, answers_to, after_calls};
 ghost use Rattle.exchange.specs.Taking.{Writes};
 ghost use Rattle.exchange.specs.Stands.{Abstract, StandsFor, kept_of, first_state};
 
-use crate::event::Event;
+use crate::event::{Answer, Call, Event};
+use crate::frame_text::{BUFFER_OCTETS, FrameText};
 use crate::link_state::{LinkState, Phase};
 use crate::memory::NoMemory;
 use cell_pool::{Lanes, RingLanes};
@@ -99,7 +101,7 @@ impl Exchange {
     /// octets: the next message while the window allows, else the acknowledgement that is owed (RFC 4165 §4).
     ///
     /// None, and nothing is written, where the link isn't there or has nothing to send.
-    pub fn take(&mut self, link: LinkId, buffer: &mut [u8; 300]) -> Option<usize>
+    pub fn take(&mut self, link: LinkId, buffer: &mut [u8; BUFFER_OCTETS]) -> Option<usize>
         // For every abstract state that the exchange stood for, the frame is that of the abstract take,
         ensures frame { (a : Abstract) → StandsFor self.old a → Writes (frame_to_take whole a link) result buffer.old buffer.new }
         // and the exchange stands for the state after it.
@@ -108,9 +110,30 @@ impl Exchange {
         // The same on what is kept.
         ensures kept_frame { Writes (frame_to_take kept self.old link) result buffer.old buffer.new }
         ensures kept_state { self.new ≡ taken kept self.old link }
-        ensures fits { IfSome result (λ count. count ≤ 300) }
+        ensures fits { IfSome result (λ count. count ≤ BUFFER_OCTETS) }
     {
         self.send(link, buffer)
+    }
+
+    /// Makes calls in a row, and answers what each of them answered.
+    ///
+    /// NoMemory comes only where there was no room for the answers; then no call was made.
+    pub fn run(&mut self, alloc: Global, calls: &[Call<'_>]) -> Result<Vec<Answer>, NoMemory>
+        // For every abstract state that the exchange stood for, the answers are those of the abstract exchange,
+        ensures answers { (a : Abstract) → StandsFor self.old a → IfOk result (λ answers. answers.items ≡ answers_to whole calls.now a) }
+        // and the exchange stands for the state after all calls.
+        ensures state { (a : Abstract) → StandsFor self.old a → OnOk result (StandsFor self.new (after_calls whole calls.now a)) }
+
+        // The same on what is kept.
+        ensures kept_answers { IfOk result (λ answers. answers.items ≡ answers_to kept calls.now self.old) }
+        ensures kept_state { OnOk result (self.new ≡ after_calls kept calls.now self.old) }
+        ensures err { OnErr result (self.new ≡ self.old) }
+    {
+        let mut answers = Vec::with_capacity(alloc, calls.len())?;
+        for call in calls {
+            answers.push_reserved(self.answer(call));
+        }
+        Ok(answers)
     }
 
     /// The settings that the exchange was booted with.
@@ -125,6 +148,31 @@ impl Exchange {
         ensures { result.now.items ≡ self.now.notices }
     {
         &self.notices
+    }
+}
+
+impl Exchange {
+    /// Makes one call.
+    fn answer(&mut self, call: &Call<'_>) -> Answer
+        ensures answer { result ≡ answer_to_call kept call.now self.old }
+        ensures state { self.new ≡ after_call kept call.now self.old }
+    {
+        match call {
+            Call::Step(Event::AssociationUp(link)) => Answer::Stepped(self.associate(*link)),
+            Call::Step(Event::Frame(link, octets)) => Answer::Stepped(self.receive(*link, octets)),
+            Call::Step(Event::Submit(message)) => Answer::Stepped(self.submit(message)),
+            Call::Take(link) => Answer::Taken(self.text(*link)),
+        }
+    }
+
+    /// The octets of the next frame that goes out on a link.
+    fn text(&mut self, link: LinkId) -> Option<FrameText>
+        ensures text { result ≡ option_map spelled (frame_to_take kept self.old link) }
+        ensures state { self.new ≡ taken kept self.old link }
+    {
+        let mut buffer = [0; BUFFER_OCTETS];
+        let count = self.send(link, &mut buffer)?;
+        Some(FrameText::new(&buffer[..count]))
     }
 }
 
@@ -315,10 +363,10 @@ impl Exchange {
         }
     }
 
-    fn send(&mut self, link: LinkId, buffer: &mut [u8; 300]) -> Option<usize>
+    fn send(&mut self, link: LinkId, buffer: &mut [u8; BUFFER_OCTETS]) -> Option<usize>
         ensures frame { Writes (frame_to_take kept self.old link) result buffer.old buffer.new }
         ensures state { self.new ≡ taken kept self.old link }
-        ensures fits { IfSome result (λ count. count ≤ 300) }
+        ensures fits { IfSome result (λ count. count ≤ BUFFER_OCTETS) }
     {
         let index = link.index();
         if index >= self.links.len() || self.links[index].phase == Phase::Down {

@@ -4,10 +4,12 @@
 
 pub mod event;
 pub mod exchange;
+pub mod frame_text;
 pub mod link_state;
 pub mod memory;
 
-pub use event::{Call, Event};
+pub use event::{Answer, Call, Event};
 pub use exchange::Exchange;
+pub use frame_text::{BUFFER_OCTETS, FrameText};
 pub use link_state::{LinkState, Phase};
 pub use memory::NoMemory;
