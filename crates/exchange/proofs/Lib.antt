@@ -4,3 +4,4 @@ pub mod KeptQueues
 pub mod Sound
 pub mod Standing
 pub mod Calls
+pub mod Refusing

@@ -5,3 +5,4 @@ pub mod Stands
 pub mod Runs
 pub mod Room
 pub mod Taking
+pub mod Refusals

@@ -5,6 +5,7 @@
 pub mod event;
 pub mod exchange;
 pub mod frame_text;
+pub mod laws;
 pub mod link_state;
 pub mod memory;
 
