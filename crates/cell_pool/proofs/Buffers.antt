@@ -6,9 +6,14 @@ use Rattle.std.proofs.lemmas.List.{map-set, get_or-map, length-map, length_push}
 use Rattle.std.proofs.lemmas.List.Elements.{All-get_or, All-set}
 use Rattle.std.proofs.lemmas.Option.{slice_get_within, get_or_from_slice_get}
 use Rattle.circular_buffer.specs.Buffer.{Buffer, buffer, keep_last}
-use Rattle.cell_pool.specs.Numbering.{ring_at, SharesOut}
-use Rattle.cell_pool.specs.Rings.{rings_in}
+use Rattle.cell_pool.specs.Numbering.{Numbering, ring_at, SharesOut}
+use Rattle.cell_pool.specs.Rings.{rings_in, numbering_in}
+use Rattle.cell_pool.specs.declared.cell_rings.CellRings.TheInside.{Inside}
 use Rattle.cell_pool.proofs.Sharing.{claimed, shared-room, released, in_ring-within}
+
+-- there is a buffer for each ring
+pub within_buffers : (s : Inside) (v : Numbering) (i : ℕ) → numbering_in s ≡ v → i < length v.rings → i < length s.rings.items
+within_buffers s v i e h = omega (arith, ap (λ (w : Numbering). length w.rings) e, length-map s.rings.items (λ (b : Buffer ℕ). b.items))
 
 -- the ring that a buffer of the row keeps
 pub ring_of : (bs : List (Buffer ℕ)) (i : ℕ) (old : Buffer ℕ) → i < length bs → old ≡ get_or bs i old → ring_at (rings_in bs) i ≡ old.items

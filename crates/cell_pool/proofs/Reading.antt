@@ -7,7 +7,9 @@ use Rattle.std.proofs.lemmas.List.Sums.{sum_by-cons, get_or-le-sum_by}
 use Rattle.stp_types.specs.Message.{Message}
 use Rattle.cell_pool.specs.Numbering.{uses, ring_at}
 use Rattle.cell_pool.specs.Lanes.{lane_at, pushed, dropped}
-use Rattle.cell_pool.specs.Cells.{message_at, messages_at, lists_at}
+use Rattle.cell_pool.specs.Cells.{Occupied, message_at, messages_at, lists_at}
+use Rattle.cell_pool.specs.Row.{occupied_in}
+use Rattle.cell_pool.specs.declared.cell_lists.CellLists.TheInside.{Inside}
 use Rattle.cell_pool.proofs.Sharing.{use_of, uses-cons, use_of-itself}
 
 -- a number that isn't used is another one
@@ -29,6 +31,10 @@ written-unused cells n m (ring ∷ rings) h =
     let here : uses n ring ≡ 0 = omega (arith, sum_by-cons (uses n) ring rings) in
     let rest : sum_by (uses n) rings ≡ 0 = omega (arith, sum_by-cons (uses n) ring rings) in
     ap (λ x. x ∷ lists_at (set cells n m) rings) (written-elsewhere cells n m ring here) ∙ ap (λ xs. messages_at cells ring ∷ xs) (written-unused cells n m rings rest)
+
+-- there is a ring for each list
+pub within_rings : (s : Inside) (v : Occupied) (i : ℕ) → occupied_in s ≡ v → i < length v.lists → i < length s.numbers.rings
+within_rings s v i e h = omega (arith, ap (λ (w : Occupied). length w.lists) e, length-map s.numbers.rings (messages_at s.cells.items))
 
 -- one of the lists
 pub list_at : (cells : List Message) (rings : List (List ℕ)) (i : ℕ) → i < length rings → lane_at (lists_at cells rings) i ≡ messages_at cells (ring_at rings i)

@@ -2,7 +2,7 @@
 use Rattle.std.specs.Prelude.{◌≡◌, ℕ, ◌≤◌, List, map, vec_capacity, All}
 use Rattle.circular_buffer.specs.Buffer.{Buffer}
 use Rattle.cell_pool.specs.Numbering.{Numbering, SharesOut}
-use Rattle.cell_pool.specs.declared.cell_numbers.CellNumbers.TheInside.{Inside}
+use Rattle.cell_pool.specs.declared.cell_rings.CellRings.TheInside.{Inside}
 
 abbrev pub rings_in : List (Buffer ℕ) → List (List ℕ)
 rings_in buffers = map (λ b. b.items) buffers

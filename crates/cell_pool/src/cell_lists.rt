@@ -4,7 +4,7 @@ ghost use Rattle.std.specs.Prelude.{◌≡◌, ℕ, ◌^◌, ◌<◌, List, [], 
 ghost use Rattle.std.specs.Option.{option_copied};
 ghost use Rattle.cell_pool.specs.Lanes.{lane_at, pushed, dropped};
 
-use crate::cell_numbers::CellNumbers;
+use crate::cell_rings::CellRings;
 use std::alloc::{AllocError, Global};
 use std::marker::Model;
 use stp_types::Msu;
@@ -14,7 +14,7 @@ use stp_types::Msu;
 #[derive(Drop)]
 pub(crate) struct CellLists {
     cells: Vec<Msu>,
-    numbers: CellNumbers,
+    numbers: CellRings,
 }
 
 impl Model for CellLists {
@@ -40,7 +40,7 @@ impl CellLists {
         };
         Ok(CellLists {
             cells: vec![in alloc; blank; cells]?,
-            numbers: CellNumbers::new(alloc, lists, cells)?,
+            numbers: CellRings::new(alloc, lists, cells)?,
         })
     }
 
@@ -65,7 +65,7 @@ impl CellLists {
         ensures { option_copied result ≡ slice_get (lane_at self.now.lists list) index }
     {
         let number = self.numbers.get(list, index)?;
-        Some(&self.cells[number])
+        Some(&self.cells[number.index()])
     }
 
     /// Copies a message into a free cell, at the end of a list.
@@ -75,7 +75,7 @@ impl CellLists {
         ensures { self.new ≡ record self.old { lists = pushed self.old.lists list message.now } }
     {
         let number = self.numbers.claim(list);
-        self.cells[number] = *message;
+        self.cells[number.index()] = *message;
     }
 
     /// Drops the first message of a list, where there is one.

@@ -1,10 +1,15 @@
-//! Numbered lists of messages under fixed limits.
+//! Numbered lists of messages under fixed limits: the trait `Lanes`, and `RingLanes`, a row of cells
+//! whose numbers stand in one ring for each list.
 #![tactic(auto)]
 
 mod cell_lists;
-mod cell_numbers;
+mod cell_number;
+mod cell_rings;
 pub mod lanes;
 pub mod ring_lanes;
 
 pub use lanes::Lanes;
 pub use ring_lanes::RingLanes;
+
+#[cfg(test)]
+mod tests;

@@ -9,8 +9,13 @@ use std::alloc::{AllocError, Global};
 use std::marker::Model;
 use stp_types::{Cause, Limits, Msu};
 
-/// Numbered lists of messages over one row of cells, which holds as many user messages as the pool
-/// and 256 management messages. All room is made by `new`: no other call takes memory.
+/// Numbered lists of messages over one row of cells, which has a cell for each user message of the
+/// pool and for each of 256 management messages. A message is copied into its cell once and stays
+/// there; a list is a ring of cell numbers.
+///
+/// All room is made by `new`: no other call takes memory. `drop_front` takes a step for each message
+/// that it drops, and every other call a fixed number of steps, however many lists and messages
+/// there are.
 #[derive(Drop)]
 pub struct RingLanes {
     lists: CellLists,
@@ -32,9 +37,11 @@ impl Model for RingLanes {
 }
 
 impl RingLanes {
-    /// Empty lists, and room for a pool of user messages and for 256 management messages.
+    /// So many empty lists, at most one more than a node has links, and room for a pool of user
+    /// messages, at most 65,535, and for 256 management messages.
     ///
-    /// The error means that memory ran out.
+    /// Each message that there is room for takes a cell of 276 octets, and each list four octets for
+    /// every cell. The error means that memory ran out.
     pub fn new(alloc: Global, lanes: usize, pool: usize) -> Result<RingLanes, AllocError>
         requires lanes { lanes ≤ Limits.LINKS + 1 }
         requires pool { pool ≤ Limits.POOL }

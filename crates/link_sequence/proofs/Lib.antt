@@ -3,3 +3,4 @@ pub mod Kept
 pub mod Sound
 pub mod Keeping
 pub mod Lanes
+pub mod Naming

@@ -2,7 +2,11 @@
 #![tactic(auto)]
 
 pub mod fault;
+pub mod laws;
 pub mod sequence;
 
 pub use fault::SeqFault;
 pub use sequence::Sequence;
+
+#[cfg(test)]
+mod tests;

@@ -1,6 +1,6 @@
 //! The numbers of one link.
 
-ghost use Rattle.std.specs.Prelude.{◌≡◌, ℕ, ◌<◌, ◌≤◌, List, [], None, length, nat_lt, slice_get, if◌then◌else◌};
+ghost use Rattle.std.specs.Prelude.{◌≡◌, ℕ, ◌-◌, ◌<◌, ◌≤◌, List, [], None, length, nat_lt, slice_get, if◌then◌else◌};
 ghost use Rattle.std.specs.Option.{option_map, option_copied};
 ghost use Rattle.cell_pool.specs.Lanes.{lane_at, dropped};
 ghost use Rattle.stp_types.specs.Message.{Message};
@@ -40,7 +40,7 @@ use std::marker::Model;
 use stp_types::{Limits, Msu};
 
 /// The numbers of one link in one epoch (RFC 4165 §2.2).
-#[derive(Debug, Drop)]
+#[derive(Clone, Copy, Debug, PartialEq, Eq)]
 pub struct Sequence {
     oldest: Number24,
     next: Number24,
@@ -53,11 +53,16 @@ impl Model for Sequence {
 
     ghost Value = { Counts };
 
-    ghost use Rattle.link_sequence.specs.Inside.{counts_in, IsInStep};
+    ghost use Rattle.link_sequence.specs.Inside.{counts_in, IsInStep, fields_of};
+    ghost use Rattle.link_sequence.specs.Fields.{fields_of-counts_in};
 
     ghost view = { counts_in };
 
     ghost invariant = { IsInStep };
+
+    ghost inverse = { fields_of };
+
+    ghost inverse_ok = { fields_of-counts_in };
 }
 
 impl Sequence {
@@ -90,6 +95,14 @@ impl Sequence {
     {
         let count = distance(self.oldest, next(confirmed)) as usize;
         (count <= self.outstanding).then_some(count)
+    }
+
+    /// How many messages were sent and aren't confirmed.
+    pub fn outstanding(&self) -> usize
+        ensures count { result ≡ self.now.outstanding }
+        ensures queue { (lane : List Message) (q : Queue) → Keeps self.now lane q → result ≡ q.sent - q.confirmed }
+    {
+        self.outstanding
     }
 
     /// Takes the numbers of a frame of User Data, which carries a message or not: what it confirms leaves the front
@@ -132,7 +145,7 @@ impl Sequence {
         let awaited = if carries {
             self.expected
         } else {
-            self.expected.previous()
+            self.last_accepted()
         };
         if fsn != awaited {
             return Err(SeqFault::BadFsn);

@@ -2,7 +2,7 @@
 use Rattle.std.proofs.Common.{◌≡◌, ℕ, ◌+◌, ◌/◌, ◌%◌, ◌^◌, ◌<◌, ◌≤◌, List, [], ◌∷◌, ◌++◌, length, drop, Option, Some, None, Result, Ok, Err, refl, sym, ap, subst, ◌∙◌, ◌⊎◌, inl, inr, drop-cons, arith}
 use Rattle.std.proofs.lemmas.Bool.{cases_order, eq-eqb, ne_eqb}
 use Rattle.std.proofs.lemmas.List.{drop_all, nil_from_length, length-append, append-nil}
-use Rattle.std.specs.Prelude.{slice_index, MatchResult, IfOk}
+use Rattle.std.specs.Prelude.{slice_index, IfOk}
 use Rattle.std.specs.Int.{w32, to_be_bytes}
 use Rattle.std.proofs.lemmas.Nat.{from_be_bytes-to_be_bytes_4}
 use Rattle.std.proofs.lemmas.Bool.Decides.{nat_tests}
@@ -11,7 +11,7 @@ use Rattle.link_number.proofs.Octets.{number_of-three_octets, three_octets-numbe
 use Rattle.m2pa_codec.specs.Frames.{FrameValue, EmptyFrame, MessageFrame, user_data, common_header, number_header, IsHeaded, IsFrame, AreOctets, spelled, IsSayable}
 use Rattle.m2pa_codec.specs.Reading.{length_field, bsn_field, fsn_field, fault_of, value_in, unless, read_frame}
 use Rattle.m2pa_codec.specs.declared.frame.Frame.{Frame}
-use Rattle.m2pa_codec.specs.Values.{value_of}
+use Rattle.m2pa_codec.specs.Values.{value_of, Answers}
 use Rattle.m2pa_codec.proofs.Cells.{cells}
 
 -- ---- a text without fault
@@ -100,7 +100,7 @@ pub read_frame-is_frame : (text : List ℕ) (value : FrameValue) → AreOctets t
 read_frame-is_frame text value fits e = subst (IsFrame text) (read_frame-ok text value e).1 (value_in-frame text fits (read_frame-ok text value e).0)
 
 -- the same, of what the code answers
-pub is_frame_read : (text : List ℕ) (result : Result Frame FrameFault) → AreOctets text → MatchResult result (λ frame. read_frame text ≡ Ok (value_of frame)) (λ fault. read_frame text ≡ Err fault) → IfOk result (λ frame. IsFrame text (value_of frame))
+pub is_frame_read : (text : List ℕ) (result : Result Frame FrameFault) → AreOctets text → Answers result (read_frame text) → IfOk result (λ frame. IsFrame text (value_of frame))
 is_frame_read text (Ok frame) fits e = read_frame-is_frame text (value_of frame) fits e
 is_frame_read text (Err fault) fits e = tt
 

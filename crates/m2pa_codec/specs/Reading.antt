@@ -1,5 +1,5 @@
 -- Reading a frame, with the first fault that is met (RFC 4165 §2).
-use Rattle.std.specs.Prelude.{ℕ, List, [], ◌∷◌, length, drop, Option, Some, None, Result, Ok, Err, nat_lt, ◌==◌, not, if◌then◌else◌, slice_index}
+use Rattle.std.specs.Prelude.{ℕ, ◌+◌, List, [], ◌∷◌, length, drop, Option, Some, None, Result, Ok, Err, nat_lt, ◌==◌, not, if◌then◌else◌, slice_index}
 use Rattle.std.specs.Int.{w32, from_be_bytes}
 use Rattle.stp_types.specs.declared.notice.FrameFault.{FrameFault}
 use Rattle.stp_types.specs.declared.notice.FrameFault.TheVariants.{Short, Length, Version, Unknown}
@@ -10,13 +10,17 @@ use Rattle.m2pa_codec.specs.Frames.{FrameValue, EmptyFrame, MessageFrame, user_d
 abbrev pub length_field : List ℕ → ℕ
 length_field text = from_be_bytes w32 (slice_index text 4 ∷ slice_index text 5 ∷ slice_index text 6 ∷ slice_index text 7 ∷ [])
 
+-- the number in the three octets from a place on
+abbrev pub number_field : List ℕ → ℕ → ℕ
+number_field text at = number_of (slice_index text at ∷ slice_index text (at + 1) ∷ slice_index text (at + 2) ∷ [])
+
 -- the backward sequence number: octets 9 to 11
 abbrev pub bsn_field : List ℕ → ℕ
-bsn_field text = number_of (slice_index text 9 ∷ slice_index text 10 ∷ slice_index text 11 ∷ [])
+bsn_field text = number_field text 9
 
 -- the forward sequence number: octets 13 to 15
 abbrev pub fsn_field : List ℕ → ℕ
-fsn_field text = number_of (slice_index text 13 ∷ slice_index text 14 ∷ slice_index text 15 ∷ [])
+fsn_field text = number_field text 13
 
 -- the first fault of the common header
 abbrev pub header_fault : List ℕ → Option FrameFault

@@ -1,4 +1,6 @@
 -- What a frame of the code says, without where its octets lie.
+use Rattle.std.specs.Prelude.{◌≡◌, Result, Ok, Err}
+use Rattle.stp_types.specs.declared.notice.FrameFault.{FrameFault}
 use Rattle.m2pa_codec.specs.declared.frame.Frame.{Frame}
 use Rattle.m2pa_codec.specs.declared.frame.Frame.TheVariants.{Empty, Message}
 use Rattle.m2pa_codec.specs.Frames.{FrameValue, EmptyFrame, MessageFrame}
@@ -6,3 +8,8 @@ use Rattle.m2pa_codec.specs.Frames.{FrameValue, EmptyFrame, MessageFrame}
 abbrev pub value_of : Frame → FrameValue
 value_of (Empty bsn fsn) = EmptyFrame bsn fsn
 value_of (Message bsn fsn sio sif) = MessageFrame bsn fsn sio sif.now
+
+-- the answer of the code, its frame seen as a value, is what reading gives
+abbrev pub Answers : Result Frame FrameFault → Result FrameValue FrameFault → Type 0
+Answers (Ok frame) read = read ≡ Ok (value_of frame)
+Answers (Err fault) read = read ≡ Err fault

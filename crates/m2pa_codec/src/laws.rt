@@ -1,4 +1,5 @@
-//! Laws of frames, for whoever reads a stream of them. Each function says its law by its contract, and does nothing.
+//! Laws of frames, for whoever reads a stream of them. Each function says its law by its
+//! contract, and does nothing.
 
 ghost use Rattle.std.specs.Prelude.{◌≡◌, ℕ, ◌++◌, ◌↔◌, List, [], Ok};
 ghost use Rattle.m2pa_codec.specs.Frames.{FrameValue, IsFrame, IsSayable, AreOctets, spelled};
@@ -6,12 +7,14 @@ ghost use Rattle.m2pa_codec.specs.Reading.{read_frame};
 
 /// No frame is a proper prefix of another.
 pub fn no_frame_begins_another()
-    ensures { (x y rest : List ℕ) (v w : FrameValue) → IsFrame x v → IsFrame y w → x ++ rest ≡ y → rest ≡ [] }
+    ensures { (x y rest : List ℕ) (v w : FrameValue) → IsFrame x v → IsFrame y w → x ++ rest ≡ y
+        → rest ≡ [] }
 {}
 
 /// Octets are a frame that says a value exactly where reading gives that value.
 pub fn frames_are_what_is_read()
-    ensures { (text : List ℕ) (v : FrameValue) → AreOctets text → IsFrame text v ↔ (read_frame text ≡ Ok v) }
+    ensures { (text : List ℕ) (v : FrameValue) → AreOctets text
+        → IsFrame text v ↔ (read_frame text ≡ Ok v) }
 {}
 
 /// A text says one value at most.

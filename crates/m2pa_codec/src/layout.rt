@@ -18,3 +18,9 @@ pub(crate) const HEADER_OCTETS: usize = 16;
 /// Octets before the field of a message: both headers, the priority octet and the service
 /// information octet (RFC 4165 §2.3.1).
 pub(crate) const MESSAGE_HEADER_OCTETS: usize = HEADER_OCTETS + 2;
+
+/// Where the backward sequence number stands (RFC 4165 §2.2).
+pub(crate) const BSN_AT: usize = 9;
+
+/// Where the forward sequence number stands (RFC 4165 §2.2).
+pub(crate) const FSN_AT: usize = 13;

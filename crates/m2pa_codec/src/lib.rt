@@ -11,3 +11,6 @@ pub use frame::{BUFFER_OCTETS, Frame};
 pub use reading::decode;
 pub use stp_types::FrameFault;
 pub use writing::encode;
+
+#[cfg(test)]
+mod tests;

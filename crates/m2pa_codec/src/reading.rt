@@ -1,12 +1,12 @@
 //! Frames read from their octets.
 
-ghost use Rattle.std.specs.Prelude.{◌≡◌, ℕ, ◌≤◌, ◌<◌, ◌^◌, List, length, IfOk, IfErr, IsOkAnd, MatchResult, Ok, Err, Some, None};
+ghost use Rattle.std.specs.Prelude.{◌≡◌, ℕ, ◌+◌, ◌≤◌, ◌<◌, ◌^◌, List, length, IfOk, IfErr, IsOkAnd, OnOk, Some, None};
 ghost use Rattle.m2pa_codec.specs.Frames.{FrameValue, IsFrame, bsn_of, fsn_of, sif_of};
-ghost use Rattle.m2pa_codec.specs.Values.{value_of};
-ghost use Rattle.m2pa_codec.specs.Reading.{header_fault, read_frame, fault_of};
+ghost use Rattle.m2pa_codec.specs.Values.{value_of, Answers};
+ghost use Rattle.m2pa_codec.specs.Reading.{number_field, header_fault, read_frame, fault_of};
 
 use crate::frame::Frame;
-use crate::layout::{CLASS, USER_DATA, VERSION};
+use crate::layout::{BSN_AT, CLASS, FSN_AT, HEADER_OCTETS, USER_DATA, VERSION};
 use link_number::Number24;
 use stp_types::FrameFault;
 
@@ -17,12 +17,13 @@ use stp_types::FrameFault;
 /// Short under 16 octets, and where a single octet follows these. Spare, unused and priority octets
 /// may be any, and the message's field may have any length.
 pub fn decode(octets: &[u8]) -> Result<Frame<'_>, FrameFault>
-    // What reading gives, by the definition.
-    ensures exact { MatchResult result (λ frame. read_frame octets.now ≡ Ok (value_of frame)) (λ fault. read_frame octets.now ≡ Err fault) }
+    // What reading gives.
+    ensures exact { Answers result (read_frame octets.now) }
     // What is read is a frame.
     ensures value { IfOk result (λ frame. IsFrame octets.now (value_of frame)) }
     // What is a frame is read.
-    ensures only { (v : FrameValue) → IsFrame octets.now v → IsOkAnd result (λ frame. value_of frame ≡ v) }
+    ensures only { (v : FrameValue) → IsFrame octets.now v
+        → IsOkAnd result (λ frame. value_of frame ≡ v) }
     // An error is the first fault.
     ensures fault { IfErr result (λ fault. fault_of octets.now ≡ Some fault) }
     ensures bsn { IfOk result (λ frame. bsn_of (value_of frame) < 2 ^ 24) }
@@ -34,43 +35,38 @@ pub fn decode(octets: &[u8]) -> Result<Frame<'_>, FrameFault>
 
 /// The frame, or the first fault.
 fn read(octets: &[u8]) -> Result<Frame<'_>, FrameFault>
-    ensures { MatchResult result (λ frame. read_frame octets.now ≡ Ok (value_of frame)) (λ fault. read_frame octets.now ≡ Err fault) }
+    ensures { Answers result (read_frame octets.now) }
 {
     check_header(octets)?;
-    let [
-        _,
-        _,
-        _,
-        _,
-        _,
-        _,
-        _,
-        _,
-        _,
-        b2,
-        b1,
-        b0,
-        _,
-        f2,
-        f1,
-        f0,
-        ref body @ ..,
-    ] = *octets
-    else {
+    if octets.len() < HEADER_OCTETS {
         return Err(FrameFault::Short);
-    };
-    let bsn = Number24::from_be_bytes([b2, b1, b0]);
-    let fsn = Number24::from_be_bytes([f2, f1, f0]);
-    match *body {
+    }
+    let bsn = number_at(octets, BSN_AT);
+    let fsn = number_at(octets, FSN_AT);
+    match &octets[HEADER_OCTETS..] {
         [] => Ok(Frame::Empty { bsn, fsn }),
         [_] => Err(FrameFault::Short),
-        [_, sio, ref sif @ ..] => Ok(Frame::Message { bsn, fsn, sio, sif }),
+        [_, sio, sif @ ..] => Ok(Frame::Message {
+            bsn,
+            fsn,
+            sio: *sio,
+            sif,
+        }),
     }
+}
+
+/// The number in the three octets from a place on.
+fn number_at(octets: &[u8], at: usize) -> Number24
+    requires { at + 3 ≤ length octets.now }
+    ensures { result ≡ number_field octets.now at }
+{
+    Number24::from_be_bytes([octets[at], octets[at + 1], octets[at + 2]])
 }
 
 /// Whether the common header is without fault, or its first fault (RFC 4165 §2.1).
 fn check_header(octets: &[u8]) -> Result<(), FrameFault>
-    ensures { MatchResult result (λ _. header_fault octets.now ≡ None) (λ fault. header_fault octets.now ≡ Some fault) }
+    ensures ok { OnOk result (header_fault octets.now ≡ None) }
+    ensures fault { IfErr result (λ fault. header_fault octets.now ≡ Some fault) }
 {
     let [version, _, class, kind, l3, l2, l1, l0, ..] = *octets else {
         return Err(FrameFault::Short);

@@ -1,10 +1,8 @@
-use Rattle.std.proofs.Common.{rules, arith, ◌≡◌, ◌∙◌, ap, subst, ℕ, List, drop}
+use Rattle.std.proofs.Common.{arith, ◌≡◌, ◌∙◌}
 use Rattle.std.proofs.lemmas.Grind.{common_steps}
-use Rattle.stp_types.specs.Message.{Message}
-use Rattle.cell_pool.specs.Lanes.{lane_at, dropped}
-use Rattle.link_sequence.specs.Queue.{Queue, count_confirmed, accepted}
-use Rattle.link_sequence.specs.Counts.{kept_accept_answer, kept_accepted}
-use Rattle.link_sequence.specs.Keeps.{Keeps}
+use Rattle.cell_pool.specs.Lanes.{lane_at}
+use Rattle.link_sequence.specs.Queue.{count_confirmed}
+use Rattle.link_sequence.specs.Counts.{kept_accept_answer}
 use Rattle.link_sequence.proofs.Keeping.{answers-accept, keeps-accepted}
 use Rattle.link_sequence.proofs.Lanes.{lane_at-dropped}
 use Rattle.link_sequence.proofs.sequence.Sequence.accept.Goals as goal

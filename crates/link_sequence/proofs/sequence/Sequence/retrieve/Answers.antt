@@ -1,4 +1,4 @@
-use Rattle.std.proofs.Common.{rules, arith, ◌≡◌, ◌∙◌, Option, ℕ}
+use Rattle.std.proofs.Common.{arith, ◌≡◌, ◌∙◌}
 use Rattle.std.proofs.lemmas.Grind.{common_steps}
 use Rattle.link_sequence.specs.Counts.{kept_newly_confirmed}
 use Rattle.link_sequence.proofs.Keeping.{answers-newly_confirmed}
