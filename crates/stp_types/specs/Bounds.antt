@@ -2,6 +2,8 @@
 use Rattle.std.specs.Prelude.{ℕ, ◌≤◌, ◌<◌, ◌^◌, length, All, List}
 use Rattle.stp_types.specs.Configuration.{Configuration, SetEntry, LinkEntry, DestinationEntry}
 use Rattle.stp_types.specs.declared.configuration.TimerTicks.{TimerTicks}
+use Rattle.stp_types.specs.declared.check.Scalars.{Scalars}
+use Rattle.stp_types.specs.declared.check.Arrays.{Arrays}
 use Rattle.stp_types.specs.declared.limits.TheConstants.Limits.{LINKS, SETS, DESTINATIONS, POOL, WINDOW, TICKS}
 
 -- a number of ticks that a timer may run
@@ -39,3 +41,21 @@ pub record HasBounds (c : Configuration) : Type 0 where
   pub links : length c.links ≤ LINKS
   pub destinations_above : 1 ≤ length c.destinations
   pub destinations : length c.destinations ≤ DESTINATIONS
+
+-- the numbers that settings begin with, within their limits
+pub record HasScalarBounds (s : Scalars) : Type 0 where
+  pub own : s.own < 2 ^ 14
+  pub network : s.network < 4
+  pub window_above : 1 ≤ s.window
+  pub window : s.window ≤ WINDOW
+  pub pool_above : 1 ≤ s.pool
+  pub pool : s.pool ≤ POOL
+
+-- the arrays of settings, as long as they may be
+pub record HasArrayBounds (a : Arrays) : Type 0 where
+  pub sets_above : 1 ≤ length a.sets.items
+  pub sets : length a.sets.items ≤ SETS
+  pub links_above : 1 ≤ length a.links.items
+  pub links : length a.links.items ≤ LINKS
+  pub destinations_above : 1 ≤ length a.destinations.items
+  pub destinations : length a.destinations.items ≤ DESTINATIONS

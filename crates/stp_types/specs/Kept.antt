@@ -16,7 +16,8 @@ configuration_of s = record {
   sets = s.sets.items;
   links = s.links.items;
   destinations = s.destinations.items;
-  titles = s.titles.items }
+  titles = s.titles.items;
+}
 
 -- the limits are kept, and the index has the destinations' point codes in their order
 pub record IsKept (s : Inside) : Type 0 where

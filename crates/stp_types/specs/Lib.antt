@@ -1,6 +1,10 @@
 pub mod Configuration
 pub mod Bounds
 pub mod Readings
+pub mod Checks
+pub mod Meaning
+pub mod FirstFault
+pub mod Faults
 pub mod Kept
 pub mod Message
 pub mod Room

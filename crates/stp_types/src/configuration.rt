@@ -162,13 +162,14 @@ impl Model for TitleRow {
     ghost Value = { TitleEntry };
 
     ghost view = { λ t. record {
-        translation = t.translation;
-        plan = t.plan;
-        nature = t.nature;
-        digits = t.digits.items;
-        point = t.point;
-        by_title = t.by_title;
-        ssn = t.ssn } };
+      translation = t.translation;
+      plan = t.plan;
+      nature = t.nature;
+      digits = t.digits.items;
+      point = t.point;
+      by_title = t.by_title;
+      ssn = t.ssn;
+    } };
 }
 
 impl TitleRow {

@@ -3,8 +3,10 @@
 #![tactic(auto)]
 
 pub mod cause;
+mod check;
 pub mod configuration;
 pub mod draft;
+pub mod fault;
 pub mod limits;
 pub mod message;
 pub mod notice;
@@ -13,8 +15,12 @@ pub mod point;
 pub mod settings;
 
 pub use cause::Cause;
+pub use configuration::{DestinationRow, LinkRow, SetRow, TimerTicks, TitleRow};
+pub use draft::{DestinationDraft, Draft, LinkDraft, SetDraft, TimersDraft, TitleDraft};
+pub use fault::{DraftFault, FaultKind, Key, TimerKey};
 pub use limits::Limits;
 pub use message::Msu;
 pub use notice::{ChangeoverTimer, FailureReason, FrameFault, LateTimer, Notice};
 pub use outcome::Outcome;
 pub use point::{Flow, LinkId, PointCode, SetId, Sls};
+pub use settings::Settings;

@@ -114,7 +114,7 @@ impl LinkId {
 }
 
 /// A link set, by its number in the order of the settings, from 0. It may name no set of a node.
-#[derive(Clone, Copy, Debug, PartialEq, Eq, Hash)]
+#[derive(Clone, Copy, Debug, Default, PartialEq, Eq, Hash)]
 pub struct SetId {
     number: u8,
 }

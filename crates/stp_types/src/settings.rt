@@ -3,15 +3,26 @@
 ghost use Rattle.std.specs.Str.{bytes_eq};
 ghost use Rattle.std.specs.List.{list_any};
 ghost use Rattle.std.specs.Option.{option_copied, option_map};
-ghost use Rattle.std.specs.Prelude.{◌≡◌, ℕ, position, ◌<◌, ◌≤◌, Bool, length, nat_eq, slice_get, IfSome};
+ghost use Rattle.std.specs.Prelude.{IfOk, OnOk, IfErr, ◌⊎◌, Some, None, ◌≡◌, ℕ, position, ◌<◌, ◌≤◌, Bool, length, nat_eq, slice_get, IfSome};
+ghost use Rattle.stp_types.specs.Meaning.{settings_of};
+ghost use Rattle.stp_types.specs.FirstFault.{first_fault};
 ghost use Rattle.stp_types.specs.Readings.{link_place, destination_place};
 ghost use Rattle.stp_types.specs.Bounds.{HasTicks, HasBounds};
 
+use crate::check::{self, Arrays};
 use crate::configuration::{DestinationRow, LinkRow, SetRow, TimerTicks, TitleRow};
+use crate::draft::Draft;
+use crate::fault::{DraftFault, Key};
 use crate::limits::Limits;
 use crate::point::{LinkId, PointCode};
 use indexmap::IndexSet;
+use std::alloc::Global;
 use std::marker::Model;
+
+/// The service indicators of user parts (Q.704 §14.2.1).
+const FIRST_USER: u8 = 4;
+
+const LAST_USER: u8 = 15;
 
 /// The checked settings of a node: every name is known, every number is within its limit.
 #[derive(Debug, Drop)]
@@ -43,6 +54,56 @@ impl Model for Settings {
 }
 
 impl Settings {
+    /// Checks settings as they were written.
+    ///
+    /// Answers the settings, or the first fault: the keys in their order, the entries of an array
+    /// from the first on, and last of all a set whose adjacent point isn't a destination that it
+    /// leads to first. `NoMemory` may stand in place of any other, where a growth was refused.
+    pub fn check(alloc: Global, draft: Draft) -> Result<Settings, DraftFault>
+        ensures settings { IfOk result (λ settings. settings ≡ settings_of draft) }
+        ensures well { OnOk result (first_fault draft ≡ None) }
+        ensures fault { IfErr result (λ fault. (fault ≡ DraftFault.NoMemory) ⊎ (first_fault draft ≡ Some fault)) }
+    {
+        let scalars = check::checked_scalars(&draft)?;
+        let users = check::numbers::distinct_numbers(
+            alloc,
+            &draft.users,
+            FIRST_USER,
+            LAST_USER,
+            Key::Users,
+        )?;
+        let subsystems = check::numbers::distinct_numbers(
+            alloc,
+            &draft.subsystems,
+            1,
+            u8::MAX,
+            Key::Subsystems,
+        )?;
+        let timers = check::numbers::timer_ticks(&draft.timers)?;
+        let arrays = check::checked_arrays(alloc, scalars.own, &draft)?;
+        let Arrays {
+            sets,
+            links,
+            destinations,
+            titles,
+            points,
+        } = arrays;
+        Ok(Settings {
+            own: scalars.own,
+            network: scalars.network as u8,
+            window: scalars.window,
+            pool: scalars.pool,
+            users,
+            subsystems,
+            timers,
+            sets,
+            links,
+            destinations,
+            titles,
+            points,
+        })
+    }
+
     /// The node's own point code.
     pub fn own(&self) -> PointCode
         ensures { result ≡ self.now.own }

@@ -1,0 +1,166 @@
+//! Numbers of settings.
+
+ghost use Rattle.std.specs.Option.{option_map};
+ghost use Rattle.std.specs.Prelude.{if◌then◌else◌, codes, ◌≡◌, ◌∷◌, ◌++◌, string_eq, ℕ, ◌≤◌, ◌<◌, ◌^◌, nat_eq, ◌⊎◌, Bool, [], Option, None, Some, length, map, position, IfOk, OnOk, IfErr, string_bytes};
+ghost use Rattle.std.specs.List.{list_any, list_all};
+ghost use Rattle.std.specs.Str.{bytes_eq};
+ghost use Rattle.stp_types.specs.Checks.{checked, range_fault, natural, fault_unless, is_name, is_name_octet, has_repeat, far_point_fault, entries_fault, is_within, numbers_fault, count_fault, is_digit, digits_fault, route_fault, ssn_fault};
+ghost use Rattle.stp_types.specs.Bounds.{IsTicks, HasTicks, HasScalarBounds, HasArrayBounds};
+ghost use Rattle.stp_types.specs.Meaning.{set_of, link_of, set_place, set_number, destination_of, points_of, title_of, digit_of, ticks_of};
+ghost use Rattle.stp_types.specs.FirstFault.{set_fault, link_fault, link_name_fault, link_set_fault, link_slc_fault, has_link_named, has_link_code, ticks_fault, timers_fault, destination_point_fault, is_set_name, set_list_fault, destination_fault, is_same_title, title_digits_fault, title_fault, is_first_name, is_reached, unreached_fault, scalars_fault, arrays_fault, sets_fault, links_fault, destinations_fault, titles_fault, first_fault, has_set_named, has_adjacent, set_name_fault, set_adjacent_fault};
+
+use crate::configuration::{DestinationRow, LinkRow, SetRow, TimerTicks, TitleRow};
+use crate::draft::{DestinationDraft, Draft, LinkDraft, SetDraft, TimersDraft, TitleDraft};
+use crate::fault::{DraftFault, FaultKind, Key, TimerKey};
+use crate::limits::Limits;
+use crate::point::{PointCode, SetId};
+use arrayvec::{ArrayString, ArrayVec};
+use indexmap::IndexSet;
+use std::alloc::Global;
+
+/// The largest point code.
+const LAST_POINT: u16 = 16_383;
+
+/// A fault of this kind at this key, unless all is well there.
+pub(crate) fn ensure(well: bool, kind: FaultKind, key: Key) -> Result<(), DraftFault>
+    ensures well { OnOk result (fault_unless well kind key ≡ None) }
+    ensures fault { IfErr result (λ fault. fault_unless well kind key ≡ Some fault) }
+{
+    if well {
+        Ok(())
+    } else {
+        Err(DraftFault::At(kind, key))
+    }
+}
+
+/// The number, where it is one from `low` to `high`.
+pub(crate) fn number(value: i64, low: u16, high: u16, key: Key) -> Result<u16, DraftFault>
+    ensures value { IfOk result (λ n. n ≡ natural value) }
+    ensures above { IfOk result (λ n. low ≤ n) }
+    ensures below { IfOk result (λ n. n ≤ high) }
+    ensures well { OnOk result (range_fault low high key value ≡ None) }
+    ensures fault { IfErr result (λ fault. range_fault low high key value ≡ Some fault) }
+{
+    match u16::try_from(value) {
+        Ok(number) if low <= number && number <= high => Ok(number),
+        _ => Err(DraftFault::At(FaultKind::Range, key)),
+    }
+}
+
+/// The point of this number.
+pub(crate) fn point(value: i64, key: Key) -> Result<PointCode, DraftFault>
+    ensures value { IfOk result (λ point. point ≡ natural value) }
+    ensures fits { IfOk result (λ point. point < 2 ^ 14) }
+    ensures well { OnOk result (range_fault 0 16383 key value ≡ None) }
+    ensures fault { IfErr result (λ fault. range_fault 0 16383 key value ≡ Some fault) }
+{
+    let number = number(value, 0, LAST_POINT, key)?;
+    PointCode::new(number).ok_or(DraftFault::At(FaultKind::Range, key))
+}
+
+/// The point of this number, where it is another than the own one.
+pub(crate) fn far_point(value: i64, own: PointCode, key: Key) -> Result<PointCode, DraftFault>
+    ensures value { IfOk result (λ point. point ≡ natural value) }
+    ensures well { OnOk result (far_point_fault own key value ≡ None) }
+    ensures fault { IfErr result (λ fault. far_point_fault own key value ≡ Some fault) }
+{
+    let point = point(value, key)?;
+    if point.code() == own.code() {
+        return Err(DraftFault::At(FaultKind::Range, key));
+    }
+    Ok(point)
+}
+
+/// Whether some number stands twice.
+fn has_repeat(numbers: &[u8]) -> bool
+    ensures { result ≡ has_repeat nat_eq numbers.now }
+{
+    for i in 0..numbers.len() {
+        if numbers[i + 1..].contains(&numbers[i]) {
+            return true;
+        }
+    }
+    false
+}
+
+/// The numbers, each from `low` to `high`.
+fn all_within(
+    alloc: Global,
+    values: &[i64],
+    low: u8,
+    high: u8,
+    key: Key,
+) -> Result<Vec<u8>, DraftFault>
+    ensures value { IfOk result (λ numbers. numbers.items ≡ map natural values.now) }
+    ensures well { OnOk result (fault_unless (list_all (is_within low high) values.now) FaultKind.Range key ≡ None) }
+    ensures fault { IfErr result (λ fault. (fault ≡ DraftFault.NoMemory) ⊎ (fault_unless (list_all (is_within low high) values.now) FaultKind.Range key ≡ Some fault)) }
+{
+    let mut numbers = Vec::with_capacity(alloc, values.len())?;
+    for value in values {
+        let number = number(*value, low as u16, high as u16, key)?;
+        numbers.push(number as u8)?;
+    }
+    Ok(numbers)
+}
+
+/// The numbers, distinct, each from `low` to `high`.
+#[tactic(auto, unfolding(crate::specs::Checks::numbers_fault))]
+pub(crate) fn distinct_numbers(
+    alloc: Global,
+    values: &[i64],
+    low: u8,
+    high: u8,
+    key: Key,
+) -> Result<Vec<u8>, DraftFault>
+    ensures value { IfOk result (λ numbers. numbers.items ≡ map natural values.now) }
+    ensures well { OnOk result (numbers_fault low high key values.now ≡ None) }
+    ensures fault { IfErr result (λ fault. (fault ≡ DraftFault.NoMemory) ⊎ (numbers_fault low high key values.now ≡ Some fault)) }
+{
+    let numbers = all_within(alloc, values, low, high, key)?;
+    ensure(!has_repeat(&numbers), FaultKind::Duplicate, key)?;
+    Ok(numbers)
+}
+
+/// An array by its length: at most `carried` entries, and at least one.
+pub(crate) fn count(len: usize, carried: usize, key: Key) -> Result<(), DraftFault>
+    ensures well { OnOk result (count_fault carried key len ≡ None) }
+    ensures fault { IfErr result (λ fault. count_fault carried key len ≡ Some fault) }
+{
+    ensure(len <= carried, FaultKind::TooMany, key)?;
+    ensure(0 < len, FaultKind::Range, key)
+}
+
+/// The ticks that a timer runs.
+fn ticks(value: i64, timer: TimerKey) -> Result<u16, DraftFault>
+    ensures value { IfOk result (λ n. n ≡ natural value) }
+    ensures ticks { IfOk result IsTicks }
+    ensures well { OnOk result (ticks_fault timer value ≡ None) }
+    ensures fault { IfErr result (λ fault. ticks_fault timer value ≡ Some fault) }
+{
+    number(value, 1, Limits::TICKS as u16, Key::Timer(timer))
+}
+
+/// The ticks that the timers run.
+#[tactic(auto, unfolding(crate::specs::FirstFault::timers_fault))]
+pub(crate) fn timer_ticks(timers: &TimersDraft) -> Result<TimerTicks, DraftFault>
+    ensures value { IfOk result (λ t. t ≡ ticks_of timers.now) }
+    ensures ticks { IfOk result HasTicks }
+    ensures well { OnOk result (timers_fault timers.now ≡ None) }
+    ensures fault { IfErr result (λ fault. timers_fault timers.now ≡ Some fault) }
+{
+    Ok(TimerTicks {
+        l1: ticks(timers.l1, TimerKey::L1)?,
+        l2: ticks(timers.l2, TimerKey::L2)?,
+        l3: ticks(timers.l3, TimerKey::L3)?,
+        l4: ticks(timers.l4, TimerKey::L4)?,
+        l6: ticks(timers.l6, TimerKey::L6)?,
+        l7: ticks(timers.l7, TimerKey::L7)?,
+        t1: ticks(timers.t1, TimerKey::T1)?,
+        t2: ticks(timers.t2, TimerKey::T2)?,
+        t3: ticks(timers.t3, TimerKey::T3)?,
+        t4: ticks(timers.t4, TimerKey::T4)?,
+        t6: ticks(timers.t6, TimerKey::T6)?,
+        t8: ticks(timers.t8, TimerKey::T8)?,
+        t10: ticks(timers.t10, TimerKey::T10)?,
+    })
+}

@@ -1,0 +1,154 @@
+//! Link sets of settings.
+
+ghost use Rattle.std.specs.Option.{option_map};
+ghost use Rattle.std.specs.Prelude.{if◌then◌else◌, codes, ◌≡◌, ◌∷◌, ◌++◌, string_eq, ℕ, ◌≤◌, ◌<◌, ◌^◌, nat_eq, ◌⊎◌, Bool, [], Option, None, Some, length, map, position, IfOk, OnOk, IfErr, string_bytes};
+ghost use Rattle.std.specs.List.{list_any, list_all};
+ghost use Rattle.std.specs.Str.{bytes_eq};
+ghost use Rattle.stp_types.specs.Checks.{checked, range_fault, natural, fault_unless, is_name, is_name_octet, has_repeat, far_point_fault, entries_fault, is_within, numbers_fault, count_fault, is_digit, digits_fault, route_fault, ssn_fault};
+ghost use Rattle.stp_types.specs.Bounds.{IsTicks, HasTicks, HasScalarBounds, HasArrayBounds};
+ghost use Rattle.stp_types.specs.Meaning.{set_of, link_of, set_place, set_number, destination_of, points_of, title_of, digit_of, ticks_of};
+ghost use Rattle.stp_types.specs.FirstFault.{set_fault, link_fault, link_name_fault, link_set_fault, link_slc_fault, has_link_named, has_link_code, ticks_fault, timers_fault, destination_point_fault, is_set_name, set_list_fault, destination_fault, is_same_title, title_digits_fault, title_fault, is_first_name, is_reached, unreached_fault, scalars_fault, arrays_fault, sets_fault, links_fault, destinations_fault, titles_fault, first_fault, has_set_named, has_adjacent, set_name_fault, set_adjacent_fault};
+
+use crate::check::names::name;
+use crate::check::numbers::{count, ensure, far_point};
+use crate::configuration::{DestinationRow, LinkRow, SetRow, TimerTicks, TitleRow};
+use crate::draft::{DestinationDraft, Draft, LinkDraft, SetDraft, TimersDraft, TitleDraft};
+use crate::fault::{DraftFault, FaultKind, Key, TimerKey};
+use crate::limits::Limits;
+use crate::point::{PointCode, SetId};
+use arrayvec::{ArrayString, ArrayVec};
+use indexmap::IndexSet;
+use std::alloc::Global;
+
+/// The place of the set of this name.
+pub(crate) fn set_place(sets: &[SetDraft], name: &str) -> Option<usize>
+    ensures { result ≡ set_place sets.now name.now }
+{
+    sets.iter().position(|set| set.name.as_str() == name)
+}
+
+/// Whether a set of this name is among these.
+fn has_set_named(sets: &[SetDraft], name: &str) -> bool
+    ensures { result ≡ has_set_named sets.now name.now }
+{
+    sets.iter().any(|set| set.name.as_str() == name)
+}
+
+/// Whether a set with this adjacent point is among these.
+fn has_adjacent(sets: &[SetDraft], adjacent: i64) -> bool
+    ensures { result ≡ has_adjacent sets.now adjacent }
+{
+    sets.iter().any(|set| set.adjacent == adjacent)
+}
+
+/// The name of a set, after the sets before it.
+fn set_name(
+    earlier: &[SetDraft],
+    set: &SetDraft,
+) -> Result<ArrayString<{ Limits::NAME_OCTETS }>, DraftFault>
+    ensures value { IfOk result (λ name. name.bytes ≡ string_bytes set.now.name) }
+    ensures well { OnOk result (set_name_fault earlier.now set.now ≡ None) }
+    ensures fault { IfErr result (λ fault. set_name_fault earlier.now set.now ≡ Some fault) }
+{
+    let key = Key::SetName(earlier.len());
+    let name = name(set.name.as_str(), key)?;
+    let is_repeat = has_set_named(earlier, set.name.as_str());
+    ensure(!is_repeat, FaultKind::Duplicate, key)?;
+    Ok(name)
+}
+
+/// The adjacent point of a set, after the sets before it.
+fn set_adjacent(
+    own: PointCode,
+    earlier: &[SetDraft],
+    set: &SetDraft,
+) -> Result<PointCode, DraftFault>
+    ensures value { IfOk result (λ point. point ≡ natural set.now.adjacent) }
+    ensures well { OnOk result (set_adjacent_fault own earlier.now set.now ≡ None) }
+    ensures fault { IfErr result (λ fault. set_adjacent_fault own earlier.now set.now ≡ Some fault) }
+{
+    let key = Key::SetAdjacent(earlier.len());
+    let adjacent = far_point(set.adjacent, own, key)?;
+    let is_repeat = has_adjacent(earlier, set.adjacent);
+    ensure(!is_repeat, FaultKind::Duplicate, key)?;
+    Ok(adjacent)
+}
+
+/// A link set, after those before it.
+fn set_row(own: PointCode, earlier: &[SetDraft], set: &SetDraft) -> Result<SetRow, DraftFault>
+    ensures value { IfOk result (λ row. row ≡ set_of set.now) }
+    ensures well { OnOk result (set_fault own earlier.now set.now ≡ None) }
+    ensures fault { IfErr result (λ fault. set_fault own earlier.now set.now ≡ Some fault) }
+{
+    let name = set_name(earlier, set)?;
+    let adjacent = set_adjacent(own, earlier, set)?;
+    Ok(SetRow { name, adjacent })
+}
+
+/// The link sets.
+fn set_rows(alloc: Global, own: PointCode, sets: &[SetDraft]) -> Result<Vec<SetRow>, DraftFault>
+    ensures value { IfOk result (λ rows. rows.items ≡ map set_of sets.now) }
+    ensures count { IfOk result (λ rows. length rows.items ≡ length sets.now) }
+    ensures well { OnOk result (entries_fault (set_fault own) [] sets.now ≡ None) }
+    ensures fault { IfErr result (λ fault. (fault ≡ DraftFault.NoMemory) ⊎ (entries_fault (set_fault own) [] sets.now ≡ Some fault)) }
+{
+    let mut rows = Vec::with_capacity(alloc, sets.len())?;
+    for i in 0..sets.len() {
+        let row = set_row(own, &sets[..i], &sets[i])?;
+        rows.push(row)?;
+    }
+    Ok(rows)
+}
+
+/// The link sets, as many as the node carries.
+#[tactic(auto, unfolding(crate::specs::FirstFault::sets_fault))]
+pub(crate) fn checked_sets(
+    alloc: Global,
+    own: PointCode,
+    sets: &[SetDraft],
+) -> Result<Vec<SetRow>, DraftFault>
+    ensures value { IfOk result (λ rows. rows.items ≡ map set_of sets.now) }
+    ensures above { IfOk result (λ rows. 1 ≤ length rows.items) }
+    ensures fits { IfOk result (λ rows. length rows.items ≤ Limits.SETS) }
+    ensures count { IfOk result (λ rows. length rows.items ≡ length sets.now) }
+    ensures well { OnOk result (sets_fault own sets.now ≡ None) }
+    ensures fault { IfErr result (λ fault. (fault ≡ DraftFault.NoMemory) ⊎ (sets_fault own sets.now ≡ Some fault)) }
+{
+    count(sets.len(), Limits::SETS_CARRIED, Key::Set)?;
+    set_rows(alloc, own, sets)
+}
+
+/// Whether the first of these names is this one.
+fn is_first_name(name: &str, names: &[String]) -> bool
+    ensures { result ≡ is_first_name name.now names.now }
+{
+    match names.first() {
+        Some(first) => first.as_str() == name,
+        None => false,
+    }
+}
+
+/// Whether a set's adjacent point is a destination whose first set it is.
+fn is_reached(destinations: &[DestinationDraft], set: &SetDraft) -> bool
+    ensures { result ≡ is_reached destinations.now set.now }
+{
+    destinations.iter().any(|destination| {
+        destination.point == set.adjacent && is_first_name(set.name.as_str(), &destination.sets)
+    })
+}
+
+/// Sees that each set leads to its adjacent point.
+#[tactic(auto, unfolding(crate::specs::FirstFault::unreached_fault))]
+pub(crate) fn all_reached(
+    destinations: &[DestinationDraft],
+    sets: &[SetDraft],
+) -> Result<(), DraftFault>
+    ensures well { OnOk result (unreached_fault destinations.now sets.now ≡ None) }
+    ensures fault { IfErr result (λ fault. unreached_fault destinations.now sets.now ≡ Some fault) }
+{
+    for i in 0..sets.len() {
+        let is_reached = is_reached(destinations, &sets[i]);
+        ensure(is_reached, FaultKind::UnknownName, Key::SetAdjacent(i))?;
+    }
+    Ok(())
+}
