@@ -1,8 +1,9 @@
 -- What each event and each call of take does, once for queues of any kind.
 use Rattle.std.specs.Prelude.{ℕ, Bool, true, false, ◌<◌, ◌||◌, nat_lt, nat_le, nat_eq, not, List, [], ◌∷◌, ◌++◌, length, Option, Some, None, is_some, Result, Ok, Err, if◌then◌else◌, position, slice_set}
 use Rattle.circular_buffer.specs.Buffer.{keep_last}
-use Rattle.stp_types.specs.Message.{Message, FlowKey, flow_of, dpc_of, is_management, service_indicator}
+use Rattle.stp_types.specs.Message.{Message, flow_of, dpc_of, is_management, service_indicator}
 use Rattle.stp_types.specs.Configuration.{Configuration}
+use Rattle.stp_types.specs.declared.point.Flow.{Flow}
 use Rattle.stp_types.specs.Readings.{destination_place}
 use Rattle.stp_types.specs.declared.limits.TheConstants.Limits.{MANAGEMENT_MESSAGES, NOTICES, SIF_OCTETS}
 use Rattle.stp_types.specs.declared.cause.Cause.{Cause}
@@ -44,7 +45,7 @@ abbrev pub is_destination : Configuration → ℕ → Bool
 is_destination c point = is_some (destination_place c point)
 
 -- the link of a flow: the first link, while it is in service
-abbrev pub chosen_link : {Q : Type 0} → State Q → FlowKey → Option ℕ
+abbrev pub chosen_link : {Q : Type 0} → State Q → Flow → Option ℕ
 chosen_link s flow = (if in_service s 0 then Some 0 else None)
 
 -- why no more message of this kind has room, if none has

@@ -6,9 +6,9 @@ ghost use Rattle.cell_pool.specs.Lanes.{lane_at};
 ghost use Rattle.link_sequence.specs.Counts.{kept_first, kept_last_accepted, kept_last_sent, kept_to_send, kept_sent_one};
 ghost use Rattle.m2pa_codec.specs.Frames.{sif_of, spelled};
 ghost use Rattle.m2pa_codec.specs.Values.{value_of};
-ghost use Rattle.exchange.specs.State.{State, down_link, in_service};
+ghost use Rattle.exchange.specs.State.{State, down_link};
 ghost use Rattle.exchange.specs.Queues.{KeptQueues, kept, whole};
-ghost use Rattle.exchange.specs.Rules.{outcome_of, after, frame_to_take, taken, outgoing, up_outcome, up, opened, failed, with_notice, frame_outcome, framed, taken_outcome, taken_in, answer_to, carried_outcome, carried, arrival_outcome, stored, message_outcome, submit_outcome, submitted, local_outcome, read_outcome, read_in, with_accepted};
+ghost use Rattle.exchange.specs.Rules.{chosen_link, outcome_of, after, frame_to_take, taken, outgoing, up_outcome, up, opened, failed, with_notice, frame_outcome, framed, taken_outcome, taken_in, answer_to, carried_outcome, carried, arrival_outcome, stored, message_outcome, submit_outcome, submitted, local_outcome, read_outcome, read_in, with_accepted};
 ghost use Rattle.exchange.specs.Runs.{answer_to_call, after_call, answers_to, after_calls};
 ghost use Rattle.exchange.specs.Taking.{Writes};
 ghost use Rattle.exchange.specs.Stands.{Abstract, StandsFor, kept_of, first_state};
@@ -25,8 +25,9 @@ use m2pa_codec::{Frame, decode, encode};
 use routing_label::{Discrimination, Label, discriminate};
 use std::alloc::{AllocError, Global};
 use std::marker::Model;
-use stp_types::settings::Settings;
-use stp_types::{Cause, FailureReason, FrameFault, Limits, LinkId, Msu, Notice, Outcome};
+use stp_types::{
+    Cause, FailureReason, Flow, FrameFault, Limits, LinkId, Msu, Notice, Outcome, Settings,
+};
 
 /// The links, queues and messages of one node.
 ///
@@ -138,14 +139,16 @@ impl Exchange {
 
     /// The settings that the exchange was booted with.
     pub fn settings(&self) -> &Settings
-        ensures { result.now ≡ self.now.settings }
+        ensures settings { (a : Abstract) → StandsFor self.now a → result.now ≡ a.settings }
+        ensures kept_settings { result.now ≡ self.now.settings }
     {
         &self.settings
     }
 
     /// The last 64 notices, the oldest first.
     pub fn notices(&self) -> &HeapCircularBuffer<Notice>
-        ensures { result.now.items ≡ self.now.notices }
+        ensures notices { (a : Abstract) → StandsFor self.now a → result.now.items ≡ a.notices }
+        ensures kept_notices { result.now.items ≡ self.now.notices }
     {
         &self.notices
     }
@@ -343,7 +346,11 @@ impl Exchange {
         if let Some(cause) = self.lanes.refusal(message) {
             return Outcome::Refused(cause);
         }
-        let Some(link) = self.link_of() else {
+        let flow = Flow {
+            point: label.dpc,
+            sls: label.sls,
+        };
+        let Some(link) = self.link_of(flow) else {
             return Outcome::Refused(Cause::NoRoute);
         };
         match self.lanes.push_back(link.index(), message) {
@@ -352,9 +359,9 @@ impl Exchange {
         }
     }
 
-    /// The link of a flow: the first, while it is in service.
-    fn link_of(&self) -> Option<LinkId>
-        ensures link { result ≡ (if in_service self.now 0 then Some 0 else None) }
+    /// The link of a flow: the first, while it is in service, whatever the flow.
+    fn link_of(&self, flow: Flow) -> Option<LinkId>
+        ensures link { result ≡ chosen_link self.now flow }
         ensures fits { IfSome result (λ link. link < length self.now.links) }
     {
         match self.links.first() {

@@ -1,5 +1,6 @@
 -- A signalling message and what its octets say (Q.704 §2, §14, §15).
 use Rattle.std.specs.Prelude.{ℕ, Bool, ◌+◌, ◌*◌, ◌/◌, ◌%◌, ◌^◌, List, length, nat_lt, not, slice_index}
+use Rattle.stp_types.specs.declared.point.Flow.{Flow}
 
 -- a message signal unit: its service information octet, and its signalling information field
 pub record Message : Type 0 where
@@ -35,9 +36,5 @@ abbrev pub is_management : Message → Bool
 is_management m = nat_lt (service_indicator m) 2
 
 -- messages that go one way: the same destination and the same signalling link selection
-pub record FlowKey : Type 0 where
-  pub point : ℕ
-  pub sls : ℕ
-
-abbrev pub flow_of : Message → FlowKey
+abbrev pub flow_of : Message → Flow
 flow_of m = record { point = dpc_of m; sls = sls_of m }
