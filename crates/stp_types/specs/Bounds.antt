@@ -1,6 +1,6 @@
 -- The limits that all checked settings keep.
-use Rattle.std.specs.Prelude.{ℕ, ◌≤◌, ◌<◌, ◌^◌, length, All, List}
-use Rattle.stp_types.specs.Configuration.{Configuration, SetEntry, LinkEntry, DestinationEntry}
+use Rattle.std.specs.Prelude.{ℕ, ◌≤◌, ◌<◌, ◌^◌, length, All}
+use Rattle.stp_types.specs.Configuration.{Configuration, DestinationEntry}
 use Rattle.stp_types.specs.declared.configuration.TimerTicks.{TimerTicks}
 use Rattle.stp_types.specs.declared.check.Scalars.{Scalars}
 use Rattle.stp_types.specs.declared.check.Arrays.{Arrays}
@@ -26,6 +26,11 @@ pub record HasTicks (t : TimerTicks) : Type 0 where
   pub t8 : IsTicks t.t8
   pub t10 : IsTicks t.t10
 
+-- at least one set leads to a destination, and each has a number below n
+pub record IsLedBy (n : ℕ) (d : DestinationEntry) : Type 0 where
+  pub some : 1 ≤ length d.sets
+  pub within : All (λ s. s < n) d.sets
+
 -- every number of the settings is within its limit
 pub record HasBounds (c : Configuration) : Type 0 where
   pub own : c.own < 2 ^ 14
@@ -41,6 +46,8 @@ pub record HasBounds (c : Configuration) : Type 0 where
   pub links : length c.links ≤ LINKS
   pub destinations_above : 1 ≤ length c.destinations
   pub destinations : length c.destinations ≤ DESTINATIONS
+  pub link_sets : All (λ l. l.set < length c.sets) c.links
+  pub led : All (IsLedBy (length c.sets)) c.destinations
 
 -- the numbers that settings begin with, within their limits
 pub record HasScalarBounds (s : Scalars) : Type 0 where
@@ -59,3 +66,5 @@ pub record HasArrayBounds (a : Arrays) : Type 0 where
   pub links : length a.links.items ≤ LINKS
   pub destinations_above : 1 ≤ length a.destinations.items
   pub destinations : length a.destinations.items ≤ DESTINATIONS
+  pub link_sets : All (λ l. l.set < length a.sets.items) a.links.items
+  pub led : All (IsLedBy (length a.sets.items)) a.destinations.items

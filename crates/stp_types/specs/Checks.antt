@@ -1,11 +1,11 @@
 -- What settings as they were written mean, and which is their first fault.
-use Rattle.std.specs.Prelude.{codes, ◌≡◌, ℕ, ◌+◌, Bool, true, false, not, ◌&&◌, ◌||◌, nat_le, nat_lt, nat_eq, if◌then◌else◌, ℤ, pos, negsuc, List, [], ◌∷◌, ◌++◌, Option, Some, None, Result, Ok, Err, length, map, position, is_some, unwrap_or}
+use Rattle.std.specs.Prelude.{codes, ℕ, Bool, true, false, not, ◌&&◌, ◌||◌, nat_le, nat_lt, nat_eq, ℤ, pos, negsuc, List, [], ◌∷◌, ◌++◌, Option, Some, None, Result, Ok, Err, length, map}
 use Rattle.std.specs.List.{list_any, list_all}
 use Rattle.std.specs.Str.{bytes_eq}
 use Rattle.stp_types.specs.declared.fault.DraftFault.{DraftFault}
 use Rattle.stp_types.specs.declared.fault.DraftFault.TheVariants.{At}
 use Rattle.stp_types.specs.declared.fault.FaultKind.{FaultKind}
-use Rattle.stp_types.specs.declared.fault.FaultKind.TheVariants.{Range, Duplicate, UnknownName, TooMany}
+use Rattle.stp_types.specs.declared.fault.FaultKind.TheVariants.{Range, Duplicate, TooMany}
 use Rattle.stp_types.specs.declared.fault.Key.{Key}
 use Rattle.stp_types.specs.declared.limits.TheConstants.Limits.{NAME_OCTETS, TITLE_DIGITS}
 
@@ -19,11 +19,6 @@ first_of (Some fault ∷ rest) = Some fault
 abbrev pub fault_unless : Bool → FaultKind → Key → Option DraftFault
 fault_unless true kind key = None
 fault_unless false kind key = Some (At kind key)
-
--- what a check answers: the value, or the fault that stands in its way
-abbrev pub checked : {A : Type 0} → Option DraftFault → A → Result A DraftFault
-checked None value = Ok value
-checked (Some fault) value = Err fault
 
 -- whether a number that was written is one from low to high
 abbrev pub is_within : ℕ → ℕ → ℤ → Bool

@@ -1,10 +1,10 @@
 -- The first fault of settings as they were written.
-use Rattle.std.specs.Prelude.{false, String, string_eq, ℕ, Bool, not, ◌&&◌, nat_eq, nat_lt, nat_le, ℤ, List, [], ◌∷◌, Option, Some, None, codes, length, map, is_some, string_bytes}
+use Rattle.std.specs.Prelude.{false, String, string_eq, ℕ, Bool, not, ◌&&◌, nat_eq, nat_le, ℤ, List, [], ◌∷◌, Option, codes, length, is_some, string_bytes}
 use Rattle.std.specs.declared.alloc.Global.{Global}
 use Rattle.std.specs.List.{list_any, list_all}
 use Rattle.std.specs.Str.{bytes_eq}
 use Rattle.std.specs.Ordering.{int_eq}
-use Rattle.stp_types.specs.Checks.{natural, first_of, fault_unless, is_within, range_fault, is_name, has_repeat, far_point_fault, entries_fault, numbers_fault, count_fault, digits_fault, route_fault, ssn_fault}
+use Rattle.stp_types.specs.Checks.{natural, first_of, fault_unless, range_fault, is_name, has_repeat, far_point_fault, entries_fault, numbers_fault, count_fault, digits_fault, route_fault, ssn_fault}
 use Rattle.stp_types.specs.Meaning.{set_place, points_of}
 use Rattle.stp_types.specs.declared.fault.DraftFault.{DraftFault}
 use Rattle.stp_types.specs.declared.fault.FaultKind.TheVariants.{Range, Duplicate, UnknownName, TooMany}
@@ -12,7 +12,7 @@ use Rattle.stp_types.specs.declared.fault.TimerKey.{TimerKey}
 use Rattle.stp_types.specs.declared.fault.TimerKey.TheVariants.{L1, L2, L3, L4, L6, L7, T1, T2, T3, T4, T6, T8, T10}
 use Rattle.stp_types.specs.declared.fault.Key.{Key}
 use Rattle.stp_types.specs.declared.fault.Key.TheVariants.{Own, Network, Window, Pool, Users, Subsystems, Timer, Set, SetName, SetAdjacent, Link, LinkName, LinkSet, LinkSlc, Destination, DestinationPoint, DestinationSets, Title, TitleTranslation, TitlePlan, TitleNature, TitleDigits, TitlePoint, TitleRoute, TitleSsn}
-use Rattle.stp_types.specs.declared.limits.TheConstants.Limits.{WINDOW, POOL, TICKS, LINKS_CARRIED, SETS_CARRIED, TITLES_CARRIED, DESTINATIONS, SETS_PER_DESTINATION, TITLE_DIGITS}
+use Rattle.stp_types.specs.declared.limits.TheConstants.Limits.{WINDOW, POOL, TICKS, LINKS_CARRIED, SETS_CARRIED, TITLES_CARRIED, DESTINATIONS, SETS_PER_DESTINATION}
 use Rattle.stp_types.specs.declared.draft.Draft.{Draft}
 use Rattle.stp_types.specs.declared.draft.TimersDraft.{TimersDraft}
 use Rattle.stp_types.specs.declared.draft.SetDraft.{SetDraft}
@@ -28,12 +28,14 @@ has_set_named sets name = list_any (λ s. bytes_eq (string_bytes s.name) name) s
 abbrev pub has_adjacent : List SetDraft → ℤ → Bool
 has_adjacent sets n = list_any (λ s. int_eq s.adjacent n) sets
 
+-- the name of a set: well formed, and no other before it has it
 abbrev pub set_name_fault : List SetDraft → SetDraft → Option DraftFault
 set_name_fault earlier s = first_of (
     fault_unless (is_name (string_bytes s.name)) Range (SetName (length earlier))
     ∷ fault_unless (not (has_set_named earlier (string_bytes s.name))) Duplicate (SetName (length earlier))
     ∷ [])
 
+-- the adjacent point of a set: not the own one, and of no other set before it
 abbrev pub set_adjacent_fault : ℕ → List SetDraft → SetDraft → Option DraftFault
 set_adjacent_fault own earlier s = first_of (
     far_point_fault own (SetAdjacent (length earlier)) s.adjacent
@@ -44,10 +46,11 @@ set_adjacent_fault own earlier s = first_of (
 abbrev pub set_fault : ℕ → List SetDraft → SetDraft → Option DraftFault
 set_fault own earlier s = first_of (set_name_fault earlier s ∷ set_adjacent_fault own earlier s ∷ [])
 
--- the timers, in their order
+-- the ticks of a timer
 abbrev pub ticks_fault : TimerKey → ℤ → Option DraftFault
 ticks_fault timer n = range_fault 1 TICKS (Timer timer) n
 
+-- the timers, in their order
 unfoldable pub timers_fault : TimersDraft → Option DraftFault
 timers_fault t = first_of (
     ticks_fault L1 t.l1
@@ -73,18 +76,21 @@ has_link_named links name = list_any (λ l. bytes_eq (string_bytes l.name) name)
 abbrev pub has_link_code : List LinkDraft → List ℕ → ℤ → Bool
 has_link_code links set n = list_any (λ l. int_eq l.slc n && bytes_eq (string_bytes l.set) set) links
 
+-- the name of a link: well formed, and no other before it has it
 abbrev pub link_name_fault : List LinkDraft → LinkDraft → Option DraftFault
 link_name_fault earlier l = first_of (
     fault_unless (is_name (string_bytes l.name)) Range (LinkName (length earlier))
     ∷ fault_unless (not (has_link_named earlier (string_bytes l.name))) Duplicate (LinkName (length earlier))
     ∷ [])
 
+-- the set of a link: well formed, and the name of a set
 abbrev pub link_set_fault : List SetDraft → List LinkDraft → LinkDraft → Option DraftFault
 link_set_fault sets earlier l = first_of (
     fault_unless (is_name (string_bytes l.set)) Range (LinkSet (length earlier))
     ∷ fault_unless (is_some (set_place sets (string_bytes l.set))) UnknownName (LinkSet (length earlier))
     ∷ [])
 
+-- the signalling link code of a link: 0 to 15, and of no other link of its set before it (Q.704 §15.2)
 abbrev pub link_slc_fault : List LinkDraft → LinkDraft → Option DraftFault
 link_slc_fault earlier l = first_of (
     range_fault 0 15 (LinkSlc (length earlier)) l.slc
@@ -103,6 +109,7 @@ link_fault sets earlier l = first_of (
 abbrev pub has_destination : List DestinationDraft → ℤ → Bool
 has_destination destinations n = list_any (nat_eq (natural n)) (points_of destinations)
 
+-- the point of a destination: not the own one, and of no other before it
 abbrev pub destination_point_fault : ℕ → List DestinationDraft → DestinationDraft → Option DraftFault
 destination_point_fault own earlier d = first_of (
     far_point_fault own (DestinationPoint (length earlier)) d.point
@@ -133,6 +140,7 @@ destination_fault own sets earlier d = first_of (
 abbrev pub is_same_title : TitleDraft → TitleDraft → Bool
 is_same_title t e = int_eq e.translation t.translation && int_eq e.plan t.plan && int_eq e.nature t.nature && bytes_eq (string_bytes e.digits) (string_bytes t.digits)
 
+-- the digits of a translation row: well formed, and no row before it has the same key and digits
 abbrev pub title_digits_fault : List TitleDraft → TitleDraft → Option DraftFault
 title_digits_fault earlier t = first_of (
     digits_fault (TitleDigits (length earlier)) (string_bytes t.digits)
@@ -160,24 +168,29 @@ is_first_name name (first ∷ rest) = bytes_eq (string_bytes first) name
 abbrev pub is_reached : List DestinationDraft → SetDraft → Bool
 is_reached destinations s = list_any (λ d. int_eq d.point s.adjacent && is_first_name (string_bytes s.name) d.sets.items) destinations
 
+-- a set that is not reached, after the sets before it
 abbrev pub reached_fault : List DestinationDraft → List SetDraft → SetDraft → Option DraftFault
 reached_fault destinations earlier s = fault_unless (is_reached destinations s) UnknownName (SetAdjacent (length earlier))
 
+-- the first set that is not reached
 unfoldable pub unreached_fault : List DestinationDraft → List SetDraft → Option DraftFault
 unreached_fault destinations sets = entries_fault (reached_fault destinations) [] sets
 
+-- the link sets: as many as are carried, and each without a fault
 unfoldable pub sets_fault : ℕ → List SetDraft → Option DraftFault
 sets_fault own sets = first_of (
     count_fault SETS_CARRIED Set (length sets)
     ∷ entries_fault (set_fault own) [] sets
     ∷ [])
 
+-- the links: as many as are carried, and each without a fault
 unfoldable pub links_fault : List SetDraft → List LinkDraft → Option DraftFault
 links_fault sets links = first_of (
     count_fault LINKS_CARRIED Link (length links)
     ∷ entries_fault (link_fault sets) [] links
     ∷ [])
 
+-- the destinations: as many as there may be, and each without a fault
 unfoldable pub destinations_fault : ℕ → List SetDraft → List DestinationDraft → Option DraftFault
 destinations_fault own sets destinations = first_of (
     count_fault DESTINATIONS Destination (length destinations)

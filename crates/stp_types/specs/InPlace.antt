@@ -1,6 +1,6 @@
 -- A message in place is what its service information octet and its field make.
-use Rattle.std.specs.Prelude.{◌≡◌, ◌≤◌, ◌-◌, ℕ, List, length, take, drop, ◌++◌, replicate}
-use Rattle.std.proofs.Common.{arith, ap, sym, ◌∙◌, refl}
+use Rattle.std.specs.Prelude.{◌≡◌, ◌-◌, length, take, ◌++◌, replicate}
+use Rattle.std.proofs.Common.{arith}
 use Rattle.std.proofs.lemmas.List.{length-take-le, take-append-drop}
 use Rattle.stp_types.specs.Room.{message_in, IsInPlace, put_in_place}
 use Rattle.stp_types.specs.declared.limits.TheConstants.Limits.{SIF_OCTETS}

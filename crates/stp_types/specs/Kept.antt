@@ -1,6 +1,7 @@
 -- How checked settings are kept.
 use Rattle.std.specs.Prelude.{◌≡◌, map}
 use Rattle.stp_types.specs.Configuration.{Configuration}
+use Rattle.stp_types.specs.Accepted.{IsAccepted}
 use Rattle.stp_types.specs.Bounds.{HasBounds}
 use Rattle.stp_types.specs.declared.settings.Settings.TheInside.{Inside}
 
@@ -19,7 +20,8 @@ configuration_of s = record {
   titles = s.titles.items;
 }
 
--- the limits are kept, and the index has the destinations' point codes in their order
+-- they were accepted, the limits are kept, and the index has the destinations' point codes in their order
 pub record IsKept (s : Inside) : Type 0 where
+  pub accepted : IsAccepted (configuration_of s)
   pub bounds : HasBounds (configuration_of s)
   pub indexed : s.points.keys ≡ map (λ d. d.point) s.destinations.items

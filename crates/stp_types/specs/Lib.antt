@@ -5,6 +5,7 @@ pub mod Checks
 pub mod Meaning
 pub mod FirstFault
 pub mod Faults
+pub mod Accepted
 pub mod Kept
 pub mod Message
 pub mod Room

@@ -1,5 +1,5 @@
 -- What settings as they were written mean.
-use Rattle.std.specs.Prelude.{ℕ, Bool, true, false, ℤ, List, Option, codes, map, position, unwrap_or, nat_le, ◌-◌, if◌then◌else◌, string_bytes}
+use Rattle.std.specs.Prelude.{ℕ, List, Option, codes, map, position, unwrap_or, nat_le, ◌-◌, if◌then◌else◌, string_bytes}
 use Rattle.std.specs.Option.{option_map}
 use Rattle.std.specs.Str.{bytes_eq}
 use Rattle.stp_types.specs.Checks.{natural}

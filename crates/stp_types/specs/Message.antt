@@ -1,5 +1,5 @@
 -- A signalling message and what its octets say (Q.704 §2, §14, §15).
-use Rattle.std.specs.Prelude.{ℕ, Bool, ◌+◌, ◌*◌, ◌/◌, ◌%◌, ◌^◌, List, length, nat_lt, not, slice_index}
+use Rattle.std.specs.Prelude.{ℕ, Bool, ◌+◌, ◌*◌, ◌/◌, ◌%◌, ◌^◌, List, nat_lt, slice_index}
 use Rattle.stp_types.specs.declared.point.Flow.{Flow}
 
 -- a message signal unit: its service information octet, and its signalling information field

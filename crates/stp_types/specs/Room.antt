@@ -1,5 +1,5 @@
 -- How a message lies in place: its octets at the front of a row of fixed length, and zeros behind them.
-use Rattle.std.specs.Prelude.{◌≡◌, ℕ, ◌-◌, ◌≤◌, ◌<◌, ◌++◌, List, length, take, drop, replicate}
+use Rattle.std.specs.Prelude.{◌≡◌, ◌-◌, ◌≤◌, ◌++◌, length, take, drop, replicate}
 use Rattle.stp_types.specs.Message.{Message}
 use Rattle.stp_types.specs.declared.limits.TheConstants.Limits.{SIF_OCTETS}
 use Rattle.stp_types.specs.declared.message.Msu.TheInside.{Inside}

@@ -1,13 +1,10 @@
 //! Checking settings as they were written.
 
-ghost use Rattle.std.specs.Option.{option_map};
-ghost use Rattle.std.specs.Prelude.{if◌then◌else◌, codes, ◌≡◌, ◌∷◌, ◌++◌, string_eq, ℕ, ◌≤◌, ◌<◌, ◌^◌, nat_eq, ◌⊎◌, Bool, [], Option, None, Some, length, map, position, IfOk, OnOk, IfErr, string_bytes};
-ghost use Rattle.std.specs.List.{list_any, list_all};
-ghost use Rattle.std.specs.Str.{bytes_eq};
-ghost use Rattle.stp_types.specs.Checks.{checked, range_fault, natural, fault_unless, is_name, is_name_octet, has_repeat, far_point_fault, entries_fault, is_within, numbers_fault, count_fault, is_digit, digits_fault, route_fault, ssn_fault};
-ghost use Rattle.stp_types.specs.Bounds.{IsTicks, HasTicks, HasScalarBounds, HasArrayBounds};
-ghost use Rattle.stp_types.specs.Meaning.{set_of, link_of, set_place, set_number, destination_of, points_of, title_of, digit_of, ticks_of};
-ghost use Rattle.stp_types.specs.FirstFault.{set_fault, link_fault, link_name_fault, link_set_fault, link_slc_fault, has_link_named, has_link_code, ticks_fault, timers_fault, destination_point_fault, is_set_name, set_list_fault, destination_fault, is_same_title, title_digits_fault, title_fault, is_first_name, is_reached, unreached_fault, scalars_fault, arrays_fault, sets_fault, links_fault, destinations_fault, titles_fault, first_fault, has_set_named, has_adjacent, set_name_fault, set_adjacent_fault};
+ghost use Rattle.std.specs.Prelude.{◌≡◌, ◌⊎◌, None, Some, map, IfOk, OnOk, IfErr};
+ghost use Rattle.stp_types.specs.Checks.{natural};
+ghost use Rattle.stp_types.specs.Bounds.{HasScalarBounds, HasArrayBounds};
+ghost use Rattle.stp_types.specs.Meaning.{set_of, link_of, destination_of, title_of};
+ghost use Rattle.stp_types.specs.FirstFault.{scalars_fault, arrays_fault};
 
 pub mod destinations;
 pub mod links;
@@ -21,12 +18,11 @@ use crate::check::links::checked_links;
 use crate::check::numbers::{number, point};
 use crate::check::sets::{all_reached, checked_sets};
 use crate::check::titles::checked_titles;
-use crate::configuration::{DestinationRow, LinkRow, SetRow, TimerTicks, TitleRow};
-use crate::draft::{DestinationDraft, Draft, LinkDraft, SetDraft, TimersDraft, TitleDraft};
-use crate::fault::{DraftFault, FaultKind, Key, TimerKey};
+use crate::configuration::{DestinationRow, LinkRow, SetRow, TitleRow};
+use crate::draft::Draft;
+use crate::fault::{DraftFault, Key};
 use crate::limits::Limits;
-use crate::point::{PointCode, SetId};
-use arrayvec::{ArrayString, ArrayVec};
+use crate::point::PointCode;
 use indexmap::IndexSet;
 use std::alloc::Global;
 
@@ -80,13 +76,16 @@ pub(crate) fn checked_arrays(
 ) -> Result<Arrays, DraftFault>
     requires { own ≡ natural draft.now.own }
     ensures sets { IfOk result (λ a. a.sets.items ≡ map set_of draft.now.sets.items) }
-    ensures links { IfOk result (λ a. a.links.items ≡ map (link_of draft.now.sets.items) draft.now.links.items) }
-    ensures destinations { IfOk result (λ a. a.destinations.items ≡ map (destination_of draft.now.sets.items) draft.now.destinations.items) }
+    ensures links { IfOk result (λ a.
+        a.links.items ≡ map (link_of draft.now.sets.items) draft.now.links.items) }
+    ensures destinations { IfOk result (λ a.
+        a.destinations.items ≡ map (destination_of draft.now.sets.items) draft.now.destinations.items) }
     ensures titles { IfOk result (λ a. a.titles.items ≡ map title_of draft.now.titles.items) }
     ensures points { IfOk result (λ a. a.points.keys ≡ map (λ d. d.point) a.destinations.items) }
     ensures bounds { IfOk result HasArrayBounds }
     ensures well { OnOk result (arrays_fault draft.now ≡ None) }
-    ensures fault { IfErr result (λ fault. (fault ≡ DraftFault.NoMemory) ⊎ (arrays_fault draft.now ≡ Some fault)) }
+    ensures fault { IfErr result (λ fault.
+        (fault ≡ DraftFault.NoMemory) ⊎ (arrays_fault draft.now ≡ Some fault)) }
 {
     let sets = checked_sets(alloc, own, &draft.sets)?;
     let links = checked_links(alloc, &draft.sets, &draft.links)?;

@@ -13,6 +13,8 @@ pub mod notice;
 pub mod outcome;
 pub mod point;
 pub mod settings;
+#[cfg(test)]
+mod tests;
 
 pub use cause::Cause;
 pub use configuration::{DestinationRow, LinkRow, SetRow, TimerTicks, TitleRow};

@@ -1,6 +1,6 @@
 //! A message signal unit, in place.
 
-ghost use Rattle.std.specs.Prelude.{◌≡◌, ℕ, ◌-◌, ◌<◌, ◌≤◌, ◌++◌, ◌↔◌, length, replicate, IsErr, IfOk, IfErr};
+ghost use Rattle.std.specs.Prelude.{◌≡◌, ◌-◌, ◌<◌, ◌≤◌, ◌++◌, ◌↔◌, length, replicate, IsErr, IfOk, IfErr};
 ghost use Rattle.stp_types.specs.Message.{Message, is_management};
 
 use crate::cause::Cause;

@@ -3,11 +3,12 @@
 ghost use Rattle.std.specs.Str.{bytes_eq};
 ghost use Rattle.std.specs.List.{list_any};
 ghost use Rattle.std.specs.Option.{option_copied, option_map};
-ghost use Rattle.std.specs.Prelude.{IfOk, OnOk, IfErr, ◌⊎◌, Some, None, ◌≡◌, ℕ, position, ◌<◌, ◌≤◌, Bool, length, nat_eq, slice_get, IfSome};
+ghost use Rattle.std.specs.Prelude.{All, IfOk, OnOk, IfErr, ◌⊎◌, Some, None, ◌≡◌, position, ◌<◌, ◌≤◌, length, nat_eq, slice_get};
 ghost use Rattle.stp_types.specs.Meaning.{settings_of};
 ghost use Rattle.stp_types.specs.FirstFault.{first_fault};
 ghost use Rattle.stp_types.specs.Readings.{link_place, destination_place};
-ghost use Rattle.stp_types.specs.Bounds.{HasTicks, HasBounds};
+ghost use Rattle.stp_types.specs.Bounds.{HasTicks, IsLedBy};
+ghost use Rattle.stp_types.specs.Accepted.{IsAccepted};
 
 use crate::check::{self, Arrays};
 use crate::configuration::{DestinationRow, LinkRow, SetRow, TimerTicks, TitleRow};
@@ -62,7 +63,8 @@ impl Settings {
     pub fn check(alloc: Global, draft: Draft) -> Result<Settings, DraftFault>
         ensures settings { IfOk result (λ settings. settings ≡ settings_of draft) }
         ensures well { OnOk result (first_fault draft ≡ None) }
-        ensures fault { IfErr result (λ fault. (fault ≡ DraftFault.NoMemory) ⊎ (first_fault draft ≡ Some fault)) }
+        ensures fault { IfErr result (λ fault.
+            (fault ≡ DraftFault.NoMemory) ⊎ (first_fault draft ≡ Some fault)) }
     {
         let scalars = check::checked_scalars(&draft)?;
         let users = check::numbers::distinct_numbers(
@@ -102,6 +104,14 @@ impl Settings {
             titles,
             points,
         })
+    }
+
+    /// The law that settings keep all that `check` asks: they are what settings as they were
+    /// written mean, and those had no fault. The call does nothing.
+    pub fn were_accepted(&self)
+        ensures { IsAccepted self.now }
+    {
+        let _ = &self.own;
     }
 
     /// The node's own point code.
@@ -173,6 +183,7 @@ impl Settings {
         ensures rows { result.now ≡ self.now.links }
         ensures above { 1 ≤ length self.now.links }
         ensures fits { length self.now.links ≤ Limits.LINKS }
+        ensures sets { All (λ link. link.set < length self.now.sets) self.now.links }
     {
         &self.links
     }
@@ -182,6 +193,7 @@ impl Settings {
         ensures rows { result.now ≡ self.now.destinations }
         ensures above { 1 ≤ length self.now.destinations }
         ensures fits { length self.now.destinations ≤ Limits.DESTINATIONS }
+        ensures led { All (IsLedBy (length self.now.sets)) self.now.destinations }
     {
         &self.destinations
     }

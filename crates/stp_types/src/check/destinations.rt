@@ -1,23 +1,21 @@
 //! Destinations of settings.
 
-ghost use Rattle.std.specs.Option.{option_map};
-ghost use Rattle.std.specs.Prelude.{if◌then◌else◌, codes, ◌≡◌, ◌∷◌, ◌++◌, string_eq, ℕ, ◌≤◌, ◌<◌, ◌^◌, nat_eq, ◌⊎◌, Bool, [], Option, None, Some, length, map, position, IfOk, OnOk, IfErr, string_bytes};
-ghost use Rattle.std.specs.List.{list_any, list_all};
-ghost use Rattle.std.specs.Str.{bytes_eq};
-ghost use Rattle.stp_types.specs.Checks.{checked, range_fault, natural, fault_unless, is_name, is_name_octet, has_repeat, far_point_fault, entries_fault, is_within, numbers_fault, count_fault, is_digit, digits_fault, route_fault, ssn_fault};
-ghost use Rattle.stp_types.specs.Bounds.{IsTicks, HasTicks, HasScalarBounds, HasArrayBounds};
-ghost use Rattle.stp_types.specs.Meaning.{set_of, link_of, set_place, set_number, destination_of, points_of, title_of, digit_of, ticks_of};
-ghost use Rattle.stp_types.specs.FirstFault.{set_fault, link_fault, link_name_fault, link_set_fault, link_slc_fault, has_link_named, has_link_code, ticks_fault, timers_fault, destination_point_fault, is_set_name, set_list_fault, destination_fault, is_same_title, title_digits_fault, title_fault, is_first_name, is_reached, unreached_fault, scalars_fault, arrays_fault, sets_fault, links_fault, destinations_fault, titles_fault, first_fault, has_set_named, has_adjacent, set_name_fault, set_adjacent_fault};
+ghost use Rattle.stp_types.specs.Bounds.{IsLedBy};
+ghost use Rattle.std.specs.Prelude.{All, ◌<◌, ◌≡◌, ◌∷◌, ◌++◌, string_eq, ◌≤◌, ◌⊎◌, [], None, Some, length, map, IfOk, OnOk, IfErr, string_bytes};
+ghost use Rattle.std.specs.List.{list_all};
+ghost use Rattle.stp_types.specs.Checks.{natural, fault_unless, is_name, has_repeat, entries_fault};
+ghost use Rattle.stp_types.specs.Meaning.{set_number, destination_of, points_of};
+ghost use Rattle.stp_types.specs.FirstFault.{destination_point_fault, is_set_name, set_list_fault, destination_fault, destinations_fault};
 
 use crate::check::names::is_name;
 use crate::check::numbers::{count, ensure, far_point};
 use crate::check::sets::set_place;
-use crate::configuration::{DestinationRow, LinkRow, SetRow, TimerTicks, TitleRow};
-use crate::draft::{DestinationDraft, Draft, LinkDraft, SetDraft, TimersDraft, TitleDraft};
-use crate::fault::{DraftFault, FaultKind, Key, TimerKey};
+use crate::configuration::DestinationRow;
+use crate::draft::{DestinationDraft, SetDraft};
+use crate::fault::{DraftFault, FaultKind, Key};
 use crate::limits::Limits;
 use crate::point::{PointCode, SetId};
-use arrayvec::{ArrayString, ArrayVec};
+use arrayvec::ArrayVec;
 use indexmap::IndexSet;
 use std::alloc::Global;
 
@@ -30,9 +28,12 @@ fn destination_point(
 ) -> Result<PointCode, DraftFault>
     requires { points.old.keys ≡ points_of earlier.now }
     ensures value { IfOk result (λ point. point ≡ natural destination.now.point) }
-    ensures points { OnOk result (points.new.keys ≡ points.old.keys ++ natural destination.now.point ∷ []) }
+    ensures points { OnOk result
+        (points.new.keys ≡ points.old.keys ++ natural destination.now.point ∷ []) }
     ensures well { OnOk result (destination_point_fault own earlier.now destination.now ≡ None) }
-    ensures fault { IfErr result (λ fault. (fault ≡ DraftFault.NoMemory) ⊎ (destination_point_fault own earlier.now destination.now ≡ Some fault)) }
+    ensures fault { IfErr result (λ fault.
+        (fault ≡ DraftFault.NoMemory)
+        ⊎ (destination_point_fault own earlier.now destination.now ≡ Some fault)) }
 {
     let key = Key::DestinationPoint(earlier.len());
     let point = far_point(destination.point, own, key)?;
@@ -68,9 +69,13 @@ fn set_ids(
 ) -> Result<ArrayVec<SetId, { Limits::SETS_PER_DESTINATION }>, DraftFault>
     requires sets { length sets.now ≤ Limits.SETS }
     requires names { length names.now ≤ Limits.SETS_PER_DESTINATION }
-    ensures value { IfOk result (λ ids. ids.items ≡ map (λ name. set_number sets.now (string_bytes name)) names.now) }
-    ensures well { OnOk result (fault_unless (list_all (is_set_name sets.now) names.now) FaultKind.UnknownName key ≡ None) }
-    ensures fault { IfErr result (λ fault. fault_unless (list_all (is_set_name sets.now) names.now) FaultKind.UnknownName key ≡ Some fault) }
+    ensures value { IfOk result (λ ids.
+        ids.items ≡ map (λ name. set_number sets.now (string_bytes name)) names.now) }
+    ensures within { IfOk result (λ ids. All (λ id. id < length sets.now) ids.items) }
+    ensures well { OnOk result
+        (fault_unless (list_all (is_set_name sets.now) names.now) FaultKind.UnknownName key ≡ None) }
+    ensures fault { IfErr result (λ fault.
+        fault_unless (list_all (is_set_name sets.now) names.now) FaultKind.UnknownName key ≡ Some fault) }
 {
     let mut ids = ArrayVec::new();
     for name in names {
@@ -89,7 +94,10 @@ fn set_list(
     key: Key,
 ) -> Result<ArrayVec<SetId, { Limits::SETS_PER_DESTINATION }>, DraftFault>
     requires { length sets.now ≤ Limits.SETS }
-    ensures value { IfOk result (λ ids. ids.items ≡ map (λ name. set_number sets.now (string_bytes name)) names.now) }
+    ensures value { IfOk result (λ ids.
+        ids.items ≡ map (λ name. set_number sets.now (string_bytes name)) names.now) }
+    ensures some { IfOk result (λ ids. 1 ≤ length ids.items) }
+    ensures within { IfOk result (λ ids. All (λ id. id < length sets.now) ids.items) }
     ensures well { OnOk result (set_list_fault sets.now key names.now ≡ None) }
     ensures fault { IfErr result (λ fault. set_list_fault sets.now key names.now ≡ Some fault) }
 {
@@ -110,9 +118,13 @@ fn destination_row(
     requires sets { length sets.now ≤ Limits.SETS }
     requires points { points.old.keys ≡ points_of earlier.now }
     ensures value { IfOk result (λ row. row ≡ destination_of sets.now destination.now) }
-    ensures points { OnOk result (points.new.keys ≡ points.old.keys ++ natural destination.now.point ∷ []) }
+    ensures within { IfOk result (IsLedBy (length sets.now)) }
+    ensures points { OnOk result
+        (points.new.keys ≡ points.old.keys ++ natural destination.now.point ∷ []) }
     ensures well { OnOk result (destination_fault own sets.now earlier.now destination.now ≡ None) }
-    ensures fault { IfErr result (λ fault. (fault ≡ DraftFault.NoMemory) ⊎ (destination_fault own sets.now earlier.now destination.now ≡ Some fault)) }
+    ensures fault { IfErr result (λ fault.
+        (fault ≡ DraftFault.NoMemory)
+        ⊎ (destination_fault own sets.now earlier.now destination.now ≡ Some fault)) }
 {
     let key = Key::DestinationSets(earlier.len());
     let point = destination_point(own, points, earlier, destination)?;
@@ -129,10 +141,14 @@ fn destination_rows(
 ) -> Result<(Vec<DestinationRow>, IndexSet<u16>), DraftFault>
     requires { length sets.now ≤ Limits.SETS }
     ensures value { IfOk result (λ r. r.0.items ≡ map (destination_of sets.now) destinations.now) }
+    ensures within { IfOk result (λ r. All (IsLedBy (length sets.now)) r.0.items) }
     ensures count { IfOk result (λ r. length r.0.items ≡ length destinations.now) }
     ensures points { IfOk result (λ r. r.1.keys ≡ map (λ d. d.point) r.0.items) }
-    ensures well { OnOk result (entries_fault (destination_fault own sets.now) [] destinations.now ≡ None) }
-    ensures fault { IfErr result (λ fault. (fault ≡ DraftFault.NoMemory) ⊎ (entries_fault (destination_fault own sets.now) [] destinations.now ≡ Some fault)) }
+    ensures well { OnOk result
+        (entries_fault (destination_fault own sets.now) [] destinations.now ≡ None) }
+    ensures fault { IfErr result (λ fault.
+        (fault ≡ DraftFault.NoMemory)
+        ⊎ (entries_fault (destination_fault own sets.now) [] destinations.now ≡ Some fault)) }
 {
     let mut rows = Vec::with_capacity(alloc, destinations.len())?;
     let mut points = IndexSet::with_capacity(alloc, destinations.len())?;
@@ -153,11 +169,14 @@ pub(crate) fn checked_destinations(
 ) -> Result<(Vec<DestinationRow>, IndexSet<u16>), DraftFault>
     requires { length sets.now ≤ Limits.SETS }
     ensures value { IfOk result (λ r. r.0.items ≡ map (destination_of sets.now) destinations.now) }
+    ensures within { IfOk result (λ r. All (IsLedBy (length sets.now)) r.0.items) }
     ensures points { IfOk result (λ r. r.1.keys ≡ map (λ d. d.point) r.0.items) }
     ensures above { IfOk result (λ r. 1 ≤ length r.0.items) }
     ensures fits { IfOk result (λ r. length r.0.items ≤ Limits.DESTINATIONS) }
     ensures well { OnOk result (destinations_fault own sets.now destinations.now ≡ None) }
-    ensures fault { IfErr result (λ fault. (fault ≡ DraftFault.NoMemory) ⊎ (destinations_fault own sets.now destinations.now ≡ Some fault)) }
+    ensures fault { IfErr result (λ fault.
+        (fault ≡ DraftFault.NoMemory)
+        ⊎ (destinations_fault own sets.now destinations.now ≡ Some fault)) }
 {
     count(destinations.len(), Limits::DESTINATIONS, Key::Destination)?;
     destination_rows(alloc, own, sets, destinations)

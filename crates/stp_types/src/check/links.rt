@@ -1,24 +1,19 @@
 //! Links of settings.
 
-ghost use Rattle.std.specs.Option.{option_map};
-ghost use Rattle.std.specs.Prelude.{if◌then◌else◌, codes, ◌≡◌, ◌∷◌, ◌++◌, string_eq, ℕ, ◌≤◌, ◌<◌, ◌^◌, nat_eq, ◌⊎◌, Bool, [], Option, None, Some, length, map, position, IfOk, OnOk, IfErr, string_bytes};
-ghost use Rattle.std.specs.List.{list_any, list_all};
-ghost use Rattle.std.specs.Str.{bytes_eq};
-ghost use Rattle.stp_types.specs.Checks.{checked, range_fault, natural, fault_unless, is_name, is_name_octet, has_repeat, far_point_fault, entries_fault, is_within, numbers_fault, count_fault, is_digit, digits_fault, route_fault, ssn_fault};
-ghost use Rattle.stp_types.specs.Bounds.{IsTicks, HasTicks, HasScalarBounds, HasArrayBounds};
-ghost use Rattle.stp_types.specs.Meaning.{set_of, link_of, set_place, set_number, destination_of, points_of, title_of, digit_of, ticks_of};
-ghost use Rattle.stp_types.specs.FirstFault.{set_fault, link_fault, link_name_fault, link_set_fault, link_slc_fault, has_link_named, has_link_code, ticks_fault, timers_fault, destination_point_fault, is_set_name, set_list_fault, destination_fault, is_same_title, title_digits_fault, title_fault, is_first_name, is_reached, unreached_fault, scalars_fault, arrays_fault, sets_fault, links_fault, destinations_fault, titles_fault, first_fault, has_set_named, has_adjacent, set_name_fault, set_adjacent_fault};
+ghost use Rattle.std.specs.Prelude.{All, ◌≡◌, ◌≤◌, ◌<◌, ◌^◌, ◌⊎◌, [], None, Some, length, map, IfOk, OnOk, IfErr, string_bytes};
+ghost use Rattle.stp_types.specs.Checks.{natural, entries_fault};
+ghost use Rattle.stp_types.specs.Meaning.{link_of, set_number};
+ghost use Rattle.stp_types.specs.FirstFault.{link_fault, link_name_fault, link_set_fault, link_slc_fault, has_link_named, has_link_code, links_fault};
 
 use crate::check::names::{is_name, name};
 use crate::check::numbers::{count, ensure, number};
 use crate::check::sets::set_place;
-use crate::configuration::{DestinationRow, LinkRow, SetRow, TimerTicks, TitleRow};
-use crate::draft::{DestinationDraft, Draft, LinkDraft, SetDraft, TimersDraft, TitleDraft};
-use crate::fault::{DraftFault, FaultKind, Key, TimerKey};
+use crate::configuration::LinkRow;
+use crate::draft::{LinkDraft, SetDraft};
+use crate::fault::{DraftFault, FaultKind, Key};
 use crate::limits::Limits;
-use crate::point::{PointCode, SetId};
-use arrayvec::{ArrayString, ArrayVec};
-use indexmap::IndexSet;
+use crate::point::SetId;
+use arrayvec::ArrayString;
 use std::alloc::Global;
 
 /// The largest signalling link code.
@@ -60,8 +55,10 @@ fn link_name(
 fn link_set(sets: &[SetDraft], earlier: &[LinkDraft], link: &LinkDraft) -> Result<SetId, DraftFault>
     requires { length sets.now ≤ Limits.SETS }
     ensures value { IfOk result (λ set. set ≡ set_number sets.now (string_bytes link.now.set)) }
+    ensures within { IfOk result (λ set. set < length sets.now) }
     ensures well { OnOk result (link_set_fault sets.now earlier.now link.now ≡ None) }
-    ensures fault { IfErr result (λ fault. link_set_fault sets.now earlier.now link.now ≡ Some fault) }
+    ensures fault { IfErr result (λ fault.
+        link_set_fault sets.now earlier.now link.now ≡ Some fault) }
 {
     let key = Key::LinkSet(earlier.len());
     ensure(is_name(link.set.as_str()), FaultKind::Range, key)?;
@@ -93,6 +90,7 @@ fn link_row(
 ) -> Result<LinkRow, DraftFault>
     requires { length sets.now ≤ Limits.SETS }
     ensures value { IfOk result (λ row. row ≡ link_of sets.now link.now) }
+    ensures within { IfOk result (λ row. row.set < length sets.now) }
     ensures well { OnOk result (link_fault sets.now earlier.now link.now ≡ None) }
     ensures fault { IfErr result (λ fault. link_fault sets.now earlier.now link.now ≡ Some fault) }
 {
@@ -103,16 +101,19 @@ fn link_row(
 }
 
 /// The links.
-fn link_rows(
+pub(crate) fn link_rows(
     alloc: Global,
     sets: &[SetDraft],
     links: &[LinkDraft],
 ) -> Result<Vec<LinkRow>, DraftFault>
     requires { length sets.now ≤ Limits.SETS }
     ensures value { IfOk result (λ rows. rows.items ≡ map (link_of sets.now) links.now) }
+    ensures within { IfOk result (λ rows. All (λ row. row.set < length sets.now) rows.items) }
     ensures count { IfOk result (λ rows. length rows.items ≡ length links.now) }
     ensures well { OnOk result (entries_fault (link_fault sets.now) [] links.now ≡ None) }
-    ensures fault { IfErr result (λ fault. (fault ≡ DraftFault.NoMemory) ⊎ (entries_fault (link_fault sets.now) [] links.now ≡ Some fault)) }
+    ensures fault { IfErr result (λ fault.
+        (fault ≡ DraftFault.NoMemory)
+        ⊎ (entries_fault (link_fault sets.now) [] links.now ≡ Some fault)) }
 {
     let mut rows = Vec::with_capacity(alloc, links.len())?;
     for i in 0..links.len() {
@@ -131,10 +132,12 @@ pub(crate) fn checked_links(
 ) -> Result<Vec<LinkRow>, DraftFault>
     requires { length sets.now ≤ Limits.SETS }
     ensures value { IfOk result (λ rows. rows.items ≡ map (link_of sets.now) links.now) }
+    ensures within { IfOk result (λ rows. All (λ row. row.set < length sets.now) rows.items) }
     ensures above { IfOk result (λ rows. 1 ≤ length rows.items) }
     ensures fits { IfOk result (λ rows. length rows.items ≤ Limits.LINKS) }
     ensures well { OnOk result (links_fault sets.now links.now ≡ None) }
-    ensures fault { IfErr result (λ fault. (fault ≡ DraftFault.NoMemory) ⊎ (links_fault sets.now links.now ≡ Some fault)) }
+    ensures fault { IfErr result (λ fault.
+        (fault ≡ DraftFault.NoMemory) ⊎ (links_fault sets.now links.now ≡ Some fault)) }
 {
     count(links.len(), Limits::LINKS_CARRIED, Key::Link)?;
     link_rows(alloc, sets, links)

@@ -1,21 +1,17 @@
 //! Numbers of settings.
 
-ghost use Rattle.std.specs.Option.{option_map};
-ghost use Rattle.std.specs.Prelude.{if◌then◌else◌, codes, ◌≡◌, ◌∷◌, ◌++◌, string_eq, ℕ, ◌≤◌, ◌<◌, ◌^◌, nat_eq, ◌⊎◌, Bool, [], Option, None, Some, length, map, position, IfOk, OnOk, IfErr, string_bytes};
-ghost use Rattle.std.specs.List.{list_any, list_all};
-ghost use Rattle.std.specs.Str.{bytes_eq};
-ghost use Rattle.stp_types.specs.Checks.{checked, range_fault, natural, fault_unless, is_name, is_name_octet, has_repeat, far_point_fault, entries_fault, is_within, numbers_fault, count_fault, is_digit, digits_fault, route_fault, ssn_fault};
-ghost use Rattle.stp_types.specs.Bounds.{IsTicks, HasTicks, HasScalarBounds, HasArrayBounds};
-ghost use Rattle.stp_types.specs.Meaning.{set_of, link_of, set_place, set_number, destination_of, points_of, title_of, digit_of, ticks_of};
-ghost use Rattle.stp_types.specs.FirstFault.{set_fault, link_fault, link_name_fault, link_set_fault, link_slc_fault, has_link_named, has_link_code, ticks_fault, timers_fault, destination_point_fault, is_set_name, set_list_fault, destination_fault, is_same_title, title_digits_fault, title_fault, is_first_name, is_reached, unreached_fault, scalars_fault, arrays_fault, sets_fault, links_fault, destinations_fault, titles_fault, first_fault, has_set_named, has_adjacent, set_name_fault, set_adjacent_fault};
+ghost use Rattle.std.specs.Prelude.{◌≡◌, ◌≤◌, ◌<◌, ◌^◌, nat_eq, ◌⊎◌, None, Some, map, IfOk, OnOk, IfErr};
+ghost use Rattle.std.specs.List.{list_all};
+ghost use Rattle.stp_types.specs.Checks.{range_fault, natural, fault_unless, has_repeat, far_point_fault, is_within, numbers_fault, count_fault};
+ghost use Rattle.stp_types.specs.Bounds.{IsTicks, HasTicks};
+ghost use Rattle.stp_types.specs.Meaning.{ticks_of};
+ghost use Rattle.stp_types.specs.FirstFault.{ticks_fault, timers_fault};
 
-use crate::configuration::{DestinationRow, LinkRow, SetRow, TimerTicks, TitleRow};
-use crate::draft::{DestinationDraft, Draft, LinkDraft, SetDraft, TimersDraft, TitleDraft};
+use crate::configuration::TimerTicks;
+use crate::draft::TimersDraft;
 use crate::fault::{DraftFault, FaultKind, Key, TimerKey};
 use crate::limits::Limits;
-use crate::point::{PointCode, SetId};
-use arrayvec::{ArrayString, ArrayVec};
-use indexmap::IndexSet;
+use crate::point::PointCode;
 use std::alloc::Global;
 
 /// The largest point code.
@@ -92,8 +88,11 @@ fn all_within(
     key: Key,
 ) -> Result<Vec<u8>, DraftFault>
     ensures value { IfOk result (λ numbers. numbers.items ≡ map natural values.now) }
-    ensures well { OnOk result (fault_unless (list_all (is_within low high) values.now) FaultKind.Range key ≡ None) }
-    ensures fault { IfErr result (λ fault. (fault ≡ DraftFault.NoMemory) ⊎ (fault_unless (list_all (is_within low high) values.now) FaultKind.Range key ≡ Some fault)) }
+    ensures well { OnOk result
+        (fault_unless (list_all (is_within low high) values.now) FaultKind.Range key ≡ None) }
+    ensures fault { IfErr result (λ fault.
+        (fault ≡ DraftFault.NoMemory)
+        ⊎ (fault_unless (list_all (is_within low high) values.now) FaultKind.Range key ≡ Some fault)) }
 {
     let mut numbers = Vec::with_capacity(alloc, values.len())?;
     for value in values {
@@ -114,7 +113,8 @@ pub(crate) fn distinct_numbers(
 ) -> Result<Vec<u8>, DraftFault>
     ensures value { IfOk result (λ numbers. numbers.items ≡ map natural values.now) }
     ensures well { OnOk result (numbers_fault low high key values.now ≡ None) }
-    ensures fault { IfErr result (λ fault. (fault ≡ DraftFault.NoMemory) ⊎ (numbers_fault low high key values.now ≡ Some fault)) }
+    ensures fault { IfErr result (λ fault.
+        (fault ≡ DraftFault.NoMemory) ⊎ (numbers_fault low high key values.now ≡ Some fault)) }
 {
     let numbers = all_within(alloc, values, low, high, key)?;
     ensure(!has_repeat(&numbers), FaultKind::Duplicate, key)?;

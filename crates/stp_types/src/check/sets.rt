@@ -1,23 +1,18 @@
 //! Link sets of settings.
 
-ghost use Rattle.std.specs.Option.{option_map};
-ghost use Rattle.std.specs.Prelude.{if◌then◌else◌, codes, ◌≡◌, ◌∷◌, ◌++◌, string_eq, ℕ, ◌≤◌, ◌<◌, ◌^◌, nat_eq, ◌⊎◌, Bool, [], Option, None, Some, length, map, position, IfOk, OnOk, IfErr, string_bytes};
-ghost use Rattle.std.specs.List.{list_any, list_all};
-ghost use Rattle.std.specs.Str.{bytes_eq};
-ghost use Rattle.stp_types.specs.Checks.{checked, range_fault, natural, fault_unless, is_name, is_name_octet, has_repeat, far_point_fault, entries_fault, is_within, numbers_fault, count_fault, is_digit, digits_fault, route_fault, ssn_fault};
-ghost use Rattle.stp_types.specs.Bounds.{IsTicks, HasTicks, HasScalarBounds, HasArrayBounds};
-ghost use Rattle.stp_types.specs.Meaning.{set_of, link_of, set_place, set_number, destination_of, points_of, title_of, digit_of, ticks_of};
-ghost use Rattle.stp_types.specs.FirstFault.{set_fault, link_fault, link_name_fault, link_set_fault, link_slc_fault, has_link_named, has_link_code, ticks_fault, timers_fault, destination_point_fault, is_set_name, set_list_fault, destination_fault, is_same_title, title_digits_fault, title_fault, is_first_name, is_reached, unreached_fault, scalars_fault, arrays_fault, sets_fault, links_fault, destinations_fault, titles_fault, first_fault, has_set_named, has_adjacent, set_name_fault, set_adjacent_fault};
+ghost use Rattle.std.specs.Prelude.{◌≡◌, ◌≤◌, ◌⊎◌, [], None, Some, length, map, IfOk, OnOk, IfErr, string_bytes};
+ghost use Rattle.stp_types.specs.Checks.{natural, entries_fault};
+ghost use Rattle.stp_types.specs.Meaning.{set_of, set_place};
+ghost use Rattle.stp_types.specs.FirstFault.{set_fault, is_first_name, is_reached, unreached_fault, sets_fault, has_set_named, has_adjacent, set_name_fault, set_adjacent_fault};
 
 use crate::check::names::name;
 use crate::check::numbers::{count, ensure, far_point};
-use crate::configuration::{DestinationRow, LinkRow, SetRow, TimerTicks, TitleRow};
-use crate::draft::{DestinationDraft, Draft, LinkDraft, SetDraft, TimersDraft, TitleDraft};
-use crate::fault::{DraftFault, FaultKind, Key, TimerKey};
+use crate::configuration::SetRow;
+use crate::draft::{DestinationDraft, SetDraft};
+use crate::fault::{DraftFault, FaultKind, Key};
 use crate::limits::Limits;
-use crate::point::{PointCode, SetId};
-use arrayvec::{ArrayString, ArrayVec};
-use indexmap::IndexSet;
+use crate::point::PointCode;
+use arrayvec::ArrayString;
 use std::alloc::Global;
 
 /// The place of the set of this name.
@@ -65,7 +60,8 @@ fn set_adjacent(
 ) -> Result<PointCode, DraftFault>
     ensures value { IfOk result (λ point. point ≡ natural set.now.adjacent) }
     ensures well { OnOk result (set_adjacent_fault own earlier.now set.now ≡ None) }
-    ensures fault { IfErr result (λ fault. set_adjacent_fault own earlier.now set.now ≡ Some fault) }
+    ensures fault { IfErr result (λ fault.
+        set_adjacent_fault own earlier.now set.now ≡ Some fault) }
 {
     let key = Key::SetAdjacent(earlier.len());
     let adjacent = far_point(set.adjacent, own, key)?;
@@ -86,11 +82,16 @@ fn set_row(own: PointCode, earlier: &[SetDraft], set: &SetDraft) -> Result<SetRo
 }
 
 /// The link sets.
-fn set_rows(alloc: Global, own: PointCode, sets: &[SetDraft]) -> Result<Vec<SetRow>, DraftFault>
+pub(crate) fn set_rows(
+    alloc: Global,
+    own: PointCode,
+    sets: &[SetDraft],
+) -> Result<Vec<SetRow>, DraftFault>
     ensures value { IfOk result (λ rows. rows.items ≡ map set_of sets.now) }
     ensures count { IfOk result (λ rows. length rows.items ≡ length sets.now) }
     ensures well { OnOk result (entries_fault (set_fault own) [] sets.now ≡ None) }
-    ensures fault { IfErr result (λ fault. (fault ≡ DraftFault.NoMemory) ⊎ (entries_fault (set_fault own) [] sets.now ≡ Some fault)) }
+    ensures fault { IfErr result (λ fault.
+        (fault ≡ DraftFault.NoMemory) ⊎ (entries_fault (set_fault own) [] sets.now ≡ Some fault)) }
 {
     let mut rows = Vec::with_capacity(alloc, sets.len())?;
     for i in 0..sets.len() {
@@ -112,7 +113,8 @@ pub(crate) fn checked_sets(
     ensures fits { IfOk result (λ rows. length rows.items ≤ Limits.SETS) }
     ensures count { IfOk result (λ rows. length rows.items ≡ length sets.now) }
     ensures well { OnOk result (sets_fault own sets.now ≡ None) }
-    ensures fault { IfErr result (λ fault. (fault ≡ DraftFault.NoMemory) ⊎ (sets_fault own sets.now ≡ Some fault)) }
+    ensures fault { IfErr result (λ fault.
+        (fault ≡ DraftFault.NoMemory) ⊎ (sets_fault own sets.now ≡ Some fault)) }
 {
     count(sets.len(), Limits::SETS_CARRIED, Key::Set)?;
     set_rows(alloc, own, sets)

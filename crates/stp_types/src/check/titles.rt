@@ -1,22 +1,19 @@
 //! Translation rows of settings.
 
 ghost use Rattle.std.specs.Option.{option_map};
-ghost use Rattle.std.specs.Prelude.{if◌then◌else◌, codes, ◌≡◌, ◌∷◌, ◌++◌, string_eq, ℕ, ◌≤◌, ◌<◌, ◌^◌, nat_eq, ◌⊎◌, Bool, [], Option, None, Some, length, map, position, IfOk, OnOk, IfErr, string_bytes};
+ghost use Rattle.std.specs.Prelude.{if◌then◌else◌, codes, ◌≡◌, ◌≤◌, ◌⊎◌, [], None, Some, length, map, IfOk, OnOk, IfErr, string_bytes};
 ghost use Rattle.std.specs.List.{list_any, list_all};
 ghost use Rattle.std.specs.Str.{bytes_eq};
-ghost use Rattle.stp_types.specs.Checks.{checked, range_fault, natural, fault_unless, is_name, is_name_octet, has_repeat, far_point_fault, entries_fault, is_within, numbers_fault, count_fault, is_digit, digits_fault, route_fault, ssn_fault};
-ghost use Rattle.stp_types.specs.Bounds.{IsTicks, HasTicks, HasScalarBounds, HasArrayBounds};
-ghost use Rattle.stp_types.specs.Meaning.{set_of, link_of, set_place, set_number, destination_of, points_of, title_of, digit_of, ticks_of};
-ghost use Rattle.stp_types.specs.FirstFault.{set_fault, link_fault, link_name_fault, link_set_fault, link_slc_fault, has_link_named, has_link_code, ticks_fault, timers_fault, destination_point_fault, is_set_name, set_list_fault, destination_fault, is_same_title, title_digits_fault, title_fault, is_first_name, is_reached, unreached_fault, scalars_fault, arrays_fault, sets_fault, links_fault, destinations_fault, titles_fault, first_fault, has_set_named, has_adjacent, set_name_fault, set_adjacent_fault};
+ghost use Rattle.stp_types.specs.Checks.{natural, fault_unless, entries_fault, is_digit, digits_fault, route_fault, ssn_fault};
+ghost use Rattle.stp_types.specs.Meaning.{title_of, digit_of};
+ghost use Rattle.stp_types.specs.FirstFault.{is_same_title, title_digits_fault, title_fault, titles_fault};
 
 use crate::check::numbers::{ensure, number, point};
-use crate::configuration::{DestinationRow, LinkRow, SetRow, TimerTicks, TitleRow};
-use crate::draft::{DestinationDraft, Draft, LinkDraft, SetDraft, TimersDraft, TitleDraft};
-use crate::fault::{DraftFault, FaultKind, Key, TimerKey};
+use crate::configuration::TitleRow;
+use crate::draft::TitleDraft;
+use crate::fault::{DraftFault, FaultKind, Key};
 use crate::limits::Limits;
-use crate::point::{PointCode, SetId};
-use arrayvec::{ArrayString, ArrayVec};
-use indexmap::IndexSet;
+use arrayvec::ArrayVec;
 use std::alloc::Global;
 
 /// The largest subsystem number.
@@ -46,8 +43,10 @@ fn digit(octet: u8) -> Option<u8>
 fn digit_values(text: &[u8], key: Key) -> Result<ArrayVec<u8, { Limits::TITLE_DIGITS }>, DraftFault>
     requires { length text.now ≤ Limits.TITLE_DIGITS }
     ensures value { IfOk result (λ digits. digits.items ≡ map digit_of text.now) }
-    ensures well { OnOk result (fault_unless (list_all is_digit text.now) FaultKind.Range key ≡ None) }
-    ensures fault { IfErr result (λ fault. fault_unless (list_all is_digit text.now) FaultKind.Range key ≡ Some fault) }
+    ensures well { OnOk result
+        (fault_unless (list_all is_digit text.now) FaultKind.Range key ≡ None) }
+    ensures fault { IfErr result (λ fault.
+        fault_unless (list_all is_digit text.now) FaultKind.Range key ≡ Some fault) }
 {
     let mut digits = ArrayVec::new();
     for octet in text {
@@ -123,7 +122,8 @@ fn title_digits(
     earlier: &[TitleDraft],
     title: &TitleDraft,
 ) -> Result<ArrayVec<u8, { Limits::TITLE_DIGITS }>, DraftFault>
-    ensures value { IfOk result (λ digits. digits.items ≡ map digit_of (string_bytes title.now.digits)) }
+    ensures value { IfOk result (λ digits.
+        digits.items ≡ map digit_of (string_bytes title.now.digits)) }
     ensures well { OnOk result (title_digits_fault earlier.now title.now ≡ None) }
     ensures fault { IfErr result (λ fault. title_digits_fault earlier.now title.now ≡ Some fault) }
 {
@@ -164,10 +164,11 @@ fn title_row(earlier: &[TitleDraft], title: &TitleDraft) -> Result<TitleRow, Dra
 }
 
 /// The translation rows.
-fn title_rows(alloc: Global, titles: &[TitleDraft]) -> Result<Vec<TitleRow>, DraftFault>
+pub(crate) fn title_rows(alloc: Global, titles: &[TitleDraft]) -> Result<Vec<TitleRow>, DraftFault>
     ensures value { IfOk result (λ rows. rows.items ≡ map title_of titles.now) }
     ensures well { OnOk result (entries_fault title_fault [] titles.now ≡ None) }
-    ensures fault { IfErr result (λ fault. (fault ≡ DraftFault.NoMemory) ⊎ (entries_fault title_fault [] titles.now ≡ Some fault)) }
+    ensures fault { IfErr result (λ fault.
+        (fault ≡ DraftFault.NoMemory) ⊎ (entries_fault title_fault [] titles.now ≡ Some fault)) }
 {
     let mut rows = Vec::with_capacity(alloc, titles.len())?;
     for i in 0..titles.len() {
@@ -185,7 +186,8 @@ pub(crate) fn checked_titles(
 ) -> Result<Vec<TitleRow>, DraftFault>
     ensures value { IfOk result (λ rows. rows.items ≡ map title_of titles.now) }
     ensures well { OnOk result (titles_fault titles.now ≡ None) }
-    ensures fault { IfErr result (λ fault. (fault ≡ DraftFault.NoMemory) ⊎ (titles_fault titles.now ≡ Some fault)) }
+    ensures fault { IfErr result (λ fault.
+        (fault ≡ DraftFault.NoMemory) ⊎ (titles_fault titles.now ≡ Some fault)) }
 {
     let is_carried = titles.len() <= Limits::TITLES_CARRIED;
     ensure(is_carried, FaultKind::TooMany, Key::Title)?;

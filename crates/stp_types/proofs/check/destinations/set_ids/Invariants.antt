@@ -1,4 +1,4 @@
-use Rattle.std.proofs.Common.{◌≡◌, map, take, drop, string_bytes}
+use Rattle.std.proofs.Common.{All, length, ◌<◌, ◌≡◌, map, take, drop, string_bytes}
 use Rattle.std.specs.List.{list_all}
 use Rattle.stp_types.specs.Meaning.{set_number}
 use Rattle.stp_types.specs.FirstFault.{is_set_name}
@@ -7,5 +7,6 @@ use Rattle.stp_types.proofs.check.destinations.set_ids.Given as goal
 abbrev pub invariant-loop-name : goal.invariant-loop-name
 invariant-loop-name l = record {
   ids : l.ids.items ≡ map (λ name. set_number l.sets (string_bytes name)) (take l.name-index l.names);
+  within : All (λ id. id < length l.sets) l.ids.items;
   known : list_all (is_set_name l.sets) (drop l.name-index l.names) ≡ list_all (is_set_name l.sets) l.names;
 }

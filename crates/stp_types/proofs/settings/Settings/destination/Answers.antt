@@ -1,4 +1,4 @@
-use Rattle.std.proofs.Common.{nat_eq, ◌∙◌, ap, position}
+use Rattle.std.proofs.Common.{nat_eq}
 use Rattle.stp_types.proofs.Places.{position-map}
 use Rattle.stp_types.proofs.settings.Settings.destination.Goals as goal
 
