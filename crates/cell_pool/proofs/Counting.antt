@@ -1,9 +1,9 @@
 -- Counts of user and management messages, and lists that lose their first messages one at a time.
-use Rattle.std.proofs.Common.{◌≡◌, ℕ, zero, suc, ◌+◌, ◌<◌, ◌≤◌, Bool, true, false, not, cond, List, [], ◌∷◌, length, drop, min, refl, ap, ◌∙◌, arith, Some, None, slice_get}
+use Rattle.std.proofs.Common.{◌≡◌, ℕ, ◌+◌, ◌<◌, ◌≤◌, Bool, true, false, not, cond, List, [], ◌∷◌, length, drop, refl, ap, ◌∙◌, arith, Some, None, slice_get}
 use Rattle.std.specs.Prelude.{sum_by, nat_le, if◌then◌else◌}
 use Rattle.std.proofs.Math.ListN.{set}
 use Rattle.std.proofs.lemmas.Bool.{leb-false}
-use Rattle.std.proofs.lemmas.List.{set-set, set-get_or, get_or-set_same, drop-drop}
+use Rattle.std.proofs.lemmas.List.{set-set, get_or-set_same, drop-drop}
 use Rattle.std.proofs.lemmas.List.Sums.{sum_by-cons, get_or-le-sum_by}
 use Rattle.stp_types.specs.Message.{Message, is_management}
 use Rattle.stp_types.specs.declared.cause.Cause.{Cause}
@@ -44,29 +44,12 @@ pub first_user : (lists : List (List Message)) (lane : ℕ) (m : Message) → la
 first_user lists lane m h e b = omega (arith, ap (λ (t : Bool). cond {A = ℕ} (not t) 1 0) b, first_counts as_user (lane_at lists lane) m e, get_or-le-sum_by users_in lists lane [] h)
 
 -- a list loses its first messages one at a time
-pub dropped-none : (lists : List (List Message)) (lane : ℕ) → dropped lists lane 0 ≡ lists
-dropped-none lists lane = set-get_or lists lane []
-
 pub dropped-next : (lists : List (List Message)) (lane count : ℕ) → lane < length lists → dropped (dropped lists lane count) lane 1 ≡ dropped lists lane (count + 1)
 dropped-next lists lane count h =
     let list : List Message = lane_at lists lane in
     set-set lists lane (drop count list) (drop 1 (lane_at (dropped lists lane count) lane))
     ∙ ap (λ (ms : List Message). set lists lane (drop 1 ms)) (get_or-set_same lists lane (drop count list) [] h)
     ∙ ap (set lists lane) (drop-drop 1 count list)
-
-drop-min : (count : ℕ) (ms : List Message) → drop (min count (length ms)) ms ≡ drop count ms
-drop-min zero ms =
-    let none : min 0 (length ms) ≡ 0 = omega arith in
-    ap (λ (n : ℕ). drop n ms) none
-drop-min (suc count) [] =
-    let none : min (suc count) 0 ≡ 0 = omega arith in
-    ap (λ (n : ℕ). drop {A = Message} n []) none
-drop-min (suc count) (m ∷ ms) =
-    let next : min (suc count) (suc (length ms)) ≡ suc (min count (length ms)) = omega arith in
-    ap (λ (n : ℕ). drop n (m ∷ ms)) next ∙ drop-min count ms
-
-pub dropped-all : (lists : List (List Message)) (lane count : ℕ) → dropped lists lane (min count (length (lane_at lists lane))) ≡ dropped lists lane count
-dropped-all lists lane count = ap (set lists lane) (drop-min count (lane_at lists lane))
 
 -- where a message isn't refused, not as many stand as there are cells
 not_full : (full : Bool) (cause : Cause) → (if full then Some cause else None) ≡ None → full ≡ false

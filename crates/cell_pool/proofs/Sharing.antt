@@ -4,7 +4,7 @@ use Rattle.std.proofs.Common.{◌≡◌, ℕ, zero, suc, ◌+◌, ◌<◌, ◌�
 use Rattle.std.specs.Prelude.{sum_by}
 use Rattle.std.specs.List.{range_with_len}
 use Rattle.std.proofs.Math.ListN.{set}
-use Rattle.std.proofs.lemmas.Bool.{eq-eqb, ltb-true, lt-ltb}
+use Rattle.std.proofs.lemmas.Bool.{eq-eqb, ltb-true}
 use Rattle.std.proofs.lemmas.Bool.Decides.{nat_tests}
 use Rattle.std.proofs.lemmas.List.{length_push, map-id}
 use Rattle.std.proofs.lemmas.List.FromFn.{length-range_with_len, map-range_with_len_more}
@@ -43,14 +43,9 @@ in_ring-within free rings total ring i s h j =
     let k : ℕ = get_or (ring_at rings ring) i 0 in
     shared-within free rings total k s (omega (arith, uses-get_or (ring_at rings ring) i j, get_or-le-sum_by (uses k) rings ring [] h))
 
--- the last free number is below the total, and no ring has it
+-- the last free number is below the total
 pub claimed-within : (free rest : List ℕ) (rings : List (List ℕ)) (total k : ℕ) → SharesOut free rings total → free ≡ rest ++ k ∷ [] → k < total
 claimed-within free rest rings total k s e = shared-within free rings total k s (omega (arith, ap (uses k) e, uses-push k k rest, use_of-itself k))
-
-pub claimed-fresh : (free rest : List ℕ) (rings : List (List ℕ)) (total k : ℕ) → SharesOut free rings total → free ≡ rest ++ k ∷ [] → sum_by (uses k) rings ≡ 0
-claimed-fresh free rest rings total k s e =
-    let within : nat_lt k total ≡ true = lt-ltb k total (claimed-within free rest rings total k s e) in
-    omega (arith, s.once k, ap (λ b. cond {A = ℕ} b 1 0) within, ap (uses k) e, uses-push k k rest, use_of-itself k)
 
 -- the last free number goes to the end of a ring
 pub claimed : (free rest : List ℕ) (rings : List (List ℕ)) (total ring k : ℕ) → SharesOut free rings total → free ≡ rest ++ k ∷ [] → ring < length rings → SharesOut rest (set rings ring (ring_at rings ring ++ k ∷ [])) total

@@ -1,0 +1,91 @@
+-- What the lines of a script ask for.
+use Rattle.std.specs.Prelude.{ℕ, ◌==◌, ◌&&◌, Bool, not, nat_eq, if◌then◌else◌, List, [], ◌∷◌, length, codes, Option, None, Some, Result, Ok, Err, bytes_eq}
+use Rattle.std.specs.Borrow.{Bor}
+use Rattle.stp_node.specs.Lines.{words, is_octets, octets_of}
+use Rattle.stp_node.specs.declared.line.Command.{Command}
+use Rattle.stp_node.specs.declared.line.Command.TheVariants as command
+use Rattle.stp_node.specs.declared.line.Line.{Line}
+use Rattle.stp_node.specs.declared.line.Line.TheVariants as line
+use Rattle.stp_node.specs.declared.line.Malformed.{Malformed}
+
+-- what a line asks for; a link goes by a name, which no link need have
+pub data Asked : Type 0 where
+  AskUp : (link : List ℕ) → Asked
+  AskFrame : (link octets : List ℕ) → Asked
+  AskTake : (link : List ℕ) → Asked
+  AskSubmit : (octets : List ℕ) → Asked
+
+-- a word that is there
+abbrev pub is_some_word : List ℕ → Bool
+is_some_word word = not (nat_eq (length word) 0)
+
+-- the command of a name
+abbrev pub command_of : List ℕ → Option Command
+command_of word =
+    if bytes_eq word (codes "up") then Some command.Up
+    else if bytes_eq word (codes "frame") then Some command.Frame
+    else if bytes_eq word (codes "take") then Some command.Take
+    else if bytes_eq word (codes "submit") then Some command.Submit
+    else None
+
+-- a command with one word behind it
+abbrev pub asked_with_one : Command → List ℕ → Option Asked
+asked_with_one command.Up word = if is_some_word word then Some (AskUp word) else None
+asked_with_one command.Frame word = None
+asked_with_one command.Take word = if is_some_word word then Some (AskTake word) else None
+asked_with_one command.Submit word = if is_octets word then Some (AskSubmit (octets_of word)) else None
+
+-- a command with two words behind it
+abbrev pub asked_with_two : Command → List ℕ → List ℕ → Option Asked
+asked_with_two command.Up first second = None
+asked_with_two command.Frame first second = if is_some_word first && is_octets second then Some (AskFrame first (octets_of second)) else None
+asked_with_two command.Take first second = None
+asked_with_two command.Submit first second = None
+
+-- the words behind a command
+abbrev pub asked_behind : Option Command → List (List ℕ) → Option Asked
+asked_behind (Some command) (first ∷ []) = asked_with_one command first
+asked_behind (Some command) (first ∷ second ∷ []) = asked_with_two command first second
+asked_behind (Some command) [] = None
+asked_behind (Some command) (first ∷ second ∷ third ∷ more) = None
+asked_behind None behind = None
+
+-- what the words of a line ask for: nothing where they are no line of a script
+abbrev pub asked_by : List (List ℕ) → Option Asked
+asked_by [] = None
+asked_by (word ∷ behind) = asked_behind (command_of word) behind
+
+-- a line is skipped, malformed, or asks for something
+pub data Reading : Type 0 where
+  Skips : Reading
+  IsMalformed : Reading
+  Asks : Asked → Reading
+
+abbrev pub asks_or_malformed : Option Asked → Reading
+asks_or_malformed None = IsMalformed
+asks_or_malformed (Some asked) = Asks asked
+
+-- a line without its end: an empty one, and one that begins with a number sign (35), is skipped
+abbrev pub line_of : List ℕ → Reading
+line_of [] = Skips
+line_of (octet ∷ rest) = if octet == 35 then Skips else asks_or_malformed (asked_by (words (octet ∷ rest)))
+
+-- the words that are left behind one
+abbrev pub words_left : Option (Bor (List ℕ)) → List (List ℕ)
+words_left None = []
+words_left (Some rest) = words rest.now
+
+abbrev pub asked_line : Line → Asked
+asked_line (line.Up link) = AskUp link.now
+asked_line (line.Frame link octets) = AskFrame link.now (octets_of octets.digits.now)
+asked_line (line.Take link) = AskTake link.now
+asked_line (line.Submit octets) = AskSubmit (octets_of octets.digits.now)
+
+abbrev pub asked_of : Option Line → Option Asked
+asked_of None = None
+asked_of (Some line) = Some (asked_line line)
+
+abbrev pub reading_of : Result (Option Line) Malformed → Reading
+reading_of (Ok None) = Skips
+reading_of (Ok (Some line)) = Asks (asked_line line)
+reading_of (Err _) = IsMalformed

@@ -1,0 +1,58 @@
+-- The settings that a node runs with where it is given none.
+use Rattle.std.specs.Prelude.{◌≡◌, ℤ, pos, List, [], ◌∷◌, map, codes, string_bytes}
+use Rattle.stp_types.specs.declared.draft.Draft.{Draft}
+use Rattle.stp_types.specs.declared.draft.TimersDraft.{TimersDraft}
+use Rattle.stp_types.specs.declared.draft.SetDraft.{SetDraft}
+use Rattle.stp_types.specs.declared.draft.LinkDraft.{LinkDraft}
+use Rattle.stp_types.specs.declared.draft.DestinationDraft.{DestinationDraft}
+
+-- how many ticks each timer runs
+abbrev pub built_in_ticks : TimersDraft
+built_in_ticks = record {
+  l1 = pos 10;
+  l2 = pos 10;
+  l3 = pos 10;
+  l4 = pos 3;
+  l6 = pos 20;
+  l7 = pos 5;
+  t1 = pos 4;
+  t2 = pos 6;
+  t3 = pos 4;
+  t4 = pos 4;
+  t6 = pos 4;
+  t8 = pos 3;
+  t10 = pos 8;
+}
+
+-- one set, `east`, to point 2
+abbrev pub IsSets : List SetDraft → Type 0
+IsSets (s ∷ []) = (string_bytes s.name ≡ codes "east") × (s.adjacent ≡ pos 2)
+IsSets _ = ⊥
+
+-- one link, `e0`, of that set
+abbrev pub IsLinks : List LinkDraft → Type 0
+IsLinks (l ∷ []) = (string_bytes l.name ≡ codes "e0") × (string_bytes l.set ≡ codes "east") × (l.slc ≡ pos 0)
+IsLinks _ = ⊥
+
+-- a destination by that set
+abbrev pub IsDestination : ℤ → DestinationDraft → Type 0
+IsDestination point d = (d.point ≡ point) × (map (λ name. string_bytes name) d.sets.items ≡ codes "east" ∷ [])
+
+-- the adjacent point, and point 300
+abbrev pub IsDestinations : List DestinationDraft → Type 0
+IsDestinations (c ∷ d ∷ []) = IsDestination (pos 2) c × IsDestination (pos 300) d
+IsDestinations _ = ⊥
+
+-- the whole
+pub record IsBuiltIn (d : Draft) : Type 0 where
+  pub own : d.own ≡ pos 1
+  pub network : d.network ≡ pos 2
+  pub window : d.window ≡ pos 128
+  pub pool : d.pool ≡ pos 1000
+  pub users : d.users.items ≡ pos 5 ∷ []
+  pub subsystems : d.subsystems.items ≡ pos 8 ∷ []
+  pub timers : d.timers ≡ built_in_ticks
+  pub sets : IsSets d.sets.items
+  pub links : IsLinks d.links.items
+  pub destinations : IsDestinations d.destinations.items
+  pub titles : d.titles.items ≡ []

@@ -1,0 +1,31 @@
+-- How a script ends before its end.
+use Rattle.std.specs.Prelude.{ℕ, Result, Ok, Err}
+use Rattle.stp_node.specs.Streams.{counted}
+use Rattle.stp_node.specs.declared.script.ScriptFault.{ScriptFault}
+use Rattle.stp_node.specs.declared.script.ScriptFault.TheVariants.{Read, Write, Line, TooManyReads, NoMemory}
+
+-- a fault's number
+abbrev pub fault_number : ScriptFault → ℕ
+fault_number Read = 1
+fault_number Write = 2
+fault_number (Line line) = 3
+fault_number TooManyReads = 4
+fault_number NoMemory = 5
+
+-- how many reads failed, with the one that ended the script, if one did
+abbrev pub reads_failed : {A : Type 0} → ℕ → Result A ScriptFault → ℕ
+reads_failed n (Err Read) = counted n
+reads_failed n (Ok x) = n
+reads_failed n (Err Write) = n
+reads_failed n (Err (Line line)) = n
+reads_failed n (Err TooManyReads) = n
+reads_failed n (Err NoMemory) = n
+
+-- how many writes failed, with the one that ended the script, if one did
+abbrev pub writes_failed : {A : Type 0} → ℕ → Result A ScriptFault → ℕ
+writes_failed n (Err Write) = counted n
+writes_failed n (Ok x) = n
+writes_failed n (Err Read) = n
+writes_failed n (Err (Line line)) = n
+writes_failed n (Err TooManyReads) = n
+writes_failed n (Err NoMemory) = n

@@ -1,0 +1,10 @@
+pub mod Streams
+pub mod Lines
+pub mod Asking
+pub mod Texts
+pub mod Doing
+pub mod Faults
+pub mod Reading
+pub mod Runs
+pub mod BuiltIn
+pub mod Program

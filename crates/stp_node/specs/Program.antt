@@ -1,0 +1,37 @@
+-- The words behind the program's name, and its exit statuses.
+use Rattle.std.specs.Prelude.{ℕ, List, [], ◌∷◌, if◌then◌else◌, codes, bytes_eq, ◌≡◌, ◌⊎◌, Option, Result, Ok, Err}
+use Rattle.std.specs.Io.KnownBytes.{Appends}
+use Rattle.stp_node.specs.Streams.{AppendsFirst}
+use Rattle.stp_node.specs.declared.script.ScriptFault.{ScriptFault}
+use Rattle.stp_node.specs.declared.script.ScriptFault.TheVariants as fault
+use Rattle.stp_node.specs.declared.program.Words.{Words}
+use Rattle.stp_node.specs.declared.program.Words.TheVariants as words
+use Rattle.stp_node.specs.declared.program.Status.{Status}
+use Rattle.stp_node.specs.declared.program.Status.TheVariants as status
+
+-- `run` alone runs
+abbrev pub words_of : List (List ℕ) → Words
+words_of (word ∷ []) = if bytes_eq word (codes "run") then words.Run else words.Usage
+words_of _ = words.Usage
+
+-- the exit statuses
+abbrev pub status_number : Status → ℕ
+status_number status.Done = 0
+status_number status.Usage = 1
+status_number status.Start = 2
+status_number status.Line = 3
+status_number status.Stream = 4
+
+-- how the program ends after a script
+abbrev pub status_after : {A : Type 0} → Result A ScriptFault → Status
+status_after (Ok x) = status.Done
+status_after (Err fault.Read) = status.Stream
+status_after (Err fault.Write) = status.Stream
+status_after (Err (fault.Line line)) = status.Line
+status_after (Err fault.TooManyReads) = status.Stream
+status_after (Err fault.NoMemory) = status.Start
+
+-- a last line was written, and the program ends so; or its write failed
+abbrev pub EndsWith : Status → List ℕ → Option (List ℕ) → Option (List ℕ) → Status → Type 0
+EndsWith wanted line old new ended =
+    ((ended ≡ wanted) × Appends old new line) ⊎ ((ended ≡ status.Stream) × AppendsFirst old new line)

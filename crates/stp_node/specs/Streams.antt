@@ -1,0 +1,29 @@
+-- How streams count their failures, and what a write that may stop early leaves written.
+use Rattle.std.specs.Prelude.{ℕ, ◌+◌, ◌-◌, ◌^◌, min, List, take, Option, Result, Ok, Err}
+use Rattle.std.specs.Io.KnownBytes.{Appends}
+
+-- a count of 64 bits with one more, which stays at its greatest value
+abbrev pub counted : ℕ → ℕ
+counted n = min (n + 1) (2 ^ 64 - 1)
+
+-- how many calls failed, after one more call: an error counts
+abbrev pub failures_after : {A E : Type 0} → ℕ → Result A E → ℕ
+failures_after n (Ok x) = n
+failures_after n (Err e) = counted n
+
+-- the known octets grew by the first of these, however many
+abbrev pub AppendsFirst : Option (List ℕ) → Option (List ℕ) → List ℕ → Type 0
+AppendsFirst old new octets = (count : ℕ) × Appends old new (take count octets)
+
+-- octets that are given so many a read, with at most one read to come that fails, after so many others
+pub record PlannedSource : Type 0 where
+  pub rest : List ℕ
+  pub most : ℕ
+  pub until_failure : Option ℕ
+  pub failures : ℕ
+
+-- octets that were written, with at most one write to come that fails, after so many others
+pub record PlannedSink : Type 0 where
+  pub written : List ℕ
+  pub until_failure : Option ℕ
+  pub failures : ℕ

@@ -1,0 +1,22 @@
+//! The edge of the node: scripts, and the streams that they are read from and printed to.
+#![tactic(auto)]
+
+pub mod defaults;
+pub mod hex_octets;
+pub mod line;
+mod perform;
+pub mod program;
+mod run;
+pub mod script;
+pub mod sink;
+pub mod source;
+mod text;
+
+pub use defaults::built_in;
+pub use hex_octets::HexOctets;
+pub use line::{Line, Malformed, parse_line};
+pub use program::{Status, Words, read_words, refuse_words, run_program};
+pub use run::run_script;
+pub use script::ScriptFault;
+pub use sink::{MemorySink, Sink, WriteFailed, WriterSink};
+pub use source::{MemorySource, ReadFailed, ReaderSource, Source};

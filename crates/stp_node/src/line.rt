@@ -1,0 +1,144 @@
+//! The lines of a script.
+
+ghost use Rattle.std.specs.Prelude.{◌≡◌, ◌∷◌, length};
+ghost use Rattle.stp_node.specs.Lines.{words};
+ghost use Rattle.stp_node.specs.Asking.{line_of, asked_by, asked_with_one, asked_with_two, command_of, asked_of, reading_of, words_left};
+
+use crate::hex_octets::HexOctets;
+
+/// What parts the words of a line.
+const SPACE: u8 = b' ';
+
+/// What a line begins with that is skipped.
+const REMARK: u8 = b'#';
+
+/// A line that is none of a script.
+#[derive(Clone, Copy, Debug, PartialEq, Eq)]
+pub struct Malformed;
+
+/// What a line of a script begins with.
+#[derive(Clone, Copy)]
+enum Command {
+    Up,
+    Frame,
+    Take,
+    Submit,
+}
+
+/// What a line of a script asks for.
+#[derive(Clone, Copy)]
+pub enum Line<'a> {
+    /// `up LINK`: the link's association is there.
+    Up {
+        /// The link's name; no link need have it.
+        link: &'a [u8],
+    },
+    /// `frame LINK HEX`: these octets came by the link.
+    Frame {
+        /// The link's name; no link need have it.
+        link: &'a [u8],
+        /// The frame.
+        octets: HexOctets<'a>,
+    },
+    /// `take LINK`: the next frame that goes out by the link.
+    Take {
+        /// The link's name; no link need have it.
+        link: &'a [u8],
+    },
+    /// `submit HEX`: a user part hands over a message.
+    Submit {
+        /// The service information octet, and the signalling information field behind it.
+        octets: HexOctets<'a>,
+    },
+}
+
+/// What a line without its end asks for: nothing where it is empty or begins with `#`.
+pub fn parse_line(line: &[u8]) -> Result<Option<Line<'_>>, Malformed>
+    ensures { reading_of result ≡ line_of line.now }
+{
+    if line.is_empty() || line[0] == REMARK {
+        return Ok(None);
+    }
+    match asked(line) {
+        Some(line) => Ok(Some(line)),
+        None => Err(Malformed),
+    }
+}
+
+/// What the words of a line ask for.
+#[tactic(auto, using(crate::proofs::Asking::asking_steps))]
+fn asked(line: &[u8]) -> Option<Line<'_>>
+    ensures { asked_of result ≡ asked_by (words line.now) }
+{
+    let (word, rest) = cut(line);
+    let command = command_named(word)?;
+    let (first, rest) = cut(rest?);
+    let Some(rest) = rest else {
+        return with_one_word(command, first);
+    };
+    match cut(rest) {
+        (second, None) => with_two_words(command, first, second),
+        (_, Some(_)) => None,
+    }
+}
+
+/// What a command with one word behind it asks for.
+fn with_one_word(command: Command, word: &[u8]) -> Option<Line<'_>>
+    ensures { asked_of result ≡ asked_with_one command word.now }
+{
+    match command {
+        Command::Up if !word.is_empty() => Some(Line::Up { link: word }),
+        Command::Take if !word.is_empty() => Some(Line::Take { link: word }),
+        Command::Submit => {
+            let octets = HexOctets::read(word)?;
+            Some(Line::Submit { octets })
+        }
+        _ => None,
+    }
+}
+
+/// What a command with two words behind it asks for.
+fn with_two_words<'a>(command: Command, first: &'a [u8], second: &'a [u8]) -> Option<Line<'a>>
+    ensures { asked_of result ≡ asked_with_two command first.now second.now }
+{
+    match command {
+        Command::Frame if !first.is_empty() => {
+            let octets = HexOctets::read(second)?;
+            Some(Line::Frame {
+                link: first,
+                octets,
+            })
+        }
+        _ => None,
+    }
+}
+
+/// The command of this name.
+fn command_named(word: &[u8]) -> Option<Command>
+    ensures { result ≡ command_of word.now }
+{
+    if word == b"up".as_slice() {
+        Some(Command::Up)
+    } else if word == b"frame".as_slice() {
+        Some(Command::Frame)
+    } else if word == b"take".as_slice() {
+        Some(Command::Take)
+    } else if word == b"submit".as_slice() {
+        Some(Command::Submit)
+    } else {
+        None
+    }
+}
+
+/// The first word, and what stands behind the space after it, where there is one.
+#[tactic(auto, using(crate::proofs::Parting::word_steps))]
+fn cut(text: &[u8]) -> (&[u8], Option<&[u8]>)
+    ensures { words text.now ≡ result.0.now ∷ words_left result.1 }
+{
+    for (at, octet) in text.iter().enumerate() {
+        if *octet == SPACE {
+            return (&text[..at], Some(&text[at + 1..]));
+        }
+    }
+    (text, None)
+}

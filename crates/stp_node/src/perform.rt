@@ -1,0 +1,85 @@
+//! What the lines of a script do.
+
+ghost use Rattle.std.specs.Prelude.{◌≡◌, ◌≤◌, length, Some, None};
+ghost use Rattle.exchange.specs.Queues.{kept};
+ghost use Rattle.exchange.specs.Rules.{taken};
+ghost use Rattle.stp_types.specs.Readings.{link_place};
+ghost use Rattle.stp_node.specs.Asking.{asked_line};
+ghost use Rattle.stp_node.specs.Doing.{name_in, reported, state_at, take_text, printed, done};
+
+use crate::line::Line;
+use crate::text::{Text, frame_line, none_line, outcome_line};
+use exchange::{BUFFER_OCTETS, Event, Exchange};
+use stp_types::{Cause, Limits, LinkId, Msu, Outcome};
+
+/// Does what a line asks for, and gives what is printed of it.
+///
+/// A link of no name of the settings is refused NoSuchName, and a message with too long a signalling
+/// information field TooLong; neither reaches the exchange.
+pub fn perform(exchange: &mut Exchange, line: Line<'_>) -> Text
+    ensures text { result ≡ printed kept (asked_line line.entry) exchange.old }
+    ensures state { exchange.new ≡ done kept (asked_line line.entry) exchange.old }
+{
+    let mut buffer = [0; Limits::FRAME_OCTETS];
+    let outcome = match line {
+        Line::Up { link } => match exchange.settings().link_named(link) {
+            Some(link) => exchange.step(Event::AssociationUp(link)),
+            None => Outcome::Refused(Cause::NoSuchName),
+        },
+        Line::Frame { link, octets } => match exchange.settings().link_named(link) {
+            Some(link) => {
+                let count = octets.decode(&mut buffer);
+                exchange.step(Event::Frame(link, &buffer[..count]))
+            }
+            None => Outcome::Refused(Cause::NoSuchName),
+        },
+        Line::Submit { octets } => {
+            let count = octets.decode(&mut buffer);
+            match Msu::new(buffer[0], &buffer[1..count]) {
+                Ok(message) => exchange.step(Event::Submit(message)),
+                Err(cause) => Outcome::Refused(cause),
+            }
+        }
+        Line::Take { link } => return take(exchange, link),
+    };
+    report(exchange, outcome)
+}
+
+/// Takes the next frame that goes out by the link of this name.
+fn take(exchange: &mut Exchange, name: &[u8]) -> Text
+    ensures text { result ≡ take_text kept exchange.old (link_place exchange.old.settings name.now) }
+    ensures state { exchange.new ≡ state_at (link_place exchange.old.settings name.now) exchange.old (taken kept exchange.old) }
+{
+    let Some(link) = exchange.settings().link_named(name) else {
+        return report(exchange, Outcome::Refused(Cause::NoSuchName));
+    };
+    let mut buffer = [0; BUFFER_OCTETS];
+    match exchange.take(link, &mut buffer) {
+        Some(count) => frame_line(name_of(exchange, link), &buffer[..count]),
+        None => none_line(),
+    }
+}
+
+/// The line of an outcome.
+fn report(exchange: &Exchange, outcome: Outcome) -> Text
+    ensures { result ≡ reported exchange.now.settings outcome }
+{
+    match outcome {
+        Outcome::Queued(link) => outcome_line(outcome, name_of(exchange, link)),
+        _ => outcome_line(outcome, b""),
+    }
+}
+
+/// The name of a link, or nothing where no link has this number.
+fn name_of(exchange: &Exchange, link: LinkId) -> &[u8]
+    ensures name { result.now ≡ name_in exchange.now.settings link }
+    ensures fits { length result.now ≤ Limits.NAME_OCTETS }
+{
+    match exchange.settings().link_name(link) {
+        Some(name) => {
+            let name = name.as_bytes();
+            &name[..name.len().min(Limits::NAME_OCTETS)]
+        }
+        None => b"",
+    }
+}

@@ -1,0 +1,181 @@
+//! Where a script is read from.
+
+ghost use Rattle.std.specs.Prelude.{◌≡◌, ℕ, ◌<◌, ◌≤◌, ◌++◌, List, [], Option, None, Some, length, take, IfOk, IsErr, ◌↔◌, min, max, drop};
+ghost use Rattle.std.specs.Io.KnownBytes.{ReadConsumes};
+ghost use Rattle.stp_node.specs.Streams.{failures_after};
+
+use std::io::Read;
+use std::marker::Model;
+
+/// A read failed. Nothing was read.
+#[derive(Clone, Copy, Debug, PartialEq, Eq)]
+pub struct ReadFailed;
+
+/// What a script is read from.
+///
+/// It counts its failures, and tells the octets that are still to be read where it knows them: what
+/// was read is what they lost at their front.
+pub trait Source {
+    // The octets that reads give from here on, where they are known.
+    ghost remaining: { Self → Option (List ℕ) };
+
+    // How many reads failed.
+    ghost failures: { Self → ℕ };
+
+    /// Reads the next octets to the front of the buffer, and answers how many: 0 only at the end, or
+    /// where the buffer is empty. After `ReadFailed` nothing was read.
+    fn read(&mut self, buffer: &mut [u8]) -> Result<usize, ReadFailed>
+        ensures bound { IfOk result (λ count. count ≤ length buffer.new) }
+        ensures octets { ReadConsumes (remaining self.old) (remaining self.new) result buffer.new }
+        ensures counted { failures self.new ≡ failures_after (failures self.old) result };
+}
+
+/// A source over a reader of the standard library, such as standard input.
+///
+/// Any error of the reader is a failed read.
+#[derive(Drop)]
+pub struct ReaderSource<R> {
+    reader: R,
+    failures: u64,
+}
+
+impl<R: Read> ReaderSource<R> {
+    /// The source that reads from this reader.
+    pub fn new(reader: R) -> ReaderSource<R>
+        ensures octets { ⟦<ReaderSource<R> as Source>⟧.remaining result ≡ R.remaining reader }
+        ensures none_failed { ⟦<ReaderSource<R> as Source>⟧.failures result ≡ 0 }
+    {
+        ReaderSource {
+            reader,
+            failures: 0,
+        }
+    }
+
+    /// How many reads failed.
+    pub fn failures(&self) -> u64
+        ensures { result ≡ ⟦<ReaderSource<R> as Source>⟧.failures self.now }
+    {
+        self.failures
+    }
+}
+
+impl<R: Read> Source for ReaderSource<R> {
+    ghost remaining = { λ s. R.remaining s.reader };
+
+    ghost failures = { λ s. s.failures };
+
+    fn read(&mut self, buffer: &mut [u8]) -> Result<usize, ReadFailed> {
+        match self.reader.read(buffer) {
+            Ok(count) => Ok(count),
+            Err(_) => {
+                self.failures = self.failures.saturating_add(1);
+                Err(ReadFailed)
+            }
+        }
+    }
+}
+
+/// A source over octets in memory, which may be told to give few octets a read, and to fail at one.
+#[derive(Drop)]
+pub struct MemorySource<'a> {
+    rest: &'a [u8],
+    most: usize,
+    until_failure: Option<u64>,
+    failures: u64,
+}
+
+impl<'a> Model for MemorySource<'a> {
+    ghost use Rattle.std.specs.Prelude.{◌≤◌};
+    ghost use Rattle.stp_node.specs.Streams.{PlannedSource};
+
+    ghost Value = { PlannedSource };
+
+    ghost view = { λ s. record { rest = s.rest.now; most = s.most; until_failure = s.until_failure; failures = s.failures } };
+
+    ghost invariant = { λ s. 1 ≤ s.most };
+}
+
+impl<'a> MemorySource<'a> {
+    /// The source that gives these octets, as many a read as the buffer holds.
+    pub fn new(octets: &'a [u8]) -> MemorySource<'a>
+        ensures { result ≡ record { rest = octets.now; most = usize.MAX; until_failure = None; failures = 0 } }
+    {
+        MemorySource {
+            rest: octets,
+            most: usize::MAX,
+            until_failure: None,
+            failures: 0,
+        }
+    }
+
+    /// The same, but with at most so many octets a read, and at least one.
+    pub fn in_pieces_of(self, most: usize) -> MemorySource<'a>
+        ensures { result ≡ record self.entry { most = max most 1 } }
+    {
+        MemorySource {
+            rest: self.rest,
+            most: most.max(1),
+            until_failure: self.until_failure,
+            failures: self.failures,
+        }
+    }
+
+    /// The same, but the read after so many more fails.
+    pub fn failing_after(self, reads: u64) -> MemorySource<'a>
+        ensures { result ≡ record self.entry { until_failure = Some reads } }
+    {
+        MemorySource {
+            rest: self.rest,
+            most: self.most,
+            until_failure: Some(reads),
+            failures: self.failures,
+        }
+    }
+
+    /// How many reads failed.
+    pub fn failures(&self) -> u64
+        ensures { result ≡ self.now.failures }
+    {
+        self.failures
+    }
+
+    /// Moves the next octets to the front of the buffer, and answers how many.
+    fn give(&mut self, buffer: &mut [u8]) -> usize
+        ensures bound { result ≤ length buffer.new }
+        ensures count { result ≡ min (min (length self.old.rest) (length buffer.old)) self.old.most }
+        ensures octets { self.old.rest ≡ take result buffer.new ++ drop result self.old.rest }
+        ensures end { result ≡ 0 → 0 < length buffer.new → drop result self.old.rest ≡ [] }
+        ensures state { self.new ≡ record self.old { rest = drop result self.old.rest } }
+    {
+        let count = self.rest.len().min(buffer.len()).min(self.most);
+        buffer[..count].copy_from_slice(&self.rest[..count]);
+        self.rest = &self.rest[count..];
+        count
+    }
+}
+
+impl Source for MemorySource<'_> {
+    ghost remaining = { λ s. Some s.rest };
+
+    ghost failures = { λ s. s.failures };
+
+    fn read(&mut self, buffer: &mut [u8]) -> Result<usize, ReadFailed>
+        ensures bound { IfOk result (λ count. count ≤ length buffer.new) }
+        ensures octets { ReadConsumes (Some self.old.rest) (Some self.new.rest) result buffer.new }
+        ensures counted { self.new.failures ≡ failures_after self.old.failures result }
+        ensures planned { IsErr result ↔ (self.old.until_failure ≡ Some 0) }
+    {
+        match self.until_failure {
+            Some(0) => {
+                self.until_failure = None;
+                self.failures = self.failures.saturating_add(1);
+                Err(ReadFailed)
+            }
+            Some(reads) => {
+                self.until_failure = Some(reads - 1);
+                Ok(self.give(buffer))
+            }
+            None => Ok(self.give(buffer)),
+        }
+    }
+}

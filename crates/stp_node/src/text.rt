@@ -1,0 +1,138 @@
+//! What a script prints, a line at a time.
+
+ghost use Rattle.std.specs.Prelude.{◌≡◌, ◌+◌, ◌*◌, ◌≤◌, ◌<◌, ◌^◌, ◌++◌, [], length, decimal};
+ghost use Rattle.hex.specs.Hex.{encode_lower};
+ghost use Rattle.stp_node.specs.Texts.{outcome_text, frame_text, none_text, fault_text};
+
+use arrayvec::ArrayVec;
+use exchange::BUFFER_OCTETS;
+use itoa::Buffer;
+use std::marker::Model;
+use stp_types::{Limits, Outcome};
+
+/// Octets of a printed line, at most: a frame in two digits an octet, the name of its link, and words.
+const TEXT_OCTETS: usize = 640;
+
+/// A printed line, in place.
+#[derive(Drop)]
+pub struct Text {
+    octets: ArrayVec<u8, TEXT_OCTETS>,
+}
+
+impl Model for Text {
+    ghost use Rattle.std.specs.Prelude.{List, ℕ};
+
+    ghost Value = { List ℕ };
+
+    ghost view = { λ t. t.octets.items };
+}
+
+impl Text {
+    /// Nothing yet.
+    fn new() -> Text
+        ensures { result ≡ [] }
+    {
+        Text {
+            octets: ArrayVec::new(),
+        }
+    }
+
+    /// Puts octets behind what is there.
+    fn push(&mut self, octets: &[u8])
+        requires { length self.old + length octets.now ≤ TEXT_OCTETS }
+        ensures { self.new ≡ self.old ++ octets.now }
+    {
+        let _fits = self.octets.try_extend_from_slice(octets);
+    }
+
+    /// Puts a number behind what is there, in decimal digits.
+    fn push_number(&mut self, number: u64)
+        requires { length self.old + 20 ≤ TEXT_OCTETS }
+        ensures text { self.new ≡ self.old ++ decimal number }
+        ensures short { length self.new ≤ length self.old + 20 }
+    {
+        let mut buffer = Buffer::new();
+        self.push(buffer.format(number).as_bytes());
+    }
+
+    /// Puts octets behind what is there, in two digits each.
+    fn push_hex(&mut self, octets: &[u8])
+        requires few { length octets.now ≤ BUFFER_OCTETS }
+        requires room { length self.old + 2 * length octets.now ≤ TEXT_OCTETS }
+        ensures text { self.new ≡ self.old ++ encode_lower octets.now }
+        ensures long { length self.new ≡ length self.old + 2 * length octets.now }
+    {
+        let mut digits = [0; 2 * BUFFER_OCTETS];
+        let digits = &mut digits[..2 * octets.len()];
+        let _fits = hex::encode_to_slice(octets, digits);
+        self.push(digits);
+    }
+
+    /// The line's octets.
+    pub fn as_slice(&self) -> &[u8]
+        ensures { result.now ≡ self.now }
+    {
+        self.octets.as_slice()
+    }
+}
+
+/// The line of an outcome, with the name of the link that it names, if any.
+pub fn outcome_line(outcome: Outcome, name: &[u8]) -> Text
+    requires { length name.now ≤ Limits.NAME_OCTETS }
+    ensures { result ≡ outcome_text name.now outcome }
+{
+    let mut text = Text::new();
+    match outcome {
+        Outcome::Queued(_) => {
+            text.push(b"queued ");
+            text.push(name);
+        }
+        Outcome::Held => text.push(b"held"),
+        Outcome::Local => text.push(b"local"),
+        Outcome::Handled => text.push(b"handled"),
+        Outcome::Ignored => text.push(b"ignored"),
+        Outcome::Refused(cause) => {
+            text.push(b"refused ");
+            text.push_number(u64::from(cause.number()));
+            text.push(b" ");
+            text.push(cause.name().as_bytes());
+        }
+    }
+    text.push(b"\n");
+    text
+}
+
+/// The line of a frame that goes out on the link of this name.
+pub fn frame_line(name: &[u8], octets: &[u8]) -> Text
+    requires name { length name.now ≤ Limits.NAME_OCTETS }
+    requires octets { length octets.now ≤ BUFFER_OCTETS }
+    ensures { result ≡ frame_text name.now octets.now }
+{
+    let mut text = Text::new();
+    text.push(b"frame ");
+    text.push(name);
+    text.push(b" ");
+    text.push_hex(octets);
+    text.push(b"\n");
+    text
+}
+
+/// The line that says that no frame goes out.
+pub fn none_line() -> Text
+    ensures { result ≡ none_text }
+{
+    let mut text = Text::new();
+    text.push(b"none\n");
+    text
+}
+
+/// The line that says which line of the script is none.
+pub fn fault_line(number: u64) -> Text
+    ensures { result ≡ fault_text number }
+{
+    let mut text = Text::new();
+    text.push(b"fault ");
+    text.push_number(number);
+    text.push(b"\n");
+    text
+}
