@@ -32,6 +32,7 @@ use Rattle.exchange.specs.State.{State, QueueKind, link_at, is_link, in_service,
 
 -- Writes of the state
 
+-- one link in another state
 abbrev pub with_link : {Q : Type 0} → State Q → ℕ → LinkState → State Q
 with_link s link l = record s { links = slice_set s.links link l }
 
@@ -41,6 +42,7 @@ with_notice s n = record s { notices = keep_last NOTICES (s.notices ++ n ∷ [])
 
 -- Messages
 
+-- whether the settings have a destination of this point code
 abbrev pub is_destination : Configuration → ℕ → Bool
 is_destination c point = is_some (destination_place c point)
 
@@ -68,15 +70,21 @@ arrival_outcome q s m =
     then offered (no_room q s m) (chosen_link s (flow_of m))
     else Refused UnknownDestination
 
+-- the service indicator of SCCP (Q.704 §14.2.1)
+abbrev pub sccp : ℕ
+sccp = 3
+
 -- what becomes of a message for this point: management, tests and SCCP have no part here yet
 abbrev pub local_outcome : Message → Outcome
-local_outcome m = (if is_management m || nat_eq (service_indicator m) 3 then Refused NotInProfile else Local)
+local_outcome m = (if is_management m || nat_eq (service_indicator m) sccp then Refused NotInProfile else Local)
 
+-- a message, once it is known whether it is for this point
 abbrev pub message_outcome_at : {Q : Type 0} → QueueKind Q → State Q → Message → Discrimination → Outcome
 message_outcome_at q s m whither.Here = local_outcome m
 message_outcome_at q s m whither.Transfer = arrival_outcome q s m
 message_outcome_at q s m (whither.Refused cause) = Refused cause
 
+-- what becomes of a message: the checks of its label in order, then its destination
 abbrev pub message_outcome : {Q : Type 0} → QueueKind Q → State Q → Message → Outcome
 message_outcome q s m = message_outcome_at q s m (discrimination m s.settings.own s.settings.network)
 
@@ -106,14 +114,17 @@ submit_outcome_at q s m (whither.Refused cause) = Refused cause
 submit_outcome_at q s m whither.Here = (if is_management m then Refused NotInProfile else local_outcome m)
 submit_outcome_at q s m whither.Transfer = (if is_management m then Refused NotInProfile else arrival_outcome q s m)
 
+-- what becomes of a message that a user part hands over
 abbrev pub submit_outcome : {Q : Type 0} → QueueKind Q → State Q → Message → Outcome
 submit_outcome q s m = submit_outcome_at q s m (discrimination m s.settings.own s.settings.network)
 
+-- and what it leaves
 abbrev pub submitted : {Q : Type 0} → QueueKind Q → State Q → Message → State Q
 submitted q s m = stored q s m (submit_outcome q s m)
 
 -- An association
 
+-- an association for a link that has one is refused
 abbrev pub up_outcome : {Q : Type 0} → State Q → ℕ → Outcome
 up_outcome s link =
     if is_link s link
@@ -126,6 +137,7 @@ opened q s link =
     with_link (record s { queues = q.started s.queues link }) link
     (record { phase = InService; association = true; acknowledgement_owed = false })
 
+-- and what it leaves
 abbrev pub up : {Q : Type 0} → QueueKind Q → State Q → ℕ → State Q
 up q s link =
     if is_link s link
@@ -146,6 +158,7 @@ failed q s link why =
 abbrev pub owing : {Q : Type 0} → State Q → ℕ → State Q
 owing s link = with_link s link (record (link_at s link) { acknowledgement_owed = true })
 
+-- the numbers of a frame of User Data were accepted
 abbrev pub with_accepted : {Q : Type 0} → QueueKind Q → State Q → ℕ → ℕ → ℕ → Bool → State Q
 with_accepted q s link fsn bsn carries = record s { queues = q.accepted s.queues link fsn bsn carries }
 
@@ -153,25 +166,30 @@ with_accepted q s link fsn bsn carries = record s { queues = q.accepted s.queues
 abbrev pub carried_outcome : {Q : Type 0} → QueueKind Q → State Q → Message → Outcome
 carried_outcome q s m = (if nat_lt SIF_OCTETS (length m.sif) then Refused TooLong else message_outcome q s m)
 
+-- and what it leaves: a refused message leaves a notice
 abbrev pub carried : {Q : Type 0} → QueueKind Q → State Q → ℕ → Message → State Q
 carried q s link m = refusal_noted (stored q s m (carried_outcome q s m)) link (carried_outcome q s m)
 
+-- a frame whose numbers were looked at: a wrong one fails the link, which is no refusal
 abbrev pub taken_outcome : {Q : Type 0} → QueueKind Q → State Q → ℕ → FrameValue → Result ℕ SeqFault → Outcome
 taken_outcome q s link frame (Err fault) = Handled
 taken_outcome q s link (EmptyFrame bsn fsn) (Ok count) = Handled
 taken_outcome q s link (MessageFrame bsn fsn sio sif) (Ok count) =
     carried_outcome q (owing (with_accepted q s link fsn bsn true) link) (record { sio = sio; sif = sif })
 
+-- and what it leaves
 abbrev pub taken_in : {Q : Type 0} → QueueKind Q → State Q → ℕ → FrameValue → Result ℕ SeqFault → State Q
 taken_in q s link frame (Err fault) = failed q s link reasons.Sequence
 taken_in q s link (EmptyFrame bsn fsn) (Ok count) = with_accepted q s link fsn bsn false
 taken_in q s link (MessageFrame bsn fsn sio sif) (Ok count) =
     carried q (owing (with_accepted q s link fsn bsn true) link) link (record { sio = sio; sif = sif })
 
+-- what the numbers of a frame say: FSN first, then BSN
 abbrev pub answer_to : {Q : Type 0} → QueueKind Q → State Q → ℕ → FrameValue → Result ℕ SeqFault
 answer_to q s link (EmptyFrame bsn fsn) = q.accept_answer s.queues link fsn bsn false
 answer_to q s link (MessageFrame bsn fsn sio sif) = q.accept_answer s.queues link fsn bsn true
 
+-- a frame that was read: a wrong length fails the link, any other fault is noted
 abbrev pub read_outcome : {Q : Type 0} → QueueKind Q → State Q → ℕ → Result FrameValue FrameFault → Outcome
 read_outcome q s link (Ok frame) = taken_outcome q s link frame (answer_to q s link frame)
 read_outcome q s link (Err faults.Length) = Handled
@@ -179,6 +197,7 @@ read_outcome q s link (Err faults.Short) = Ignored
 read_outcome q s link (Err faults.Version) = Ignored
 read_outcome q s link (Err faults.Unknown) = Ignored
 
+-- and what it leaves
 abbrev pub read_in : {Q : Type 0} → QueueKind Q → State Q → ℕ → Result FrameValue FrameFault → State Q
 read_in q s link (Ok frame) = taken_in q s link frame (answer_to q s link frame)
 read_in q s link (Err faults.Length) = failed q s link reasons.Length
@@ -186,12 +205,14 @@ read_in q s link (Err faults.Short) = with_notice s (notices.Frame faults.Short 
 read_in q s link (Err faults.Version) = with_notice s (notices.Frame faults.Version link)
 read_in q s link (Err faults.Unknown) = with_notice s (notices.Frame faults.Unknown link)
 
+-- a frame that came by a link: one for a link that is down is ignored
 abbrev pub frame_outcome : {Q : Type 0} → QueueKind Q → State Q → ℕ → List ℕ → Outcome
 frame_outcome q s link text =
     if is_link s link
     then (if in_service s link then read_outcome q s link (read_frame text) else Ignored)
     else Refused NoSuchName
 
+-- and what it leaves
 abbrev pub framed : {Q : Type 0} → QueueKind Q → State Q → ℕ → List ℕ → State Q
 framed q s link text =
     if is_link s link
@@ -200,11 +221,13 @@ framed q s link text =
 
 -- All events
 
+-- what becomes of an event
 abbrev pub outcome_of : {Q : Type 0} → QueueKind Q → Event → State Q → Outcome
 outcome_of q (AssociationUp link) s = up_outcome s link
 outcome_of q (Frame link octets) s = frame_outcome q s link octets.now
 outcome_of q (Submit m) s = submit_outcome q s m
 
+-- and what it leaves
 abbrev pub after : {Q : Type 0} → QueueKind Q → Event → State Q → State Q
 after q (AssociationUp link) s = up q s link
 after q (Frame link octets) s = framed q s link octets.now
@@ -212,6 +235,7 @@ after q (Submit m) s = submitted q s m
 
 -- The next frame that goes out
 
+-- no acknowledgement is owed any more
 abbrev pub settled : {Q : Type 0} → State Q → ℕ → State Q
 settled s link = with_link s link (record (link_at s link) { acknowledgement_owed = false })
 
@@ -221,11 +245,13 @@ outgoing bsn last_sent owed (Some next) = Some (MessageFrame bsn next.number nex
 outgoing bsn last_sent true None = Some (EmptyFrame bsn last_sent)
 outgoing bsn last_sent false None = None
 
+-- the next frame of a link in service
 abbrev pub next_frame : {Q : Type 0} → QueueKind Q → State Q → ℕ → Option FrameValue
 next_frame q s link =
     outgoing (q.last_accepted s.queues link) (q.last_sent s.queues link) (link_at s link).acknowledgement_owed
     (q.to_send s.queues link s.settings.window)
 
+-- the next frame of a link
 abbrev pub frame_to_take : {Q : Type 0} → QueueKind Q → State Q → ℕ → Option FrameValue
 frame_to_take q s link = (if in_service s link then next_frame q s link else None)
 

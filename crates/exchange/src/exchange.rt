@@ -14,20 +14,26 @@ ghost use Rattle.exchange.specs.Taking.{Writes};
 ghost use Rattle.exchange.specs.Stands.{Abstract, StandsFor, kept_of, first_state};
 
 use crate::event::{Answer, Call, Event};
-use crate::frame_text::{BUFFER_OCTETS, FrameText};
+use crate::frame_text::FrameText;
 use crate::link_state::{LinkState, Phase};
 use crate::memory::NoMemory;
 use cell_pool::{Lanes, RingLanes};
 use circular_buffer::HeapCircularBuffer;
 use link_number::Number24;
 use link_sequence::Sequence;
-use m2pa_codec::{Frame, decode, encode};
+use m2pa_codec::{BUFFER_OCTETS, Frame, decode, encode};
 use routing_label::{Discrimination, Label, discriminate};
 use std::alloc::{AllocError, Global};
 use std::marker::Model;
 use stp_types::{
     Cause, FailureReason, Flow, FrameFault, Limits, LinkId, Msu, Notice, Outcome, Settings,
 };
+
+/// How many service indicators there are: the low four bits of the octet (Q.704 §14.2.1).
+const SERVICE_INDICATORS: u8 = 16;
+
+/// The service indicator of SCCP (Q.704 §14.2.1).
+const SCCP: u8 = 3;
 
 /// The links, queues and messages of one node.
 ///
@@ -437,8 +443,8 @@ fn next_frame<'l>(
 fn local(message: &Msu) -> Outcome
     ensures { result ≡ local_outcome message.now }
 {
-    let service_indicator = message.sio() % 16;
-    if message.is_management() || service_indicator == 3 {
+    let service_indicator = message.sio() % SERVICE_INDICATORS;
+    if message.is_management() || service_indicator == SCCP {
         Outcome::Refused(Cause::NotInProfile)
     } else {
         Outcome::Local

@@ -3,11 +3,8 @@
 ghost use Rattle.std.specs.Prelude.{◌≡◌, ℕ, ◌≤◌, List, length};
 
 use arrayvec::ArrayVec;
+use m2pa_codec::BUFFER_OCTETS;
 use std::marker::Model;
-
-/// Octets of the longest frame that an exchange writes: 18 before the signalling information field,
-/// and some to spare.
-pub const BUFFER_OCTETS: usize = 300;
 
 /// The octets of a frame that went out.
 #[derive(Drop)]

@@ -11,6 +11,7 @@ pub mod memory;
 
 pub use event::{Answer, Call, Event};
 pub use exchange::Exchange;
-pub use frame_text::{BUFFER_OCTETS, FrameText};
+pub use frame_text::FrameText;
 pub use link_state::{LinkState, Phase};
+pub use m2pa_codec::BUFFER_OCTETS;
 pub use memory::NoMemory;
