@@ -1,7 +1,7 @@
 -- Octets that reach so far, and those behind them.
 use Rattle.std.proofs.Common.{◌≡◌, ℕ, suc, ◌+◌, ◌≤◌, ◌<◌, get_or, drop, drop-cons, add-one, Bool, true, false, List, [], ◌∷◌, ◌++◌, Option, None, Some, Result, Ok, Err, length, take, refl, sym, ◌∙◌, ap, arith, append_assoc, append-nil, subst}
 use Rattle.std.specs.Prelude.{if◌then◌else◌, min, IfErr, ◌≢◌}
-use Rattle.stp_node.specs.Faults.{reads_failed}
+use Rattle.stp_node.specs.Faults.{reads_failed, most_reads, MakesReads}
 use Rattle.std.proofs.Math.Seq.{take-append-add}
 use Rattle.std.proofs.lemmas.List.{take-append-le, take_all, drop_all}
 use Rattle.std.proofs.lemmas.Grind.{common_steps}
@@ -253,6 +253,15 @@ reads_kept r (Err Write) line node w0 w1 n h = refl
 reads_kept r (Err Read) line node w0 w1 n h = absurd h
 reads_kept r (Err TooManyReads) line node w0 w1 n h = absurd h
 reads_kept r (Err NoMemory) line node w0 w1 n h = absurd h
+
+pub reads_made : (r : Reached KeptQueues) (result : Result Unit ScriptFault) (line : LineSoFar) (node : State KeptQueues) (w0 w1 : Option (List ℕ)) (old new : ℕ)
+    → Does r result line node w0 w1 → new ≤ old + most_reads → MakesReads result old new
+reads_made r (Ok x) line node w0 w1 old new h k = k
+reads_made r (Err (Line number)) line node w0 w1 old new h k = k
+reads_made r (Err Write) line node w0 w1 old new h k = k
+reads_made r (Err Read) line node w0 w1 old new h k = absurd h
+reads_made r (Err TooManyReads) line node w0 w1 old new h k = absurd h
+reads_made r (Err NoMemory) line node w0 w1 old new h k = absurd h
 
 pub memory_left : (r : Reached KeptQueues) (result : Result Unit ScriptFault) (line : LineSoFar) (node : State KeptQueues) (w0 w1 : Option (List ℕ))
     → Does r result line node w0 w1 → IfErr result (λ fault. fault ≢ NoMemory)

@@ -1,6 +1,11 @@
 -- The words behind the program's name, and its exit statuses.
 use Rattle.std.specs.Prelude.{ℕ, List, [], ◌∷◌, if◌then◌else◌, codes, bytes_eq, ◌≡◌, ◌⊎◌, Option, Result, Ok, Err}
 use Rattle.std.specs.Io.KnownBytes.{Appends}
+use Rattle.stp_types.specs.Configuration.{Configuration}
+use Rattle.exchange.specs.State.{State}
+use Rattle.exchange.specs.Queues.{KeptQueues}
+use Rattle.exchange.specs.Stands.{kept_of, first_state}
+use Rattle.stp_node.specs.Runs.{Runs}
 use Rattle.stp_node.specs.Streams.{AppendsFirst}
 use Rattle.stp_node.specs.declared.script.ScriptFault.{ScriptFault}
 use Rattle.stp_node.specs.declared.script.ScriptFault.TheVariants as fault
@@ -35,3 +40,14 @@ status_after (Err fault.NoMemory) = status.Start
 abbrev pub EndsWith : Status → List ℕ → Option (List ℕ) → Option (List ℕ) → Status → Type 0
 EndsWith wanted line old new ended =
     ((ended ≡ wanted) × Appends old new line) ⊎ ((ended ≡ status.Stream) × AppendsFirst old new line)
+
+-- the state of a node before its first event
+abbrev pub IsBooted : State KeptQueues → Type 0
+IsBooted node = (settings : Configuration) × (node ≡ kept_of (first_state settings))
+
+-- a line says why the node didn't start; or the script ran from the node's first state on, and the program ends by how it ended
+abbrev pub RunsOrTells : (left left_new written written_new : Option (List ℕ)) → Status → Type 0
+RunsOrTells left left_new written written_new ended =
+    ((line : List ℕ) × EndsWith status.Start line written written_new ended)
+    ⊎ ((script : Result Unit ScriptFault) × (before : State KeptQueues) × (after : State KeptQueues) × IsBooted before
+    × Runs script before after left left_new written written_new × (ended ≡ status_after script))

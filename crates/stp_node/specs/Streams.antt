@@ -20,6 +20,7 @@ pub record PlannedSource : Type 0 where
   pub rest : List ℕ
   pub most : ℕ
   pub until_failure : Option ℕ
+  pub reads : ℕ
   pub failures : ℕ
 
 -- octets that were written, with at most one write to come that fails, after so many others

@@ -1,7 +1,8 @@
 //! The program around scripts: its words, and how it ends.
 
-ghost use Rattle.std.specs.Prelude.{◌≡◌, string_bytes, map, codes};
-ghost use Rattle.stp_node.specs.Program.{words_of, status_number, status_after, EndsWith};
+ghost use Rattle.std.specs.Prelude.{◌≡◌, ◌≢◌, ℕ, List, IfOk, string_bytes, map, codes};
+ghost use Rattle.std.specs.IoError.{error_kind};
+ghost use Rattle.stp_node.specs.Program.{words_of, status_number, status_after, EndsWith, RunsOrTells, IsBooted};
 
 use crate::defaults::built_in;
 use crate::run::run_script;
@@ -12,7 +13,7 @@ use arrayvec::ArrayString;
 use exchange::{Exchange, NoMemory};
 use std::alloc::{AllocError, Global};
 use std::fmt::Write;
-use std::io;
+use std::io::{Error, ErrorKind};
 use stp_types::fault::DraftFault;
 use stp_types::settings::Settings;
 
@@ -59,12 +60,20 @@ enum StartFault {
 }
 
 impl From<AllocError> for StartFault {
+    ghost use Rattle.stp_node.specs.declared.program.StartFault.TheVariants.{NoMemory};
+
+    ghost from_gives = { λ _ fault. fault ≡ NoMemory };
+
     fn from(_error: AllocError) -> StartFault {
         StartFault::NoMemory
     }
 }
 
 impl From<NoMemory> for StartFault {
+    ghost use Rattle.stp_node.specs.declared.program.StartFault.TheVariants.{NoMemory as memory};
+
+    ghost from_gives = { λ _ fault. fault ≡ memory };
+
     fn from(_error: NoMemory) -> StartFault {
         StartFault::NoMemory
     }
@@ -98,6 +107,8 @@ pub fn run_program<R: Source, W: Sink>(
 ) -> Status
     ensures usage { words_of (map (λ word. string_bytes word) words.now) ≡ Words.Usage
         → EndsWith Status.Usage (codes "usage\n") (W.written writer.old) (W.written writer.new) result }
+    ensures run { words_of (map (λ word. string_bytes word) words.now) ≡ Words.Run
+        → RunsOrTells (R.remaining reader.old) (R.remaining reader.new) (W.written writer.old) (W.written writer.new) result }
 {
     match read_words(words) {
         Words::Usage => end_with(Status::Usage, b"usage\n", writer),
@@ -111,15 +122,22 @@ pub fn run_program<R: Source, W: Sink>(
 
 /// Refuses words that could not be read: they are other words than those of the program, unless
 /// memory ran out.
-pub fn refuse_words<W: Sink>(error: &io::Error, writer: &mut W) -> Status {
-    if error.kind() == io::ErrorKind::OutOfMemory {
+pub fn refuse_words<W: Sink>(error: &Error, writer: &mut W) -> Status
+    ensures memory { error_kind error.now ≡ ErrorKind.OutOfMemory
+        → EndsWith Status.Start (codes "fault NoMemory\n") (W.written writer.old) (W.written writer.new) result }
+    ensures usage { error_kind error.now ≢ ErrorKind.OutOfMemory
+        → EndsWith Status.Usage (codes "usage\n") (W.written writer.old) (W.written writer.new) result }
+{
+    if error.kind() == ErrorKind::OutOfMemory {
         return end_with(Status::Start, b"fault NoMemory\n", writer);
     }
     end_with(Status::Usage, b"usage\n", writer)
 }
 
 /// The exchange of the built-in settings, before its first event.
-fn start(alloc: Global) -> Result<Exchange, StartFault> {
+fn start(alloc: Global) -> Result<Exchange, StartFault>
+    ensures { IfOk result IsBooted }
+{
     let draft = built_in(alloc)?;
     let settings = Settings::check(alloc, draft)?;
     let exchange = Exchange::boot(alloc, settings)?;
@@ -149,7 +167,9 @@ fn end_with<W: Sink>(status: Status, line: &[u8], writer: &mut W) -> Status
 }
 
 /// Prints what is wrong with the settings.
-fn tell_settings<W: Sink>(fault: DraftFault, writer: &mut W) -> Status {
+fn tell_settings<W: Sink>(fault: DraftFault, writer: &mut W) -> Status
+    ensures { (line : List ℕ) × EndsWith Status.Start line (W.written writer.old) (W.written writer.new) result }
+{
     let mut line = ArrayString::<FAULT_OCTETS>::new();
     let number = fault.number();
     let _fits = match fault {

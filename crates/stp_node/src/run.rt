@@ -6,7 +6,7 @@ ghost use Rattle.exchange.specs.State.{State};
 ghost use Rattle.exchange.specs.Queues.{KeptQueues, kept};
 ghost use Rattle.stp_node.specs.Asking.{line_of};
 ghost use Rattle.stp_node.specs.Runs.{Does, Fails, Runs, octet_read, octets_read, line_read, ended};
-ghost use Rattle.stp_node.specs.Faults.{reads_failed, writes_failed};
+ghost use Rattle.stp_node.specs.Faults.{MakesReads, reads_failed, writes_failed};
 
 use crate::line::{Malformed, parse_line};
 use crate::perform::perform;
@@ -54,6 +54,7 @@ pub fn run_script<R: Source, W: Sink>(
     writer: &mut W,
 ) -> Result<(), ScriptFault>
     ensures end { OnOk result (IsAtEnd (R.remaining reader.new)) }
+    ensures bounded { MakesReads result (R.reads reader.old) (R.reads reader.new) }
     ensures reads { R.failures reader.new ≡ reads_failed (R.failures reader.old) result }
     ensures writes { W.failures writer.new ≡ writes_failed (W.failures writer.old) result }
     ensures run { Runs result exchange.old exchange.new (R.remaining reader.old) (R.remaining reader.new) (W.written writer.old) (W.written writer.new) }

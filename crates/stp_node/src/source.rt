@@ -2,7 +2,7 @@
 
 ghost use Rattle.std.specs.Prelude.{◌≡◌, ℕ, ◌<◌, ◌≤◌, ◌++◌, List, [], Option, None, Some, length, take, IfOk, IsErr, ◌↔◌, min, max, drop};
 ghost use Rattle.std.specs.Io.KnownBytes.{ReadConsumes};
-ghost use Rattle.stp_node.specs.Streams.{failures_after};
+ghost use Rattle.stp_node.specs.Streams.{counted, failures_after};
 
 use std::io::Read;
 use std::marker::Model;
@@ -19,7 +19,9 @@ pub trait Source {
     // The octets that reads give from here on, where they are known.
     ghost remaining: { Self → Option (List ℕ) };
 
-    // How many reads failed.
+    // How many reads were made, and how many of them failed.
+    ghost reads: { Self → ℕ };
+
     ghost failures: { Self → ℕ };
 
     /// Reads the next octets to the front of the buffer, and answers how many: 0 only at the end, or
@@ -27,6 +29,7 @@ pub trait Source {
     fn read(&mut self, buffer: &mut [u8]) -> Result<usize, ReadFailed>
         ensures bound { IfOk result (λ count. count ≤ length buffer.new) }
         ensures octets { ReadConsumes (remaining self.old) (remaining self.new) result buffer.new }
+        ensures made { reads self.new ≡ counted (reads self.old) }
         ensures counted { failures self.new ≡ failures_after (failures self.old) result };
 }
 
@@ -36,6 +39,7 @@ pub trait Source {
 #[derive(Drop)]
 pub struct ReaderSource<R> {
     reader: R,
+    reads: u64,
     failures: u64,
 }
 
@@ -43,10 +47,12 @@ impl<R: Read> ReaderSource<R> {
     /// The source that reads from this reader.
     pub fn new(reader: R) -> ReaderSource<R>
         ensures octets { ⟦<ReaderSource<R> as Source>⟧.remaining result ≡ R.remaining reader }
+        ensures none_made { ⟦<ReaderSource<R> as Source>⟧.reads result ≡ 0 }
         ensures none_failed { ⟦<ReaderSource<R> as Source>⟧.failures result ≡ 0 }
     {
         ReaderSource {
             reader,
+            reads: 0,
             failures: 0,
         }
     }
@@ -62,9 +68,12 @@ impl<R: Read> ReaderSource<R> {
 impl<R: Read> Source for ReaderSource<R> {
     ghost remaining = { λ s. R.remaining s.reader };
 
+    ghost reads = { λ s. s.reads };
+
     ghost failures = { λ s. s.failures };
 
     fn read(&mut self, buffer: &mut [u8]) -> Result<usize, ReadFailed> {
+        self.reads = self.reads.saturating_add(1);
         match self.reader.read(buffer) {
             Ok(count) => Ok(count),
             Err(_) => {
@@ -81,6 +90,7 @@ pub struct MemorySource<'a> {
     rest: &'a [u8],
     most: usize,
     until_failure: Option<u64>,
+    reads: u64,
     failures: u64,
 }
 
@@ -90,7 +100,7 @@ impl<'a> Model for MemorySource<'a> {
 
     ghost Value = { PlannedSource };
 
-    ghost view = { λ s. record { rest = s.rest.now; most = s.most; until_failure = s.until_failure; failures = s.failures } };
+    ghost view = { λ s. record { rest = s.rest.now; most = s.most; until_failure = s.until_failure; reads = s.reads; failures = s.failures } };
 
     ghost invariant = { λ s. 1 ≤ s.most };
 }
@@ -98,12 +108,13 @@ impl<'a> Model for MemorySource<'a> {
 impl<'a> MemorySource<'a> {
     /// The source that gives these octets, as many a read as the buffer holds.
     pub fn new(octets: &'a [u8]) -> MemorySource<'a>
-        ensures { result ≡ record { rest = octets.now; most = usize.MAX; until_failure = None; failures = 0 } }
+        ensures { result ≡ record { rest = octets.now; most = usize.MAX; until_failure = None; reads = 0; failures = 0 } }
     {
         MemorySource {
             rest: octets,
             most: usize::MAX,
             until_failure: None,
+            reads: 0,
             failures: 0,
         }
     }
@@ -116,6 +127,7 @@ impl<'a> MemorySource<'a> {
             rest: self.rest,
             most: most.max(1),
             until_failure: self.until_failure,
+            reads: self.reads,
             failures: self.failures,
         }
     }
@@ -128,6 +140,7 @@ impl<'a> MemorySource<'a> {
             rest: self.rest,
             most: self.most,
             until_failure: Some(reads),
+            reads: self.reads,
             failures: self.failures,
         }
     }
@@ -157,14 +170,18 @@ impl<'a> MemorySource<'a> {
 impl Source for MemorySource<'_> {
     ghost remaining = { λ s. Some s.rest };
 
+    ghost reads = { λ s. s.reads };
+
     ghost failures = { λ s. s.failures };
 
     fn read(&mut self, buffer: &mut [u8]) -> Result<usize, ReadFailed>
         ensures bound { IfOk result (λ count. count ≤ length buffer.new) }
         ensures octets { ReadConsumes (Some self.old.rest) (Some self.new.rest) result buffer.new }
+        ensures made { self.new.reads ≡ counted self.old.reads }
         ensures counted { self.new.failures ≡ failures_after self.old.failures result }
         ensures planned { IsErr result ↔ (self.old.until_failure ≡ Some 0) }
     {
+        self.reads = self.reads.saturating_add(1);
         match self.until_failure {
             Some(0) => {
                 self.until_failure = None;

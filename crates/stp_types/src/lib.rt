@@ -1,5 +1,6 @@
 //! The small types that every part of the node names: messages, numbers of links and points,
-//! causes, outcomes, notices and limits.
+//! causes, outcomes, notices and limits, and the settings of a node, as they were written and
+//! checked.
 #![tactic(auto)]
 
 pub mod cause;

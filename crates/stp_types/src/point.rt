@@ -142,7 +142,7 @@ impl SetId {
         ensures value { result ≡ self }
         ensures fits { self < 2 ^ 8 }
     {
-        self.number as usize
+        usize::from(self.number)
     }
 }
 

@@ -190,6 +190,8 @@ impl Source for Endless {
 
     ghost remaining = { λ _. None };
 
+    ghost reads = { λ s. s.reads };
+
     ghost failures = { λ _. 0 };
 
     fn read(&mut self, buffer: &mut [u8]) -> Result<usize, ReadFailed> {

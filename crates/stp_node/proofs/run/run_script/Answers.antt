@@ -1,7 +1,7 @@
 use Rattle.std.proofs.Common.{◌≡◌, ◌∙◌, ap, sym, [], Err, arith, take, refl}
 use Rattle.std.proofs.lemmas.Grind.{common_steps}
 use Rattle.std.proofs.lemmas.Result.{err_from_is_err_and}
-use Rattle.stp_node.proofs.Running.{more_progress, at_end, at_fault, reads_kept, memory_left}
+use Rattle.stp_node.proofs.Running.{more_progress, at_end, at_fault, reads_kept, reads_made, memory_left}
 use Rattle.stp_node.specs.declared.script.ScriptFault.{ScriptFault}
 use Rattle.stp_node.proofs.run.run_script.Goals as goal
 
@@ -9,6 +9,11 @@ pub returns-then-count-eq0-clause-reads : goal.returns-then-count-eq0-clause-rea
 returns-then-count-eq0-clause-reads g c =
     c.in_ok-count.ensures.counted ∙ c.loop.invariant.reads
     ∙ sym (reads_kept _ c.end.result c.loop.line c.loop.exchange _ _ (g.R.Source.failures c.args.reader.now) (c.end.ensures.run c.loop.exchange))
+
+pub returns-then-count-eq0-clause-bounded : goal.returns-then-count-eq0-clause-bounded
+returns-then-count-eq0-clause-bounded g c =
+    reads_made _ c.end.result c.loop.line c.loop.exchange _ _ (g.R.Source.reads c.args.reader.now) (g.R.Source.reads c.read.new.self) (c.end.ensures.run c.loop.exchange)
+    (let m = c.in_ok-count.ensures.made in omega (arith, m, c.loop.invariant.most, c.loop-test.true))
 
 pub returns-then-count-eq0-clause-run : goal.returns-then-count-eq0-clause-run
 returns-then-count-eq0-clause-run g c =
@@ -32,6 +37,8 @@ returns-in_err-take_all-clause-run g c =
 pub loop-preserved : goal.loop-preserved
 loop-preserved g c = record {
   number = grind (arith, common_steps);
+  most = let m = c.in_ok-count.ensures.made in omega (arith, m, c.loop.invariant.most);
+  least = let m = c.in_ok-count.ensures.made in omega (arith, m, c.loop.invariant.least);
   reads = c.in_ok-count.ensures.counted ∙ c.loop.invariant.reads;
   writes = c.in_ok-take_all.ensures.writes ∙ c.loop.invariant.writes;
   run = more_progress c.args.exchange.now (g.R.Source.remaining c.args.reader.now) (g.R.Source.remaining c.loop.reader) (g.R.Source.remaining c.read.new.self)
