@@ -1,6 +1,6 @@
 //! The numbers of one link.
 
-ghost use Rattle.std.specs.Prelude.{◌≡◌, ℕ, ◌-◌, ◌<◌, ◌≤◌, List, [], None, length, nat_lt, slice_get, if◌then◌else◌};
+ghost use Rattle.std.specs.Prelude.{◌≡◌, ℕ, ◌-◌, ◌<◌, ◌≤◌, List, [], None, OnErr, length, nat_lt, slice_get, if◌then◌else◌};
 ghost use Rattle.std.specs.Option.{option_map, option_copied};
 ghost use Rattle.cell_pool.specs.Lanes.{lane_at, dropped};
 ghost use Rattle.stp_types.specs.Message.{Message};
@@ -124,6 +124,8 @@ impl Sequence {
         ensures counts { self.new ≡ kept_accepted self.old fsn bsn carries }
         ensures lists { L.lists lanes.new ≡ dropped (L.lists lanes.old) lane (count_confirmed result) }
         ensures pool { L.pool lanes.new ≡ L.pool lanes.old }
+        ensures fault { OnErr result (self.new ≡ self.old) }
+        ensures fault_lists { OnErr result (L.lists lanes.new ≡ L.lists lanes.old) }
         ensures queue_answer { (q : Queue) → Keeps self.old (lane_at (L.lists lanes.old) lane) q → result ≡ accept_answer q fsn bsn carries }
         ensures queue { (q : Queue) → Keeps self.old (lane_at (L.lists lanes.old) lane) q → Keeps self.new (lane_at (L.lists lanes.new) lane) (accepted q fsn bsn carries) }
     {
