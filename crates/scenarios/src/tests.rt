@@ -1,6 +1,7 @@
 //! What the rows share.
 
 mod bad_lines;
+mod calls;
 mod long_lines;
 mod program;
 mod rows;

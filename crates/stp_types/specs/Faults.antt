@@ -62,3 +62,8 @@ key_path (TitleDigits i) = codes "title[" ++ (decimal i ++ codes "].digits")
 key_path (TitlePoint i) = codes "title[" ++ (decimal i ++ codes "].point")
 key_path (TitleRoute i) = codes "title[" ++ (decimal i ++ codes "].route")
 key_path (TitleSsn i) = codes "title[" ++ (decimal i ++ codes "].ssn")
+
+-- how a fault is written, with its number and its key
+abbrev pub fault_text : DraftFault → List ℕ
+fault_text NoMemory = codes "fault " ++ decimal 8
+fault_text (At kind key) = codes "fault " ++ (decimal (kind_number kind) ++ (codes " at " ++ key_path key))

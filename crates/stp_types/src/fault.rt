@@ -1,7 +1,7 @@
 //! What is wrong with settings as they were written.
 
 ghost use Rattle.std.specs.Prelude.{◌≡◌, Some};
-ghost use Rattle.stp_types.specs.Faults.{fault_number, kind_number, timer_name, key_path};
+ghost use Rattle.stp_types.specs.Faults.{fault_number, fault_text, kind_number, timer_name, key_path};
 
 use std::alloc::{AllocError, AllocFailed};
 use std::error::Error;
@@ -198,6 +198,8 @@ impl DraftFault {
 }
 
 impl fmt::Display for DraftFault {
+    ghost output = { λ fault. Some (fault_text fault) };
+
     fn fmt<W: fmt::Write>(&self, f: &mut fmt::Formatter<W>) -> fmt::Result {
         let number = self.number();
         match *self {

@@ -1,4 +1,4 @@
-use Rattle.std.proofs.Common.{rules, arith, All, ◌<◌, length}
+use Rattle.std.proofs.Common.{arith, ◌<◌, length}
 use Rattle.std.proofs.lemmas.Grind.{common_steps}
 use Rattle.std.proofs.lemmas.List.Elements.{All-push}
 use Rattle.stp_types.specs.Configuration.{LinkEntry}
