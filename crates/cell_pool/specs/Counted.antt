@@ -1,4 +1,5 @@
 -- How the messages of a store are counted.
+use Rattle.stp_types.specs.declared.limits.TheConstants.Limits.{MANAGEMENT_MESSAGES}
 use Rattle.std.specs.Prelude.{◌≡◌, ◌+◌, ◌≤◌}
 use Rattle.cell_pool.specs.Lanes.{users, managements}
 use Rattle.cell_pool.specs.Stored.{Stored}
@@ -12,5 +13,5 @@ pub record IsCounted (s : Inside) : Type 0 where
   pub users : s.users ≡ users s.lists.lists
   pub managements : s.managements ≡ managements s.lists.lists
   pub few_users : s.users ≤ s.pool
-  pub few_managements : s.managements ≤ 256
-  pub cells : s.lists.cells ≡ s.pool + 256
+  pub few_managements : s.managements ≤ MANAGEMENT_MESSAGES
+  pub cells : s.lists.cells ≡ s.pool + MANAGEMENT_MESSAGES

@@ -2,6 +2,7 @@
 use Rattle.std.specs.Prelude.{ℕ, List, [], ◌∷◌, ◌++◌, Option, Some, None, drop, count_by, sum_by, nat_le, not, if◌then◌else◌, slice_index_or, slice_set}
 use Rattle.stp_types.specs.Message.{Message, is_management}
 use Rattle.stp_types.specs.declared.cause.Cause.{Cause}
+use Rattle.stp_types.specs.declared.limits.TheConstants.Limits.{MANAGEMENT_MESSAGES}
 use Rattle.stp_types.specs.declared.cause.Cause.TheVariants.{PoolFull, ManagementFull}
 
 -- how many management messages a list has; every other message is a user message
@@ -22,7 +23,7 @@ users lists = sum_by users_in lists
 abbrev pub push_refusal : ℕ → List (List Message) → Message → Option Cause
 push_refusal pool lists m =
     if is_management m
-    then (if nat_le 256 (managements lists) then Some ManagementFull else None)
+    then (if nat_le MANAGEMENT_MESSAGES (managements lists) then Some ManagementFull else None)
     else (if nat_le pool (users lists) then Some PoolFull else None)
 
 -- one list of them

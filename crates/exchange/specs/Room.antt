@@ -1,4 +1,5 @@
 -- How an exchange lies in its parts, and the room that they have.
+use Rattle.stp_types.specs.declared.limits.TheConstants.Limits.{NOTICES}
 use Rattle.std.specs.Prelude.{◌≡◌, ℕ, ◌≤◌, length, vec_len}
 use Rattle.exchange.specs.State.{State}
 use Rattle.exchange.specs.Queues.{KeptQueues}
@@ -17,4 +18,4 @@ pub record HasRoom (e : Inside) : Type 0 where
   pub lanes : length e.lanes.lists ≡ vec_len e.links
   pub sequences : vec_len e.sequences ≡ vec_len e.links
   pub pool : e.lanes.pool ≡ e.settings.pool
-  pub notices : e.notices.capacity ≡ 64
+  pub notices : e.notices.capacity ≡ NOTICES

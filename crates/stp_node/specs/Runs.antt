@@ -1,4 +1,5 @@
 -- What a script prints, and the state that it leaves, octet by octet.
+use Rattle.stp_node.specs.declared.script.TheConstants.{LINE_OCTETS}
 use Rattle.std.specs.Prelude.{◌≡◌, ℕ, ◌+◌, ◌==◌, Bool, true, false, if◌then◌else◌, nat_lt, List, [], ◌∷◌, ◌++◌, length, Option, Result, Ok, Err}
 use Rattle.std.specs.Io.KnownBytes.{Appends, Consumes}
 use Rattle.exchange.specs.State.{State, QueueKind}
@@ -44,11 +45,11 @@ line_read q s Skips = silent (next_line s s.node)
 line_read q s IsMalformed = stopped s
 line_read q s (Asks asked) = record { text = printed q asked s.node; script = next_line s (done q asked s.node); is_fault = false }
 
--- one octet: a line feed (10) ends the line, and no line has more than 8,300 octets
+-- one octet: a line feed (10) ends the line, and no line has more than 8,300 octets (LINE_OCTETS)
 abbrev pub octet_read : {Q : Type 0} → QueueKind Q → ℕ → Script Q → Reached Q
 octet_read q octet s =
     if octet == 10 then line_read q s (line_of s.line.octets)
-    else if nat_lt (length s.line.octets) 8300 then silent (record s { line = record s.line { octets = s.line.octets ++ octet ∷ [] } })
+    else if nat_lt (length s.line.octets) LINE_OCTETS then silent (record s { line = record s.line { octets = s.line.octets ++ octet ∷ [] } })
     else stopped s
 
 -- what comes behind, unless the script ended
