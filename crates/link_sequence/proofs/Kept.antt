@@ -37,10 +37,10 @@ pub kept-expected : (q : Queue) (carries : Bool) → kept_expected (counts_of q)
 kept-expected q true = refl
 kept-expected q false = previous-mod q.received
 
-pub kept-newly_confirmed : (q : Queue) (bsn : ℕ) → IsQueue q → kept_newly_confirmed (counts_of q) bsn ≡ newly_confirmed q bsn
-kept-newly_confirmed q bsn h = sym (found_ahead q.base q.confirmed (q.sent - q.confirmed) bsn (omega (arith, h.window)))
+pub kept-newly_confirmed : {w : ℕ} (q : Queue) (bsn : ℕ) → IsQueue w q → kept_newly_confirmed (counts_of q) bsn ≡ newly_confirmed q bsn
+kept-newly_confirmed q bsn h = sym (found_ahead q.base q.confirmed (q.sent - q.confirmed) bsn (omega (arith, h.window, h.limit)))
 
-pub kept-accept_answer : (q : Queue) (fsn bsn : ℕ) (carries : Bool) → IsQueue q →
+pub kept-accept_answer : {w : ℕ} (q : Queue) (fsn bsn : ℕ) (carries : Bool) → IsQueue w q →
     kept_accept_answer (counts_of q) fsn bsn carries ≡ accept_answer q fsn bsn carries
 kept-accept_answer q fsn bsn carries h =
     let e = kept-expected q carries in
@@ -54,7 +54,7 @@ counts-after_answer q true (Ok count) = grind (arith, common_steps)
 counts-after_answer q false (Ok count) = grind (arith, common_steps)
 counts-after_answer q carries (Err fault) = refl
 
-pub counts-accepted : (q : Queue) (fsn bsn : ℕ) (carries : Bool) → IsQueue q →
+pub counts-accepted : {w : ℕ} (q : Queue) (fsn bsn : ℕ) (carries : Bool) → IsQueue w q →
     counts_of (accepted q fsn bsn carries) ≡ kept_accepted (counts_of q) fsn bsn carries
 counts-accepted q fsn bsn carries h =
     counts-after_answer q carries (accept_answer q fsn bsn carries)
@@ -71,15 +71,15 @@ unconfirmed-accepted q fsn bsn carries = unconfirmed-after_answer q carries (acc
 
 -- ---- what goes out
 
-pub kept-to_send : (q : Queue) (window : ℕ) → IsQueue q → kept_to_send (counts_of q) (unconfirmed q) window ≡ to_send q window
+pub kept-to_send : {w : ℕ} (q : Queue) (window : ℕ) → IsQueue w q → kept_to_send (counts_of q) (unconfirmed q) window ≡ to_send q window
 kept-to_send q window h =
     rw (sum-mod q.base q.confirmed q.sent h.confirmed, slice_get-drop q.all q.confirmed (q.sent - q.confirmed), sum-back q.confirmed q.sent h.confirmed)
 
-counts-after_sending : (q : Queue) (s : Option Sending) → IsQueue q → counts_of (after_sending q s) ≡ kept_after_sending (counts_of q) s
+counts-after_sending : {w : ℕ} (q : Queue) (s : Option Sending) → IsQueue w q → counts_of (after_sending q s) ≡ kept_after_sending (counts_of q) s
 counts-after_sending q (Some sending) h = grind (arith, common_steps, h.confirmed)
 counts-after_sending q None h = refl
 
-pub counts-sent_one : (q : Queue) (window : ℕ) → IsQueue q → counts_of (sent_one q window) ≡ kept_sent_one (counts_of q) (unconfirmed q) window
+pub counts-sent_one : {w : ℕ} (q : Queue) (window : ℕ) → IsQueue w q → counts_of (sent_one q window) ≡ kept_sent_one (counts_of q) (unconfirmed q) window
 counts-sent_one q window h =
     counts-after_sending q (to_send q window) h ∙ ap (λ (s : Option Sending). kept_after_sending (counts_of q) s) (sym (kept-to_send q window h))
 
@@ -95,7 +95,7 @@ unconfirmed-sent_one q window = unconfirmed-after_sending q (to_send q window)
 pub counts-appended : (q : Queue) (m : Message) → counts_of (appended q m) ≡ counts_of q
 counts-appended q m = refl
 
-pub unconfirmed-appended : (q : Queue) (m : Message) → IsQueue q → unconfirmed (appended q m) ≡ unconfirmed q ++ m ∷ []
+pub unconfirmed-appended : {w : ℕ} (q : Queue) (m : Message) → IsQueue w q → unconfirmed (appended q m) ≡ unconfirmed q ++ m ∷ []
 unconfirmed-appended q m h = drop-append-le q.confirmed q.all (m ∷ []) (omega (arith, h.confirmed, h.sent))
 
 pub counts-emptied : (q : Queue) → counts_of (emptied q) ≡ kept_emptied (counts_of q)
@@ -106,7 +106,7 @@ unconfirmed-emptied q = refl
 
 -- ---- the last numbers
 
-pub kept-last_sent : (q : Queue) → IsQueue q → kept_last_sent (counts_of q) ≡ last_sent q
+pub kept-last_sent : {w : ℕ} (q : Queue) → IsQueue w q → kept_last_sent (counts_of q) ≡ last_sent q
 kept-last_sent q h = previous-sum q.base q.confirmed q.sent h.confirmed
 
 pub kept-last_accepted : (q : Queue) → kept_last_accepted (counts_of q) ≡ last_accepted q

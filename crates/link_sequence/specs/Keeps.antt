@@ -1,10 +1,10 @@
--- When counts and a list of messages are what is kept of a queue.
-use Rattle.std.specs.Prelude.{◌≡◌, List}
+-- When counts and a list of messages are what is kept of a queue with a window of w.
+use Rattle.std.specs.Prelude.{◌≡◌, ℕ, List}
 use Rattle.stp_types.specs.Message.{Message}
 use Rattle.link_sequence.specs.Queue.{Queue, IsQueue}
 use Rattle.link_sequence.specs.Counts.{Counts, counts_of, unconfirmed}
 
-pub record Keeps (k : Counts) (lane : List Message) (q : Queue) : Type 0 where
-  pub sound : IsQueue q
+pub record Keeps (w : ℕ) (k : Counts) (lane : List Message) (q : Queue) : Type 0 where
+  pub sound : IsQueue w q
   pub counts : k ≡ counts_of q
   pub messages : lane ≡ unconfirmed q

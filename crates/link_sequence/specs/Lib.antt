@@ -5,3 +5,4 @@ pub mod Inside
 pub mod Fields
 pub mod Outgoing
 pub mod Naming
+pub mod Faults

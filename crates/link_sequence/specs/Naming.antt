@@ -11,4 +11,4 @@ pub record Names (q : Queue) (bsn n : ℕ) : Type 0 where
   pub number : (q.base + n) % modulus ≡ (bsn + 1) % modulus
 
 abbrev pub search_finds_named : Type 0
-search_finds_named = (q : Queue) (bsn n : ℕ) → IsQueue q → (named_count q bsn ≡ Some n) ↔ Names q bsn n
+search_finds_named = (window : ℕ) (q : Queue) (bsn n : ℕ) → IsQueue window q → (named_count q bsn ≡ Some n) ↔ Names q bsn n

@@ -17,11 +17,13 @@ pub record Queue : Type 0 where
   -- how many messages of the peer were accepted
   pub received : ℕ
 
--- what is confirmed was sent, what was sent is there, and no more than a window is unconfirmed
-pub record IsQueue (q : Queue) : Type 0 where
+-- what is confirmed was sent, what was sent is there, and no more than a window of w is sent and unconfirmed; settings allow no
+-- wider one than WINDOW
+pub record IsQueue (w : ℕ) (q : Queue) : Type 0 where
   pub confirmed : q.confirmed ≤ q.sent
   pub sent : q.sent ≤ length q.all
-  pub window : q.sent ≤ q.confirmed + WINDOW
+  pub window : q.sent ≤ q.confirmed + w
+  pub limit : w ≤ WINDOW
 
 -- the queue of a new epoch
 abbrev pub first_queue : Queue

@@ -69,7 +69,7 @@ impl Sequence {
     /// The numbers of a new epoch: nothing sent, nothing received, and 0 comes first.
     pub fn start() -> Sequence
         ensures counts { result ≡ kept_first }
-        ensures queue { Keeps result [] first_queue }
+        ensures queue { (window : ℕ) → window ≤ Limits.WINDOW → Keeps window result [] first_queue }
     {
         Sequence::starting_at(Number24::zero())
     }
@@ -77,7 +77,7 @@ impl Sequence {
     /// The same, where the first message that goes out has this number.
     pub fn starting_at(number: Number24) -> Sequence
         ensures counts { result ≡ kept_first_at number }
-        ensures queue { Keeps result [] (first_queue_at number) }
+        ensures queue { (window : ℕ) → window ≤ Limits.WINDOW → Keeps window result [] (first_queue_at number) }
     {
         Sequence {
             oldest: number,
@@ -91,7 +91,7 @@ impl Sequence {
     /// None where it names none from what is confirmed to what was sent.
     pub fn retrieve(&self, confirmed: Number24) -> Option<usize>
         ensures count { result ≡ kept_newly_confirmed self.now confirmed }
-        ensures queue { (lane : List Message) (q : Queue) → Keeps self.now lane q → result ≡ newly_confirmed q confirmed }
+        ensures queue { (w : ℕ) (lane : List Message) (q : Queue) → Keeps w self.now lane q → result ≡ newly_confirmed q confirmed }
     {
         let count = distance(self.oldest, next(confirmed)) as usize;
         (count <= self.outstanding).then_some(count)
@@ -100,7 +100,7 @@ impl Sequence {
     /// How many messages were sent and aren't confirmed.
     pub fn outstanding(&self) -> usize
         ensures count { result ≡ self.now.outstanding }
-        ensures queue { (lane : List Message) (q : Queue) → Keeps self.now lane q → result ≡ q.sent - q.confirmed }
+        ensures queue { (w : ℕ) (lane : List Message) (q : Queue) → Keeps w self.now lane q → result ≡ q.sent - q.confirmed }
     {
         self.outstanding
     }
@@ -126,8 +126,8 @@ impl Sequence {
         ensures pool { L.pool lanes.new ≡ L.pool lanes.old }
         ensures fault { OnErr result (self.new ≡ self.old) }
         ensures fault_lists { OnErr result (L.lists lanes.new ≡ L.lists lanes.old) }
-        ensures queue_answer { (q : Queue) → Keeps self.old (lane_at (L.lists lanes.old) lane) q → result ≡ accept_answer q fsn bsn carries }
-        ensures queue { (q : Queue) → Keeps self.old (lane_at (L.lists lanes.old) lane) q → Keeps self.new (lane_at (L.lists lanes.new) lane) (accepted q fsn bsn carries) }
+        ensures queue_answer { (w : ℕ) (q : Queue) → Keeps w self.old (lane_at (L.lists lanes.old) lane) q → result ≡ accept_answer q fsn bsn carries }
+        ensures queue { (w : ℕ) (q : Queue) → Keeps w self.old (lane_at (L.lists lanes.old) lane) q → Keeps w self.new (lane_at (L.lists lanes.new) lane) (accepted q fsn bsn carries) }
     {
         let answer = self.take_numbers(fsn, bsn, carries);
         lanes.drop_front(lane, answer.unwrap_or(0));
@@ -172,8 +172,8 @@ impl Sequence {
         requires { lane < length (L.lists lanes.now) }
         ensures sending { option_map sending_of result ≡ kept_to_send self.old (lane_at (L.lists lanes.now) lane) window }
         ensures counts { self.new ≡ kept_sent_one self.old (lane_at (L.lists lanes.now) lane) window }
-        ensures queue_sending { (q : Queue) → Keeps self.old (lane_at (L.lists lanes.now) lane) q → option_map sending_of result ≡ to_send q window }
-        ensures queue { (q : Queue) → window ≤ Limits.WINDOW → Keeps self.old (lane_at (L.lists lanes.now) lane) q → Keeps self.new (lane_at (L.lists lanes.now) lane) (sent_one q window) }
+        ensures queue_sending { (w : ℕ) (q : Queue) → Keeps w self.old (lane_at (L.lists lanes.now) lane) q → option_map sending_of result ≡ to_send q window }
+        ensures queue { (q : Queue) → Keeps window self.old (lane_at (L.lists lanes.now) lane) q → Keeps window self.new (lane_at (L.lists lanes.now) lane) (sent_one q window) }
     {
         let message = self.unsent(lanes, lane, window)?;
         let number = self.next;
@@ -197,7 +197,7 @@ impl Sequence {
     /// Forgets what was sent: the next message that goes out has the number 0. What was received stays.
     pub fn empty(&mut self)
         ensures counts { self.new ≡ kept_emptied self.old }
-        ensures queue { (lane : List Message) (q : Queue) → Keeps self.old lane q → Keeps self.new [] (emptied q) }
+        ensures queue { (w : ℕ) (lane : List Message) (q : Queue) → Keeps w self.old lane q → Keeps w self.new [] (emptied q) }
     {
         self.oldest = Number24::zero();
         self.next = Number24::zero();
@@ -207,7 +207,7 @@ impl Sequence {
     /// The number of the last message that was sent; before any was sent, the one before the first.
     pub fn last_sent(&self) -> Number24
         ensures number { result ≡ kept_last_sent self.now }
-        ensures queue { (lane : List Message) (q : Queue) → Keeps self.now lane q → result ≡ last_sent q }
+        ensures queue { (w : ℕ) (lane : List Message) (q : Queue) → Keeps w self.now lane q → result ≡ last_sent q }
     {
         self.next.previous()
     }
@@ -215,7 +215,7 @@ impl Sequence {
     /// The number of the last message that was accepted; before any was accepted, the one before 0.
     pub fn last_accepted(&self) -> Number24
         ensures number { result ≡ kept_last_accepted self.now }
-        ensures queue { (lane : List Message) (q : Queue) → Keeps self.now lane q → result ≡ last_accepted q }
+        ensures queue { (w : ℕ) (lane : List Message) (q : Queue) → Keeps w self.now lane q → result ≡ last_accepted q }
     {
         self.expected.previous()
     }
