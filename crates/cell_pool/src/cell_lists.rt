@@ -1,13 +1,14 @@
 //! Numbered lists of messages, each message in a cell of one row.
 
-ghost use Rattle.std.specs.Prelude.{◌≡◌, ℕ, ◌^◌, ◌<◌, List, [], length, replicate, sum_by, slice_get, IfOk};
+ghost use Rattle.std.specs.Prelude.{◌≡◌, ℕ, ◌^◌, ◌<◌, ◌≤◌, List, [], length, replicate, sum_by, slice_get, IfOk};
 ghost use Rattle.std.specs.Option.{option_copied};
+ghost use Rattle.stp_types.specs.Lent.{lent};
 ghost use Rattle.cell_pool.specs.Lanes.{lane_at, pushed, dropped};
 
 use crate::cell_rings::CellRings;
 use std::alloc::{AllocError, Global};
 use std::marker::Model;
-use stp_types::Msu;
+use stp_types::{Limits, Msu, MsuRef};
 
 /// Numbered lists of messages in a row of cells. A message is copied into its cell once, and stays
 /// there; the lists are rings of cell numbers.
@@ -69,13 +70,14 @@ impl CellLists {
     }
 
     /// Copies a message into a free cell, at the end of a list.
-    pub(crate) fn push_back(&mut self, list: usize, message: &Msu)
+    pub(crate) fn push_back(&mut self, list: usize, message: MsuRef<'_>)
         requires list { list < length self.old.lists }
         requires room { sum_by length self.old.lists < self.old.cells }
-        ensures { self.new ≡ record self.old { lists = pushed self.old.lists list message.now } }
+        requires fits { length message.sif.now ≤ Limits.SIF_OCTETS }
+        ensures { self.new ≡ record self.old { lists = pushed self.old.lists list (lent message.entry) } }
     {
         let number = self.numbers.claim(list);
-        self.cells[number.index()] = *message;
+        self.cells[number.index()].refill(message);
     }
 
     /// Drops the first message of a list, where there is one.

@@ -1,11 +1,13 @@
 //! What every store of messages does.
 
-ghost use Rattle.std.specs.Prelude.{◌≡◌, ℕ, ◌<◌, List, None, Some, length, IfErr, OnOk, is_ok, slice_get, if◌then◌else◌};
+ghost use Rattle.std.specs.Prelude.{◌≡◌, ℕ, ◌<◌, ◌≤◌, List, None, Some, length, IfErr, OnOk, is_ok, slice_get, if◌then◌else◌};
 ghost use Rattle.std.specs.Option.{option_copied};
 ghost use Rattle.stp_types.specs.Message.{Message};
+ghost use Rattle.stp_types.specs.Lent.{lent};
+ghost use Rattle.stp_types.specs.declared.limits.TheConstants.Limits;
 ghost use Rattle.cell_pool.specs.Lanes.{lane_at, push_refusal, pushed, dropped};
 
-use stp_types::{Cause, Msu};
+use stp_types::{Cause, Msu, MsuRef};
 
 /// Numbered lists of messages. All lists together keep at most a stated number of user messages, and
 /// at most 256 management messages.
@@ -22,15 +24,16 @@ pub trait Lanes {
 
     /// Why this message would be refused now: PoolFull for a user message, ManagementFull for a
     /// management message, exactly where as many of its kind stand as may.
-    fn refusal(&self, message: &Msu) -> Option<Cause>
-        ensures { result ≡ push_refusal (pool self.now) (lists self.now) message.now };
+    fn refusal(&self, message: MsuRef<'_>) -> Option<Cause>
+        ensures { result ≡ push_refusal (pool self.now) (lists self.now) (lent message.entry) };
 
-    /// Puts a message at the end of a list. Refused as `refusal` says, and then nothing changes.
-    fn push_back(&mut self, lane: usize, message: &Msu) -> Result<(), Cause>
-        requires { lane < length (lists self.old) }
-        ensures refused { IfErr result (λ cause. push_refusal (pool self.old) (lists self.old) message.now ≡ Some cause) }
-        ensures taken { OnOk result (push_refusal (pool self.old) (lists self.old) message.now ≡ None) }
-        ensures lists { lists self.new ≡ (if is_ok result then pushed (lists self.old) lane message.now else lists self.old) }
+    /// Puts a copy of a message at the end of a list. Refused as `refusal` says, and then nothing changes.
+    fn push_back(&mut self, lane: usize, message: MsuRef<'_>) -> Result<(), Cause>
+        requires lane { lane < length (lists self.old) }
+        requires fits { length message.sif.now ≤ Limits.SIF_OCTETS }
+        ensures refused { IfErr result (λ cause. push_refusal (pool self.old) (lists self.old) (lent message.entry) ≡ Some cause) }
+        ensures taken { OnOk result (push_refusal (pool self.old) (lists self.old) (lent message.entry) ≡ None) }
+        ensures lists { lists self.new ≡ (if is_ok result then pushed (lists self.old) lane (lent message.entry) else lists self.old) }
         ensures pool { pool self.new ≡ pool self.old };
 
     /// Takes the first message of a list, where there is one.

@@ -7,7 +7,7 @@ use crate::cell_lists::CellLists;
 use crate::lanes::Lanes;
 use std::alloc::{AllocError, Global};
 use std::marker::Model;
-use stp_types::{Cause, Limits, Msu};
+use stp_types::{Cause, Limits, Msu, MsuRef};
 
 /// Numbered lists of messages over one row of cells, which has a cell for each user message of the
 /// pool and for each of 256 management messages. A message is copied into its cell once and stays
@@ -80,7 +80,7 @@ impl Lanes for RingLanes {
         self.lists.lists()
     }
 
-    fn refusal(&self, message: &Msu) -> Option<Cause> {
+    fn refusal(&self, message: MsuRef<'_>) -> Option<Cause> {
         if message.is_management() {
             (self.managements >= Limits::MANAGEMENT_MESSAGES).then_some(Cause::ManagementFull)
         } else {
@@ -88,7 +88,7 @@ impl Lanes for RingLanes {
         }
     }
 
-    fn push_back(&mut self, lane: usize, message: &Msu) -> Result<(), Cause> {
+    fn push_back(&mut self, lane: usize, message: MsuRef<'_>) -> Result<(), Cause> {
         if let Some(cause) = self.refusal(message) {
             return Err(cause);
         }

@@ -132,8 +132,8 @@ fn change<L: Lanes>(
     if draw < busy {
         let sio = if rule.below(4) == 0 { ISUP } else { MANAGEMENT };
         let message = Msu::new(sio, &rule.below(1 << 24).to_le_bytes())?;
-        let cause = lanes.refusal(&message);
-        let answer = lanes.push_back(lane, &message);
+        let cause = lanes.refusal(message.lend());
+        let answer = lanes.push_back(lane, message.lend());
         assert_eq!(rt; answer.err(), cause);
         assert_eq!(rt; answer, plain.push(lane, message)?);
         return Ok(cause);
@@ -175,11 +175,11 @@ fn ten_thousand_changes_are_those_of_plain_lists(rt: HostRuntime) -> Result<(), 
 fn fill<L: Lanes>(rt: &impl Abort, lanes: &mut L, message: &Msu, limit: usize, cause: Cause) {
     for _ in 0..limit {
         assert!(rt; 0 < lanes.lanes());
-        assert_eq!(rt; lanes.push_back(0, message), Ok(()));
+        assert_eq!(rt; lanes.push_back(0, message.lend()), Ok(()));
     }
     assert!(rt; 0 < lanes.lanes());
-    assert_eq!(rt; lanes.refusal(message), Some(cause));
-    assert_eq!(rt; lanes.push_back(0, message), Err(cause));
+    assert_eq!(rt; lanes.refusal(message.lend()), Some(cause));
+    assert_eq!(rt; lanes.push_back(0, message.lend()), Err(cause));
 }
 
 #[test]

@@ -1,7 +1,6 @@
-pub mod Keeping
 pub mod Lists
+pub mod Keeping
 pub mod KeptQueues
-pub mod Sound
 pub mod Standing
 pub mod Calls
-pub mod Refusing
+pub mod Leaving

@@ -1,11 +1,10 @@
 -- The two kinds of queues: whole, as the definitions have them, and kept, as the code keeps them.
-use Rattle.std.specs.Prelude.{ℕ, Bool, Result, Ok, Err, List, [], map, sum_by, slice_index_or, slice_set}
+use Rattle.std.specs.Prelude.{ℕ, List, [], sum_by, slice_index_or, slice_set}
 use Rattle.stp_types.specs.Message.{Message}
 use Rattle.cell_pool.specs.Lanes.{lane_at, pushed, dropped, users, managements, users_in, managements_in}
 use Rattle.link_sequence.specs.Queue as queue
 use Rattle.link_sequence.specs.Queue.{Queue, first_queue, count_confirmed}
-use Rattle.link_sequence.specs.Counts.{Counts, counts_of, unconfirmed, kept_first, kept_accept_answer, kept_accepted, kept_to_send, kept_sent_one, kept_emptied, kept_last_sent, kept_last_accepted}
-use Rattle.link_sequence.specs.declared.fault.SeqFault.{SeqFault}
+use Rattle.link_sequence.specs.Counts.{Counts, unconfirmed, kept_first, kept_accept_answer, kept_accepted, kept_to_send, kept_sent_one, kept_emptied, kept_last_sent, kept_last_accepted}
 use Rattle.exchange.specs.State.{QueueKind}
 
 abbrev pub queue_at : List Queue → ℕ → Queue

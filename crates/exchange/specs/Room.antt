@@ -1,6 +1,6 @@
 -- How an exchange lies in its parts, and the room that they have.
 use Rattle.stp_types.specs.declared.limits.TheConstants.Limits.{NOTICES}
-use Rattle.std.specs.Prelude.{◌≡◌, ℕ, ◌≤◌, length, vec_len}
+use Rattle.std.specs.Prelude.{◌≡◌, length, vec_len}
 use Rattle.exchange.specs.State.{State}
 use Rattle.exchange.specs.Queues.{KeptQueues}
 use Rattle.exchange.specs.declared.exchange.Exchange.TheInside.{Inside}
@@ -8,9 +8,10 @@ use Rattle.exchange.specs.declared.exchange.Exchange.TheInside.{Inside}
 abbrev pub kept_in : Inside → State KeptQueues
 kept_in e = record {
   settings = e.settings;
-  queues = record { lanes = e.lanes.lists; counts = e.sequences.items };
-  links = e.links.items;
-  notices = e.notices.items;
+  node = record {
+    queues = record { lanes = e.lanes.lists; counts = e.sequences.items };
+    parts = record { links = e.links.items; notices = e.notices.items };
+  };
 }
 
 -- each link has its list, its numbers and its state; the pool and the notices have the room that they are to have

@@ -1,28 +1,27 @@
 -- Whole lists of calls: what is answered to each, and the state that they leave.
-use Rattle.std.specs.Prelude.{ℕ, List, [], ◌∷◌, Option}
+use Rattle.std.specs.Prelude.{List, [], ◌∷◌}
 use Rattle.std.specs.Option.{option_map}
 use Rattle.m2pa_codec.specs.Frames.{spelled}
-use Rattle.exchange.specs.declared.event.Call.{Call}
-use Rattle.exchange.specs.declared.event.Call.TheVariants.{Step, Take}
 use Rattle.exchange.specs.declared.event.Answer.{Answer}
 use Rattle.exchange.specs.declared.event.Answer.TheVariants.{Stepped, Taken}
 use Rattle.exchange.specs.State.{State, QueueKind}
-use Rattle.exchange.specs.Rules.{outcome_of, after, frame_to_take, taken}
+use Rattle.exchange.specs.Happening.{Asking, Happens, Takes}
+use Rattle.exchange.specs.Exchange.{outcome_of, after, frame_to_take, taken}
 
 -- the answer to one call, and the state after it
-abbrev pub answer_to_call : {Q : Type 0} → QueueKind Q → Call → State Q → Answer
-answer_to_call q (Step event) s = Stepped (outcome_of q event s)
-answer_to_call q (Take link) s = Taken (option_map spelled (frame_to_take q s link))
+abbrev pub answer_to_call : {Q : Type 0} → QueueKind Q → Asking → State Q → Answer
+answer_to_call q (Happens what) s = Stepped (outcome_of q what s)
+answer_to_call q (Takes link) s = Taken (option_map spelled (frame_to_take q s link))
 
-abbrev pub after_call : {Q : Type 0} → QueueKind Q → Call → State Q → State Q
-after_call q (Step event) s = after q event s
-after_call q (Take link) s = taken q s link
+abbrev pub after_call : {Q : Type 0} → QueueKind Q → Asking → State Q → State Q
+after_call q (Happens what) s = after q what s
+after_call q (Takes link) s = taken q s link
 
 -- the answers to calls in a row, and the state after all of them
-abbrev pub answers_to : {Q : Type 0} → QueueKind Q → List Call → State Q → List Answer
+abbrev pub answers_to : {Q : Type 0} → QueueKind Q → List Asking → State Q → List Answer
 answers_to q [] s = []
 answers_to q (call ∷ calls) s = answer_to_call q call s ∷ answers_to q calls (after_call q call s)
 
-abbrev pub after_calls : {Q : Type 0} → QueueKind Q → List Call → State Q → State Q
+abbrev pub after_calls : {Q : Type 0} → QueueKind Q → List Asking → State Q → State Q
 after_calls q [] s = s
 after_calls q (call ∷ calls) s = after_calls q calls (after_call q call s)

@@ -1,20 +1,34 @@
 -- The state of an exchange, with queues of any kind.
-use Rattle.std.specs.Prelude.{ℕ, Bool, true, false, List, Option, Result, nat_lt, length, ◌&&◌, slice_index_or}
+use Rattle.std.specs.Prelude.{ℕ, Bool, List, Option, Result}
 use Rattle.stp_types.specs.Message.{Message}
 use Rattle.stp_types.specs.Configuration.{Configuration}
+use Rattle.stp_types.specs.declared.cause.Cause.{Cause}
 use Rattle.stp_types.specs.declared.notice.Notice.{Notice}
+use Rattle.stp_types.specs.declared.outcome.Outcome.{Outcome}
+use Rattle.stp_types.specs.declared.outcome.Outcome.TheVariants.{Refused}
 use Rattle.link_sequence.specs.Queue.{Sending}
 use Rattle.link_sequence.specs.declared.fault.SeqFault.{SeqFault}
 use Rattle.exchange.specs.declared.link_state.LinkState.{LinkState}
-use Rattle.exchange.specs.declared.link_state.Phase.{Phase}
-use Rattle.exchange.specs.declared.link_state.Phase.TheVariants.{Down, InService}
 
--- Q is the queues of all links together.
-pub record State (Q : Type 0) : Type 0 where
-  pub settings : Configuration
-  pub queues : Q
+-- All that isn't a queue.
+pub record Parts : Type 0 where
   pub links : List LinkState
   pub notices : List Notice
+
+-- What changes as a node runs. Q is the queues of all links together.
+pub record Node (Q : Type 0) : Type 0 where
+  pub queues : Q
+  pub parts : Parts
+
+-- A node beside the settings that it was booted with.
+pub record State (Q : Type 0) : Type 0 where
+  pub settings : Configuration
+  pub node : Node Q
+
+-- What became of an event, and the node that it left.
+pub record Done (Q : Type 0) : Type 0 where
+  pub outcome : Outcome
+  pub left : Node Q
 
 -- What the rules ask of queues and do with them, each at one link.
 pub record QueueKind (Q : Type 0) : Type 0 where
@@ -31,20 +45,22 @@ pub record QueueKind (Q : Type 0) : Type 0 where
   pub users : Q → ℕ
   pub managements : Q → ℕ
 
--- a link that has never been up
-abbrev pub down_link : LinkState
-down_link = record { phase = Down; association = false; acknowledgement_owed = false }
+-- the same settings with another node
+abbrev pub with_node : {Q : Type 0} → State Q → Node Q → State Q
+with_node s node = record s { node = node }
 
-abbrev pub link_at : {Q : Type 0} → State Q → ℕ → LinkState
-link_at s link = slice_index_or s.links link down_link
+-- the same queues with other parts
+abbrev pub with_parts : {Q : Type 0} → Node Q → Parts → Node Q
+with_parts node parts = record node { parts = parts }
 
-abbrev pub is_link : {Q : Type 0} → State Q → ℕ → Bool
-is_link s link = nat_lt link (length s.links)
+-- another kind of queues beside the same parts
+abbrev pub keep : {P Q : Type 0} → (P → Q) → Node P → Node Q
+keep h node = record { queues = h node.queues; parts = node.parts }
 
-abbrev pub is_up : Phase → Bool
-is_up Down = false
-is_up InService = true
+-- an answer that leaves this node
+abbrev pub answer : {Q : Type 0} → Outcome → Node Q → Done Q
+answer outcome node = record { outcome = outcome; left = node }
 
--- whether a link carries messages; a link that isn't there carries none
-abbrev pub in_service : {Q : Type 0} → State Q → ℕ → Bool
-in_service s link = is_up (link_at s link).phase
+-- a refusal that leaves this node
+abbrev pub refuse : {Q : Type 0} → Cause → Node Q → Done Q
+refuse cause node = answer (Refused cause) node

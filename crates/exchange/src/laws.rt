@@ -1,17 +1,19 @@
 //! Laws of the abstract exchange.
 
-ghost use Rattle.std.specs.Prelude.{◌≡◌};
-ghost use Rattle.stp_types.specs.declared.cause.Cause.{Cause};
-ghost use Rattle.exchange.specs.declared.event.Event.{Event};
-ghost use Rattle.exchange.specs.Queues.{whole};
-ghost use Rattle.exchange.specs.Rules.{outcome_of, after};
-ghost use Rattle.exchange.specs.Stands.{Abstract};
-ghost use Rattle.exchange.specs.Refusals.{KeepsRefused};
+ghost use Rattle.exchange.specs.Laws.{refusals_leave, nothing_taken_leaves, queued_in_service};
 
-use stp_types::Outcome;
-
-/// A refused event changes nothing but the notices; only where a frame was accepted and its message
-/// is refused, what the frame did stands.
+/// A refused event changes nothing but the notices; only where a message in a frame is refused, what
+/// accepting that frame did stands.
 pub fn refusals_change_nothing()
-    ensures { (event : Event) (a : Abstract) (cause : Cause) → outcome_of whole event a ≡ Outcome.Refused cause → KeepsRefused event cause a (after whole event a) }
+    ensures { refusals_leave }
+{}
+
+/// A take that gives nothing changes nothing.
+pub fn taking_nothing_changes_nothing()
+    ensures { nothing_taken_leaves }
+{}
+
+/// A message is queued only on a link in service.
+pub fn only_links_in_service_are_given_messages()
+    ensures { queued_in_service }
 {}

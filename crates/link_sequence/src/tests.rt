@@ -18,7 +18,7 @@ fn fill<L: Lanes>(rt: &impl Abort, lanes: &mut L, count: u8) -> Result<(), Fail>
     for octet in 1..=count {
         let message = Msu::new(0x85, &[0x01, 0x80, 0x00, 0x50, octet])?;
         assert!(rt; 0 < lanes.lanes());
-        assert_eq!(rt; lanes.push_back(0, &message), Ok(()));
+        assert_eq!(rt; lanes.push_back(0, message.lend()), Ok(()));
     }
     Ok(())
 }

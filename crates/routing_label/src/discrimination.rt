@@ -1,10 +1,11 @@
 //! Whether a message is for this point or another.
 
 ghost use Rattle.std.specs.Prelude.{◌≡◌};
+ghost use Rattle.stp_types.specs.Lent.{lent};
 ghost use Rattle.routing_label.specs.Discrimination.{discrimination};
 
 use crate::label::Label;
-use stp_types::{Cause, Msu, PointCode};
+use stp_types::{Cause, MsuRef, PointCode};
 
 /// Where a message goes (Q.704 §2.3).
 #[derive(Clone, Copy, Debug, PartialEq, Eq)]
@@ -21,13 +22,13 @@ pub enum Discrimination {
 ///
 /// Refused NoLabel where its signalling information field has fewer than four octets; else WrongNetwork where
 /// its network indicator is another. Else its destination point code decides.
-pub fn discriminate(message: &Msu, own: PointCode, network: u8) -> Discrimination
-    ensures { result ≡ discrimination message.now own network }
+pub fn discriminate(message: MsuRef<'_>, own: PointCode, network: u8) -> Discrimination
+    ensures { result ≡ discrimination (lent message.entry) own network }
 {
-    let Some(label) = Label::of(message) else {
+    let Some(label) = Label::read(message.sif) else {
         return Discrimination::Refused(Cause::NoLabel);
     };
-    if message.sio() >> 6 != network {
+    if message.sio >> 6 != network {
         return Discrimination::Refused(Cause::WrongNetwork);
     }
     if label.dpc == own {

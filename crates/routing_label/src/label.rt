@@ -5,7 +5,7 @@ ghost use Rattle.stp_types.specs.Message.{label_number};
 ghost use Rattle.routing_label.specs.Label.{IsLabel, label_in, label_octets, number_of_label};
 ghost use Rattle.routing_label.specs.declared.label.Label.{Label};
 
-use stp_types::{Msu, PointCode, Sls};
+use stp_types::{PointCode, Sls};
 
 /// The first four octets of a message's signalling information field (Q.704 §2.2).
 #[derive(Clone, Copy, Debug, PartialEq, Eq, Hash)]
@@ -32,13 +32,6 @@ impl Label {
             opc: PointCode::new((number >> 14 & 0x3fff) as u16)?,
             sls: Sls::new((number >> 28) as u8)?,
         })
-    }
-
-    /// The label of a message. None where its signalling information field has fewer than four octets.
-    pub fn of(message: &Msu) -> Option<Label>
-        ensures { result ≡ label_in message.now.sif }
-    {
-        Label::read(message.sif())
     }
 
     /// The label's four octets, low octet first.

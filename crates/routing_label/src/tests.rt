@@ -29,6 +29,6 @@ fn checks_come_before_the_destination(rt: HostRuntime) {
         ),
     ] {
         let message = Msu::new(sio, sif).expect(&rt, "at most 272 octets");
-        assert!(rt; discriminate(&message, here, 2) == want, "at {sio}");
+        assert!(rt; discriminate(message.lend(), here, 2) == want, "at {sio}");
     }
 }

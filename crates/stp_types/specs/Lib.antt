@@ -8,6 +8,7 @@ pub mod Faults
 pub mod Accepted
 pub mod Kept
 pub mod Message
+pub mod Lent
 pub mod Room
 pub mod Causes
 pub mod InPlace

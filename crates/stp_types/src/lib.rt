@@ -10,6 +10,7 @@ pub mod draft;
 pub mod fault;
 pub mod limits;
 pub mod message;
+pub mod msu_ref;
 pub mod notice;
 pub mod outcome;
 pub mod point;
@@ -23,6 +24,7 @@ pub use draft::{DestinationDraft, Draft, LinkDraft, SetDraft, TimersDraft, Title
 pub use fault::{DraftFault, FaultKind, Key, TimerKey};
 pub use limits::Limits;
 pub use message::Msu;
+pub use msu_ref::MsuRef;
 pub use notice::{ChangeoverTimer, FailureReason, FrameFault, LateTimer, Notice};
 pub use outcome::Outcome;
 pub use point::{Flow, LinkId, PointCode, SetId, Sls};

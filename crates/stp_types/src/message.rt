@@ -2,9 +2,11 @@
 
 ghost use Rattle.std.specs.Prelude.{◌≡◌, ◌-◌, ◌<◌, ◌≤◌, ◌++◌, ◌↔◌, length, replicate, IsErr, IfOk, IfErr};
 ghost use Rattle.stp_types.specs.Message.{Message, is_management};
+ghost use Rattle.stp_types.specs.Lent.{lent};
 
 use crate::cause::Cause;
 use crate::limits::Limits;
+use crate::msu_ref::MsuRef;
 use std::marker::Model;
 
 /// A message signal unit: a service information octet, and a signalling information field of at
@@ -65,6 +67,29 @@ impl Msu {
         ensures fits { length self.now.sif ≤ Limits.SIF_OCTETS }
     {
         &self.octets[..self.len as usize]
+    }
+
+    /// The message, lent.
+    pub fn lend(&self) -> MsuRef<'_>
+        ensures message { lent result ≡ self.now }
+        ensures fits { length self.now.sif ≤ Limits.SIF_OCTETS }
+    {
+        MsuRef {
+            sio: self.sio,
+            sif: self.sif(),
+        }
+    }
+
+    /// Becomes a copy of a lent message, in place.
+    pub fn refill(&mut self, message: MsuRef<'_>)
+        requires { length message.sif.now ≤ Limits.SIF_OCTETS }
+        ensures { self.new ≡ lent message.entry }
+    {
+        let (front, rest) = self.octets.split_at_mut(message.sif.len());
+        front.copy_from_slice(message.sif);
+        rest.fill(0);
+        self.len = message.sif.len() as u16;
+        self.sio = message.sio;
     }
 
     /// Whether it is a management or a test message; any other is a user message (Q.704 §14.2.1).

@@ -1,7 +1,6 @@
 -- The parts are those of the first state.
 use Rattle.std.proofs.Common.{ap}
 use Rattle.cell_pool.specs.Stored.{Stored}
-use Rattle.circular_buffer.specs.Buffer.{Buffer}
 use Rattle.exchange.proofs.Standing.{first-kept, stands-first}
 use Rattle.exchange.proofs.exchange.Exchange.boot.Goals as goal
 

@@ -6,4 +6,4 @@ pub returns-clause-frame : goal.returns-clause-frame
 returns-clause-frame c = λ a s. rw (← stands-frame c.args.link _ a s) c.send.ensures.frame
 
 pub returns-clause-state : goal.returns-clause-state
-returns-clause-state c = λ a s. stands-taken c.args.link _ _ a c.send.ensures.state s
+returns-clause-state c = λ a s. rw c.send.ensures.state (stands-taken c.args.link _ a s)

@@ -1,6 +1,6 @@
-use Rattle.std.proofs.Common.{◌≡◌, replicate, vec_len}
+use Rattle.std.proofs.Common.{◌≡◌, replicate}
 use Rattle.link_sequence.specs.Counts.{kept_first}
-use Rattle.exchange.proofs.exchange.first_sequences.Given as goal
+use Rattle.exchange.proofs.exchange.boot.first_sequences.Given as goal
 
 -- as many as the loop has gone round
 abbrev pub invariant-loop-index : goal.invariant-loop-index

@@ -1,0 +1,195 @@
+-- A refused event leaves what it is to leave, and a message is queued on a link in service.
+use Rattle.std.proofs.Common.{◌≡◌, ℕ, Bool, true, false, List, Option, Some, None, Result, Ok, Err, refl, ap, subst, ◌∙◌}
+use Rattle.std.specs.Prelude.{if◌then◌else◌, nat_eq, unwrap_or}
+use Rattle.stp_types.specs.Message.{Message, dpc_of, flow_of, is_management, service_indicator}
+use Rattle.stp_types.specs.Configuration.{Configuration}
+use Rattle.stp_types.specs.declared.cause.Cause.{Cause}
+use Rattle.stp_types.specs.declared.cause.Cause.TheVariants as causes
+use Rattle.stp_types.specs.declared.outcome.Outcome.{Outcome}
+use Rattle.stp_types.specs.declared.outcome.Outcome.TheVariants.{Queued, Held, Local, Handled, Ignored, Refused}
+use Rattle.stp_types.specs.declared.notice.Notice.TheVariants as notices
+use Rattle.stp_types.specs.declared.notice.FrameFault.{FrameFault}
+use Rattle.stp_types.specs.declared.notice.FrameFault.TheVariants as faults
+use Rattle.m2pa_codec.specs.Frames.{FrameValue, EmptyFrame, MessageFrame}
+use Rattle.m2pa_codec.specs.Reading.{read_frame}
+use Rattle.routing_label.specs.declared.discrimination.Discrimination.{Discrimination}
+use Rattle.routing_label.specs.declared.discrimination.Discrimination.TheVariants as whither
+use Rattle.link_sequence.specs.Queue.{Queue}
+use Rattle.link_sequence.specs.declared.fault.SeqFault.{SeqFault}
+use Rattle.exchange.specs.State.{Parts, Node, Done, with_node, with_parts, answer, refuse}
+use Rattle.exchange.specs.LinkState.{is_link, link_at, down, in_service}
+use Rattle.exchange.specs.Noting.{note, note_outcome, note_refusal}
+use Rattle.exchange.specs.Local.{local, manage}
+use Rattle.exchange.specs.Messages.{whither_goes, is_destination, link_of, no_room, offer, transfer, hand_over, deliver_to, submit_to}
+use Rattle.exchange.specs.Opening.{open_link, associate}
+use Rattle.exchange.specs.Frames.{numbers, accept, carry, take_in, leave_aside, read}
+use Rattle.exchange.specs.Happening.{CameUp, FrameCame, Submitted}
+use Rattle.exchange.specs.Queues.{whole}
+use Rattle.exchange.specs.Laws.{accept_text, refusals_leave, queued_in_service}
+use Rattle.exchange.specs.Stands.{Abstract}
+
+-- where a rule refuses, it leaves this node; where it queues a message, it does so on a link in service
+record Leaves (d : Done (List Queue)) (n : Node (List Queue)) : Type 0 where
+  pub left : (cause : Cause) → d.outcome ≡ Refused cause → d.left ≡ n
+  pub served : (l : ℕ) → d.outcome ≡ Queued l → in_service d.left.parts l ≡ true
+
+-- the link that an outcome names
+abbrev queued_on : Outcome → Option ℕ
+queued_on (Queued l) = Some l
+queued_on Held = None
+queued_on Local = None
+queued_on Handled = None
+queued_on Ignored = None
+queued_on (Refused cause) = None
+
+-- ---- answers
+
+refused : (cause : Cause) (n : Node (List Queue)) → Leaves (refuse cause n) n
+refused cause n = record { left = λ other e. refl; served = λ l e. cc }
+
+stayed : (n m : Node (List Queue)) → Leaves (answer Local m) n
+stayed n m = record { left = λ cause e. cc; served = λ l e. cc }
+
+handled : (n m : Node (List Queue)) → Leaves (answer Handled m) n
+handled n m = record { left = λ cause e. cc; served = λ l e. cc }
+
+ignored : (n m : Node (List Queue)) → Leaves (answer Ignored m) n
+ignored n m = record { left = λ cause e. cc; served = λ l e. cc }
+
+either : (b : Bool) (d e : Done (List Queue)) (n : Node (List Queue)) → Leaves d n → Leaves e n → Leaves (if b then d else e) n
+either true d e n f g = f
+either false d e n f g = g
+
+-- ---- messages
+
+chosen_serves : (p : Parts) (t : Bool) (l : ℕ) → in_service p 0 ≡ t → (if t then Some 0 else None) ≡ Some l → in_service p l ≡ true
+chosen_serves p true l s e = subst (λ k. in_service p k ≡ true) (ap (λ (o : Option ℕ). unwrap_or o 0) e) s
+chosen_serves p false l s e = cc
+
+module _ (c : Configuration) where
+  local-leaves : (m : Message) (n : Node (List Queue)) → Leaves (local m n) n
+  local-leaves m n = either (nat_eq (service_indicator m) 3) (refuse causes.NotInProfile n) (answer Local n) n (refused _ n) (stayed n n)
+
+  offer-leaves : (room : Option Cause) (link : Option ℕ) (m : Message) (n : Node (List Queue)) → ((l : ℕ) → link ≡ Some l → in_service n.parts l ≡ true)
+      → Leaves (offer whole c room link m n) n
+  offer-leaves (Some cause) link m n f = refused cause n
+  offer-leaves None None m n f = refused _ n
+  offer-leaves None (Some link) m n f = record { left = λ cause e. cc; served = λ l e. f l (ap queued_on e) }
+
+  transfer-leaves : (m : Message) (n : Node (List Queue)) → Leaves (transfer whole c m n) n
+  transfer-leaves m n =
+      either (is_destination c (dpc_of m)) (offer whole c (no_room whole c m n.queues) (link_of n.parts (flow_of m)) m n) (refuse causes.UnknownDestination n) n
+      (offer-leaves (no_room whole c m n.queues) (link_of n.parts (flow_of m)) m n (λ l e. chosen_serves n.parts (in_service n.parts 0) l refl e)) (refused _ n)
+
+  hand_over-leaves : (link : ℕ) (m : Message) (n : Node (List Queue)) → Leaves (hand_over whole c link m n) n
+  hand_over-leaves link m n = either (is_management m) (manage link m n) (local m n) n (refused _ n) (local-leaves m n)
+
+  deliver_to-leaves : (d : Discrimination) (link : ℕ) (m : Message) (n : Node (List Queue)) → Leaves (deliver_to whole c d link m n) n
+  deliver_to-leaves (whither.Refused cause) link m n = refused cause n
+  deliver_to-leaves whither.Here link m n = hand_over-leaves link m n
+  deliver_to-leaves whither.Transfer link m n = transfer-leaves m n
+
+  submit_to-leaves : (d : Discrimination) (m : Message) (n : Node (List Queue)) → Leaves (submit_to whole c d m n) n
+  submit_to-leaves (whither.Refused cause) m n = refused cause n
+  submit_to-leaves whither.Here m n = either (is_management m) (refuse causes.NotInProfile n) (local m n) n (refused _ n) (local-leaves m n)
+  submit_to-leaves whither.Transfer m n =
+      either (is_management m) (refuse causes.NotInProfile n) (transfer whole c m n) n (refused _ n) (transfer-leaves m n)
+
+  -- ---- a refusal in a frame is noted
+
+  noted : (d : Done (List Queue)) (n : Node (List Queue)) (link : ℕ) (cause : Cause) → d.outcome ≡ Refused cause → d.left ≡ n
+      → (note_refusal link d).left ≡ with_parts n (note (notices.Refused cause link) n.parts)
+  noted d n link cause e l =
+      ap (λ (o : Outcome). with_parts d.left (note_outcome link o d.left.parts)) e
+      ∙ ap (λ (m : Node (List Queue)). with_parts m (note (notices.Refused cause link) m.parts)) l
+
+  noted-serves : (link : ℕ) (o : Outcome) (p : Parts) (l : ℕ) → in_service (note_outcome link o p) l ≡ in_service p l
+  noted-serves link (Queued other) p l = refl
+  noted-serves link Held p l = refl
+  noted-serves link Local p l = refl
+  noted-serves link Handled p l = refl
+  noted-serves link Ignored p l = refl
+  noted-serves link (Refused cause) p l = refl
+
+  -- where a frame's message is refused, this is left
+  record Notes (d : Done (List Queue)) (n : Node (List Queue)) (link : ℕ) : Type 0 where
+    pub left : (cause : Cause) → d.outcome ≡ Refused cause → d.left ≡ with_parts n (note (notices.Refused cause link) n.parts)
+    pub served : (l : ℕ) → d.outcome ≡ Queued l → in_service d.left.parts l ≡ true
+
+  notes : (d : Done (List Queue)) (n : Node (List Queue)) (link : ℕ) → Leaves d n → Notes (note_refusal link d) n link
+  notes d n link f = record {
+    left = λ cause e. noted d n link cause e (f.left cause e);
+    served = λ l e. noted-serves link d.outcome d.left.parts l ∙ f.served l e;
+  }
+
+  handled_frame : (m n : Node (List Queue)) (link : ℕ) → Notes (answer Handled m) n link
+  handled_frame m n link = record { left = λ cause e. cc; served = λ l e. cc }
+
+  ignored_frame : (m n : Node (List Queue)) (link : ℕ) → Notes (answer Ignored m) n link
+  ignored_frame m n link = record { left = λ cause e. cc; served = λ l e. cc }
+
+  carry-notes : (link : ℕ) (frame : FrameValue) (n : Node (List Queue)) → Notes (carry whole c link frame n) n link
+  carry-notes link (EmptyFrame bsn fsn) n = handled_frame n n link
+  carry-notes link (MessageFrame bsn fsn sio sif) n =
+      notes (deliver_to whole c (whither_goes c (record { sio = sio; sif = sif })) link (record { sio = sio; sif = sif }) n) n link
+      (deliver_to-leaves (whither_goes c (record { sio = sio; sif = sif })) link (record { sio = sio; sif = sif }) n)
+
+  take_in-notes : (link : ℕ) (frame : FrameValue) (r : Result ℕ SeqFault) (n : Node (List Queue)) → Notes (take_in whole c link frame r n) (accept whole c link frame n) link
+  take_in-notes link frame (Ok count) n = carry-notes link frame (accept whole c link frame n)
+  take_in-notes link frame (Err fault) n = handled_frame _ _ link
+
+  leave_aside-notes : (link : ℕ) (fault : FrameFault) (n : Node (List Queue)) → Notes (leave_aside whole c link fault n) n link
+  leave_aside-notes link faults.Length n = handled_frame _ n link
+  leave_aside-notes link faults.Short n = ignored_frame _ n link
+  leave_aside-notes link faults.Version n = ignored_frame _ n link
+  leave_aside-notes link faults.Unknown n = ignored_frame _ n link
+
+read-notes : (link : ℕ) (r : Result FrameValue FrameFault) (a : Abstract) → Notes a.settings (read whole a.settings link r a.node) (accept_text link r a) link
+read-notes link (Ok frame) a = take_in-notes a.settings link frame (numbers whole a.settings link frame a.node) a.node
+read-notes link (Err fault) a = leave_aside-notes a.settings link fault a.node
+
+-- ---- a frame for a link that is there, and is up
+
+up_notes : (t : Bool) (link : ℕ) (r : Result FrameValue FrameFault) (a : Abstract)
+    → Notes a.settings (if t then answer Ignored a.node else read whole a.settings link r a.node) (accept_text link r a) link
+up_notes true link r a = ignored_frame a.settings a.node (accept_text link r a) link
+up_notes false link r a = read-notes link r a
+
+received_left : (t : Bool) (d : Done (List Queue)) (n : Node (List Queue)) (link : ℕ) (a : Abstract) (cause : Cause) → Notes a.settings d n link
+    → (if t then d else refuse causes.NoSuchName a.node).outcome ≡ Refused cause
+    → with_node a (if t then d else refuse causes.NoSuchName a.node).left
+    ≡ (if t then with_node a (with_parts n (note (notices.Refused cause link) n.parts)) else a)
+received_left true d n link a cause f e = ap (λ (m : Node (List Queue)). with_node a m) (f.left cause e)
+received_left false d n link a cause f e = refl
+
+received_served : (t : Bool) (d : Done (List Queue)) (n : Node (List Queue)) (link : ℕ) (a : Abstract) (l : ℕ) → Notes a.settings d n link
+    → (if t then d else refuse causes.NoSuchName a.node).outcome ≡ Queued l
+    → in_service (if t then d else refuse causes.NoSuchName a.node).left.parts l ≡ true
+received_served true d n link a l f e = f.served l e
+received_served false d n link a l f e = cc
+
+-- ---- an association
+
+associate-leaves : (link : ℕ) (n : Node (List Queue)) → Leaves (associate whole link n) n
+associate-leaves link n =
+    either (is_link n.parts link) (if (link_at n.parts link).association then refuse causes.LinkNotReady n else answer Handled (open_link whole link n))
+    (refuse causes.NoSuchName n) n
+    (either (link_at n.parts link).association (refuse causes.LinkNotReady n) (answer Handled (open_link whole link n)) n (refused _ n) (handled n _))
+    (refused _ n)
+
+-- ---- the laws
+
+pub refused_leaves : refusals_leave
+refused_leaves (CameUp link) a cause e = ap (λ (m : Node (List Queue)). with_node a m) ((associate-leaves link a.node).left cause e)
+refused_leaves (Submitted message) a cause e =
+    ap (λ (m : Node (List Queue)). with_node a m) ((submit_to-leaves a.settings (whither_goes a.settings message) message a.node).left cause e)
+refused_leaves (FrameCame link text) a cause e =
+    received_left (is_link a.node.parts link) (if down a.node.parts link then answer Ignored a.node else read whole a.settings link (read_frame text) a.node)
+    (accept_text link (read_frame text) a) link a cause (up_notes (down a.node.parts link) link (read_frame text) a) e
+
+pub queued_served : queued_in_service
+queued_served (CameUp link) a l e = (associate-leaves link a.node).served l e
+queued_served (Submitted message) a l e = (submit_to-leaves a.settings (whither_goes a.settings message) message a.node).served l e
+queued_served (FrameCame link text) a l e =
+    received_served (is_link a.node.parts link) (if down a.node.parts link then answer Ignored a.node else read whole a.settings link (read_frame text) a.node)
+    (accept_text link (read_frame text) a) link a l (up_notes (down a.node.parts link) link (read_frame text) a) e

@@ -1,0 +1,45 @@
+-- What the abstract exchange does whatever the event: laws.
+use Rattle.std.specs.Prelude.{◌≡◌, ℕ, true, List, None, Result, Ok, Err, if◌then◌else◌}
+use Rattle.stp_types.specs.declared.cause.Cause.{Cause}
+use Rattle.stp_types.specs.declared.notice.Notice.TheVariants as notices
+use Rattle.stp_types.specs.declared.notice.FrameFault.{FrameFault}
+use Rattle.stp_types.specs.declared.outcome.Outcome.TheVariants.{Queued, Refused}
+use Rattle.m2pa_codec.specs.Frames.{FrameValue}
+use Rattle.m2pa_codec.specs.Reading.{read_frame}
+use Rattle.link_sequence.specs.Queue.{Queue}
+use Rattle.exchange.specs.State.{Node, with_node, with_parts}
+use Rattle.exchange.specs.LinkState.{is_link, in_service}
+use Rattle.exchange.specs.Noting.{note}
+use Rattle.exchange.specs.Frames.{accept}
+use Rattle.exchange.specs.Happening.{Happening, CameUp, FrameCame, Submitted}
+use Rattle.exchange.specs.Queues.{whole}
+use Rattle.exchange.specs.Exchange.{outcome_of, after, frame_to_take, taken}
+use Rattle.exchange.specs.Stands.{Abstract}
+
+-- the node after the frame of this text was accepted; a text that is no frame does nothing
+abbrev pub accept_text : ℕ → Result FrameValue FrameFault → Abstract → Node (List Queue)
+accept_text link (Ok frame) a = accept whole a.settings link frame a.node
+accept_text link (Err fault) a = a.node
+
+-- the state after a refused event: a message in a frame leaves what accepting its frame did, and a notice; any other nothing
+abbrev pub after_refusal : Happening → Cause → Abstract → Abstract
+after_refusal (CameUp link) cause a = a
+after_refusal (Submitted message) cause a = a
+after_refusal (FrameCame link text) cause a =
+    let node : Node (List Queue) = accept_text link (read_frame text) a in
+    if is_link a.node.parts link
+    then with_node a (with_parts node (note (notices.Refused cause link) node.parts))
+    else a
+
+abbrev pub refusals_leave : Type 0
+refusals_leave = (what : Happening) (a : Abstract) (cause : Cause) → outcome_of whole what a ≡ Refused cause →
+    after whole what a ≡ after_refusal what cause a
+
+-- a take that gives nothing changes nothing
+abbrev pub nothing_taken_leaves : Type 0
+nothing_taken_leaves = (a : Abstract) (link : ℕ) → frame_to_take whole a link ≡ None → taken whole a link ≡ a
+
+-- a message is queued on a link in service
+abbrev pub queued_in_service : Type 0
+queued_in_service = (what : Happening) (a : Abstract) (link : ℕ) → outcome_of whole what a ≡ Queued link →
+    in_service (after whole what a).node.parts link ≡ true

@@ -1,0 +1,61 @@
+//! The exchange before its first event.
+
+ghost use Rattle.std.specs.Prelude.{◌≡◌, ◌≤◌, replicate, IfOk};
+ghost use Rattle.link_sequence.specs.Counts.{kept_first};
+ghost use Rattle.exchange.specs.LinkState.{down_link};
+ghost use Rattle.exchange.specs.Stands.{StandsFor, kept_of, first_state};
+
+use super::Exchange;
+use crate::link_state::LinkState;
+use crate::memory::NoMemory;
+use cell_pool::RingLanes;
+use circular_buffer::HeapCircularBuffer;
+use link_sequence::Sequence;
+use std::alloc::{AllocError, Global};
+use stp_types::{Limits, Settings};
+
+impl Exchange {
+    /// An exchange with these settings, whose links are all down.
+    ///
+    /// Takes all the memory that the exchange will ever use; NoMemory comes only where a growth was refused.
+    pub fn boot(alloc: Global, settings: Settings) -> Result<Exchange, NoMemory>
+        // What is kept is that of the first state,
+        ensures exact { IfOk result (λ exchange. exchange ≡ kept_of (first_state settings)) }
+        // so the exchange stands for it.
+        ensures first { IfOk result (λ exchange. StandsFor exchange (first_state settings)) }
+    {
+        let count = settings.link_count();
+        prove!(settings.window() <= Limits::WINDOW);
+        let lanes = RingLanes::new(alloc, count, settings.pool())?;
+        let sequences = first_sequences(alloc, count)?;
+        let links = down_links(alloc, count)?;
+        let notices = HeapCircularBuffer::with_capacity(alloc, Limits::NOTICES)?;
+        Ok(Exchange {
+            settings,
+            lanes,
+            sequences,
+            links,
+            notices,
+        })
+    }
+}
+
+fn first_sequences(alloc: Global, count: usize) -> Result<Vec<Sequence>, AllocError>
+    ensures { IfOk result (λ sequences. sequences.items ≡ replicate count kept_first) }
+{
+    let mut sequences = Vec::with_capacity(alloc, count)?;
+    for index in 0..count {
+        sequences.push(Sequence::start())?;
+    }
+    Ok(sequences)
+}
+
+fn down_links(alloc: Global, count: usize) -> Result<Vec<LinkState>, AllocError>
+    ensures { IfOk result (λ links. links.items ≡ replicate count down_link) }
+{
+    let mut links = Vec::with_capacity(alloc, count)?;
+    for index in 0..count {
+        links.push(LinkState::DOWN)?;
+    }
+    Ok(links)
+}

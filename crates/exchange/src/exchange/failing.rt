@@ -1,0 +1,54 @@
+//! The failure of a link.
+
+ghost use Rattle.std.specs.Prelude.{◌≡◌, ◌<◌, [], length, slice_set};
+ghost use Rattle.exchange.specs.State.{with_node, with_parts};
+ghost use Rattle.exchange.specs.Queues.{kept};
+ghost use Rattle.exchange.specs.Failing as rule;
+
+use super::Exchange;
+use crate::link_state::{LinkState, Phase};
+use cell_pool::Lanes;
+use stp_types::{FailureReason, LinkId, Notice};
+
+impl Exchange {
+    /// A link fails, and its queue is emptied.
+    pub(super) fn fail(&mut self, link: LinkId, why: FailureReason)
+        requires { link < length self.old.node.parts.links }
+        ensures { self.new ≡ with_node self.old (rule.fail kept link why self.old.node) }
+    {
+        self.fall(link, why);
+        self.empty(link.index());
+    }
+
+    /// A link is down and owes no acknowledgement; that is noted.
+    fn fall(&mut self, link: LinkId, why: FailureReason)
+        requires { link < length self.old.node.parts.links }
+        ensures { self.new ≡ with_node self.old (with_parts self.old.node (rule.fall link why self.old.node.parts)) }
+    {
+        let index = link.index();
+        self.links[index] = LinkState {
+            phase: Phase::Down,
+            acknowledgement_owed: false,
+            ..self.links[index]
+        };
+        self.note(Notice::Failed(link, why));
+    }
+
+    /// Nothing stands in the link's queue any more.
+    fn empty(&mut self, link: usize)
+        requires { link < length self.old.node.parts.links }
+        ensures { self.new ≡ with_node self.old (rule.empty kept link self.old.node) }
+    {
+        self.drop_all(link);
+        self.sequences[link].empty();
+    }
+
+    /// Drops the messages of a link's list.
+    pub(super) fn drop_all(&mut self, link: usize)
+        requires { link < length self.old.node.parts.links }
+        ensures { self.new ≡ with_node self.old (record self.old.node { queues = record self.old.node.queues { lanes = slice_set self.old.node.queues.lanes link [] } }) }
+    {
+        let count = self.lanes.count(link);
+        self.lanes.drop_front(link, count);
+    }
+}

@@ -1,0 +1,82 @@
+//! A frame that came by a link.
+
+ghost use Rattle.std.specs.Prelude.{◌≡◌, ◌<◌, length, Ok, Err, is_ok, if◌then◌else◌};
+ghost use Rattle.stp_types.specs.declared.notice.FailureReason.TheVariants as reasons;
+ghost use Rattle.m2pa_codec.specs.Values.{value_of};
+ghost use Rattle.exchange.specs.State.{with_node};
+ghost use Rattle.exchange.specs.Queues.{kept};
+ghost use Rattle.exchange.specs.Exchange.{Ends};
+ghost use Rattle.exchange.specs.Failing as failing;
+ghost use Rattle.exchange.specs.Frames as rule;
+
+use super::Exchange;
+use crate::link_state::Phase;
+use link_number::Number24;
+use m2pa_codec::{Frame, decode};
+use stp_types::{Cause, FailureReason, FrameFault, LinkId, MsuRef, Notice, Outcome};
+
+impl Exchange {
+    pub(super) fn receive(&mut self, link: LinkId, octets: &[u8]) -> Outcome
+        ensures { Ends self.old result self.new (rule.receive kept self.old.settings link octets.now self.old.node) }
+    {
+        let index = link.index();
+        if index >= self.links.len() {
+            return Outcome::Refused(Cause::NoSuchName);
+        }
+        if self.links[index].phase == Phase::Down {
+            return Outcome::Ignored;
+        }
+        match decode(octets) {
+            Ok(frame) => self.take_in(link, frame),
+            Err(fault) => self.leave_aside(link, fault),
+        }
+    }
+
+    /// A frame that can't be read: a wrong length fails the link, any other fault is noted.
+    fn leave_aside(&mut self, link: LinkId, fault: FrameFault) -> Outcome
+        requires { link < length self.old.node.parts.links }
+        ensures { Ends self.old result self.new (rule.leave_aside kept self.old.settings link fault self.old.node) }
+    {
+        if fault == FrameFault::Length {
+            self.fail(link, FailureReason::Length);
+            return Outcome::Handled;
+        }
+        self.note(Notice::Frame(fault, link));
+        Outcome::Ignored
+    }
+
+    /// A frame of User Data. A wrong number fails the link.
+    fn take_in(&mut self, link: LinkId, frame: Frame<'_>) -> Outcome
+        requires { link < length self.old.node.parts.links }
+        ensures { Ends self.old result self.new (rule.read kept self.old.settings link (Ok (value_of frame.entry)) self.old.node) }
+    {
+        match frame {
+            Frame::Empty { bsn, fsn } => {
+                self.take_numbers(link, fsn, bsn, false);
+                Outcome::Handled
+            }
+            Frame::Message { bsn, fsn, sio, sif } => {
+                if !self.take_numbers(link, fsn, bsn, true) {
+                    return Outcome::Handled;
+                }
+                self.links[link.index()].acknowledgement_owed = true;
+                self.deliver(link, MsuRef { sio, sif })
+            }
+        }
+    }
+
+    /// Takes the numbers of a frame of User Data, and says whether they were right. A wrong one fails the link.
+    fn take_numbers(&mut self, link: LinkId, fsn: Number24, bsn: Number24, carries: bool) -> bool
+        requires { link < length self.old.node.parts.links }
+        ensures accepted { result ≡ is_ok (kept.accept_answer self.old.node.queues link fsn bsn carries) }
+        ensures state { self.new ≡ with_node self.old (if result then record self.old.node { queues = kept.accepted self.old.node.queues link fsn bsn carries } else failing.fail kept link reasons.Sequence self.old.node) }
+    {
+        let index = link.index();
+        let answer = self.sequences[index].accept(&mut self.lanes, index, fsn, bsn, carries);
+        if answer.is_err() {
+            self.fail(link, FailureReason::Sequence);
+            return false;
+        }
+        true
+    }
+}

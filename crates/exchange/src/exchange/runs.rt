@@ -1,0 +1,62 @@
+//! Calls in a row.
+
+ghost use Rattle.std.specs.Prelude.{◌≡◌, map, IfOk, OnOk, OnErr};
+ghost use Rattle.std.specs.Option.{option_map};
+ghost use Rattle.m2pa_codec.specs.Frames.{spelled};
+ghost use Rattle.exchange.specs.Queues.{kept, whole};
+ghost use Rattle.exchange.specs.Happening.{asked};
+ghost use Rattle.exchange.specs.Exchange.{frame_to_take, taken};
+ghost use Rattle.exchange.specs.Runs.{answer_to_call, after_call, answers_to, after_calls};
+ghost use Rattle.exchange.specs.Stands.{Abstract, StandsFor};
+
+use super::Exchange;
+use crate::event::{Answer, Call};
+use crate::frame_text::FrameText;
+use crate::memory::NoMemory;
+use m2pa_codec::BUFFER_OCTETS;
+use std::alloc::Global;
+use stp_types::LinkId;
+
+impl Exchange {
+    /// Makes calls in a row, and answers what each of them answered.
+    ///
+    /// NoMemory comes only where there was no room for the answers; then no call was made.
+    pub fn run(&mut self, alloc: Global, calls: &[Call<'_>]) -> Result<Vec<Answer>, NoMemory>
+        // For every abstract state that the exchange stood for, the answers are those of the abstract exchange,
+        ensures answers { (a : Abstract) → StandsFor self.old a → IfOk result (λ answers. answers.items ≡ answers_to whole (map asked calls.now) a) }
+        // and the exchange stands for the state after all calls.
+        ensures state { (a : Abstract) → StandsFor self.old a → OnOk result (StandsFor self.new (after_calls whole (map asked calls.now) a)) }
+
+        // The same on what is kept.
+        ensures kept_answers { IfOk result (λ answers. answers.items ≡ answers_to kept (map asked calls.now) self.old) }
+        ensures kept_state { OnOk result (self.new ≡ after_calls kept (map asked calls.now) self.old) }
+        ensures err { OnErr result (self.new ≡ self.old) }
+    {
+        let mut answers = Vec::with_capacity(alloc, calls.len())?;
+        for call in calls {
+            answers.push_reserved(self.answer(call));
+        }
+        Ok(answers)
+    }
+
+    /// Makes one call.
+    fn answer(&mut self, call: &Call<'_>) -> Answer
+        ensures answer { result ≡ answer_to_call kept (asked call.now) self.old }
+        ensures state { self.new ≡ after_call kept (asked call.now) self.old }
+    {
+        match call {
+            Call::Step(event) => Answer::Stepped(self.apply(event)),
+            Call::Take(link) => Answer::Taken(self.text(*link)),
+        }
+    }
+
+    /// The octets of the next frame that goes out on a link.
+    fn text(&mut self, link: LinkId) -> Option<FrameText>
+        ensures text { result ≡ option_map spelled (frame_to_take kept self.old link) }
+        ensures state { self.new ≡ taken kept self.old link }
+    {
+        let mut buffer = [0; BUFFER_OCTETS];
+        let count = self.send(link, &mut buffer)?;
+        Some(FrameText::new(&buffer[..count]))
+    }
+}
