@@ -10,7 +10,8 @@ use Rattle.exchange.specs.Noting.{note}
 -- the link is down and owes no acknowledgement, and that is noted
 abbrev pub fall : ℕ → FailureReason → Parts → Parts
 fall link why p =
-    note (notices.Failed link why) (with_link p link (record (link_at p link) { phase = Down; acknowledgement_owed = false }))
+    note (notices.Failed link why)
+    (with_link p link (record (link_at p link) { phase = Down; acknowledgement_owed = false }))
 
 module _ {Q : Type 0} (q : QueueKind Q) where
   -- nothing stands in the link's queue any more; what was received stays

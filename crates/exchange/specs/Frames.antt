@@ -1,5 +1,5 @@
 -- A frame that came by a link (RFC 4165 §4.2.1).
-use Rattle.std.specs.Prelude.{ℕ, true, false, List, Result, Ok, Err, if◌then◌else◌}
+use Rattle.std.specs.Prelude.{ℕ, Bool, true, false, List, Result, Ok, Err, if◌then◌else◌}
 use Rattle.stp_types.specs.Configuration.{Configuration}
 use Rattle.stp_types.specs.declared.cause.Cause.TheVariants.{NoSuchName}
 use Rattle.stp_types.specs.declared.outcome.Outcome.TheVariants.{Handled, Ignored}
@@ -33,6 +33,13 @@ module _ {Q : Type 0} (q : QueueKind Q) (c : Configuration) where
   carry link (EmptyFrame bsn fsn) node = answer Handled node
   carry link (MessageFrame bsn fsn sio sif) node = deliver q c link (record { sio = sio; sif = sif }) node
 
+  -- what the numbers alone do, right or wrong
+  abbrev pub take_numbers : Bool → (link fsn bsn : ℕ) → Bool → Node Q → Node Q
+  take_numbers right link fsn bsn carries node =
+      if right
+      then record node { queues = q.accepted node.queues link fsn bsn carries }
+      else fail q link reasons.Sequence node
+
   -- a frame whose numbers were looked at: a wrong one fails the link, which is no refusal
   abbrev pub take_in : ℕ → FrameValue → Result ℕ SeqFault → Node Q → Done Q
   take_in link frame (Ok count) node = carry link frame (accept link frame node)
@@ -41,7 +48,8 @@ module _ {Q : Type 0} (q : QueueKind Q) (c : Configuration) where
   -- a frame that can't be read: a wrong length fails the link, any other fault is noted
   abbrev pub leave_aside : ℕ → FrameFault → Node Q → Done Q
   leave_aside link faults.Length node = answer Handled (fail q link reasons.Length node)
-  leave_aside link faults.Short node = answer Ignored (with_parts node (note (notices.Frame faults.Short link) node.parts))
+  leave_aside link faults.Short node =
+      answer Ignored (with_parts node (note (notices.Frame faults.Short link) node.parts))
   leave_aside link faults.Version node =
       answer Ignored (with_parts node (note (notices.Frame faults.Version link) node.parts))
   leave_aside link faults.Unknown node =

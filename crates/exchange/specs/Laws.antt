@@ -21,7 +21,8 @@ abbrev pub accept_text : ℕ → Result FrameValue FrameFault → Abstract → N
 accept_text link (Ok frame) a = accept whole a.settings link frame a.node
 accept_text link (Err fault) a = a.node
 
--- the state after a refused event: a message in a frame leaves what accepting its frame did, and a notice; any other nothing
+-- the state after a refused event: a message in a frame leaves what accepting its frame did, and a notice; any other
+-- event changes nothing
 abbrev pub after_refusal : Happening → Cause → Abstract → Abstract
 after_refusal (CameUp link) cause a = a
 after_refusal (Submitted message) cause a = a

@@ -19,5 +19,7 @@ module _ {Q : Type 0} (q : QueueKind Q) where
   abbrev pub associate : ℕ → Node Q → Done Q
   associate link node =
       if is_link node.parts link
-      then (if (link_at node.parts link).association then refuse LinkNotReady node else answer Handled (open_link link node))
+      then (if (link_at node.parts link).association
+      then refuse LinkNotReady node
+      else answer Handled (open_link link node))
       else refuse NoSuchName node

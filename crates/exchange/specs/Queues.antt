@@ -34,6 +34,10 @@ pub record KeptQueues : Type 0 where
 abbrev pub counts_at : List Counts → ℕ → Counts
 counts_at cs link = slice_index_or cs link kept_first
 
+-- the messages of one link are gone
+abbrev pub without_lane : KeptQueues → ℕ → KeptQueues
+without_lane k link = record k { lanes = slice_set k.lanes link [] }
+
 abbrev pub kept : QueueKind KeptQueues
 kept = record {
   started = λ k link. record { lanes = slice_set k.lanes link []; counts = slice_set k.counts link kept_first };
@@ -47,7 +51,10 @@ kept = record {
   sent_one = λ k link window. record k {
     counts = slice_set k.counts link (kept_sent_one (counts_at k.counts link) (lane_at k.lanes link) window);
   };
-  emptied = λ k link. record { lanes = slice_set k.lanes link []; counts = slice_set k.counts link (kept_emptied (counts_at k.counts link)) };
+  emptied = λ k link. record {
+    lanes = slice_set k.lanes link [];
+    counts = slice_set k.counts link (kept_emptied (counts_at k.counts link));
+  };
   last_sent = λ k link. kept_last_sent (counts_at k.counts link);
   last_accepted = λ k link. kept_last_accepted (counts_at k.counts link);
   users = λ k. users k.lanes;

@@ -59,9 +59,11 @@ impl Exchange {
     /// Takes in what happened, and says what became of it.
     pub fn step(&mut self, event: &Event<'_>) -> Outcome
         // For every abstract state that the exchange stood for, the outcome is that of the abstract step,
-        ensures outcome { (a : Abstract) → StandsFor self.old a → result ≡ outcome_of whole (happened event.now) a }
+        ensures outcome { (a : Abstract) → StandsFor self.old a →
+            result ≡ outcome_of whole (happened event.now) a }
         // and the exchange stands for the state after it.
-        ensures state { (a : Abstract) → StandsFor self.old a → StandsFor self.new (after whole (happened event.now) a) }
+        ensures state { (a : Abstract) → StandsFor self.old a →
+            StandsFor self.new (after whole (happened event.now) a) }
 
         // The same on what is kept.
         ensures kept_outcome { result ≡ outcome_of kept (happened event.now) self.old }
@@ -76,7 +78,8 @@ impl Exchange {
     /// None, and nothing is written, where the link isn't there or has nothing to send.
     pub fn take(&mut self, link: LinkId, buffer: &mut [u8; BUFFER_OCTETS]) -> Option<usize>
         // For every abstract state that the exchange stood for, the frame is that of the abstract take,
-        ensures frame { (a : Abstract) → StandsFor self.old a → Writes (frame_to_take whole a link) result buffer.old buffer.new }
+        ensures frame { (a : Abstract) → StandsFor self.old a →
+            Writes (frame_to_take whole a link) result buffer.old buffer.new }
         // and the exchange stands for the state after it.
         ensures state { (a : Abstract) → StandsFor self.old a → StandsFor self.new (taken whole a link) }
 

@@ -1,8 +1,8 @@
 //! The failure of a link.
 
-ghost use Rattle.std.specs.Prelude.{◌≡◌, ◌<◌, [], length, slice_set};
+ghost use Rattle.std.specs.Prelude.{◌≡◌, ◌<◌, length};
 ghost use Rattle.exchange.specs.State.{with_node, with_parts};
-ghost use Rattle.exchange.specs.Queues.{kept};
+ghost use Rattle.exchange.specs.Queues.{kept, without_lane};
 ghost use Rattle.exchange.specs.Failing as rule;
 
 use super::Exchange;
@@ -46,7 +46,7 @@ impl Exchange {
     /// Drops the messages of a link's list.
     pub(super) fn drop_all(&mut self, link: usize)
         requires { link < length self.old.node.parts.links }
-        ensures { self.new ≡ with_node self.old (record self.old.node { queues = record self.old.node.queues { lanes = slice_set self.old.node.queues.lanes link [] } }) }
+        ensures { self.new ≡ with_node self.old (record self.old.node { queues = without_lane self.old.node.queues link }) }
     {
         let count = self.lanes.count(link);
         self.lanes.drop_front(link, count);

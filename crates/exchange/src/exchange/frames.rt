@@ -1,12 +1,10 @@
 //! A frame that came by a link.
 
-ghost use Rattle.std.specs.Prelude.{◌≡◌, ◌<◌, length, Ok, Err, is_ok, if◌then◌else◌};
-ghost use Rattle.stp_types.specs.declared.notice.FailureReason.TheVariants as reasons;
+ghost use Rattle.std.specs.Prelude.{◌≡◌, ◌<◌, length, Ok, Err, is_ok};
 ghost use Rattle.m2pa_codec.specs.Values.{value_of};
 ghost use Rattle.exchange.specs.State.{with_node};
 ghost use Rattle.exchange.specs.Queues.{kept};
 ghost use Rattle.exchange.specs.Exchange.{Ends};
-ghost use Rattle.exchange.specs.Failing as failing;
 ghost use Rattle.exchange.specs.Frames as rule;
 
 use super::Exchange;
@@ -48,7 +46,8 @@ impl Exchange {
     /// A frame of User Data. A wrong number fails the link.
     fn take_in(&mut self, link: LinkId, frame: Frame<'_>) -> Outcome
         requires { link < length self.old.node.parts.links }
-        ensures { Ends self.old result self.new (rule.read kept self.old.settings link (Ok (value_of frame.entry)) self.old.node) }
+        ensures { Ends self.old result self.new
+            (rule.read kept self.old.settings link (Ok (value_of frame.entry)) self.old.node) }
     {
         match frame {
             Frame::Empty { bsn, fsn } => {
@@ -69,7 +68,8 @@ impl Exchange {
     fn take_numbers(&mut self, link: LinkId, fsn: Number24, bsn: Number24, carries: bool) -> bool
         requires { link < length self.old.node.parts.links }
         ensures accepted { result ≡ is_ok (kept.accept_answer self.old.node.queues link fsn bsn carries) }
-        ensures state { self.new ≡ with_node self.old (if result then record self.old.node { queues = kept.accepted self.old.node.queues link fsn bsn carries } else failing.fail kept link reasons.Sequence self.old.node) }
+        ensures state { self.new ≡
+            with_node self.old (rule.take_numbers kept self.old.settings result link fsn bsn carries self.old.node) }
     {
         let index = link.index();
         let answer = self.sequences[index].accept(&mut self.lanes, index, fsn, bsn, carries);

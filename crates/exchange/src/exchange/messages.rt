@@ -16,7 +16,8 @@ use stp_types::{Cause, Flow, Limits, LinkId, MsuRef, Notice, Outcome};
 impl Exchange {
     /// A message in a frame, with the link that it came by. Where it is refused, that is noted.
     pub(super) fn deliver(&mut self, link: LinkId, message: MsuRef<'_>) -> Outcome
-        ensures { Ends self.old result self.new (rule.deliver kept self.old.settings link (lent message.entry) self.old.node) }
+        ensures { Ends self.old result self.new
+            (rule.deliver kept self.old.settings link (lent message.entry) self.old.node) }
     {
         let outcome = self.deliver_to(link, message);
         if let Outcome::Refused(cause) = outcome {
@@ -27,7 +28,9 @@ impl Exchange {
 
     /// A message in a frame goes to this point, to another, or nowhere.
     fn deliver_to(&mut self, link: LinkId, message: MsuRef<'_>) -> Outcome
-        ensures { Ends self.old result self.new (rule.deliver_to kept self.old.settings (rule.whither_goes self.old.settings (lent message.entry)) link (lent message.entry) self.old.node) }
+        ensures { Ends self.old result self.new
+            (rule.deliver_to kept self.old.settings (rule.whither_goes self.old.settings (lent message.entry)) link
+            (lent message.entry) self.old.node) }
     {
         match self.whither_goes(message) {
             Discrimination::Refused(cause) => Outcome::Refused(cause),
@@ -38,7 +41,8 @@ impl Exchange {
 
     /// A message for this point, by the link that it came by.
     fn hand_over(&mut self, link: LinkId, message: MsuRef<'_>) -> Outcome
-        ensures { Ends self.old result self.new (rule.hand_over kept self.old.settings link (lent message.entry) self.old.node) }
+        ensures { Ends self.old result self.new
+            (rule.hand_over kept self.old.settings link (lent message.entry) self.old.node) }
     {
         if message.is_management() {
             self.manage(link, message)
@@ -49,7 +53,8 @@ impl Exchange {
 
     /// A message that a user part hands over.
     pub(super) fn submit(&mut self, message: MsuRef<'_>) -> Outcome
-        ensures { Ends self.old result self.new (rule.submit kept self.old.settings (lent message.entry) self.old.node) }
+        ensures { Ends self.old result self.new
+            (rule.submit kept self.old.settings (lent message.entry) self.old.node) }
     {
         match self.whither_goes(message) {
             Discrimination::Refused(cause) => Outcome::Refused(cause),
@@ -75,7 +80,8 @@ impl Exchange {
     fn transfer(&mut self, message: MsuRef<'_>) -> Outcome
         requires label { 4 ≤ length message.sif.now }
         requires fits { length message.sif.now ≤ Limits.SIF_OCTETS }
-        ensures { Ends self.old result self.new (rule.transfer kept self.old.settings (lent message.entry) self.old.node) }
+        ensures { Ends self.old result self.new
+            (rule.transfer kept self.old.settings (lent message.entry) self.old.node) }
     {
         let Some(label) = Label::read(message.sif) else {
             unreachable!()

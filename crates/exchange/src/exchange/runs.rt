@@ -23,9 +23,11 @@ impl Exchange {
     /// NoMemory comes only where there was no room for the answers; then no call was made.
     pub fn run(&mut self, alloc: Global, calls: &[Call<'_>]) -> Result<Vec<Answer>, NoMemory>
         // For every abstract state that the exchange stood for, the answers are those of the abstract exchange,
-        ensures answers { (a : Abstract) → StandsFor self.old a → IfOk result (λ answers. answers.items ≡ answers_to whole (map asked calls.now) a) }
+        ensures answers { (a : Abstract) → StandsFor self.old a →
+            IfOk result (λ answers. answers.items ≡ answers_to whole (map asked calls.now) a) }
         // and the exchange stands for the state after all calls.
-        ensures state { (a : Abstract) → StandsFor self.old a → OnOk result (StandsFor self.new (after_calls whole (map asked calls.now) a)) }
+        ensures state { (a : Abstract) → StandsFor self.old a →
+            OnOk result (StandsFor self.new (after_calls whole (map asked calls.now) a)) }
 
         // The same on what is kept.
         ensures kept_answers { IfOk result (λ answers. answers.items ≡ answers_to kept (map asked calls.now) self.old) }

@@ -50,7 +50,9 @@ fn next_frame<'l>(
     owed: bool,
 ) -> Option<Frame<'l>>
     requires { lane < length lanes.now.lists }
-    ensures frame { option_map value_of result ≡ rule.frame_from (kept_last_accepted sequence.old) (kept_last_sent sequence.old) (rule.message_first (kept_to_send sequence.old (lane_at lanes.now.lists lane) window) owed) }
+    ensures frame { option_map value_of result ≡
+        rule.frame_from (kept_last_accepted sequence.old) (kept_last_sent sequence.old)
+        (rule.message_first (kept_to_send sequence.old (lane_at lanes.now.lists lane) window) owed) }
     ensures counts { sequence.new ≡ kept_sent_one sequence.old (lane_at lanes.now.lists lane) window }
     ensures fits { IfSome result (λ frame. length (sif_of (value_of frame)) ≤ Limits.SIF_OCTETS) }
 {
