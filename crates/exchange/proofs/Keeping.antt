@@ -23,7 +23,7 @@ use Rattle.exchange.specs.Local.{local, manage}
 use Rattle.exchange.specs.Messages.{whither_goes, is_destination, link_of, no_room, offer, transfer, hand_over, deliver_to, deliver, submit_to}
 use Rattle.exchange.specs.Opening.{open_link, associate}
 use Rattle.exchange.specs.Failing.{fall, fail}
-use Rattle.exchange.specs.Frames.{numbers, accept, carry, take_in, leave_aside, read, receive}
+use Rattle.exchange.specs.Frames.{numbers, accept, carry, handle_by, leave_aside, read, receive}
 use Rattle.exchange.specs.Sending.{Outgoing, SendsMessage, Acknowledges, SendsNothing, goes_out, after_sending, frame_taken, after_take}
 use Rattle.exchange.specs.Happening.{Happening, CameUp, FrameCame, Submitted}
 use Rattle.exchange.specs.Exchange.{apply}
@@ -153,12 +153,12 @@ module _ {P Q : Type 0} (p : QueueKind P) (q : QueueKind Q) (h : P → Q) (IsFit
   carry-kept l (EmptyFrame b f) n fit = parted _ n.parts n.queues fit
   carry-kept l (MessageFrame b f sio sif) n fit = deliver-kept l (record { sio = sio; sif = sif }) n fit
 
-  take_in-kept : (l : ℕ) (frame : FrameValue) (r : Result ℕ SeqFault) (n : Node P) → IsFit n.queues → Keeps (take_in q c l frame r (keep h n)) (take_in p c l frame r n)
-  take_in-kept l frame (Ok count) n f =
+  handle_by-kept : (r : Result ℕ SeqFault) (l : ℕ) (frame : FrameValue) (n : Node P) → IsFit n.queues → Keeps (handle_by q c r l frame (keep h n)) (handle_by p c r l frame n)
+  handle_by-kept (Ok count) l frame n f =
       let e : KeepsNode (accept q c l frame (keep h n)) (accept p c l frame n) = accept-kept l frame n f in
       behind (λ (z : Node Q). carry q c l frame z) (carry p c l frame (accept p c l frame n)) _ (accept p c l frame n) e.same
       (carry-kept l frame (accept p c l frame n) e.fit)
-  take_in-kept l frame (Err fault) n f = answered _ _ _ (fail-kept l _ n f)
+  handle_by-kept (Err fault) l frame n f = answered _ _ _ (fail-kept l _ n f)
 
   leave_aside-kept : (l : ℕ) (fault : FrameFault) (n : Node P) → IsFit n.queues → Keeps (leave_aside q c l fault (keep h n)) (leave_aside p c l fault n)
   leave_aside-kept l faults.Length n f = answered _ _ _ (fail-kept l _ n f)
@@ -167,7 +167,7 @@ module _ {P Q : Type 0} (p : QueueKind P) (q : QueueKind Q) (h : P → Q) (IsFit
   leave_aside-kept l faults.Unknown n f = parted _ _ n.queues f
 
   read-kept : (l : ℕ) (r : Result FrameValue FrameFault) (n : Node P) → IsFit n.queues → Keeps (read q c l r (keep h n)) (read p c l r n)
-  read-kept l (Ok frame) n f = rw (numbers-kept l frame n f) (take_in-kept l frame (numbers p c l frame n) n f)
+  read-kept l (Ok frame) n f = rw (numbers-kept l frame n f) (handle_by-kept (numbers p c l frame n) l frame n f)
   read-kept l (Err fault) n f = leave_aside-kept l fault n f
 
   receive-kept : (l : ℕ) (text : List ℕ) (n : Node P) → IsFit n.queues → Keeps (receive q c l text (keep h n)) (receive p c l text n)

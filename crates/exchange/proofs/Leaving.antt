@@ -22,7 +22,7 @@ use Rattle.exchange.specs.Noting.{note, note_outcome, note_refusal}
 use Rattle.exchange.specs.Local.{local, manage}
 use Rattle.exchange.specs.Messages.{whither_goes, is_destination, link_of, no_room, offer, transfer, hand_over, deliver_to, submit_to}
 use Rattle.exchange.specs.Opening.{open_link, associate}
-use Rattle.exchange.specs.Frames.{numbers, accept, carry, take_in, leave_aside, read}
+use Rattle.exchange.specs.Frames.{numbers, accept, carry, handle_by, leave_aside, read}
 use Rattle.exchange.specs.Happening.{CameUp, FrameCame, Submitted}
 use Rattle.exchange.specs.Queues.{whole}
 use Rattle.exchange.specs.Laws.{accept_text, refusals_leave, queued_in_service}
@@ -134,9 +134,9 @@ module _ (c : Configuration) where
       notes (deliver_to whole c (whither_goes c (record { sio = sio; sif = sif })) link (record { sio = sio; sif = sif }) n) n link
       (deliver_to-leaves (whither_goes c (record { sio = sio; sif = sif })) link (record { sio = sio; sif = sif }) n)
 
-  take_in-notes : (link : ℕ) (frame : FrameValue) (r : Result ℕ SeqFault) (n : Node (List Queue)) → Notes (take_in whole c link frame r n) (accept whole c link frame n) link
-  take_in-notes link frame (Ok count) n = carry-notes link frame (accept whole c link frame n)
-  take_in-notes link frame (Err fault) n = handled_frame _ _ link
+  handle_by-notes : (r : Result ℕ SeqFault) (link : ℕ) (frame : FrameValue) (n : Node (List Queue)) → Notes (handle_by whole c r link frame n) (accept whole c link frame n) link
+  handle_by-notes (Ok count) link frame n = carry-notes link frame (accept whole c link frame n)
+  handle_by-notes (Err fault) link frame n = handled_frame _ _ link
 
   leave_aside-notes : (link : ℕ) (fault : FrameFault) (n : Node (List Queue)) → Notes (leave_aside whole c link fault n) n link
   leave_aside-notes link faults.Length n = handled_frame _ n link
@@ -145,7 +145,7 @@ module _ (c : Configuration) where
   leave_aside-notes link faults.Unknown n = ignored_frame _ n link
 
 read-notes : (link : ℕ) (r : Result FrameValue FrameFault) (a : Abstract) → Notes a.settings (read whole a.settings link r a.node) (accept_text link r a) link
-read-notes link (Ok frame) a = take_in-notes a.settings link frame (numbers whole a.settings link frame a.node) a.node
+read-notes link (Ok frame) a = handle_by-notes a.settings (numbers whole a.settings link frame a.node) link frame a.node
 read-notes link (Err fault) a = leave_aside-notes a.settings link fault a.node
 
 -- ---- a frame for a link that is there, and is up

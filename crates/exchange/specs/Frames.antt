@@ -34,16 +34,19 @@ module _ {Q : Type 0} (q : QueueKind Q) (c : Configuration) where
   carry link (MessageFrame bsn fsn sio sif) node = deliver q c link (record { sio = sio; sif = sif }) node
 
   -- what the numbers alone do, right or wrong
-  abbrev pub take_numbers : Bool → (link fsn bsn : ℕ) → Bool → Node Q → Node Q
-  take_numbers right link fsn bsn carries node =
+  abbrev pub check_numbers : Bool → (link fsn bsn : ℕ) → Bool → Node Q → Node Q
+  check_numbers right link fsn bsn carries node =
       if right
       then record node { queues = q.accepted node.queues link fsn bsn carries }
       else fail q link reasons.Sequence node
 
   -- a frame whose numbers were looked at: a wrong one fails the link, which is no refusal
-  abbrev pub take_in : ℕ → FrameValue → Result ℕ SeqFault → Node Q → Done Q
-  take_in link frame (Ok count) node = carry link frame (accept link frame node)
-  take_in link frame (Err fault) node = answer Handled (fail q link reasons.Sequence node)
+  abbrev pub handle_by : Result ℕ SeqFault → ℕ → FrameValue → Node Q → Done Q
+  handle_by (Ok count) link frame node = carry link frame (accept link frame node)
+  handle_by (Err fault) link frame node = answer Handled (fail q link reasons.Sequence node)
+
+  abbrev pub handle : ℕ → FrameValue → Node Q → Done Q
+  handle link frame node = handle_by (numbers link frame node) link frame node
 
   -- a frame that can't be read: a wrong length fails the link, any other fault is noted
   abbrev pub leave_aside : ℕ → FrameFault → Node Q → Done Q
@@ -56,7 +59,7 @@ module _ {Q : Type 0} (q : QueueKind Q) (c : Configuration) where
       answer Ignored (with_parts node (note (notices.Frame faults.Unknown link) node.parts))
 
   abbrev pub read : ℕ → Result FrameValue FrameFault → Node Q → Done Q
-  read link (Ok frame) node = take_in link frame (numbers link frame node) node
+  read link (Ok frame) node = handle link frame node
   read link (Err fault) node = leave_aside link fault node
 
   -- a frame for a link that is down is ignored

@@ -88,7 +88,7 @@ impl Exchange {
         ensures kept_state { self.new ≡ taken kept self.old link }
         ensures fits { IfSome result (λ count. count ≤ BUFFER_OCTETS) }
     {
-        self.send(link, buffer)
+        self.take_frame(link, buffer)
     }
 }
 

@@ -3,8 +3,8 @@ use Rattle.std.proofs.Common.{◌≡◌, ℕ, ◌+◌, ◌-◌, ◌%◌, ◌^◌
 use Rattle.std.proofs.lemmas.Grind.{common_steps}
 use Rattle.std.proofs.lemmas.Bool.Decides.{nat_tests}
 use Rattle.link_number.specs.Numbers.{next_number, steps_between}
-use Rattle.link_sequence.specs.Queue.{Queue, IsQueue, number_of, named_count}
-use Rattle.link_sequence.specs.Naming.{Names, search_finds_named}
+use Rattle.link_sequence.specs.Queue.{Queue, IsQueue, Names, number_of, named_count}
+use Rattle.link_sequence.specs.Naming.{search_finds_named}
 use Rattle.link_sequence.proofs.Named.{found}
 
 -- ---- by the distance d to what the number names

@@ -1,5 +1,5 @@
 -- The queue of a link: all messages of an epoch in order, numbered from 0, and how far they have come (RFC 4165 §2.2).
-use Rattle.std.specs.Prelude.{ℕ, zero, suc, Bool, ◌+◌, ◌-◌, ◌%◌, ◌≤◌, List, [], ◌∷◌, ◌++◌, length, find, Option, Some, None, Result, Ok, Err, nat_eq, nat_lt, slice_get, if◌then◌else◌}
+use Rattle.std.specs.Prelude.{◌≡◌, ℕ, zero, suc, Bool, ◌+◌, ◌-◌, ◌%◌, ◌≤◌, List, [], ◌∷◌, ◌++◌, length, find, Option, Some, None, Result, Ok, Err, nat_eq, nat_lt, slice_get, if◌then◌else◌}
 use Rattle.std.specs.Option.{option_map}
 use Rattle.stp_types.specs.Message.{Message}
 use Rattle.stp_types.specs.declared.limits.TheConstants.Limits.{WINDOW}
@@ -37,13 +37,19 @@ first_queue_at number = record { base = number; all = []; confirmed = 0; sent = 
 abbrev pub number_of : Queue → ℕ → ℕ
 number_of q k = (q.base + k) % modulus
 
+-- a backward sequence number names a count from `confirmed` to `sent` where the number after it is that of the message
+-- behind the count (RFC 4165 §2.2)
+pub record Names (q : Queue) (bsn n : ℕ) : Type 0 where
+  pub from_confirmed : q.confirmed ≤ n
+  pub to_sent : n ≤ q.sent
+  pub number : (q.base + n) % modulus ≡ (bsn + 1) % modulus
+
 -- counts in a row
 abbrev pub counts_from : ℕ → ℕ → List ℕ
 counts_from first zero = []
 counts_from first (suc many) = first ∷ counts_from (first + 1) many
 
--- the count that a backward sequence number (BSN) names: of those from `confirmed` to `sent`, the one with
--- this number on its last message
+-- the count that it names, found among those from `confirmed` to `sent`
 abbrev pub named_count : Queue → ℕ → Option ℕ
 named_count q bsn = find (λ n. nat_eq (number_of q n) (next_number bsn)) (counts_from q.confirmed (q.sent - q.confirmed + 1))
 

@@ -129,13 +129,13 @@ impl Sequence {
         ensures queue_answer { (w : ℕ) (q : Queue) → Keeps w self.old (lane_at (L.lists lanes.old) lane) q → result ≡ accept_answer q fsn bsn carries }
         ensures queue { (w : ℕ) (q : Queue) → Keeps w self.old (lane_at (L.lists lanes.old) lane) q → Keeps w self.new (lane_at (L.lists lanes.new) lane) (accepted q fsn bsn carries) }
     {
-        let answer = self.take_numbers(fsn, bsn, carries);
+        let answer = self.accept_numbers(fsn, bsn, carries);
         lanes.drop_front(lane, answer.unwrap_or(0));
         answer
     }
 
     // What `accept` does to the numbers alone.
-    fn take_numbers(
+    fn accept_numbers(
         &mut self,
         fsn: Number24,
         bsn: Number24,

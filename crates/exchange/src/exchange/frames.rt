@@ -1,6 +1,6 @@
 //! A frame that came by a link.
 
-ghost use Rattle.std.specs.Prelude.{◌≡◌, ◌<◌, length, Ok, Err, is_ok};
+ghost use Rattle.std.specs.Prelude.{◌≡◌, ◌<◌, length, is_ok};
 ghost use Rattle.m2pa_codec.specs.Values.{value_of};
 ghost use Rattle.exchange.specs.State.{with_node};
 ghost use Rattle.exchange.specs.Queues.{kept};
@@ -25,7 +25,7 @@ impl Exchange {
             return Outcome::Ignored;
         }
         match decode(octets) {
-            Ok(frame) => self.take_in(link, frame),
+            Ok(frame) => self.handle(link, frame),
             Err(fault) => self.leave_aside(link, fault),
         }
     }
@@ -44,18 +44,18 @@ impl Exchange {
     }
 
     /// A frame of User Data. A wrong number fails the link.
-    fn take_in(&mut self, link: LinkId, frame: Frame<'_>) -> Outcome
+    fn handle(&mut self, link: LinkId, frame: Frame<'_>) -> Outcome
         requires { link < length self.old.node.parts.links }
         ensures { Ends self.old result self.new
-            (rule.read kept self.old.settings link (Ok (value_of frame.entry)) self.old.node) }
+            (rule.handle kept self.old.settings link (value_of frame.entry) self.old.node) }
     {
         match frame {
             Frame::Empty { bsn, fsn } => {
-                self.take_numbers(link, fsn, bsn, false);
+                self.check_numbers(link, fsn, bsn, false);
                 Outcome::Handled
             }
             Frame::Message { bsn, fsn, sio, sif } => {
-                if !self.take_numbers(link, fsn, bsn, true) {
+                if !self.check_numbers(link, fsn, bsn, true) {
                     return Outcome::Handled;
                 }
                 self.links[link.index()].acknowledgement_owed = true;
@@ -64,12 +64,13 @@ impl Exchange {
         }
     }
 
-    /// Takes the numbers of a frame of User Data, and says whether they were right. A wrong one fails the link.
-    fn take_numbers(&mut self, link: LinkId, fsn: Number24, bsn: Number24, carries: bool) -> bool
+    /// Looks at the numbers of a frame of User Data, and says whether they were right. Right ones count; a wrong
+    /// one fails the link.
+    fn check_numbers(&mut self, link: LinkId, fsn: Number24, bsn: Number24, carries: bool) -> bool
         requires { link < length self.old.node.parts.links }
         ensures accepted { result ≡ is_ok (kept.accept_answer self.old.node.queues link fsn bsn carries) }
         ensures state { self.new ≡
-            with_node self.old (rule.take_numbers kept self.old.settings result link fsn bsn carries self.old.node) }
+            with_node self.old (rule.check_numbers kept self.old.settings result link fsn bsn carries self.old.node) }
     {
         let index = link.index();
         let answer = self.sequences[index].accept(&mut self.lanes, index, fsn, bsn, carries);

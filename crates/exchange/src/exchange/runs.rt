@@ -58,7 +58,7 @@ impl Exchange {
         ensures state { self.new ≡ taken kept self.old link }
     {
         let mut buffer = [0; BUFFER_OCTETS];
-        let count = self.send(link, &mut buffer)?;
+        let count = self.take_frame(link, &mut buffer)?;
         Some(FrameText::new(&buffer[..count]))
     }
 }
