@@ -5,9 +5,9 @@ use Rattle.std.proofs.Math.ListN.{set}
 use Rattle.std.proofs.lemmas.Bool.{leb-false}
 use Rattle.std.proofs.lemmas.List.{set-set, get_or-set_same, drop-drop}
 use Rattle.std.proofs.lemmas.List.Sums.{sum_by-cons, get_or-le-sum_by}
-use Rattle.stp_types.specs.Message.{Message, is_management}
-use Rattle.stp_types.specs.declared.cause.Cause.{Cause}
-use Rattle.stp_types.specs.declared.cause.Cause.TheVariants.{PoolFull, ManagementFull}
+use Rattle.signalling_types.specs.Message.{Message, is_management}
+use Rattle.signalling_types.specs.declared.cause.Cause.{Cause}
+use Rattle.signalling_types.specs.declared.cause.Cause.TheVariants.{PoolFull, ManagementFull}
 use Rattle.cell_pool.specs.Lanes.{users_in, managements_in, users, managements, lane_at, dropped, push_refusal}
 
 -- what one message adds to either count

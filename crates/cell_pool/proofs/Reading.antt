@@ -4,7 +4,7 @@ use Rattle.std.specs.Prelude.{sum_by}
 use Rattle.std.proofs.Math.ListN.{set}
 use Rattle.std.proofs.lemmas.List.{map-set, map-append, get_or-map, get_or-set_same, get_or-set_other, length-map, drop-map}
 use Rattle.std.proofs.lemmas.List.Sums.{sum_by-cons, get_or-le-sum_by}
-use Rattle.stp_types.specs.Message.{Message}
+use Rattle.signalling_types.specs.Message.{Message}
 use Rattle.cell_pool.specs.Numbering.{uses, ring_at}
 use Rattle.cell_pool.specs.Lanes.{lane_at, pushed, dropped}
 use Rattle.cell_pool.specs.Cells.{Occupied, message_at, messages_at, lists_at}

@@ -1,6 +1,6 @@
 -- Messages in the cells of a row.
 use Rattle.std.specs.Prelude.{ℕ, List, [], map, slice_index_or}
-use Rattle.stp_types.specs.Message.{Message}
+use Rattle.signalling_types.specs.Message.{Message}
 
 -- the messages of each list in order, and how many cells there are, free ones among them
 pub record Occupied : Type 0 where

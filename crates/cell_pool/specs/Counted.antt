@@ -1,5 +1,5 @@
 -- How the messages of a store are counted.
-use Rattle.stp_types.specs.declared.limits.TheConstants.Limits.{MANAGEMENT_MESSAGES}
+use Rattle.signalling_types.specs.declared.limits.TheConstants.Limits.{MANAGEMENT_MESSAGES}
 use Rattle.std.specs.Prelude.{◌≡◌, ◌+◌, ◌≤◌}
 use Rattle.cell_pool.specs.Lanes.{users, managements}
 use Rattle.cell_pool.specs.Stored.{Stored}

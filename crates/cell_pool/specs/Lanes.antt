@@ -1,9 +1,9 @@
 -- Numbered lists of messages, under one limit on all user messages and one on all management messages.
 use Rattle.std.specs.Prelude.{ℕ, List, [], ◌∷◌, ◌++◌, Option, Some, None, drop, count_by, sum_by, nat_le, not, if◌then◌else◌, slice_index_or, slice_set}
-use Rattle.stp_types.specs.Message.{Message, is_management}
-use Rattle.stp_types.specs.declared.cause.Cause.{Cause}
-use Rattle.stp_types.specs.declared.limits.TheConstants.Limits.{MANAGEMENT_MESSAGES}
-use Rattle.stp_types.specs.declared.cause.Cause.TheVariants.{PoolFull, ManagementFull}
+use Rattle.signalling_types.specs.Message.{Message, is_management}
+use Rattle.signalling_types.specs.declared.cause.Cause.{Cause}
+use Rattle.signalling_types.specs.declared.limits.TheConstants.Limits.{MANAGEMENT_MESSAGES}
+use Rattle.signalling_types.specs.declared.cause.Cause.TheVariants.{PoolFull, ManagementFull}
 
 -- how many management messages a list has; every other message is a user message
 abbrev pub managements_in : List Message → ℕ

@@ -1,6 +1,6 @@
 -- What a store of messages keeps.
 use Rattle.std.specs.Prelude.{ℕ, List}
-use Rattle.stp_types.specs.Message.{Message}
+use Rattle.signalling_types.specs.Message.{Message}
 
 -- the lists, and how many user messages may stand in all of them together
 pub record Stored : Type 0 where

@@ -2,7 +2,7 @@
 
 ghost use Rattle.std.specs.Prelude.{◌≡◌, ℕ, ◌^◌, ◌<◌, ◌≤◌, List, [], length, replicate, sum_by, slice_get, IfOk};
 ghost use Rattle.std.specs.Option.{option_copied};
-ghost use Rattle.stp_types.specs.Lent.{lent};
+ghost use Rattle.signalling_types.specs.Lent.{lent};
 ghost use Rattle.cell_pool.specs.Lanes.{lane_at, pushed, dropped};
 
 use crate::cell_rings::CellRings;

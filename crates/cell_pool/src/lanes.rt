@@ -2,9 +2,9 @@
 
 ghost use Rattle.std.specs.Prelude.{◌≡◌, ℕ, ◌<◌, ◌≤◌, List, None, Some, length, IfErr, OnOk, is_ok, slice_get, if◌then◌else◌};
 ghost use Rattle.std.specs.Option.{option_copied};
-ghost use Rattle.stp_types.specs.Message.{Message};
-ghost use Rattle.stp_types.specs.Lent.{lent};
-ghost use Rattle.stp_types.specs.declared.limits.TheConstants.Limits;
+ghost use Rattle.signalling_types.specs.Message.{Message};
+ghost use Rattle.signalling_types.specs.Lent.{lent};
+ghost use Rattle.signalling_types.specs.declared.limits.TheConstants.Limits;
 ghost use Rattle.cell_pool.specs.Lanes.{lane_at, push_refusal, pushed, dropped};
 
 use stp_types::{Cause, Msu, MsuRef};

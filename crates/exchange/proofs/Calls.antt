@@ -2,7 +2,7 @@
 use Rattle.std.proofs.Common.{◌≡◌, List, [], ◌∷◌, refl, ap, ◌∙◌}
 use Rattle.exchange.specs.declared.event.Answer.{Answer}
 use Rattle.exchange.specs.declared.event.Answer.TheVariants.{Stepped}
-use Rattle.stp_types.specs.declared.outcome.Outcome.{Outcome}
+use Rattle.signalling_types.specs.declared.outcome.Outcome.{Outcome}
 use Rattle.exchange.specs.Happening.{Asking, Happens, Takes}
 use Rattle.exchange.specs.Queues.{kept, whole}
 use Rattle.exchange.specs.Runs.{answer_to_call, after_call, answers_to, after_calls}

@@ -2,15 +2,15 @@
 -- kinds of queues P and Q of which h keeps one as the other.
 use Rattle.std.proofs.Common.{◌≡◌, ℕ, Bool, true, false, List, Option, Some, None, Result, Ok, Err, refl, ap, ◌∙◌}
 use Rattle.std.specs.Prelude.{if◌then◌else◌, nat_eq}
-use Rattle.stp_types.specs.Message.{Message, dpc_of, flow_of, is_management, service_indicator}
-use Rattle.stp_types.specs.Configuration.{Configuration}
-use Rattle.stp_types.specs.declared.cause.Cause.{Cause}
-use Rattle.stp_types.specs.declared.cause.Cause.TheVariants as causes
-use Rattle.stp_types.specs.declared.outcome.Outcome.{Outcome}
-use Rattle.stp_types.specs.declared.outcome.Outcome.TheVariants.{Local, Handled, Ignored}
-use Rattle.stp_types.specs.declared.notice.FailureReason.{FailureReason}
-use Rattle.stp_types.specs.declared.notice.FrameFault.{FrameFault}
-use Rattle.stp_types.specs.declared.notice.FrameFault.TheVariants as faults
+use Rattle.signalling_types.specs.Message.{Message, dpc_of, flow_of, is_management, service_indicator}
+use Rattle.settings_rows.specs.Configuration.{Configuration}
+use Rattle.signalling_types.specs.declared.cause.Cause.{Cause}
+use Rattle.signalling_types.specs.declared.cause.Cause.TheVariants as causes
+use Rattle.signalling_types.specs.declared.outcome.Outcome.{Outcome}
+use Rattle.signalling_types.specs.declared.outcome.Outcome.TheVariants.{Local, Handled, Ignored}
+use Rattle.signalling_types.specs.declared.notice.FailureReason.{FailureReason}
+use Rattle.signalling_types.specs.declared.notice.FrameFault.{FrameFault}
+use Rattle.signalling_types.specs.declared.notice.FrameFault.TheVariants as faults
 use Rattle.m2pa_codec.specs.Frames.{FrameValue, EmptyFrame, MessageFrame}
 use Rattle.m2pa_codec.specs.Reading.{read_frame}
 use Rattle.routing_label.specs.declared.discrimination.Discrimination.{Discrimination}

@@ -2,14 +2,14 @@
 use Rattle.std.proofs.Common.{◌≡◌, ◌≤◌, ℕ, Bool, List, [], map, get_or, refl, sym}
 use Rattle.std.proofs.Math.ListN.{set, get_or-map}
 use Rattle.std.proofs.lemmas.List.{map-set}
-use Rattle.stp_types.specs.Message.{Message}
+use Rattle.signalling_types.specs.Message.{Message}
 use Rattle.cell_pool.specs.Lanes.{users_in, managements_in}
 use Rattle.link_sequence.specs.Queue as queue
 use Rattle.link_sequence.specs.Queue.{Queue, IsQueue, first_queue, count_confirmed, accept_answer}
 use Rattle.link_sequence.specs.Counts.{Counts, counts_of, unconfirmed}
 use Rattle.link_sequence.proofs.Kept.{kept-accept_answer, counts-accepted, unconfirmed-accepted, kept-to_send, counts-sent_one, unconfirmed-sent_one, unconfirmed-appended, kept-last_sent, kept-last_accepted}
 use Rattle.link_sequence.proofs.Sound.{sound-first, sound-appended, sound-accepted, sound-sent_one, sound-emptied}
-use Rattle.stp_types.specs.declared.limits.TheConstants.Limits.{WINDOW}
+use Rattle.signalling_types.specs.declared.limits.TheConstants.Limits.{WINDOW}
 use Rattle.exchange.specs.Queues.{KeptQueues, queue_at, counts_at, kept, whole}
 use Rattle.exchange.specs.Stands.{AreQueues, kept_queues_of}
 use Rattle.exchange.proofs.Keeping.{IsKept, IsKeeping}

@@ -1,15 +1,15 @@
 -- A refused event leaves what it is to leave, and a message is queued on a link in service.
 use Rattle.std.proofs.Common.{◌≡◌, ℕ, Bool, true, false, List, Option, Some, None, Result, Ok, Err, refl, ap, subst, ◌∙◌}
 use Rattle.std.specs.Prelude.{if◌then◌else◌, nat_eq, unwrap_or}
-use Rattle.stp_types.specs.Message.{Message, dpc_of, flow_of, is_management, service_indicator}
-use Rattle.stp_types.specs.Configuration.{Configuration}
-use Rattle.stp_types.specs.declared.cause.Cause.{Cause}
-use Rattle.stp_types.specs.declared.cause.Cause.TheVariants as causes
-use Rattle.stp_types.specs.declared.outcome.Outcome.{Outcome}
-use Rattle.stp_types.specs.declared.outcome.Outcome.TheVariants.{Queued, Held, Local, Handled, Ignored, Refused}
-use Rattle.stp_types.specs.declared.notice.Notice.TheVariants as notices
-use Rattle.stp_types.specs.declared.notice.FrameFault.{FrameFault}
-use Rattle.stp_types.specs.declared.notice.FrameFault.TheVariants as faults
+use Rattle.signalling_types.specs.Message.{Message, dpc_of, flow_of, is_management, service_indicator}
+use Rattle.settings_rows.specs.Configuration.{Configuration}
+use Rattle.signalling_types.specs.declared.cause.Cause.{Cause}
+use Rattle.signalling_types.specs.declared.cause.Cause.TheVariants as causes
+use Rattle.signalling_types.specs.declared.outcome.Outcome.{Outcome}
+use Rattle.signalling_types.specs.declared.outcome.Outcome.TheVariants.{Queued, Held, Local, Handled, Ignored, Refused}
+use Rattle.signalling_types.specs.declared.notice.Notice.TheVariants as notices
+use Rattle.signalling_types.specs.declared.notice.FrameFault.{FrameFault}
+use Rattle.signalling_types.specs.declared.notice.FrameFault.TheVariants as faults
 use Rattle.m2pa_codec.specs.Frames.{FrameValue, EmptyFrame, MessageFrame}
 use Rattle.m2pa_codec.specs.Reading.{read_frame}
 use Rattle.routing_label.specs.declared.discrimination.Discrimination.{Discrimination}

@@ -1,9 +1,9 @@
 -- An exchange that stood for an abstract state stands for the state after each event and each frame that goes out.
 use Rattle.std.proofs.Common.{◌≡◌, ℕ, List, [], ap, ◌∙◌, length, ◌≤◌, replicate}
-use Rattle.stp_types.specs.Configuration.{Configuration}
-use Rattle.stp_types.specs.Message.{Message}
-use Rattle.stp_types.specs.declared.limits.TheConstants.Limits.{WINDOW}
-use Rattle.stp_types.specs.declared.notice.Notice.{Notice}
+use Rattle.settings_rows.specs.Configuration.{Configuration}
+use Rattle.signalling_types.specs.Message.{Message}
+use Rattle.signalling_types.specs.declared.limits.TheConstants.Limits.{WINDOW}
+use Rattle.signalling_types.specs.declared.notice.Notice.{Notice}
 use Rattle.link_sequence.specs.Queue.{IsQueue, first_queue}
 use Rattle.link_sequence.specs.Counts.{Counts, counts_of, unconfirmed, kept_first}
 use Rattle.link_sequence.proofs.Sound.{sound-first}

@@ -1,7 +1,7 @@
 -- The step of an exchange: what becomes of all that can happen, and the state after it.
 use Rattle.std.specs.Prelude.{◌≡◌, ℕ, Option}
-use Rattle.stp_types.specs.Configuration.{Configuration}
-use Rattle.stp_types.specs.declared.outcome.Outcome.{Outcome}
+use Rattle.settings_rows.specs.Configuration.{Configuration}
+use Rattle.signalling_types.specs.declared.outcome.Outcome.{Outcome}
 use Rattle.m2pa_codec.specs.Frames.{FrameValue}
 use Rattle.exchange.specs.State.{QueueKind, Node, State, Done, with_node}
 use Rattle.exchange.specs.Happening.{Happening, CameUp, FrameCame, Submitted}

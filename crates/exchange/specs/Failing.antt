@@ -1,7 +1,7 @@
 -- The failure of a link.
 use Rattle.std.specs.Prelude.{ℕ, false}
-use Rattle.stp_types.specs.declared.notice.FailureReason.{FailureReason}
-use Rattle.stp_types.specs.declared.notice.Notice.TheVariants as notices
+use Rattle.signalling_types.specs.declared.notice.FailureReason.{FailureReason}
+use Rattle.signalling_types.specs.declared.notice.Notice.TheVariants as notices
 use Rattle.exchange.specs.declared.link_state.Phase.TheVariants.{Down}
 use Rattle.exchange.specs.State.{QueueKind, Parts, Node, with_parts}
 use Rattle.exchange.specs.LinkState.{link_at, with_link}

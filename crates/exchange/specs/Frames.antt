@@ -1,12 +1,12 @@
 -- A frame that came by a link (RFC 4165 §4.2.1).
 use Rattle.std.specs.Prelude.{ℕ, Bool, true, false, List, Result, Ok, Err, if◌then◌else◌}
-use Rattle.stp_types.specs.Configuration.{Configuration}
-use Rattle.stp_types.specs.declared.cause.Cause.TheVariants.{NoSuchName}
-use Rattle.stp_types.specs.declared.outcome.Outcome.TheVariants.{Handled, Ignored}
-use Rattle.stp_types.specs.declared.notice.Notice.TheVariants as notices
-use Rattle.stp_types.specs.declared.notice.FailureReason.TheVariants as reasons
-use Rattle.stp_types.specs.declared.notice.FrameFault.{FrameFault}
-use Rattle.stp_types.specs.declared.notice.FrameFault.TheVariants as faults
+use Rattle.settings_rows.specs.Configuration.{Configuration}
+use Rattle.signalling_types.specs.declared.cause.Cause.TheVariants.{NoSuchName}
+use Rattle.signalling_types.specs.declared.outcome.Outcome.TheVariants.{Handled, Ignored}
+use Rattle.signalling_types.specs.declared.notice.Notice.TheVariants as notices
+use Rattle.signalling_types.specs.declared.notice.FailureReason.TheVariants as reasons
+use Rattle.signalling_types.specs.declared.notice.FrameFault.{FrameFault}
+use Rattle.signalling_types.specs.declared.notice.FrameFault.TheVariants as faults
 use Rattle.m2pa_codec.specs.Frames.{FrameValue, EmptyFrame, MessageFrame}
 use Rattle.m2pa_codec.specs.Reading.{read_frame}
 use Rattle.link_sequence.specs.declared.fault.SeqFault.{SeqFault}

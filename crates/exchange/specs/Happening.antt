@@ -1,6 +1,6 @@
 -- What happens to an exchange, and what it is asked, as plain data.
 use Rattle.std.specs.Prelude.{ℕ, List}
-use Rattle.stp_types.specs.Message.{Message}
+use Rattle.signalling_types.specs.Message.{Message}
 use Rattle.exchange.specs.declared.event.Event.{Event}
 use Rattle.exchange.specs.declared.event.Event.TheVariants.{AssociationUp, Frame, Submit}
 use Rattle.exchange.specs.declared.event.Call.{Call}

@@ -1,9 +1,9 @@
 -- What the abstract exchange does whatever the event: laws.
 use Rattle.std.specs.Prelude.{◌≡◌, ℕ, true, List, None, Result, Ok, Err, if◌then◌else◌}
-use Rattle.stp_types.specs.declared.cause.Cause.{Cause}
-use Rattle.stp_types.specs.declared.notice.Notice.TheVariants as notices
-use Rattle.stp_types.specs.declared.notice.FrameFault.{FrameFault}
-use Rattle.stp_types.specs.declared.outcome.Outcome.TheVariants.{Queued, Refused}
+use Rattle.signalling_types.specs.declared.cause.Cause.{Cause}
+use Rattle.signalling_types.specs.declared.notice.Notice.TheVariants as notices
+use Rattle.signalling_types.specs.declared.notice.FrameFault.{FrameFault}
+use Rattle.signalling_types.specs.declared.outcome.Outcome.TheVariants.{Queued, Refused}
 use Rattle.m2pa_codec.specs.Frames.{FrameValue}
 use Rattle.m2pa_codec.specs.Reading.{read_frame}
 use Rattle.link_sequence.specs.Queue.{Queue}

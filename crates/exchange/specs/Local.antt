@@ -1,8 +1,8 @@
 -- A message for this point, by its service indicator (Q.704 §14.2.1).
 use Rattle.std.specs.Prelude.{ℕ, nat_eq, if◌then◌else◌}
-use Rattle.stp_types.specs.Message.{Message, service_indicator}
-use Rattle.stp_types.specs.declared.cause.Cause.TheVariants.{NotInProfile}
-use Rattle.stp_types.specs.declared.outcome.Outcome.TheVariants.{Local}
+use Rattle.signalling_types.specs.Message.{Message, service_indicator}
+use Rattle.signalling_types.specs.declared.cause.Cause.TheVariants.{NotInProfile}
+use Rattle.signalling_types.specs.declared.outcome.Outcome.TheVariants.{Local}
 use Rattle.exchange.specs.State.{Node, Done, answer, refuse}
 
 -- the service indicator of SCCP

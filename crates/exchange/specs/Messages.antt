@@ -1,13 +1,13 @@
 -- A message: where it goes, and what becomes of it.
 use Rattle.std.specs.Prelude.{ℕ, Bool, nat_lt, nat_le, length, Option, Some, None, is_some, if◌then◌else◌}
-use Rattle.stp_types.specs.Message.{Message, flow_of, dpc_of, is_management}
-use Rattle.stp_types.specs.Configuration.{Configuration}
-use Rattle.stp_types.specs.declared.point.Flow.{Flow}
+use Rattle.signalling_types.specs.Message.{Message, flow_of, dpc_of, is_management}
+use Rattle.settings_rows.specs.Configuration.{Configuration}
+use Rattle.signalling_types.specs.declared.point.Flow.{Flow}
 use Rattle.stp_types.specs.Readings.{destination_place}
-use Rattle.stp_types.specs.declared.limits.TheConstants.Limits.{MANAGEMENT_MESSAGES, SIF_OCTETS}
-use Rattle.stp_types.specs.declared.cause.Cause.{Cause}
-use Rattle.stp_types.specs.declared.cause.Cause.TheVariants.{NotInProfile, UnknownDestination, PoolFull, ManagementFull, NoRoute, TooLong}
-use Rattle.stp_types.specs.declared.outcome.Outcome.TheVariants.{Queued}
+use Rattle.signalling_types.specs.declared.limits.TheConstants.Limits.{MANAGEMENT_MESSAGES, SIF_OCTETS}
+use Rattle.signalling_types.specs.declared.cause.Cause.{Cause}
+use Rattle.signalling_types.specs.declared.cause.Cause.TheVariants.{NotInProfile, UnknownDestination, PoolFull, ManagementFull, NoRoute, TooLong}
+use Rattle.signalling_types.specs.declared.outcome.Outcome.TheVariants.{Queued}
 use Rattle.routing_label.specs.Discrimination.{discrimination}
 use Rattle.routing_label.specs.declared.discrimination.Discrimination.{Discrimination}
 use Rattle.routing_label.specs.declared.discrimination.Discrimination.TheVariants as whither

@@ -1,11 +1,11 @@
 -- Notices: what an operator is told.
 use Rattle.std.specs.Prelude.{ℕ, [], ◌∷◌, ◌++◌}
 use Rattle.circular_buffer.specs.Buffer.{keep_last}
-use Rattle.stp_types.specs.declared.limits.TheConstants.Limits.{NOTICES}
-use Rattle.stp_types.specs.declared.outcome.Outcome.{Outcome}
-use Rattle.stp_types.specs.declared.outcome.Outcome.TheVariants.{Queued, Held, Local, Handled, Ignored, Refused}
-use Rattle.stp_types.specs.declared.notice.Notice.{Notice}
-use Rattle.stp_types.specs.declared.notice.Notice.TheVariants as notices
+use Rattle.signalling_types.specs.declared.limits.TheConstants.Limits.{NOTICES}
+use Rattle.signalling_types.specs.declared.outcome.Outcome.{Outcome}
+use Rattle.signalling_types.specs.declared.outcome.Outcome.TheVariants.{Queued, Held, Local, Handled, Ignored, Refused}
+use Rattle.signalling_types.specs.declared.notice.Notice.{Notice}
+use Rattle.signalling_types.specs.declared.notice.Notice.TheVariants as notices
 use Rattle.exchange.specs.State.{Parts, Done, with_parts}
 
 -- of the notices the last 64 are kept

@@ -1,7 +1,7 @@
 -- An association is there, and a link opens (RFC 4165 §4.1.3).
 use Rattle.std.specs.Prelude.{ℕ, true, false, if◌then◌else◌}
-use Rattle.stp_types.specs.declared.cause.Cause.TheVariants.{NoSuchName, LinkNotReady}
-use Rattle.stp_types.specs.declared.outcome.Outcome.TheVariants.{Handled}
+use Rattle.signalling_types.specs.declared.cause.Cause.TheVariants.{NoSuchName, LinkNotReady}
+use Rattle.signalling_types.specs.declared.outcome.Outcome.TheVariants.{Handled}
 use Rattle.exchange.specs.declared.link_state.Phase.TheVariants.{InService}
 use Rattle.exchange.specs.State.{QueueKind, Node, Done, answer, refuse}
 use Rattle.exchange.specs.LinkState.{is_link, link_at, with_link}

@@ -1,6 +1,6 @@
 -- The two kinds of queues: whole, as the definitions have them, and kept, as the code keeps them.
 use Rattle.std.specs.Prelude.{ℕ, List, [], sum_by, slice_index_or, slice_set}
-use Rattle.stp_types.specs.Message.{Message}
+use Rattle.signalling_types.specs.Message.{Message}
 use Rattle.cell_pool.specs.Lanes.{lane_at, pushed, dropped, users, managements, users_in, managements_in}
 use Rattle.link_sequence.specs.Queue as queue
 use Rattle.link_sequence.specs.Queue.{Queue, first_queue, count_confirmed}

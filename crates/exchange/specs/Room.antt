@@ -1,5 +1,5 @@
 -- How an exchange lies in its parts, and the room that they have.
-use Rattle.stp_types.specs.declared.limits.TheConstants.Limits.{NOTICES}
+use Rattle.signalling_types.specs.declared.limits.TheConstants.Limits.{NOTICES}
 use Rattle.std.specs.Prelude.{◌≡◌, length, vec_len}
 use Rattle.exchange.specs.State.{State}
 use Rattle.exchange.specs.Queues.{KeptQueues}

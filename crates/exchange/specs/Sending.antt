@@ -1,6 +1,6 @@
 -- What goes out on a link (RFC 4165 §4.2.1).
 use Rattle.std.specs.Prelude.{ℕ, Bool, true, false, Option, Some, None, if◌then◌else◌}
-use Rattle.stp_types.specs.Configuration.{Configuration}
+use Rattle.settings_rows.specs.Configuration.{Configuration}
 use Rattle.m2pa_codec.specs.Frames.{FrameValue, EmptyFrame, MessageFrame}
 use Rattle.link_sequence.specs.Queue.{Sending}
 use Rattle.exchange.specs.State.{QueueKind, Node}

@@ -1,6 +1,6 @@
 -- What an exchange keeps of an abstract state, and when it stands for one.
 use Rattle.std.specs.Prelude.{◌≡◌, ℕ, List, [], map, length, replicate}
-use Rattle.stp_types.specs.Configuration.{Configuration}
+use Rattle.settings_rows.specs.Configuration.{Configuration}
 use Rattle.link_sequence.specs.Queue.{Queue, IsQueue, first_queue}
 use Rattle.link_sequence.specs.Counts.{counts_of, unconfirmed}
 use Rattle.exchange.specs.State.{Parts, State, keep}

@@ -1,11 +1,11 @@
 -- The state of an exchange, with queues of any kind.
 use Rattle.std.specs.Prelude.{ℕ, Bool, List, Option, Result}
-use Rattle.stp_types.specs.Message.{Message}
-use Rattle.stp_types.specs.Configuration.{Configuration}
-use Rattle.stp_types.specs.declared.cause.Cause.{Cause}
-use Rattle.stp_types.specs.declared.notice.Notice.{Notice}
-use Rattle.stp_types.specs.declared.outcome.Outcome.{Outcome}
-use Rattle.stp_types.specs.declared.outcome.Outcome.TheVariants.{Refused}
+use Rattle.signalling_types.specs.Message.{Message}
+use Rattle.settings_rows.specs.Configuration.{Configuration}
+use Rattle.signalling_types.specs.declared.cause.Cause.{Cause}
+use Rattle.signalling_types.specs.declared.notice.Notice.{Notice}
+use Rattle.signalling_types.specs.declared.outcome.Outcome.{Outcome}
+use Rattle.signalling_types.specs.declared.outcome.Outcome.TheVariants.{Refused}
 use Rattle.link_sequence.specs.Queue.{Sending}
 use Rattle.link_sequence.specs.declared.fault.SeqFault.{SeqFault}
 use Rattle.exchange.specs.declared.link_state.LinkState.{LinkState}

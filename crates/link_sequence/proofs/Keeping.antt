@@ -1,7 +1,7 @@
 -- When counts and messages are what is kept of a queue, they are so after each word.
 use Rattle.std.proofs.Common.{◌≡◌, ℕ, Bool, ◌<◌, ◌≤◌, ◌^◌, ◌++◌, List, [], ◌∷◌, drop, refl, sym, ◌∙◌}
-use Rattle.stp_types.specs.Message.{Message}
-use Rattle.stp_types.specs.declared.limits.TheConstants.Limits.{WINDOW}
+use Rattle.signalling_types.specs.Message.{Message}
+use Rattle.signalling_types.specs.declared.limits.TheConstants.Limits.{WINDOW}
 use Rattle.link_sequence.specs.Queue.{Queue, first_queue, first_queue_at, newly_confirmed, accept_answer, count_confirmed, accepted, to_send, sent_one, appended, emptied, last_sent, last_accepted}
 use Rattle.link_sequence.specs.Counts.{Counts, kept_first, kept_first_at, kept_newly_confirmed, kept_accept_answer, kept_accepted, kept_to_send, kept_sent_one, kept_emptied, kept_last_sent, kept_last_accepted}
 use Rattle.link_sequence.specs.Keeps.{Keeps}

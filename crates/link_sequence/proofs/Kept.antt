@@ -2,7 +2,7 @@
 use Rattle.std.proofs.Common.{◌≡◌, ℕ, Bool, true, false, ◌+◌, ◌-◌, ◌%◌, ◌^◌, ◌<◌, ◌≤◌, ◌++◌, [], ◌∷◌, drop, arith, refl, Option, Some, None, Result, Ok, Err, nat_eq, if◌then◌else◌, sym, ap, ◌∙◌}
 use Rattle.std.proofs.lemmas.Grind.{common_steps}
 use Rattle.std.proofs.lemmas.List.{drop-drop, drop-append-le}
-use Rattle.stp_types.specs.Message.{Message}
+use Rattle.signalling_types.specs.Message.{Message}
 use Rattle.link_number.specs.Numbers.{previous_number}
 use Rattle.link_sequence.specs.declared.fault.SeqFault.{SeqFault}
 use Rattle.link_sequence.specs.Queue.{Queue, IsQueue, Sending, first_queue, first_queue_at, newly_confirmed, expected, accept_answer, count_confirmed, after_answer, accepted, to_send, after_sending, sent_one, appended, emptied, last_sent, last_accepted, confirmation}

@@ -1,7 +1,7 @@
 -- A list of a store that was changed.
 use Rattle.std.proofs.Common.{◌≡◌, ℕ, ◌<◌, ◌++◌, List, [], ◌∷◌, drop, length, arith}
 use Rattle.std.proofs.lemmas.Grind.{common_steps}
-use Rattle.stp_types.specs.Message.{Message}
+use Rattle.signalling_types.specs.Message.{Message}
 use Rattle.cell_pool.specs.Lanes.{lane_at, pushed, dropped}
 
 pub lane_at-dropped : (lists : List (List Message)) (lane count : ℕ) → lane < length lists →

@@ -3,8 +3,8 @@ use Rattle.std.proofs.Common.{◌≡◌, ℕ, Bool, true, false, ◌-◌, ◌<�
 use Rattle.std.proofs.lemmas.Grind.{common_steps}
 use Rattle.std.proofs.lemmas.Bool.Decides.{nat_tests}
 use Rattle.std.proofs.lemmas.Option.{slice_get_within}
-use Rattle.stp_types.specs.Message.{Message}
-use Rattle.stp_types.specs.declared.limits.TheConstants.Limits.{WINDOW}
+use Rattle.signalling_types.specs.Message.{Message}
+use Rattle.signalling_types.specs.declared.limits.TheConstants.Limits.{WINDOW}
 use Rattle.link_sequence.specs.declared.fault.SeqFault.{SeqFault}
 use Rattle.link_number.specs.Numbers.{steps_between, next_number}
 use Rattle.link_sequence.proofs.Kept.{kept-newly_confirmed}

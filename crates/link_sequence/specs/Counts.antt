@@ -1,7 +1,7 @@
 -- What is kept of a queue: the messages that aren't confirmed, the number of the first of them, how many of them
 -- were sent, and the number that the peer's next message must have.
 use Rattle.std.specs.Prelude.{ℕ, Bool, ◌+◌, ◌-◌, ◌%◌, List, drop, Option, Some, None, Result, Ok, Err, nat_eq, nat_lt, nat_le, slice_get, if◌then◌else◌}
-use Rattle.stp_types.specs.Message.{Message}
+use Rattle.signalling_types.specs.Message.{Message}
 use Rattle.link_number.specs.Numbers.{modulus, next_number, previous_number, steps_between}
 use Rattle.link_sequence.specs.declared.fault.SeqFault.{SeqFault}
 use Rattle.link_sequence.specs.declared.fault.SeqFault.TheVariants.{BadFsn}

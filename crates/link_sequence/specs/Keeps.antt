@@ -1,6 +1,6 @@
 -- When counts and a list of messages are what is kept of a queue with a window of w.
 use Rattle.std.specs.Prelude.{◌≡◌, ℕ, List}
-use Rattle.stp_types.specs.Message.{Message}
+use Rattle.signalling_types.specs.Message.{Message}
 use Rattle.link_sequence.specs.Queue.{Queue, IsQueue}
 use Rattle.link_sequence.specs.Counts.{Counts, counts_of, unconfirmed}
 

@@ -1,8 +1,8 @@
 -- The queue of a link: all messages of an epoch in order, numbered from 0, and how far they have come (RFC 4165 §2.2).
 use Rattle.std.specs.Prelude.{◌≡◌, ℕ, zero, suc, Bool, ◌+◌, ◌-◌, ◌%◌, ◌≤◌, List, [], ◌∷◌, ◌++◌, length, find, Option, Some, None, Result, Ok, Err, nat_eq, nat_lt, slice_get, if◌then◌else◌}
 use Rattle.std.specs.Option.{option_map}
-use Rattle.stp_types.specs.Message.{Message}
-use Rattle.stp_types.specs.declared.limits.TheConstants.Limits.{WINDOW}
+use Rattle.signalling_types.specs.Message.{Message}
+use Rattle.signalling_types.specs.declared.limits.TheConstants.Limits.{WINDOW}
 use Rattle.link_number.specs.Numbers.{modulus, next_number, previous_number}
 use Rattle.link_sequence.specs.declared.fault.SeqFault.{SeqFault}
 use Rattle.link_sequence.specs.declared.fault.SeqFault.TheVariants.{BadFsn, BadBsn}

@@ -3,7 +3,7 @@
 ghost use Rattle.std.specs.Prelude.{◌≡◌, ℕ, ◌-◌, ◌<◌, ◌≤◌, List, [], None, OnErr, length, nat_lt, slice_get, if◌then◌else◌};
 ghost use Rattle.std.specs.Option.{option_map, option_copied};
 ghost use Rattle.cell_pool.specs.Lanes.{lane_at, dropped};
-ghost use Rattle.stp_types.specs.Message.{Message};
+ghost use Rattle.signalling_types.specs.Message.{Message};
 ghost use Rattle.link_sequence.specs.Queue.{
   Queue,
   first_queue,

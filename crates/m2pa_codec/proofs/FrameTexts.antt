@@ -6,7 +6,7 @@ use Rattle.std.specs.Prelude.{slice_index, IfOk}
 use Rattle.std.specs.Int.{w32, to_be_bytes}
 use Rattle.std.proofs.lemmas.Nat.{from_be_bytes-to_be_bytes_4}
 use Rattle.std.proofs.lemmas.Bool.Decides.{nat_tests}
-use Rattle.stp_types.specs.declared.notice.FrameFault.{FrameFault}
+use Rattle.signalling_types.specs.declared.notice.FrameFault.{FrameFault}
 use Rattle.link_number.proofs.Octets.{number_of-three_octets, three_octets-number_of, number_of-fits}
 use Rattle.m2pa_codec.specs.Frames.{FrameValue, EmptyFrame, MessageFrame, user_data, common_header, number_header, IsHeaded, IsFrame, AreOctets, spelled, IsSayable}
 use Rattle.m2pa_codec.specs.Reading.{length_field, bsn_field, fsn_field, fault_of, value_in, unless, read_frame}

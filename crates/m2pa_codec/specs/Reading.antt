@@ -1,8 +1,8 @@
 -- Reading a frame, with the first fault that is met (RFC 4165 §2).
 use Rattle.std.specs.Prelude.{ℕ, ◌+◌, List, [], ◌∷◌, length, drop, Option, Some, None, Result, Ok, Err, nat_lt, ◌==◌, not, if◌then◌else◌, slice_index}
 use Rattle.std.specs.Int.{w32, from_be_bytes}
-use Rattle.stp_types.specs.declared.notice.FrameFault.{FrameFault}
-use Rattle.stp_types.specs.declared.notice.FrameFault.TheVariants.{Short, Length, Version, Unknown}
+use Rattle.signalling_types.specs.declared.notice.FrameFault.{FrameFault}
+use Rattle.signalling_types.specs.declared.notice.FrameFault.TheVariants.{Short, Length, Version, Unknown}
 use Rattle.link_number.specs.Numbers.{number_of}
 use Rattle.m2pa_codec.specs.Frames.{FrameValue, EmptyFrame, MessageFrame, user_data}
 

@@ -1,6 +1,6 @@
 -- What a frame of the code says, without where its octets lie.
 use Rattle.std.specs.Prelude.{◌≡◌, Result, Ok, Err}
-use Rattle.stp_types.specs.declared.notice.FrameFault.{FrameFault}
+use Rattle.signalling_types.specs.declared.notice.FrameFault.{FrameFault}
 use Rattle.m2pa_codec.specs.declared.frame.Frame.{Frame}
 use Rattle.m2pa_codec.specs.declared.frame.Frame.TheVariants.{Empty, Message}
 use Rattle.m2pa_codec.specs.Frames.{FrameValue, EmptyFrame, MessageFrame}

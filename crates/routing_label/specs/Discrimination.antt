@@ -1,8 +1,8 @@
 -- Whether a message is for this point or another (Q.704 §2.3).
 use Rattle.std.specs.Prelude.{ℕ, Option, Some, None, length, nat_lt, nat_eq, if◌then◌else◌}
-use Rattle.stp_types.specs.Message.{Message, dpc_of, network_indicator}
-use Rattle.stp_types.specs.declared.cause.Cause.{Cause}
-use Rattle.stp_types.specs.declared.cause.Cause.TheVariants.{NoLabel, WrongNetwork}
+use Rattle.signalling_types.specs.Message.{Message, dpc_of, network_indicator}
+use Rattle.signalling_types.specs.declared.cause.Cause.{Cause}
+use Rattle.signalling_types.specs.declared.cause.Cause.TheVariants.{NoLabel, WrongNetwork}
 use Rattle.routing_label.specs.declared.discrimination.Discrimination.{Discrimination}
 use Rattle.routing_label.specs.declared.discrimination.Discrimination.TheVariants.{Here, Transfer, Refused}
 

@@ -1,6 +1,6 @@
 -- The routing label: where a message goes, where it comes from, and how it chooses its link (Q.704 §2.2).
 use Rattle.std.specs.Prelude.{ℕ, ◌+◌, ◌*◌, ◌/◌, ◌%◌, ◌^◌, ◌<◌, List, [], ◌∷◌, Option, Some, None, length, nat_lt, if◌then◌else◌}
-use Rattle.stp_types.specs.Message.{label_number}
+use Rattle.signalling_types.specs.Message.{label_number}
 use Rattle.routing_label.specs.declared.label.Label.{Label}
 
 -- the label of a signalling information field: its first four octets as one number, low octet first;

@@ -1,7 +1,7 @@
 //! Whether a message is for this point or another.
 
 ghost use Rattle.std.specs.Prelude.{◌≡◌};
-ghost use Rattle.stp_types.specs.Lent.{lent};
+ghost use Rattle.signalling_types.specs.Lent.{lent};
 ghost use Rattle.routing_label.specs.Discrimination.{discrimination};
 
 use crate::label::Label;
@@ -28,7 +28,7 @@ pub fn discriminate(message: MsuRef<'_>, own: PointCode, network: u8) -> Discrim
     let Some(label) = Label::read(message.sif) else {
         return Discrimination::Refused(Cause::NoLabel);
     };
-    if message.sio >> 6 != network {
+    if message.network_indicator() != network {
         return Discrimination::Refused(Cause::WrongNetwork);
     }
     if label.dpc == own {

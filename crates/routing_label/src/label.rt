@@ -1,7 +1,7 @@
 //! The routing label of a message.
 
 ghost use Rattle.std.specs.Prelude.{◌≡◌, ℕ, ◌<◌, ◌++◌, List, All};
-ghost use Rattle.stp_types.specs.Message.{label_number};
+ghost use Rattle.signalling_types.specs.Message.{label_number};
 ghost use Rattle.routing_label.specs.Label.{IsLabel, label_in, label_octets, number_of_label};
 ghost use Rattle.routing_label.specs.declared.label.Label.{Label};
 

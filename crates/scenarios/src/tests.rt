@@ -12,8 +12,8 @@ use std::alloc::Global;
 use std::process::Abort;
 use std::test::Fail;
 use stp_node::{MemorySink, MemorySource, ScriptFault, built_in, run_script};
-use stp_types::draft::Draft;
-use stp_types::settings::Settings;
+use stp_types::Draft;
+use stp_types::Settings;
 
 /// A node with these settings, before its first event.
 fn booted(alloc: Global, draft: Draft) -> Result<Exchange, Fail> {

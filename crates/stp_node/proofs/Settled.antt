@@ -1,13 +1,13 @@
 -- No line of a script changes the settings.
 use Rattle.std.proofs.Common.{◌≡◌, ℕ, Bool, true, false, List, Option, Some, None, Result, Ok, Err, length, nat_lt, refl}
 use Rattle.std.specs.Prelude.{if◌then◌else◌}
-use Rattle.stp_types.specs.Message.{Message}
+use Rattle.signalling_types.specs.Message.{Message}
 use Rattle.stp_types.specs.Readings.{link_place}
-use Rattle.stp_types.specs.declared.limits.TheConstants.Limits.{SIF_OCTETS}
-use Rattle.stp_types.specs.declared.outcome.Outcome.{Outcome}
-use Rattle.stp_types.specs.declared.outcome.Outcome.TheVariants.{Queued, Held, Local, Handled, Ignored, Refused}
-use Rattle.stp_types.specs.declared.notice.FrameFault.{FrameFault}
-use Rattle.stp_types.specs.declared.notice.FrameFault.TheVariants.{Short, Length, Version, Unknown}
+use Rattle.signalling_types.specs.declared.limits.TheConstants.Limits.{SIF_OCTETS}
+use Rattle.signalling_types.specs.declared.outcome.Outcome.{Outcome}
+use Rattle.signalling_types.specs.declared.outcome.Outcome.TheVariants.{Queued, Held, Local, Handled, Ignored, Refused}
+use Rattle.signalling_types.specs.declared.notice.FrameFault.{FrameFault}
+use Rattle.signalling_types.specs.declared.notice.FrameFault.TheVariants.{Short, Length, Version, Unknown}
 use Rattle.m2pa_codec.specs.Frames.{FrameValue, EmptyFrame, MessageFrame}
 use Rattle.m2pa_codec.specs.Reading.{read_frame}
 use Rattle.link_sequence.specs.declared.fault.SeqFault.{SeqFault}

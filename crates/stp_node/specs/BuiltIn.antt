@@ -1,10 +1,10 @@
 -- The settings that a node runs with where it is given none.
 use Rattle.std.specs.Prelude.{◌≡◌, ℤ, pos, List, [], ◌∷◌, map, codes, string_bytes}
-use Rattle.stp_types.specs.declared.draft.Draft.{Draft}
-use Rattle.stp_types.specs.declared.draft.TimersDraft.{TimersDraft}
-use Rattle.stp_types.specs.declared.draft.SetDraft.{SetDraft}
-use Rattle.stp_types.specs.declared.draft.LinkDraft.{LinkDraft}
-use Rattle.stp_types.specs.declared.draft.DestinationDraft.{DestinationDraft}
+use Rattle.settings_rows.specs.declared.draft.Draft.{Draft}
+use Rattle.settings_rows.specs.declared.draft.TimersDraft.{TimersDraft}
+use Rattle.settings_rows.specs.declared.draft.SetDraft.{SetDraft}
+use Rattle.settings_rows.specs.declared.draft.LinkDraft.{LinkDraft}
+use Rattle.settings_rows.specs.declared.draft.DestinationDraft.{DestinationDraft}
 
 -- how many ticks each timer runs
 abbrev pub built_in_ticks : TimersDraft

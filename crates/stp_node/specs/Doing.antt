@@ -1,13 +1,13 @@
 -- What a line of a script prints, and the state after it, for queues of any kind.
 use Rattle.std.specs.Prelude.{ℕ, List, [], take, drop, length, nat_lt, if◌then◌else◌, Option, Some, None, slice_get, slice_index, unwrap_or}
 use Rattle.std.specs.Option.{option_map}
-use Rattle.stp_types.specs.Message.{Message}
-use Rattle.stp_types.specs.Configuration.{Configuration}
+use Rattle.signalling_types.specs.Message.{Message}
+use Rattle.settings_rows.specs.Configuration.{Configuration}
 use Rattle.stp_types.specs.Readings.{link_place}
-use Rattle.stp_types.specs.declared.limits.TheConstants.Limits.{SIF_OCTETS, NAME_OCTETS}
-use Rattle.stp_types.specs.declared.cause.Cause.TheVariants.{NoSuchName, TooLong}
-use Rattle.stp_types.specs.declared.outcome.Outcome.{Outcome}
-use Rattle.stp_types.specs.declared.outcome.Outcome.TheVariants.{Queued, Held, Local, Handled, Ignored, Refused}
+use Rattle.signalling_types.specs.declared.limits.TheConstants.Limits.{SIF_OCTETS, NAME_OCTETS}
+use Rattle.signalling_types.specs.declared.cause.Cause.TheVariants.{NoSuchName, TooLong}
+use Rattle.signalling_types.specs.declared.outcome.Outcome.{Outcome}
+use Rattle.signalling_types.specs.declared.outcome.Outcome.TheVariants.{Queued, Held, Local, Handled, Ignored, Refused}
 use Rattle.m2pa_codec.specs.Frames.{FrameValue, spelled}
 use Rattle.exchange.specs.State.{State, QueueKind}
 use Rattle.exchange.specs.Rules.{up_outcome, up, frame_outcome, framed, submit_outcome, submitted, frame_to_take, taken}

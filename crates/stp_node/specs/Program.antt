@@ -1,7 +1,7 @@
 -- The words behind the program's name, and its exit statuses.
 use Rattle.std.specs.Prelude.{ℕ, List, [], ◌∷◌, if◌then◌else◌, codes, bytes_eq, ◌≡◌, ◌⊎◌, Option, Result, Ok, Err}
 use Rattle.std.specs.Io.KnownBytes.{Appends}
-use Rattle.stp_types.specs.Configuration.{Configuration}
+use Rattle.settings_rows.specs.Configuration.{Configuration}
 use Rattle.exchange.specs.State.{State}
 use Rattle.exchange.specs.Queues.{KeptQueues}
 use Rattle.exchange.specs.Stands.{kept_of, first_state}

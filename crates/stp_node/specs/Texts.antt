@@ -1,9 +1,9 @@
 -- What a script prints.
 use Rattle.std.specs.Prelude.{ℕ, ◌++◌, List, codes, decimal}
 use Rattle.hex.specs.Hex.{encode_lower}
-use Rattle.stp_types.specs.Causes.{cause_number, cause_name}
-use Rattle.stp_types.specs.declared.outcome.Outcome.{Outcome}
-use Rattle.stp_types.specs.declared.outcome.Outcome.TheVariants.{Queued, Held, Local, Handled, Ignored, Refused}
+use Rattle.signalling_types.specs.Causes.{cause_number, cause_name}
+use Rattle.signalling_types.specs.declared.outcome.Outcome.{Outcome}
+use Rattle.signalling_types.specs.declared.outcome.Outcome.TheVariants.{Queued, Held, Local, Handled, Ignored, Refused}
 
 -- the line of an outcome, with the name of the link that it names, if any
 abbrev pub outcome_text : List ℕ → Outcome → List ℕ

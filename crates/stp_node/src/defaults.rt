@@ -4,7 +4,7 @@ ghost use Rattle.std.specs.Prelude.{◌≡◌, ◌∷◌, [], IfOk};
 ghost use Rattle.stp_node.specs.BuiltIn.{IsBuiltIn, built_in_ticks, IsSets, IsLinks, IsDestination, IsDestinations};
 
 use std::alloc::{AllocError, Global};
-use stp_types::draft::{DestinationDraft, Draft, LinkDraft, SetDraft, TimersDraft};
+use stp_types::{DestinationDraft, Draft, LinkDraft, SetDraft, TimersDraft};
 
 /// The name of the one link set.
 const SET: &str = "east";

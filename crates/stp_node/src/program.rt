@@ -14,8 +14,8 @@ use exchange::{Exchange, NoMemory};
 use std::alloc::{AllocError, Global};
 use std::fmt::Write;
 use std::io::{Error, ErrorKind};
-use stp_types::fault::DraftFault;
-use stp_types::settings::Settings;
+use stp_types::DraftFault;
+use stp_types::Settings;
 
 /// Octets of the line of a fault in settings, at most.
 const FAULT_OCTETS: usize = 128;

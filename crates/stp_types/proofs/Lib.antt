@@ -1,2 +1,4 @@
 pub mod Places
-pub mod Firsts
+pub mod Rows
+pub mod WellNumbers
+pub mod WellSets

@@ -1,27 +1,14 @@
 -- How checked settings are kept.
 use Rattle.std.specs.Prelude.{◌≡◌, map}
-use Rattle.stp_types.specs.Configuration.{Configuration}
-use Rattle.stp_types.specs.Accepted.{IsAccepted}
-use Rattle.stp_types.specs.Bounds.{HasBounds}
+use Rattle.settings_check.specs.Checked.{configuration_in}
+use Rattle.settings_rows.specs.Configuration.{Configuration}
+use Rattle.stp_types.specs.Well.{IsWell}
 use Rattle.stp_types.specs.declared.settings.Settings.TheInside.{Inside}
 
 abbrev pub configuration_of : Inside → Configuration
-configuration_of s = record {
-  own = s.own;
-  network = s.network;
-  window = s.window;
-  pool = s.pool;
-  users = s.users.items;
-  subsystems = s.subsystems.items;
-  timers = s.timers;
-  sets = s.sets.items;
-  links = s.links.items;
-  destinations = s.destinations.items;
-  titles = s.titles.items;
-}
+configuration_of s = configuration_in s.checked
 
--- they were accepted, the limits are kept, and the index has the destinations' point codes in their order
+-- the limits are kept, and the index has the destinations' point codes in their order
 pub record IsKept (s : Inside) : Type 0 where
-  pub accepted : IsAccepted (configuration_of s)
-  pub bounds : HasBounds (configuration_of s)
-  pub indexed : s.points.keys ≡ map (λ d. d.point) s.destinations.items
+  pub well : IsWell (configuration_of s)
+  pub indexed : s.checked.points.keys ≡ map (λ d. d.point) s.checked.destinations.items

@@ -1,14 +1,3 @@
-pub mod Configuration
-pub mod Bounds
+pub mod Well
 pub mod Readings
-pub mod Checks
-pub mod Meaning
-pub mod FirstFault
-pub mod Faults
-pub mod Accepted
 pub mod Kept
-pub mod Message
-pub mod Lent
-pub mod Room
-pub mod Causes
-pub mod InPlace

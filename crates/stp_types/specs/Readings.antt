@@ -1,7 +1,7 @@
 -- What is read from checked settings.
 use Rattle.std.specs.Prelude.{ℕ, Option, position, nat_eq, List}
 use Rattle.std.specs.Str.{bytes_eq}
-use Rattle.stp_types.specs.Configuration.{Configuration}
+use Rattle.settings_rows.specs.Configuration.{Configuration}
 
 -- the number of the link of this name
 abbrev pub link_place : Configuration → List ℕ → Option ℕ

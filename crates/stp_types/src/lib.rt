@@ -1,31 +1,14 @@
-//! The small types that every part of the node names: messages, numbers of links and points,
-//! causes, outcomes, notices and limits, and the settings of a node, as they were written and
-//! checked.
+//! The small types that every part of the node names, and the checked settings of a node.
 #![tactic(auto)]
 
-pub mod cause;
-mod check;
-pub mod configuration;
-pub mod draft;
-pub mod fault;
-pub mod limits;
-pub mod message;
-pub mod msu_ref;
-pub mod notice;
-pub mod outcome;
-pub mod point;
 pub mod settings;
-#[cfg(test)]
-mod tests;
 
-pub use cause::Cause;
-pub use configuration::{DestinationRow, LinkRow, SetRow, TimerTicks, TitleRow};
-pub use draft::{DestinationDraft, Draft, LinkDraft, SetDraft, TimersDraft, TitleDraft};
-pub use fault::{DraftFault, FaultKind, Key, TimerKey};
-pub use limits::Limits;
-pub use message::Msu;
-pub use msu_ref::MsuRef;
-pub use notice::{ChangeoverTimer, FailureReason, FrameFault, LateTimer, Notice};
-pub use outcome::Outcome;
-pub use point::{Flow, LinkId, PointCode, SetId, Sls};
 pub use settings::Settings;
+pub use settings_rows::{
+    DestinationDraft, DestinationRow, Draft, DraftFault, FaultKind, Key, LinkDraft, LinkRow, Route,
+    SetDraft, SetRow, TimerKey, TimerTicks, TimersDraft, TitleDraft, TitleRow,
+};
+pub use signalling_types::{
+    Cause, ChangeoverTimer, FailureReason, Flow, FrameFault, LateTimer, Limits, LinkId, Msu, MsuRef, Notice,
+    Outcome, PointCode, SetId, Sls, Ssn,
+};

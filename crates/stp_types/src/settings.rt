@@ -3,47 +3,26 @@
 ghost use Rattle.std.specs.Str.{bytes_eq};
 ghost use Rattle.std.specs.List.{list_any};
 ghost use Rattle.std.specs.Option.{option_copied, option_map};
-ghost use Rattle.std.specs.Prelude.{All, IfOk, OnOk, IfErr, ◌⊎◌, Some, None, ◌≡◌, position, ◌<◌, ◌≤◌, length, nat_eq, slice_get};
-ghost use Rattle.stp_types.specs.Meaning.{settings_of};
-ghost use Rattle.stp_types.specs.FirstFault.{first_fault};
+ghost use Rattle.std.specs.Prelude.{All, IfOk, IfSome, OnOk, IfErr, ◌⊎◌, Some, None, ◌≡◌, position, ◌<◌, ◌≤◌, length, nat_eq, slice_get};
+ghost use Rattle.settings_check.specs.Meaning.{settings_of};
+ghost use Rattle.settings_check.specs.FirstFault.{first_fault};
 ghost use Rattle.stp_types.specs.Readings.{link_place, destination_place};
-ghost use Rattle.stp_types.specs.Bounds.{HasTicks, IsLedBy};
-ghost use Rattle.stp_types.specs.Accepted.{IsAccepted};
+ghost use Rattle.stp_types.specs.Well.{IsWell, IsWithin, IsSet, IsLink, IsDestination, IsTitle, all_ticks};
 
-use crate::check::{self, Arrays};
-use crate::configuration::{DestinationRow, LinkRow, SetRow, TimerTicks, TitleRow};
-use crate::draft::Draft;
-use crate::fault::{DraftFault, Key};
-use crate::limits::Limits;
-use crate::point::{LinkId, PointCode};
-use indexmap::IndexSet;
+use settings_check::{Checked, check_draft};
+use settings_rows::{DestinationRow, Draft, DraftFault, LinkRow, SetRow, TimerTicks, TitleRow};
+use signalling_types::{Limits, LinkId, PointCode};
 use std::alloc::Global;
 use std::marker::Model;
 
-/// The service indicators of user parts (Q.704 §14.2.1).
-const FIRST_USER: u8 = 4;
-
-const LAST_USER: u8 = 15;
-
 /// The checked settings of a node: every name is known, every number is within its limit.
-#[derive(Debug, Drop)]
+#[derive(Drop)]
 pub struct Settings {
-    own: PointCode,
-    network: u8,
-    window: u16,
-    pool: u16,
-    users: Vec<u8>,
-    subsystems: Vec<u8>,
-    timers: TimerTicks,
-    sets: Vec<SetRow>,
-    links: Vec<LinkRow>,
-    destinations: Vec<DestinationRow>,
-    titles: Vec<TitleRow>,
-    points: IndexSet<u16>,
+    checked: Checked,
 }
 
 impl Model for Settings {
-    ghost use Rattle.stp_types.specs.Configuration.{Configuration};
+    ghost use Rattle.settings_rows.specs.Configuration.{Configuration};
 
     ghost Value = { Configuration };
 
@@ -66,59 +45,22 @@ impl Settings {
         ensures fault { IfErr result (λ fault.
             (fault ≡ DraftFault.NoMemory) ⊎ (first_fault draft ≡ Some fault)) }
     {
-        let scalars = check::checked_scalars(&draft)?;
-        let users = check::numbers::distinct_numbers(
-            alloc,
-            &draft.users,
-            FIRST_USER,
-            LAST_USER,
-            Key::Users,
-        )?;
-        let subsystems = check::numbers::distinct_numbers(
-            alloc,
-            &draft.subsystems,
-            1,
-            u8::MAX,
-            Key::Subsystems,
-        )?;
-        let timers = check::numbers::timer_ticks(&draft.timers)?;
-        let arrays = check::checked_arrays(alloc, scalars.own, &draft)?;
-        let Arrays {
-            sets,
-            links,
-            destinations,
-            titles,
-            points,
-        } = arrays;
-        Ok(Settings {
-            own: scalars.own,
-            network: scalars.network as u8,
-            window: scalars.window,
-            pool: scalars.pool,
-            users,
-            subsystems,
-            timers,
-            sets,
-            links,
-            destinations,
-            titles,
-            points,
-        })
+        let checked = check_draft(alloc, &draft)?;
+        Ok(Settings { checked })
     }
 
-    /// The law that settings keep all that `check` asks: they are what settings as they were
-    /// written mean, and those had no fault. The call does nothing.
-    pub fn were_accepted(&self)
-        ensures { IsAccepted self.now }
+    /// The law that all checked settings keep every limit and name. The call does nothing.
+    pub fn are_well(&self)
+        ensures { IsWell self.now }
     {
-        let _ = &self.own;
+        let _ = &self.checked;
     }
 
     /// The node's own point code.
     pub fn own(&self) -> PointCode
         ensures { result ≡ self.now.own }
     {
-        self.own
+        self.checked.own
     }
 
     /// The network indicator of the node's messages, 0 to 3 (Q.704 §14.2.2).
@@ -126,7 +68,7 @@ impl Settings {
         ensures value { result ≡ self.now.network }
         ensures fits { self.now.network < 4 }
     {
-        self.network
+        self.checked.network
     }
 
     /// How many messages may be sent on a link before one is confirmed.
@@ -135,7 +77,7 @@ impl Settings {
         ensures above { 1 ≤ self.now.window }
         ensures fits { self.now.window ≤ Limits.WINDOW }
     {
-        self.window as usize
+        self.checked.window as usize
     }
 
     /// How many user messages the node may keep.
@@ -144,29 +86,30 @@ impl Settings {
         ensures above { 1 ≤ self.now.pool }
         ensures fits { self.now.pool ≤ Limits.POOL }
     {
-        self.pool as usize
+        self.checked.pool as usize
     }
 
     /// Whether a user part of this service indicator stands on this node.
     pub fn is_user(&self, service_indicator: u8) -> bool
         ensures { result ≡ list_any (λ user. nat_eq user service_indicator) self.now.users }
     {
-        self.users.contains(&service_indicator)
+        self.checked.users.contains(&service_indicator)
     }
 
     /// The numbers of the subsystems that stand on this node.
     pub fn subsystems(&self) -> &[u8]
-        ensures { result.now ≡ self.now.subsystems }
+        ensures value { result.now ≡ self.now.subsystems }
+        ensures numbers { All (IsWithin 1 255) self.now.subsystems }
     {
-        &self.subsystems
+        &self.checked.subsystems
     }
 
     /// How many ticks each timer runs: 1 to 65,535.
     pub fn timers(&self) -> TimerTicks
         ensures value { result ≡ self.now.timers }
-        ensures ticks { HasTicks self.now.timers }
+        ensures ticks { All (IsWithin 1 Limits.TICKS) (all_ticks self.now.timers) }
     {
-        self.timers
+        self.checked.timers
     }
 
     /// The link sets, in the order of the settings.
@@ -174,8 +117,9 @@ impl Settings {
         ensures rows { result.now ≡ self.now.sets }
         ensures above { 1 ≤ length self.now.sets }
         ensures fits { length self.now.sets ≤ Limits.SETS }
+        ensures well { All (IsSet self.now.own) self.now.sets }
     {
-        &self.sets
+        &self.checked.sets
     }
 
     /// The links, in the order of the settings.
@@ -183,9 +127,9 @@ impl Settings {
         ensures rows { result.now ≡ self.now.links }
         ensures above { 1 ≤ length self.now.links }
         ensures fits { length self.now.links ≤ Limits.LINKS }
-        ensures sets { All (λ link. link.set < length self.now.sets) self.now.links }
+        ensures well { All (IsLink (length self.now.sets)) self.now.links }
     {
-        &self.links
+        &self.checked.links
     }
 
     /// The destinations, in the order of the settings.
@@ -193,16 +137,18 @@ impl Settings {
         ensures rows { result.now ≡ self.now.destinations }
         ensures above { 1 ≤ length self.now.destinations }
         ensures fits { length self.now.destinations ≤ Limits.DESTINATIONS }
-        ensures led { All (IsLedBy (length self.now.sets)) self.now.destinations }
+        ensures well { All (IsDestination self.now.own (length self.now.sets)) self.now.destinations }
     {
-        &self.destinations
+        &self.checked.destinations
     }
 
     /// The translation rows, in the order of the settings.
     pub fn titles(&self) -> &[TitleRow]
-        ensures { result.now ≡ self.now.titles }
+        ensures rows { result.now ≡ self.now.titles }
+        ensures fits { length self.now.titles ≤ Limits.TITLES }
+        ensures well { All IsTitle self.now.titles }
     {
-        &self.titles
+        &self.checked.titles
     }
 
     /// How many links there are.
@@ -210,14 +156,15 @@ impl Settings {
         ensures value { result ≡ length self.now.links }
         ensures fits { length self.now.links ≤ Limits.LINKS }
     {
-        self.links.len()
+        self.checked.links.len()
     }
 
     /// The name of a link, or `None` where no link has this number.
     pub fn link_name(&self, link: LinkId) -> Option<&str>
-        ensures { option_copied result ≡ option_map (λ row. row.name) (slice_get self.now.links link) }
+        ensures name { option_copied result ≡ option_map (λ row. row.name) (slice_get self.now.links link) }
+        ensures fits { IfSome result (λ name. length name.now ≤ Limits.NAME_OCTETS) }
     {
-        let row = self.links.get(link.index())?;
+        let row = self.checked.links.get(link.index())?;
         Some(row.name())
     }
 
@@ -225,7 +172,7 @@ impl Settings {
     pub fn link_named(&self, name: &[u8]) -> Option<LinkId>
         ensures { result ≡ link_place self.now name.now }
     {
-        let place = link_position(&self.links, name)?;
+        let place = link_position(&self.checked.links, name)?;
         Some(LinkId::new(place as u8))
     }
 
@@ -233,7 +180,7 @@ impl Settings {
     pub fn destination(&self, point: PointCode) -> Option<usize>
         ensures { result ≡ destination_place self.now point }
     {
-        self.points.get_index_of(&point.code())
+        self.checked.points.get_index_of(&point.code())
     }
 }
 

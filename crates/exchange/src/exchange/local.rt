@@ -1,15 +1,12 @@
 //! A message for this point.
 
 ghost use Rattle.std.specs.Prelude.{◌≡◌};
-ghost use Rattle.stp_types.specs.Lent.{lent};
+ghost use Rattle.signalling_types.specs.Lent.{lent};
 ghost use Rattle.exchange.specs.Exchange.{Ends};
 ghost use Rattle.exchange.specs.Local as rule;
 
 use super::Exchange;
 use stp_types::{Cause, LinkId, MsuRef, Outcome};
-
-/// How many service indicators there are: the low four bits of the octet (Q.704 §14.2.1).
-const SERVICE_INDICATORS: u8 = 16;
 
 /// The service indicator of SCCP (Q.704 §14.2.1).
 const SCCP: u8 = 3;
@@ -19,7 +16,7 @@ impl Exchange {
     pub(super) fn local(&mut self, message: MsuRef<'_>) -> Outcome
         ensures { Ends self.old result self.new (rule.local (lent message.entry) self.old.node) }
     {
-        if message.sio % SERVICE_INDICATORS == SCCP {
+        if message.service_indicator() == SCCP {
             Outcome::Refused(Cause::NotInProfile)
         } else {
             Outcome::Local

@@ -1,7 +1,7 @@
 //! A message: where it goes, and what becomes of it.
 
 ghost use Rattle.std.specs.Prelude.{◌≡◌, ◌<◌, ◌≤◌, length, IfSome};
-ghost use Rattle.stp_types.specs.Lent.{lent};
+ghost use Rattle.signalling_types.specs.Lent.{lent};
 ghost use Rattle.routing_label.specs.declared.discrimination.Discrimination.{Discrimination};
 ghost use Rattle.exchange.specs.Queues.{kept};
 ghost use Rattle.exchange.specs.Exchange.{Ends};

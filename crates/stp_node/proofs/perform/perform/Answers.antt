@@ -1,6 +1,6 @@
 use Rattle.std.proofs.Common.{◌≡◌, ap, ◌∙◌, arith}
 use Rattle.std.proofs.lemmas.Grind.{common_steps}
-use Rattle.stp_types.specs.Configuration.{Configuration}
+use Rattle.settings_rows.specs.Configuration.{Configuration}
 use Rattle.exchange.specs.Queues.{kept}
 use Rattle.stp_node.specs.Asking.{asked_line}
 use Rattle.stp_node.specs.Doing.{printed, done, reported}

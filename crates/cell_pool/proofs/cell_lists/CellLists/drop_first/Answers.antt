@@ -1,6 +1,6 @@
 -- The first cell of the list is free now.
 use Rattle.std.proofs.Common.{◌<◌, List, length, ap}
-use Rattle.stp_types.specs.Message.{Message}
+use Rattle.signalling_types.specs.Message.{Message}
 use Rattle.cell_pool.proofs.Reading.{within_rings, dropped-lists}
 use Rattle.cell_pool.proofs.cell_lists.CellLists.drop_first.Goals as goal
 

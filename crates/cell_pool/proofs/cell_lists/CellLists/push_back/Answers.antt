@@ -1,7 +1,7 @@
 -- No list has the cell that is written.
 use Rattle.std.proofs.Common.{◌<◌, List, length, arith, ap}
-use Rattle.stp_types.specs.Message.{Message}
-use Rattle.stp_types.specs.Lent.{lent}
+use Rattle.signalling_types.specs.Message.{Message}
+use Rattle.signalling_types.specs.Lent.{lent}
 use Rattle.cell_pool.proofs.Reading.{within_rings, pushed-lists}
 use Rattle.cell_pool.proofs.cell_lists.CellLists.push_back.Goals as goal
 

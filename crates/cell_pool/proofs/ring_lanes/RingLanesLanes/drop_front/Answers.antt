@@ -1,6 +1,6 @@
 -- One message more is dropped.
 use Rattle.std.proofs.Common.{List, ap}
-use Rattle.stp_types.specs.Message.{Message}
+use Rattle.signalling_types.specs.Message.{Message}
 use Rattle.cell_pool.proofs.Counting.{dropped-next}
 use Rattle.cell_pool.proofs.ring_lanes.RingLanesLanes.drop_front.Goals as goal
 

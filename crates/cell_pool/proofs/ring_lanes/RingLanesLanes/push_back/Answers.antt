@@ -1,6 +1,6 @@
 -- One kind is below its limit, so that fewer messages stand than there are cells.
 use Rattle.std.proofs.Common.{◌≡◌, None, arith, ap, sym, ◌∙◌}
-use Rattle.stp_types.specs.Lent.{lent}
+use Rattle.signalling_types.specs.Lent.{lent}
 use Rattle.cell_pool.specs.Lanes.{push_refusal}
 use Rattle.cell_pool.specs.Stored.{Stored}
 use Rattle.cell_pool.proofs.Counting.{room_for}

@@ -1,0 +1,43 @@
+-- The first fault of a list's entries, from one entry to the next.
+use Rattle.std.proofs.Common.{refl, ap, Bool, ◌||◌, slice_set, ◌≡◌, ◌≤◌, ◌<◌, ◌+◌, ℕ, List, [], ◌∷◌, ◌++◌, Option, Some, None, length, take, drop, map, get_or, arith}
+use Rattle.std.proofs.lemmas.Grind.{common_steps}
+use Rattle.std.specs.List.{list_any}
+use Rattle.settings_check.specs.Checks.{first_of, entries_fault}
+use Rattle.settings_rows.specs.declared.fault.DraftFault.{DraftFault}
+
+pub first_of-one : (a : Option DraftFault) → first_of (a ∷ []) ≡ a
+first_of-one None = refl
+first_of-one (Some fault) = refl
+
+-- an entry without a fault leaves the fault of the rest
+pub past_entry : {A : Type 0} (f : List A → A → Option DraftFault) (xs : List A) (i : ℕ) (x d : A) → i < length xs → x ≡ get_or xs i d → f (take i xs) x ≡ None → entries_fault f (take (i + 1) xs) (drop (i + 1) xs) ≡ entries_fault f (take i xs) (drop i xs)
+past_entry f xs i x d l e h = grind (arith, common_steps, first_of-one)
+
+-- the fault of an entry is that of the entries from it on
+pub at_entry : {A : Type 0} (f : List A → A → Option DraftFault) (xs : List A) (i : ℕ) (x d : A) (fault : DraftFault) → i < length xs → x ≡ get_or xs i d → f (take i xs) x ≡ Some fault → entries_fault f (take i xs) (drop i xs) ≡ Some fault
+at_entry f xs i x d fault l e h = grind (arith, common_steps)
+
+-- behind the last entry there is no fault
+pub past_all : {A : Type 0} (f : List A → A → Option DraftFault) (xs : List A) (i : ℕ) → length xs ≤ i → entries_fault f (take i xs) (drop i xs) ≡ None
+past_all f xs i l = grind (arith, common_steps)
+
+-- one row more
+pub next_row : {A B : Type 0} (g : A → B) (xs : List A) (i : ℕ) (x d : A) (rows : List B) (row : B) → i < length xs → x ≡ get_or xs i d → rows ≡ map g (take i xs) → row ≡ g x → rows ++ row ∷ [] ≡ map g (take (i + 1) xs)
+next_row g xs i x d rows row l e h k = grind (arith, common_steps)
+
+-- one place more of a row of fixed length
+pub next_place : {A B : Type 0} (g : A → B) (xs : List A) (i : ℕ) (x d : A) (ys : List B) (y : B) → i < length xs → i < length ys → x ≡ get_or xs i d → take i ys ≡ map g (take i xs) → y ≡ g x → take (i + 1) (slice_set ys i y) ≡ map g (take (i + 1) xs)
+next_place g xs i x d ys y l m e h k = grind (arith, common_steps)
+
+-- all places
+pub last_place : {A B : Type 0} (g : A → B) (xs : List A) (i : ℕ) (ys : List B) → length xs ≤ i → length ys ≤ i → take i ys ≡ map g (take i xs) → ys ≡ map g xs
+last_place g xs i ys l m h = grind (arith, common_steps)
+
+-- whether an image passes
+pub any-map : {A B : Type 0} (p : B → Bool) (f : A → B) (xs : List A) → list_any p (map f xs) ≡ list_any (λ x. p (f x)) xs
+any-map p f [] = refl
+any-map p f (x ∷ xs) = ap (λ b. p (f x) || b) (any-map p f xs)
+
+-- what is read of one row more
+pub pushed_map : {A B : Type 0} (g : A → B) (rows : List A) (row : A) (ys : List B) (y : B) → ys ≡ map g rows → y ≡ g row → ys ++ y ∷ [] ≡ map g (rows ++ row ∷ [])
+pushed_map g rows row ys y h k = grind (arith, common_steps)

@@ -1,0 +1,13 @@
+use Rattle.std.proofs.Common.{◌≡◌, [], map, take, drop}
+use Rattle.settings_check.specs.Checks.{entries_fault}
+use Rattle.settings_check.specs.Meaning.{destination_of, points_of}
+use Rattle.settings_check.specs.FirstFault.{destination_fault}
+use Rattle.settings_check.proofs.destinations.destination_rows.Given as goal
+
+abbrev pub invariant-loop-i : goal.invariant-loop-i
+invariant-loop-i l = record {
+  rows : l.rows.items ≡ map (destination_of l.sets) (take l.i l.destinations);
+  points : l.points.keys ≡ points_of (take l.i l.destinations);
+  indexed : l.points.keys ≡ map (λ d. d.point) l.rows.items;
+  fault : entries_fault (destination_fault l.own l.sets) (take l.i l.destinations) (drop l.i l.destinations) ≡ entries_fault (destination_fault l.own l.sets) [] l.destinations;
+}

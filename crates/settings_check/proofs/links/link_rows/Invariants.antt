@@ -1,0 +1,11 @@
+use Rattle.std.proofs.Common.{◌≡◌, [], map, take, drop}
+use Rattle.settings_check.specs.Checks.{entries_fault}
+use Rattle.settings_check.specs.Meaning.{link_of}
+use Rattle.settings_check.specs.FirstFault.{link_fault}
+use Rattle.settings_check.proofs.links.link_rows.Given as goal
+
+abbrev pub invariant-loop-i : goal.invariant-loop-i
+invariant-loop-i l = record {
+  rows : l.rows.items ≡ map (link_of l.sets) (take l.i l.links);
+  fault : entries_fault (link_fault l.sets) (take l.i l.links) (drop l.i l.links) ≡ entries_fault (link_fault l.sets) [] l.links;
+}

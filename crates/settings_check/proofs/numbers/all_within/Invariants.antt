@@ -1,0 +1,10 @@
+use Rattle.std.proofs.Common.{◌≡◌, map, take, drop}
+use Rattle.std.specs.List.{list_all}
+use Rattle.settings_check.specs.Checks.{natural, is_within}
+use Rattle.settings_check.proofs.numbers.all_within.Given as goal
+
+abbrev pub invariant-loop-value : goal.invariant-loop-value
+invariant-loop-value l = record {
+  numbers : l.numbers.items ≡ map natural (take l.value-index l.values);
+  within : list_all (is_within l.low l.high) (drop l.value-index l.values) ≡ list_all (is_within l.low l.high) l.values;
+}

@@ -1,0 +1,11 @@
+use Rattle.std.proofs.Common.{◌≡◌, [], map, take, drop}
+use Rattle.settings_check.specs.Checks.{entries_fault}
+use Rattle.settings_check.specs.Meaning.{set_of}
+use Rattle.settings_check.specs.FirstFault.{set_fault}
+use Rattle.settings_check.proofs.sets.set_rows.Given as goal
+
+abbrev pub invariant-loop-i : goal.invariant-loop-i
+invariant-loop-i l = record {
+  rows : l.rows.items ≡ map set_of (take l.i l.sets);
+  fault : entries_fault (set_fault l.own) (take l.i l.sets) (drop l.i l.sets) ≡ entries_fault (set_fault l.own) [] l.sets;
+}

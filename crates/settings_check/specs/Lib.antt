@@ -1,0 +1,5 @@
+pub mod Checks
+pub mod Meaning
+pub mod Titles
+pub mod FirstFault
+pub mod Checked

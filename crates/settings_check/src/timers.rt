@@ -1,0 +1,132 @@
+//! Ticks of timers.
+
+ghost use Rattle.std.specs.Prelude.{◌≡◌, [], None, Some, map, IfOk, OnOk, IfErr};
+ghost use Rattle.settings_check.specs.Checks.{natural, entries_fault};
+ghost use Rattle.settings_check.specs.Meaning.{ticks_of};
+ghost use Rattle.settings_check.specs.FirstFault.{timers_written, ticks_fault, timers_fault};
+
+use crate::numbers::number;
+use settings_rows::{DraftFault, Key, TimerKey, TimerTicks, TimersDraft};
+use signalling_types::Limits;
+
+/// How many timers there are.
+const TIMERS: usize = 13;
+
+/// A timer with the ticks that were written for it.
+#[derive(Clone, Copy)]
+struct Written {
+    timer: TimerKey,
+    ticks: i64,
+}
+
+/// The ticks that the timers run.
+#[tactic(auto, unfolding(crate::specs::FirstFault::timers_fault))]
+pub(crate) fn timer_ticks(timers: &TimersDraft) -> Result<TimerTicks, DraftFault>
+    ensures value { IfOk result (λ t. t ≡ ticks_of timers.now) }
+    ensures well { OnOk result (timers_fault timers.now ≡ None) }
+    ensures fault { IfErr result (λ fault. timers_fault timers.now ≡ Some fault) }
+{
+    let [l1, l2, l3, l4, l6, l7, t1, t2, t3, t4, t6, t8, t10] = all_ticks(&all_written(timers))?;
+    Ok(TimerTicks {
+        l1,
+        l2,
+        l3,
+        l4,
+        l6,
+        l7,
+        t1,
+        t2,
+        t3,
+        t4,
+        t6,
+        t8,
+        t10,
+    })
+}
+
+/// The timers in their order.
+fn all_written(timers: &TimersDraft) -> [Written; TIMERS]
+    ensures { result ≡ timers_written timers.now }
+{
+    [
+        Written {
+            timer: TimerKey::L1,
+            ticks: timers.l1,
+        },
+        Written {
+            timer: TimerKey::L2,
+            ticks: timers.l2,
+        },
+        Written {
+            timer: TimerKey::L3,
+            ticks: timers.l3,
+        },
+        Written {
+            timer: TimerKey::L4,
+            ticks: timers.l4,
+        },
+        Written {
+            timer: TimerKey::L6,
+            ticks: timers.l6,
+        },
+        Written {
+            timer: TimerKey::L7,
+            ticks: timers.l7,
+        },
+        Written {
+            timer: TimerKey::T1,
+            ticks: timers.t1,
+        },
+        Written {
+            timer: TimerKey::T2,
+            ticks: timers.t2,
+        },
+        Written {
+            timer: TimerKey::T3,
+            ticks: timers.t3,
+        },
+        Written {
+            timer: TimerKey::T4,
+            ticks: timers.t4,
+        },
+        Written {
+            timer: TimerKey::T6,
+            ticks: timers.t6,
+        },
+        Written {
+            timer: TimerKey::T8,
+            ticks: timers.t8,
+        },
+        Written {
+            timer: TimerKey::T10,
+            ticks: timers.t10,
+        },
+    ]
+}
+
+/// The ticks of a timer.
+fn ticks(written: &Written) -> Result<u16, DraftFault>
+    ensures value { IfOk result (λ ticks. ticks ≡ natural written.now.ticks) }
+    ensures well { OnOk result (ticks_fault [] written.now ≡ None) }
+    ensures fault { IfErr result (λ fault. ticks_fault [] written.now ≡ Some fault) }
+{
+    number(
+        written.ticks,
+        1,
+        Limits::TICKS as u16,
+        Key::Timer(written.timer),
+    )
+}
+
+/// The ticks of these timers.
+fn all_ticks(timers: &[Written; TIMERS]) -> Result<[u16; TIMERS], DraftFault>
+    ensures value { IfOk result (λ all. all ≡ map (λ w. natural w.ticks) timers.now) }
+    ensures well { OnOk result (entries_fault ticks_fault [] timers.now ≡ None) }
+    ensures fault { IfErr result (λ fault. entries_fault ticks_fault [] timers.now ≡ Some fault) }
+{
+    let mut all = [0; TIMERS];
+    for i in 0..TIMERS {
+        all[i] = ticks(&timers[i])?;
+    }
+    Ok(all)
+}

@@ -1,0 +1,43 @@
+-- The checked settings of a node, as plain data.
+use Rattle.std.specs.Prelude.{ℕ, List}
+use Rattle.settings_rows.specs.declared.timer_ticks.TimerTicks.{TimerTicks}
+use Rattle.settings_rows.specs.declared.title_row.Route.{Route}
+
+-- a link set: its name, and the point that its links lead to
+pub record SetEntry : Type 0 where
+  pub name : List ℕ
+  pub adjacent : ℕ
+
+-- a link: its name, the number of its set, and its signalling link code there
+pub record LinkEntry : Type 0 where
+  pub name : List ℕ
+  pub set : ℕ
+  pub slc : ℕ
+
+-- a destination: its point code, and the numbers of the sets that lead to it, the preferred one first
+pub record DestinationEntry : Type 0 where
+  pub point : ℕ
+  pub sets : List ℕ
+
+-- a translation row: what its addresses begin with, and where they lead (Q.714 §2.4)
+pub record TitleEntry : Type 0 where
+  pub translation : ℕ
+  pub plan : ℕ
+  pub nature : ℕ
+  pub digits : List ℕ
+  pub point : ℕ
+  pub route : Route
+
+-- all settings of a node, its sets, links and destinations by number in the order of the settings
+pub record Configuration : Type 0 where
+  pub own : ℕ
+  pub network : ℕ
+  pub window : ℕ
+  pub pool : ℕ
+  pub users : List ℕ
+  pub subsystems : List ℕ
+  pub timers : TimerTicks
+  pub sets : List SetEntry
+  pub links : List LinkEntry
+  pub destinations : List DestinationEntry
+  pub titles : List TitleEntry

@@ -1,0 +1,107 @@
+//! Settings as they were written, not yet checked.
+
+/// The settings of a node as they were written: any numbers, any texts.
+#[derive(Drop)]
+pub struct Draft {
+    /// The node's own point code.
+    pub own: i64,
+    /// The network indicator of the node's messages.
+    pub network: i64,
+    /// Messages that may be sent on a link before one is confirmed.
+    pub window: i64,
+    /// User messages that the node may keep.
+    pub pool: i64,
+    /// Service indicators of the user parts that stand on this node.
+    pub users: Vec<i64>,
+    /// Numbers of the subsystems that stand on this node.
+    pub subsystems: Vec<i64>,
+    /// How long each timer runs.
+    pub timers: TimersDraft,
+    /// The link sets.
+    pub sets: Vec<SetDraft>,
+    /// The links.
+    pub links: Vec<LinkDraft>,
+    /// The destinations.
+    pub destinations: Vec<DestinationDraft>,
+    /// The translation rows.
+    pub titles: Vec<TitleDraft>,
+}
+
+/// How many ticks each timer runs, as it was written.
+#[derive(Clone, Copy)]
+pub struct TimersDraft {
+    /// Waiting for the adjacent point's Ready.
+    pub l1: i64,
+    /// Not aligned.
+    pub l2: i64,
+    /// Aligned.
+    pub l3: i64,
+    /// Proving.
+    pub l4: i64,
+    /// The adjacent point is busy.
+    pub l6: i64,
+    /// Waiting for a confirmation.
+    pub l7: i64,
+    /// Holding messages of a link that failed with no other to its adjacent point.
+    pub t1: i64,
+    /// Waiting for the acknowledgement of a changeover order.
+    pub t2: i64,
+    /// Holding messages that come back to a link.
+    pub t3: i64,
+    /// Waiting for the acknowledgement of a changeback declaration.
+    pub t4: i64,
+    /// Holding messages during a controlled rerouting.
+    pub t6: i64,
+    /// After a transfer-prohibited message, before the next about the same point.
+    pub t8: i64,
+    /// Between two route set tests.
+    pub t10: i64,
+}
+
+/// A link set, as it was written.
+#[derive(Drop)]
+pub struct SetDraft {
+    /// Its name.
+    pub name: String,
+    /// The point that its links lead to.
+    pub adjacent: i64,
+}
+
+/// A link, as it was written.
+#[derive(Drop)]
+pub struct LinkDraft {
+    /// Its name.
+    pub name: String,
+    /// The name of its link set.
+    pub set: String,
+    /// Its signalling link code.
+    pub slc: i64,
+}
+
+/// A destination, as it was written.
+#[derive(Drop)]
+pub struct DestinationDraft {
+    /// Its point code.
+    pub point: i64,
+    /// The names of the link sets that lead to it, the preferred one first.
+    pub sets: Vec<String>,
+}
+
+/// A translation row, as it was written.
+#[derive(Drop)]
+pub struct TitleDraft {
+    /// Translation type.
+    pub translation: i64,
+    /// Numbering plan.
+    pub plan: i64,
+    /// Nature of address.
+    pub nature: i64,
+    /// The digits that an address begins with.
+    pub digits: String,
+    /// The point that such an address leads to.
+    pub point: i64,
+    /// How it is routed there: `title` or `ssn`.
+    pub route: String,
+    /// The subsystem number there, if any.
+    pub ssn: Option<i64>,
+}

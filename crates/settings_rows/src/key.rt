@@ -1,0 +1,226 @@
+//! The keys of settings, and how they are written.
+
+ghost use Rattle.std.specs.Prelude.{◌≡◌, Some};
+ghost use Rattle.settings_rows.specs.Keys.{timer_name, key_front, key_index, key_back, key_path};
+
+use std::fmt;
+
+/// The keys of the timers.
+#[derive(Clone, Copy, Debug, PartialEq, Eq)]
+pub enum TimerKey {
+    /// `l1`.
+    L1,
+    /// `l2`.
+    L2,
+    /// `l3`.
+    L3,
+    /// `l4`.
+    L4,
+    /// `l6`.
+    L6,
+    /// `l7`.
+    L7,
+    /// `t1`.
+    T1,
+    /// `t2`.
+    T2,
+    /// `t3`.
+    T3,
+    /// `t4`.
+    T4,
+    /// `t6`.
+    T6,
+    /// `t8`.
+    T8,
+    /// `t10`.
+    T10,
+}
+
+impl TimerKey {
+    /// The key's last word.
+    pub fn name(self) -> &'static str
+        ensures { result.now ≡ timer_name self }
+    {
+        match self {
+            TimerKey::L1 => "l1",
+            TimerKey::L2 => "l2",
+            TimerKey::L3 => "l3",
+            TimerKey::L4 => "l4",
+            TimerKey::L6 => "l6",
+            TimerKey::L7 => "l7",
+            TimerKey::T1 => "t1",
+            TimerKey::T2 => "t2",
+            TimerKey::T3 => "t3",
+            TimerKey::T4 => "t4",
+            TimerKey::T6 => "t6",
+            TimerKey::T8 => "t8",
+            TimerKey::T10 => "t10",
+        }
+    }
+}
+
+/// The keys of the settings, with the index where a key stands in an array. A key prints as its
+/// path, as `link[2].slc`.
+#[derive(Clone, Copy, Debug, PartialEq, Eq)]
+pub enum Key {
+    /// `version`.
+    Version,
+    /// `own`.
+    Own,
+    /// `network`.
+    Network,
+    /// `window`.
+    Window,
+    /// `pool`.
+    Pool,
+    /// `users`.
+    Users,
+    /// `subsystems`.
+    Subsystems,
+    /// `timers`, the table itself.
+    Timers,
+    /// A key of `timers`.
+    Timer(TimerKey),
+    /// `set`, the array itself.
+    Set,
+    /// `set[i]`, the entry itself.
+    SetEntry(usize),
+    /// `set[i].name`.
+    SetName(usize),
+    /// `set[i].adjacent`.
+    SetAdjacent(usize),
+    /// `link`, the array itself.
+    Link,
+    /// `link[i]`, the entry itself.
+    LinkEntry(usize),
+    /// `link[i].name`.
+    LinkName(usize),
+    /// `link[i].set`.
+    LinkSet(usize),
+    /// `link[i].slc`.
+    LinkSlc(usize),
+    /// `destination`, the array itself.
+    Destination,
+    /// `destination[i]`, the entry itself.
+    DestinationEntry(usize),
+    /// `destination[i].point`.
+    DestinationPoint(usize),
+    /// `destination[i].sets`.
+    DestinationSets(usize),
+    /// `title`, the array itself.
+    Title,
+    /// `title[i]`, the entry itself.
+    TitleEntry(usize),
+    /// `title[i].translation`.
+    TitleTranslation(usize),
+    /// `title[i].plan`.
+    TitlePlan(usize),
+    /// `title[i].nature`.
+    TitleNature(usize),
+    /// `title[i].digits`.
+    TitleDigits(usize),
+    /// `title[i].point`.
+    TitlePoint(usize),
+    /// `title[i].route`.
+    TitleRoute(usize),
+    /// `title[i].ssn`.
+    TitleSsn(usize),
+}
+
+impl Key {
+    /// The key of the whole settings that this one is, or stands under.
+    fn front(self) -> &'static str
+        ensures { result.now ≡ key_front self }
+    {
+        match self {
+            Key::Version => "version",
+            Key::Own => "own",
+            Key::Network => "network",
+            Key::Window => "window",
+            Key::Pool => "pool",
+            Key::Users => "users",
+            Key::Subsystems => "subsystems",
+            Key::Timers | Key::Timer(_) => "timers",
+            Key::Set | Key::SetEntry(_) | Key::SetName(_) | Key::SetAdjacent(_) => "set",
+            Key::Link | Key::LinkEntry(_) | Key::LinkName(_) | Key::LinkSet(_) | Key::LinkSlc(_) =>
+                "link",
+            Key::Destination
+            | Key::DestinationEntry(_)
+            | Key::DestinationPoint(_)
+            | Key::DestinationSets(_) => "destination",
+            Key::Title
+            | Key::TitleEntry(_)
+            | Key::TitleTranslation(_)
+            | Key::TitlePlan(_)
+            | Key::TitleNature(_)
+            | Key::TitleDigits(_)
+            | Key::TitlePoint(_)
+            | Key::TitleRoute(_)
+            | Key::TitleSsn(_) => "title",
+        }
+    }
+
+    /// The index of the entry of an array that the key stands in.
+    fn index(self) -> Option<usize>
+        ensures { result ≡ key_index self }
+    {
+        match self {
+            Key::SetEntry(i)
+            | Key::SetName(i)
+            | Key::SetAdjacent(i)
+            | Key::LinkEntry(i)
+            | Key::LinkName(i)
+            | Key::LinkSet(i)
+            | Key::LinkSlc(i)
+            | Key::DestinationEntry(i)
+            | Key::DestinationPoint(i)
+            | Key::DestinationSets(i)
+            | Key::TitleEntry(i)
+            | Key::TitleTranslation(i)
+            | Key::TitlePlan(i)
+            | Key::TitleNature(i)
+            | Key::TitleDigits(i)
+            | Key::TitlePoint(i)
+            | Key::TitleRoute(i)
+            | Key::TitleSsn(i) => Some(i),
+            _ => None,
+        }
+    }
+
+    /// The key in its table or in its entry, or nothing.
+    fn back(self) -> &'static str
+        ensures { result.now ≡ key_back self }
+    {
+        match self {
+            Key::Timer(timer) => timer.name(),
+            Key::SetName(_) | Key::LinkName(_) => "name",
+            Key::SetAdjacent(_) => "adjacent",
+            Key::LinkSet(_) => "set",
+            Key::LinkSlc(_) => "slc",
+            Key::DestinationPoint(_) | Key::TitlePoint(_) => "point",
+            Key::DestinationSets(_) => "sets",
+            Key::TitleTranslation(_) => "translation",
+            Key::TitlePlan(_) => "plan",
+            Key::TitleNature(_) => "nature",
+            Key::TitleDigits(_) => "digits",
+            Key::TitleRoute(_) => "route",
+            Key::TitleSsn(_) => "ssn",
+            _ => "",
+        }
+    }
+}
+
+impl fmt::Display for Key {
+    ghost output = { λ key. Some (key_path key) };
+
+    fn fmt<W: fmt::Write>(&self, f: &mut fmt::Formatter<W>) -> fmt::Result {
+        let front = self.front();
+        let back = self.back();
+        match (self.index(), back.is_empty()) {
+            (None, true) => f.write_str(front),
+            (None, false) => write!(f, "{front}.{back}"),
+            (Some(i), true) => write!(f, "{front}[{i}]"),
+            (Some(i), false) => write!(f, "{front}[{i}].{back}"),
+        }
+    }
+}

@@ -1,0 +1,22 @@
+//! The settings of a node as they were written, the faults that they may have, and the rows of
+//! checked settings.
+#![tactic(auto)]
+
+pub mod destination_row;
+pub mod draft;
+pub mod fault;
+pub mod key;
+pub mod link_row;
+mod name;
+pub mod set_row;
+pub mod timer_ticks;
+pub mod title_row;
+
+pub use destination_row::DestinationRow;
+pub use draft::{DestinationDraft, Draft, LinkDraft, SetDraft, TimersDraft, TitleDraft};
+pub use fault::{DraftFault, FaultKind};
+pub use key::{Key, TimerKey};
+pub use link_row::LinkRow;
+pub use set_row::SetRow;
+pub use timer_ticks::TimerTicks;
+pub use title_row::{Route, TitleRow};

@@ -1,0 +1,68 @@
+//! A link of checked settings.
+
+ghost use Rattle.std.specs.Prelude.{◌≡◌, ◌<◌, ◌≤◌, ◌^◌, IsTrue, length};
+ghost use Rattle.settings_rows.specs.Names.{is_name};
+
+use crate::name::kept_name;
+use arrayvec::ArrayString;
+use signalling_types::{Limits, SetId};
+use std::marker::Model;
+
+/// A link of checked settings.
+#[derive(Drop)]
+pub struct LinkRow {
+    name: ArrayString<{ Limits::NAME_OCTETS }>,
+    set: SetId,
+    slc: u8,
+}
+
+impl Model for LinkRow {
+    ghost use Rattle.std.specs.Prelude.{◌<◌, ◌^◌, IsTrue};
+    ghost use Rattle.settings_rows.specs.Names.{is_name};
+    ghost use Rattle.settings_rows.specs.Configuration.{LinkEntry};
+
+    ghost Value = { LinkEntry };
+
+    ghost view = { λ l. record { name = l.name.bytes; set = l.set; slc = l.slc } };
+
+    ghost invariant = { λ l. IsTrue (is_name l.name.bytes) × (l.slc < 2 ^ 4) };
+}
+
+impl LinkRow {
+    /// The link of this name and this set, with this signalling link code there.
+    pub fn new(name: &str, set: SetId, slc: u8) -> LinkRow
+        requires name { IsTrue (is_name name.now) }
+        requires slc { slc < 2 ^ 4 }
+        ensures { result ≡ record { name = name.now; set = set; slc = slc } }
+    {
+        LinkRow {
+            name: kept_name(name),
+            set,
+            slc,
+        }
+    }
+
+    /// The link's name: 1 to 16 letters `a` to `z`, digits and dashes.
+    pub fn name(&self) -> &str
+        ensures value { result.now ≡ self.now.name }
+        ensures form { IsTrue (is_name self.now.name) }
+        ensures fits { length self.now.name ≤ Limits.NAME_OCTETS }
+    {
+        self.name.as_str()
+    }
+
+    /// The link's set.
+    pub fn set(&self) -> SetId
+        ensures { result ≡ self.now.set }
+    {
+        self.set
+    }
+
+    /// The link's signalling link code, 0 to 15 (Q.704 §15.2).
+    pub fn slc(&self) -> u8
+        ensures value { result ≡ self.now.slc }
+        ensures fits { self.now.slc < 2 ^ 4 }
+    {
+        self.slc
+    }
+}

@@ -1,0 +1,32 @@
+//! The ticks of the timers.
+
+/// How many ticks each timer runs.
+#[derive(Clone, Copy)]
+pub struct TimerTicks {
+    /// Waiting for the adjacent point's Ready.
+    pub l1: u16,
+    /// Not aligned.
+    pub l2: u16,
+    /// Aligned.
+    pub l3: u16,
+    /// Proving.
+    pub l4: u16,
+    /// The adjacent point is busy.
+    pub l6: u16,
+    /// Waiting for a confirmation.
+    pub l7: u16,
+    /// Holding messages of a link that failed with no other to its adjacent point.
+    pub t1: u16,
+    /// Waiting for the acknowledgement of a changeover order.
+    pub t2: u16,
+    /// Holding messages that come back to a link.
+    pub t3: u16,
+    /// Waiting for the acknowledgement of a changeback declaration.
+    pub t4: u16,
+    /// Holding messages during a controlled rerouting.
+    pub t6: u16,
+    /// After a transfer-prohibited message, before the next about the same point.
+    pub t8: u16,
+    /// Between two route set tests.
+    pub t10: u16,
+}

@@ -1,0 +1,164 @@
+//! A translation row.
+
+ghost use Rattle.std.specs.Prelude.{◌≡◌, ◌-◌, ◌^◌, ◌<◌, ◌≤◌, ◌++◌, ◌↔◌, All, IsTrue, IsSome, IfSome, length, replicate};
+ghost use Rattle.settings_rows.specs.Titles.{HasTitleRanges};
+
+use signalling_types::{Limits, PointCode, Ssn};
+use std::marker::Model;
+
+/// The largest numbering plan: four bits.
+const LAST_PLAN: u8 = 15;
+
+/// The largest nature of address: seven bits.
+const LAST_NATURE: u8 = 127;
+
+/// The largest value of a digit: four bits.
+const LAST_DIGIT: u8 = 15;
+
+/// How an address is routed at the point that it is translated to (Q.714 §2.4).
+#[derive(Clone, Copy)]
+pub enum Route {
+    /// By its title, with this subsystem number beside it, if any.
+    Title(Option<Ssn>),
+    /// By this subsystem number.
+    Ssn(Ssn),
+}
+
+/// A translation row: addresses of this translation type, numbering plan and nature, and what they
+/// begin with, and where they lead (Q.714 §2.4).
+#[derive(Clone, Copy)]
+pub struct TitleRow {
+    translation: u8,
+    plan: u8,
+    nature: u8,
+    digits: [u8; Limits::TITLE_DIGITS],
+    len: u8,
+    point: PointCode,
+    route: Route,
+}
+
+impl Model for TitleRow {
+    ghost use Rattle.settings_rows.specs.Configuration.{TitleEntry};
+
+    ghost Value = { TitleEntry };
+
+    ghost use Rattle.settings_rows.specs.TitleRoom.{title_in, IsTitleInPlace, put_title};
+    ghost use Rattle.settings_rows.specs.TitleInPlace.{put_title-title_in};
+
+    ghost view = { title_in };
+
+    ghost invariant = { IsTitleInPlace };
+
+    ghost inverse = { put_title };
+
+    ghost inverse_ok = { put_title-title_in };
+}
+
+impl TitleRow {
+    /// The row of this translation type (an octet), numbering plan (0 to 15), nature of address (0
+    /// to 127) and digits (1 to 32 of them, 0 to 15 each), or `None` exactly where one of these is
+    /// out of its range. Addresses lead to this point, and are routed there in this way.
+    pub fn new(
+        translation: u8,
+        plan: u8,
+        nature: u8,
+        digits: &[u8],
+        point: PointCode,
+        route: Route,
+    ) -> Option<TitleRow>
+        ensures fits { IsSome result ↔ HasTitleRanges plan nature digits.now }
+        ensures value { IfSome result (λ row. row ≡ record {
+          translation = translation;
+          plan = plan;
+          nature = nature;
+          digits = digits.now;
+          point = point;
+          route = route;
+        }) }
+    {
+        if plan > LAST_PLAN || nature > LAST_NATURE {
+            return None;
+        }
+        if digits.is_empty() || digits.len() > Limits::TITLE_DIGITS || !are_digits(digits) {
+            return None;
+        }
+        Some(TitleRow {
+            translation,
+            plan,
+            nature,
+            digits: padded(digits),
+            len: digits.len() as u8,
+            point,
+            route,
+        })
+    }
+
+    /// The translation type.
+    pub fn translation(&self) -> u8
+        ensures { result ≡ self.now.translation }
+    {
+        self.translation
+    }
+
+    /// The numbering plan, 0 to 15.
+    pub fn plan(&self) -> u8
+        ensures value { result ≡ self.now.plan }
+        ensures fits { self.now.plan < 2 ^ 4 }
+    {
+        self.plan
+    }
+
+    /// The nature of address, 0 to 127.
+    pub fn nature(&self) -> u8
+        ensures value { result ≡ self.now.nature }
+        ensures fits { self.now.nature < 2 ^ 7 }
+    {
+        self.nature
+    }
+
+    /// The digits that an address begins with: 1 to 32 of them, 0 to 15 each.
+    pub fn digits(&self) -> &[u8]
+        ensures digits { result.now ≡ self.now.digits }
+        ensures some { 1 ≤ length self.now.digits }
+        ensures fits { length self.now.digits ≤ Limits.TITLE_DIGITS }
+        ensures values { All (λ digit. digit < 2 ^ 4) self.now.digits }
+    {
+        &self.digits[..self.len as usize]
+    }
+
+    /// The point that such an address leads to.
+    pub fn point(&self) -> PointCode
+        ensures { result ≡ self.now.point }
+    {
+        self.point
+    }
+
+    /// How it is routed there.
+    pub fn route(&self) -> Route
+        ensures { result ≡ self.now.route }
+    {
+        self.route
+    }
+}
+
+/// Whether each is the value of a digit, 0 to 15.
+fn are_digits(digits: &[u8]) -> bool
+    ensures { IsTrue result ↔ All (λ digit. digit < 2 ^ 4) digits.now }
+{
+    for digit in digits {
+        if *digit > LAST_DIGIT {
+            return false;
+        }
+    }
+    true
+}
+
+/// The digits, and zeros behind them.
+fn padded(digits: &[u8]) -> [u8; Limits::TITLE_DIGITS]
+    requires { length digits.now ≤ Limits.TITLE_DIGITS }
+    ensures { result ≡ digits.now ++ replicate (Limits.TITLE_DIGITS - length digits.now) 0 }
+{
+    let mut row = [0; Limits::TITLE_DIGITS];
+    row[..digits.len()].copy_from_slice(digits);
+    row
+}

@@ -1,0 +1,6 @@
+pub mod Message
+pub mod Lent
+pub mod Room
+pub mod InPlace
+pub mod Causes
+pub mod Notices

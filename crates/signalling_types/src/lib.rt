@@ -1,0 +1,21 @@
+//! The small types that every part of the node names: messages, numbers of points and links,
+//! causes, outcomes, notices and limits.
+#![tactic(auto)]
+
+pub mod cause;
+pub mod limits;
+pub mod message;
+pub mod msu_ref;
+pub mod notice;
+pub mod outcome;
+pub mod point;
+pub mod subsystem;
+
+pub use cause::Cause;
+pub use limits::Limits;
+pub use message::Msu;
+pub use msu_ref::MsuRef;
+pub use notice::{ChangeoverTimer, FailureReason, FrameFault, LateTimer, Notice};
+pub use outcome::Outcome;
+pub use point::{Flow, LinkId, PointCode, SetId, Sls};
+pub use subsystem::Ssn;

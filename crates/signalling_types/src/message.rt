@@ -1,0 +1,127 @@
+//! A message signal unit, in place.
+
+ghost use Rattle.std.specs.Prelude.{◌≡◌, ◌-◌, ◌^◌, ◌<◌, ◌≤◌, ◌++◌, ◌↔◌, length, replicate, IsErr, IfOk, IfErr};
+ghost use Rattle.signalling_types.specs.Message.{Message, service_indicator, network_indicator, is_management};
+ghost use Rattle.signalling_types.specs.Lent.{lent};
+
+use crate::cause::Cause;
+use crate::limits::Limits;
+use crate::msu_ref::MsuRef;
+use std::marker::Model;
+
+/// A message signal unit: a service information octet, and a signalling information field of at
+/// most 272 octets, kept in place (Q.703 §2.3).
+#[derive(Clone, Copy, Debug, PartialEq, Eq)]
+pub struct Msu {
+    octets: [u8; Limits::SIF_OCTETS],
+    len: u16,
+    sio: u8,
+}
+
+impl Model for Msu {
+    ghost use Rattle.signalling_types.specs.Message.{Message};
+
+    ghost Value = { Message };
+
+    ghost use Rattle.signalling_types.specs.Room.{message_in, IsInPlace, put_in_place};
+    ghost use Rattle.signalling_types.specs.InPlace.{put_in_place-message_in};
+
+    ghost view = { message_in };
+
+    ghost invariant = { IsInPlace };
+
+    ghost inverse = { put_in_place };
+
+    ghost inverse_ok = { put_in_place-message_in };
+}
+
+impl Msu {
+    /// The message of a service information octet and a signalling information field.
+    ///
+    /// Refused TooLong exactly where the field has more than 272 octets.
+    pub fn new(sio: u8, sif: &[u8]) -> Result<Msu, Cause>
+        ensures long { IsErr result ↔ (Limits.SIF_OCTETS < length sif.now) }
+        ensures cause { IfErr result (λ cause. cause ≡ Cause.TooLong) }
+        ensures value { IfOk result (λ m. m ≡ record { sio = sio; sif = sif.now }) }
+    {
+        if sif.len() > Limits::SIF_OCTETS {
+            return Err(Cause::TooLong);
+        }
+        Ok(Msu {
+            octets: padded(sif),
+            len: sif.len() as u16,
+            sio,
+        })
+    }
+
+    /// The service information octet.
+    pub fn sio(&self) -> u8
+        ensures { result ≡ self.now.sio }
+    {
+        self.sio
+    }
+
+    /// The service indicator: 0 management, 1 testing, 3 SCCP, 4 TUP, 5 ISUP (Q.704 §14.2.1).
+    pub fn service_indicator(&self) -> u8
+        ensures value { result ≡ service_indicator self.now }
+        ensures fits { service_indicator self.now < 2 ^ 4 }
+    {
+        self.sio % 16
+    }
+
+    /// The network indicator, 0 to 3 (Q.704 §14.2.2).
+    pub fn network_indicator(&self) -> u8
+        ensures value { result ≡ network_indicator self.now }
+        ensures fits { network_indicator self.now < 2 ^ 2 }
+    {
+        self.sio / 64
+    }
+
+    /// The octets of the signalling information field.
+    pub fn sif(&self) -> &[u8]
+        ensures octets { result.now ≡ self.now.sif }
+        ensures fits { length self.now.sif ≤ Limits.SIF_OCTETS }
+    {
+        &self.octets[..self.len as usize]
+    }
+
+    /// The message, lent.
+    pub fn lend(&self) -> MsuRef<'_>
+        ensures message { lent result ≡ self.now }
+        ensures fits { length self.now.sif ≤ Limits.SIF_OCTETS }
+    {
+        MsuRef {
+            sio: self.sio,
+            sif: self.sif(),
+        }
+    }
+
+    /// Becomes a copy of a lent message, in place.
+    pub fn refill(&mut self, message: MsuRef<'_>)
+        requires { length message.sif.now ≤ Limits.SIF_OCTETS }
+        ensures { self.new ≡ lent message.entry }
+    {
+        let (front, rest) = self.octets.split_at_mut(message.sif.len());
+        front.copy_from_slice(message.sif);
+        rest.fill(0);
+        self.len = message.sif.len() as u16;
+        self.sio = message.sio;
+    }
+
+    /// Whether it is a management or a test message; any other is a user message (Q.704 §14.2.1).
+    pub fn is_management(&self) -> bool
+        ensures { result ≡ is_management self.now }
+    {
+        self.service_indicator() < 2
+    }
+}
+
+/// The octets, and zeros behind them.
+fn padded(sif: &[u8]) -> [u8; Limits::SIF_OCTETS]
+    requires { length sif.now ≤ Limits.SIF_OCTETS }
+    ensures { result ≡ sif.now ++ replicate (Limits.SIF_OCTETS - length sif.now) 0 }
+{
+    let mut octets = [0; Limits::SIF_OCTETS];
+    octets[..sif.len()].copy_from_slice(sif);
+    octets
+}
