@@ -51,6 +51,12 @@ set_fault own earlier s = first_of (set_name_fault earlier s ∷ set_adjacent_fa
 abbrev pub written : TimerKey → ℤ → Written
 written timer ticks = record { timer = timer; ticks = ticks }
 
+abbrev pub timer_in : Written → TimerKey
+timer_in w = w.timer
+
+abbrev pub ticks_in : Written → ℤ
+ticks_in w = w.ticks
+
 -- the timers, each with the ticks that were written for it
 abbrev pub timers_written : TimersDraft → List Written
 timers_written t =

@@ -86,7 +86,7 @@ pub record IsTitle (t : TitleEntry) : Type 0 where
 
 -- whether two translation rows have one key and the same digits
 abbrev pub is_same_row : TitleEntry → TitleEntry → Bool
-is_same_row t e = nat_eq t.translation e.translation && nat_eq t.plan e.plan && nat_eq t.nature e.nature && bytes_eq t.digits e.digits
+is_same_row t e = nat_eq t.translation e.translation && (nat_eq t.plan e.plan && (nat_eq t.nature e.nature && bytes_eq t.digits e.digits))
 
 -- every number is within its limits, every name is a name of something, and what has to be distinct is
 pub record IsWell (c : Configuration) : Type 0 where
