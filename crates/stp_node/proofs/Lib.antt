@@ -1,6 +1,7 @@
 pub mod Asking
+pub mod BuiltIn
 pub mod Octets
 pub mod Parting
 pub mod Running
-pub mod Settled
+pub mod Standing
 pub mod Written

@@ -1,35 +1,22 @@
--- Octets that reach so far, and those behind them.
-use Rattle.std.proofs.Common.{◌≡◌, ℕ, suc, ◌+◌, ◌≤◌, ◌<◌, get_or, drop, drop-cons, add-one, Bool, true, false, List, [], ◌∷◌, ◌++◌, Option, None, Some, Result, Ok, Err, length, take, refl, sym, ◌∙◌, ap, arith, append_assoc, append-nil, subst}
-use Rattle.std.specs.Prelude.{if◌then◌else◌, min, IfErr, ◌≢◌}
-use Rattle.stp_node.specs.Faults.{reads_failed, most_reads, MakesReads}
+-- Octets that were taken, and those behind them.
+use Rattle.std.proofs.Common.{◌≡◌, ℕ, ◌+◌, ◌≤◌, ◌<◌, get_or, drop, drop-cons, add-one, suc, Bool, true, false, List, [], ◌∷◌, ◌++◌, Option, None, Some, Result, Ok, Err, length, take, nat_lt, refl, sym, ◌∙◌, ap, arith, append_assoc, append-nil, length-append, subst, inl, inr}
+use Rattle.std.specs.Prelude.{if◌then◌else◌}
 use Rattle.std.proofs.Math.Seq.{take-append-add}
-use Rattle.std.proofs.lemmas.List.{take-append-le, take_all, drop_all}
-use Rattle.std.proofs.lemmas.Grind.{common_steps}
-use Rattle.std.specs.Io.KnownBytes.{Appends, Consumes, Keeps}
+use Rattle.std.proofs.lemmas.List.{drop_all}
+use Rattle.std.proofs.lemmas.Bool.Decides.{nat_tests}
+use Rattle.std.specs.Io.KnownBytes.{Appends, Consumes, Keeps, IsAtEnd}
 use Rattle.exchange.specs.State.{State}
 use Rattle.exchange.specs.Queues.{KeptQueues, kept}
+use Rattle.stp_node.specs.Asking.{Reading, IsMalformed, parsed_line}
+use Rattle.stp_node.specs.Lines.{lines}
 use Rattle.stp_node.specs.Streams.{AppendsFirst}
-use Rattle.stp_node.specs.Reading.{LineSoFar}
-use Rattle.stp_node.specs.Runs.{Script, Reached, stopped, behind, octet_read, octets_read, ended, script_read, first_script, Does, Fails, Runs}
+use Rattle.stp_node.specs.Runs.{Reached, silent, stopped, line_run, whole_line, open_run, onto, unless_ended, behind, lines_run, run_so_far, whole_run, Does, Runs}
+use Rattle.stp_node.specs.Steps.{LineSoFar, first_line, begun, rest_run, GoesOn, HasTaken}
+use Rattle.stp_node.specs.Faults.{reads_failed, MakesReads}
+use Rattle.stp_node.specs.declared.script.TheConstants.{LINE_OCTETS, READS}
 use Rattle.stp_node.specs.declared.script.ScriptFault.{ScriptFault}
 use Rattle.stp_node.specs.declared.script.ScriptFault.TheVariants.{Read, Write, Line, TooManyReads, NoMemory}
-
--- ---- what stands behind
-
-if_false : {Q : Type 0} → (b : Bool) (r s : Reached Q) → b ≡ false → (if b then r else s) ≡ s
-if_false true r s h = cc h
-if_false false r s h = refl
-
-if_true : {Q : Type 0} → (b : Bool) (r s : Reached Q) → b ≡ true → (if b then r else s) ≡ r
-if_true true r s h = refl
-if_true false r s h = cc h
-
-behind-going : {Q : Type 0} → (r next : Reached Q) → r.is_fault ≡ false
-    → behind r next ≡ record { text = r.text ++ next.text; script = next.script; is_fault = next.is_fault }
-behind-going r next h = if_false r.is_fault r _ h
-
-behind-fault : {Q : Type 0} → (r next : Reached Q) → r.is_fault ≡ true → behind r next ≡ r
-behind-fault r next h = if_true r.is_fault r _ h
+use Rattle.stp_node.proofs.Parting.{lines-nonfeed, begun-nothing, parted-some}
 
 -- ---- writes in a row
 
@@ -43,122 +30,259 @@ appends-first : (w0 w1 w2 : Option (List ℕ)) (xs ys : List ℕ) → Appends w0
 appends-first w0 w1 w2 xs ys h k =
     (length xs + k.0, rw (take-append-add xs ys k.0) (appends-appends w0 w1 w2 xs (take k.0 ys) h k.1))
 
-first-same : (n : ℕ) (xs ys : List ℕ) → take (min n (length xs)) (xs ++ ys) ≡ take n xs
-first-same n xs ys = take-append-le (min n (length xs)) xs ys (omega arith) ∙ grind (arith, common_steps, take_all)
+appends-nothing : (w : Option (List ℕ)) → Appends w w []
+appends-nothing None = tt
+appends-nothing (Some written) = sym (append-nil written)
 
--- the first octets of a text are the first of a longer one
-first-longer : (w0 w1 : Option (List ℕ)) (xs ys : List ℕ) → AppendsFirst w0 w1 xs → AppendsFirst w0 w1 (xs ++ ys)
-first-longer w0 w1 xs ys k =
-    let most = min k.0 (length xs) in
-    let same : take most (xs ++ ys) ≡ take k.0 xs = first-same k.0 xs ys in
-    (most, rw same k.1)
+-- ---- lines in a row
 
--- ---- what the code did
+line-first : {Q : Type 0} → (a b : List ℕ) (r : Reached Q) → onto a (onto b r) ≡ onto (a ++ b) r
+line-first a b r = ap (λ (text : List ℕ). record r { text = text }) (sym (append_assoc a b r.text))
 
-pub does_more : (r next : Reached KeptQueues) (x : Unit) (result : Result Unit ScriptFault) (line line' : LineSoFar) (node node' : State KeptQueues) (w0 w1 w2 : Option (List ℕ))
-    → Does r (Ok x) line node w0 w1 → Does next result line' node' w1 w2 → Does (behind r next) result line' node' w0 w2
-does_more r next x (Ok y) line line' node node' w0 w1 w2 h k =
-    rw (behind-going r next h.0) (k.0, k.1, k.2, appends-appends w0 w1 w2 r.text next.text h.3 k.3)
-does_more r next x (Err (Line number)) line line' node node' w0 w1 w2 h k =
-    rw (behind-going r next h.0) (k.0, k.1, k.2, appends-appends w0 w1 w2 r.text next.text h.3 k.3)
-does_more r next x (Err Write) line line' node node' w0 w1 w2 h k =
-    rw (behind-going r next h.0) (appends-first w0 w1 w2 r.text next.text h.3 k)
-does_more r next x (Err Read) line line' node node' w0 w1 w2 h k = absurd k
-does_more r next x (Err TooManyReads) line line' node node' w0 w1 w2 h k = absurd k
-does_more r next x (Err NoMemory) line line' node node' w0 w1 w2 h k = absurd k
+behind-going : (r : Reached KeptQueues) (next : State KeptQueues → Reached KeptQueues) → r.fault ≡ None → behind r next ≡ onto r.text (next r.node)
+behind-going r next h = ap (λ (f : Option ℕ). unless_ended f r next) h
 
-first-behind : (r next : Reached KeptQueues) (b : Bool) (w0 w1 : Option (List ℕ)) → r.is_fault ≡ b → AppendsFirst w0 w1 r.text → AppendsFirst w0 w1 (behind r next).text
-first-behind r next true w0 w1 h k = rw (behind-fault r next h) k
-first-behind r next false w0 w1 h k = rw (behind-going r next h) (first-longer w0 w1 r.text next.text k)
+behind-ended : (r : Reached KeptQueues) (next : State KeptQueues → Reached KeptQueues) (number : ℕ) → r.fault ≡ Some number → behind r next ≡ r
+behind-ended r next number h = ap (λ (f : Option ℕ). unless_ended f r next) h
 
-pub does_no_more : (r next : Reached KeptQueues) (fault : ScriptFault) (line : LineSoFar) (node : State KeptQueues) (w0 w1 : Option (List ℕ))
-    → Does r (Err fault) line node w0 w1 → Does (behind r next) (Err fault) line node w0 w1
-does_no_more r next (Line number) line node w0 w1 h = rw (behind-fault r next h.0) h
-does_no_more r next Write line node w0 w1 h = first-behind r next r.is_fault w0 w1 refl h
-does_no_more r next Read line node w0 w1 h = absurd h
-does_no_more r next TooManyReads line node w0 w1 h = absurd h
-does_no_more r next NoMemory line node w0 w1 h = absurd h
+test-true : (a b : ℕ) → a < b → nat_lt a b ≡ true
+test-true a b h = grind (arith, nat_tests)
 
-pub does_stopped : (s : Script KeptQueues) (result : Result Unit ScriptFault) (line : LineSoFar) (w0 w1 : Option (List ℕ))
-    → Fails s.line.number result w0 w1 → Does (stopped s) result line s.node w0 w1
-does_stopped s (Err (Line number)) line w0 w1 h = (refl, sym h.0, refl, h.1)
-does_stopped s (Err Write) line w0 w1 h = h
-does_stopped s (Ok x) line w0 w1 h = absurd h
-does_stopped s (Err Read) line w0 w1 h = absurd h
-does_stopped s (Err TooManyReads) line w0 w1 h = absurd h
-does_stopped s (Err NoMemory) line w0 w1 h = absurd h
+test-false : (a b : ℕ) → b ≤ a → nat_lt a b ≡ false
+test-false a b h = grind (arith, nat_tests)
 
-pub ruleset running_steps = (does_more, does_no_more, does_stopped)
+if-false : {A : Type 0} → (b : Bool) (x y : A) → b ≡ false → (if b then x else y) ≡ y
+if-false true x y h = cc h
+if-false false x y h = refl
 
--- ---- octet by octet
+if-true : {A : Type 0} → (b : Bool) (x y : A) → b ≡ true → (if b then x else y) ≡ x
+if-true true x y h = refl
+if-true false x y h = cc h
 
-reached-script : (r : Reached KeptQueues) (line : LineSoFar) (node : State KeptQueues) → r.script.line ≡ line → r.script.node ≡ node
-    → r.script ≡ record { line = line; node = node }
-reached-script r line node h k = rw (← h, ← k) refl
+-- a line that is short enough is read
+whole_line-short : (line : List ℕ) → length line ≤ LINE_OCTETS → whole_line line ≡ parsed_line line
+whole_line-short line h = if-false (nat_lt LINE_OCTETS (length line)) _ (parsed_line line) (test-false LINE_OCTETS (length line) h)
 
-pub octet_more : (octet : ℕ) (rest : List ℕ) (s : Script KeptQueues) (result : Result Unit ScriptFault) (line line' : LineSoFar) (node node' : State KeptQueues) (w0 w1 w2 : Option (List ℕ))
-    → Does (octet_read kept octet s) (Ok tt) line node w0 w1
-    → Does (octets_read kept rest (record { line = line; node = node })) result line' node' w1 w2
-    → Does (octets_read kept (octet ∷ rest) s) result line' node' w0 w2
-octet_more octet rest s result line line' node node' w0 w1 w2 h k =
-    let r = octet_read kept octet s in
-    does_more r (octets_read kept rest r.script) tt result line line' node node' w0 w1 w2 h (rw (reached-script r line node h.1 h.2) k)
+-- one that is too long ends the script, whether its line feed is there or not
+stopped-long : (most number : ℕ) (line : List ℕ) (more : List (List ℕ)) (s : State KeptQueues) → LINE_OCTETS < length line → most ≤ LINE_OCTETS
+    → lines_run kept most number (line ∷ more) s ≡ stopped number s
+stopped-long most number line [] s h k = if-true (nat_lt most (length line)) (stopped number s) (silent s) (test-true most (length line) (omega (arith, h, k)))
+stopped-long most number line (next ∷ more) s h k =
+    let long : whole_line line ≡ IsMalformed = if-true (nat_lt LINE_OCTETS (length line)) _ (parsed_line line) (test-true LINE_OCTETS (length line) h) in
+    ap (λ (r : Reading). behind (line_run kept number r s) (λ (t : State KeptQueues). lines_run kept most (number + 1) (next ∷ more) t)) long
 
-pub octet_no_more : (octet : ℕ) (rest : List ℕ) (s : Script KeptQueues) (fault : ScriptFault) (line : LineSoFar) (node : State KeptQueues) (w0 w1 : Option (List ℕ))
-    → Does (octet_read kept octet s) (Err fault) line node w0 w1 → Does (octets_read kept (octet ∷ rest) s) (Err fault) line node w0 w1
-octet_no_more octet rest s fault line node w0 w1 h =
-    let r = octet_read kept octet s in does_no_more r (octets_read kept rest r.script) fault line node w0 w1 h
+-- ---- one octet
 
--- no octet does nothing
-pub does_nothing : (s : Script KeptQueues) (w : Option (List ℕ)) → Does (octets_read kept [] s) (Ok tt) s.line s.node w w
-does_nothing s None = (refl, refl, refl, tt)
-does_nothing s (Some written) = (refl, refl, refl, sym (append-nil written))
+-- any other octet than a line feed goes into the front line
+pub octet-kept : (octet : ℕ) (line : LineSoFar) (s : State KeptQueues) (w : Option (List ℕ)) → (octet ≡ 10 → ⊥)
+    → HasTaken (octet ∷ []) (Ok tt) line (record line { octets = line.octets ++ octet ∷ [] }) s s w w
+octet-kept octet line s w h = record {
+  text = [];
+  wrote = appends-nothing w;
+  rest = λ most more k. ap (λ (parts : List (List ℕ)). lines_run kept most line.number parts s) (lines-nonfeed line.octets octet more h);
+}
+
+-- an front line with one octet more than a line may have
+long-first : (most number : ℕ) (front : List ℕ) (octet : ℕ) (parts : List (List ℕ)) (s : State KeptQueues) → 0 < length parts
+    → LINE_OCTETS ≤ length front → most ≤ LINE_OCTETS
+    → lines_run kept most number (begun (front ++ octet ∷ []) parts) s ≡ stopped number s
+long-first most number front octet [] s some h k = absurd (omega (arith, some))
+long-first most number front octet (part ∷ parts) s some h k =
+    let e = length-append (front ++ octet ∷ []) part in
+    let f = length-append front (octet ∷ []) in
+    stopped-long most number ((front ++ octet ∷ []) ++ part) parts s (omega (arith, e, f, h)) k
+
+long-run : (octet : ℕ) (line : LineSoFar) (s : State KeptQueues) (most : ℕ) (more : List ℕ) → (octet ≡ 10 → ⊥) → LINE_OCTETS ≤ length line.octets
+    → most ≤ LINE_OCTETS → rest_run most line (octet ∷ more) s ≡ stopped line.number s
+long-run octet line s most more other long k =
+    ap (λ (parts : List (List ℕ)). lines_run kept most line.number parts s) (lines-nonfeed line.octets octet more other)
+    ∙ long-first most line.number line.octets octet (lines more) s (parted-some 10 more) long k
+
+pub octet-too_many : (octet : ℕ) (line next : LineSoFar) (s : State KeptQueues) (result : Result Unit ScriptFault) (w0 w1 : Option (List ℕ))
+    → (octet ≡ 10 → ⊥) → LINE_OCTETS ≤ length line.octets
+    → Does (stopped line.number s) result s w0 w1 → HasTaken (octet ∷ []) result line next s s w0 w1
+octet-too_many octet line next s (Ok x) w0 w1 other long h = cc (h.0)
+octet-too_many octet line next s (Err (Line number)) w0 w1 other long h = record {
+  text = (stopped line.number s).text;
+  wrote = h.2;
+  rest = λ most more k.
+      long-run octet line s most more other long k
+      ∙ ap (λ (f : Option ℕ). record { text = (stopped line.number s).text; node = s; fault = f }) h.0;
+}
+octet-too_many octet line next s (Err Write) w0 w1 other long h =
+    let run = long-run octet line s LINE_OCTETS [] other long (omega arith) in
+    record {
+      taken = octet ∷ [];
+      more = [];
+      are = refl;
+      node = ap (λ (r : Reached KeptQueues). r.node) run;
+      wrote = subst (λ (r : Reached KeptQueues). AppendsFirst w0 w1 r.text) (sym run) h.1;
+    }
+octet-too_many octet line next s (Err Read) w0 w1 other long h = absurd h
+octet-too_many octet line next s (Err TooManyReads) w0 w1 other long h = absurd h
+octet-too_many octet line next s (Err NoMemory) w0 w1 other long h = absurd h
+
+-- a line feed ends the front line
+ended-first : (most number : ℕ) (line : List ℕ) (parts : List (List ℕ)) (s : State KeptQueues) → 0 < length parts
+    → lines_run kept most number (line ∷ parts) s ≡ behind (line_run kept number (whole_line line) s) (λ t. lines_run kept most (number + 1) (begun [] parts) t)
+ended-first most number line [] s some = absurd (omega (arith, some))
+ended-first most number line (part ∷ parts) s some = refl
+
+line-ended : (line : LineSoFar) (s : State KeptQueues) (most : ℕ) (more : List ℕ) → length line.octets ≤ LINE_OCTETS
+    → rest_run most line (10 ∷ more) s
+    ≡ behind (line_run kept line.number (parsed_line line.octets) s) (rest_run most (record { octets = []; number = line.number + 1 }) more)
+line-ended line s most more short =
+    ended-first most line.number (line.octets ++ []) (lines more) s (parted-some 10 more)
+    ∙ ap (λ (octets : List ℕ). behind (line_run kept line.number (whole_line octets) s) (rest_run most (record { octets = []; number = line.number + 1 }) more)) (append-nil line.octets)
+    ∙ ap (λ (r : Reading). behind (line_run kept line.number r s) (rest_run most (record { octets = []; number = line.number + 1 }) more)) (whole_line-short line.octets short)
+
+feed-done : (line : LineSoFar) (s after : State KeptQueues) (x : Unit) (w0 w1 : Option (List ℕ)) → length line.octets ≤ LINE_OCTETS
+    → Does (line_run kept line.number (parsed_line line.octets) s) (Ok x) after w0 w1
+    → HasTaken (10 ∷ []) (Ok tt) line (record { octets = []; number = line.number + 1 }) s after w0 w1
+feed-done line s after x w0 w1 short h =
+    let r = line_run kept line.number (parsed_line line.octets) s in
+    let next : LineSoFar = record { octets = []; number = line.number + 1 } in
+    record {
+      text = r.text;
+      wrote = h.2;
+      rest = λ most more k.
+          line-ended line s most more short ∙ behind-going r (rest_run most next more) h.0
+          ∙ ap (λ (t : State KeptQueues). onto r.text (rest_run most next more t)) h.1;
+    }
+
+-- what the last octets print, where nothing is behind them
+behind-nothing : (r : Reached KeptQueues) (b : Option ℕ) (next : State KeptQueues → Reached KeptQueues) → r.fault ≡ b
+    → ((t : State KeptQueues) → next t ≡ silent t) → ((behind r next).node ≡ r.node) × ((behind r next).text ≡ r.text)
+behind-nothing r None next h e =
+    let same = behind-going r next h ∙ ap (λ (x : Reached KeptQueues). onto r.text x) (e r.node) in
+    (ap (λ (x : Reached KeptQueues). x.node) same, ap (λ (x : Reached KeptQueues). x.text) same ∙ append-nil r.text)
+behind-nothing r (Some number) next h e =
+    let same = behind-ended r next number h in (ap (λ (x : Reached KeptQueues). x.node) same, ap (λ (x : Reached KeptQueues). x.text) same)
+
+feed-broken : (line next : LineSoFar) (s after : State KeptQueues) (fault : ScriptFault) (w0 w1 : Option (List ℕ)) → length line.octets ≤ LINE_OCTETS
+    → Does (line_run kept line.number (parsed_line line.octets) s) (Err fault) after w0 w1
+    → HasTaken (10 ∷ []) (Err fault) line next s after w0 w1
+feed-broken line next s after (Line number) w0 w1 short h =
+    let r = line_run kept line.number (parsed_line line.octets) s in
+    record {
+      text = r.text;
+      wrote = h.2;
+      rest = λ most more k.
+          line-ended line s most more short
+          ∙ behind-ended r (rest_run most (record { octets = []; number = line.number + 1 }) more) number h.0
+          ∙ ap (λ (t : State KeptQueues). record { text = r.text; node = t; fault = r.fault }) h.1
+          ∙ ap (λ (f : Option ℕ). record { text = r.text; node = after; fault = f }) h.0;
+    }
+feed-broken line next s after Write w0 w1 short h =
+    let r = line_run kept line.number (parsed_line line.octets) s in
+    let run = line-ended line s LINE_OCTETS [] short in
+    let same = behind-nothing r r.fault (rest_run LINE_OCTETS (record { octets = []; number = line.number + 1 }) []) refl (λ t. refl) in
+    record {
+      taken = 10 ∷ [];
+      more = [];
+      are = refl;
+      node = ap (λ (x : Reached KeptQueues). x.node) run ∙ same.0 ∙ h.0;
+      wrote = subst (λ (text : List ℕ). AppendsFirst w0 w1 text) (sym (ap (λ (x : Reached KeptQueues). x.text) run ∙ same.1)) h.1;
+    }
+feed-broken line next s after Read w0 w1 short h = absurd h
+feed-broken line next s after TooManyReads w0 w1 short h = absurd h
+feed-broken line next s after NoMemory w0 w1 short h = absurd h
+
+pub line-done : (octet : ℕ) (line : LineSoFar) (text : List ℕ) (s after : State KeptQueues) (x : Unit) (w0 w1 : Option (List ℕ)) → octet ≡ 10
+    → length line.octets ≤ LINE_OCTETS → text ≡ line.octets
+    → Does (line_run kept line.number (parsed_line text) s) (Ok x) after w0 w1
+    → HasTaken (octet ∷ []) (Ok tt) line (record { octets = []; number = line.number + 1 }) s after w0 w1
+line-done octet line text s after x w0 w1 feed short same h =
+    subst (λ (n : ℕ). HasTaken (n ∷ []) (Ok tt) line (record { octets = []; number = line.number + 1 }) s after w0 w1) (sym feed)
+    (feed-done line s after x w0 w1 short
+    (subst (λ (octets : List ℕ). Does (line_run kept line.number (parsed_line octets) s) (Ok x) after w0 w1) same h))
+
+pub line-broken : (octet : ℕ) (line next : LineSoFar) (text : List ℕ) (s after : State KeptQueues) (fault : ScriptFault) (w0 w1 : Option (List ℕ)) → octet ≡ 10
+    → length line.octets ≤ LINE_OCTETS → text ≡ line.octets
+    → Does (line_run kept line.number (parsed_line text) s) (Err fault) after w0 w1
+    → HasTaken (octet ∷ []) (Err fault) line next s after w0 w1
+line-broken octet line next text s after fault w0 w1 feed short same h =
+    subst (λ (n : ℕ). HasTaken (n ∷ []) (Err fault) line next s after w0 w1) (sym feed)
+    (feed-broken line next s after fault w0 w1 short
+    (subst (λ (octets : List ℕ). Does (line_run kept line.number (parsed_line octets) s) (Err fault) after w0 w1) same h))
+
+-- ---- octets behind octets
+
+pub taken-nothing : (line : LineSoFar) (s : State KeptQueues) (w : Option (List ℕ)) → HasTaken [] (Ok tt) line line s s w w
+taken-nothing line s w = record { text = []; wrote = appends-nothing w; rest = λ most more k. refl }
+
+pub taken-more : (xs ys : List ℕ) (x : Unit) (result : Result Unit ScriptFault) (line mid next : LineSoFar) (s between after : State KeptQueues) (w0 w1 w2 : Option (List ℕ))
+    → HasTaken xs (Ok x) line mid s between w0 w1 → HasTaken ys result mid next between after w1 w2 → HasTaken (xs ++ ys) result line next s after w0 w2
+taken-more xs ys x (Ok y) line mid next s between after w0 w1 w2 h k = record {
+  text = h.text ++ k.text;
+  wrote = appends-appends w0 w1 w2 h.text k.text h.wrote k.wrote;
+  rest = λ most more m.
+      ap (λ (octets : List ℕ). rest_run most line octets s) (append_assoc xs ys more) ∙ h.rest most (ys ++ more) m
+      ∙ ap (λ (r : Reached KeptQueues). onto h.text r) (k.rest most more m) ∙ line-first h.text k.text (rest_run most next more after);
+}
+taken-more xs ys x (Err (Line number)) line mid next s between after w0 w1 w2 h k = record {
+  text = h.text ++ k.text;
+  wrote = appends-appends w0 w1 w2 h.text k.text h.wrote k.wrote;
+  rest = λ most more m.
+      ap (λ (octets : List ℕ). rest_run most line octets s) (append_assoc xs ys more) ∙ h.rest most (ys ++ more) m
+      ∙ ap (λ (r : Reached KeptQueues). onto h.text r) (k.rest most more m);
+}
+taken-more xs ys x (Err Write) line mid next s between after w0 w1 w2 h k =
+    let run = h.rest LINE_OCTETS k.taken (omega arith) in
+    record {
+      taken = xs ++ k.taken;
+      more = k.more;
+      are = ap (λ (octets : List ℕ). xs ++ octets) k.are ∙ sym (append_assoc xs k.taken k.more);
+      node = ap (λ (r : Reached KeptQueues). r.node) run ∙ k.node;
+      wrote = subst (λ (r : Reached KeptQueues). AppendsFirst w0 w2 r.text) (sym run) (appends-first w0 w1 w2 h.text _ h.wrote k.wrote);
+    }
+taken-more xs ys x (Err Read) line mid next s between after w0 w1 w2 h k = absurd k
+taken-more xs ys x (Err TooManyReads) line mid next s between after w0 w1 w2 h k = absurd k
+taken-more xs ys x (Err NoMemory) line mid next s between after w0 w1 w2 h k = absurd k
+
+pub taken-no_more : (xs ys : List ℕ) (fault : ScriptFault) (line mid next : LineSoFar) (s after : State KeptQueues) (w0 w1 : Option (List ℕ))
+    → HasTaken xs (Err fault) line mid s after w0 w1 → HasTaken (xs ++ ys) (Err fault) line next s after w0 w1
+taken-no_more xs ys (Line number) line mid next s after w0 w1 h = record {
+  text = h.text;
+  wrote = h.wrote;
+  rest = λ most more m. ap (λ (octets : List ℕ). rest_run most line octets s) (append_assoc xs ys more) ∙ h.rest most (ys ++ more) m;
+}
+taken-no_more xs ys Write line mid next s after w0 w1 h = record {
+  taken = h.taken;
+  more = h.more ++ ys;
+  are = ap (λ (octets : List ℕ). octets ++ ys) h.are ∙ append_assoc h.taken h.more ys;
+  node = h.node;
+  wrote = h.wrote;
+}
+taken-no_more xs ys Read line mid next s after w0 w1 h = absurd h
+taken-no_more xs ys TooManyReads line mid next s after w0 w1 h = absurd h
+taken-no_more xs ys NoMemory line mid next s after w0 w1 h = absurd h
 
 -- ---- at an index
 
-pub octet_at : (octets : List ℕ) (i : ℕ) (s : Script KeptQueues) (result : Result Unit ScriptFault) (line line' : LineSoFar) (node node' : State KeptQueues) (w0 w1 w2 : Option (List ℕ))
+pub taken-at : (octets : List ℕ) (i : ℕ) (result : Result Unit ScriptFault) (line mid next : LineSoFar) (s between after : State KeptQueues) (w0 w1 w2 : Option (List ℕ))
     → i < length octets
-    → Does (octet_read kept (get_or octets i 0) s) (Ok tt) line node w0 w1
-    → Does (octets_read kept (drop (i + 1) octets) (record { line = line; node = node })) result line' node' w1 w2
-    → Does (octets_read kept (drop i octets) s) result line' node' w0 w2
-octet_at octets i s result line line' node node' w0 w1 w2 lt h k =
+    → HasTaken (get_or octets i 0 ∷ []) (Ok tt) line mid s between w0 w1
+    → HasTaken (drop (i + 1) octets) result mid next between after w1 w2
+    → HasTaken (drop i octets) result line next s after w0 w2
+taken-at octets i result line mid next s between after w0 w1 w2 lt h k =
     let one : i + 1 ≡ suc i = add-one i in
-    rw (drop-cons octets i 0 lt) (octet_more (get_or octets i 0) (drop (suc i) octets) s result line line' node node' w0 w1 w2 h (rw one at k))
+    subst (λ (xs : List ℕ). HasTaken xs result line next s after w0 w2) (sym (drop-cons octets i 0 lt))
+    (taken-more (get_or octets i 0 ∷ []) (drop (suc i) octets) tt result line mid next s between after w0 w1 w2 h (rw one at k))
 
-pub fault_at : (octets : List ℕ) (i : ℕ) (s : Script KeptQueues) (fault : ScriptFault) (line : LineSoFar) (node : State KeptQueues) (w0 w1 : Option (List ℕ))
+pub broken-at : (octets : List ℕ) (i : ℕ) (fault : ScriptFault) (line mid next : LineSoFar) (s after : State KeptQueues) (w0 w1 : Option (List ℕ))
     → i < length octets
-    → Does (octet_read kept (get_or octets i 0) s) (Err fault) line node w0 w1
-    → Does (octets_read kept (drop i octets) s) (Err fault) line node w0 w1
-fault_at octets i s fault line node w0 w1 lt h =
-    subst (λ (xs : List ℕ). Does (octets_read kept xs s) (Err fault) line node w0 w1) (sym (drop-cons octets i 0 lt))
-    (octet_no_more (get_or octets i 0) (drop (suc i) octets) s fault line node w0 w1 h)
+    → HasTaken (get_or octets i 0 ∷ []) (Err fault) line mid s after w0 w1
+    → HasTaken (drop i octets) (Err fault) line next s after w0 w1
+broken-at octets i fault line mid next s after w0 w1 lt h =
+    subst (λ (xs : List ℕ). HasTaken xs (Err fault) line next s after w0 w1) (sym (drop-cons octets i 0 lt))
+    (taken-no_more (get_or octets i 0 ∷ []) (drop (suc i) octets) fault line mid next s after w0 w1 h)
 
-pub end_at : (octets : List ℕ) (i : ℕ) (s : Script KeptQueues) (w : Option (List ℕ)) → length octets ≤ i
-    → Does (octets_read kept (drop i octets) s) (Ok tt) s.line s.node w w
-end_at octets i s w le = rw (drop_all i octets le) (does_nothing s w)
+pub end-at : (octets : List ℕ) (i : ℕ) (line : LineSoFar) (s : State KeptQueues) (w : Option (List ℕ)) → length octets ≤ i
+    → HasTaken (drop i octets) (Ok tt) line line s s w w
+end-at octets i line s w le = rw (drop_all i octets le) (taken-nothing line s w)
 
 -- ---- piece by piece
-
-behind-both : (r b c : Reached KeptQueues) (v : Bool) → b.is_fault ≡ v
-    → record { text = r.text ++ (behind b c).text; script = (behind b c).script; is_fault = (behind b c).is_fault }
-    ≡ behind (record { text = r.text ++ b.text; script = b.script; is_fault = b.is_fault }) c
-behind-both r b c true h = rw (behind-fault b c h, behind-fault (record { text = r.text ++ b.text; script = b.script; is_fault = b.is_fault }) c h) refl
-behind-both r b c false h =
-    rw (behind-going b c h, behind-going (record { text = r.text ++ b.text; script = b.script; is_fault = b.is_fault }) c h, append_assoc r.text b.text c.text) refl
-
-behind-behind : (r b : Reached KeptQueues) (next : Script KeptQueues → Reached KeptQueues) (v : Bool) → r.is_fault ≡ v
-    → behind r (behind b (next b.script)) ≡ behind (behind r b) (next (behind r b).script)
-behind-behind r b next true h = rw (behind-fault r (behind b (next b.script)) h, behind-fault r b h, behind-fault r (next r.script) h) refl
-behind-behind r b next false h =
-    rw (behind-going r (behind b (next b.script)) h, behind-going r b h) (behind-both r b (next b.script) b.is_fault refl)
-
-pub octets_read-append : (xs ys : List ℕ) (s : Script KeptQueues)
-    → octets_read kept (xs ++ ys) s ≡ behind (octets_read kept xs s) (octets_read kept ys (octets_read kept xs s).script)
-octets_read-append [] ys s = refl
-octets_read-append (octet ∷ xs) ys s =
-    let r = octet_read kept octet s in
-    let later = octets_read-append xs ys r.script in
-    ap (λ (n : Reached KeptQueues). behind r n) later ∙ behind-behind r (octets_read kept xs r.script) (octets_read kept ys) r.is_fault refl
 
 consumes-consumes : (a b c : Option (List ℕ)) (xs ys : List ℕ) → Consumes a b xs → Consumes b c ys → Consumes a c (xs ++ ys)
 consumes-consumes None b c xs ys h k = tt
@@ -172,102 +296,144 @@ consumes-keeps (Some a) None c xs h k = absurd h
 consumes-keeps (Some a) (Some b) None xs h k = absurd k
 consumes-keeps (Some a) (Some b) (Some c) xs h k = h ∙ ap (λ (v : List ℕ). xs ++ v) (sym k)
 
--- the octets so far, the open line and the state that they reached
-pub record Progress (before : State KeptQueues) (left left_new written written_new : Option (List ℕ)) (line : LineSoFar) (node : State KeptQueues) : Type 0 where
+consumes-nothing : (a : Option (List ℕ)) → Consumes a a []
+consumes-nothing None = tt
+consumes-nothing (Some a) = refl
+
+-- the octets so far were taken, and led to the open line and the state
+pub record Progress (before : State KeptQueues) (left left_new written written_new : Option (List ℕ)) (line : LineSoFar) (s : State KeptQueues) : Type 0 where
   pub octets : List ℕ
   pub consumed : Consumes left left_new octets
-  pub does : Does (octets_read kept octets (first_script before)) (Ok tt) line node written written_new
+  pub taken : GoesOn octets first_line line before s written written_new
 
-pub no_progress : (before : State KeptQueues) (left written : Option (List ℕ)) → Progress before left left written written (record { octets = []; number = 1 }) before
-no_progress before left written = record { octets = []; consumed = consumes-nothing left; does = does_nothing (first_script before) written }
-  where
-    consumes-nothing : (a : Option (List ℕ)) → Consumes a a []
-    consumes-nothing None = tt
-    consumes-nothing (Some a) = refl
+pub no-progress : (before : State KeptQueues) (left written : Option (List ℕ)) → Progress before left left written written first_line before
+no-progress before left written = record { octets = []; consumed = consumes-nothing left; taken = taken-nothing first_line before written }
 
-pub more_progress : (before : State KeptQueues) (left left_mid left_new written written_mid written_new : Option (List ℕ)) (line line' : LineSoFar) (node node' : State KeptQueues) (piece : List ℕ)
-    → Progress before left left_mid written written_mid line node
-    → Consumes left_mid left_new piece
-    → Does (octets_read kept piece (record { line = line; node = node })) (Ok tt) line' node' written_mid written_new
-    → Progress before left left_new written written_new line' node'
-more_progress before left left_mid left_new written written_mid written_new line line' node node' piece p consumed does =
-    let r = octets_read kept p.octets (first_script before) in
-    record {
-      octets = p.octets ++ piece;
-      consumed = consumes-consumes left left_mid left_new p.octets piece p.consumed consumed;
-      does = rw (octets_read-append p.octets piece (first_script before))
-          (does_more r (octets_read kept piece r.script) tt (Ok tt) line line' node node' written written_mid written_new p.does (rw (reached-script r line node p.does.1 p.does.2) does));
-    }
-
-runs_of : (octets : List ℕ) (before : State KeptQueues) (result : Result Unit ScriptFault) (line : LineSoFar) (node : State KeptQueues) (left left_new w0 w1 : Option (List ℕ))
-    → Consumes left left_new octets → Does (script_read kept octets before) result line node w0 w1 → Runs result before node left left_new w0 w1
-runs_of octets before (Ok x) line node left left_new w0 w1 c h = (octets, c, h.0, h.2, h.3)
-runs_of octets before (Err (Line number)) line node left left_new w0 w1 c h = (octets, c, h.0, h.1, h.2, h.3)
-runs_of octets before (Err Write) line node left left_new w0 w1 c h = (octets, c, h)
-runs_of octets before (Err Read) line node left left_new w0 w1 c h = absurd h
-runs_of octets before (Err TooManyReads) line node left left_new w0 w1 c h = absurd h
-runs_of octets before (Err NoMemory) line node left left_new w0 w1 c h = absurd h
+pub more-progress : (before s after : State KeptQueues) (left left_mid left_new w0 w1 w2 : Option (List ℕ)) (line next : LineSoFar) (piece : List ℕ)
+    → Progress before left left_mid w0 w1 line s → Consumes left_mid left_new piece → HasTaken piece (Ok tt) line next s after w1 w2
+    → Progress before left left_new w0 w2 next after
+more-progress before s after left left_mid left_new w0 w1 w2 line next piece p consumed taken = record {
+  octets = p.octets ++ piece;
+  consumed = consumes-consumes left left_mid left_new p.octets piece p.consumed consumed;
+  taken = taken-more p.octets piece tt (Ok tt) first_line line next before s after w0 w1 w2 p.taken taken;
+}
 
 -- ---- how a run ends
 
-pub at_failed_read : (before : State KeptQueues) (left left_mid left_new w0 w1 : Option (List ℕ)) (line : LineSoFar) (node : State KeptQueues)
-    → Progress before left left_mid w0 w1 line node → Keeps left_mid left_new → Runs (Err Read) before node left left_new w0 w1
-at_failed_read before left left_mid left_new w0 w1 line node p h =
-    (p.octets, consumes-keeps left left_mid left_new p.octets p.consumed h, p.does.0, p.does.2, p.does.3)
+-- the run of a script is that of what is left of it before its first octet
+from-first : (most : ℕ) (octets : List ℕ) (s : State KeptQueues) → lines_run kept most 1 (lines octets) s ≡ rest_run most first_line (octets ++ []) s
+from-first most octets s =
+    ap (λ (parts : List (List ℕ)). lines_run kept most 1 parts s) (sym (begun-nothing (lines octets)))
+    ∙ ap (λ (text : List ℕ). rest_run most first_line text s) (sym (append-nil octets))
 
-pub at_last_read : (before : State KeptQueues) (left left_new w0 w1 : Option (List ℕ)) (line : LineSoFar) (node : State KeptQueues)
-    → Progress before left left_new w0 w1 line node → Runs (Err TooManyReads) before node left left_new w0 w1
-at_last_read before left left_new w0 w1 line node p = (p.octets, p.consumed, p.does.0, p.does.2, p.does.3)
+-- where the octets so far lead, with the open line at the end of what there is
+so-far : (before s : State KeptQueues) (left left_new w0 w1 : Option (List ℕ)) (line : LineSoFar) (most : ℕ) → most ≤ LINE_OCTETS
+    → (p : Progress before left left_new w0 w1 line s) → lines_run kept most 1 (lines p.octets) before ≡ onto p.taken.text (rest_run most line [] s)
+so-far before s left left_new w0 w1 line most m p = from-first most p.octets before ∙ p.taken.rest most [] m
 
-pub at_end : (before : State KeptQueues) (left left_mid left_new w0 w1 w2 : Option (List ℕ)) (line : LineSoFar) (node : State KeptQueues) (result : Result Unit ScriptFault) (piece : List ℕ)
-    → Progress before left left_mid w0 w1 line node → piece ≡ [] → Consumes left_mid left_new piece
-    → Does (ended (record { line = line; node = node })) result line node w1 w2 → Runs result before node left left_new w0 w2
-at_end before left left_mid left_new w0 w1 w2 line node result piece p e consumed does =
-    let r = octets_read kept p.octets (first_script before) in
+-- an open line that isn't too long prints nothing while more may come
+open-line : (line : LineSoFar) (s : State KeptQueues) → length line.octets ≤ LINE_OCTETS → rest_run LINE_OCTETS line [] s ≡ silent s
+open-line line s short =
+    ap (λ (text : List ℕ). open_run LINE_OCTETS line.number text s) (append-nil line.octets)
+    ∙ if-false (nat_lt LINE_OCTETS (length line.octets)) (stopped line.number s) (silent s) (test-false LINE_OCTETS (length line.octets) short)
+
+does-so-far : (before s : State KeptQueues) (left left_new w0 w1 : Option (List ℕ)) (line : LineSoFar) → length line.octets ≤ LINE_OCTETS
+    → (p : Progress before left left_new w0 w1 line s) → Does (run_so_far kept p.octets before) (Ok tt) s w0 w1
+does-so-far before s left left_new w0 w1 line short p =
+    let same : run_so_far kept p.octets before ≡ onto p.taken.text (silent s) =
+    so-far before s left left_new w0 w1 line LINE_OCTETS (omega arith) p ∙ ap (λ (r : Reached KeptQueues). onto p.taken.text r) (open-line line s short) in
+    subst (λ (r : Reached KeptQueues). Does r (Ok tt) s w0 w1) (sym same)
+    (refl, refl, appends-appends w0 w1 w1 p.taken.text [] p.taken.wrote (appends-nothing w1))
+
+pub at-failed-read : (before s : State KeptQueues) (left left_mid left_new w0 w1 : Option (List ℕ)) (line : LineSoFar) → length line.octets ≤ LINE_OCTETS
+    → Progress before left left_mid w0 w1 line s → Keeps left_mid left_new → Runs kept (Err Read) before s left left_new w0 w1
+at-failed-read before s left left_mid left_new w0 w1 line short p h =
+    (p.octets, consumes-keeps left left_mid left_new p.octets p.consumed h, does-so-far before s left left_mid w0 w1 line short p)
+
+pub at-last-read : (before s : State KeptQueues) (left left_new w0 w1 : Option (List ℕ)) (line : LineSoFar) → length line.octets ≤ LINE_OCTETS
+    → Progress before left left_new w0 w1 line s → Runs kept (Err TooManyReads) before s left left_new w0 w1
+at-last-read before s left left_new w0 w1 line short p = (p.octets, p.consumed, does-so-far before s left left_new w0 w1 line short p)
+
+-- the end of the input
+does-onto : (text : List ℕ) (r : Reached KeptQueues) (result : Result Unit ScriptFault) (after : State KeptQueues) (w0 w1 w2 : Option (List ℕ))
+    → Appends w0 w1 text → Does r result after w1 w2 → Does (onto text r) result after w0 w2
+does-onto text r (Ok x) after w0 w1 w2 h k = (k.0, k.1, appends-appends w0 w1 w2 text r.text h k.2)
+does-onto text r (Err (Line number)) after w0 w1 w2 h k = (k.0, k.1, appends-appends w0 w1 w2 text r.text h k.2)
+does-onto text r (Err Write) after w0 w1 w2 h k = (k.0, appends-first w0 w1 w2 text r.text h k.1)
+does-onto text r (Err Read) after w0 w1 w2 h k = absurd k
+does-onto text r (Err TooManyReads) after w0 w1 w2 h k = absurd k
+does-onto text r (Err NoMemory) after w0 w1 w2 h k = absurd k
+
+runs-whole : (octets : List ℕ) (before s : State KeptQueues) (result : Result Unit ScriptFault) (left left_new w0 w1 : Option (List ℕ))
+    → Consumes left left_new octets → IsAtEnd left_new → Does (whole_run kept octets before) result s w0 w1 → Runs kept result before s left left_new w0 w1
+runs-whole octets before s (Ok x) left left_new w0 w1 consumed done does = (octets, consumed, done, does)
+runs-whole octets before s (Err (Line number)) left left_new w0 w1 consumed done does =
+    (octets, consumed, whole_run kept octets before, inr (refl, done, refl), does)
+runs-whole octets before s (Err Write) left left_new w0 w1 consumed done does =
+    (octets, [], rw (append-nil octets) consumed, whole_run kept octets before, inr (refl, done, refl), does)
+runs-whole octets before s (Err Read) left left_new w0 w1 consumed done does = absurd does
+runs-whole octets before s (Err TooManyReads) left left_new w0 w1 consumed done does = absurd does
+runs-whole octets before s (Err NoMemory) left left_new w0 w1 consumed done does = absurd does
+
+pub at-end : (before s : State KeptQueues) (left left_mid left_new w0 w1 w2 : Option (List ℕ)) (line : LineSoFar) (result : Result Unit ScriptFault) (piece : List ℕ)
+    → Progress before left left_mid w0 w1 line s → piece ≡ [] → Consumes left_mid left_new piece → IsAtEnd left_new
+    → Does (rest_run 0 line [] s) result s w1 w2 → Runs kept result before s left left_new w0 w2
+at-end before s left left_mid left_new w0 w1 w2 line result piece p e consumed done does =
     let all : p.octets ++ piece ≡ p.octets = rw e (append-nil p.octets) in
-    runs_of p.octets before result line node left left_new w0 w2
-    (subst (λ (xs : List ℕ). Consumes left left_new xs) all (consumes-consumes left left_mid left_new p.octets piece p.consumed consumed))
-    (does_more r (ended r.script) tt result line line node node w0 w1 w2 p.does (rw (reached-script r line node p.does.1 p.does.2) does))
+    runs-whole p.octets before s result left left_new w0 w2
+    (subst (λ (xs : List ℕ). Consumes left left_new xs) all (consumes-consumes left left_mid left_new p.octets piece p.consumed consumed)) done
+    (subst (λ (r : Reached KeptQueues). Does r result s w0 w2) (sym (so-far before s left left_mid w0 w1 line 0 (omega arith) p))
+    (does-onto p.taken.text (rest_run 0 line [] s) result s w0 w1 w2 p.taken.wrote does))
 
-pub at_fault : (before : State KeptQueues) (left left_mid left_new w0 w1 w2 : Option (List ℕ)) (line line' : LineSoFar) (node node' : State KeptQueues) (fault : ScriptFault) (piece : List ℕ)
-    → Progress before left left_mid w0 w1 line node → Consumes left_mid left_new piece
-    → Does (octets_read kept piece (record { line = line; node = node })) (Err fault) line' node' w1 w2 → Runs (Err fault) before node' left left_new w0 w2
-at_fault before left left_mid left_new w0 w1 w2 line line' node node' fault piece p consumed does =
-    let r = octets_read kept p.octets (first_script before) in
-    let both = octets_read kept (p.octets ++ piece) (first_script before) in
-    let same = octets_read-append p.octets piece (first_script before) in
-    let next : Does (octets_read kept piece r.script) (Err fault) line' node' w1 w2 =
-    subst (λ (s : Script KeptQueues). Does (octets_read kept piece s) (Err fault) line' node' w1 w2) (sym (reached-script r line node p.does.1 p.does.2)) does in
-    let reached : Does both (Err fault) line' node' w0 w2 =
-    subst (λ (x : Reached KeptQueues). Does x (Err fault) line' node' w0 w2) (sym same)
-    (does_more r (octets_read kept piece r.script) tt (Err fault) line line' node node' w0 w1 w2 p.does next) in
-    runs_of (p.octets ++ piece) before (Err fault) line' node' left left_new w0 w2
+-- a fault in a piece
+runs-broken : (octets : List ℕ) (before after : State KeptQueues) (fault : ScriptFault) (line next : LineSoFar) (left left_new w0 w1 : Option (List ℕ))
+    → Consumes left left_new octets → HasTaken octets (Err fault) first_line next before after w0 w1 → Runs kept (Err fault) before after left left_new w0 w1
+runs-broken octets before after (Line number) line next left left_new w0 w1 consumed h =
+    let same : run_so_far kept octets before ≡ record { text = h.text; node = after; fault = Some number } =
+    from-first LINE_OCTETS octets before ∙ h.rest LINE_OCTETS [] (omega arith) in (
+      octets,
+      consumed,
+      run_so_far kept octets before,
+      inl refl,
+      subst (λ (r : Reached KeptQueues). Does r (Err (Line number)) after w0 w1) (sym same) (refl, refl, h.wrote),
+    )
+runs-broken octets before after Write line next left left_new w0 w1 consumed h =
+    let same = ap (λ (parts : List (List ℕ)). lines_run kept LINE_OCTETS 1 parts before) (sym (begun-nothing (lines h.taken))) in (
+      h.taken,
+      h.more,
+      subst (λ (xs : List ℕ). Consumes left left_new xs) h.are consumed,
+      run_so_far kept h.taken before,
+      inl refl,
+      subst (λ (r : Reached KeptQueues). Does r (Err Write) after w0 w1) (sym same) (h.node, h.wrote),
+    )
+runs-broken octets before after Read line next left left_new w0 w1 consumed h = absurd h
+runs-broken octets before after TooManyReads line next left left_new w0 w1 consumed h = absurd h
+runs-broken octets before after NoMemory line next left left_new w0 w1 consumed h = absurd h
+
+pub at-fault : (before s after : State KeptQueues) (left left_mid left_new w0 w1 w2 : Option (List ℕ)) (line next : LineSoFar) (fault : ScriptFault) (piece : List ℕ)
+    → Progress before left left_mid w0 w1 line s → Consumes left_mid left_new piece → HasTaken piece (Err fault) line next s after w1 w2
+    → Runs kept (Err fault) before after left left_new w0 w2
+at-fault before s after left left_mid left_new w0 w1 w2 line next fault piece p consumed taken =
+    runs-broken (p.octets ++ piece) before after fault line next left left_new w0 w2
     (consumes-consumes left left_mid left_new p.octets piece p.consumed consumed)
-    (does_no_more both (ended both.script) fault line' node' w0 w2 reached)
+    (taken-more p.octets piece tt (Err fault) first_line line next before s after w0 w1 w2 p.taken taken)
 
-pub reads_kept : (r : Reached KeptQueues) (result : Result Unit ScriptFault) (line : LineSoFar) (node : State KeptQueues) (w0 w1 : Option (List ℕ)) (n : ℕ)
-    → Does r result line node w0 w1 → reads_failed n result ≡ n
-reads_kept r (Ok x) line node w0 w1 n h = refl
-reads_kept r (Err (Line number)) line node w0 w1 n h = refl
-reads_kept r (Err Write) line node w0 w1 n h = refl
-reads_kept r (Err Read) line node w0 w1 n h = absurd h
-reads_kept r (Err TooManyReads) line node w0 w1 n h = absurd h
-reads_kept r (Err NoMemory) line node w0 w1 n h = absurd h
+-- ---- how many reads were made and failed
 
-pub reads_made : (r : Reached KeptQueues) (result : Result Unit ScriptFault) (line : LineSoFar) (node : State KeptQueues) (w0 w1 : Option (List ℕ)) (old new : ℕ)
-    → Does r result line node w0 w1 → new ≤ old + most_reads → MakesReads result old new
-reads_made r (Ok x) line node w0 w1 old new h k = k
-reads_made r (Err (Line number)) line node w0 w1 old new h k = k
-reads_made r (Err Write) line node w0 w1 old new h k = k
-reads_made r (Err Read) line node w0 w1 old new h k = absurd h
-reads_made r (Err TooManyReads) line node w0 w1 old new h k = absurd h
-reads_made r (Err NoMemory) line node w0 w1 old new h k = absurd h
+pub end-reads-failed : (r : Reached KeptQueues) (result : Result Unit ScriptFault) (s : State KeptQueues) (w0 w1 : Option (List ℕ)) (n : ℕ)
+    → Does r result s w0 w1 → reads_failed n result ≡ n
+end-reads-failed r (Ok x) s w0 w1 n h = refl
+end-reads-failed r (Err (Line number)) s w0 w1 n h = refl
+end-reads-failed r (Err Write) s w0 w1 n h = refl
+end-reads-failed r (Err Read) s w0 w1 n h = absurd h
+end-reads-failed r (Err TooManyReads) s w0 w1 n h = absurd h
+end-reads-failed r (Err NoMemory) s w0 w1 n h = absurd h
 
-pub memory_left : (r : Reached KeptQueues) (result : Result Unit ScriptFault) (line : LineSoFar) (node : State KeptQueues) (w0 w1 : Option (List ℕ))
-    → Does r result line node w0 w1 → IfErr result (λ fault. fault ≢ NoMemory)
-memory_left r (Ok x) line node w0 w1 h = tt
-memory_left r (Err (Line number)) line node w0 w1 h = λ e. cc e
-memory_left r (Err Write) line node w0 w1 h = λ e. cc e
-memory_left r (Err Read) line node w0 w1 h = absurd h
-memory_left r (Err TooManyReads) line node w0 w1 h = absurd h
-memory_left r (Err NoMemory) line node w0 w1 h = absurd h
+pub end-reads-made : (r : Reached KeptQueues) (result : Result Unit ScriptFault) (s : State KeptQueues) (w0 w1 : Option (List ℕ)) (old new : ℕ)
+    → Does r result s w0 w1 → new ≤ old + READS → MakesReads result old new
+end-reads-made r (Ok x) s w0 w1 old new h k = k
+end-reads-made r (Err (Line number)) s w0 w1 old new h k = k
+end-reads-made r (Err Write) s w0 w1 old new h k = k
+end-reads-made r (Err Read) s w0 w1 old new h k = absurd h
+end-reads-made r (Err TooManyReads) s w0 w1 old new h k = absurd h
+end-reads-made r (Err NoMemory) s w0 w1 old new h k = absurd h

@@ -1,5 +1,6 @@
 -- What the lines of a script ask for.
-use Rattle.std.specs.Prelude.{ℕ, ◌==◌, ◌&&◌, Bool, not, nat_eq, if◌then◌else◌, List, [], ◌∷◌, length, codes, Option, None, Some, Result, Ok, Err, bytes_eq}
+use Rattle.std.specs.Prelude.{ℕ, ◌==◌, ◌&&◌, Bool, not, nat_eq, if◌then◌else◌, List, []}
+use Rattle.std.specs.Prelude.{◌∷◌, length, codes, Option, None, Some, Result, Ok, Err, bytes_eq}
 use Rattle.std.specs.Borrow.{Bor}
 use Rattle.stp_node.specs.Lines.{words, is_octets, octets_of}
 use Rattle.stp_node.specs.declared.line.Command.{Command}
@@ -20,8 +21,8 @@ abbrev pub is_some_word : List ℕ → Bool
 is_some_word word = not (nat_eq (length word) 0)
 
 -- the command of a name
-abbrev pub command_of : List ℕ → Option Command
-command_of word =
+abbrev pub command_named : List ℕ → Option Command
+command_named word =
     if bytes_eq word (codes "up") then Some command.Up
     else if bytes_eq word (codes "frame") then Some command.Frame
     else if bytes_eq word (codes "take") then Some command.Take
@@ -38,7 +39,8 @@ asked_with_one command.Submit word = if is_octets word then Some (AskSubmit (oct
 -- a command with two words behind it
 abbrev pub asked_with_two : Command → List ℕ → List ℕ → Option Asked
 asked_with_two command.Up first second = None
-asked_with_two command.Frame first second = if is_some_word first && is_octets second then Some (AskFrame first (octets_of second)) else None
+asked_with_two command.Frame first second =
+    if is_some_word first && is_octets second then Some (AskFrame first (octets_of second)) else None
 asked_with_two command.Take first second = None
 asked_with_two command.Submit first second = None
 
@@ -53,7 +55,7 @@ asked_behind None behind = None
 -- what the words of a line ask for: nothing where they are no line of a script
 abbrev pub asked_by : List (List ℕ) → Option Asked
 asked_by [] = None
-asked_by (word ∷ behind) = asked_behind (command_of word) behind
+asked_by (word ∷ behind) = asked_behind (command_named word) behind
 
 -- a line is skipped, malformed, or asks for something
 pub data Reading : Type 0 where
@@ -66,9 +68,9 @@ asks_or_malformed None = IsMalformed
 asks_or_malformed (Some asked) = Asks asked
 
 -- a line without its end: an empty one, and one that begins with a number sign (35), is skipped
-abbrev pub line_of : List ℕ → Reading
-line_of [] = Skips
-line_of (octet ∷ rest) = if octet == 35 then Skips else asks_or_malformed (asked_by (words (octet ∷ rest)))
+abbrev pub parsed_line : List ℕ → Reading
+parsed_line [] = Skips
+parsed_line (octet ∷ rest) = if octet == 35 then Skips else asks_or_malformed (asked_by (words (octet ∷ rest)))
 
 -- the words that are left behind one
 abbrev pub words_left : Option (Bor (List ℕ)) → List (List ℕ)

@@ -1,5 +1,6 @@
 -- The settings that a node runs with where it is given none.
 use Rattle.std.specs.Prelude.{◌≡◌, ℤ, pos, List, [], ◌∷◌, map, codes, string_bytes}
+use Rattle.settings_rows.specs.Configuration.{Configuration}
 use Rattle.settings_rows.specs.declared.draft.Draft.{Draft}
 use Rattle.settings_rows.specs.declared.draft.TimersDraft.{TimersDraft}
 use Rattle.settings_rows.specs.declared.draft.SetDraft.{SetDraft}
@@ -56,3 +57,33 @@ pub record IsBuiltIn (d : Draft) : Type 0 where
   pub links : IsLinks d.links.items
   pub destinations : IsDestinations d.destinations.items
   pub titles : d.titles.items ≡ []
+
+-- the same, checked
+abbrev pub built_in_settings : Configuration
+built_in_settings = record {
+  own = 1;
+  network = 2;
+  window = 128;
+  pool = 1000;
+  users = 5 ∷ [];
+  subsystems = 8 ∷ [];
+  timers = record {
+    l1 = 10;
+    l2 = 10;
+    l3 = 10;
+    l4 = 3;
+    l6 = 20;
+    l7 = 5;
+    t1 = 4;
+    t2 = 6;
+    t3 = 4;
+    t4 = 4;
+    t6 = 4;
+    t8 = 3;
+    t10 = 8;
+  };
+  sets = record { name = codes "east"; adjacent = 2 } ∷ [];
+  links = record { name = codes "e0"; set = 0; slc = 0 } ∷ [];
+  destinations = record { point = 2; sets = 0 ∷ [] } ∷ record { point = 300; sets = 0 ∷ [] } ∷ [];
+  titles = [];
+}

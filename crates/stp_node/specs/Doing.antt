@@ -1,18 +1,47 @@
--- What a line of a script prints, and the state after it, for queues of any kind.
-use Rattle.std.specs.Prelude.{ℕ, List, [], take, drop, length, nat_lt, if◌then◌else◌, Option, Some, None, slice_get, slice_index, unwrap_or}
+-- What a line of a script prints, and the state after it, by the calls of an exchange.
+use Rattle.std.specs.Prelude.{ℕ, List, [], take, drop, length, nat_lt}
+use Rattle.std.specs.Prelude.{if◌then◌else◌, Option, Some, None, slice_get, slice_index, unwrap_or}
 use Rattle.std.specs.Option.{option_map}
 use Rattle.signalling_types.specs.Message.{Message}
 use Rattle.settings_rows.specs.Configuration.{Configuration}
 use Rattle.stp_types.specs.Readings.{link_place}
 use Rattle.signalling_types.specs.declared.limits.TheConstants.Limits.{SIF_OCTETS, NAME_OCTETS}
+use Rattle.signalling_types.specs.declared.cause.Cause.{Cause}
 use Rattle.signalling_types.specs.declared.cause.Cause.TheVariants.{NoSuchName, TooLong}
 use Rattle.signalling_types.specs.declared.outcome.Outcome.{Outcome}
 use Rattle.signalling_types.specs.declared.outcome.Outcome.TheVariants.{Queued, Held, Local, Handled, Ignored, Refused}
-use Rattle.m2pa_codec.specs.Frames.{FrameValue, spelled}
+use Rattle.exchange.specs.declared.event.Answer.{Answer}
+use Rattle.exchange.specs.declared.event.Answer.TheVariants.{Stepped, Taken}
 use Rattle.exchange.specs.State.{State, QueueKind}
-use Rattle.exchange.specs.Rules.{up_outcome, up, frame_outcome, framed, submit_outcome, submitted, frame_to_take, taken}
+use Rattle.exchange.specs.Happening.{CameUp, FrameCame, Submitted, Asking, Happens, Takes}
+use Rattle.exchange.specs.Runs.{answer_to_call, after_call}
 use Rattle.stp_node.specs.Asking.{Asked, AskUp, AskFrame, AskTake, AskSubmit}
-use Rattle.stp_node.specs.Texts.{outcome_text, frame_text, none_text}
+use Rattle.stp_node.specs.Texts.{outcome_line, frame_line, none_line}
+
+-- what a line means at a node: a call of its exchange, or a refusal before any call
+pub data Meaning : Type 0 where
+  Calls : Asking → Meaning
+  Refuses : Cause → Meaning
+
+-- a call for the link of a name, where there is one
+abbrev pub at_link : Option ℕ → (ℕ → Asking) → Meaning
+at_link None asking = Refuses NoSuchName
+at_link (Some link) asking = Calls (asking link)
+
+-- a message as a script writes it: its service information octet, and its field
+abbrev pub message_written : List ℕ → Message
+message_written octets = record { sio = slice_index octets 0; sif = drop 1 octets }
+
+-- no message has a longer field than 272 octets
+abbrev pub submission : Message → Meaning
+submission m = (if nat_lt SIF_OCTETS (length m.sif) then Refuses TooLong else Calls (Happens (Submitted m)))
+
+-- what a line means with these settings
+abbrev pub meaning : Configuration → Asked → Meaning
+meaning c (AskUp name) = at_link (link_place c name) (λ link. Happens (CameUp link))
+meaning c (AskFrame name octets) = at_link (link_place c name) (λ link. Happens (FrameCame link octets))
+meaning c (AskTake name) = at_link (link_place c name) (λ link. Takes link)
+meaning c (AskSubmit octets) = submission (message_written octets)
 
 -- the name of a link; nothing where no link has this number
 abbrev pub name_in : Configuration → ℕ → List ℕ
@@ -29,48 +58,35 @@ named_link c (Refused cause) = []
 
 -- the line of an outcome
 abbrev pub reported : Configuration → Outcome → List ℕ
-reported c outcome = outcome_text (named_link c outcome) outcome
+reported c outcome = outcome_line (named_link c outcome) outcome
 
--- a message as a script writes it: its service information octet, and its field
-abbrev pub message_written : List ℕ → Message
-message_written octets = record { sio = slice_index octets 0; sif = drop 1 octets }
+-- the line of a frame that was asked for, where there is one
+abbrev pub taken_text : List ℕ → Option (List ℕ) → List ℕ
+taken_text name None = none_line
+taken_text name (Some octets) = frame_line name octets
 
--- what happens at a link, where there is one
-abbrev pub outcome_at : Option ℕ → (ℕ → Outcome) → Outcome
-outcome_at None outcome = Refused NoSuchName
-outcome_at (Some link) outcome = outcome link
+-- the name of the link whose frame is asked for
+abbrev pub name_asked : Configuration → Asking → List ℕ
+name_asked c (Happens what) = []
+name_asked c (Takes link) = name_in c link
 
-abbrev pub state_at : {S : Type 0} → Option ℕ → S → (ℕ → S) → S
-state_at None s after = s
-state_at (Some link) s after = after link
+-- the line of an answer
+abbrev pub answer_text : Configuration → Asking → Answer → List ℕ
+answer_text c asking (Stepped outcome) = reported c outcome
+answer_text c asking (Taken frame) = taken_text (name_asked c asking) frame
 
--- a message is submitted where its field isn't too long
-abbrev pub written_outcome : {Q : Type 0} → QueueKind Q → State Q → Message → Outcome
-written_outcome q s m = (if nat_lt SIF_OCTETS (length m.sif) then Refused TooLong else submit_outcome q s m)
+-- what is printed of a meaning, and the state after it
+abbrev pub meaning_printed : {Q : Type 0} → QueueKind Q → Meaning → State Q → List ℕ
+meaning_printed q (Calls asking) s = answer_text s.settings asking (answer_to_call q asking s)
+meaning_printed q (Refuses cause) s = reported s.settings (Refused cause)
 
-abbrev pub written_state : {Q : Type 0} → QueueKind Q → State Q → Message → State Q
-written_state q s m = (if nat_lt SIF_OCTETS (length m.sif) then s else submitted q s m)
+abbrev pub meaning_done : {Q : Type 0} → QueueKind Q → Meaning → State Q → State Q
+meaning_done q (Calls asking) s = after_call q asking s
+meaning_done q (Refuses cause) s = s
 
--- the line of the frame that goes out, if one does
-abbrev pub taken_text : List ℕ → Option FrameValue → List ℕ
-taken_text name None = none_text
-taken_text name (Some frame) = frame_text name (spelled frame)
-
-abbrev pub take_text : {Q : Type 0} → QueueKind Q → State Q → Option ℕ → List ℕ
-take_text q s None = reported s.settings (Refused NoSuchName)
-take_text q s (Some link) = taken_text (name_in s.settings link) (frame_to_take q s link)
-
--- what is printed of a line
+-- what is printed of a line, and the state after it
 abbrev pub printed : {Q : Type 0} → QueueKind Q → Asked → State Q → List ℕ
-printed q (AskUp name) s = reported s.settings (outcome_at (link_place s.settings name) (up_outcome s))
-printed q (AskFrame name octets) s =
-    reported s.settings (outcome_at (link_place s.settings name) (λ link. frame_outcome q s link octets))
-printed q (AskTake name) s = take_text q s (link_place s.settings name)
-printed q (AskSubmit octets) s = reported s.settings (written_outcome q s (message_written octets))
+printed q asked s = meaning_printed q (meaning s.settings asked) s
 
--- the state after a line
 abbrev pub done : {Q : Type 0} → QueueKind Q → Asked → State Q → State Q
-done q (AskUp name) s = state_at (link_place s.settings name) s (up q s)
-done q (AskFrame name octets) s = state_at (link_place s.settings name) s (λ link. framed q s link octets)
-done q (AskTake name) s = state_at (link_place s.settings name) s (taken q s)
-done q (AskSubmit octets) s = written_state q s (message_written octets)
+done q asked s = meaning_done q (meaning s.settings asked) s

@@ -1,6 +1,7 @@
 -- How a script ends before its end.
-use Rattle.std.specs.Prelude.{ℕ, ◌+◌, ◌-◌, ◌^◌, ◌≤◌, min, Result, Ok, Err}
-use Rattle.stp_node.specs.Streams.{counted}
+use Rattle.std.specs.Prelude.{◌≡◌, ℕ, ◌+◌, ◌-◌, ◌^◌, ◌≤◌, min, Result, Ok, Err}
+use Rattle.stp_node.specs.Streams.{Input, Output, counted}
+use Rattle.stp_node.specs.declared.script.TheConstants.{READS}
 use Rattle.stp_node.specs.declared.script.ScriptFault.{ScriptFault}
 use Rattle.stp_node.specs.declared.script.ScriptFault.TheVariants.{Read, Write, Line, TooManyReads, NoMemory}
 
@@ -30,16 +31,19 @@ writes_failed n (Err (Line line)) = n
 writes_failed n (Err TooManyReads) = n
 writes_failed n (Err NoMemory) = n
 
--- as many reads as are made of a script
-abbrev pub most_reads : ℕ
-most_reads = 4194304
-
--- no more reads were made than are made of a script, and all of them where its end wasn't found (a count of 64 bits stays at its
--- greatest value)
+-- no more than 4,194,304 reads (READS) were made, and all of them where the script's end wasn't found (a count of 64
+-- bits stays at its greatest value)
 abbrev pub MakesReads : {A : Type 0} → Result A ScriptFault → ℕ → ℕ → Type 0
-MakesReads (Err TooManyReads) old new = (new ≤ old + most_reads) × (min (old + most_reads) (2 ^ 64 - 1) ≤ new)
-MakesReads (Ok x) old new = new ≤ old + most_reads
-MakesReads (Err Read) old new = new ≤ old + most_reads
-MakesReads (Err Write) old new = new ≤ old + most_reads
-MakesReads (Err (Line line)) old new = new ≤ old + most_reads
-MakesReads (Err NoMemory) old new = new ≤ old + most_reads
+MakesReads (Err TooManyReads) old new = (new ≤ old + READS) × (min (old + READS) (2 ^ 64 - 1) ≤ new)
+MakesReads (Ok x) old new = new ≤ old + READS
+MakesReads (Err Read) old new = new ≤ old + READS
+MakesReads (Err Write) old new = new ≤ old + READS
+MakesReads (Err (Line line)) old new = new ≤ old + READS
+MakesReads (Err NoMemory) old new = new ≤ old + READS
+
+-- the calls of the streams in a run that ended so
+pub record Counts (result : Result Unit ScriptFault) (input input_new : Input) (output output_new : Output)
+    : Type 0 where
+  pub reads_made : MakesReads result input.reads input_new.reads
+  pub reads_failed : input_new.failures ≡ reads_failed input.failures result
+  pub writes_failed : output_new.failures ≡ writes_failed output.failures result

@@ -4,7 +4,7 @@ pub mod Asking
 pub mod Texts
 pub mod Doing
 pub mod Faults
-pub mod Reading
+pub mod Steps
 pub mod Runs
 pub mod BuiltIn
 pub mod Program

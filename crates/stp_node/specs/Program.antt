@@ -1,12 +1,18 @@
 -- The words behind the program's name, and its exit statuses.
-use Rattle.std.specs.Prelude.{ℕ, List, [], ◌∷◌, if◌then◌else◌, codes, bytes_eq, ◌≡◌, ◌⊎◌, Option, Result, Ok, Err}
+use Rattle.std.specs.Prelude.{ℕ, List, [], ◌∷◌, ◌++◌, decimal, if◌then◌else◌}
+use Rattle.std.specs.Prelude.{codes, bytes_eq, ◌≡◌, ◌⊎◌, Some, Result, Ok, Err}
 use Rattle.std.specs.Io.KnownBytes.{Appends}
-use Rattle.settings_rows.specs.Configuration.{Configuration}
-use Rattle.exchange.specs.State.{State}
-use Rattle.exchange.specs.Queues.{KeptQueues}
-use Rattle.exchange.specs.Stands.{kept_of, first_state}
+use Rattle.settings_rows.specs.Faults.{kind_number, key_path}
+use Rattle.settings_check.specs.FirstFault.{first_fault}
+use Rattle.settings_rows.specs.declared.draft.Draft.{Draft}
+use Rattle.settings_rows.specs.declared.fault.DraftFault.{DraftFault}
+use Rattle.settings_rows.specs.declared.fault.DraftFault.TheVariants as draft_fault
+use Rattle.exchange.specs.Queues.{whole}
+use Rattle.exchange.specs.Stands.{Abstract, first_state}
+use Rattle.stp_node.specs.BuiltIn.{IsBuiltIn, built_in_settings}
+use Rattle.stp_node.specs.Faults.{Counts}
 use Rattle.stp_node.specs.Runs.{Runs}
-use Rattle.stp_node.specs.Streams.{AppendsFirst}
+use Rattle.stp_node.specs.Streams.{Input, Output, AppendsFirst, counted}
 use Rattle.stp_node.specs.declared.script.ScriptFault.{ScriptFault}
 use Rattle.stp_node.specs.declared.script.ScriptFault.TheVariants as fault
 use Rattle.stp_node.specs.declared.program.Words.{Words}
@@ -36,18 +42,33 @@ status_after (Err (fault.Line line)) = status.Line
 status_after (Err fault.TooManyReads) = status.Stream
 status_after (Err fault.NoMemory) = status.Start
 
+-- the line of a fault of settings: its number and its key, or that memory ran out
+abbrev pub fault_line : DraftFault → List ℕ
+fault_line draft_fault.NoMemory = codes "fault NoMemory\n"
+fault_line (draft_fault.At kind key) =
+    codes "fault " ++ (decimal (kind_number kind) ++ (codes " " ++ (key_path key ++ codes "\n")))
+
 -- a last line was written, and the program ends so; or its write failed
-abbrev pub EndsWith : Status → List ℕ → Option (List ℕ) → Option (List ℕ) → Status → Type 0
-EndsWith wanted line old new ended =
-    ((ended ≡ wanted) × Appends old new line) ⊎ ((ended ≡ status.Stream) × AppendsFirst old new line)
+abbrev pub EndsWith : Status → List ℕ → Output → Output → Status → Type 0
+EndsWith wanted line output output_new ended =
+    ((ended ≡ wanted) × Appends output.written output_new.written line × (output_new.failures ≡ output.failures))
+    ⊎ ((ended ≡ status.Stream) × AppendsFirst output.written output_new.written line
+    × (output_new.failures ≡ counted output.failures))
 
--- the state of a node before its first event
-abbrev pub IsBooted : State KeptQueues → Type 0
-IsBooted node = (settings : Configuration) × (node ≡ kept_of (first_state settings))
+-- why a node with the built-in settings doesn't start: memory ran out, or these settings have that fault
+abbrev pub IsStartFault : DraftFault → Type 0
+IsStartFault why = (why ≡ draft_fault.NoMemory) ⊎ ((draft : Draft) × IsBuiltIn draft × (first_fault draft ≡ Some why))
 
--- a line says why the node didn't start; or the script ran from the node's first state on, and the program ends by how it ended
-abbrev pub RunsOrTells : (left left_new written written_new : Option (List ℕ)) → Status → Type 0
-RunsOrTells left left_new written written_new ended =
-    ((line : List ℕ) × EndsWith status.Start line written written_new ended)
-    ⊎ ((script : Result Unit ScriptFault) × (before : State KeptQueues) × (after : State KeptQueues) × IsBooted before
-    × Runs script before after left left_new written written_new × (ended ≡ status_after script))
+-- a line says why the node didn't start, and nothing of the script was read
+abbrev pub TellsFault : Input → Input → Output → Output → Status → Type 0
+TellsFault input input_new output output_new ended =
+    (why : DraftFault) × IsStartFault why × EndsWith status.Start (fault_line why) output output_new ended
+    × (input_new ≡ input)
+
+-- the script ran from the first state of a node with the built-in settings, and the program ends by how it ended
+abbrev pub RunsScript : Input → Input → Output → Output → Status → Type 0
+RunsScript input input_new output output_new ended =
+    (script : Result Unit ScriptFault) × (after : Abstract)
+    × Runs whole script (first_state built_in_settings) after
+    input.remaining input_new.remaining output.written output_new.written
+    × Counts script input input_new output output_new × (ended ≡ status_after script)

@@ -1,119 +1,114 @@
--- What a script prints, and the state that it leaves, octet by octet.
-use Rattle.stp_node.specs.declared.script.TheConstants.{LINE_OCTETS}
-use Rattle.std.specs.Prelude.{◌≡◌, ℕ, ◌+◌, ◌==◌, Bool, true, false, if◌then◌else◌, nat_lt, List, [], ◌∷◌, ◌++◌, length, Option, Result, Ok, Err}
-use Rattle.std.specs.Io.KnownBytes.{Appends, Consumes}
+-- What a script prints, and the state that it leaves, line by line, for queues of any kind.
+use Rattle.std.specs.Prelude.{◌≡◌, ℕ, ◌+◌, if◌then◌else◌, nat_lt, List, [], ◌∷◌}
+use Rattle.std.specs.Prelude.{◌++◌, length, ◌⊎◌, Option, Some, None, Result, Ok, Err}
+use Rattle.std.specs.Io.KnownBytes.{Appends, Consumes, IsAtEnd}
 use Rattle.exchange.specs.State.{State, QueueKind}
-use Rattle.exchange.specs.Queues.{KeptQueues, kept}
 use Rattle.stp_node.specs.Streams.{AppendsFirst}
-use Rattle.stp_node.specs.Texts.{fault_text}
-use Rattle.stp_node.specs.Asking.{Reading, Skips, IsMalformed, Asks, line_of}
+use Rattle.stp_node.specs.Lines.{lines}
+use Rattle.stp_node.specs.Texts.{line_fault}
+use Rattle.stp_node.specs.Asking.{Reading, Skips, IsMalformed, Asks, parsed_line}
 use Rattle.stp_node.specs.Doing.{printed, done}
-use Rattle.stp_node.specs.Reading.{LineSoFar}
+use Rattle.stp_node.specs.declared.script.TheConstants.{LINE_OCTETS}
 use Rattle.stp_node.specs.declared.script.ScriptFault.{ScriptFault}
 use Rattle.stp_node.specs.declared.script.ScriptFault.TheVariants.{Read, Write, Line, TooManyReads, NoMemory}
 
--- where a script stands: the line that is open, and the state of the node
-pub record Script (Q : Type 0) : Type 0 where
-  pub line : LineSoFar
-  pub node : State Q
-
--- before its first octet
-abbrev pub first_script : {Q : Type 0} → State Q → Script Q
-first_script node = record { line = record { octets = []; number = 1 }; node = node }
-
--- what some octets of a script print, where they leave it, and whether a line was none, which ends the script
+-- where lines lead: what they print, the state after them, and the number of the line that ended the script, if one did
 pub record Reached (Q : Type 0) : Type 0 where
   pub text : List ℕ
-  pub script : Script Q
-  pub is_fault : Bool
+  pub node : State Q
+  pub fault : Option ℕ
 
 -- nothing is printed
-abbrev pub silent : {Q : Type 0} → Script Q → Reached Q
-silent s = record { text = []; script = s; is_fault = false }
+abbrev pub silent : {Q : Type 0} → State Q → Reached Q
+silent s = record { text = []; node = s; fault = None }
 
--- the open line is none
-abbrev pub stopped : {Q : Type 0} → Script Q → Reached Q
-stopped s = record { text = fault_text s.line.number; script = s; is_fault = true }
+-- this line ends the script: nothing of it is done
+abbrev pub stopped : {Q : Type 0} → ℕ → State Q → Reached Q
+stopped number s = record { text = line_fault number; node = s; fault = Some number }
 
--- the line behind the open one, in this state
-abbrev pub next_line : {Q : Type 0} → Script Q → State Q → Script Q
-next_line s node = record { line = record { octets = []; number = s.line.number + 1 }; node = node }
+-- what is read in a line that has its line feed: one of more than 8,300 octets (LINE_OCTETS) is malformed
+abbrev pub whole_line : List ℕ → Reading
+whole_line line = if nat_lt LINE_OCTETS (length line) then IsMalformed else parsed_line line
 
--- the open line ended
-abbrev pub line_read : {Q : Type 0} → QueueKind Q → Script Q → Reading → Reached Q
-line_read q s Skips = silent (next_line s s.node)
-line_read q s IsMalformed = stopped s
-line_read q s (Asks asked) = record { text = printed q asked s.node; script = next_line s (done q asked s.node); is_fault = false }
+-- such a line
+abbrev pub line_run : {Q : Type 0} → QueueKind Q → ℕ → Reading → State Q → Reached Q
+line_run q number Skips s = silent s
+line_run q number IsMalformed s = stopped number s
+line_run q number (Asks asked) s = record { text = printed q asked s; node = done q asked s; fault = None }
 
--- one octet: a line feed (10) ends the line, and no line has more than 8,300 octets (LINE_OCTETS)
-abbrev pub octet_read : {Q : Type 0} → QueueKind Q → ℕ → Script Q → Reached Q
-octet_read q octet s =
-    if octet == 10 then line_read q s (line_of s.line.octets)
-    else if nat_lt (length s.line.octets) LINE_OCTETS then silent (record s { line = record s.line { octets = s.line.octets ++ octet ∷ [] } })
-    else stopped s
+-- a line without its line feed ends the script where it has more than so many octets
+abbrev pub open_run : {Q : Type 0} → (most : ℕ) → ℕ → List ℕ → State Q → Reached Q
+open_run most number line s = (if nat_lt most (length line) then stopped number s else silent s)
 
--- what comes behind, unless the script ended
-abbrev pub behind : {Q : Type 0} → Reached Q → Reached Q → Reached Q
-behind r next = if r.is_fault then r else record { text = r.text ++ next.text; script = next.script; is_fault = next.is_fault }
+-- a text in front of what is printed
+abbrev pub onto : {Q : Type 0} → List ℕ → Reached Q → Reached Q
+onto text r = record r { text = text ++ r.text }
 
--- octets in a row
-abbrev pub octets_read : {Q : Type 0} → QueueKind Q → List ℕ → Script Q → Reached Q
-octets_read q [] s = silent s
-octets_read q (octet ∷ octets) s = behind (octet_read q octet s) (octets_read q octets (octet_read q octet s).script)
+-- what comes behind, unless a line ended the script
+abbrev pub unless_ended : {Q : Type 0} → Option ℕ → Reached Q → (State Q → Reached Q) → Reached Q
+unless_ended None r next = onto r.text (next r.node)
+unless_ended (Some number) r next = r
 
--- the end of a script: a line that was begun is none
-abbrev pub ended : {Q : Type 0} → Script Q → Reached Q
-ended s = (if nat_lt 0 (length s.line.octets) then stopped s else silent s)
+abbrev pub behind : {Q : Type 0} → Reached Q → (State Q → Reached Q) → Reached Q
+behind r next = unless_ended r.fault r next
 
--- a whole script
-abbrev pub script_read : {Q : Type 0} → QueueKind Q → List ℕ → State Q → Reached Q
-script_read q octets node =
-    behind (octets_read q octets (first_script node)) (ended (octets_read q octets (first_script node)).script)
+-- lines in a row from the one of this number on, of which the last has no line feed
+abbrev pub lines_run : {Q : Type 0} → QueueKind Q → (most : ℕ) → ℕ → List (List ℕ) → State Q → Reached Q
+lines_run q most number [] s = silent s
+lines_run q most number (line ∷ []) s = open_run most number line s
+lines_run q most number (line ∷ next ∷ more) s =
+    behind (line_run q number (whole_line line) s) (λ t. lines_run q most (number + 1) (next ∷ more) t)
 
--- What the code did with octets that reach so far: all that is printed was written, and the node and the open line are those
--- that were reached; or a line was none; or a write failed, and what went out is the beginning of what is printed.
-abbrev pub Does : Reached KeptQueues → Result Unit ScriptFault → LineSoFar → State KeptQueues → Option (List ℕ) → Option (List ℕ) → Type 0
-Does r (Ok x) line node old new = (r.is_fault ≡ false) × (r.script.line ≡ line) × (r.script.node ≡ node) × Appends old new r.text
-Does r (Err (Line number)) line node old new = (r.is_fault ≡ true) × (r.script.line.number ≡ number) × (r.script.node ≡ node) × Appends old new r.text
-Does r (Err Write) line node old new = AppendsFirst old new r.text
-Does r (Err Read) line node old new = ⊥
-Does r (Err TooManyReads) line node old new = ⊥
-Does r (Err NoMemory) line node old new = ⊥
+-- a script as far as it was read: what was read of its last line may be the beginning of one
+abbrev pub run_so_far : {Q : Type 0} → QueueKind Q → List ℕ → State Q → Reached Q
+run_so_far q octets s = lines_run q LINE_OCTETS 1 (lines octets) s
 
--- a line was said to be none, or the write of that failed
-abbrev pub Fails : ℕ → Result Unit ScriptFault → Option (List ℕ) → Option (List ℕ) → Type 0
-Fails number (Err (Line line)) old new = (line ≡ number) × Appends old new (fault_text number)
-Fails number (Err Write) old new = AppendsFirst old new (fault_text number)
-Fails number (Ok x) old new = ⊥
-Fails number (Err Read) old new = ⊥
-Fails number (Err TooManyReads) old new = ⊥
-Fails number (Err NoMemory) old new = ⊥
+-- a whole script: behind its last line feed nothing stands
+abbrev pub whole_run : {Q : Type 0} → QueueKind Q → List ℕ → State Q → Reached Q
+whole_run q octets s = lines_run q 0 1 (lines octets) s
 
--- the whole lines of the octets that were read were done
-abbrev pub RunsLines : (before after : State KeptQueues) → (left left_new written written_new : Option (List ℕ)) → Type 0
-RunsLines before after left left_new written written_new =
+-- where these octets lead, of a script of which so many more were read: its end counts where nothing is left to be read
+abbrev pub LeadsTo : {Q : Type 0} → QueueKind Q → (octets more : List ℕ) → (left : Option (List ℕ))
+    → State Q → Reached Q → Type 0
+LeadsTo q octets more left s r = (r ≡ run_so_far q octets s) ⊎ ((more ≡ []) × IsAtEnd left × (r ≡ whole_run q octets s))
+
+-- What was done of lines that lead there: all, and what they print was written; or a write failed, and the first octets
+-- of what they print were written.
+abbrev pub Does : {Q : Type 0} → Reached Q → Result Unit ScriptFault → (after : State Q)
+    → (written written_new : Option (List ℕ)) → Type 0
+Does r (Ok x) after written written_new = (r.fault ≡ None) × (r.node ≡ after) × Appends written written_new r.text
+Does r (Err (Line number)) after written written_new =
+    (r.fault ≡ Some number) × (r.node ≡ after) × Appends written written_new r.text
+Does r (Err Write) after written written_new = (r.node ≡ after) × AppendsFirst written written_new r.text
+Does r (Err Read) after written written_new = ⊥
+Does r (Err TooManyReads) after written written_new = ⊥
+Does r (Err NoMemory) after written written_new = ⊥
+
+-- the whole lines of all that was read were done
+abbrev pub RunsSoFar : {Q : Type 0} → QueueKind Q → (before after : State Q)
+    → (left left_new written written_new : Option (List ℕ)) → Type 0
+RunsSoFar q before after left left_new written written_new =
     (octets : List ℕ) × Consumes left left_new octets
-    × ((octets_read kept octets (first_script before)).is_fault ≡ false)
-    × ((octets_read kept octets (first_script before)).script.node ≡ after)
-    × Appends written written_new (octets_read kept octets (first_script before)).text
+    × Does (run_so_far q octets before) (Ok tt) after written written_new
 
--- What a run of a script did, from a node's state to another, with the octets that were read of it: on Ok they are all, and on Line they
--- are those up to the line that is none. On Write what went out is the beginning of what they print. On Read and TooManyReads
--- their whole lines were done.
-abbrev pub Runs : Result Unit ScriptFault → (before after : State KeptQueues) → (left left_new written written_new : Option (List ℕ)) → Type 0
-Runs (Ok x) before after left left_new written written_new =
+-- What a run of a script did, from a state to another. On Ok the octets that were read are the whole script, and it was
+-- done. On Line they hold a malformed line, its line feed included, or more of a line than it may have, or they end in
+-- the midst of a line and nothing is left to be read; the lines before that one were done. On Write the first of these
+-- octets lead to the state, and what went out is the beginning of what they print. On Read and TooManyReads their whole
+-- lines were done.
+abbrev pub Runs : {Q : Type 0} → QueueKind Q → Result Unit ScriptFault → (before after : State Q)
+    → (left left_new written written_new : Option (List ℕ)) → Type 0
+Runs q (Ok x) before after left left_new written written_new =
+    (octets : List ℕ) × Consumes left left_new octets × IsAtEnd left_new
+    × Does (whole_run q octets before) (Ok x) after written written_new
+Runs {Q = Q} q (Err (Line number)) before after left left_new written written_new =
     (octets : List ℕ) × Consumes left left_new octets
-    × ((script_read kept octets before).is_fault ≡ false)
-    × ((script_read kept octets before).script.node ≡ after)
-    × Appends written written_new (script_read kept octets before).text
-Runs (Err (Line number)) before after left left_new written written_new =
-    (octets : List ℕ) × Consumes left left_new octets
-    × ((script_read kept octets before).is_fault ≡ true)
-    × ((script_read kept octets before).script.line.number ≡ number)
-    × ((script_read kept octets before).script.node ≡ after)
-    × Appends written written_new (script_read kept octets before).text
-Runs (Err Write) before after left left_new written written_new =
-    (octets : List ℕ) × Consumes left left_new octets × AppendsFirst written written_new (script_read kept octets before).text
-Runs (Err Read) before after left left_new written written_new = RunsLines before after left left_new written written_new
-Runs (Err TooManyReads) before after left left_new written written_new = RunsLines before after left left_new written written_new
-Runs (Err NoMemory) before after left left_new written written_new = ⊥
+    × (r : Reached Q) × LeadsTo q octets [] left_new before r × Does r (Err (Line number)) after written written_new
+Runs {Q = Q} q (Err Write) before after left left_new written written_new =
+    (octets : List ℕ) × (more : List ℕ) × Consumes left left_new (octets ++ more)
+    × (r : Reached Q) × LeadsTo q octets more left_new before r × Does r (Err Write) after written written_new
+Runs q (Err Read) before after left left_new written written_new =
+    RunsSoFar q before after left left_new written written_new
+Runs q (Err TooManyReads) before after left left_new written written_new =
+    RunsSoFar q before after left left_new written written_new
+Runs q (Err NoMemory) before after left left_new written written_new = ⊥

@@ -1,6 +1,18 @@
--- How streams count their failures, and what a write that may stop early leaves written.
+-- What is known of streams, how they count their failures, and what a write that stops early leaves written.
 use Rattle.std.specs.Prelude.{ℕ, ◌+◌, ◌-◌, ◌^◌, min, List, take, Option, Result, Ok, Err}
 use Rattle.std.specs.Io.KnownBytes.{Appends}
+
+-- of a source: the octets that reads give from here on, where they are known; how many reads were made, and how many
+-- of them failed
+pub record Input : Type 0 where
+  pub remaining : Option (List ℕ)
+  pub reads : ℕ
+  pub failures : ℕ
+
+-- of a sink: the octets that were written, where they are known; and how many writes failed
+pub record Output : Type 0 where
+  pub written : Option (List ℕ)
+  pub failures : ℕ
 
 -- a count of 64 bits with one more, which stays at its greatest value
 abbrev pub counted : ℕ → ℕ

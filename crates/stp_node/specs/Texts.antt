@@ -6,22 +6,23 @@ use Rattle.signalling_types.specs.declared.outcome.Outcome.{Outcome}
 use Rattle.signalling_types.specs.declared.outcome.Outcome.TheVariants.{Queued, Held, Local, Handled, Ignored, Refused}
 
 -- the line of an outcome, with the name of the link that it names, if any
-abbrev pub outcome_text : List ℕ → Outcome → List ℕ
-outcome_text name (Queued link) = codes "queued " ++ name ++ codes "\n"
-outcome_text name Held = codes "held\n"
-outcome_text name Local = codes "local\n"
-outcome_text name Handled = codes "handled\n"
-outcome_text name Ignored = codes "ignored\n"
-outcome_text name (Refused cause) = codes "refused " ++ decimal (cause_number cause) ++ codes " " ++ cause_name cause ++ codes "\n"
+abbrev pub outcome_line : List ℕ → Outcome → List ℕ
+outcome_line name (Queued link) = codes "queued " ++ name ++ codes "\n"
+outcome_line name Held = codes "held\n"
+outcome_line name Local = codes "local\n"
+outcome_line name Handled = codes "handled\n"
+outcome_line name Ignored = codes "ignored\n"
+outcome_line name (Refused cause) =
+    codes "refused " ++ decimal (cause_number cause) ++ codes " " ++ cause_name cause ++ codes "\n"
 
 -- the line of a frame that goes out on a link
-abbrev pub frame_text : List ℕ → List ℕ → List ℕ
-frame_text name octets = codes "frame " ++ name ++ codes " " ++ encode_lower octets ++ codes "\n"
+abbrev pub frame_line : List ℕ → List ℕ → List ℕ
+frame_line name octets = codes "frame " ++ name ++ codes " " ++ encode_lower octets ++ codes "\n"
 
 -- where no frame goes out
-abbrev pub none_text : List ℕ
-none_text = codes "none\n"
+abbrev pub none_line : List ℕ
+none_line = codes "none\n"
 
 -- a line of the script that is malformed, too long, or without its end
-abbrev pub fault_text : ℕ → List ℕ
-fault_text number = codes "fault " ++ decimal number ++ codes "\n"
+abbrev pub line_fault : ℕ → List ℕ
+line_fault number = codes "fault " ++ decimal number ++ codes "\n"

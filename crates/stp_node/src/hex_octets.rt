@@ -21,7 +21,7 @@ impl<'a> HexOctets<'a> {
         ensures found { IsSome result ↔ IsTrue (is_octets text.now) }
         ensures value { IfSome result (λ hex. hex.digits.now ≡ text.now) }
     {
-        if is_octet_text(text) {
+        if is_octets(text) {
             Some(HexOctets { digits: text })
         } else {
             None
@@ -51,7 +51,7 @@ fn decode_whole(digits: &[u8], octets: &mut [u8])
 }
 
 /// Whether the text is one of octets.
-fn is_octet_text(text: &[u8]) -> bool
+fn is_octets(text: &[u8]) -> bool
     ensures { result ≡ is_octets text.now }
 {
     let length = text.len();

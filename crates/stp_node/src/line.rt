@@ -2,7 +2,7 @@
 
 ghost use Rattle.std.specs.Prelude.{◌≡◌, ◌∷◌, length};
 ghost use Rattle.stp_node.specs.Lines.{words};
-ghost use Rattle.stp_node.specs.Asking.{line_of, asked_by, asked_with_one, asked_with_two, command_of, asked_of, reading_of, words_left};
+ghost use Rattle.stp_node.specs.Asking.{parsed_line, asked_by, asked_with_one, asked_with_two, command_named, asked_of, reading_of, words_left};
 
 use crate::hex_octets::HexOctets;
 
@@ -54,7 +54,7 @@ pub enum Line<'a> {
 
 /// What a line without its end asks for: nothing where it is empty or begins with `#`.
 pub fn parse_line(line: &[u8]) -> Result<Option<Line<'_>>, Malformed>
-    ensures { reading_of result ≡ line_of line.now }
+    ensures { reading_of result ≡ parsed_line line.now }
 {
     if line.is_empty() || line[0] == REMARK {
         return Ok(None);
@@ -74,16 +74,16 @@ fn asked(line: &[u8]) -> Option<Line<'_>>
     let command = command_named(word)?;
     let (first, rest) = cut(rest?);
     let Some(rest) = rest else {
-        return with_one_word(command, first);
+        return asked_with_one(command, first);
     };
     match cut(rest) {
-        (second, None) => with_two_words(command, first, second),
+        (second, None) => asked_with_two(command, first, second),
         (_, Some(_)) => None,
     }
 }
 
 /// What a command with one word behind it asks for.
-fn with_one_word(command: Command, word: &[u8]) -> Option<Line<'_>>
+fn asked_with_one(command: Command, word: &[u8]) -> Option<Line<'_>>
     ensures { asked_of result ≡ asked_with_one command word.now }
 {
     match command {
@@ -98,7 +98,7 @@ fn with_one_word(command: Command, word: &[u8]) -> Option<Line<'_>>
 }
 
 /// What a command with two words behind it asks for.
-fn with_two_words<'a>(command: Command, first: &'a [u8], second: &'a [u8]) -> Option<Line<'a>>
+fn asked_with_two<'a>(command: Command, first: &'a [u8], second: &'a [u8]) -> Option<Line<'a>>
     ensures { asked_of result ≡ asked_with_two command first.now second.now }
 {
     match command {
@@ -115,7 +115,7 @@ fn with_two_words<'a>(command: Command, first: &'a [u8], second: &'a [u8]) -> Op
 
 /// The command of this name.
 fn command_named(word: &[u8]) -> Option<Command>
-    ensures { result ≡ command_of word.now }
+    ensures { result ≡ command_named word.now }
 {
     if word == b"up".as_slice() {
         Some(Command::Up)

@@ -1,11 +1,9 @@
 //! What the lines of a script do.
 
-ghost use Rattle.std.specs.Prelude.{◌≡◌, ◌≤◌, length, Some, None};
+ghost use Rattle.std.specs.Prelude.{◌≡◌, ◌≤◌, length};
 ghost use Rattle.exchange.specs.Queues.{kept};
-ghost use Rattle.exchange.specs.Rules.{taken};
-ghost use Rattle.stp_types.specs.Readings.{link_place};
-ghost use Rattle.stp_node.specs.Asking.{asked_line};
-ghost use Rattle.stp_node.specs.Doing.{name_in, reported, state_at, take_text, printed, done};
+ghost use Rattle.stp_node.specs.Asking.{AskTake, asked_line};
+ghost use Rattle.stp_node.specs.Doing.{name_in, reported, printed, done};
 
 use crate::line::Line;
 use crate::text::{Text, frame_line, none_line, outcome_line};
@@ -23,20 +21,20 @@ pub fn perform(exchange: &mut Exchange, line: Line<'_>) -> Text
     let mut buffer = [0; Limits::FRAME_OCTETS];
     let outcome = match line {
         Line::Up { link } => match exchange.settings().link_named(link) {
-            Some(link) => exchange.step(Event::AssociationUp(link)),
+            Some(link) => exchange.step(&Event::AssociationUp(link)),
             None => Outcome::Refused(Cause::NoSuchName),
         },
         Line::Frame { link, octets } => match exchange.settings().link_named(link) {
             Some(link) => {
                 let count = octets.decode(&mut buffer);
-                exchange.step(Event::Frame(link, &buffer[..count]))
+                exchange.step(&Event::Frame(link, &buffer[..count]))
             }
             None => Outcome::Refused(Cause::NoSuchName),
         },
         Line::Submit { octets } => {
             let count = octets.decode(&mut buffer);
             match Msu::new(buffer[0], &buffer[1..count]) {
-                Ok(message) => exchange.step(Event::Submit(message)),
+                Ok(message) => exchange.step(&Event::Submit(message)),
                 Err(cause) => Outcome::Refused(cause),
             }
         }
@@ -47,8 +45,8 @@ pub fn perform(exchange: &mut Exchange, line: Line<'_>) -> Text
 
 /// Takes the next frame that goes out by the link of this name.
 fn take(exchange: &mut Exchange, name: &[u8]) -> Text
-    ensures text { result ≡ take_text kept exchange.old (link_place exchange.old.settings name.now) }
-    ensures state { exchange.new ≡ state_at (link_place exchange.old.settings name.now) exchange.old (taken kept exchange.old) }
+    ensures text { result ≡ printed kept (AskTake name.now) exchange.old }
+    ensures state { exchange.new ≡ done kept (AskTake name.now) exchange.old }
 {
     let Some(link) = exchange.settings().link_named(name) else {
         return report(exchange, Outcome::Refused(Cause::NoSuchName));

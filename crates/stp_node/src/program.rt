@@ -1,24 +1,21 @@
 //! The program around scripts: its words, and how it ends.
 
-ghost use Rattle.std.specs.Prelude.{◌≡◌, ◌≢◌, ℕ, List, IfOk, string_bytes, map, codes};
+ghost use Rattle.std.specs.Prelude.{◌≡◌, ◌≢◌, ◌⊎◌, IfOk, IfErr, string_bytes, map, codes};
 ghost use Rattle.std.specs.IoError.{error_kind};
-ghost use Rattle.stp_node.specs.Program.{words_of, status_number, status_after, EndsWith, RunsOrTells, IsBooted};
+ghost use Rattle.exchange.specs.Stands.{StandsFor, first_state};
+ghost use Rattle.stp_node.specs.BuiltIn.{built_in_settings};
+ghost use Rattle.stp_node.specs.Program.{words_of, status_number, status_after, fault_line, EndsWith, IsStartFault, TellsFault, RunsScript};
 
 use crate::defaults::built_in;
 use crate::run::run_script;
 use crate::script::ScriptFault;
 use crate::sink::Sink;
 use crate::source::Source;
-use arrayvec::ArrayString;
 use exchange::{Exchange, NoMemory};
 use std::alloc::{AllocError, Global};
-use std::fmt::Write;
 use std::io::{Error, ErrorKind};
 use stp_types::DraftFault;
 use stp_types::Settings;
-
-/// Octets of the line of a fault in settings, at most.
-const FAULT_OCTETS: usize = 128;
 
 /// What the words behind the program's name ask for.
 #[derive(Clone, Copy, Debug, PartialEq, Eq)]
@@ -53,41 +50,6 @@ impl Status {
     }
 }
 
-/// Why a node does not start.
-enum StartFault {
-    NoMemory,
-    Settings(DraftFault),
-}
-
-impl From<AllocError> for StartFault {
-    ghost use Rattle.stp_node.specs.declared.program.StartFault.TheVariants.{NoMemory};
-
-    ghost from_gives = { λ _ fault. fault ≡ NoMemory };
-
-    fn from(_error: AllocError) -> StartFault {
-        StartFault::NoMemory
-    }
-}
-
-impl From<NoMemory> for StartFault {
-    ghost use Rattle.stp_node.specs.declared.program.StartFault.TheVariants.{NoMemory as memory};
-
-    ghost from_gives = { λ _ fault. fault ≡ memory };
-
-    fn from(_error: NoMemory) -> StartFault {
-        StartFault::NoMemory
-    }
-}
-
-impl From<DraftFault> for StartFault {
-    fn from(fault: DraftFault) -> StartFault {
-        match fault {
-            DraftFault::NoMemory => StartFault::NoMemory,
-            fault => StartFault::Settings(fault),
-        }
-    }
-}
-
 /// What the words behind the program's name ask for.
 pub fn read_words(words: &[String]) -> Words
     ensures { result ≡ words_of (map (λ word. string_bytes word) words.now) }
@@ -106,16 +68,18 @@ pub fn run_program<R: Source, W: Sink>(
     writer: &mut W,
 ) -> Status
     ensures usage { words_of (map (λ word. string_bytes word) words.now) ≡ Words.Usage
-        → EndsWith Status.Usage (codes "usage\n") (W.written writer.old) (W.written writer.new) result }
+        → EndsWith Status.Usage (codes "usage\n") (W.output writer.old) (W.output writer.new) result }
+    ensures unread { words_of (map (λ word. string_bytes word) words.now) ≡ Words.Usage
+        → R.input reader.new ≡ R.input reader.old }
     ensures run { words_of (map (λ word. string_bytes word) words.now) ≡ Words.Run
-        → RunsOrTells (R.remaining reader.old) (R.remaining reader.new) (W.written writer.old) (W.written writer.new) result }
+        → TellsFault (R.input reader.old) (R.input reader.new) (W.output writer.old) (W.output writer.new) result
+        ⊎ RunsScript (R.input reader.old) (R.input reader.new) (W.output writer.old) (W.output writer.new) result }
 {
     match read_words(words) {
         Words::Usage => end_with(Status::Usage, b"usage\n", writer),
         Words::Run => match start(alloc) {
-            Ok(mut exchange) => ended(run_script(&mut exchange, reader, writer)),
-            Err(StartFault::NoMemory) => end_with(Status::Start, b"fault NoMemory\n", writer),
-            Err(StartFault::Settings(fault)) => tell_settings(fault, writer),
+            Ok(mut exchange) => status_after(run_script(&mut exchange, reader, writer)),
+            Err(fault) => tell_fault(alloc, fault, writer),
         },
     }
 }
@@ -124,9 +88,9 @@ pub fn run_program<R: Source, W: Sink>(
 /// memory ran out.
 pub fn refuse_words<W: Sink>(error: &Error, writer: &mut W) -> Status
     ensures memory { error_kind error.now ≡ ErrorKind.OutOfMemory
-        → EndsWith Status.Start (codes "fault NoMemory\n") (W.written writer.old) (W.written writer.new) result }
+        → EndsWith Status.Start (fault_line DraftFault.NoMemory) (W.output writer.old) (W.output writer.new) result }
     ensures usage { error_kind error.now ≢ ErrorKind.OutOfMemory
-        → EndsWith Status.Usage (codes "usage\n") (W.written writer.old) (W.written writer.new) result }
+        → EndsWith Status.Usage (codes "usage\n") (W.output writer.old) (W.output writer.new) result }
 {
     if error.kind() == ErrorKind::OutOfMemory {
         return end_with(Status::Start, b"fault NoMemory\n", writer);
@@ -135,17 +99,20 @@ pub fn refuse_words<W: Sink>(error: &Error, writer: &mut W) -> Status
 }
 
 /// The exchange of the built-in settings, before its first event.
-fn start(alloc: Global) -> Result<Exchange, StartFault>
-    ensures { IfOk result IsBooted }
+fn start(alloc: Global) -> Result<Exchange, DraftFault>
+    ensures stands { IfOk result (λ exchange. StandsFor exchange (first_state built_in_settings)) }
+    ensures fault { IfErr result IsStartFault }
 {
     let draft = built_in(alloc)?;
     let settings = Settings::check(alloc, draft)?;
-    let exchange = Exchange::boot(alloc, settings)?;
-    Ok(exchange)
+    match Exchange::boot(alloc, settings) {
+        Ok(exchange) => Ok(exchange),
+        Err(NoMemory) => Err(DraftFault::NoMemory),
+    }
 }
 
 /// How the program ends after a script.
-fn ended(script: Result<(), ScriptFault>) -> Status
+fn status_after(script: Result<(), ScriptFault>) -> Status
     ensures { result ≡ status_after script }
 {
     match script {
@@ -158,7 +125,7 @@ fn ended(script: Result<(), ScriptFault>) -> Status
 
 /// Prints a line, and ends so; or as a write that failed does.
 fn end_with<W: Sink>(status: Status, line: &[u8], writer: &mut W) -> Status
-    ensures { EndsWith status line.now (W.written writer.old) (W.written writer.new) result }
+    ensures { EndsWith status line.now (W.output writer.old) (W.output writer.new) result }
 {
     match writer.write(line) {
         Ok(()) => status,
@@ -166,15 +133,26 @@ fn end_with<W: Sink>(status: Status, line: &[u8], writer: &mut W) -> Status
     }
 }
 
-/// Prints what is wrong with the settings.
-fn tell_settings<W: Sink>(fault: DraftFault, writer: &mut W) -> Status
-    ensures { (line : List ℕ) × EndsWith Status.Start line (W.written writer.old) (W.written writer.new) result }
+/// Prints what is wrong with the settings, or that memory ran out.
+fn tell_fault<W: Sink>(alloc: Global, fault: DraftFault, writer: &mut W) -> Status
+    ensures { EndsWith Status.Start (fault_line fault) (W.output writer.old) (W.output writer.new) result
+        ⊎ EndsWith Status.Start (fault_line DraftFault.NoMemory) (W.output writer.old) (W.output writer.new) result }
 {
-    let mut line = ArrayString::<FAULT_OCTETS>::new();
-    let number = fault.number();
-    let _fits = match fault {
-        DraftFault::NoMemory => write!(line, "fault {number}\n"),
-        DraftFault::At(_, key) => write!(line, "fault {number} {key}\n"),
-    };
-    end_with(Status::Start, line.as_str().as_bytes(), writer)
+    match fault_line(alloc, fault) {
+        Ok(line) => end_with(Status::Start, line.as_bytes(), writer),
+        Err(_) => end_with(Status::Start, b"fault NoMemory\n", writer),
+    }
+}
+
+/// The line of a fault of settings.
+fn fault_line(alloc: Global, fault: DraftFault) -> Result<String, AllocError>
+    ensures { IfOk result (λ line. string_bytes line ≡ fault_line fault) }
+{
+    match fault {
+        DraftFault::NoMemory => String::from_str(alloc, "fault NoMemory\n"),
+        DraftFault::At(kind, key) => {
+            let number = kind.number();
+            format!(in alloc; "fault {number} {key}\n")
+        }
+    }
 }

@@ -1,11 +1,12 @@
 //! Running a script, octet by octet.
 
-ghost use Rattle.std.specs.Prelude.{◌≡◌, ◌≢◌, ◌+◌, ◌≤◌, ◌<◌, ◌^◌, [], length, OnOk, IfErr};
-ghost use Rattle.std.specs.Io.KnownBytes.{IsAtEnd};
+ghost use Rattle.std.specs.Prelude.{◌≡◌, ◌+◌, ◌≤◌, ◌<◌, ◌^◌, [], ◌∷◌, length};
 ghost use Rattle.exchange.specs.State.{State};
-ghost use Rattle.exchange.specs.Queues.{KeptQueues, kept};
-ghost use Rattle.stp_node.specs.Asking.{line_of};
-ghost use Rattle.stp_node.specs.Runs.{Does, Fails, Runs, octet_read, octets_read, line_read, ended};
+ghost use Rattle.exchange.specs.Queues.{KeptQueues, kept, whole};
+ghost use Rattle.exchange.specs.Stands.{Abstract, StandsFor};
+ghost use Rattle.stp_node.specs.Asking.{parsed_line};
+ghost use Rattle.stp_node.specs.Runs.{Does, Runs, line_run, stopped};
+ghost use Rattle.stp_node.specs.Steps.{HasTaken, rest_run};
 ghost use Rattle.stp_node.specs.Faults.{MakesReads, reads_failed, writes_failed};
 
 use crate::line::{Malformed, parse_line};
@@ -13,7 +14,7 @@ use crate::perform::perform;
 use crate::script::{LINE_OCTETS, READS, ScriptFault};
 use crate::sink::Sink;
 use crate::source::Source;
-use crate::text::fault_line;
+use crate::text::line_fault;
 use arrayvec::ArrayVec;
 use exchange::Exchange;
 use std::marker::Model;
@@ -32,11 +33,15 @@ struct OpenLine {
 }
 
 impl Model for OpenLine {
-    ghost use Rattle.stp_node.specs.Reading.{LineSoFar};
+    ghost use Rattle.std.specs.Prelude.{◌≤◌, length};
+    ghost use Rattle.stp_node.specs.Steps.{LineSoFar};
+    ghost use Rattle.stp_node.specs.declared.script.TheConstants.{LINE_OCTETS};
 
     ghost Value = { LineSoFar };
 
     ghost view = { λ l. record { octets = l.octets.items; number = l.number } };
+
+    ghost invariant = { λ l. length l.octets.items ≤ LINE_OCTETS };
 }
 
 /// Does the lines of a script, in order, and prints what became of each, a line for a line.
@@ -47,18 +52,41 @@ impl Model for OpenLine {
 /// come exactly where a read or a write failed. At most 4,194,304 reads are made; where the last of
 /// them didn't find the end, the lines that are whole by then are done, and the script ends with
 /// `TooManyReads`. It takes no memory.
-#[tactic(auto, using(crate::proofs::Running::running_steps))]
 pub fn run_script<R: Source, W: Sink>(
     exchange: &mut Exchange,
     reader: &mut R,
     writer: &mut W,
 ) -> Result<(), ScriptFault>
-    ensures end { OnOk result (IsAtEnd (R.remaining reader.new)) }
-    ensures bounded { MakesReads result (R.reads reader.old) (R.reads reader.new) }
-    ensures reads { R.failures reader.new ≡ reads_failed (R.failures reader.old) result }
-    ensures writes { W.failures writer.new ≡ writes_failed (W.failures writer.old) result }
-    ensures run { Runs result exchange.old exchange.new (R.remaining reader.old) (R.remaining reader.new) (W.written writer.old) (W.written writer.new) }
-    ensures memory { IfErr result (λ fault. fault ≢ ScriptFault.NoMemory) }
+    // For every abstract state that the exchange stood for, output and state are those of the abstract exchange over
+    // the lines.
+    ensures run { (before : Abstract) → StandsFor exchange.old before
+        → (after : Abstract) × StandsFor exchange.new after
+        × Runs whole result before after (R.input reader.old).remaining (R.input reader.new).remaining
+        (W.output writer.old).written (W.output writer.new).written }
+
+    // The same on what is kept.
+    ensures kept_run { Runs kept result exchange.old exchange.new
+        (R.input reader.old).remaining (R.input reader.new).remaining
+        (W.output writer.old).written (W.output writer.new).written }
+    ensures bounded { MakesReads result (R.input reader.old).reads (R.input reader.new).reads }
+    ensures reads { (R.input reader.new).failures ≡ reads_failed (R.input reader.old).failures result }
+    ensures writes { (W.output writer.new).failures ≡ writes_failed (W.output writer.old).failures result }
+{
+    run_pieces(exchange, reader, writer)
+}
+
+/// Reads a script piece by piece, and does its lines.
+fn run_pieces<R: Source, W: Sink>(
+    exchange: &mut Exchange,
+    reader: &mut R,
+    writer: &mut W,
+) -> Result<(), ScriptFault>
+    ensures run { Runs kept result exchange.old exchange.new
+        (R.input reader.old).remaining (R.input reader.new).remaining
+        (W.output writer.old).written (W.output writer.new).written }
+    ensures bounded { MakesReads result (R.input reader.old).reads (R.input reader.new).reads }
+    ensures reads { (R.input reader.new).failures ≡ reads_failed (R.input reader.old).failures result }
+    ensures writes { (W.output writer.new).failures ≡ writes_failed (W.output writer.old).failures result }
 {
     let mut line = OpenLine::first();
     let mut piece = [0; PIECE_OCTETS];
@@ -84,17 +112,19 @@ impl OpenLine {
     }
 
     /// Takes the next octets, and does each line that ends in them.
-    #[tactic(auto, using(crate::proofs::Running::running_steps))]
     fn take_all<W: Sink>(
         &mut self,
         octets: &[u8],
         exchange: &mut Exchange,
         writer: &mut W,
     ) -> Result<(), ScriptFault>
-        requires { self.old.number + length octets.now < 2 ^ 64 }
+        requires number { self.old.number + length octets.now < 2 ^ 64 }
+        requires short { length self.old.octets ≤ LINE_OCTETS }
         ensures number { self.new.number ≤ self.old.number + length octets.now }
-        ensures writes { W.failures writer.new ≡ writes_failed (W.failures writer.old) result }
-        ensures run { Does (octets_read kept octets.now (record { line = self.old; node = exchange.old })) result self.new exchange.new (W.written writer.old) (W.written writer.new) }
+        ensures short { length self.new.octets ≤ LINE_OCTETS }
+        ensures writes { (W.output writer.new).failures ≡ writes_failed (W.output writer.old).failures result }
+        ensures run { HasTaken octets.now result self.old self.new exchange.old exchange.new
+            (W.output writer.old).written (W.output writer.new).written }
     {
         for octet in octets {
             self.take(*octet, exchange, writer)?;
@@ -103,7 +133,6 @@ impl OpenLine {
     }
 
     /// Takes the next octet, and does the line where it ends.
-    #[tactic(auto, using(crate::proofs::Running::running_steps))]
     fn take<W: Sink>(
         &mut self,
         octet: u8,
@@ -112,8 +141,10 @@ impl OpenLine {
     ) -> Result<(), ScriptFault>
         requires { self.old.number + 1 < 2 ^ 64 }
         ensures number { self.new.number ≤ self.old.number + 1 }
-        ensures writes { W.failures writer.new ≡ writes_failed (W.failures writer.old) result }
-        ensures run { Does (octet_read kept octet (record { line = self.old; node = exchange.old })) result self.new exchange.new (W.written writer.old) (W.written writer.new) }
+        ensures short { length self.new.octets ≤ LINE_OCTETS }
+        ensures writes { (W.output writer.new).failures ≡ writes_failed (W.output writer.old).failures result }
+        ensures run { HasTaken (octet ∷ []) result self.old self.new exchange.old exchange.new
+            (W.output writer.old).written (W.output writer.new).written }
     {
         if octet != LINE_FEED {
             if self.octets.is_full() {
@@ -129,10 +160,10 @@ impl OpenLine {
     }
 
     /// Takes the end of the script: a line that was begun is a fault.
-    #[tactic(auto, using(crate::proofs::Running::running_steps))]
     fn end<W: Sink>(&self, writer: &mut W) -> Result<(), ScriptFault>
-        ensures writes { W.failures writer.new ≡ writes_failed (W.failures writer.old) result }
-        ensures run { (node : State KeptQueues) → Does (ended (record { line = self.now; node = node })) result self.now node (W.written writer.old) (W.written writer.new) }
+        ensures writes { (W.output writer.new).failures ≡ writes_failed (W.output writer.old).failures result }
+        ensures run { (node : State KeptQueues) → Does (rest_run 0 self.now [] node) result node
+            (W.output writer.old).written (W.output writer.new).written }
     {
         if self.octets.is_empty() {
             Ok(())
@@ -143,15 +174,15 @@ impl OpenLine {
 }
 
 /// Does a whole line, and prints what became of it.
-#[tactic(auto, using(crate::proofs::Running::running_steps))]
 fn do_line<W: Sink>(
     line: &[u8],
     number: u64,
     exchange: &mut Exchange,
     writer: &mut W,
 ) -> Result<(), ScriptFault>
-    ensures writes { W.failures writer.new ≡ writes_failed (W.failures writer.old) result }
-    ensures run { Does (line_read kept (record { line = record { octets = line.now; number = number }; node = exchange.old }) (line_of line.now)) result (record { octets = []; number = number + 1 }) exchange.new (W.written writer.old) (W.written writer.new) }
+    ensures writes { (W.output writer.new).failures ≡ writes_failed (W.output writer.old).failures result }
+    ensures run { Does (line_run kept number (parsed_line line.now) exchange.old) result exchange.new
+        (W.output writer.old).written (W.output writer.new).written }
 {
     match parse_line(line) {
         Ok(Some(line)) => {
@@ -165,11 +196,11 @@ fn do_line<W: Sink>(
 }
 
 /// Prints that a line is none, and ends the script.
-#[tactic(auto, using(crate::proofs::Running::running_steps))]
 fn fail<W: Sink>(number: u64, writer: &mut W) -> Result<(), ScriptFault>
-    ensures writes { W.failures writer.new ≡ writes_failed (W.failures writer.old) result }
-    ensures told { Fails number result (W.written writer.old) (W.written writer.new) }
+    ensures writes { (W.output writer.new).failures ≡ writes_failed (W.output writer.old).failures result }
+    ensures run { (node : State KeptQueues) → Does (stopped number node) result node
+        (W.output writer.old).written (W.output writer.new).written }
 {
-    writer.write(fault_line(number).as_slice())?;
+    writer.write(line_fault(number).as_slice())?;
     Err(ScriptFault::Line(number))
 }

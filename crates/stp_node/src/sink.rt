@@ -2,7 +2,7 @@
 
 ghost use Rattle.std.specs.Prelude.{◌≡◌, ℕ, ◌<◌, ◌≤◌, ◌++◌, [], List, Option, None, Some, length, take, IsOk, IsErr, OnOk, OnErr};
 ghost use Rattle.std.specs.Io.KnownBytes.{Appends};
-ghost use Rattle.stp_node.specs.Streams.{AppendsFirst, failures_after};
+ghost use Rattle.stp_node.specs.Streams.{Output, AppendsFirst, failures_after};
 
 use std::alloc::Global;
 use std::io::Write;
@@ -16,17 +16,14 @@ pub struct WriteFailed;
 ///
 /// It counts its failures, and tells the octets that were written where it knows them.
 pub trait Sink {
-    // The octets that were written, where they are known.
-    ghost written: { Self → Option (List ℕ) };
-
-    // How many writes failed.
-    ghost failures: { Self → ℕ };
+    // The octets that were written, where they are known, and the count of the writes that failed.
+    ghost output: { Self → Output };
 
     /// Writes all the octets. After `WriteFailed` only the first of them were written, however many.
     fn write(&mut self, octets: &[u8]) -> Result<(), WriteFailed>
-        ensures all { OnOk result (Appends (written self.old) (written self.new) octets.now) }
-        ensures first { OnErr result (AppendsFirst (written self.old) (written self.new) octets.now) }
-        ensures counted { failures self.new ≡ failures_after (failures self.old) result };
+        ensures all { OnOk result (Appends (output self.old).written (output self.new).written octets.now) }
+        ensures first { OnErr result (AppendsFirst (output self.old).written (output self.new).written octets.now) }
+        ensures counted { (output self.new).failures ≡ failures_after (output self.old).failures result };
 }
 
 /// A sink over a writer of the standard library, such as standard output.
@@ -41,8 +38,7 @@ pub struct WriterSink<W> {
 impl<W: Write> WriterSink<W> {
     /// The sink that writes to this writer.
     pub fn new(writer: W) -> WriterSink<W>
-        ensures octets { ⟦<WriterSink<W> as Sink>⟧.written result ≡ W.contents writer }
-        ensures none_failed { ⟦<WriterSink<W> as Sink>⟧.failures result ≡ 0 }
+        ensures { ⟦<WriterSink<W> as Sink>⟧.output result ≡ record { written = W.contents writer; failures = 0 } }
     {
         WriterSink {
             writer,
@@ -52,7 +48,7 @@ impl<W: Write> WriterSink<W> {
 
     /// How many writes failed.
     pub fn failures(&self) -> u64
-        ensures { result ≡ ⟦<WriterSink<W> as Sink>⟧.failures self.now }
+        ensures { result ≡ (⟦<WriterSink<W> as Sink>⟧.output self.now).failures }
     {
         self.failures
     }
@@ -74,9 +70,7 @@ fn write_whole<W: Write>(writer: &mut W, octets: &[u8]) -> Result<(), WriteFaile
 }
 
 impl<W: Write> Sink for WriterSink<W> {
-    ghost written = { λ s. W.contents s.writer };
-
-    ghost failures = { λ s. s.failures };
+    ghost output = { λ s. record { written = W.contents s.writer; failures = s.failures } };
 
     fn write(&mut self, octets: &[u8]) -> Result<(), WriteFailed> {
         let result = write_whole(&mut self.writer, octets);
@@ -142,9 +136,7 @@ impl MemorySink {
 }
 
 impl Sink for MemorySink {
-    ghost written = { λ s. Some s.written };
-
-    ghost failures = { λ s. s.failures };
+    ghost output = { λ s. record { written = Some s.written; failures = s.failures } };
 
     fn write(&mut self, octets: &[u8]) -> Result<(), WriteFailed> {
         let is_refused = self.until_failure == Some(0);

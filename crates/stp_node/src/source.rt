@@ -2,7 +2,7 @@
 
 ghost use Rattle.std.specs.Prelude.{◌≡◌, ℕ, ◌<◌, ◌≤◌, ◌++◌, List, [], Option, None, Some, length, take, IfOk, IsErr, ◌↔◌, min, max, drop};
 ghost use Rattle.std.specs.Io.KnownBytes.{ReadConsumes};
-ghost use Rattle.stp_node.specs.Streams.{counted, failures_after};
+ghost use Rattle.stp_node.specs.Streams.{Input, counted, failures_after};
 
 use std::io::Read;
 use std::marker::Model;
@@ -16,21 +16,16 @@ pub struct ReadFailed;
 /// It counts its failures, and tells the octets that are still to be read where it knows them: what
 /// was read is what they lost at their front.
 pub trait Source {
-    // The octets that reads give from here on, where they are known.
-    ghost remaining: { Self → Option (List ℕ) };
-
-    // How many reads were made, and how many of them failed.
-    ghost reads: { Self → ℕ };
-
-    ghost failures: { Self → ℕ };
+    // The octets that reads give from here on, where they are known, and the counts of its reads.
+    ghost input: { Self → Input };
 
     /// Reads the next octets to the front of the buffer, and answers how many: 0 only at the end, or
     /// where the buffer is empty. After `ReadFailed` nothing was read.
     fn read(&mut self, buffer: &mut [u8]) -> Result<usize, ReadFailed>
         ensures bound { IfOk result (λ count. count ≤ length buffer.new) }
-        ensures octets { ReadConsumes (remaining self.old) (remaining self.new) result buffer.new }
-        ensures made { reads self.new ≡ counted (reads self.old) }
-        ensures counted { failures self.new ≡ failures_after (failures self.old) result };
+        ensures octets { ReadConsumes (input self.old).remaining (input self.new).remaining result buffer.new }
+        ensures made { (input self.new).reads ≡ counted (input self.old).reads }
+        ensures counted { (input self.new).failures ≡ failures_after (input self.old).failures result };
 }
 
 /// A source over a reader of the standard library, such as standard input.
@@ -46,9 +41,8 @@ pub struct ReaderSource<R> {
 impl<R: Read> ReaderSource<R> {
     /// The source that reads from this reader.
     pub fn new(reader: R) -> ReaderSource<R>
-        ensures octets { ⟦<ReaderSource<R> as Source>⟧.remaining result ≡ R.remaining reader }
-        ensures none_made { ⟦<ReaderSource<R> as Source>⟧.reads result ≡ 0 }
-        ensures none_failed { ⟦<ReaderSource<R> as Source>⟧.failures result ≡ 0 }
+        ensures { ⟦<ReaderSource<R> as Source>⟧.input result
+            ≡ record { remaining = R.remaining reader; reads = 0; failures = 0 } }
     {
         ReaderSource {
             reader,
@@ -59,18 +53,14 @@ impl<R: Read> ReaderSource<R> {
 
     /// How many reads failed.
     pub fn failures(&self) -> u64
-        ensures { result ≡ ⟦<ReaderSource<R> as Source>⟧.failures self.now }
+        ensures { result ≡ (⟦<ReaderSource<R> as Source>⟧.input self.now).failures }
     {
         self.failures
     }
 }
 
 impl<R: Read> Source for ReaderSource<R> {
-    ghost remaining = { λ s. R.remaining s.reader };
-
-    ghost reads = { λ s. s.reads };
-
-    ghost failures = { λ s. s.failures };
+    ghost input = { λ s. record { remaining = R.remaining s.reader; reads = s.reads; failures = s.failures } };
 
     fn read(&mut self, buffer: &mut [u8]) -> Result<usize, ReadFailed> {
         self.reads = self.reads.saturating_add(1);
@@ -100,7 +90,13 @@ impl<'a> Model for MemorySource<'a> {
 
     ghost Value = { PlannedSource };
 
-    ghost view = { λ s. record { rest = s.rest.now; most = s.most; until_failure = s.until_failure; reads = s.reads; failures = s.failures } };
+    ghost view = { λ s. record {
+      rest = s.rest.now;
+      most = s.most;
+      until_failure = s.until_failure;
+      reads = s.reads;
+      failures = s.failures;
+    } };
 
     ghost invariant = { λ s. 1 ≤ s.most };
 }
@@ -108,7 +104,8 @@ impl<'a> Model for MemorySource<'a> {
 impl<'a> MemorySource<'a> {
     /// The source that gives these octets, as many a read as the buffer holds.
     pub fn new(octets: &'a [u8]) -> MemorySource<'a>
-        ensures { result ≡ record { rest = octets.now; most = usize.MAX; until_failure = None; reads = 0; failures = 0 } }
+        ensures { result
+            ≡ record { rest = octets.now; most = usize.MAX; until_failure = None; reads = 0; failures = 0 } }
     {
         MemorySource {
             rest: octets,
@@ -168,11 +165,7 @@ impl<'a> MemorySource<'a> {
 }
 
 impl Source for MemorySource<'_> {
-    ghost remaining = { λ s. Some s.rest };
-
-    ghost reads = { λ s. s.reads };
-
-    ghost failures = { λ s. s.failures };
+    ghost input = { λ s. record { remaining = Some s.rest; reads = s.reads; failures = s.failures } };
 
     fn read(&mut self, buffer: &mut [u8]) -> Result<usize, ReadFailed>
         ensures bound { IfOk result (λ count. count ≤ length buffer.new) }

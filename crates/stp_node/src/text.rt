@@ -2,7 +2,7 @@
 
 ghost use Rattle.std.specs.Prelude.{◌≡◌, ◌+◌, ◌*◌, ◌≤◌, ◌<◌, ◌^◌, ◌++◌, [], length, decimal};
 ghost use Rattle.hex.specs.Hex.{encode_lower};
-ghost use Rattle.stp_node.specs.Texts.{outcome_text, frame_text, none_text, fault_text};
+ghost use Rattle.stp_node.specs.Texts.{outcome_line, frame_line, none_line, line_fault};
 
 use arrayvec::ArrayVec;
 use exchange::BUFFER_OCTETS;
@@ -79,7 +79,7 @@ impl Text {
 /// The line of an outcome, with the name of the link that it names, if any.
 pub fn outcome_line(outcome: Outcome, name: &[u8]) -> Text
     requires { length name.now ≤ Limits.NAME_OCTETS }
-    ensures { result ≡ outcome_text name.now outcome }
+    ensures { result ≡ outcome_line name.now outcome }
 {
     let mut text = Text::new();
     match outcome {
@@ -106,7 +106,7 @@ pub fn outcome_line(outcome: Outcome, name: &[u8]) -> Text
 pub fn frame_line(name: &[u8], octets: &[u8]) -> Text
     requires name { length name.now ≤ Limits.NAME_OCTETS }
     requires octets { length octets.now ≤ BUFFER_OCTETS }
-    ensures { result ≡ frame_text name.now octets.now }
+    ensures { result ≡ frame_line name.now octets.now }
 {
     let mut text = Text::new();
     text.push(b"frame ");
@@ -119,7 +119,7 @@ pub fn frame_line(name: &[u8], octets: &[u8]) -> Text
 
 /// The line that says that no frame goes out.
 pub fn none_line() -> Text
-    ensures { result ≡ none_text }
+    ensures { result ≡ none_line }
 {
     let mut text = Text::new();
     text.push(b"none\n");
@@ -127,8 +127,8 @@ pub fn none_line() -> Text
 }
 
 /// The line that says which line of the script is none.
-pub fn fault_line(number: u64) -> Text
-    ensures { result ≡ fault_text number }
+pub fn line_fault(number: u64) -> Text
+    ensures { result ≡ line_fault number }
 {
     let mut text = Text::new();
     text.push(b"fault ");

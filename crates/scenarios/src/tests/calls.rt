@@ -1,9 +1,10 @@
 //! Calls of an exchange in a row.
 
-use super::booted;
-use exchange::{Answer, Call, Event};
+use super::{POOL, booted};
+use exchange::{Answer, Call, Event, Exchange};
+use std::alloc::Global;
+use std::process::Abort;
 use std::test::Fail;
-use stp_node::built_in;
 use stp_types::{FrameFault, LinkId, Msu, Notice, Outcome};
 
 /// A frame with a message from point 2 to point 300, the first of its link.
@@ -21,21 +22,23 @@ const GOES: [u8; 24] = [
 /// A frame of another version.
 const OTHER_VERSION: [u8; 8] = [0x02, 0x00, 0x0b, 0x02, 0x00, 0x00, 0x00, 0x08];
 
-#[test]
-fn calls_in_a_row(rt: HostRuntime) -> Result<(), Fail> {
-    let mut exchange = booted(rt.alloc(), built_in(rt.alloc())?)?;
+/// Makes six calls, of which one submits this message.
+fn made(alloc: Global, exchange: &mut Exchange, message: Msu) -> Result<Vec<Answer>, Fail> {
     let link = LinkId::new(0);
-    let here = Msu::new(0x85, &[0x01, 0x80, 0x00, 0x50]).expect(&rt, "at most 272 octets");
     let calls = [
         Call::Step(Event::AssociationUp(link)),
         Call::Step(Event::Frame(link, &COMES)),
         Call::Step(Event::Frame(link, &OTHER_VERSION)),
-        Call::Step(Event::Submit(here)),
+        Call::Step(Event::Submit(message)),
         Call::Take(link),
         Call::Take(link),
     ];
-    let answers = exchange.run(rt.alloc(), &calls)?;
-    match answers.as_slice() {
+    Ok(exchange.run(alloc, &calls)?)
+}
+
+/// Compares the answers to them.
+fn expect_answers<R: Abort>(rt: &R, answers: &[Answer]) {
+    match answers {
         [
             Answer::Stepped(Outcome::Handled),
             Answer::Stepped(Outcome::Queued(_)),
@@ -43,10 +46,26 @@ fn calls_in_a_row(rt: HostRuntime) -> Result<(), Fail> {
             Answer::Stepped(Outcome::Local),
             Answer::Taken(Some(text)),
             Answer::Taken(None),
-        ] => assert_eq!(rt; text.octets(), GOES.as_slice()),
+        ] => assert!(rt; text.octets() == GOES.as_slice(), "another frame"),
         _ => panic!(rt; "other answers"),
     }
+}
+
+/// Makes the calls, and compares their answers and the notice that they leave.
+fn expect_calls<R: Abort>(rt: &R, alloc: Global) -> Result<(), Fail> {
+    let mut exchange = booted(alloc, POOL)?;
+    let message = Msu::new(0x85, &[0x01, 0x80, 0x00, 0x50]).expect(rt, "at most 272 octets");
+    let answers = made(alloc, &mut exchange, message)?;
+    expect_answers(rt, answers.as_slice());
     let notice = exchange.notices().front().copied();
-    assert!(rt; notice == Some(Notice::Frame(FrameFault::Version, link)));
+    assert!(rt;
+        notice == Some(Notice::Frame(FrameFault::Version, LinkId::new(0))),
+        "another notice"
+    );
     Ok(())
+}
+
+#[test]
+fn calls_in_a_row(rt: HostRuntime) -> Result<(), Fail> {
+    expect_calls(&rt, rt.alloc())
 }

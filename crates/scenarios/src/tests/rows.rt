@@ -1,8 +1,9 @@
 //! Worked rows of one frame through one link.
 
-use super::{booted, expect_run, expect_script};
+use super::{POOL, expect_run, expect_script};
+use std::alloc::{AllocError, Global};
+use std::process::Abort;
 use std::test::Fail;
-use stp_node::{ScriptFault, built_in};
 
 const FIRST_FRAME: &str = "up e0
 frame e0 01000b010000001800ffffff0000000000852c810050aabb
@@ -50,68 +51,65 @@ queued e0
 
 #[test]
 fn first_frame(rt: HostRuntime) -> Result<(), Fail> {
-    expect_script(
-        &rt,
-        rt.alloc(),
-        FIRST_FRAME.as_bytes(),
-        FIRST_FRAME_PRINTED,
-        Ok(()),
-    )
+    let script = FIRST_FRAME.as_bytes();
+    expect_script(&rt, rt.alloc(), script, FIRST_FRAME_PRINTED, Ok(()))
 }
 
 #[test]
 fn acknowledgement(rt: HostRuntime) -> Result<(), Fail> {
-    expect_script(
-        &rt,
-        rt.alloc(),
-        ACKNOWLEDGEMENT.as_bytes(),
-        ACKNOWLEDGEMENT_PRINTED,
-        Ok(()),
-    )
+    let script = ACKNOWLEDGEMENT.as_bytes();
+    expect_script(&rt, rt.alloc(), script, ACKNOWLEDGEMENT_PRINTED, Ok(()))
 }
 
 #[test]
 fn pool_limit(rt: HostRuntime) -> Result<(), Fail> {
-    let mut draft = built_in(rt.alloc())?;
-    draft.pool = 3;
-    let mut exchange = booted(rt.alloc(), draft)?;
-    expect_run(
-        &rt,
-        rt.alloc(),
-        &mut exchange,
-        POOL_LIMIT.as_bytes(),
-        POOL_LIMIT_PRINTED,
-        Ok(()),
-    );
+    let script = POOL_LIMIT.as_bytes();
+    expect_run(&rt, rt.alloc(), 3, script, POOL_LIMIT_PRINTED, Ok(()))
+}
+
+/// A longest message, one that is longer, and a short one: `~` stands for the 268 octets behind a label.
+const LONGEST: &str = "up e0
+frame e0 01000b010000012200ffffff0000000000852c810050~
+take e0
+frame e0 01000b010000012300ffffff0000000100852c810050~a5
+frame e0 01000b010000001800ffffff0000000200852c810050aabb
+";
+
+const LONGEST_PRINTED: &str = "handled
+queued e0
+frame e0 01000b0100000122000000000000000000852c810050~
+refused 13 TooLong
+queued e0
+";
+
+/// The text with those octets in it.
+fn filled(alloc: Global, text: &str) -> Result<String, AllocError> {
+    let mut filled = String::new(alloc);
+    for (index, part) in text.split('~').enumerate() {
+        if index > 0 {
+            push_octets(&mut filled)?;
+        }
+        filled.push_str(part)?;
+    }
+    Ok(filled)
+}
+
+/// Puts 268 octets behind a text.
+fn push_octets(text: &mut String) -> Result<(), AllocError> {
+    for _ in 0..268usize {
+        text.push_str("a5")?;
+    }
     Ok(())
 }
 
-#[test]
-fn script_faults(rt: HostRuntime) -> Result<(), Fail> {
-    expect_script(
-        &rt,
-        rt.alloc(),
-        b"up e0\nup e0\ntake",
-        "handled\nrefused 17 LinkNotReady\nfault 3\n",
-        Err(ScriptFault::Line(3)),
-    )
+/// Runs the script of the longest message.
+fn expect_longest<R: Abort>(rt: &R, alloc: Global) -> Result<(), Fail> {
+    let script = filled(alloc, LONGEST)?;
+    let printed = filled(alloc, LONGEST_PRINTED)?;
+    expect_script(rt, alloc, script.as_bytes(), printed.as_str(), Ok(()))
 }
-
-/// A message for 300 whose signalling information field has so many octets, after its label.
-const LABEL: &str = "852c810050";
 
 #[test]
 fn longest_message(rt: HostRuntime) -> Result<(), Fail> {
-    let mut rest = String::new(rt.alloc());
-    for _ in 0..268usize {
-        rest.push_str("a5")?;
-    }
-    let longest = format!(in rt.alloc(); "{LABEL}{rest}")?;
-    let script = format!(in rt.alloc();
-        "up e0\nframe e0 01000b010000012200ffffff0000000000{longest}\ntake e0\nframe e0 01000b010000012300ffffff0000000100{longest}a5\nframe e0 01000b010000001800ffffff0000000200{LABEL}aabb\n"
-    )?;
-    let printed = format!(in rt.alloc();
-        "handled\nqueued e0\nframe e0 01000b0100000122000000000000000000{longest}\nrefused 13 TooLong\nqueued e0\n"
-    )?;
-    expect_script(&rt, rt.alloc(), script.as_bytes(), printed.as_str(), Ok(()))
+    expect_longest(&rt, rt.alloc())
 }

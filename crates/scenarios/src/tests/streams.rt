@@ -2,13 +2,13 @@
 
 ghost use Rattle.std.specs.Prelude.{None};
 
-use super::booted;
+use super::{POOL, run};
 use std::alloc::Global;
 use std::io;
+use std::process::Abort;
 use std::test::Fail;
 use stp_node::{
-    MemorySink, MemorySource, ReadFailed, ReaderSource, ScriptFault, Source, WriterSink, built_in,
-    run_script,
+    MemorySink, MemorySource, ReadFailed, ReaderSource, ScriptFault, Source, WriterSink,
 };
 
 const SCRIPT: &str = "up e0
@@ -16,84 +16,115 @@ frame e0 01000b010000001800ffffff0000000000852c810050aabb
 take e0
 ";
 
-const LINES: [&str; 3] = [
-    "handled\n",
-    "queued e0\n",
-    "frame e0 01000b0100000018000000000000000000852c810050aabb\n",
-];
+const PRINTED: &str = "handled
+queued e0
+frame e0 01000b0100000018000000000000000000852c810050aabb
+";
+
+/// How many octets the first lines of the script print.
+const PRINTED_OCTETS: [usize; 4] = [0, 8, 18, 76];
 
 /// What the first lines of the script print.
-fn printed(alloc: Global, lines: usize) -> Result<String, Fail> {
-    let mut text = String::new(alloc);
-    for line in LINES.iter().take(lines) {
-        text.push_str(line)?;
-    }
-    Ok(text)
+fn printed(lines: usize) -> &'static [u8] {
+    let octets = PRINTED_OCTETS.get(lines).copied().unwrap_or(0);
+    PRINTED.as_bytes().get(..octets).unwrap_or(b"")
+}
+
+/// Runs a script on a node with the built-in settings, and compares how it ends, how many reads and
+/// writes failed, and what was written.
+fn expect<R: Abort>(
+    rt: &R,
+    alloc: Global,
+    mut reader: MemorySource<'_>,
+    mut writer: MemorySink,
+    end: Result<(), ScriptFault>,
+    printed: &[u8],
+) -> Result<(), Fail> {
+    let ended = run(alloc, POOL, &mut reader, &mut writer)?;
+    assert_eq!(rt; ended, end);
+    expect_failures(rt, end, reader.failures(), writer.failures());
+    assert!(rt; writer.written() == printed, "other octets were written");
+    Ok(())
+}
+
+/// Compares how many reads and writes failed with how the script ended.
+fn expect_failures<R: Abort>(rt: &R, end: Result<(), ScriptFault>, reads: u64, writes: u64) {
+    assert_eq!(rt; reads, u64::from(end == Err(ScriptFault::Read)));
+    assert_eq!(rt; writes, u64::from(end == Err(ScriptFault::Write)));
+}
+
+/// Reads of so many octets.
+fn expect_pieces<R: Abort>(rt: &R, alloc: Global, most: usize) -> Result<(), Fail> {
+    let reader = MemorySource::new(SCRIPT.as_bytes()).in_pieces_of(most);
+    expect(
+        rt,
+        alloc,
+        reader,
+        MemorySink::new(alloc),
+        Ok(()),
+        printed(3),
+    )
 }
 
 #[test]
 fn pieces_of_any_size(rt: HostRuntime) -> Result<(), Fail> {
-    let whole = printed(rt.alloc(), 3)?;
     for most in 0..SCRIPT.len() {
-        let mut exchange = booted(rt.alloc(), built_in(rt.alloc())?)?;
-        let mut reader = MemorySource::new(SCRIPT.as_bytes()).in_pieces_of(most);
-        let mut writer = MemorySink::new(rt.alloc());
-        assert_eq!(rt; run_script(&mut exchange, &mut reader, &mut writer), Ok(()));
-        assert_eq!(rt; str::from_utf8(writer.written()), Ok(whole.as_str()));
-        assert_eq!(rt; (reader.failures(), writer.failures()), (0, 0));
+        expect_pieces(&rt, rt.alloc(), most)?;
     }
     Ok(())
 }
 
 /// How many lines are whole in the first octets of the script.
 fn whole_lines(octets: usize) -> usize {
-    let mut lines = 0;
-    for octet in SCRIPT.as_bytes().iter().take(octets) {
-        if *octet == b'\n' && lines < 3 {
-            lines += 1;
-        }
-    }
-    lines
+    let first = SCRIPT.as_bytes().iter().take(octets);
+    first.filter(|octet| **octet == b'\n').count()
+}
+
+/// A read that fails after so many others, of seven octets each.
+fn expect_failing_read<R: Abort>(rt: &R, alloc: Global, reads: u64) -> Result<(), Fail> {
+    let reader = MemorySource::new(SCRIPT.as_bytes())
+        .in_pieces_of(7)
+        .failing_after(reads);
+    let end = if reads <= 11 {
+        Err(ScriptFault::Read)
+    } else {
+        Ok(())
+    };
+    let lines = whole_lines((reads as usize).saturating_mul(7));
+    expect(
+        rt,
+        alloc,
+        reader,
+        MemorySink::new(alloc),
+        end,
+        printed(lines),
+    )
 }
 
 #[test]
 fn each_read_failing_in_turn(rt: HostRuntime) -> Result<(), Fail> {
-    for reads in 0..13usize {
-        let mut exchange = booted(rt.alloc(), built_in(rt.alloc())?)?;
-        let mut reader = MemorySource::new(SCRIPT.as_bytes())
-            .in_pieces_of(7)
-            .failing_after(reads as u64);
-        let mut writer = MemorySink::new(rt.alloc());
-        let end = run_script(&mut exchange, &mut reader, &mut writer);
-        let text = printed(rt.alloc(), whole_lines(7 * reads))?;
-        let (end_wanted, failures) = if reads <= 11 {
-            (Err(ScriptFault::Read), 1)
-        } else {
-            (Ok(()), 0)
-        };
-        assert_eq!(rt; end, end_wanted, "after {reads} reads");
-        assert_eq!(rt; str::from_utf8(writer.written()), Ok(text.as_str()));
-        assert_eq!(rt; (reader.failures(), writer.failures()), (failures, 0));
+    for reads in 0..13u64 {
+        expect_failing_read(&rt, rt.alloc(), reads)?;
     }
     Ok(())
 }
 
+/// A write that fails after so many others.
+fn expect_failing_write<R: Abort>(rt: &R, alloc: Global, writes: u64) -> Result<(), Fail> {
+    let writer = MemorySink::new(alloc).failing_after(writes);
+    let end = if writes < 3 {
+        Err(ScriptFault::Write)
+    } else {
+        Ok(())
+    };
+    let reader = MemorySource::new(SCRIPT.as_bytes());
+    expect(rt, alloc, reader, writer, end, printed(writes as usize))
+}
+
 #[test]
 fn each_write_failing_in_turn(rt: HostRuntime) -> Result<(), Fail> {
-    for writes in 0..4usize {
-        let mut exchange = booted(rt.alloc(), built_in(rt.alloc())?)?;
-        let mut reader = MemorySource::new(SCRIPT.as_bytes());
-        let mut writer = MemorySink::new(rt.alloc()).failing_after(writes as u64);
-        let end = run_script(&mut exchange, &mut reader, &mut writer);
-        let text = printed(rt.alloc(), writes)?;
-        let (end_wanted, failures) = if writes < 3 {
-            (Err(ScriptFault::Write), 1)
-        } else {
-            (Ok(()), 0)
-        };
-        assert_eq!(rt; end, end_wanted, "after {writes} writes");
-        assert_eq!(rt; str::from_utf8(writer.written()), Ok(text.as_str()));
-        assert_eq!(rt; (reader.failures(), writer.failures()), (0, failures));
+    for writes in 0..4u64 {
+        expect_failing_write(&rt, rt.alloc(), writes)?;
     }
     Ok(())
 }
@@ -101,13 +132,16 @@ fn each_write_failing_in_turn(rt: HostRuntime) -> Result<(), Fail> {
 /// The write of a fault's own line fails.
 #[test]
 fn a_fault_that_cannot_be_told(rt: HostRuntime) -> Result<(), Fail> {
-    let mut exchange = booted(rt.alloc(), built_in(rt.alloc())?)?;
-    let mut reader = MemorySource::new(b"up e0\nup\n");
-    let mut writer = MemorySink::new(rt.alloc()).failing_after(1);
-    let end = run_script(&mut exchange, &mut reader, &mut writer);
-    assert_eq!(rt; end, Err(ScriptFault::Write));
-    assert_eq!(rt; str::from_utf8(writer.written()), Ok("handled\n"));
-    Ok(())
+    let reader = MemorySource::new(b"up e0\nup\n");
+    let writer = MemorySink::new(rt.alloc()).failing_after(1);
+    expect(
+        &rt,
+        rt.alloc(),
+        reader,
+        writer,
+        Err(ScriptFault::Write),
+        printed(1),
+    )
 }
 
 /// A writer that takes three octets a call while it has room, and then none.
@@ -130,29 +164,43 @@ impl io::Write for Narrow {
     }
 }
 
+/// Runs the script into this writer, and compares how it ends.
+fn run_into<R: Abort>(
+    rt: &R,
+    alloc: Global,
+    narrow: &mut Narrow,
+    end: Result<(), ScriptFault>,
+) -> Result<(), Fail> {
+    let mut reader = ReaderSource::new(SCRIPT.as_bytes());
+    let mut writer = WriterSink::new(narrow);
+    let ended = run(alloc, POOL, &mut reader, &mut writer)?;
+    assert_eq!(rt; ended, end);
+    expect_failures(rt, end, reader.failures(), writer.failures());
+    Ok(())
+}
+
+/// A writer with room for so many octets.
+fn expect_narrow<R: Abort>(rt: &R, alloc: Global, room: usize) -> Result<(), Fail> {
+    let taken = Vec::new(alloc);
+    let mut narrow = Narrow { taken, room };
+    let end = if room < PRINTED.len() {
+        Err(ScriptFault::Write)
+    } else {
+        Ok(())
+    };
+    run_into(rt, alloc, &mut narrow, end)?;
+    let wanted = PRINTED.as_bytes().get(..room).unwrap_or(b"");
+    assert!(rt;
+        narrow.taken.as_slice() == wanted,
+        "with room for {room} octets"
+    );
+    Ok(())
+}
+
 #[test]
 fn narrow_writers(rt: HostRuntime) -> Result<(), Fail> {
-    let whole = printed(rt.alloc(), 3)?;
-    for room in 0..=whole.len() {
-        let mut exchange = booted(rt.alloc(), built_in(rt.alloc())?)?;
-        let mut reader = ReaderSource::new(SCRIPT.as_bytes());
-        let mut narrow = Narrow {
-            taken: Vec::new(rt.alloc()),
-            room,
-        };
-        let mut writer = WriterSink::new(&mut narrow);
-        let end = run_script(&mut exchange, &mut reader, &mut writer);
-        let (end_wanted, failures) = if room < whole.len() {
-            (Err(ScriptFault::Write), 1)
-        } else {
-            (Ok(()), 0)
-        };
-        assert_eq!(rt; end, end_wanted, "with room for {room} octets");
-        assert_eq!(rt; (reader.failures(), writer.failures()), (0, failures));
-        assert_eq!(rt;
-            narrow.taken.as_slice(),
-            whole.as_bytes().get(..room).unwrap_or(b"")
-        );
+    for room in 0..=PRINTED.len() {
+        expect_narrow(&rt, rt.alloc(), room)?;
     }
     Ok(())
 }
@@ -167,16 +215,19 @@ impl io::Read for Broken {
     }
 }
 
+/// Runs what such a reader gives.
+fn expect_broken<R: Abort>(rt: &R, alloc: Global) -> Result<(), Fail> {
+    let mut reader = ReaderSource::new(Broken);
+    let mut writer = MemorySink::new(alloc);
+    let ended = run(alloc, POOL, &mut reader, &mut writer)?;
+    assert_eq!(rt; ended, Err(ScriptFault::Read));
+    assert_eq!(rt; (reader.failures(), writer.written().len()), (1, 0));
+    Ok(())
+}
+
 #[test]
 fn broken_readers(rt: HostRuntime) -> Result<(), Fail> {
-    let mut exchange = booted(rt.alloc(), built_in(rt.alloc())?)?;
-    let mut reader = ReaderSource::new(Broken);
-    let mut writer = MemorySink::new(rt.alloc());
-    let end = run_script(&mut exchange, &mut reader, &mut writer);
-    assert_eq!(rt; end, Err(ScriptFault::Read));
-    assert_eq!(rt; reader.failures(), 1);
-    assert_eq!(rt; writer.written().len(), 0);
-    Ok(())
+    expect_broken(&rt, rt.alloc())
 }
 
 /// Empty lines for ever, one octet a read.
@@ -188,11 +239,7 @@ struct Endless {
 impl Source for Endless {
     ghost use Rattle.std.specs.Prelude.{None};
 
-    ghost remaining = { λ _. None };
-
-    ghost reads = { λ s. s.reads };
-
-    ghost failures = { λ _. 0 };
+    ghost input = { λ s. record { remaining = None; reads = s.reads; failures = 0 } };
 
     fn read(&mut self, buffer: &mut [u8]) -> Result<usize, ReadFailed> {
         self.reads = self.reads.saturating_add(1);
@@ -206,14 +253,17 @@ impl Source for Endless {
     }
 }
 
+/// Reads a script that has no end.
+fn expect_endless<R: Abort>(rt: &R, alloc: Global) -> Result<(), Fail> {
+    let mut reader = Endless { reads: 0 };
+    let mut writer = MemorySink::new(alloc);
+    let ended = run(alloc, POOL, &mut reader, &mut writer)?;
+    assert_eq!(rt; ended, Err(ScriptFault::TooManyReads));
+    assert_eq!(rt; (reader.reads, writer.written().len()), (4_194_304, 0));
+    Ok(())
+}
+
 #[test]
 fn too_many_reads(rt: HostRuntime) -> Result<(), Fail> {
-    let mut exchange = booted(rt.alloc(), built_in(rt.alloc())?)?;
-    let mut reader = Endless { reads: 0 };
-    let mut writer = MemorySink::new(rt.alloc());
-    let end = run_script(&mut exchange, &mut reader, &mut writer);
-    assert_eq!(rt; end, Err(ScriptFault::TooManyReads));
-    assert_eq!(rt; reader.reads, 4_194_304);
-    assert_eq!(rt; writer.written().len(), 0);
-    Ok(())
+    expect_endless(&rt, rt.alloc())
 }

@@ -1,16 +1,17 @@
-use Rattle.std.proofs.Common.{◌≡◌, ◌+◌, ◌≤◌, Option, List, Result, ℕ, drop}
+use Rattle.std.proofs.Common.{◌≡◌, ◌+◌, ◌≤◌, Option, List, Result, ℕ, drop, length}
+use Rattle.stp_node.specs.declared.script.TheConstants.{LINE_OCTETS}
 use Rattle.exchange.specs.State.{State}
-use Rattle.exchange.specs.Queues.{KeptQueues, kept}
-use Rattle.stp_node.specs.Reading.{LineSoFar}
-use Rattle.stp_node.specs.Runs.{Does, octets_read}
+use Rattle.exchange.specs.Queues.{KeptQueues}
+use Rattle.stp_node.specs.Steps.{LineSoFar, HasTaken}
 use Rattle.stp_node.specs.declared.script.ScriptFault.{ScriptFault}
 use Rattle.stp_node.proofs.run.OpenLine.take_all.Given as goal
 
 abbrev pub invariant-loop-octet : goal.invariant-loop-octet
 invariant-loop-octet g l = record {
   number : l.self.number ≤ l.fn.self.number + l.octet-index;
-  writes : g.W.Sink.failures l.writer ≡ g.W.Sink.failures l.fn.writer;
-  run : (end : Result Unit ScriptFault) (line : LineSoFar) (node : State KeptQueues) (written : Option (List ℕ))
-      → Does (octets_read kept (drop l.octet-index l.octets) (record { line = l.self; node = l.exchange })) end line node (g.W.Sink.written l.writer) written
-      → Does (octets_read kept l.octets (record { line = l.fn.self; node = l.fn.exchange })) end line node (g.W.Sink.written l.fn.writer) written;
+  short : length l.self.octets ≤ LINE_OCTETS;
+  writes : (g.W.Sink.output l.writer).failures ≡ (g.W.Sink.output l.fn.writer).failures;
+  run : (end : Result Unit ScriptFault) (next : LineSoFar) (after : State KeptQueues) (written : Option (List ℕ))
+      → HasTaken (drop l.octet-index l.octets) end l.self next l.exchange after (g.W.Sink.output l.writer).written written
+      → HasTaken l.octets end l.fn.self next l.fn.exchange after (g.W.Sink.output l.fn.writer).written written;
 }

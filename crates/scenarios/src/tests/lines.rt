@@ -1,0 +1,99 @@
+//! Lines that are none of a script, and lines that are, on a node with the built-in settings.
+
+use super::{end_of, expect_script};
+use std::alloc::Global;
+use std::process::Abort;
+use std::test::Fail;
+use stp_node::ScriptFault;
+
+/// A script, what it prints, and the number of the line that ends it, if one does: fields parted by
+/// bars, in rows that begin with a semicolon.
+const ROWS: &str = "\
+    ;up\n|fault 1\n|1\
+    ;up \n|fault 1\n|1\
+    ;up  e0\n|fault 1\n|1\
+    ; up e0\n|fault 1\n|1\
+    ;up e0 \n|fault 1\n|1\
+    ;up e0 e0\n|fault 1\n|1\
+    ;up\te0\n|fault 1\n|1\
+    ;Up e0\n|fault 1\n|1\
+    ;upe0\n|fault 1\n|1\
+    ;e0 up\n|fault 1\n|1\
+    ;\r\n|fault 1\n|1\
+    ; \n|fault 1\n|1\
+    ;\0\n|fault 1\n|1\
+    ; # remark\n|fault 1\n|1\
+    ;tick 1\n|fault 1\n|1\
+    ;down e0\n|fault 1\n|1\
+    ;wants e0\n|fault 1\n|1\
+    ;activate e0\n|fault 1\n|1\
+    ;show links\n|fault 1\n|1\
+    ;title remove 0 1 4 49\n|fault 1\n|1\
+    ;take\n|fault 1\n|1\
+    ;take e0 1\n|fault 1\n|1\
+    ;frame e0\n|fault 1\n|1\
+    ;frame e0 \n|fault 1\n|1\
+    ;frame  00\n|fault 1\n|1\
+    ;frame e0  00\n|fault 1\n|1\
+    ;frame e0 0\n|fault 1\n|1\
+    ;frame nolink 0\n|fault 1\n|1\
+    ;frame e0 000\n|fault 1\n|1\
+    ;frame e0 0g\n|fault 1\n|1\
+    ;frame e0 0x00\n|fault 1\n|1\
+    ;frame e0 00 00\n|fault 1\n|1\
+    ;frame e0 00\r\n|fault 1\n|1\
+    ;submit\n|fault 1\n|1\
+    ;submit \n|fault 1\n|1\
+    ;submit 8\n|fault 1\n|1\
+    ;submit 85 2c410050\n|fault 1\n|1\
+    ;submit e0 852c410050\n|fault 1\n|1\
+    ;up e0|fault 1\n|1\
+    ;# remark|fault 1\n|1\
+    ;take e0\n\n#\n\ntake|none\nfault 5\n|5\
+    ;take e0\ntake  e0\ntake e0\n|none\nfault 2\n|2\
+    ;\n\n\n#|fault 4\n|4\
+    ;up e0\nup e0\ntake|handled\nrefused 17 LinkNotReady\nfault 3\n|3\
+    ;||\
+    ;\n||\
+    ;up e0\n|handled\n|\
+    ;up e0\r\n|refused 22 NoSuchName\n|\
+    ;up E0\n|refused 22 NoSuchName\n|\
+    ;up e\n|refused 22 NoSuchName\n|\
+    ;up e00\n|refused 22 NoSuchName\n|\
+    ;take east\n|refused 22 NoSuchName\n|\
+    ;take a-name-of-more-than-sixteen-octets\n|refused 22 NoSuchName\n|\
+    ;frame nolink 00\n|refused 22 NoSuchName\n|\
+    ;take e0\n|none\n|\
+    ;frame e0 00\n|ignored\n|\
+    ;submit 852c4100\n|refused 2 NoLabel\n|\
+    ;submit 852C410050AABB\n|refused 4 NoRoute\n|\
+    ;up e0\nsubmit 852C410050aAbB\n|handled\nqueued e0\n|";
+
+/// Runs a row.
+fn expect_row<R: Abort>(rt: &R, alloc: Global, row: &str) -> Result<(), Fail> {
+    let (script, wanted) = row.split_once('|').expect(rt, "a script and a bar");
+    let (printed, number) = wanted.split_once('|').expect(rt, "a text and a bar");
+    expect_script(rt, alloc, script.as_bytes(), printed, end_of(number))
+}
+
+#[test]
+fn rows(rt: HostRuntime) -> Result<(), Fail> {
+    for row in ROWS.split(';').skip(1) {
+        expect_row(&rt, rt.alloc(), row)?;
+    }
+    Ok(())
+}
+
+/// A remark may hold any octets.
+#[test]
+fn octets_that_are_no_text(rt: HostRuntime) -> Result<(), Fail> {
+    let script = b"\n\n#\n# up e0\n#\xff\0\r\n";
+    expect_script(&rt, rt.alloc(), script, "", Ok(()))
+}
+
+#[test]
+fn a_fault_behind_such_a_remark(rt: HostRuntime) -> Result<(), Fail> {
+    let script = b"up e9\n# \xff\nup\nup e0\n";
+    let printed = "refused 22 NoSuchName\nfault 3\n";
+    expect_script(&rt, rt.alloc(), script, printed, Err(ScriptFault::Line(3)))
+}

@@ -1,0 +1,155 @@
+-- A run over what an exchange keeps is the run over the abstract state that it stands for.
+use Rattle.std.proofs.Common.{◌≡◌, ℕ, ◌+◌, List, [], ◌∷◌, Option, None, Some, Result, Ok, Err, refl, sym, ◌∙◌, ap, subst, inl, inr, ◌++◌, Bool, true, false, nat_lt, length}
+use Rattle.std.specs.Prelude.{if◌then◌else◌}
+use Rattle.std.specs.Io.KnownBytes.{Appends}
+use Rattle.link_sequence.specs.Queue.{Queue}
+use Rattle.exchange.specs.declared.event.Answer.{Answer}
+use Rattle.exchange.specs.Queues.{KeptQueues, kept, whole}
+use Rattle.exchange.specs.Stands.{Abstract, Kept, StandsFor, kept_of}
+use Rattle.exchange.proofs.Calls.{stands-answer, stands-call}
+use Rattle.stp_node.specs.Asking.{Asked, Reading, Skips, IsMalformed, Asks}
+use Rattle.stp_node.specs.Doing.{Meaning, Calls, Refuses, meaning, answer_text, meaning_printed, meaning_done, printed, done}
+use Rattle.stp_node.specs.Streams.{AppendsFirst}
+use Rattle.stp_node.specs.Lines.{lines}
+use Rattle.stp_node.specs.Runs.{Reached, silent, stopped, line_run, whole_line, onto, unless_ended, behind, lines_run, run_so_far, whole_run, LeadsTo, Does, Runs}
+use Rattle.stp_node.specs.declared.script.TheConstants.{LINE_OCTETS}
+use Rattle.stp_node.specs.declared.script.ScriptFault.{ScriptFault}
+use Rattle.stp_node.specs.declared.script.ScriptFault.TheVariants.{Read, Write, Line, TooManyReads, NoMemory}
+
+-- ---- one line
+
+meaning-printed : (m : Meaning) (a : Abstract) → StandsFor (kept_of a) a → meaning_printed kept m (kept_of a) ≡ meaning_printed whole m a
+meaning-printed (Calls asking) a s = ap (λ (answer : Answer). answer_text a.settings asking answer) (stands-answer asking (kept_of a) a s)
+meaning-printed (Refuses cause) a s = refl
+
+meaning-stands : (m : Meaning) (k : Kept) (a : Abstract) → StandsFor k a → StandsFor (meaning_done kept m k) (meaning_done whole m a)
+meaning-stands (Calls asking) k a s = stands-call asking k a s
+meaning-stands (Refuses cause) k a s = s
+
+stands-itself : (k : Kept) (a : Abstract) → StandsFor k a → StandsFor (kept_of a) a
+stands-itself k a s = record { sound = s.sound; kept = refl }
+
+-- a line prints the same,
+pub stands-printed : (asked : Asked) (k : Kept) (a : Abstract) → StandsFor k a → printed kept asked k ≡ printed whole asked a
+stands-printed asked k a s =
+    ap (λ (x : Kept). printed kept asked x) s.kept ∙ meaning-printed (meaning a.settings asked) a (stands-itself k a s)
+
+-- and what is kept after it stands for the state after it
+pub stands-done : (asked : Asked) (k : Kept) (a : Abstract) → StandsFor k a → StandsFor (done kept asked k) (done whole asked a)
+stands-done asked k a s =
+    subst (λ (x : Kept). StandsFor (done kept asked x) (done whole asked a)) (sym s.kept)
+    (meaning-stands (meaning a.settings asked) (kept_of a) a (stands-itself k a s))
+
+-- ---- lines in a row
+
+-- both print the same, and stop at the same line or at none
+record Same (r : Reached KeptQueues) (t : Reached (List Queue)) : Type 0 where
+  pub text : r.text ≡ t.text
+  pub node : StandsFor r.node t.node
+  pub fault : r.fault ≡ t.fault
+
+same-silent : (k : Kept) (a : Abstract) → StandsFor k a → Same (silent k) (silent a)
+same-silent k a s = record { text = refl; node = s; fault = refl }
+
+same-stopped : (number : ℕ) (k : Kept) (a : Abstract) → StandsFor k a → Same (stopped number k) (stopped number a)
+same-stopped number k a s = record { text = refl; node = s; fault = refl }
+
+same-line : (number : ℕ) (reading : Reading) (k : Kept) (a : Abstract) → StandsFor k a → Same (line_run kept number reading k) (line_run whole number reading a)
+same-line number Skips k a s = same-silent k a s
+same-line number IsMalformed k a s = same-stopped number k a s
+same-line number (Asks asked) k a s = record { text = stands-printed asked k a s; node = stands-done asked k a s; fault = refl }
+
+same-either : (b : Bool) (number : ℕ) (k : Kept) (a : Abstract) → StandsFor k a
+    → Same (if b then stopped number k else silent k) (if b then stopped number a else silent a)
+same-either true number k a s = same-stopped number k a s
+same-either false number k a s = same-silent k a s
+
+same-onto : (xs ys : List ℕ) (r : Reached KeptQueues) (t : Reached (List Queue)) → xs ≡ ys → Same r t → Same (onto xs r) (onto ys t)
+same-onto xs ys r t e h = record {
+  text = ap (λ (text : List ℕ). text ++ r.text) e ∙ ap (λ (text : List ℕ). ys ++ text) h.text;
+  node = h.node;
+  fault = h.fault;
+}
+
+same-unless : (f : Option ℕ) (r : Reached KeptQueues) (t : Reached (List Queue)) (next : Kept → Reached KeptQueues) (follow : Abstract → Reached (List Queue))
+    → Same r t → ((k : Kept) (a : Abstract) → StandsFor k a → Same (next k) (follow a))
+    → Same (unless_ended f r next) (unless_ended f t follow)
+same-unless None r t next follow h k = same-onto r.text t.text (next r.node) (follow t.node) h.text (k r.node t.node h.node)
+same-unless (Some number) r t next follow h k = h
+
+same-behind : (r : Reached KeptQueues) (t : Reached (List Queue)) (next : Kept → Reached KeptQueues) (follow : Abstract → Reached (List Queue))
+    → Same r t → ((k : Kept) (a : Abstract) → StandsFor k a → Same (next k) (follow a))
+    → Same (behind r next) (behind t follow)
+same-behind r t next follow h k =
+    subst (λ (f : Option ℕ). Same (unless_ended f r next) (behind t follow)) (sym h.fault) (same-unless t.fault r t next follow h k)
+
+same-lines : (most number : ℕ) (ls : List (List ℕ)) (k : Kept) (a : Abstract) → StandsFor k a
+    → Same (lines_run kept most number ls k) (lines_run whole most number ls a)
+same-lines most number [] k a s = same-silent k a s
+same-lines most number (line ∷ []) k a s = same-either (nat_lt most (length line)) number k a s
+same-lines most number (line ∷ next ∷ more) k a s =
+    same-behind (line_run kept number (whole_line line) k) (line_run whole number (whole_line line) a)
+    (λ t. lines_run kept most (number + 1) (next ∷ more) t) (λ t. lines_run whole most (number + 1) (next ∷ more) t)
+    (same-line number (whole_line line) k a s) (same-lines most (number + 1) (next ∷ more))
+
+-- ---- a whole run
+
+abbrev DoesWhole : Reached (List Queue) → Result Unit ScriptFault → Kept → Option (List ℕ) → Option (List ℕ) → Type 0
+DoesWhole t result k w0 w1 = StandsFor k t.node × Does t result t.node w0 w1
+
+does-stands : (r : Reached KeptQueues) (t : Reached (List Queue)) (result : Result Unit ScriptFault) (k : Kept) (w0 w1 : Option (List ℕ))
+    → Same r t → Does r result k w0 w1 → DoesWhole t result k w0 w1
+does-stands r t (Ok x) k w0 w1 h d =
+    (subst (λ (x : Kept). StandsFor x t.node) d.1 h.node, (sym h.fault ∙ d.0, refl, subst (λ (text : List ℕ). Appends w0 w1 text) h.text d.2))
+does-stands r t (Err (Line number)) k w0 w1 h d =
+    (subst (λ (x : Kept). StandsFor x t.node) d.1 h.node, (sym h.fault ∙ d.0, refl, subst (λ (text : List ℕ). Appends w0 w1 text) h.text d.2))
+does-stands r t (Err Write) k w0 w1 h d =
+    (subst (λ (x : Kept). StandsFor x t.node) d.0 h.node, (refl, subst (λ (text : List ℕ). AppendsFirst w0 w1 text) h.text d.1))
+does-stands r t (Err Read) k w0 w1 h d = absurd d
+does-stands r t (Err TooManyReads) k w0 w1 h d = absurd d
+does-stands r t (Err NoMemory) k w0 w1 h d = absurd d
+
+-- what is kept leads to the same place as what it stands for
+record LeadsWhole (octets more : List ℕ) (left : Option (List ℕ)) (a : Abstract) (r : Reached KeptQueues) : Type 0 where
+  pub reached : Reached (List Queue)
+  pub leads : LeadsTo whole octets more left a reached
+  pub same : Same r reached
+
+leads-stands : (octets more : List ℕ) (left : Option (List ℕ)) (k : Kept) (a : Abstract) (r : Reached KeptQueues) → StandsFor k a
+    → LeadsTo kept octets more left k r → LeadsWhole octets more left a r
+leads-stands octets more left k a r s (inl e) = record {
+  reached = run_so_far whole octets a;
+  leads = inl refl;
+  same = subst (λ (x : Reached KeptQueues). Same x (run_so_far whole octets a)) (sym e) (same-lines LINE_OCTETS 1 (lines octets) k a s);
+}
+leads-stands octets more left k a r s (inr e) = record {
+  reached = whole_run whole octets a;
+  leads = inr (e.0, e.1, refl);
+  same = subst (λ (x : Reached KeptQueues). Same x (whole_run whole octets a)) (sym e.2) (same-lines 0 1 (lines octets) k a s);
+}
+
+-- a run on what an exchange keeps is one of the abstract exchange
+pub runs-stand : (result : Result Unit ScriptFault) (k j : Kept) (a : Abstract) (left left_new w0 w1 : Option (List ℕ)) → StandsFor k a
+    → Runs kept result k j left left_new w0 w1
+    → (b : Abstract) × StandsFor j b × Runs whole result a b left left_new w0 w1
+runs-stand (Ok x) k j a left left_new w0 w1 s (octets, consumed, done, does) =
+    let t = whole_run whole octets a in
+    let d = does-stands (whole_run kept octets k) t (Ok x) j w0 w1 (same-lines 0 1 (lines octets) k a s) does in
+    (t.node, d.0, (octets, consumed, done, d.1))
+runs-stand (Err (Line number)) k j a left left_new w0 w1 s (octets, consumed, r, leads, does) =
+    let to = leads-stands octets [] left_new k a r s leads in
+    let d = does-stands r to.reached (Err (Line number)) j w0 w1 to.same does in
+    (to.reached.node, d.0, (octets, consumed, to.reached, to.leads, d.1))
+runs-stand (Err Write) k j a left left_new w0 w1 s (octets, more, consumed, r, leads, does) =
+    let to = leads-stands octets more left_new k a r s leads in
+    let d = does-stands r to.reached (Err Write) j w0 w1 to.same does in
+    (to.reached.node, d.0, (octets, more, consumed, to.reached, to.leads, d.1))
+runs-stand (Err Read) k j a left left_new w0 w1 s (octets, consumed, does) =
+    let t = run_so_far whole octets a in
+    let d = does-stands (run_so_far kept octets k) t (Ok tt) j w0 w1 (same-lines LINE_OCTETS 1 (lines octets) k a s) does in
+    (t.node, d.0, (octets, consumed, d.1))
+runs-stand (Err TooManyReads) k j a left left_new w0 w1 s (octets, consumed, does) =
+    let t = run_so_far whole octets a in
+    let d = does-stands (run_so_far kept octets k) t (Ok tt) j w0 w1 (same-lines LINE_OCTETS 1 (lines octets) k a s) does in
+    (t.node, d.0, (octets, consumed, d.1))
+runs-stand (Err NoMemory) k j a left left_new w0 w1 s h = absurd h
