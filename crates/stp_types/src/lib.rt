@@ -9,6 +9,6 @@ pub use settings_rows::{
     SetDraft, SetRow, TimerKey, TimerTicks, TimersDraft, TitleDraft, TitleRow,
 };
 pub use signalling_types::{
-    Cause, ChangeoverTimer, FailureReason, Flow, FrameFault, LateTimer, Limits, LinkId, Msu, MsuRef,
-    Notice, Outcome, PointCode, SetId, Sls, Ssn,
+    Cause, ChangeoverTimer, FailureReason, Flow, FrameFault, LateTimer, Limits, LinkId, Msu,
+    MsuRef, Notice, Outcome, PointCode, SetId, Sls, Ssn,
 };
