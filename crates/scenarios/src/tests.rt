@@ -1,6 +1,7 @@
 //! What the rows share.
 
 mod calls;
+mod checked_settings;
 mod lines;
 mod long_lines;
 mod program;
