@@ -57,6 +57,7 @@ impl Model for Exchange {
 
 impl Exchange {
     /// Takes in what happened, and says what became of it.
+    #[inline(always)]
     pub fn step(&mut self, event: &Event<'_>) -> Outcome
         // For every abstract state that the exchange stood for, the outcome is that of the abstract step,
         ensures outcome { (a : Abstract) → StandsFor self.old a →
@@ -76,6 +77,7 @@ impl Exchange {
     /// octets: the next message while the window allows, else the acknowledgement that is owed (RFC 4165 §4).
     ///
     /// None, and nothing is written, where the link isn't there or has nothing to send.
+    #[inline(always)]
     pub fn take(&mut self, link: LinkId, buffer: &mut [u8; BUFFER_OCTETS]) -> Option<usize>
         // For every abstract state that the exchange stood for, the frame is that of the abstract take,
         ensures frame { (a : Abstract) → StandsFor self.old a →
@@ -94,6 +96,7 @@ impl Exchange {
 
 impl Exchange {
     /// Hands an event to its handler.
+    #[inline(always)]
     fn apply(&mut self, event: &Event<'_>) -> Outcome
         ensures { Ends self.old result self.new (rule.apply kept self.old.settings (happened event.now) self.old.node) }
     {

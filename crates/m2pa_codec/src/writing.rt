@@ -13,6 +13,7 @@ use stp_types::Limits;
 /// Writes the frame at the front of the buffer, and answers how many octets it has: 16, or 18 and
 /// those of the message's field. Spare, unused and priority octets are 0. The buffer behind the
 /// frame may hold anything afterwards (RFC 4165 §2).
+#[inline(always)]
 pub fn encode(frame: &Frame<'_>, out: &mut [u8; BUFFER_OCTETS]) -> usize
     requires { length (sif_of (value_of frame.now)) ≤ Limits.SIF_OCTETS }
     ensures count { result ≡ length (spelled (value_of frame.now)) }
@@ -25,6 +26,7 @@ pub fn encode(frame: &Frame<'_>, out: &mut [u8; BUFFER_OCTETS]) -> usize
 }
 
 /// Writes the frame at the front of the buffer.
+#[inline(always)]
 fn write(frame: &Frame<'_>, out: &mut [u8; BUFFER_OCTETS]) -> usize
     requires { length (sif_of (value_of frame.now)) ≤ Limits.SIF_OCTETS }
     ensures count { result ≡ length (spelled (value_of frame.now)) }
@@ -47,6 +49,7 @@ fn write(frame: &Frame<'_>, out: &mut [u8; BUFFER_OCTETS]) -> usize
 }
 
 /// Both headers of a frame of this message type, of this many octets in all.
+#[inline(always)]
 fn header(kind: u8, octets: u32, bsn: Number24, fsn: Number24) -> [u8; HEADER_OCTETS]
     ensures text { result ≡ common_header 0 kind octets ++ number_header 0 bsn 0 fsn }
     ensures bsn { bsn < 2 ^ 24 }
@@ -61,6 +64,7 @@ fn header(kind: u8, octets: u32, bsn: Number24, fsn: Number24) -> [u8; HEADER_OC
 }
 
 /// Writes the octets from a place on, and answers the place behind them.
+#[inline(always)]
 fn write_at(out: &mut [u8; BUFFER_OCTETS], at: usize, octets: &[u8]) -> usize
     requires { at + length octets.now ≤ 300 }
     ensures count { result ≡ at + length octets.now }

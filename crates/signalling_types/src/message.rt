@@ -1,6 +1,6 @@
 //! A message signal unit, in place.
 
-ghost use Rattle.std.specs.Prelude.{◌≡◌, ◌-◌, ◌^◌, ◌<◌, ◌≤◌, ◌++◌, ◌↔◌, length, replicate, IsErr, IfOk, IfErr};
+ghost use Rattle.std.specs.Prelude.{◌≡◌, ◌-◌, ◌^◌, ◌<◌, ◌≤◌, ◌++◌, ◌↔◌, length, drop, replicate, IsErr, IfOk, IfErr};
 ghost use Rattle.signalling_types.specs.Message.{Message, service_indicator, network_indicator, is_management};
 ghost use Rattle.signalling_types.specs.Lent.{lent};
 
@@ -39,6 +39,7 @@ impl Msu {
     /// The message of a service information octet and a signalling information field.
     ///
     /// Refused TooLong exactly where the field has more than 272 octets.
+    #[inline(always)]
     pub fn new(sio: u8, sif: &[u8]) -> Result<Msu, Cause>
         ensures long { IsErr result ↔ (Limits.SIF_OCTETS < length sif.now) }
         ensures cause { IfErr result (λ cause. cause ≡ Cause.TooLong) }
@@ -47,14 +48,17 @@ impl Msu {
         if sif.len() > Limits::SIF_OCTETS {
             return Err(Cause::TooLong);
         }
-        Ok(Msu {
-            octets: padded(sif),
-            len: sif.len() as u16,
+        let mut message = Msu {
+            octets: [0; Limits::SIF_OCTETS],
+            len: 0,
             sio,
-        })
+        };
+        message.refill(MsuRef { sio, sif });
+        Ok(message)
     }
 
     /// The service information octet.
+    #[inline(always)]
     pub fn sio(&self) -> u8
         ensures { result ≡ self.now.sio }
     {
@@ -62,6 +66,7 @@ impl Msu {
     }
 
     /// The service indicator: 0 management, 1 testing, 3 SCCP, 4 TUP, 5 ISUP (Q.704 §14.2.1).
+    #[inline(always)]
     pub fn service_indicator(&self) -> u8
         ensures value { result ≡ service_indicator self.now }
         ensures fits { service_indicator self.now < 2 ^ 4 }
@@ -70,6 +75,7 @@ impl Msu {
     }
 
     /// The network indicator, 0 to 3 (Q.704 §14.2.2).
+    #[inline(always)]
     pub fn network_indicator(&self) -> u8
         ensures value { result ≡ network_indicator self.now }
         ensures fits { network_indicator self.now < 2 ^ 2 }
@@ -78,6 +84,7 @@ impl Msu {
     }
 
     /// The octets of the signalling information field.
+    #[inline(always)]
     pub fn sif(&self) -> &[u8]
         ensures octets { result.now ≡ self.now.sif }
         ensures fits { length self.now.sif ≤ Limits.SIF_OCTETS }
@@ -86,6 +93,7 @@ impl Msu {
     }
 
     /// The message, lent.
+    #[inline(always)]
     pub fn lend(&self) -> MsuRef<'_>
         ensures message { lent result ≡ self.now }
         ensures fits { length self.now.sif ≤ Limits.SIF_OCTETS }
@@ -101,14 +109,13 @@ impl Msu {
         requires { length message.sif.now ≤ Limits.SIF_OCTETS }
         ensures { self.new ≡ lent message.entry }
     {
-        let (front, rest) = self.octets.split_at_mut(message.sif.len());
-        front.copy_from_slice(message.sif);
-        rest.fill(0);
+        replace(&mut self.octets, self.len as usize, message.sif);
         self.len = message.sif.len() as u16;
         self.sio = message.sio;
     }
 
     /// Whether it is a management or a test message; any other is a user message (Q.704 §14.2.1).
+    #[inline(always)]
     pub fn is_management(&self) -> bool
         ensures { result ≡ is_management self.now }
     {
@@ -116,12 +123,24 @@ impl Msu {
     }
 }
 
-/// The octets, and zeros behind them.
-fn padded(sif: &[u8]) -> [u8; Limits::SIF_OCTETS]
-    requires { length sif.now ≤ Limits.SIF_OCTETS }
-    ensures { result ≡ sif.now ++ replicate (Limits.SIF_OCTETS - length sif.now) 0 }
+/// Becomes these octets and zeros behind them, where zeros stood behind the first `used`.
+fn replace(octets: &mut [u8; Limits::SIF_OCTETS], used: usize, sif: &[u8])
+    requires used { used ≤ Limits.SIF_OCTETS }
+    requires cleared { drop used octets.old ≡ replicate (Limits.SIF_OCTETS - used) 0 }
+    requires fits { length sif.now ≤ Limits.SIF_OCTETS }
+    ensures { octets.new ≡ sif.now ++ replicate (Limits.SIF_OCTETS - length sif.now) 0 }
 {
-    let mut octets = [0; Limits::SIF_OCTETS];
+    clear_behind(octets, sif.len(), used);
     octets[..sif.len()].copy_from_slice(sif);
-    octets
+}
+
+/// Zeros stand behind the first `count`, where they stood behind the first `used`: no others are cleared.
+fn clear_behind(octets: &mut [u8; Limits::SIF_OCTETS], count: usize, used: usize)
+    requires used { used ≤ Limits.SIF_OCTETS }
+    requires cleared { drop used octets.old ≡ replicate (Limits.SIF_OCTETS - used) 0 }
+    ensures { drop count octets.new ≡ replicate (Limits.SIF_OCTETS - count) 0 }
+{
+    if count < used {
+        octets[count..used].fill(0);
+    }
 }

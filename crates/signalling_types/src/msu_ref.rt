@@ -16,6 +16,7 @@ pub struct MsuRef<'a> {
 
 impl MsuRef<'_> {
     /// The service indicator: 0 management, 1 testing, 3 SCCP, 4 TUP, 5 ISUP (Q.704 §14.2.1).
+    #[inline(always)]
     pub fn service_indicator(self) -> u8
         ensures value { result ≡ service_indicator (lent self.entry) }
         ensures fits { service_indicator (lent self.entry) < 2 ^ 4 }
@@ -24,6 +25,7 @@ impl MsuRef<'_> {
     }
 
     /// The network indicator, 0 to 3 (Q.704 §14.2.2).
+    #[inline(always)]
     pub fn network_indicator(self) -> u8
         ensures value { result ≡ network_indicator (lent self.entry) }
         ensures fits { network_indicator (lent self.entry) < 2 ^ 2 }
@@ -32,6 +34,7 @@ impl MsuRef<'_> {
     }
 
     /// Whether it is a management or a test message; any other is a user message (Q.704 §14.2.1).
+    #[inline(always)]
     pub fn is_management(self) -> bool
         ensures { result ≡ is_management (lent self.entry) }
     {

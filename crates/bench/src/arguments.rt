@@ -1,0 +1,83 @@
+//! What the words behind the program's name ask for.
+
+ghost use Rattle.std.specs.Prelude.{◌≤◌, IfSome};
+
+use stp_types::Limits;
+
+/// Octets of a routing label, which each message has (Q.704 §2.2).
+pub(crate) const LABEL_OCTETS: usize = 4;
+
+/// Destinations at least: the adjacent point, and one behind it.
+pub(crate) const FEWEST_DESTINATIONS: usize = 2;
+
+/// What a message meets.
+#[derive(Clone, Copy)]
+pub(crate) enum Kind {
+    /// It comes in a frame and goes out in one, and the next frame that comes confirms it.
+    Forward,
+    /// The same, a window of messages at a time.
+    Burst,
+    /// A user part hands it over, and it goes out in a frame.
+    Submit,
+    /// It comes in a frame for a user part here, and an acknowledgement goes out.
+    Local,
+    /// There is none: an empty frame comes.
+    Acknowledgement,
+}
+
+/// What the words behind the program's name ask for.
+#[derive(Clone, Copy)]
+pub(crate) struct Arguments {
+    pub kind: Kind,
+    pub octets: usize,
+    pub destinations: usize,
+    pub count: u32,
+}
+
+impl Arguments {
+    /// Reads the four words. None where one of them is missing, unknown or out of range.
+    pub(crate) fn read(words: &[String]) -> Option<Arguments>
+        ensures octets { IfSome result (λ arguments. arguments.octets ≤ Limits.SIF_OCTETS) }
+        ensures label { IfSome result (λ arguments. LABEL_OCTETS ≤ arguments.octets) }
+        ensures few { IfSome result (λ arguments. arguments.destinations ≤ Limits.DESTINATIONS) }
+    {
+        let [kind, octets, destinations, count] = words else {
+            return None;
+        };
+        let kind = kind_of(kind.as_str())?;
+        let octets = within(octets.as_str(), LABEL_OCTETS, Limits::SIF_OCTETS)?;
+        let destinations = within(
+            destinations.as_str(),
+            FEWEST_DESTINATIONS,
+            Limits::DESTINATIONS,
+        )?;
+        let count = count.as_str().parse::<u32>().ok()?;
+        Some(Arguments {
+            kind,
+            octets,
+            destinations,
+            count,
+        })
+    }
+}
+
+/// The kind of this name.
+fn kind_of(name: &str) -> Option<Kind> {
+    match name {
+        "forward" => Some(Kind::Forward),
+        "burst" => Some(Kind::Burst),
+        "submit" => Some(Kind::Submit),
+        "local" => Some(Kind::Local),
+        "acknowledgement" => Some(Kind::Acknowledgement),
+        _ => None,
+    }
+}
+
+/// A number in decimal digits, where it is from `least` to `most`.
+fn within(word: &str, least: usize, most: usize) -> Option<usize>
+    ensures above { IfSome result (λ number. least ≤ number) }
+    ensures fits { IfSome result (λ number. number ≤ most) }
+{
+    let number = word.parse::<usize>().ok()?;
+    (least <= number && number <= most).then_some(number)
+}

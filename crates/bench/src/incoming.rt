@@ -1,0 +1,59 @@
+//! Frames of User Data that come in: made once, and numbered in place.
+
+ghost use Rattle.std.specs.Prelude.{◌≤◌, length};
+ghost use Rattle.m2pa_codec.specs.declared.frame.TheConstants.{BUFFER_OCTETS};
+ghost use Rattle.m2pa_codec.specs.Frames.{sif_of};
+ghost use Rattle.m2pa_codec.specs.Values.{value_of};
+
+use exchange::BUFFER_OCTETS;
+use link_number::Number24;
+use m2pa_codec::{Frame, encode};
+use stp_types::Limits;
+
+/// A frame of User Data.
+#[derive(Clone, Copy)]
+pub(crate) struct Incoming {
+    octets: [u8; BUFFER_OCTETS],
+    count: usize,
+    ghost fits: { count ≤ BUFFER_OCTETS },
+}
+
+impl Incoming {
+    /// A frame with a message.
+    pub(crate) fn with_message(sio: u8, sif: &[u8]) -> Incoming
+        requires { length sif.now ≤ Limits.SIF_OCTETS }
+    {
+        let zero = Number24::zero();
+        spelled(&Frame::Message {
+            bsn: zero,
+            fsn: zero,
+            sio,
+            sif,
+        })
+    }
+
+    /// A frame without a message.
+    pub(crate) fn empty() -> Incoming {
+        let zero = Number24::zero();
+        spelled(&Frame::Empty {
+            bsn: zero,
+            fsn: zero,
+        })
+    }
+
+    /// The octets of the frame with these numbers (RFC 4165 §2.2).
+    pub(crate) fn numbered(&mut self, bsn: Number24, fsn: Number24) -> &[u8] {
+        self.octets[9..12].copy_from_slice(&bsn.to_be_bytes());
+        self.octets[13..16].copy_from_slice(&fsn.to_be_bytes());
+        &self.octets[..self.count]
+    }
+}
+
+/// The octets of a frame, in their buffer.
+fn spelled(frame: &Frame<'_>) -> Incoming
+    requires { length (sif_of (value_of frame.now)) ≤ Limits.SIF_OCTETS }
+{
+    let mut octets = [0; BUFFER_OCTETS];
+    let count = encode(frame, &mut octets);
+    Incoming { octets, count }
+}

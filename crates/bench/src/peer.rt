@@ -1,0 +1,107 @@
+//! The peer at the other end of the link, which sends and takes frames and counts what it took.
+
+ghost use Rattle.std.specs.Prelude.{◌≤◌};
+
+use crate::draft::draft_with;
+use crate::incoming::Incoming;
+use exchange::{BUFFER_OCTETS, Event, Exchange};
+use link_number::{Number24, next};
+use std::alloc::Global;
+use stp_types::{Limits, LinkId, Msu, Outcome, Settings};
+
+/// The exchange, and the peer at the other end of its link.
+#[derive(Drop)]
+pub(crate) struct Peer {
+    exchange: Exchange,
+    link: LinkId,
+    // The number of the last message that the peer took, and that of the next one that it sends.
+    taken: Number24,
+    next: Number24,
+    empty: Incoming,
+    buffer: [u8; BUFFER_OCTETS],
+    frames: u64,
+    checksum: u64,
+}
+
+impl Peer {
+    /// The peer of an exchange with so many destinations, its link in service. None where memory ran out.
+    pub(crate) fn of_exchange_with(alloc: Global, destinations: usize) -> Option<Peer>
+        requires { destinations ≤ Limits.DESTINATIONS }
+    {
+        let draft = draft_with(alloc, destinations).ok()?;
+        let settings = Settings::check(alloc, draft).ok()?;
+        let exchange = Exchange::boot(alloc, settings).ok()?;
+        let mut peer = Peer {
+            exchange,
+            link: LinkId::new(0),
+            taken: Number24::zero().previous(),
+            next: Number24::zero(),
+            empty: Incoming::empty(),
+            buffer: [0; BUFFER_OCTETS],
+            frames: 0,
+            checksum: 0,
+        };
+        peer.open();
+        Some(peer)
+    }
+
+    /// Brings the link into service.
+    fn open(&mut self) {
+        self.exchange.step(&Event::AssociationUp(self.link));
+    }
+
+    /// Sends a message in a frame that confirms all that was taken.
+    pub(crate) fn send(&mut self, message: &mut Incoming) {
+        let octets = message.numbered(self.taken, self.next);
+        self.next = next(self.next);
+        self.exchange.step(&Event::Frame(self.link, octets));
+    }
+
+    /// Confirms all that was taken by an empty frame.
+    pub(crate) fn confirm(&mut self) {
+        let octets = self.empty.numbered(self.taken, self.next.previous());
+        self.exchange.step(&Event::Frame(self.link, octets));
+    }
+
+    /// A user part of the exchange hands over a message.
+    pub(crate) fn submit(&mut self, message: Msu) {
+        self.exchange.step(&Event::Submit(message));
+    }
+
+    /// Takes the next message.
+    pub(crate) fn take(&mut self) {
+        self.taken = next(self.taken);
+        self.take_frame();
+    }
+
+    /// Takes the next frame, where there is one, and counts it.
+    pub(crate) fn take_frame(&mut self) {
+        if let Some(count) = self.exchange.take(self.link, &mut self.buffer) {
+            self.frames = self.frames.wrapping_add(1);
+            self.checksum = self.checksum.wrapping_add(sum_of(&self.buffer[..count]));
+        }
+    }
+
+    /// How many frames went out.
+    pub(crate) fn frames(&self) -> u64 {
+        self.frames
+    }
+
+    /// The sum of their words.
+    pub(crate) fn checksum(&self) -> u64 {
+        self.checksum
+    }
+}
+
+/// The sum of a frame's words of eight octets, and of its last eight octets.
+fn sum_of(octets: &[u8]) -> u64 {
+    let (words, _rest) = octets.as_chunks::<8>();
+    let mut sum = 0u64;
+    for word in words {
+        sum = sum.wrapping_add(u64::from_le_bytes(*word));
+    }
+    match octets.last_chunk::<8>() {
+        Some(last) => sum.wrapping_add(u64::from_le_bytes(*last)),
+        None => sum,
+    }
+}

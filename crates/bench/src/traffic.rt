@@ -1,0 +1,110 @@
+//! Messages of one kind, one after another.
+
+ghost use Rattle.std.specs.Prelude.{◌≤◌, length};
+
+use crate::arguments::{Arguments, Kind, LABEL_OCTETS};
+use crate::draft::{ADJACENT, INTERNATIONAL, ISUP, OWN, WINDOW};
+use crate::incoming::Incoming;
+use crate::peer::Peer;
+use routing_label::Label;
+use stp_types::{Limits, Msu, PointCode, Sls};
+
+/// After how many messages an empty frame confirms them.
+const CONFIRMED_AT_ONCE: u32 = 64;
+
+/// The service information octet of ISUP in the international network (Q.704 §14.2).
+const SIO: u8 = INTERNATIONAL << 6 | ISUP;
+
+/// What stands in a message behind its label.
+const FILLING: u8 = 0xaa;
+
+/// Carries the messages.
+pub(crate) fn carry(peer: &mut Peer, arguments: &Arguments)
+    requires octets { arguments.now.octets ≤ Limits.SIF_OCTETS }
+    requires destinations { arguments.now.destinations ≤ Limits.DESTINATIONS }
+{
+    let to = match arguments.kind {
+        Kind::Local => OWN,
+        _ => OWN + arguments.destinations as u16,
+    };
+    let field = longest_field(ADJACENT, to);
+    let sif = &field[..arguments.octets];
+    match arguments.kind {
+        Kind::Forward => forward(peer, sif, arguments.count),
+        Kind::Burst => burst(peer, sif, arguments.count),
+        Kind::Submit => submit(peer, sif, arguments.count),
+        Kind::Local => local(peer, sif, arguments.count),
+        Kind::Acknowledgement => acknowledge(peer, arguments.count),
+    }
+}
+
+/// Messages that come and go on, each confirmed by the next one.
+fn forward(peer: &mut Peer, sif: &[u8], count: u32)
+    requires { length sif.now ≤ Limits.SIF_OCTETS }
+{
+    let mut message = Incoming::with_message(SIO, sif);
+    for _ in 0..count {
+        peer.send(&mut message);
+        peer.take();
+    }
+}
+
+/// The same, a window at a time.
+fn burst(peer: &mut Peer, sif: &[u8], count: u32)
+    requires { length sif.now ≤ Limits.SIF_OCTETS }
+{
+    let mut message = Incoming::with_message(SIO, sif);
+    for _ in 0..count / WINDOW as u32 {
+        for _ in 0..WINDOW {
+            peer.send(&mut message);
+        }
+        for _ in 0..WINDOW {
+            peer.take();
+        }
+    }
+}
+
+/// Messages of a user part that go out.
+fn submit(peer: &mut Peer, sif: &[u8], count: u32) {
+    for number in 0..count {
+        if let Ok(message) = Msu::new(SIO, sif) {
+            peer.submit(message);
+        }
+        peer.take();
+        if number % CONFIRMED_AT_ONCE == 0 {
+            peer.confirm();
+        }
+    }
+}
+
+/// Messages that come for a user part, each acknowledged.
+fn local(peer: &mut Peer, sif: &[u8], count: u32)
+    requires { length sif.now ≤ Limits.SIF_OCTETS }
+{
+    let mut message = Incoming::with_message(SIO, sif);
+    for _ in 0..count {
+        peer.send(&mut message);
+        peer.take_frame();
+    }
+}
+
+/// Frames without a message.
+fn acknowledge(peer: &mut Peer, count: u32) {
+    for _ in 0..count {
+        peer.confirm();
+    }
+}
+
+/// The longest signalling information field: a label from one point to another, and octets behind it.
+fn longest_field(from: u16, to: u16) -> [u8; Limits::SIF_OCTETS] {
+    let mut octets = [FILLING; Limits::SIF_OCTETS];
+    if let (Some(opc), Some(dpc), Some(sls)) = (
+        PointCode::new(from),
+        PointCode::new(to),
+        Sls::new(0),
+    ) {
+        let label = Label { dpc, opc, sls };
+        octets[..LABEL_OCTETS].copy_from_slice(&label.write());
+    }
+    octets
+}

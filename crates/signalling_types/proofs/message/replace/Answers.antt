@@ -1,0 +1,5 @@
+-- What is copied stands in front of the zeros.
+use Rattle.signalling_types.proofs.message.replace.Goals as goal
+
+pub returns : goal.returns
+returns c = rw (c.copy_from_slice.ensures.after, c.clear_behind.ensures)
