@@ -9,7 +9,7 @@ use std::error::Error;
 use std::fmt;
 
 /// What is wrong at a key. The numbers are part of the interface.
-#[derive(Clone, Copy, Debug, PartialEq, Eq)]
+#[derive(Clone, Copy)]
 pub enum FaultKind {
     /// A number out of its range, a malformed text, or an empty list that has to have an entry.
     Range = 4,
@@ -32,7 +32,7 @@ impl FaultKind {
 
 /// The first fault of settings as they were written. It prints as the line that tells it: `fault 4
 /// link[2].slc`, or `fault NoMemory`.
-#[derive(Clone, Copy, Debug, PartialEq, Eq)]
+#[derive(Clone, Copy)]
 pub enum DraftFault {
     /// Memory ran out.
     NoMemory,
@@ -63,6 +63,12 @@ impl fmt::Display for DraftFault {
                 write!(f, "fault {number} {key}")
             }
         }
+    }
+}
+
+impl fmt::Debug for DraftFault {
+    fn fmt<W: fmt::Write>(&self, f: &mut fmt::Formatter<W>) -> fmt::Result {
+        fmt::Display::fmt(self, f)
     }
 }
 

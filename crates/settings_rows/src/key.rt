@@ -1,12 +1,12 @@
 //! The keys of settings, and how they are written.
 
 ghost use Rattle.std.specs.Prelude.{◌≡◌, Some};
-ghost use Rattle.settings_rows.specs.Keys.{timer_name, key_front, key_index, key_back, key_path};
+ghost use Rattle.settings_rows.specs.Keys.{timer_path, key_front, key_index, key_back, key_path};
 
 use std::fmt;
 
 /// The keys of the timers.
-#[derive(Clone, Copy, Debug, PartialEq, Eq)]
+#[derive(Clone, Copy)]
 pub enum TimerKey {
     /// `l1`.
     L1,
@@ -37,31 +37,31 @@ pub enum TimerKey {
 }
 
 impl TimerKey {
-    /// The key's last word.
-    pub fn name(self) -> &'static str
-        ensures { result.now ≡ timer_name self }
+    /// The key's path.
+    pub fn path(self) -> &'static str
+        ensures { result.now ≡ timer_path self }
     {
         match self {
-            TimerKey::L1 => "l1",
-            TimerKey::L2 => "l2",
-            TimerKey::L3 => "l3",
-            TimerKey::L4 => "l4",
-            TimerKey::L6 => "l6",
-            TimerKey::L7 => "l7",
-            TimerKey::T1 => "t1",
-            TimerKey::T2 => "t2",
-            TimerKey::T3 => "t3",
-            TimerKey::T4 => "t4",
-            TimerKey::T6 => "t6",
-            TimerKey::T8 => "t8",
-            TimerKey::T10 => "t10",
+            TimerKey::L1 => "timers.l1",
+            TimerKey::L2 => "timers.l2",
+            TimerKey::L3 => "timers.l3",
+            TimerKey::L4 => "timers.l4",
+            TimerKey::L6 => "timers.l6",
+            TimerKey::L7 => "timers.l7",
+            TimerKey::T1 => "timers.t1",
+            TimerKey::T2 => "timers.t2",
+            TimerKey::T3 => "timers.t3",
+            TimerKey::T4 => "timers.t4",
+            TimerKey::T6 => "timers.t6",
+            TimerKey::T8 => "timers.t8",
+            TimerKey::T10 => "timers.t10",
         }
     }
 }
 
 /// The keys of the settings, with the index where a key stands in an array. A key prints as its
 /// path, as `link[2].slc`.
-#[derive(Clone, Copy, Debug, PartialEq, Eq)]
+#[derive(Clone, Copy)]
 pub enum Key {
     /// `version`.
     Version,
@@ -128,7 +128,7 @@ pub enum Key {
 }
 
 impl Key {
-    /// The key of the whole settings that this one is, or stands under.
+    /// The key's path; for a key of an entry of an array, that of the array.
     fn front(self) -> &'static str
         ensures { result.now ≡ key_front self }
     {
@@ -140,7 +140,8 @@ impl Key {
             Key::Pool => "pool",
             Key::Users => "users",
             Key::Subsystems => "subsystems",
-            Key::Timers | Key::Timer(_) => "timers",
+            Key::Timers => "timers",
+            Key::Timer(timer) => timer.path(),
             Key::Set | Key::SetEntry(_) | Key::SetName(_) | Key::SetAdjacent(_) => "set",
             Key::Link | Key::LinkEntry(_) | Key::LinkName(_) | Key::LinkSet(_) | Key::LinkSlc(_) =>
                 "link",
@@ -187,24 +188,23 @@ impl Key {
         }
     }
 
-    /// The key in its table or in its entry, or nothing.
+    /// What stands behind the index: a dot and the key in its entry, or nothing.
     fn back(self) -> &'static str
         ensures { result.now ≡ key_back self }
     {
         match self {
-            Key::Timer(timer) => timer.name(),
-            Key::SetName(_) | Key::LinkName(_) => "name",
-            Key::SetAdjacent(_) => "adjacent",
-            Key::LinkSet(_) => "set",
-            Key::LinkSlc(_) => "slc",
-            Key::DestinationPoint(_) | Key::TitlePoint(_) => "point",
-            Key::DestinationSets(_) => "sets",
-            Key::TitleTranslation(_) => "translation",
-            Key::TitlePlan(_) => "plan",
-            Key::TitleNature(_) => "nature",
-            Key::TitleDigits(_) => "digits",
-            Key::TitleRoute(_) => "route",
-            Key::TitleSsn(_) => "ssn",
+            Key::SetName(_) | Key::LinkName(_) => ".name",
+            Key::SetAdjacent(_) => ".adjacent",
+            Key::LinkSet(_) => ".set",
+            Key::LinkSlc(_) => ".slc",
+            Key::DestinationPoint(_) | Key::TitlePoint(_) => ".point",
+            Key::DestinationSets(_) => ".sets",
+            Key::TitleTranslation(_) => ".translation",
+            Key::TitlePlan(_) => ".plan",
+            Key::TitleNature(_) => ".nature",
+            Key::TitleDigits(_) => ".digits",
+            Key::TitleRoute(_) => ".route",
+            Key::TitleSsn(_) => ".ssn",
             _ => "",
         }
     }
@@ -216,11 +216,9 @@ impl fmt::Display for Key {
     fn fmt<W: fmt::Write>(&self, f: &mut fmt::Formatter<W>) -> fmt::Result {
         let front = self.front();
         let back = self.back();
-        match (self.index(), back.is_empty()) {
-            (None, true) => f.write_str(front),
-            (None, false) => write!(f, "{front}.{back}"),
-            (Some(i), true) => write!(f, "{front}[{i}]"),
-            (Some(i), false) => write!(f, "{front}[{i}].{back}"),
+        match self.index() {
+            Some(i) => write!(f, "{front}[{i}]{back}"),
+            None => f.write_str(front),
         }
     }
 }

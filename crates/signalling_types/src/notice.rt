@@ -41,7 +41,7 @@ impl FrameFault {
 }
 
 /// Why a link failed.
-#[derive(Clone, Copy, Debug, PartialEq, Eq)]
+#[derive(Clone, Copy, PartialEq, Eq)]
 pub enum FailureReason {
     /// Its association was lost.
     Association,
@@ -77,7 +77,7 @@ impl FailureReason {
 }
 
 /// The timers that end a changeover (Q.704 §16.8).
-#[derive(Clone, Copy, Debug, PartialEq, Eq)]
+#[derive(Clone, Copy, PartialEq, Eq)]
 pub enum ChangeoverTimer {
     /// No link was left to the adjacent point.
     T1,
@@ -86,7 +86,7 @@ pub enum ChangeoverTimer {
 }
 
 /// The timers that end a changeback or a rerouting (Q.704 §16.8).
-#[derive(Clone, Copy, Debug, PartialEq, Eq)]
+#[derive(Clone, Copy, PartialEq, Eq)]
 pub enum LateTimer {
     /// The hold of messages that come to a link.
     T3,
@@ -95,7 +95,7 @@ pub enum LateTimer {
 }
 
 /// What the node notes for its operator.
-#[derive(Clone, Copy, Debug, PartialEq, Eq)]
+#[derive(Clone, Copy, PartialEq, Eq)]
 pub enum Notice {
     /// A message in a frame of this link was refused.
     Refused(Cause, LinkId),

@@ -114,7 +114,7 @@ impl LinkId {
 }
 
 /// A link set, by its number in the order of the settings, from 0. It may name no set of a node.
-#[derive(Clone, Copy, Debug, Default, PartialEq, Eq, Hash)]
+#[derive(Clone, Copy, Default, PartialEq, Eq, Hash)]
 pub struct SetId {
     number: u8,
 }
@@ -147,7 +147,7 @@ impl SetId {
 }
 
 /// A flow: the messages to one destination with one signalling link selection, which keep their order.
-#[derive(Clone, Copy, Debug, PartialEq, Eq, Hash)]
+#[derive(Clone, Copy, PartialEq, Eq, Hash)]
 pub struct Flow {
     /// Where the messages go.
     pub point: PointCode,
