@@ -88,6 +88,7 @@ impl Lanes for RingLanes {
         }
     }
 
+    #[inline(always)]
     fn push_back(&mut self, lane: usize, message: MsuRef<'_>) -> Result<(), Cause> {
         if let Some(cause) = self.refusal(message) {
             return Err(cause);

@@ -77,6 +77,7 @@ impl Exchange {
     }
 
     /// A message for another point: a known destination, then room, then a route.
+    #[inline(always)]
     fn transfer(&mut self, message: MsuRef<'_>) -> Outcome
         requires label { 4 ≤ length message.sif.now }
         requires fits { length message.sif.now ≤ Limits.SIF_OCTETS }
