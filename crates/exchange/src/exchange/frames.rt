@@ -64,15 +64,10 @@ impl Exchange {
         }
     }
 
-<<<<<<< HEAD
     /// Looks at the numbers of a frame of User Data, and says whether they were right. Right ones count; a wrong
     /// one fails the link.
-    fn check_numbers(&mut self, link: LinkId, fsn: Number24, bsn: Number24, carries: bool) -> bool
-=======
-    /// Takes the numbers of a frame of User Data, and says whether they were right. A wrong one fails the link.
     #[inline(always)]
-    fn take_numbers(&mut self, link: LinkId, fsn: Number24, bsn: Number24, carries: bool) -> bool
->>>>>>> w-bench
+    fn check_numbers(&mut self, link: LinkId, fsn: Number24, bsn: Number24, carries: bool) -> bool
         requires { link < length self.old.node.parts.links }
         ensures accepted { result ≡ is_ok (kept.accept_answer self.old.node.queues link fsn bsn carries) }
         ensures state { self.new ≡

@@ -1,0 +1,10 @@
+use Rattle.std.proofs.Common.{rules}
+use Rattle.std.proofs.lemmas.List.Sorted.{IsPartitionPoint-from_clause}
+use Rattle.global_title.specs.Rows.{is_before, place_of}
+use Rattle.global_title.proofs.RowOrder.{partitioned}
+use Rattle.global_title.proofs.places.count_before.Goals as goal
+
+pub returns-clause-split : goal.returns-clause-split
+returns-clause-split c =
+    IsPartitionPoint-from_clause (is_before (place_of c.args.key c.args.digits.now)) c.args.rows.now c.partition_point.result c.partition_point.ensures.partitioned
+    (partitioned (place_of c.args.key c.args.digits.now) c.args.rows.now c.requires) (λ a r f e. search rules)

@@ -1,0 +1,9 @@
+-- What the table of the code keeps.
+use Rattle.std.specs.Prelude.{◌≤◌, length}
+use Rattle.signalling_types.specs.declared.limits.TheConstants.Limits.{TITLES}
+use Rattle.global_title.specs.Rows.{IsOrdered}
+use Rattle.global_title.specs.declared.translations.Translations.TheInside.{Inside}
+
+pub record IsTable (table : Inside) : Type 0 where
+  pub ordered : IsOrdered table.rows.items
+  pub fits : length table.rows.items ≤ TITLES

@@ -1,0 +1,11 @@
+//! Translation of global titles: rows that lead addresses by their first digits to a point (Q.714 §2.4).
+#![tactic(auto)]
+
+mod places;
+pub mod translations;
+
+pub use sccp_codec::TitleKey;
+pub use translations::Translations;
+
+#[cfg(test)]
+mod tests;

@@ -1,0 +1,50 @@
+//! Where rows stand in their order.
+
+ghost use Rattle.std.specs.Prelude.{◌≡◌, ◌≤◌, length, true, false, IfOk, IfErr};
+ghost use Rattle.std.specs.List.Sorted.{IsPartitionPoint};
+ghost use Rattle.global_title.specs.Rows.{IsOrdered, place_of, row_place, place_order, is_before};
+ghost use Rattle.global_title.specs.Places.{StandsAt, FitsAt};
+
+use sccp_codec::TitleKey;
+use settings_rows::TitleRow;
+use std::cmp::Ordering;
+
+/// How a row stands to the place of this key and these digits.
+fn order(row: &TitleRow, key: TitleKey, digits: &[u8]) -> Ordering
+    ensures { result ≡ place_order (row_place row.now) (place_of key digits.now) }
+{
+    row.translation()
+        .cmp(&key.translation)
+        .then_with(|| row.plan().cmp(&key.plan))
+        .then_with(|| row.nature().cmp(&key.nature))
+        .then_with(|| row.digits().cmp(digits))
+}
+
+/// How many rows come before the place of this key and these digits, looked for by halves.
+fn count_before(rows: &[TitleRow], key: TitleKey, digits: &[u8]) -> usize
+    requires { IsOrdered rows.now }
+    ensures bound { result ≤ length rows.now }
+    ensures split { IsPartitionPoint
+        (λ row. is_before (place_of key digits.now) row ≡ true)
+        (λ row. is_before (place_of key digits.now) row ≡ false) rows.now result }
+{
+    rows.partition_point(|row| order(row, key, digits).is_lt())
+}
+
+/// The number of the row of this key and these digits, or that of the place where it would stand, as an
+/// error.
+pub(crate) fn place(rows: &[TitleRow], key: TitleKey, digits: &[u8]) -> Result<usize, usize>
+    requires { IsOrdered rows.now }
+    ensures found { IfOk result (StandsAt rows.now (place_of key digits.now)) }
+    ensures free { IfErr result (FitsAt rows.now (place_of key digits.now)) }
+{
+    let at = count_before(rows, key, digits);
+    if at == rows.len() {
+        return Err(at);
+    }
+    if order(&rows[at], key, digits).is_eq() {
+        Ok(at)
+    } else {
+        Err(at)
+    }
+}

@@ -1,0 +1,3 @@
+pub mod AddressTexts
+pub mod DigitTexts
+pub mod MessageTexts

@@ -1,0 +1,101 @@
+//! Unitdata read from its octets.
+
+ghost use Rattle.std.specs.Prelude.{◌≡◌, ◌+◌, ◌≤◌, ◌<◌, length, IfOk, IfErr, IsOkAnd, Some};
+ghost use Rattle.sccp_codec.specs.Messages.{UnitdataValue, IsUnitdata};
+ghost use Rattle.sccp_codec.specs.Reading.{read_unitdata, fault_of, parts_in, parts_fault, part_at, pointer_fault, unless};
+ghost use Rattle.sccp_codec.specs.Values.{unitdata_of, parts_value, Gives};
+
+use crate::address::Address;
+use crate::fault::SccpFault;
+use crate::layout::{CALLED_POINTER, CALLING_POINTER, DATA_POINTER, PARTS_AT, UDT, UDTS};
+use crate::unitdata::{Parts, Udt, Udts, Unitdata};
+
+impl<'a> Unitdata<'a> {
+    /// The message that the octets behind a routing label are, or their first fault. Its titles and
+    /// its data are slices of the octets. It takes a fixed number of steps.
+    ///
+    /// In this order: Short where there is no octet; Kind where the first isn't that of a UDT or a
+    /// UDTS; Short under five octets; Pointer for each pointer in turn that names no length octet
+    /// behind the pointers, or a part that isn't there whole; Short for each address in turn that
+    /// has fewer octets than it announces. Parts may lie apart and over one another, and octets
+    /// that no part covers are ignored (Q.713 §1.5).
+    pub fn read(octets: &'a [u8]) -> Result<Unitdata<'a>, SccpFault>
+        // What reading gives.
+        ensures exact { Gives unitdata_of result (read_unitdata octets.now) }
+        // What is read, the octets say.
+        ensures value { IfOk result (λ message. IsUnitdata octets.now (unitdata_of message)) }
+        // What the octets say is read.
+        ensures only { (v : UnitdataValue) → IsUnitdata octets.now v
+            → IsOkAnd result (λ message. unitdata_of message ≡ v) }
+        // An error is the first fault.
+        ensures fault { IfErr result (λ fault. fault_of octets.now ≡ Some fault) }
+    {
+        read(octets)
+    }
+}
+
+/// The message, or the first fault.
+fn read(octets: &[u8]) -> Result<Unitdata<'_>, SccpFault>
+    ensures { Gives unitdata_of result (read_unitdata octets.now) }
+{
+    let [kind, ..] = *octets else {
+        return Err(SccpFault::Short);
+    };
+    if kind != UDT && kind != UDTS {
+        return Err(SccpFault::Kind);
+    }
+    if octets.len() < PARTS_AT {
+        return Err(SccpFault::Short);
+    }
+    let parts = match read_parts(octets) {
+        Ok(parts) => parts,
+        Err(fault) => return Err(fault),
+    };
+    if kind == UDT {
+        Ok(Unitdata::Udt(Udt {
+            class_octet: octets[1],
+            parts,
+        }))
+    } else {
+        Ok(Unitdata::Udts(Udts {
+            return_cause: octets[1],
+            parts,
+        }))
+    }
+}
+
+/// The addresses and the data, or the first fault of a pointer, then of an address.
+fn read_parts(octets: &[u8]) -> Result<Parts<'_>, SccpFault>
+    requires { 5 ≤ length octets.now }
+    ensures { Gives parts_value result (unless (parts_fault octets.now) (parts_in octets.now)) }
+{
+    let called = part(octets, CALLED_POINTER)?;
+    let calling = part(octets, CALLING_POINTER)?;
+    let data = part(octets, DATA_POINTER)?;
+    match (Address::read(called), Address::read(calling)) {
+        (Ok(called), Ok(calling)) => Ok(Parts {
+            called,
+            calling,
+            data,
+        }),
+        (Err(fault), _) | (_, Err(fault)) => Err(fault),
+    }
+}
+
+/// The part that the pointer at this octet names: as many octets behind it as it says stands the
+/// part's length, and behind that the part (Q.713 §2.3).
+fn part(octets: &[u8], pointer: usize) -> Result<&[u8], SccpFault>
+    requires { pointer < length octets.now }
+    ensures { Gives (λ part. part.now) result (unless (pointer_fault octets.now pointer) (part_at octets.now pointer)) }
+{
+    let length_at = pointer + usize::from(octets[pointer]);
+    if length_at < PARTS_AT || octets.len() <= length_at {
+        return Err(SccpFault::Pointer);
+    }
+    let start = length_at + 1;
+    let end = start + usize::from(octets[length_at]);
+    if octets.len() < end {
+        return Err(SccpFault::Pointer);
+    }
+    Ok(&octets[start..end])
+}
