@@ -6,9 +6,9 @@ ghost use Rattle.signalling_types.specs.Lent.{lent};
 ghost use Rattle.cell_pool.specs.Lanes.{lane_at, pushed, dropped};
 
 use crate::cell_rings::CellRings;
+use signalling_types::{Limits, Msu, MsuRef};
 use std::alloc::{AllocError, Global};
 use std::marker::Model;
-use stp_types::{Limits, Msu, MsuRef};
 
 /// Numbered lists of messages in a row of cells. A message is copied into its cell once, and stays
 /// there; the lists are rings of cell numbers.

@@ -7,7 +7,7 @@ ghost use Rattle.signalling_types.specs.Lent.{lent};
 ghost use Rattle.signalling_types.specs.declared.limits.TheConstants.Limits;
 ghost use Rattle.cell_pool.specs.Lanes.{lane_at, push_refusal, pushed, dropped};
 
-use stp_types::{Cause, Msu, MsuRef};
+use signalling_types::{Cause, Msu, MsuRef};
 
 /// Numbered lists of messages. All lists together keep at most a stated number of user messages, and
 /// at most 256 management messages.

@@ -5,9 +5,9 @@ ghost use Rattle.cell_pool.specs.Lanes.{dropped};
 
 use crate::cell_lists::CellLists;
 use crate::lanes::Lanes;
+use signalling_types::{Cause, Limits, Msu, MsuRef};
 use std::alloc::{AllocError, Global};
 use std::marker::Model;
-use stp_types::{Cause, Limits, Msu, MsuRef};
 
 /// Numbered lists of messages over one row of cells, which has a cell for each user message of the
 /// pool and for each of 256 management messages. A message is copied into its cell once and stays

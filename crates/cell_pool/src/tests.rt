@@ -3,10 +3,10 @@
 ghost use Rattle.std.specs.Prelude.{◌<◌};
 
 use crate::{Lanes, RingLanes};
+use signalling_types::{Cause, Limits, Msu};
 use std::alloc::Global;
 use std::process::Abort;
 use std::test::Fail;
-use stp_types::{Cause, Limits, Msu};
 
 /// Service information octets of an ISUP and of a management message, of the national network.
 const ISUP: u8 = 0x85;

@@ -36,8 +36,8 @@ ghost use Rattle.link_sequence.specs.Counts.{
 use crate::fault::SeqFault;
 use cell_pool::Lanes;
 use link_number::{Number24, distance, next};
+use signalling_types::{Limits, Msu};
 use std::marker::Model;
-use stp_types::{Limits, Msu};
 
 /// The numbers of one link in one epoch (RFC 4165 §2.2).
 #[derive(Clone, Copy, Debug, PartialEq, Eq)]

@@ -5,9 +5,9 @@ ghost use Rattle.std.specs.Prelude.{◌<◌};
 use crate::{SeqFault, Sequence};
 use cell_pool::{Lanes, RingLanes};
 use link_number::Number24;
+use signalling_types::Msu;
 use std::process::Abort;
 use std::test::Fail;
-use stp_types::Msu;
 
 fn number(value: u32) -> Number24 {
     Number24::new(value % Number24::MODULUS).unwrap()

@@ -1,2 +1,4 @@
 pub mod Cells
 pub mod FrameTexts
+pub mod Windows
+pub mod StreamTexts

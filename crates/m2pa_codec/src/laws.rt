@@ -4,6 +4,7 @@
 ghost use Rattle.std.specs.Prelude.{◌≡◌, ℕ, ◌++◌, ◌↔◌, List, [], Ok};
 ghost use Rattle.m2pa_codec.specs.Frames.{FrameValue, IsFrame, IsSayable, AreOctets, spelled};
 ghost use Rattle.m2pa_codec.specs.Reading.{read_frame};
+ghost use Rattle.m2pa_codec.specs.Streams.{IsStream, Call, passed, GetsThrough, ComesToTheSame};
 
 /// No frame is a proper prefix of another.
 pub fn no_frame_begins_another()
@@ -26,4 +27,24 @@ pub fn one_value()
 pub fn what_is_written_reads_back()
     ensures frame { (v : FrameValue) → IsSayable v → IsFrame (spelled v) v }
     ensures back { (v : FrameValue) → IsSayable v → read_frame (spelled v) ≡ Ok v }
+{}
+
+/// A stream is one list of texts and one rest.
+pub fn one_stream()
+    ensures { (octets : List ℕ) (texts others : List (List ℕ)) (rest other : List ℕ)
+        → IsStream octets texts rest → IsStream octets others other
+        → (texts ≡ others) × (rest ≡ other) }
+{}
+
+/// Whoever feeds octets to a framer and asks until there is no text gets the texts of the stream.
+pub fn calls_give_the_stream()
+    ensures { (octets : List ℕ) (calls : List Call) (through : GetsThrough octets (passed calls))
+        → IsStream octets (passed calls).given ((passed calls).held ++ through.left) }
+{}
+
+/// It doesn't matter how the octets were cut into pieces, nor when the texts were asked for.
+pub fn cuts_do_not_matter()
+    ensures { (octets : List ℕ) (calls others : List Call)
+        → GetsThrough octets (passed calls) → GetsThrough octets (passed others)
+        → ComesToTheSame (passed calls) (passed others) }
 {}

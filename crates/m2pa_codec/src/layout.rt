@@ -12,6 +12,9 @@ pub(crate) const USER_DATA: u8 = 1;
 /// What is written where readers pass over an octet.
 pub(crate) const SPARE: u8 = 0;
 
+/// Octets of the common header (RFC 4165 §2.1).
+pub(crate) const COMMON_HEADER_OCTETS: usize = 8;
+
 /// Octets of both headers (RFC 4165 §2.1, §2.2).
 pub(crate) const HEADER_OCTETS: usize = 16;
 

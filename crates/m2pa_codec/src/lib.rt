@@ -1,15 +1,20 @@
-//! Frames of M2PA, read and written (RFC 4165 §2).
+//! Frames of M2PA, read and written, and cut out of a stream of octets (RFC 4165 §2).
 #![tactic(auto)]
 
 pub mod frame;
+pub mod framer;
 pub mod laws;
 mod layout;
 mod reading;
+pub mod status;
+mod window;
 mod writing;
 
 pub use frame::{BUFFER_OCTETS, Frame};
+pub use framer::{Framer, Next};
 pub use reading::decode;
-pub use stp_types::FrameFault;
+pub use signalling_types::FrameFault;
+pub use status::LinkStatus;
 pub use writing::encode;
 
 #[cfg(test)]

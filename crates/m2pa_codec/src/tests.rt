@@ -98,3 +98,14 @@ fn no_front_is_a_frame(rt: HostRuntime) {
         assert!(rt; fails(&FIRST[..count], fault), "at {count}");
     }
 }
+
+#[test]
+fn a_partial_frame_waits(rt: HostRuntime) {
+    let mut framer = Framer::new();
+    let mut text = [0; 4096];
+    assert_eq!(rt; framer.feed(PARTIAL), PARTIAL.len());
+    assert_eq!(rt; framer.next(&mut text), Next::Wait);
+    assert_eq!(rt; framer.feed(FIRST), FIRST.len());
+    assert_eq!(rt; framer.next(&mut text), Next::Whole(PARTIAL.len() + 1));
+    assert!(rt; text.starts_with(PARTIAL));
+}

@@ -8,7 +8,7 @@ ghost use Rattle.m2pa_codec.specs.Reading.{read_frame};
 use crate::frame::{BUFFER_OCTETS, Frame};
 use crate::layout::{CLASS, HEADER_OCTETS, MESSAGE_HEADER_OCTETS, SPARE, USER_DATA, VERSION};
 use link_number::Number24;
-use stp_types::Limits;
+use signalling_types::Limits;
 
 /// Writes the frame at the front of the buffer, and answers how many octets it has: 16, or 18 and
 /// those of the message's field. Spare, unused and priority octets are 0. The buffer behind the

@@ -5,7 +5,7 @@ ghost use Rattle.signalling_types.specs.Lent.{lent};
 ghost use Rattle.routing_label.specs.Discrimination.{discrimination};
 
 use crate::label::Label;
-use stp_types::{Cause, MsuRef, PointCode};
+use signalling_types::{Cause, MsuRef, PointCode};
 
 /// Where a message goes (Q.704 §2.3).
 #[derive(Clone, Copy, Debug, PartialEq, Eq)]

@@ -5,7 +5,7 @@ ghost use Rattle.signalling_types.specs.Message.{label_number};
 ghost use Rattle.routing_label.specs.Label.{IsLabel, label_in, label_octets, number_of_label};
 ghost use Rattle.routing_label.specs.declared.label.Label.{Label};
 
-use stp_types::{PointCode, Sls};
+use signalling_types::{PointCode, Sls};
 
 /// The first four octets of a message's signalling information field (Q.704 §2.2).
 #[derive(Clone, Copy, Debug, PartialEq, Eq, Hash)]

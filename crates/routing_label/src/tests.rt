@@ -1,5 +1,5 @@
 use crate::{Discrimination, Label, discriminate};
-use stp_types::{Cause, Msu, PointCode};
+use signalling_types::{Cause, Msu, PointCode};
 
 #[test]
 fn label_of_point_1_from_point_2(rt: HostRuntime) {

@@ -20,7 +20,11 @@ use stp_types::{Limits, LinkId};
 
 impl Exchange {
     /// The next frame that goes out on a link, written to the front of `buffer`.
-    pub(super) fn take_frame(&mut self, link: LinkId, buffer: &mut [u8; BUFFER_OCTETS]) -> Option<usize>
+    pub(super) fn take_frame(
+        &mut self,
+        link: LinkId,
+        buffer: &mut [u8; BUFFER_OCTETS],
+    ) -> Option<usize>
         ensures frame { Writes (frame_to_take kept self.old link) result buffer.old buffer.new }
         ensures state { self.new ≡ taken kept self.old link }
         ensures fits { IfSome result (λ count. count ≤ BUFFER_OCTETS) }

@@ -1,0 +1,4 @@
+pub mod Order
+pub mod Rising
+pub mod Counting
+pub mod Keys

@@ -1,0 +1,326 @@
+-- Lists of timers in name order.
+use Rattle.std.proofs.Common.{◌≡◌, ℕ, suc, nat_lt, not, ◌+◌, ◌<◌, ◌≤◌, Bool, true, false, cond, List, [], ◌∷◌, ◌++◌, length, take, drop, map, get_or, refl, sym, ap, subst, ◌∙◌, arith}
+use Rattle.std.proofs.lemmas.List.{append-nil, take_at, drop_at, length-append}
+use Rattle.std.proofs.lemmas.Bool.Decides.{nat_tests}
+use Rattle.std.specs.Prelude.{filter, remove, insert, Option, Some, None, find, position, MatchOption, max}
+use Rattle.std.specs.Option.{option_map, option_map_or}
+use Rattle.std.specs.List.{AllByRecursion, position_or_len}
+use Rattle.timer_wheel.specs.declared.name.TimerName.{TimerName}
+use Rattle.timer_wheel.specs.declared.name.NodeCounts.{NodeCounts}
+use Rattle.timer_wheel.specs.declared.timers.Timer.{Timer}
+use Rattle.timer_wheel.specs.Names.{is_before, has_name}
+use Rattle.timer_wheel.specs.Timers.{before, after, cleared, started, lowered, is_due, due_name, Running, set_timer, clear_timer, after_due}
+use Rattle.timer_wheel.specs.Kept.{AreAfter, DoRise, AreNamed}
+use Rattle.timer_wheel.specs.Lists.{without_due, is_found}
+use Rattle.timer_wheel.proofs.Order.{before-asym, before-chain, before-trans}
+
+-- ---- what holds of each element
+
+module _ {X : Type 0} (P : X → Type 0) where
+  all-filter : (p : X → Bool) (xs : List X) → AllByRecursion P xs → AllByRecursion P (filter p xs)
+  all-filter p [] h = tt
+  all-filter p (x ∷ xs) h =
+      let rest = all-filter p xs h.1 in
+      elim (p x) as (λ b. AllByRecursion P (cond b (x ∷ filter p xs) (filter p xs))) [ true ↦ (h.0, rest) | false ↦ rest ]
+
+  all-append : (xs ys : List X) → AllByRecursion P xs → AllByRecursion P ys → AllByRecursion P (xs ++ ys)
+  all-append [] ys h k = k
+  all-append (x ∷ xs) ys h k = (h.0, all-append xs ys h.1 k)
+
+  all-without : (xs : List X) (x : X) (ys : List X) → AllByRecursion P (xs ++ x ∷ ys) → AllByRecursion P (xs ++ ys)
+  all-without [] x ys h = h.1
+  all-without (z ∷ xs) x ys h = (h.0, all-without xs x ys h.1)
+
+module _ {X : Type 0} (p : X → Bool) where
+  -- each element that a filter leaves passes
+  passes : (xs : List X) → AllByRecursion (λ x. p x ≡ true) (filter p xs)
+  passes [] = tt
+  passes (x ∷ xs) =
+      elim (p x) as (λ b. p x ≡ b → AllByRecursion (λ x. p x ≡ true) (cond b (x ∷ filter p xs) (filter p xs))) [
+        | true ↦ λ e. (e, passes xs)
+        | false ↦ λ e. passes xs
+      ] refl
+
+  filter-all : (xs : List X) → AllByRecursion (λ x. p x ≡ true) xs → filter p xs ≡ xs
+  filter-all [] h = refl
+  filter-all (x ∷ xs) h = ap (λ b. cond b (x ∷ filter p xs) (filter p xs)) h.0 ∙ ap (λ (ys : List X). x ∷ ys) (filter-all xs h.1)
+
+  filter-none : (xs : List X) → AllByRecursion (λ x. p x ≡ false) xs → filter p xs ≡ []
+  filter-none [] h = refl
+  filter-none (x ∷ xs) h = ap (λ b. cond b (x ∷ filter p xs) (filter p xs)) h.0 ∙ filter-none xs h.1
+
+  filter-append : (xs ys : List X) → filter p (xs ++ ys) ≡ filter p xs ++ filter p ys
+  filter-append [] ys = refl
+  filter-append (x ∷ xs) ys =
+      elim (p x) as (λ b. cond b (x ∷ filter p (xs ++ ys)) (filter p (xs ++ ys)) ≡ cond b (x ∷ filter p xs) (filter p xs) ++ filter p ys) [
+        | true ↦ ap (λ (zs : List X). x ∷ zs) (filter-append xs ys)
+        | false ↦ filter-append xs ys
+      ]
+
+all-weaker : {X : Type 0} (P Q : X → Type 0) → ((x : X) → P x → Q x) → (xs : List X) → AllByRecursion P xs → AllByRecursion Q xs
+all-weaker P Q f [] h = tt
+all-weaker P Q f (x ∷ xs) h = (f x h.0, all-weaker P Q f xs h.1)
+
+-- ---- the timers before and after a name
+
+abbrev AreBefore : TimerName → List Timer → Type 0
+AreBefore name timers = AllByRecursion (λ t. is_before t.name name ≡ true) timers
+
+before-first : (name : TimerName) (ts : List Timer) → AreBefore name (before name ts)
+before-first name ts = passes (λ t. is_before t.name name) ts
+
+after-first : (name : TimerName) (ts : List Timer) → AreAfter name (after name ts)
+after-first name ts = passes (λ t. is_before name t.name) ts
+
+-- in a list of earlier timers and later ones nothing has the name
+before-parted : (name : TimerName) (xs ys : List Timer) → AreBefore name xs → AreAfter name ys → before name (xs ++ ys) ≡ xs
+before-parted name xs ys h k =
+    filter-append _ xs ys
+    ∙ ap (λ (zs : List Timer). zs ++ before name ys) (filter-all _ xs h)
+    ∙ ap (λ (zs : List Timer). xs ++ zs) (filter-none _ ys (all-weaker _ (λ t. is_before t.name name ≡ false) (λ t e. before-asym name t.name e) ys k))
+    ∙ append-nil xs
+
+after-parted : (name : TimerName) (xs ys : List Timer) → AreBefore name xs → AreAfter name ys → after name (xs ++ ys) ≡ ys
+after-parted name xs ys h k =
+    filter-append _ xs ys
+    ∙ ap (λ (zs : List Timer). zs ++ after name ys) (filter-none _ xs (all-weaker _ (λ t. is_before name t.name ≡ false) (λ t e. before-asym t.name name e) xs h))
+    ∙ filter-all _ ys k
+
+pub before-cleared : (name : TimerName) (ts : List Timer) → before name (cleared name ts) ≡ before name ts
+before-cleared name ts = before-parted name (before name ts) (after name ts) (before-first name ts) (after-first name ts)
+
+pub after-cleared : (name : TimerName) (ts : List Timer) → after name (cleared name ts) ≡ after name ts
+after-cleared name ts = after-parted name (before name ts) (after name ts) (before-first name ts) (after-first name ts)
+
+pub cleared_twice : (name : TimerName) (ts : List Timer) → cleared name (cleared name ts) ≡ cleared name ts
+cleared_twice name ts = λ i. before-cleared name ts i ++ after-cleared name ts i
+
+pub started_cleared : (timer : Timer) (ts : List Timer) → started timer (cleared timer.name ts) ≡ started timer ts
+started_cleared timer ts = λ i. before-cleared timer.name ts i ++ timer ∷ after-cleared timer.name ts i
+
+-- a timer put in its place
+pub put-started : (timer : Timer) (ts : List Timer) → cleared timer.name ts ≡ ts → insert ts (length (before timer.name ts)) timer ≡ started timer ts
+put-started timer ts absent =
+    let front = before timer.name ts in
+    let behind = after timer.name ts in
+    let n = length front in
+    let taken : take n ts ≡ front = ap (take n) (sym absent) ∙ take_at front behind n refl in
+    let dropped : drop n ts ≡ behind = ap (drop n) (sym absent) ∙ drop_at front behind n refl in
+    λ i. taken i ++ timer ∷ dropped i
+
+-- ---- the timer of a name taken out
+
+later : (t : Timer) (name : TimerName) (ts : List Timer) → is_before t.name name ≡ false → AreAfter t.name ts → AreAfter name ts
+later t name ts h k = all-weaker _ (λ u. is_before name u.name ≡ true) (λ u e. before-chain t.name name u.name h e) ts k
+
+none_before : (name : TimerName) (ts : List Timer) → AreAfter name ts → before name ts ≡ []
+none_before name ts k = filter-none _ ts (all-weaker _ (λ t. is_before t.name name ≡ false) (λ t e. before-asym name t.name e) ts k)
+
+pub record StopsAt (name : TimerName) (ts : List Timer) (at : ℕ) : Type 0 where
+  pub found : is_found name ts at ≡ true → remove ts at ≡ cleared name ts
+  pub missed : is_found name ts at ≡ false → ts ≡ cleared name ts
+
+-- to stop a later timer leaves the first
+cleared-behind : (name : TimerName) (t : Timer) (ts : List Timer) → is_before t.name name ≡ true → cleared name (t ∷ ts) ≡ t ∷ cleared name ts
+cleared-behind name t ts h =
+    let earlier : before name (t ∷ ts) ≡ t ∷ before name ts = ap (λ b. cond b (t ∷ before name ts) (before name ts)) h in
+    let same : after name (t ∷ ts) ≡ after name ts = ap (λ b. cond b (t ∷ after name ts) (after name ts)) (before-asym t.name name h) in
+    λ i. earlier i ++ same i
+
+stops-behind : (name : TimerName) (t : Timer) (ts : List Timer) → is_before t.name name ≡ true → StopsAt name ts (length (before name ts)) → StopsAt name (t ∷ ts) (length (before name (t ∷ ts)))
+stops-behind name t ts h s =
+    let earlier : before name (t ∷ ts) ≡ t ∷ before name ts = ap (λ b. cond b (t ∷ before name ts) (before name ts)) h in
+    let all : t ∷ cleared name ts ≡ cleared name (t ∷ ts) = sym (cleared-behind name t ts h) in
+    subst (λ n. StopsAt name (t ∷ ts) n) (ap length (sym earlier)) (record {
+      found = λ e. ap (λ (zs : List Timer). t ∷ zs) (s.found e) ∙ all;
+      missed = λ e. ap (λ (zs : List Timer). t ∷ zs) (s.missed e) ∙ all;
+    })
+
+stops-here : (name : TimerName) (t : Timer) (ts : List Timer) → is_before t.name name ≡ false → AreAfter t.name ts → StopsAt name (t ∷ ts) (length (before name (t ∷ ts)))
+stops-here name t ts h k =
+    let others = later t name ts h k in
+    let none : before name (t ∷ ts) ≡ [] = ap (λ b. cond b (t ∷ before name ts) (before name ts)) h ∙ none_before name ts others in
+    let rest : after name ts ≡ ts = filter-all _ ts others in
+    let all : cleared name (t ∷ ts) ≡ after name (t ∷ ts) = ap (λ (zs : List Timer). zs ++ after name (t ∷ ts)) none in
+    subst (λ n. StopsAt name (t ∷ ts) n) (ap length (sym none)) (record {
+      found = λ e. let apart : is_before name t.name ≡ false = turned (is_before name t.name) true e in sym (all ∙ ap (λ b. cond b (t ∷ after name ts) (after name ts)) apart ∙ rest);
+      missed = λ e. let apart : is_before name t.name ≡ true = turned (is_before name t.name) false e in sym (all ∙ ap (λ b. cond b (t ∷ after name ts) (after name ts)) apart ∙ ap (λ (zs : List Timer). t ∷ zs) rest);
+    })
+  where
+    turned : (b c : Bool) → not b ≡ c → b ≡ not c
+    turned true c e = ap not e
+    turned false c e = ap not e
+
+pub stops_at : (name : TimerName) (ts : List Timer) → DoRise ts → StopsAt name ts (length (before name ts))
+stops_at name [] r = record { found = λ e. absurd cc; missed = λ e. refl }
+stops_at name (t ∷ ts) r =
+    elim (is_before t.name name) as (λ b. is_before t.name name ≡ b → StopsAt name (t ∷ ts) (length (before name (t ∷ ts)))) [
+      | true ↦ λ e. stops-behind name t ts e (stops_at name ts r.1)
+      | false ↦ λ e. stops-here name t ts e r.0
+    ] refl
+
+-- ---- names keep rising
+
+rise-filter : (p : Timer → Bool) (ts : List Timer) → DoRise ts → DoRise (filter p ts)
+rise-filter p [] r = tt
+rise-filter p (t ∷ ts) r =
+    let rest = rise-filter p ts r.1 in
+    elim (p t) as (λ b. DoRise (cond b (t ∷ filter p ts) (filter p ts))) [ true ↦ (all-filter _ p ts r.0, rest) | false ↦ rest ]
+
+rise-join : (xs : List Timer) (t : Timer) (ys : List Timer) → DoRise xs → AreBefore t.name xs → AreAfter t.name ys → DoRise ys → DoRise (xs ++ t ∷ ys)
+rise-join [] t ys r h k s = (k, s)
+rise-join (x ∷ xs) t ys r h k s = (
+  all-append _ xs (t ∷ ys) r.0 (h.0, all-weaker _ (λ y. is_before x.name y.name ≡ true) (λ y e. before-trans x.name t.name y.name h.0 e) ys k),
+  rise-join xs t ys r.1 h.1 k s,
+)
+
+rise-without : (xs : List Timer) (t : Timer) (ys : List Timer) → DoRise (xs ++ t ∷ ys) → DoRise (xs ++ ys)
+rise-without [] t ys r = r.1
+rise-without (x ∷ xs) t ys r = (all-without _ xs t ys r.0, rise-without xs t ys r.1)
+
+pub rise-started : (timer : Timer) (ts : List Timer) → DoRise ts → DoRise (started timer ts)
+rise-started timer ts r =
+    rise-join (before timer.name ts) timer (after timer.name ts) (rise-filter _ ts r) (before-first timer.name ts) (after-first timer.name ts) (rise-filter _ ts r)
+
+pub rise-cleared : (name : TimerName) (ts : List Timer) → DoRise ts → DoRise (cleared name ts)
+rise-cleared name ts r = rise-without (before name ts) (record { name = name; left = 0 }) (after name ts) (rise-started (record { name = name; left = 0 }) ts r)
+
+after-map : (name : TimerName) (ts : List Timer) → AreAfter name ts → AreAfter name (map lowered ts)
+after-map name [] h = tt
+after-map name (t ∷ ts) h = (h.0, after-map name ts h.1)
+
+pub rise-lowered : (ts : List Timer) → DoRise ts → DoRise (map lowered ts)
+rise-lowered [] r = tt
+rise-lowered (t ∷ ts) r = (after-map t.name ts r.0, rise-lowered ts r.1)
+
+-- ---- names stay those of the node
+
+pub named-started : (n : NodeCounts) (timer : Timer) (ts : List Timer) → has_name n timer.name ≡ true → AreNamed n ts → AreNamed n (started timer ts)
+named-started n timer ts h k = all-append _ (before timer.name ts) _ (all-filter _ _ ts k) (h, all-filter _ _ ts k)
+
+pub named-cleared : (n : NodeCounts) (name : TimerName) (ts : List Timer) → AreNamed n ts → AreNamed n (cleared name ts)
+named-cleared n name ts k = all-append _ (before name ts) _ (all-filter _ _ ts k) (all-filter _ _ ts k)
+
+pub length-lowered : (ts : List Timer) → length (map lowered ts) ≡ length ts
+length-lowered [] = refl
+length-lowered (t ∷ ts) = ap suc (length-lowered ts)
+
+pub named-lowered : (n : NodeCounts) (ts : List Timer) → AreNamed n ts → AreNamed n (map lowered ts)
+named-lowered n [] h = tt
+named-lowered n (t ∷ ts) h = (h.0, named-lowered n ts h.1)
+
+-- ---- what is due
+
+irreflexive : (x : TimerName) → is_before x x ≡ false
+irreflexive x =
+    elim (is_before x x) as (λ b. is_before x x ≡ b → b ≡ false) [
+      | true ↦ λ e. sym e ∙ before-asym x x e
+      | false ↦ λ e. refl
+    ] refl
+
+-- to take out the first timer is to stop it
+cleared-here : (t : Timer) (ts : List Timer) → AreAfter t.name ts → cleared t.name (t ∷ ts) ≡ ts
+cleared-here t ts k =
+    let here = irreflexive t.name in
+    let none : before t.name (t ∷ ts) ≡ [] = ap (λ b. cond b (t ∷ before t.name ts) (before t.name ts)) here ∙ none_before t.name ts k in
+    let rest : after t.name (t ∷ ts) ≡ ts = ap (λ b. cond b (t ∷ after t.name ts) (after t.name ts)) here ∙ filter-all _ ts k in
+    λ i. none i ++ rest i
+
+-- what is due in a list comes behind what all of the list comes behind
+due_after : (name other : TimerName) (ts : List Timer) → AreAfter name ts → due_name ts ≡ Some other → is_before name other ≡ true
+due_after name other [] h e = absurd cc
+due_after name other (t ∷ ts) h e =
+    elim (is_due t) as (λ b. option_map (λ t. t.name) (cond b (Some t) (find is_due ts)) ≡ Some other → is_before name other ≡ true) [
+      | true ↦ λ e. let same : t.name ≡ other = cc in subst (λ n. is_before name n ≡ true) same h.0
+      | false ↦ λ e. due_after name other ts h.1 e
+    ] e
+
+abbrev pub left_after : Option TimerName → List Timer → List Timer
+left_after o ts = option_map_or (λ name. cleared name ts) o ts
+
+left-behind : (t : Timer) (ts : List Timer) (o : Option TimerName) → AreAfter t.name ts → due_name ts ≡ o → left_after o (t ∷ ts) ≡ t ∷ left_after o ts
+left-behind t ts None h e = refl
+left-behind t ts (Some name) h e = cleared-behind name t ts (due_after t.name name ts h e)
+
+-- to take out the first that is due is to stop it
+pub left-without_due : (ts : List Timer) → DoRise ts → left_after (due_name ts) ts ≡ without_due ts
+left-without_due [] r = refl
+left-without_due (t ∷ ts) r =
+    elim (is_due t) as (λ b. left_after (option_map (λ t. t.name) (cond b (Some t) (find is_due ts))) (t ∷ ts) ≡ cond b ts (t ∷ without_due ts)) [
+      | true ↦ cleared-here t ts r.0
+      | false ↦ left-behind t ts (due_name ts) r.0 refl ∙ ap (λ (us : List Timer). t ∷ us) (left-without_due ts r.1)
+    ]
+
+pub rise-without_due : (ts : List Timer) → DoRise ts → DoRise (without_due ts)
+rise-without_due ts r =
+    subst DoRise (left-without_due ts r)
+    (elim (due_name ts) as (λ o. DoRise (left_after o ts)) [ None ↦ r | Some name ↦ rise-cleared name ts r ])
+
+pub named-without_due : (n : NodeCounts) (ts : List Timer) → DoRise ts → AreNamed n ts → AreNamed n (without_due ts)
+named-without_due n ts r h =
+    subst (AreNamed n) (left-without_due ts r)
+    (elim (due_name ts) as (λ o. AreNamed n (left_after o ts)) [ None ↦ h | Some name ↦ named-cleared n name ts h ])
+
+-- the first that is due stands where a search for it ends
+pub record DueAt (ts : List Timer) (n : ℕ) (d : Timer) : Type 0 where
+  pub found : n < length ts → (Some (get_or ts n d).name ≡ due_name ts) × (remove ts n ≡ without_due ts)
+  pub missed : length ts ≤ n → (None ≡ due_name ts) × (ts ≡ without_due ts)
+
+due-here : (t : Timer) (ts : List Timer) (d : Timer) → is_due t ≡ true → DueAt (t ∷ ts) 0 d
+due-here t ts d e =
+    let name : due_name (t ∷ ts) ≡ Some t.name = ap (λ b. option_map (λ t. t.name) (cond b (Some t) (find is_due ts))) e in
+    let rest : without_due (t ∷ ts) ≡ ts = ap (λ b. cond b ts (t ∷ without_due ts)) e in
+    record { found = λ l. (sym name, sym rest); missed = λ l. absurd (omega arith) }
+
+due-behind : (t : Timer) (ts : List Timer) (n : ℕ) (d : Timer) → is_due t ≡ false → DueAt ts n d → DueAt (t ∷ ts) (suc n) d
+due-behind t ts n d e s =
+    let name : due_name (t ∷ ts) ≡ due_name ts = ap (λ b. option_map (λ t. t.name) (cond b (Some t) (find is_due ts))) e in
+    let rest : without_due (t ∷ ts) ≡ t ∷ without_due ts = ap (λ b. cond b ts (t ∷ without_due ts)) e in
+    record {
+      found = λ l. let f = s.found (omega arith) in (f.0 ∙ sym name, ap (λ (us : List Timer). t ∷ us) f.1 ∙ sym rest);
+      missed = λ l. let f = s.missed (omega arith) in (f.0 ∙ sym name, ap (λ (us : List Timer). t ∷ us) f.1 ∙ sym rest);
+    }
+
+due_at : (ts : List Timer) (d : Timer) → DueAt ts (position_or_len is_due ts) d
+due_at [] d = record { found = λ l. absurd (omega arith); missed = λ l. (refl, refl) }
+due_at (t ∷ ts) d =
+    elim (is_due t) as (λ b. is_due t ≡ b → DueAt (t ∷ ts) (cond (not b) (1 + position_or_len is_due ts) 0) d) [
+      | true ↦ λ e. due-here t ts d e
+      | false ↦ λ e.
+          let next : suc (position_or_len is_due ts) ≡ 1 + position_or_len is_due ts = omega arith in
+          subst (λ n. DueAt (t ∷ ts) n d) next (due-behind t ts (position_or_len is_due ts) d e (due_at ts d))
+    ] refl
+
+tested : (n m : ℕ) (o : Option ℕ) → o ≡ cond (nat_lt n m) (Some n) None → MatchOption o (m ≤ n) (λ i. (i ≡ n) × (n < m))
+tested n m None e = grind (arith, nat_tests, e)
+tested n m (Some i) e = (grind (arith, nat_tests, e), grind (arith, nat_tests, e))
+
+pub position-none : (ts : List Timer) → None ≡ position is_due ts → (None ≡ due_name ts) × (ts ≡ without_due ts)
+position-none [] e = (refl, refl)
+position-none (t ∷ ts) e = (due_at (t ∷ ts) t).missed (tested (position_or_len is_due (t ∷ ts)) (length (t ∷ ts)) None e)
+
+pub position-some : (ts : List Timer) (i : ℕ) (d : Timer) → Some i ≡ position is_due ts → (Some (get_or ts i d).name ≡ due_name ts) × (remove ts i ≡ without_due ts)
+position-some ts i d e =
+    let f = tested (position_or_len is_due ts) (length ts) (Some i) e in
+    subst (λ n. (Some (get_or ts n d).name ≡ due_name ts) × (remove ts n ≡ without_due ts)) (sym f.0) ((due_at ts d).found f.1)
+
+-- ---- the timers of a node
+
+abbrev pub running : NodeCounts → List Timer → Running
+running n ts = record { counts = n; timers = ts }
+
+pub set-there : (n : NodeCounts) (name : TimerName) (ticks : ℕ) (ts new : List Timer) → has_name n name ≡ true → new ≡ started (record { name = name; left = max 1 ticks }) ts
+    → running n new ≡ set_timer name ticks (running n ts)
+set-there n name ticks ts new h e =
+    ap (running n) e ∙ sym (ap (λ b. cond b (running n (started (record { name = name; left = max 1 ticks }) ts)) (running n ts)) h)
+
+pub without_due-after : (n : NodeCounts) (ts new : List Timer) → DoRise ts → new ≡ without_due ts → running n new ≡ after_due (running n ts)
+without_due-after n ts new r e =
+    ap (running n) (e ∙ sym (left-without_due ts r))
+    ∙ elim (due_name ts) as (λ o. running n (left_after o ts) ≡ option_map_or (λ name. clear_timer name (running n ts)) o (running n ts)) [ None ↦ refl | Some name ↦ refl ]
+
+pub length-started : (timer : Timer) (ts : List Timer) → length (started timer ts) ≡ length (cleared timer.name ts) + 1
+length-started timer ts =
+    let front = before timer.name ts in
+    let behind = after timer.name ts in
+    length-append front (timer ∷ behind) ∙ (let e : length front + length (timer ∷ behind) ≡ (length front + length behind) + 1 = omega arith in e) ∙ ap (λ (n : ℕ). n + 1) (sym (length-append front behind))

@@ -1,0 +1,4 @@
+pub mod Names
+pub mod Timers
+pub mod Kept
+pub mod Lists

@@ -1,0 +1,60 @@
+-- The timers that run: a finite map from names to the ticks that are left, as the list of its entries in name order.
+use Rattle.std.specs.Prelude.{ℕ, ◌-◌, Bool, List, ◌∷◌, ◌++◌, map, filter, find, Option, ◌==◌, max, if◌then◌else◌}
+use Rattle.std.specs.Option.{option_map, option_map_or}
+use Rattle.timer_wheel.specs.declared.name.TimerName.{TimerName}
+use Rattle.timer_wheel.specs.declared.name.NodeCounts.{NodeCounts}
+use Rattle.timer_wheel.specs.declared.timers.Timer.{Timer}
+use Rattle.timer_wheel.specs.Names.{is_before, has_name}
+
+-- the timers whose names come before a name
+abbrev pub before : TimerName → List Timer → List Timer
+before name timers = filter (λ t. is_before t.name name) timers
+
+-- the timers whose names come after it
+abbrev pub after : TimerName → List Timer → List Timer
+after name timers = filter (λ t. is_before name t.name) timers
+
+-- no timer of this name runs
+abbrev pub cleared : TimerName → List Timer → List Timer
+cleared name timers = before name timers ++ after name timers
+
+-- the timer of this name runs, and forgets what it was set to before
+abbrev pub started : Timer → List Timer → List Timer
+started timer timers = before timer.name timers ++ timer ∷ after timer.name timers
+
+-- a timer with one tick less
+abbrev pub lowered : Timer → Timer
+lowered t = record t { left = t.left - 1 }
+
+-- a timer is due where no tick is left
+abbrev pub is_due : Timer → Bool
+is_due t = t.left == 0
+
+-- the first name that is due
+abbrev pub due_name : List Timer → Option TimerName
+due_name timers = option_map (λ t. t.name) (find is_due timers)
+
+-- ---- the timers of a node
+
+pub record Running : Type 0 where
+  pub counts : NodeCounts
+  pub timers : List Timer
+
+-- a timer runs out after so many ticks, at the next one where that is 0; a name that the node doesn't have is left aside
+abbrev pub set_timer : TimerName → ℕ → Running → Running
+set_timer name ticks r =
+    if has_name r.counts name
+    then record r { timers = started (record { name = name; left = max 1 ticks }) r.timers }
+    else r
+
+-- a timer is stopped
+abbrev pub clear_timer : TimerName → Running → Running
+clear_timer name r = record r { timers = cleared name r.timers }
+
+-- a tick lowers all timers
+abbrev pub ticked : Running → Running
+ticked r = record r { timers = map lowered r.timers }
+
+-- the timer that is due is handed out, and runs no longer
+abbrev pub after_due : Running → Running
+after_due r = option_map_or (λ name. clear_timer name r) (due_name r.timers) r

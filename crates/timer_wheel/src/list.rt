@@ -1,0 +1,81 @@
+//! A list of timers in name order.
+
+ghost use Rattle.std.specs.Prelude.{◌≡◌, ◌<◌, ◌≤◌, length, map, position, vec_capacity, vec_len};
+ghost use Rattle.timer_wheel.specs.Timers.{before, cleared, started, lowered, is_due, due_name};
+ghost use Rattle.timer_wheel.specs.Kept.{DoRise};
+ghost use Rattle.timer_wheel.specs.Lists.{without_due, is_found};
+
+use crate::name::TimerName;
+use crate::timers::Timer;
+
+/// Puts a timer in its place, where none of its name stands and there is room.
+pub(crate) fn start(timers: &mut Vec<Timer>, timer: Timer)
+    requires absent { cleared timer.name timers.old.items ≡ timers.old.items }
+    requires room { vec_len timers.old < vec_capacity timers.old }
+    ensures timers { timers.new.items ≡ started timer timers.old.items }
+    ensures room { vec_capacity timers.old ≤ vec_capacity timers.new }
+{
+    let at = place(timers, &timer.name);
+    let Ok(()) = timers.insert(at, timer) else {
+        unreachable!()
+    };
+}
+
+/// Takes out the timer of this name, if there is one.
+pub(crate) fn stop(timers: &mut Vec<Timer>, name: &TimerName)
+    requires { DoRise timers.old.items }
+    ensures timers { timers.new.items ≡ cleared name.now timers.old.items }
+    ensures room { vec_capacity timers.new ≡ vec_capacity timers.old }
+{
+    let at = place(timers, name);
+    if stands_at(timers, at, name) {
+        timers.remove(at);
+    }
+}
+
+/// Takes one tick from each timer.
+pub(crate) fn lower(timers: &mut [Timer])
+    ensures { timers.new ≡ map lowered timers.old }
+{
+    for timer in timers.iter_mut() {
+        timer.left = timer.left.saturating_sub(1);
+    }
+}
+
+/// Takes out the first timer that is due.
+pub(crate) fn take_due(timers: &mut Vec<Timer>) -> Option<TimerName>
+    ensures name { result ≡ due_name timers.old.items }
+    ensures timers { timers.new.items ≡ without_due timers.old.items }
+    ensures room { vec_capacity timers.new ≡ vec_capacity timers.old }
+{
+    match first_due(timers) {
+        Some(at) => Some(timers.remove(at).name),
+        None => None,
+    }
+}
+
+/// The place of the first timer that is due.
+fn first_due(timers: &[Timer]) -> Option<usize>
+    ensures { result ≡ position is_due timers.now }
+{
+    timers.iter().position(|timer| timer.left == 0)
+}
+
+/// How many timers come before a name.
+fn place(timers: &[Timer], name: &TimerName) -> usize
+    ensures { result ≡ length (before name.now timers.now) }
+{
+    timers
+        .iter()
+        .filter(|timer| timer.name.is_before(name))
+        .count()
+}
+
+/// Whether a timer stands at this place that doesn't come behind the name.
+fn stands_at(timers: &[Timer], at: usize, name: &TimerName) -> bool
+    ensures { result ≡ is_found name.now timers.now at }
+{
+    timers
+        .get(at)
+        .is_some_and(|timer| !name.is_before(&timer.name))
+}
