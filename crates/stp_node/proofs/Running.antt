@@ -5,7 +5,7 @@ use Rattle.std.proofs.Math.Seq.{take-append-add}
 use Rattle.std.proofs.lemmas.List.{drop_all}
 use Rattle.std.proofs.lemmas.Bool.Decides.{nat_tests}
 use Rattle.std.specs.Io.KnownBytes.{Appends, Consumes, Keeps, IsAtEnd}
-use Rattle.exchange.specs.State.{State}
+use Rattle.exchange.specs.Stands.{Kept}
 use Rattle.exchange.specs.Queues.{KeptQueues, kept}
 use Rattle.stp_node.specs.Asking.{Reading, IsMalformed, parsed_line}
 use Rattle.stp_node.specs.Lines.{lines}
@@ -39,10 +39,10 @@ appends-nothing (Some written) = sym (append-nil written)
 line-first : {Q : Type 0} → (a b : List ℕ) (r : Reached Q) → onto a (onto b r) ≡ onto (a ++ b) r
 line-first a b r = ap (λ (text : List ℕ). record r { text = text }) (sym (append_assoc a b r.text))
 
-behind-going : (r : Reached KeptQueues) (next : State KeptQueues → Reached KeptQueues) → r.fault ≡ None → behind r next ≡ onto r.text (next r.node)
+behind-going : (r : Reached KeptQueues) (next : Kept → Reached KeptQueues) → r.fault ≡ None → behind r next ≡ onto r.text (next r.state)
 behind-going r next h = ap (λ (f : Option ℕ). unless_ended f r next) h
 
-behind-ended : (r : Reached KeptQueues) (next : State KeptQueues → Reached KeptQueues) (number : ℕ) → r.fault ≡ Some number → behind r next ≡ r
+behind-ended : (r : Reached KeptQueues) (next : Kept → Reached KeptQueues) (number : ℕ) → r.fault ≡ Some number → behind r next ≡ r
 behind-ended r next number h = ap (λ (f : Option ℕ). unless_ended f r next) h
 
 test-true : (a b : ℕ) → a < b → nat_lt a b ≡ true
@@ -64,17 +64,17 @@ whole_line-short : (line : List ℕ) → length line ≤ LINE_OCTETS → whole_l
 whole_line-short line h = if-false (nat_lt LINE_OCTETS (length line)) _ (parsed_line line) (test-false LINE_OCTETS (length line) h)
 
 -- one that is too long ends the script, whether its line feed is there or not
-stopped-long : (most number : ℕ) (line : List ℕ) (more : List (List ℕ)) (s : State KeptQueues) → LINE_OCTETS < length line → most ≤ LINE_OCTETS
+stopped-long : (most number : ℕ) (line : List ℕ) (more : List (List ℕ)) (s : Kept) → LINE_OCTETS < length line → most ≤ LINE_OCTETS
     → lines_run kept most number (line ∷ more) s ≡ stopped number s
 stopped-long most number line [] s h k = if-true (nat_lt most (length line)) (stopped number s) (silent s) (test-true most (length line) (omega (arith, h, k)))
 stopped-long most number line (next ∷ more) s h k =
     let long : whole_line line ≡ IsMalformed = if-true (nat_lt LINE_OCTETS (length line)) _ (parsed_line line) (test-true LINE_OCTETS (length line) h) in
-    ap (λ (r : Reading). behind (line_run kept number r s) (λ (t : State KeptQueues). lines_run kept most (number + 1) (next ∷ more) t)) long
+    ap (λ (r : Reading). behind (line_run kept number r s) (λ (t : Kept). lines_run kept most (number + 1) (next ∷ more) t)) long
 
 -- ---- one octet
 
 -- any other octet than a line feed goes into the front line
-pub octet-kept : (octet : ℕ) (line : LineSoFar) (s : State KeptQueues) (w : Option (List ℕ)) → (octet ≡ 10 → ⊥)
+pub octet-kept : (octet : ℕ) (line : LineSoFar) (s : Kept) (w : Option (List ℕ)) → (octet ≡ 10 → ⊥)
     → HasTaken (octet ∷ []) (Ok tt) line (record line { octets = line.octets ++ octet ∷ [] }) s s w w
 octet-kept octet line s w h = record {
   text = [];
@@ -83,7 +83,7 @@ octet-kept octet line s w h = record {
 }
 
 -- an front line with one octet more than a line may have
-long-first : (most number : ℕ) (front : List ℕ) (octet : ℕ) (parts : List (List ℕ)) (s : State KeptQueues) → 0 < length parts
+long-first : (most number : ℕ) (front : List ℕ) (octet : ℕ) (parts : List (List ℕ)) (s : Kept) → 0 < length parts
     → LINE_OCTETS ≤ length front → most ≤ LINE_OCTETS
     → lines_run kept most number (begun (front ++ octet ∷ []) parts) s ≡ stopped number s
 long-first most number front octet [] s some h k = absurd (omega (arith, some))
@@ -92,13 +92,13 @@ long-first most number front octet (part ∷ parts) s some h k =
     let f = length-append front (octet ∷ []) in
     stopped-long most number ((front ++ octet ∷ []) ++ part) parts s (omega (arith, e, f, h)) k
 
-long-run : (octet : ℕ) (line : LineSoFar) (s : State KeptQueues) (most : ℕ) (more : List ℕ) → (octet ≡ 10 → ⊥) → LINE_OCTETS ≤ length line.octets
+long-run : (octet : ℕ) (line : LineSoFar) (s : Kept) (most : ℕ) (more : List ℕ) → (octet ≡ 10 → ⊥) → LINE_OCTETS ≤ length line.octets
     → most ≤ LINE_OCTETS → rest_run most line (octet ∷ more) s ≡ stopped line.number s
 long-run octet line s most more other long k =
     ap (λ (parts : List (List ℕ)). lines_run kept most line.number parts s) (lines-nonfeed line.octets octet more other)
     ∙ long-first most line.number line.octets octet (lines more) s (parted-some 10 more) long k
 
-pub octet-too_many : (octet : ℕ) (line next : LineSoFar) (s : State KeptQueues) (result : Result Unit ScriptFault) (w0 w1 : Option (List ℕ))
+pub octet-too_many : (octet : ℕ) (line next : LineSoFar) (s : Kept) (result : Result Unit ScriptFault) (w0 w1 : Option (List ℕ))
     → (octet ≡ 10 → ⊥) → LINE_OCTETS ≤ length line.octets
     → Does (stopped line.number s) result s w0 w1 → HasTaken (octet ∷ []) result line next s s w0 w1
 octet-too_many octet line next s (Ok x) w0 w1 other long h = cc (h.0)
@@ -107,7 +107,7 @@ octet-too_many octet line next s (Err (Line number)) w0 w1 other long h = record
   wrote = h.2;
   rest = λ most more k.
       long-run octet line s most more other long k
-      ∙ ap (λ (f : Option ℕ). record { text = (stopped line.number s).text; node = s; fault = f }) h.0;
+      ∙ ap (λ (f : Option ℕ). record { text = (stopped line.number s).text; state = s; fault = f }) h.0;
 }
 octet-too_many octet line next s (Err Write) w0 w1 other long h =
     let run = long-run octet line s LINE_OCTETS [] other long (omega arith) in
@@ -115,7 +115,7 @@ octet-too_many octet line next s (Err Write) w0 w1 other long h =
       taken = octet ∷ [];
       more = [];
       are = refl;
-      node = ap (λ (r : Reached KeptQueues). r.node) run;
+      state = ap (λ (r : Reached KeptQueues). r.state) run;
       wrote = subst (λ (r : Reached KeptQueues). AppendsFirst w0 w1 r.text) (sym run) h.1;
     }
 octet-too_many octet line next s (Err Read) w0 w1 other long h = absurd h
@@ -123,12 +123,12 @@ octet-too_many octet line next s (Err TooManyReads) w0 w1 other long h = absurd 
 octet-too_many octet line next s (Err NoMemory) w0 w1 other long h = absurd h
 
 -- a line feed ends the front line
-ended-first : (most number : ℕ) (line : List ℕ) (parts : List (List ℕ)) (s : State KeptQueues) → 0 < length parts
+ended-first : (most number : ℕ) (line : List ℕ) (parts : List (List ℕ)) (s : Kept) → 0 < length parts
     → lines_run kept most number (line ∷ parts) s ≡ behind (line_run kept number (whole_line line) s) (λ t. lines_run kept most (number + 1) (begun [] parts) t)
 ended-first most number line [] s some = absurd (omega (arith, some))
 ended-first most number line (part ∷ parts) s some = refl
 
-line-ended : (line : LineSoFar) (s : State KeptQueues) (most : ℕ) (more : List ℕ) → length line.octets ≤ LINE_OCTETS
+line-ended : (line : LineSoFar) (s : Kept) (most : ℕ) (more : List ℕ) → length line.octets ≤ LINE_OCTETS
     → rest_run most line (10 ∷ more) s
     ≡ behind (line_run kept line.number (parsed_line line.octets) s) (rest_run most (record { octets = []; number = line.number + 1 }) more)
 line-ended line s most more short =
@@ -136,7 +136,7 @@ line-ended line s most more short =
     ∙ ap (λ (octets : List ℕ). behind (line_run kept line.number (whole_line octets) s) (rest_run most (record { octets = []; number = line.number + 1 }) more)) (append-nil line.octets)
     ∙ ap (λ (r : Reading). behind (line_run kept line.number r s) (rest_run most (record { octets = []; number = line.number + 1 }) more)) (whole_line-short line.octets short)
 
-feed-done : (line : LineSoFar) (s after : State KeptQueues) (x : Unit) (w0 w1 : Option (List ℕ)) → length line.octets ≤ LINE_OCTETS
+feed-done : (line : LineSoFar) (s after : Kept) (x : Unit) (w0 w1 : Option (List ℕ)) → length line.octets ≤ LINE_OCTETS
     → Does (line_run kept line.number (parsed_line line.octets) s) (Ok x) after w0 w1
     → HasTaken (10 ∷ []) (Ok tt) line (record { octets = []; number = line.number + 1 }) s after w0 w1
 feed-done line s after x w0 w1 short h =
@@ -147,19 +147,19 @@ feed-done line s after x w0 w1 short h =
       wrote = h.2;
       rest = λ most more k.
           line-ended line s most more short ∙ behind-going r (rest_run most next more) h.0
-          ∙ ap (λ (t : State KeptQueues). onto r.text (rest_run most next more t)) h.1;
+          ∙ ap (λ (t : Kept). onto r.text (rest_run most next more t)) h.1;
     }
 
 -- what the last octets print, where nothing is behind them
-behind-nothing : (r : Reached KeptQueues) (b : Option ℕ) (next : State KeptQueues → Reached KeptQueues) → r.fault ≡ b
-    → ((t : State KeptQueues) → next t ≡ silent t) → ((behind r next).node ≡ r.node) × ((behind r next).text ≡ r.text)
+behind-nothing : (r : Reached KeptQueues) (b : Option ℕ) (next : Kept → Reached KeptQueues) → r.fault ≡ b
+    → ((t : Kept) → next t ≡ silent t) → ((behind r next).state ≡ r.state) × ((behind r next).text ≡ r.text)
 behind-nothing r None next h e =
-    let same = behind-going r next h ∙ ap (λ (x : Reached KeptQueues). onto r.text x) (e r.node) in
-    (ap (λ (x : Reached KeptQueues). x.node) same, ap (λ (x : Reached KeptQueues). x.text) same ∙ append-nil r.text)
+    let same = behind-going r next h ∙ ap (λ (x : Reached KeptQueues). onto r.text x) (e r.state) in
+    (ap (λ (x : Reached KeptQueues). x.state) same, ap (λ (x : Reached KeptQueues). x.text) same ∙ append-nil r.text)
 behind-nothing r (Some number) next h e =
-    let same = behind-ended r next number h in (ap (λ (x : Reached KeptQueues). x.node) same, ap (λ (x : Reached KeptQueues). x.text) same)
+    let same = behind-ended r next number h in (ap (λ (x : Reached KeptQueues). x.state) same, ap (λ (x : Reached KeptQueues). x.text) same)
 
-feed-broken : (line next : LineSoFar) (s after : State KeptQueues) (fault : ScriptFault) (w0 w1 : Option (List ℕ)) → length line.octets ≤ LINE_OCTETS
+feed-broken : (line next : LineSoFar) (s after : Kept) (fault : ScriptFault) (w0 w1 : Option (List ℕ)) → length line.octets ≤ LINE_OCTETS
     → Does (line_run kept line.number (parsed_line line.octets) s) (Err fault) after w0 w1
     → HasTaken (10 ∷ []) (Err fault) line next s after w0 w1
 feed-broken line next s after (Line number) w0 w1 short h =
@@ -170,8 +170,8 @@ feed-broken line next s after (Line number) w0 w1 short h =
       rest = λ most more k.
           line-ended line s most more short
           ∙ behind-ended r (rest_run most (record { octets = []; number = line.number + 1 }) more) number h.0
-          ∙ ap (λ (t : State KeptQueues). record { text = r.text; node = t; fault = r.fault }) h.1
-          ∙ ap (λ (f : Option ℕ). record { text = r.text; node = after; fault = f }) h.0;
+          ∙ ap (λ (t : Kept). record { text = r.text; state = t; fault = r.fault }) h.1
+          ∙ ap (λ (f : Option ℕ). record { text = r.text; state = after; fault = f }) h.0;
     }
 feed-broken line next s after Write w0 w1 short h =
     let r = line_run kept line.number (parsed_line line.octets) s in
@@ -181,14 +181,14 @@ feed-broken line next s after Write w0 w1 short h =
       taken = 10 ∷ [];
       more = [];
       are = refl;
-      node = ap (λ (x : Reached KeptQueues). x.node) run ∙ same.0 ∙ h.0;
+      state = ap (λ (x : Reached KeptQueues). x.state) run ∙ same.0 ∙ h.0;
       wrote = subst (λ (text : List ℕ). AppendsFirst w0 w1 text) (sym (ap (λ (x : Reached KeptQueues). x.text) run ∙ same.1)) h.1;
     }
 feed-broken line next s after Read w0 w1 short h = absurd h
 feed-broken line next s after TooManyReads w0 w1 short h = absurd h
 feed-broken line next s after NoMemory w0 w1 short h = absurd h
 
-pub line-done : (octet : ℕ) (line : LineSoFar) (text : List ℕ) (s after : State KeptQueues) (x : Unit) (w0 w1 : Option (List ℕ)) → octet ≡ 10
+pub line-done : (octet : ℕ) (line : LineSoFar) (text : List ℕ) (s after : Kept) (x : Unit) (w0 w1 : Option (List ℕ)) → octet ≡ 10
     → length line.octets ≤ LINE_OCTETS → text ≡ line.octets
     → Does (line_run kept line.number (parsed_line text) s) (Ok x) after w0 w1
     → HasTaken (octet ∷ []) (Ok tt) line (record { octets = []; number = line.number + 1 }) s after w0 w1
@@ -197,7 +197,7 @@ line-done octet line text s after x w0 w1 feed short same h =
     (feed-done line s after x w0 w1 short
     (subst (λ (octets : List ℕ). Does (line_run kept line.number (parsed_line octets) s) (Ok x) after w0 w1) same h))
 
-pub line-broken : (octet : ℕ) (line next : LineSoFar) (text : List ℕ) (s after : State KeptQueues) (fault : ScriptFault) (w0 w1 : Option (List ℕ)) → octet ≡ 10
+pub line-broken : (octet : ℕ) (line next : LineSoFar) (text : List ℕ) (s after : Kept) (fault : ScriptFault) (w0 w1 : Option (List ℕ)) → octet ≡ 10
     → length line.octets ≤ LINE_OCTETS → text ≡ line.octets
     → Does (line_run kept line.number (parsed_line text) s) (Err fault) after w0 w1
     → HasTaken (octet ∷ []) (Err fault) line next s after w0 w1
@@ -208,10 +208,10 @@ line-broken octet line next text s after fault w0 w1 feed short same h =
 
 -- ---- octets behind octets
 
-pub taken-nothing : (line : LineSoFar) (s : State KeptQueues) (w : Option (List ℕ)) → HasTaken [] (Ok tt) line line s s w w
+pub taken-nothing : (line : LineSoFar) (s : Kept) (w : Option (List ℕ)) → HasTaken [] (Ok tt) line line s s w w
 taken-nothing line s w = record { text = []; wrote = appends-nothing w; rest = λ most more k. refl }
 
-pub taken-more : (xs ys : List ℕ) (x : Unit) (result : Result Unit ScriptFault) (line mid next : LineSoFar) (s between after : State KeptQueues) (w0 w1 w2 : Option (List ℕ))
+pub taken-more : (xs ys : List ℕ) (x : Unit) (result : Result Unit ScriptFault) (line mid next : LineSoFar) (s between after : Kept) (w0 w1 w2 : Option (List ℕ))
     → HasTaken xs (Ok x) line mid s between w0 w1 → HasTaken ys result mid next between after w1 w2 → HasTaken (xs ++ ys) result line next s after w0 w2
 taken-more xs ys x (Ok y) line mid next s between after w0 w1 w2 h k = record {
   text = h.text ++ k.text;
@@ -233,14 +233,14 @@ taken-more xs ys x (Err Write) line mid next s between after w0 w1 w2 h k =
       taken = xs ++ k.taken;
       more = k.more;
       are = ap (λ (octets : List ℕ). xs ++ octets) k.are ∙ sym (append_assoc xs k.taken k.more);
-      node = ap (λ (r : Reached KeptQueues). r.node) run ∙ k.node;
+      state = ap (λ (r : Reached KeptQueues). r.state) run ∙ k.state;
       wrote = subst (λ (r : Reached KeptQueues). AppendsFirst w0 w2 r.text) (sym run) (appends-first w0 w1 w2 h.text _ h.wrote k.wrote);
     }
 taken-more xs ys x (Err Read) line mid next s between after w0 w1 w2 h k = absurd k
 taken-more xs ys x (Err TooManyReads) line mid next s between after w0 w1 w2 h k = absurd k
 taken-more xs ys x (Err NoMemory) line mid next s between after w0 w1 w2 h k = absurd k
 
-pub taken-no_more : (xs ys : List ℕ) (fault : ScriptFault) (line mid next : LineSoFar) (s after : State KeptQueues) (w0 w1 : Option (List ℕ))
+pub taken-no_more : (xs ys : List ℕ) (fault : ScriptFault) (line mid next : LineSoFar) (s after : Kept) (w0 w1 : Option (List ℕ))
     → HasTaken xs (Err fault) line mid s after w0 w1 → HasTaken (xs ++ ys) (Err fault) line next s after w0 w1
 taken-no_more xs ys (Line number) line mid next s after w0 w1 h = record {
   text = h.text;
@@ -251,7 +251,7 @@ taken-no_more xs ys Write line mid next s after w0 w1 h = record {
   taken = h.taken;
   more = h.more ++ ys;
   are = ap (λ (octets : List ℕ). octets ++ ys) h.are ∙ append_assoc h.taken h.more ys;
-  node = h.node;
+  state = h.state;
   wrote = h.wrote;
 }
 taken-no_more xs ys Read line mid next s after w0 w1 h = absurd h
@@ -260,7 +260,7 @@ taken-no_more xs ys NoMemory line mid next s after w0 w1 h = absurd h
 
 -- ---- at an index
 
-pub taken-at : (octets : List ℕ) (i : ℕ) (result : Result Unit ScriptFault) (line mid next : LineSoFar) (s between after : State KeptQueues) (w0 w1 w2 : Option (List ℕ))
+pub taken-at : (octets : List ℕ) (i : ℕ) (result : Result Unit ScriptFault) (line mid next : LineSoFar) (s between after : Kept) (w0 w1 w2 : Option (List ℕ))
     → i < length octets
     → HasTaken (get_or octets i 0 ∷ []) (Ok tt) line mid s between w0 w1
     → HasTaken (drop (i + 1) octets) result mid next between after w1 w2
@@ -270,7 +270,7 @@ taken-at octets i result line mid next s between after w0 w1 w2 lt h k =
     subst (λ (xs : List ℕ). HasTaken xs result line next s after w0 w2) (sym (drop-cons octets i 0 lt))
     (taken-more (get_or octets i 0 ∷ []) (drop (suc i) octets) tt result line mid next s between after w0 w1 w2 h (rw one at k))
 
-pub broken-at : (octets : List ℕ) (i : ℕ) (fault : ScriptFault) (line mid next : LineSoFar) (s after : State KeptQueues) (w0 w1 : Option (List ℕ))
+pub broken-at : (octets : List ℕ) (i : ℕ) (fault : ScriptFault) (line mid next : LineSoFar) (s after : Kept) (w0 w1 : Option (List ℕ))
     → i < length octets
     → HasTaken (get_or octets i 0 ∷ []) (Err fault) line mid s after w0 w1
     → HasTaken (drop i octets) (Err fault) line next s after w0 w1
@@ -278,7 +278,7 @@ broken-at octets i fault line mid next s after w0 w1 lt h =
     subst (λ (xs : List ℕ). HasTaken xs (Err fault) line next s after w0 w1) (sym (drop-cons octets i 0 lt))
     (taken-no_more (get_or octets i 0 ∷ []) (drop (suc i) octets) fault line mid next s after w0 w1 h)
 
-pub end-at : (octets : List ℕ) (i : ℕ) (line : LineSoFar) (s : State KeptQueues) (w : Option (List ℕ)) → length octets ≤ i
+pub end-at : (octets : List ℕ) (i : ℕ) (line : LineSoFar) (s : Kept) (w : Option (List ℕ)) → length octets ≤ i
     → HasTaken (drop i octets) (Ok tt) line line s s w w
 end-at octets i line s w le = rw (drop_all i octets le) (taken-nothing line s w)
 
@@ -301,15 +301,15 @@ consumes-nothing None = tt
 consumes-nothing (Some a) = refl
 
 -- the octets so far were taken, and led to the open line and the state
-pub record Progress (before : State KeptQueues) (left left_new written written_new : Option (List ℕ)) (line : LineSoFar) (s : State KeptQueues) : Type 0 where
+pub record Progress (before : Kept) (left left_new written written_new : Option (List ℕ)) (line : LineSoFar) (s : Kept) : Type 0 where
   pub octets : List ℕ
   pub consumed : Consumes left left_new octets
   pub taken : GoesOn octets first_line line before s written written_new
 
-pub no-progress : (before : State KeptQueues) (left written : Option (List ℕ)) → Progress before left left written written first_line before
+pub no-progress : (before : Kept) (left written : Option (List ℕ)) → Progress before left left written written first_line before
 no-progress before left written = record { octets = []; consumed = consumes-nothing left; taken = taken-nothing first_line before written }
 
-pub more-progress : (before s after : State KeptQueues) (left left_mid left_new w0 w1 w2 : Option (List ℕ)) (line next : LineSoFar) (piece : List ℕ)
+pub more-progress : (before s after : Kept) (left left_mid left_new w0 w1 w2 : Option (List ℕ)) (line next : LineSoFar) (piece : List ℕ)
     → Progress before left left_mid w0 w1 line s → Consumes left_mid left_new piece → HasTaken piece (Ok tt) line next s after w1 w2
     → Progress before left left_new w0 w2 next after
 more-progress before s after left left_mid left_new w0 w1 w2 line next piece p consumed taken = record {
@@ -321,23 +321,23 @@ more-progress before s after left left_mid left_new w0 w1 w2 line next piece p c
 -- ---- how a run ends
 
 -- the run of a script is that of what is left of it before its first octet
-from-first : (most : ℕ) (octets : List ℕ) (s : State KeptQueues) → lines_run kept most 1 (lines octets) s ≡ rest_run most first_line (octets ++ []) s
+from-first : (most : ℕ) (octets : List ℕ) (s : Kept) → lines_run kept most 1 (lines octets) s ≡ rest_run most first_line (octets ++ []) s
 from-first most octets s =
     ap (λ (parts : List (List ℕ)). lines_run kept most 1 parts s) (sym (begun-nothing (lines octets)))
     ∙ ap (λ (text : List ℕ). rest_run most first_line text s) (sym (append-nil octets))
 
 -- where the octets so far lead, with the open line at the end of what there is
-so-far : (before s : State KeptQueues) (left left_new w0 w1 : Option (List ℕ)) (line : LineSoFar) (most : ℕ) → most ≤ LINE_OCTETS
+so-far : (before s : Kept) (left left_new w0 w1 : Option (List ℕ)) (line : LineSoFar) (most : ℕ) → most ≤ LINE_OCTETS
     → (p : Progress before left left_new w0 w1 line s) → lines_run kept most 1 (lines p.octets) before ≡ onto p.taken.text (rest_run most line [] s)
 so-far before s left left_new w0 w1 line most m p = from-first most p.octets before ∙ p.taken.rest most [] m
 
 -- an open line that isn't too long prints nothing while more may come
-open-line : (line : LineSoFar) (s : State KeptQueues) → length line.octets ≤ LINE_OCTETS → rest_run LINE_OCTETS line [] s ≡ silent s
+open-line : (line : LineSoFar) (s : Kept) → length line.octets ≤ LINE_OCTETS → rest_run LINE_OCTETS line [] s ≡ silent s
 open-line line s short =
     ap (λ (text : List ℕ). open_run LINE_OCTETS line.number text s) (append-nil line.octets)
     ∙ if-false (nat_lt LINE_OCTETS (length line.octets)) (stopped line.number s) (silent s) (test-false LINE_OCTETS (length line.octets) short)
 
-does-so-far : (before s : State KeptQueues) (left left_new w0 w1 : Option (List ℕ)) (line : LineSoFar) → length line.octets ≤ LINE_OCTETS
+does-so-far : (before s : Kept) (left left_new w0 w1 : Option (List ℕ)) (line : LineSoFar) → length line.octets ≤ LINE_OCTETS
     → (p : Progress before left left_new w0 w1 line s) → Does (run_so_far kept p.octets before) (Ok tt) s w0 w1
 does-so-far before s left left_new w0 w1 line short p =
     let same : run_so_far kept p.octets before ≡ onto p.taken.text (silent s) =
@@ -345,17 +345,17 @@ does-so-far before s left left_new w0 w1 line short p =
     subst (λ (r : Reached KeptQueues). Does r (Ok tt) s w0 w1) (sym same)
     (refl, refl, appends-appends w0 w1 w1 p.taken.text [] p.taken.wrote (appends-nothing w1))
 
-pub at-failed-read : (before s : State KeptQueues) (left left_mid left_new w0 w1 : Option (List ℕ)) (line : LineSoFar) → length line.octets ≤ LINE_OCTETS
+pub at-failed-read : (before s : Kept) (left left_mid left_new w0 w1 : Option (List ℕ)) (line : LineSoFar) → length line.octets ≤ LINE_OCTETS
     → Progress before left left_mid w0 w1 line s → Keeps left_mid left_new → Runs kept (Err Read) before s left left_new w0 w1
 at-failed-read before s left left_mid left_new w0 w1 line short p h =
     (p.octets, consumes-keeps left left_mid left_new p.octets p.consumed h, does-so-far before s left left_mid w0 w1 line short p)
 
-pub at-last-read : (before s : State KeptQueues) (left left_new w0 w1 : Option (List ℕ)) (line : LineSoFar) → length line.octets ≤ LINE_OCTETS
+pub at-last-read : (before s : Kept) (left left_new w0 w1 : Option (List ℕ)) (line : LineSoFar) → length line.octets ≤ LINE_OCTETS
     → Progress before left left_new w0 w1 line s → Runs kept (Err TooManyReads) before s left left_new w0 w1
 at-last-read before s left left_new w0 w1 line short p = (p.octets, p.consumed, does-so-far before s left left_new w0 w1 line short p)
 
 -- the end of the input
-does-onto : (text : List ℕ) (r : Reached KeptQueues) (result : Result Unit ScriptFault) (after : State KeptQueues) (w0 w1 w2 : Option (List ℕ))
+does-onto : (text : List ℕ) (r : Reached KeptQueues) (result : Result Unit ScriptFault) (after : Kept) (w0 w1 w2 : Option (List ℕ))
     → Appends w0 w1 text → Does r result after w1 w2 → Does (onto text r) result after w0 w2
 does-onto text r (Ok x) after w0 w1 w2 h k = (k.0, k.1, appends-appends w0 w1 w2 text r.text h k.2)
 does-onto text r (Err (Line number)) after w0 w1 w2 h k = (k.0, k.1, appends-appends w0 w1 w2 text r.text h k.2)
@@ -364,7 +364,7 @@ does-onto text r (Err Read) after w0 w1 w2 h k = absurd k
 does-onto text r (Err TooManyReads) after w0 w1 w2 h k = absurd k
 does-onto text r (Err NoMemory) after w0 w1 w2 h k = absurd k
 
-runs-whole : (octets : List ℕ) (before s : State KeptQueues) (result : Result Unit ScriptFault) (left left_new w0 w1 : Option (List ℕ))
+runs-whole : (octets : List ℕ) (before s : Kept) (result : Result Unit ScriptFault) (left left_new w0 w1 : Option (List ℕ))
     → Consumes left left_new octets → IsAtEnd left_new → Does (whole_run kept octets before) result s w0 w1 → Runs kept result before s left left_new w0 w1
 runs-whole octets before s (Ok x) left left_new w0 w1 consumed done does = (octets, consumed, done, does)
 runs-whole octets before s (Err (Line number)) left left_new w0 w1 consumed done does =
@@ -375,7 +375,7 @@ runs-whole octets before s (Err Read) left left_new w0 w1 consumed done does = a
 runs-whole octets before s (Err TooManyReads) left left_new w0 w1 consumed done does = absurd does
 runs-whole octets before s (Err NoMemory) left left_new w0 w1 consumed done does = absurd does
 
-pub at-end : (before s : State KeptQueues) (left left_mid left_new w0 w1 w2 : Option (List ℕ)) (line : LineSoFar) (result : Result Unit ScriptFault) (piece : List ℕ)
+pub at-end : (before s : Kept) (left left_mid left_new w0 w1 w2 : Option (List ℕ)) (line : LineSoFar) (result : Result Unit ScriptFault) (piece : List ℕ)
     → Progress before left left_mid w0 w1 line s → piece ≡ [] → Consumes left_mid left_new piece → IsAtEnd left_new
     → Does (rest_run 0 line [] s) result s w1 w2 → Runs kept result before s left left_new w0 w2
 at-end before s left left_mid left_new w0 w1 w2 line result piece p e consumed done does =
@@ -386,10 +386,10 @@ at-end before s left left_mid left_new w0 w1 w2 line result piece p e consumed d
     (does-onto p.taken.text (rest_run 0 line [] s) result s w0 w1 w2 p.taken.wrote does))
 
 -- a fault in a piece
-runs-broken : (octets : List ℕ) (before after : State KeptQueues) (fault : ScriptFault) (line next : LineSoFar) (left left_new w0 w1 : Option (List ℕ))
+runs-broken : (octets : List ℕ) (before after : Kept) (fault : ScriptFault) (line next : LineSoFar) (left left_new w0 w1 : Option (List ℕ))
     → Consumes left left_new octets → HasTaken octets (Err fault) first_line next before after w0 w1 → Runs kept (Err fault) before after left left_new w0 w1
 runs-broken octets before after (Line number) line next left left_new w0 w1 consumed h =
-    let same : run_so_far kept octets before ≡ record { text = h.text; node = after; fault = Some number } =
+    let same : run_so_far kept octets before ≡ record { text = h.text; state = after; fault = Some number } =
     from-first LINE_OCTETS octets before ∙ h.rest LINE_OCTETS [] (omega arith) in (
       octets,
       consumed,
@@ -404,13 +404,13 @@ runs-broken octets before after Write line next left left_new w0 w1 consumed h =
       subst (λ (xs : List ℕ). Consumes left left_new xs) h.are consumed,
       run_so_far kept h.taken before,
       inl refl,
-      subst (λ (r : Reached KeptQueues). Does r (Err Write) after w0 w1) (sym same) (h.node, h.wrote),
+      subst (λ (r : Reached KeptQueues). Does r (Err Write) after w0 w1) (sym same) (h.state, h.wrote),
     )
 runs-broken octets before after Read line next left left_new w0 w1 consumed h = absurd h
 runs-broken octets before after TooManyReads line next left left_new w0 w1 consumed h = absurd h
 runs-broken octets before after NoMemory line next left left_new w0 w1 consumed h = absurd h
 
-pub at-fault : (before s after : State KeptQueues) (left left_mid left_new w0 w1 w2 : Option (List ℕ)) (line next : LineSoFar) (fault : ScriptFault) (piece : List ℕ)
+pub at-fault : (before s after : Kept) (left left_mid left_new w0 w1 w2 : Option (List ℕ)) (line next : LineSoFar) (fault : ScriptFault) (piece : List ℕ)
     → Progress before left left_mid w0 w1 line s → Consumes left_mid left_new piece → HasTaken piece (Err fault) line next s after w1 w2
     → Runs kept (Err fault) before after left left_new w0 w2
 at-fault before s after left left_mid left_new w0 w1 w2 line next fault piece p consumed taken =
@@ -420,7 +420,7 @@ at-fault before s after left left_mid left_new w0 w1 w2 line next fault piece p 
 
 -- ---- how many reads were made and failed
 
-pub end-reads-failed : (r : Reached KeptQueues) (result : Result Unit ScriptFault) (s : State KeptQueues) (w0 w1 : Option (List ℕ)) (n : ℕ)
+pub end-reads-failed : (r : Reached KeptQueues) (result : Result Unit ScriptFault) (s : Kept) (w0 w1 : Option (List ℕ)) (n : ℕ)
     → Does r result s w0 w1 → reads_failed n result ≡ n
 end-reads-failed r (Ok x) s w0 w1 n h = refl
 end-reads-failed r (Err (Line number)) s w0 w1 n h = refl
@@ -429,7 +429,7 @@ end-reads-failed r (Err Read) s w0 w1 n h = absurd h
 end-reads-failed r (Err TooManyReads) s w0 w1 n h = absurd h
 end-reads-failed r (Err NoMemory) s w0 w1 n h = absurd h
 
-pub end-reads-made : (r : Reached KeptQueues) (result : Result Unit ScriptFault) (s : State KeptQueues) (w0 w1 : Option (List ℕ)) (old new : ℕ)
+pub end-reads-made : (r : Reached KeptQueues) (result : Result Unit ScriptFault) (s : Kept) (w0 w1 : Option (List ℕ)) (old new : ℕ)
     → Does r result s w0 w1 → new ≤ old + READS → MakesReads result old new
 end-reads-made r (Ok x) s w0 w1 old new h k = k
 end-reads-made r (Err (Line number)) s w0 w1 old new h k = k

@@ -45,19 +45,19 @@ stands-done asked k a s =
 -- both print the same, and stop at the same line or at none
 record Same (r : Reached KeptQueues) (t : Reached (List Queue)) : Type 0 where
   pub text : r.text ≡ t.text
-  pub node : StandsFor r.node t.node
+  pub state : StandsFor r.state t.state
   pub fault : r.fault ≡ t.fault
 
 same-silent : (k : Kept) (a : Abstract) → StandsFor k a → Same (silent k) (silent a)
-same-silent k a s = record { text = refl; node = s; fault = refl }
+same-silent k a s = record { text = refl; state = s; fault = refl }
 
 same-stopped : (number : ℕ) (k : Kept) (a : Abstract) → StandsFor k a → Same (stopped number k) (stopped number a)
-same-stopped number k a s = record { text = refl; node = s; fault = refl }
+same-stopped number k a s = record { text = refl; state = s; fault = refl }
 
 same-line : (number : ℕ) (reading : Reading) (k : Kept) (a : Abstract) → StandsFor k a → Same (line_run kept number reading k) (line_run whole number reading a)
 same-line number Skips k a s = same-silent k a s
 same-line number IsMalformed k a s = same-stopped number k a s
-same-line number (Asks asked) k a s = record { text = stands-printed asked k a s; node = stands-done asked k a s; fault = refl }
+same-line number (Asks asked) k a s = record { text = stands-printed asked k a s; state = stands-done asked k a s; fault = refl }
 
 same-either : (b : Bool) (number : ℕ) (k : Kept) (a : Abstract) → StandsFor k a
     → Same (if b then stopped number k else silent k) (if b then stopped number a else silent a)
@@ -67,14 +67,14 @@ same-either false number k a s = same-silent k a s
 same-onto : (xs ys : List ℕ) (r : Reached KeptQueues) (t : Reached (List Queue)) → xs ≡ ys → Same r t → Same (onto xs r) (onto ys t)
 same-onto xs ys r t e h = record {
   text = ap (λ (text : List ℕ). text ++ r.text) e ∙ ap (λ (text : List ℕ). ys ++ text) h.text;
-  node = h.node;
+  state = h.state;
   fault = h.fault;
 }
 
 same-unless : (f : Option ℕ) (r : Reached KeptQueues) (t : Reached (List Queue)) (next : Kept → Reached KeptQueues) (follow : Abstract → Reached (List Queue))
     → Same r t → ((k : Kept) (a : Abstract) → StandsFor k a → Same (next k) (follow a))
     → Same (unless_ended f r next) (unless_ended f t follow)
-same-unless None r t next follow h k = same-onto r.text t.text (next r.node) (follow t.node) h.text (k r.node t.node h.node)
+same-unless None r t next follow h k = same-onto r.text t.text (next r.state) (follow t.state) h.text (k r.state t.state h.state)
 same-unless (Some number) r t next follow h k = h
 
 same-behind : (r : Reached KeptQueues) (t : Reached (List Queue)) (next : Kept → Reached KeptQueues) (follow : Abstract → Reached (List Queue))
@@ -95,16 +95,16 @@ same-lines most number (line ∷ next ∷ more) k a s =
 -- ---- a whole run
 
 abbrev DoesWhole : Reached (List Queue) → Result Unit ScriptFault → Kept → Option (List ℕ) → Option (List ℕ) → Type 0
-DoesWhole t result k w0 w1 = StandsFor k t.node × Does t result t.node w0 w1
+DoesWhole t result k w0 w1 = StandsFor k t.state × Does t result t.state w0 w1
 
 does-stands : (r : Reached KeptQueues) (t : Reached (List Queue)) (result : Result Unit ScriptFault) (k : Kept) (w0 w1 : Option (List ℕ))
     → Same r t → Does r result k w0 w1 → DoesWhole t result k w0 w1
 does-stands r t (Ok x) k w0 w1 h d =
-    (subst (λ (x : Kept). StandsFor x t.node) d.1 h.node, (sym h.fault ∙ d.0, refl, subst (λ (text : List ℕ). Appends w0 w1 text) h.text d.2))
+    (subst (λ (x : Kept). StandsFor x t.state) d.1 h.state, (sym h.fault ∙ d.0, refl, subst (λ (text : List ℕ). Appends w0 w1 text) h.text d.2))
 does-stands r t (Err (Line number)) k w0 w1 h d =
-    (subst (λ (x : Kept). StandsFor x t.node) d.1 h.node, (sym h.fault ∙ d.0, refl, subst (λ (text : List ℕ). Appends w0 w1 text) h.text d.2))
+    (subst (λ (x : Kept). StandsFor x t.state) d.1 h.state, (sym h.fault ∙ d.0, refl, subst (λ (text : List ℕ). Appends w0 w1 text) h.text d.2))
 does-stands r t (Err Write) k w0 w1 h d =
-    (subst (λ (x : Kept). StandsFor x t.node) d.0 h.node, (refl, subst (λ (text : List ℕ). AppendsFirst w0 w1 text) h.text d.1))
+    (subst (λ (x : Kept). StandsFor x t.state) d.0 h.state, (refl, subst (λ (text : List ℕ). AppendsFirst w0 w1 text) h.text d.1))
 does-stands r t (Err Read) k w0 w1 h d = absurd d
 does-stands r t (Err TooManyReads) k w0 w1 h d = absurd d
 does-stands r t (Err NoMemory) k w0 w1 h d = absurd d
@@ -135,21 +135,21 @@ pub runs-stand : (result : Result Unit ScriptFault) (k j : Kept) (a : Abstract) 
 runs-stand (Ok x) k j a left left_new w0 w1 s (octets, consumed, done, does) =
     let t = whole_run whole octets a in
     let d = does-stands (whole_run kept octets k) t (Ok x) j w0 w1 (same-lines 0 1 (lines octets) k a s) does in
-    (t.node, d.0, (octets, consumed, done, d.1))
+    (t.state, d.0, (octets, consumed, done, d.1))
 runs-stand (Err (Line number)) k j a left left_new w0 w1 s (octets, consumed, r, leads, does) =
     let to = leads-stands octets [] left_new k a r s leads in
     let d = does-stands r to.reached (Err (Line number)) j w0 w1 to.same does in
-    (to.reached.node, d.0, (octets, consumed, to.reached, to.leads, d.1))
+    (to.reached.state, d.0, (octets, consumed, to.reached, to.leads, d.1))
 runs-stand (Err Write) k j a left left_new w0 w1 s (octets, more, consumed, r, leads, does) =
     let to = leads-stands octets more left_new k a r s leads in
     let d = does-stands r to.reached (Err Write) j w0 w1 to.same does in
-    (to.reached.node, d.0, (octets, more, consumed, to.reached, to.leads, d.1))
+    (to.reached.state, d.0, (octets, more, consumed, to.reached, to.leads, d.1))
 runs-stand (Err Read) k j a left left_new w0 w1 s (octets, consumed, does) =
     let t = run_so_far whole octets a in
     let d = does-stands (run_so_far kept octets k) t (Ok tt) j w0 w1 (same-lines LINE_OCTETS 1 (lines octets) k a s) does in
-    (t.node, d.0, (octets, consumed, d.1))
+    (t.state, d.0, (octets, consumed, d.1))
 runs-stand (Err TooManyReads) k j a left left_new w0 w1 s (octets, consumed, does) =
     let t = run_so_far whole octets a in
     let d = does-stands (run_so_far kept octets k) t (Ok tt) j w0 w1 (same-lines LINE_OCTETS 1 (lines octets) k a s) does in
-    (t.node, d.0, (octets, consumed, d.1))
+    (t.state, d.0, (octets, consumed, d.1))
 runs-stand (Err NoMemory) k j a left left_new w0 w1 s h = absurd h

@@ -57,8 +57,8 @@ named_link c Ignored = []
 named_link c (Refused cause) = []
 
 -- the line of an outcome
-abbrev pub reported : Configuration → Outcome → List ℕ
-reported c outcome = outcome_line (named_link c outcome) outcome
+abbrev pub report : Configuration → Outcome → List ℕ
+report c outcome = outcome_line (named_link c outcome) outcome
 
 -- the line of a frame that was asked for, where there is one
 abbrev pub taken_text : List ℕ → Option (List ℕ) → List ℕ
@@ -72,13 +72,13 @@ name_asked c (Takes link) = name_in c link
 
 -- the line of an answer
 abbrev pub answer_text : Configuration → Asking → Answer → List ℕ
-answer_text c asking (Stepped outcome) = reported c outcome
+answer_text c asking (Stepped outcome) = report c outcome
 answer_text c asking (Taken frame) = taken_text (name_asked c asking) frame
 
 -- what is printed of a meaning, and the state after it
 abbrev pub meaning_printed : {Q : Type 0} → QueueKind Q → Meaning → State Q → List ℕ
 meaning_printed q (Calls asking) s = answer_text s.settings asking (answer_to_call q asking s)
-meaning_printed q (Refuses cause) s = reported s.settings (Refused cause)
+meaning_printed q (Refuses cause) s = report s.settings (Refused cause)
 
 abbrev pub meaning_done : {Q : Type 0} → QueueKind Q → Meaning → State Q → State Q
 meaning_done q (Calls asking) s = after_call q asking s

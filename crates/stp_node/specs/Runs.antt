@@ -15,28 +15,28 @@ use Rattle.stp_node.specs.declared.script.ScriptFault.TheVariants.{Read, Write, 
 -- where lines lead: what they print, the state after them, and the number of the line that ended the script, if one did
 pub record Reached (Q : Type 0) : Type 0 where
   pub text : List ℕ
-  pub node : State Q
+  pub state : State Q
   pub fault : Option ℕ
 
 -- nothing is printed
 abbrev pub silent : {Q : Type 0} → State Q → Reached Q
-silent s = record { text = []; node = s; fault = None }
+silent s = record { text = []; state = s; fault = None }
 
 -- this line ends the script: nothing of it is done
 abbrev pub stopped : {Q : Type 0} → ℕ → State Q → Reached Q
-stopped number s = record { text = line_fault number; node = s; fault = Some number }
+stopped number s = record { text = line_fault number; state = s; fault = Some number }
 
 -- what is read in a line that has its line feed: one of more than 8,300 octets (LINE_OCTETS) is malformed
 abbrev pub whole_line : List ℕ → Reading
 whole_line line = if nat_lt LINE_OCTETS (length line) then IsMalformed else parsed_line line
 
--- such a line
+-- what such a line prints, and the state after it
 abbrev pub line_run : {Q : Type 0} → QueueKind Q → ℕ → Reading → State Q → Reached Q
 line_run q number Skips s = silent s
 line_run q number IsMalformed s = stopped number s
-line_run q number (Asks asked) s = record { text = printed q asked s; node = done q asked s; fault = None }
+line_run q number (Asks asked) s = record { text = printed q asked s; state = done q asked s; fault = None }
 
--- a line without its line feed ends the script where it has more than so many octets
+-- a line that has no line feed yet ends the script where it has more than so many octets
 abbrev pub open_run : {Q : Type 0} → (most : ℕ) → ℕ → List ℕ → State Q → Reached Q
 open_run most number line s = (if nat_lt most (length line) then stopped number s else silent s)
 
@@ -46,7 +46,7 @@ onto text r = record r { text = text ++ r.text }
 
 -- what comes behind, unless a line ended the script
 abbrev pub unless_ended : {Q : Type 0} → Option ℕ → Reached Q → (State Q → Reached Q) → Reached Q
-unless_ended None r next = onto r.text (next r.node)
+unless_ended None r next = onto r.text (next r.state)
 unless_ended (Some number) r next = r
 
 abbrev pub behind : {Q : Type 0} → Reached Q → (State Q → Reached Q) → Reached Q
@@ -76,10 +76,10 @@ LeadsTo q octets more left s r = (r ≡ run_so_far q octets s) ⊎ ((more ≡ []
 -- of what they print were written.
 abbrev pub Does : {Q : Type 0} → Reached Q → Result Unit ScriptFault → (after : State Q)
     → (written written_new : Option (List ℕ)) → Type 0
-Does r (Ok x) after written written_new = (r.fault ≡ None) × (r.node ≡ after) × Appends written written_new r.text
+Does r (Ok x) after written written_new = (r.fault ≡ None) × (r.state ≡ after) × Appends written written_new r.text
 Does r (Err (Line number)) after written written_new =
-    (r.fault ≡ Some number) × (r.node ≡ after) × Appends written written_new r.text
-Does r (Err Write) after written written_new = (r.node ≡ after) × AppendsFirst written written_new r.text
+    (r.fault ≡ Some number) × (r.state ≡ after) × Appends written written_new r.text
+Does r (Err Write) after written written_new = (r.state ≡ after) × AppendsFirst written written_new r.text
 Does r (Err Read) after written written_new = ⊥
 Does r (Err TooManyReads) after written written_new = ⊥
 Does r (Err NoMemory) after written written_new = ⊥

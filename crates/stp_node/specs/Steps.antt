@@ -1,8 +1,8 @@
 -- How a script is gone through: the line that is open, and the octets that come behind.
 use Rattle.std.specs.Prelude.{◌≡◌, ℕ, ◌≤◌, List, [], ◌∷◌, ◌++◌, Option, Some, Result, Ok, Err}
 use Rattle.std.specs.Io.KnownBytes.{Appends}
-use Rattle.exchange.specs.State.{State}
 use Rattle.exchange.specs.Queues.{KeptQueues, kept}
+use Rattle.exchange.specs.Stands.{Kept}
 use Rattle.stp_node.specs.Lines.{lines}
 use Rattle.stp_node.specs.Streams.{AppendsFirst}
 use Rattle.stp_node.specs.Runs.{Reached, lines_run, onto}
@@ -25,12 +25,12 @@ begun front [] = []
 begun front (line ∷ more) = (front ++ line) ∷ more
 
 -- the open line, and the octets behind it
-abbrev pub rest_run : (most : ℕ) → LineSoFar → List ℕ → State KeptQueues → Reached KeptQueues
+abbrev pub rest_run : (most : ℕ) → LineSoFar → List ℕ → Kept → Reached KeptQueues
 rest_run most line octets s = lines_run kept most line.number (begun line.octets (lines octets)) s
 
 -- these octets were taken: what they print went out, and what comes behind is run from the next line and the next state
 -- on
-pub record GoesOn (octets : List ℕ) (line next : LineSoFar) (s after : State KeptQueues)
+pub record GoesOn (octets : List ℕ) (line next : LineSoFar) (s after : Kept)
     (written written_new : Option (List ℕ)) : Type 0 where
   pub text : List ℕ
   pub wrote : Appends written written_new text
@@ -38,24 +38,24 @@ pub record GoesOn (octets : List ℕ) (line next : LineSoFar) (s after : State K
       → rest_run most line (octets ++ behind) s ≡ onto text (rest_run most next behind after)
 
 -- a line in these octets ended the script, whatever comes behind
-pub record StopsAt (number : ℕ) (octets : List ℕ) (line : LineSoFar) (s after : State KeptQueues)
+pub record StopsAt (number : ℕ) (octets : List ℕ) (line : LineSoFar) (s after : Kept)
     (written written_new : Option (List ℕ)) : Type 0 where
   pub text : List ℕ
   pub wrote : Appends written written_new text
   pub rest : (most : ℕ) (behind : List ℕ) → most ≤ LINE_OCTETS
-      → rest_run most line (octets ++ behind) s ≡ record { text = text; node = after; fault = Some number }
+      → rest_run most line (octets ++ behind) s ≡ record { text = text; state = after; fault = Some number }
 
 -- a write failed at some of these octets
-pub record BreaksOff (octets : List ℕ) (line : LineSoFar) (s after : State KeptQueues)
+pub record BreaksOff (octets : List ℕ) (line : LineSoFar) (s after : Kept)
     (written written_new : Option (List ℕ)) : Type 0 where
   pub taken : List ℕ
   pub more : List ℕ
   pub are : octets ≡ taken ++ more
-  pub node : (rest_run LINE_OCTETS line taken s).node ≡ after
+  pub state : (rest_run LINE_OCTETS line taken s).state ≡ after
   pub wrote : AppendsFirst written written_new (rest_run LINE_OCTETS line taken s).text
 
 -- what was done with octets
-abbrev pub HasTaken : List ℕ → Result Unit ScriptFault → (line next : LineSoFar) → (s after : State KeptQueues)
+abbrev pub HasTaken : List ℕ → Result Unit ScriptFault → (line next : LineSoFar) → (s after : Kept)
     → (written written_new : Option (List ℕ)) → Type 0
 HasTaken octets (Ok x) line next s after written written_new = GoesOn octets line next s after written written_new
 HasTaken octets (Err (Line number)) line next s after written written_new =

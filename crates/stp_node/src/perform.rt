@@ -3,7 +3,7 @@
 ghost use Rattle.std.specs.Prelude.{◌≡◌, ◌≤◌, length};
 ghost use Rattle.exchange.specs.Queues.{kept};
 ghost use Rattle.stp_node.specs.Asking.{AskTake, asked_line};
-ghost use Rattle.stp_node.specs.Doing.{name_in, reported, printed, done};
+ghost use Rattle.stp_node.specs.Doing.{name_in, report, printed, done};
 
 use crate::line::Line;
 use crate::text::{Text, frame_line, none_line, outcome_line};
@@ -53,23 +53,23 @@ fn take(exchange: &mut Exchange, name: &[u8]) -> Text
     };
     let mut buffer = [0; BUFFER_OCTETS];
     match exchange.take(link, &mut buffer) {
-        Some(count) => frame_line(name_of(exchange, link), &buffer[..count]),
+        Some(count) => frame_line(name_in(exchange, link), &buffer[..count]),
         None => none_line(),
     }
 }
 
 /// The line of an outcome.
 fn report(exchange: &Exchange, outcome: Outcome) -> Text
-    ensures { result ≡ reported exchange.now.settings outcome }
+    ensures { result ≡ report exchange.now.settings outcome }
 {
     match outcome {
-        Outcome::Queued(link) => outcome_line(outcome, name_of(exchange, link)),
+        Outcome::Queued(link) => outcome_line(outcome, name_in(exchange, link)),
         _ => outcome_line(outcome, b""),
     }
 }
 
 /// The name of a link, or nothing where no link has this number.
-fn name_of(exchange: &Exchange, link: LinkId) -> &[u8]
+fn name_in(exchange: &Exchange, link: LinkId) -> &[u8]
     ensures name { result.now ≡ name_in exchange.now.settings link }
     ensures fits { length result.now ≤ Limits.NAME_OCTETS }
 {

@@ -1,9 +1,8 @@
 //! Running a script, octet by octet.
 
 ghost use Rattle.std.specs.Prelude.{◌≡◌, ◌+◌, ◌≤◌, ◌<◌, ◌^◌, [], ◌∷◌, length};
-ghost use Rattle.exchange.specs.State.{State};
-ghost use Rattle.exchange.specs.Queues.{KeptQueues, kept, whole};
-ghost use Rattle.exchange.specs.Stands.{Abstract, StandsFor};
+ghost use Rattle.exchange.specs.Queues.{kept, whole};
+ghost use Rattle.exchange.specs.Stands.{Abstract, Kept, StandsFor};
 ghost use Rattle.stp_node.specs.Asking.{parsed_line};
 ghost use Rattle.stp_node.specs.Runs.{Does, Runs, line_run, stopped};
 ghost use Rattle.stp_node.specs.Steps.{HasTaken, rest_run};
@@ -162,7 +161,7 @@ impl OpenLine {
     /// Takes the end of the script: a line that was begun is a fault.
     fn end<W: Sink>(&self, writer: &mut W) -> Result<(), ScriptFault>
         ensures writes { (W.output writer.new).failures ≡ writes_failed (W.output writer.old).failures result }
-        ensures run { (node : State KeptQueues) → Does (rest_run 0 self.now [] node) result node
+        ensures run { (s : Kept) → Does (rest_run 0 self.now [] s) result s
             (W.output writer.old).written (W.output writer.new).written }
     {
         if self.octets.is_empty() {
@@ -198,7 +197,7 @@ fn do_line<W: Sink>(
 /// Prints that a line is none, and ends the script.
 fn fail<W: Sink>(number: u64, writer: &mut W) -> Result<(), ScriptFault>
     ensures writes { (W.output writer.new).failures ≡ writes_failed (W.output writer.old).failures result }
-    ensures run { (node : State KeptQueues) → Does (stopped number node) result node
+    ensures run { (s : Kept) → Does (stopped number s) result s
         (W.output writer.old).written (W.output writer.new).written }
 {
     writer.write(line_fault(number).as_slice())?;

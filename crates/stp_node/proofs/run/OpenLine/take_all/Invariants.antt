@@ -1,7 +1,6 @@
 use Rattle.std.proofs.Common.{◌≡◌, ◌+◌, ◌≤◌, Option, List, Result, ℕ, drop, length}
 use Rattle.stp_node.specs.declared.script.TheConstants.{LINE_OCTETS}
-use Rattle.exchange.specs.State.{State}
-use Rattle.exchange.specs.Queues.{KeptQueues}
+use Rattle.exchange.specs.Stands.{Kept}
 use Rattle.stp_node.specs.Steps.{LineSoFar, HasTaken}
 use Rattle.stp_node.specs.declared.script.ScriptFault.{ScriptFault}
 use Rattle.stp_node.proofs.run.OpenLine.take_all.Given as goal
@@ -11,7 +10,7 @@ invariant-loop-octet g l = record {
   number : l.self.number ≤ l.fn.self.number + l.octet-index;
   short : length l.self.octets ≤ LINE_OCTETS;
   writes : (g.W.Sink.output l.writer).failures ≡ (g.W.Sink.output l.fn.writer).failures;
-  run : (end : Result Unit ScriptFault) (next : LineSoFar) (after : State KeptQueues) (written : Option (List ℕ))
+  run : (end : Result Unit ScriptFault) (next : LineSoFar) (after : Kept) (written : Option (List ℕ))
       → HasTaken (drop l.octet-index l.octets) end l.self next l.exchange after (g.W.Sink.output l.writer).written written
       → HasTaken l.octets end l.fn.self next l.fn.exchange after (g.W.Sink.output l.fn.writer).written written;
 }
