@@ -11,7 +11,7 @@ use Rattle.signalling_types.specs.declared.outcome.Outcome.TheVariants.{Local, H
 use Rattle.signalling_types.specs.declared.notice.FailureReason.{FailureReason}
 use Rattle.signalling_types.specs.declared.notice.FrameFault.{FrameFault}
 use Rattle.signalling_types.specs.declared.notice.FrameFault.TheVariants as faults
-use Rattle.m2pa_codec.specs.Frames.{FrameValue, EmptyFrame, MessageFrame}
+use Rattle.m2pa_codec.specs.Frames.{FrameValue, EmptyFrame, MessageFrame, StatusFrame}
 use Rattle.m2pa_codec.specs.Reading.{read_frame}
 use Rattle.routing_label.specs.declared.discrimination.Discrimination.{Discrimination}
 use Rattle.routing_label.specs.declared.discrimination.Discrimination.TheVariants as whither
@@ -144,14 +144,17 @@ module _ {P Q : Type 0} (p : QueueKind P) (q : QueueKind Q) (h : P → Q) (IsFit
   numbers-kept : (l : ℕ) (frame : FrameValue) (n : Node P) → IsFit n.queues → numbers q c l frame (keep h n) ≡ numbers p c l frame n
   numbers-kept l (EmptyFrame b f) n fit = k.accept_answer n.queues l f b false fit
   numbers-kept l (MessageFrame b f sio sif) n fit = k.accept_answer n.queues l f b true fit
+  numbers-kept l (StatusFrame b f status) n fit = refl
 
   accept-kept : (l : ℕ) (frame : FrameValue) (n : Node P) → IsFit n.queues → KeepsNode (accept q c l frame (keep h n)) (accept p c l frame n)
   accept-kept l (EmptyFrame b f) n fit = changed _ _ n.parts (k.accepted n.queues l f b false fit)
   accept-kept l (MessageFrame b f sio sif) n fit = changed _ _ (owing n.parts l) (k.accepted n.queues l f b true fit)
+  accept-kept l (StatusFrame b f status) n fit = record { same = refl; fit = fit }
 
   carry-kept : (l : ℕ) (frame : FrameValue) (n : Node P) → IsFit n.queues → Keeps (carry q c l frame (keep h n)) (carry p c l frame n)
   carry-kept l (EmptyFrame b f) n fit = parted _ n.parts n.queues fit
   carry-kept l (MessageFrame b f sio sif) n fit = deliver-kept l (record { sio = sio; sif = sif }) n fit
+  carry-kept l (StatusFrame b f status) n fit = parted _ _ n.queues fit
 
   handle_by-kept : (r : Result ℕ SeqFault) (l : ℕ) (frame : FrameValue) (n : Node P) → IsFit n.queues → Keeps (handle_by q c r l frame (keep h n)) (handle_by p c r l frame n)
   handle_by-kept (Ok count) l frame n f =

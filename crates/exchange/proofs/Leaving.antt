@@ -10,7 +10,7 @@ use Rattle.signalling_types.specs.declared.outcome.Outcome.TheVariants.{Queued, 
 use Rattle.signalling_types.specs.declared.notice.Notice.TheVariants as notices
 use Rattle.signalling_types.specs.declared.notice.FrameFault.{FrameFault}
 use Rattle.signalling_types.specs.declared.notice.FrameFault.TheVariants as faults
-use Rattle.m2pa_codec.specs.Frames.{FrameValue, EmptyFrame, MessageFrame}
+use Rattle.m2pa_codec.specs.Frames.{FrameValue, EmptyFrame, MessageFrame, StatusFrame}
 use Rattle.m2pa_codec.specs.Reading.{read_frame}
 use Rattle.routing_label.specs.declared.discrimination.Discrimination.{Discrimination}
 use Rattle.routing_label.specs.declared.discrimination.Discrimination.TheVariants as whither
@@ -133,6 +133,7 @@ module _ (c : Configuration) where
   carry-notes link (MessageFrame bsn fsn sio sif) n =
       notes (deliver_to whole c (whither_goes c (record { sio = sio; sif = sif })) link (record { sio = sio; sif = sif }) n) n link
       (deliver_to-leaves (whither_goes c (record { sio = sio; sif = sif })) link (record { sio = sio; sif = sif }) n)
+  carry-notes link (StatusFrame bsn fsn status) n = ignored_frame _ n link
 
   handle_by-notes : (r : Result ℕ SeqFault) (link : ℕ) (frame : FrameValue) (n : Node (List Queue)) → Notes (handle_by whole c r link frame n) (accept whole c link frame n) link
   handle_by-notes (Ok count) link frame n = carry-notes link frame (accept whole c link frame n)

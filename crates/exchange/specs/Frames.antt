@@ -7,7 +7,7 @@ use Rattle.signalling_types.specs.declared.notice.Notice.TheVariants as notices
 use Rattle.signalling_types.specs.declared.notice.FailureReason.TheVariants as reasons
 use Rattle.signalling_types.specs.declared.notice.FrameFault.{FrameFault}
 use Rattle.signalling_types.specs.declared.notice.FrameFault.TheVariants as faults
-use Rattle.m2pa_codec.specs.Frames.{FrameValue, EmptyFrame, MessageFrame}
+use Rattle.m2pa_codec.specs.Frames.{FrameValue, EmptyFrame, MessageFrame, StatusFrame}
 use Rattle.m2pa_codec.specs.Reading.{read_frame}
 use Rattle.link_sequence.specs.declared.fault.SeqFault.{SeqFault}
 use Rattle.exchange.specs.State.{QueueKind, Node, Done, with_parts, answer, refuse}
@@ -17,21 +17,25 @@ use Rattle.exchange.specs.Messages.{deliver}
 use Rattle.exchange.specs.Failing.{fail}
 
 module _ {Q : Type 0} (q : QueueKind Q) (c : Configuration) where
-  -- what the numbers of a frame say: FSN first, then BSN
+  -- what the numbers of a frame say: FSN first, then BSN; those of a link status are ignored
   abbrev pub numbers : ℕ → FrameValue → Node Q → Result ℕ SeqFault
   numbers link (EmptyFrame bsn fsn) node = q.accept_answer node.queues link fsn bsn false
   numbers link (MessageFrame bsn fsn sio sif) node = q.accept_answer node.queues link fsn bsn true
+  numbers link (StatusFrame bsn fsn status) node = Ok 0
 
   -- a frame of User Data is accepted: its numbers count, and one with a message is to be acknowledged
   abbrev pub accept : ℕ → FrameValue → Node Q → Node Q
   accept link (EmptyFrame bsn fsn) node = record node { queues = q.accepted node.queues link fsn bsn false }
   accept link (MessageFrame bsn fsn sio sif) node =
       record { queues = q.accepted node.queues link fsn bsn true; parts = owing node.parts link }
+  accept link (StatusFrame bsn fsn status) node = node
 
-  -- what an accepted frame carries
+  -- what an accepted frame carries; a link status isn't handled yet, and is noted as an unknown frame
   abbrev pub carry : ℕ → FrameValue → Node Q → Done Q
   carry link (EmptyFrame bsn fsn) node = answer Handled node
   carry link (MessageFrame bsn fsn sio sif) node = deliver q c link (record { sio = sio; sif = sif }) node
+  carry link (StatusFrame bsn fsn status) node =
+      answer Ignored (with_parts node (note (notices.Frame faults.Unknown link) node.parts))
 
   -- what the numbers alone do, right or wrong
   abbrev pub check_numbers : Bool → (link fsn bsn : ℕ) → Bool → Node Q → Node Q

@@ -1,4 +1,5 @@
 pub mod Cells
+pub mod StatusNumbers
 pub mod FrameTexts
 pub mod Windows
 pub mod StreamTexts

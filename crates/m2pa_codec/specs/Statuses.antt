@@ -16,7 +16,7 @@ status_number BusyEnded = 8
 status_number OutOfService = 9
 
 -- the state of a number, where there is one
-abbrev pub status_of : ℕ → Option LinkStatus
+unfoldable pub status_of : ℕ → Option LinkStatus
 status_of number =
     if number == 1 then Some Alignment
     else if number == 2 then Some ProvingNormal

@@ -1,5 +1,6 @@
 //! What a frame says.
 
+use crate::status::LinkStatus;
 use link_number::Number24;
 
 /// Octets of the buffer that a frame is written into: more than any frame that is written has.
@@ -25,5 +26,14 @@ pub enum Frame<'a> {
         sio: u8,
         /// The message's signalling information field, of any length.
         sif: &'a [u8],
+    },
+    /// Link Status (RFC 4165 §2.3.2).
+    Status {
+        /// The backward sequence number.
+        bsn: Number24,
+        /// The forward sequence number.
+        fsn: Number24,
+        /// The state that it tells.
+        status: LinkStatus,
     },
 }

@@ -9,6 +9,9 @@ pub(crate) const CLASS: u8 = 11;
 /// The message type of User Data (RFC 4165 §2.1.4).
 pub(crate) const USER_DATA: u8 = 1;
 
+/// The message type of Link Status (RFC 4165 §2.1.4).
+pub(crate) const LINK_STATUS: u8 = 2;
+
 /// What is written where readers pass over an octet.
 pub(crate) const SPARE: u8 = 0;
 
@@ -21,6 +24,9 @@ pub(crate) const HEADER_OCTETS: usize = 16;
 /// Octets before the field of a message: both headers, the priority octet and the service
 /// information octet (RFC 4165 §2.3.1).
 pub(crate) const MESSAGE_HEADER_OCTETS: usize = HEADER_OCTETS + 2;
+
+/// Octets of a Link Status message without filler: both headers and the state (RFC 4165 §2.3.2).
+pub(crate) const STATUS_OCTETS: usize = HEADER_OCTETS + 4;
 
 /// Where the backward sequence number stands (RFC 4165 §2.2).
 pub(crate) const BSN_AT: usize = 9;

@@ -1,21 +1,24 @@
 //! Frames read from their octets.
 
-ghost use Rattle.std.specs.Prelude.{◌≡◌, ℕ, ◌+◌, ◌≤◌, ◌<◌, ◌^◌, List, length, IfOk, IfErr, IsOkAnd, OnOk, Some, None};
+ghost use Rattle.std.specs.Prelude.{◌≡◌, ℕ, ◌+◌, ◌≤◌, ◌<◌, ◌^◌, List, length, slice_index, IfOk, IfErr, IsOkAnd, OnOk, Some, None};
 ghost use Rattle.m2pa_codec.specs.Frames.{FrameValue, IsFrame, bsn_of, fsn_of, sif_of};
 ghost use Rattle.m2pa_codec.specs.Values.{value_of, Answers};
+ghost use Rattle.m2pa_codec.specs.Types.{type_number};
 ghost use Rattle.m2pa_codec.specs.Reading.{number_field, header_fault, read_frame, fault_of};
 
 use crate::frame::Frame;
-use crate::layout::{BSN_AT, CLASS, FSN_AT, HEADER_OCTETS, USER_DATA, VERSION};
+use crate::layout::{BSN_AT, CLASS, FSN_AT, HEADER_OCTETS, LINK_STATUS, USER_DATA, VERSION};
+use crate::status::LinkStatus;
 use link_number::Number24;
 use signalling_types::FrameFault;
 
 /// The frame that the octets are, all of them, or their first fault (RFC 4165 §2).
 ///
 /// In this order: Short under 8 octets; Length where the length field isn't the number of octets;
-/// Version where the version isn't 1; Unknown where the class isn't 11 or the message type isn't 1;
-/// Short under 16 octets, and where a single octet follows these. Spare, unused and priority octets
-/// may be any, and the message's field may have any length.
+/// Version where the version isn't 1; Unknown where the class isn't 11 or the message type is
+/// neither 1 nor 2; Short under 16 octets, where a single octet follows these in User Data, and
+/// under 20 octets of Link Status; Unknown where its state isn't 1 to 9. Spare, unused and priority
+/// octets and the filler of a link status may be any, and a message's field may have any length.
 pub fn decode(octets: &[u8]) -> Result<Frame<'_>, FrameFault>
     // What reading gives.
     ensures exact { Answers result (read_frame octets.now) }
@@ -37,21 +40,33 @@ pub fn decode(octets: &[u8]) -> Result<Frame<'_>, FrameFault>
 fn read(octets: &[u8]) -> Result<Frame<'_>, FrameFault>
     ensures { Answers result (read_frame octets.now) }
 {
-    check_header(octets)?;
+    let kind = read_header(octets)?;
     if octets.len() < HEADER_OCTETS {
         return Err(FrameFault::Short);
     }
     let bsn = number_at(octets, BSN_AT);
     let fsn = number_at(octets, FSN_AT);
-    match &octets[HEADER_OCTETS..] {
-        [] => Ok(Frame::Empty { bsn, fsn }),
-        [_] => Err(FrameFault::Short),
-        [_, sio, sif @ ..] => Ok(Frame::Message {
-            bsn,
-            fsn,
-            sio: *sio,
-            sif,
-        }),
+    let body = &octets[HEADER_OCTETS..];
+    match kind {
+        MessageType::UserData => match body {
+            [] => Ok(Frame::Empty { bsn, fsn }),
+            [_] => Err(FrameFault::Short),
+            [_, sio, sif @ ..] => Ok(Frame::Message {
+                bsn,
+                fsn,
+                sio: *sio,
+                sif,
+            }),
+        },
+        MessageType::LinkStatus => {
+            let [s3, s2, s1, s0, ..] = *body else {
+                return Err(FrameFault::Short);
+            };
+            match LinkStatus::from_number(u32::from_be_bytes([s3, s2, s1, s0])) {
+                Some(status) => Ok(Frame::Status { bsn, fsn, status }),
+                None => Err(FrameFault::Unknown),
+            }
+        }
     }
 }
 
@@ -63,9 +78,17 @@ fn number_at(octets: &[u8], at: usize) -> Number24
     Number24::from_be_bytes([octets[at], octets[at + 1], octets[at + 2]])
 }
 
-/// Whether the common header is without fault, or its first fault (RFC 4165 §2.1).
-fn check_header(octets: &[u8]) -> Result<(), FrameFault>
+/// The message types of M2PA (RFC 4165 §2.1.4).
+#[derive(Clone, Copy)]
+enum MessageType {
+    UserData,
+    LinkStatus,
+}
+
+/// The message type that the common header names, or its first fault (RFC 4165 §2.1).
+fn read_header(octets: &[u8]) -> Result<MessageType, FrameFault>
     ensures ok { OnOk result (header_fault octets.now ≡ None) }
+    ensures kind { IfOk result (λ kind. slice_index octets.now 3 ≡ type_number kind) }
     ensures fault { IfErr result (λ fault. header_fault octets.now ≡ Some fault) }
 {
     let [version, _, class, kind, l3, l2, l1, l0, ..] = *octets else {
@@ -77,8 +100,12 @@ fn check_header(octets: &[u8]) -> Result<(), FrameFault>
     if version != VERSION {
         return Err(FrameFault::Version);
     }
-    if class != CLASS || kind != USER_DATA {
+    if class != CLASS {
         return Err(FrameFault::Unknown);
     }
-    Ok(())
+    match kind {
+        USER_DATA => Ok(MessageType::UserData),
+        LINK_STATUS => Ok(MessageType::LinkStatus),
+        _ => Err(FrameFault::Unknown),
+    }
 }

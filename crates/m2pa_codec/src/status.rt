@@ -35,6 +35,7 @@ impl LinkStatus {
     }
 
     /// The state of this number. None for 0 and above 9.
+    #[tactic(auto, unfolding(crate::specs::Statuses::status_of))]
     pub fn from_number(number: u32) -> Option<LinkStatus>
         ensures { result ≡ status_of number }
     {

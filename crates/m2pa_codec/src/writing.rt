@@ -6,13 +6,16 @@ ghost use Rattle.m2pa_codec.specs.Values.{value_of};
 ghost use Rattle.m2pa_codec.specs.Reading.{read_frame};
 
 use crate::frame::{BUFFER_OCTETS, Frame};
-use crate::layout::{CLASS, HEADER_OCTETS, MESSAGE_HEADER_OCTETS, SPARE, USER_DATA, VERSION};
+use crate::layout::{
+    CLASS, HEADER_OCTETS, LINK_STATUS, MESSAGE_HEADER_OCTETS, SPARE, STATUS_OCTETS, USER_DATA,
+    VERSION,
+};
 use link_number::Number24;
 use signalling_types::Limits;
 
 /// Writes the frame at the front of the buffer, and answers how many octets it has: 16, or 18 and
-/// those of the message's field. Spare, unused and priority octets are 0. The buffer behind the
-/// frame may hold anything afterwards (RFC 4165 §2).
+/// those of the message's field, or 20 for a link status. Spare, unused and priority octets are 0,
+/// and no filler is written. The buffer behind the frame may hold anything afterwards (RFC 4165 §2).
 #[inline(always)]
 pub fn encode(frame: &Frame<'_>, out: &mut [u8; BUFFER_OCTETS]) -> usize
     requires { length (sif_of (value_of frame.now)) ≤ Limits.SIF_OCTETS }
@@ -44,6 +47,10 @@ fn write(frame: &Frame<'_>, out: &mut [u8; BUFFER_OCTETS]) -> usize
             let at = write_at(out, 0, &header(USER_DATA, octets, bsn, fsn));
             let at = write_at(out, at, &[SPARE, sio]);
             write_at(out, at, sif)
+        }
+        Frame::Status { bsn, fsn, status } => {
+            let at = write_at(out, 0, &header(LINK_STATUS, STATUS_OCTETS as u32, bsn, fsn));
+            write_at(out, at, &status.number().to_be_bytes())
         }
     }
 }

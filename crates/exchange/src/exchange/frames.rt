@@ -43,7 +43,8 @@ impl Exchange {
         Outcome::Ignored
     }
 
-    /// A frame of User Data. A wrong number fails the link.
+    /// A frame of User Data, of which a wrong number fails the link; or a link status, which isn't handled yet and
+    /// is noted as an unknown frame.
     fn handle(&mut self, link: LinkId, frame: Frame<'_>) -> Outcome
         requires { link < length self.old.node.parts.links }
         ensures { Ends self.old result self.new
@@ -61,6 +62,7 @@ impl Exchange {
                 self.links[link.index()].acknowledgement_owed = true;
                 self.deliver(link, MsuRef { sio, sif })
             }
+            Frame::Status { .. } => self.leave_aside(link, FrameFault::Unknown),
         }
     }
 
