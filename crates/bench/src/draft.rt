@@ -17,7 +17,7 @@ pub(crate) const INTERNATIONAL: u8 = 2;
 /// How many messages may be unconfirmed.
 pub(crate) const WINDOW: usize = 128;
 
-/// The service indicator of the telephone user part's successor, ISUP (Q.704 §14.2.1).
+/// The service indicator of the ISDN user part (Q.704 §14.2.1).
 pub(crate) const ISUP: u8 = 5;
 
 /// The name of the one link set, and of the one link.

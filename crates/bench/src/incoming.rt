@@ -10,6 +10,15 @@ use link_number::Number24;
 use m2pa_codec::{Frame, encode};
 use stp_types::Limits;
 
+/// Where the backward sequence number stands (RFC 4165 §2.2).
+const BSN_AT: usize = 9;
+
+/// Where the forward sequence number stands (RFC 4165 §2.2).
+const FSN_AT: usize = 13;
+
+/// Octets of a sequence number.
+const NUMBER_OCTETS: usize = 3;
+
 /// A frame of User Data.
 #[derive(Clone, Copy)]
 pub(crate) struct Incoming {
@@ -41,10 +50,10 @@ impl Incoming {
         })
     }
 
-    /// The octets of the frame with these numbers (RFC 4165 §2.2).
+    /// Takes these numbers, and gives the octets of the frame.
     pub(crate) fn numbered(&mut self, bsn: Number24, fsn: Number24) -> &[u8] {
-        self.octets[9..12].copy_from_slice(&bsn.to_be_bytes());
-        self.octets[13..16].copy_from_slice(&fsn.to_be_bytes());
+        self.octets[BSN_AT..BSN_AT + NUMBER_OCTETS].copy_from_slice(&bsn.to_be_bytes());
+        self.octets[FSN_AT..FSN_AT + NUMBER_OCTETS].copy_from_slice(&fsn.to_be_bytes());
         &self.octets[..self.count]
     }
 }

@@ -1,8 +1,8 @@
 //! `bench KIND OCTETS DESTINATIONS COUNT`: what a message costs.
 //!
-//! Carries COUNT messages, whose signalling information fields have OCTETS octets, through an exchange with so
-//! many destinations, and prints how many frames went out with a checksum of their octets. Count the instructions of two
-//! runs: what they differ by, divided by the difference of their COUNTs, is what a message costs.
+//! Carries COUNT messages, whose signalling information fields have OCTETS octets, through an exchange with
+//! so many destinations, and prints how many frames went out with a checksum of their octets. Count the
+//! instructions of two runs: their difference by that of their COUNTs is what a message costs.
 #![tactic(auto)]
 
 mod arguments;

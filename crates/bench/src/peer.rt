@@ -1,23 +1,27 @@
 //! The peer at the other end of the link, which sends and takes frames and counts what it took.
 
-ghost use Rattle.std.specs.Prelude.{◌≤◌};
+ghost use Rattle.std.specs.Prelude.{◌≤◌, length};
 
 use crate::draft::draft_with;
 use crate::incoming::Incoming;
 use exchange::{BUFFER_OCTETS, Event, Exchange};
 use link_number::{Number24, next};
 use std::alloc::Global;
-use stp_types::{Limits, LinkId, Msu, Outcome, Settings};
+use stp_types::{Limits, LinkId, Msu, MsuRef, Settings};
 
 /// The exchange, and the peer at the other end of its link.
 #[derive(Drop)]
 pub(crate) struct Peer {
     exchange: Exchange,
     link: LinkId,
-    // The number of the last message that the peer took, and that of the next one that it sends.
+    /// The number of the last message that the peer took.
     taken: Number24,
+    /// The number of the next message that it sends.
     next: Number24,
+    /// Its frame without a message.
     empty: Incoming,
+    /// The message that a user part of the exchange handed over last.
+    submitted: Msu,
     buffer: [u8; BUFFER_OCTETS],
     frames: u64,
     checksum: u64,
@@ -37,6 +41,7 @@ impl Peer {
             taken: Number24::zero().previous(),
             next: Number24::zero(),
             empty: Incoming::empty(),
+            submitted: Msu::new(0, &[]).ok()?,
             buffer: [0; BUFFER_OCTETS],
             frames: 0,
             checksum: 0,
@@ -64,8 +69,11 @@ impl Peer {
     }
 
     /// A user part of the exchange hands over a message.
-    pub(crate) fn submit(&mut self, message: Msu) {
-        self.exchange.step(&Event::Submit(message));
+    pub(crate) fn submit(&mut self, message: MsuRef<'_>)
+        requires { length message.sif.now ≤ Limits.SIF_OCTETS }
+    {
+        self.submitted.refill(message);
+        self.exchange.step(&Event::Submit(self.submitted));
     }
 
     /// Takes the next message.
@@ -74,7 +82,7 @@ impl Peer {
         self.take_frame();
     }
 
-    /// Takes the next frame, where there is one, and counts it.
+    /// Takes the next frame, where there is one, and counts it in.
     pub(crate) fn take_frame(&mut self) {
         if let Some(count) = self.exchange.take(self.link, &mut self.buffer) {
             self.frames = self.frames.wrapping_add(1);

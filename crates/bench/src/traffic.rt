@@ -1,31 +1,32 @@
 //! Messages of one kind, one after another.
 
-ghost use Rattle.std.specs.Prelude.{◌≤◌, length};
+ghost use Rattle.std.specs.Prelude.{◌^◌, ◌<◌, ◌≤◌, length};
 
 use crate::arguments::{Arguments, Kind, LABEL_OCTETS};
 use crate::draft::{ADJACENT, INTERNATIONAL, ISUP, OWN, WINDOW};
 use crate::incoming::Incoming;
 use crate::peer::Peer;
 use routing_label::Label;
-use stp_types::{Limits, Msu, PointCode, Sls};
+use stp_types::{Limits, MsuRef, PointCode, Sls};
 
 /// After how many messages an empty frame confirms them.
 const CONFIRMED_AT_ONCE: u32 = 64;
 
-/// The service information octet of ISUP in the international network (Q.704 §14.2).
+/// The service information octet of the ISDN user part in the international network (Q.704 §14.2).
 const SIO: u8 = INTERNATIONAL << 6 | ISUP;
 
 /// What stands in a message behind its label.
 const FILLING: u8 = 0xaa;
 
-/// Carries the messages.
+/// Carries the messages, all to the last destination or to the node's own point.
 pub(crate) fn carry(peer: &mut Peer, arguments: &Arguments)
     requires octets { arguments.now.octets ≤ Limits.SIF_OCTETS }
     requires destinations { arguments.now.destinations ≤ Limits.DESTINATIONS }
 {
+    let last = OWN + arguments.destinations as u16;
     let to = match arguments.kind {
         Kind::Local => OWN,
-        _ => OWN + arguments.destinations as u16,
+        _ => last,
     };
     let field = longest_field(ADJACENT, to);
     let sif = &field[..arguments.octets];
@@ -49,7 +50,7 @@ fn forward(peer: &mut Peer, sif: &[u8], count: u32)
     }
 }
 
-/// The same, a window at a time.
+/// The same, a whole window at a time.
 fn burst(peer: &mut Peer, sif: &[u8], count: u32)
     requires { length sif.now ≤ Limits.SIF_OCTETS }
 {
@@ -65,11 +66,11 @@ fn burst(peer: &mut Peer, sif: &[u8], count: u32)
 }
 
 /// Messages of a user part that go out.
-fn submit(peer: &mut Peer, sif: &[u8], count: u32) {
+fn submit(peer: &mut Peer, sif: &[u8], count: u32)
+    requires { length sif.now ≤ Limits.SIF_OCTETS }
+{
     for number in 0..count {
-        if let Ok(message) = Msu::new(SIO, sif) {
-            peer.submit(message);
-        }
+        peer.submit(MsuRef { sio: SIO, sif });
         peer.take();
         if number % CONFIRMED_AT_ONCE == 0 {
             peer.confirm();
@@ -96,15 +97,16 @@ fn acknowledge(peer: &mut Peer, count: u32) {
 }
 
 /// The longest signalling information field: a label from one point to another, and octets behind it.
-fn longest_field(from: u16, to: u16) -> [u8; Limits::SIF_OCTETS] {
+fn longest_field(from: u16, to: u16) -> [u8; Limits::SIF_OCTETS]
+    requires from { from < 2 ^ 14 }
+    requires to { to < 2 ^ 14 }
+{
+    let label = Label {
+        opc: PointCode::new(from).unwrap(),
+        dpc: PointCode::new(to).unwrap(),
+        sls: Sls::new(0).unwrap(),
+    };
     let mut octets = [FILLING; Limits::SIF_OCTETS];
-    if let (Some(opc), Some(dpc), Some(sls)) = (
-        PointCode::new(from),
-        PointCode::new(to),
-        Sls::new(0),
-    ) {
-        let label = Label { dpc, opc, sls };
-        octets[..LABEL_OCTETS].copy_from_slice(&label.write());
-    }
+    octets[..LABEL_OCTETS].copy_from_slice(&label.write());
     octets
 }

@@ -70,6 +70,7 @@ impl CellLists {
     }
 
     /// Copies a message into a free cell, at the end of a list.
+    #[inline(always)]
     pub(crate) fn push_back(&mut self, list: usize, message: MsuRef<'_>)
         requires list { list < length self.old.lists }
         requires room { sum_by length self.old.lists < self.old.cells }
