@@ -118,7 +118,8 @@ timer_of InService = None
 
 -- entering a state stops the timer of the state before
 abbrev pub entering : (before after : Alignment) → Option LinkStatus → Option LinkTimer → Transition
-entering before after sent started = record { state = after; stop = timer_of before; send = sent; start = started; serve = false }
+entering before after sent started =
+    record { state = after; stop = timer_of before; send = sent; start = started; serve = false }
 
 -- the state stays, and no timer with it
 abbrev pub staying : Alignment → Transition

@@ -26,7 +26,8 @@ link_status = 2
 abbrev pub state_octets : LinkStatus → List ℕ
 state_octets status = to_be_bytes w32 (status_number status)
 
--- the common header: version 1, a spare octet, class 11, the message type, the length of the whole frame (RFC 4165 §2.1)
+-- the common header: version 1, a spare octet, class 11, the message type, the length of the whole frame
+-- (RFC 4165 §2.1)
 abbrev pub common_header : (spare kind len : ℕ) → List ℕ
 common_header spare kind len = 1 ∷ spare ∷ 11 ∷ kind ∷ to_be_bytes w32 len
 
@@ -44,12 +45,13 @@ pub record IsHeaded (text : List ℕ) (kind bsn fsn : ℕ) (body : List ℕ) : T
   pub bsn_fits : bsn < 2 ^ 24
   pub fsn_fits : fsn < 2 ^ 24
 
--- the text is a frame that says this. User Data has no body, or any priority octet, the message's octet and its field (RFC 4165 §2.3.1);
--- Link Status has its state and any filler (RFC 4165 §2.3.2)
+-- the text is a frame that says this. User Data has no body, or any priority octet, the message's octet and its field
+-- (RFC 4165 §2.3.1); Link Status has its state and any filler (RFC 4165 §2.3.2)
 abbrev pub IsFrame : List ℕ → FrameValue → Type 0
 IsFrame text (EmptyFrame bsn fsn) = IsHeaded text user_data bsn fsn []
 IsFrame text (MessageFrame bsn fsn sio sif) = (priority : ℕ) × IsHeaded text user_data bsn fsn (priority ∷ sio ∷ sif)
-IsFrame text (StatusFrame bsn fsn status) = (filler : List ℕ) × IsHeaded text link_status bsn fsn (state_octets status ++ filler)
+IsFrame text (StatusFrame bsn fsn status) =
+    (filler : List ℕ) × IsHeaded text link_status bsn fsn (state_octets status ++ filler)
 
 -- the text with spare, unused and priority octets 0, and no filler
 abbrev pub spelled_with : (kind bsn fsn : ℕ) (body : List ℕ) → List ℕ

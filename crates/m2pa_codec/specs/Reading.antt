@@ -11,7 +11,8 @@ use Rattle.m2pa_codec.specs.Frames.{FrameValue, EmptyFrame, MessageFrame, Status
 
 -- the length that the text says it has: octets 4 to 7
 abbrev pub length_field : List ℕ → ℕ
-length_field text = from_be_bytes w32 (slice_index text 4 ∷ slice_index text 5 ∷ slice_index text 6 ∷ slice_index text 7 ∷ [])
+length_field text =
+    from_be_bytes w32 (slice_index text 4 ∷ slice_index text 5 ∷ slice_index text 6 ∷ slice_index text 7 ∷ [])
 
 -- the number in the three octets from a place on
 abbrev pub number_field : List ℕ → ℕ → ℕ
@@ -27,7 +28,8 @@ fsn_field text = number_field text 13
 
 -- the state that a link status tells, where it has one of the nine: octets 16 to 19
 abbrev pub state_field : List ℕ → Option LinkStatus
-state_field text = status_of (from_be_bytes w32 (slice_index text 16 ∷ slice_index text 17 ∷ slice_index text 18 ∷ slice_index text 19 ∷ []))
+state_field text =
+    status_of (from_be_bytes w32 (slice_index text 16 ∷ slice_index text 17 ∷ slice_index text 18 ∷ slice_index text 19 ∷ []))
 
 -- the first fault of the common header
 abbrev pub header_fault : List ℕ → Option FrameFault
@@ -70,7 +72,8 @@ fault_of text = first_fault (header_fault text) (body_fault text)
 -- what a text without fault says; a link status without fault has one of the nine states
 abbrev pub value_in : List ℕ → FrameValue
 value_in text =
-    if slice_index text 3 == link_status then StatusFrame (bsn_field text) (fsn_field text) (unwrap_or (state_field text) OutOfService)
+    if slice_index text 3 == link_status
+    then StatusFrame (bsn_field text) (fsn_field text) (unwrap_or (state_field text) OutOfService)
     else if length text == 16 then EmptyFrame (bsn_field text) (fsn_field text)
     else MessageFrame (bsn_field text) (fsn_field text) (slice_index text 17) (drop 18 text)
 

@@ -14,7 +14,8 @@ pub record IsText (text : List ℕ) : Type 0 where
 
 -- a stream is broken where the length field in a frame's place says what no frame has
 abbrev pub is_broken : List ℕ → Bool
-is_broken octets = nat_le 8 (length octets) && (nat_lt (length_field octets) 8 || nat_lt FRAME_OCTETS (length_field octets))
+is_broken octets =
+    nat_le 8 (length octets) && (nat_lt (length_field octets) 8 || nat_lt FRAME_OCTETS (length_field octets))
 
 -- what a stream begins with: it is broken, or a whole text, or there is nothing to do but wait for more
 abbrev pub next_in : List ℕ → Next
@@ -80,8 +81,12 @@ pub record Passage : Type 0 where
   pub held : List ℕ
 
 abbrev pub after_call : Call → Passage → Passage
-after_call (Feed piece) p = record { taken = p.taken ++ taken_of p.held piece; given = p.given; held = p.held ++ taken_of p.held piece }
-after_call Ask p = record { taken = p.taken; given = p.given ++ given_by (next_in p.held) p.held; held = left_by (next_in p.held) p.held }
+after_call (Feed piece) p =
+    let taken = taken_of p.held piece in
+    record { taken = p.taken ++ taken; given = p.given; held = p.held ++ taken }
+after_call Ask p =
+    let next = next_in p.held in
+    record { taken = p.taken; given = p.given ++ given_by next p.held; held = left_by next p.held }
 
 abbrev pub after_calls : List Call → Passage → Passage
 after_calls [] p = p
@@ -91,7 +96,8 @@ after_calls (call ∷ calls) p = after_calls calls (after_call call p)
 abbrev pub passed : List Call → Passage
 passed calls = after_calls calls (record { taken = []; given = []; held = [] })
 
--- the octets went in, all of them or up to where the stream is broken, and the next text was asked for until there was none
+-- the octets went in, all of them or up to where the stream is broken, and the next text was asked for until there was
+-- none
 pub record GetsThrough (octets : List ℕ) (p : Passage) : Type 0 where
   pub left : List ℕ
   pub parts : octets ≡ p.taken ++ left

@@ -5,8 +5,8 @@ ghost use Rattle.m2pa_codec.specs.Streams.{next_in, room_for, taken_of, left_by,
 
 use crate::layout::COMMON_HEADER_OCTETS;
 use crate::window::Window;
-use signalling_types::Limits;
 use std::marker::Model;
+use signalling_types::Limits;
 
 /// What a framer finds in front of the octets that it holds.
 #[derive(Clone, Copy, Debug, PartialEq, Eq)]
@@ -53,7 +53,8 @@ impl Framer {
         // What is taken stands behind what was held.
         ensures held { self.new ≡ self.old ++ taken_of self.old piece.now }
         // A piece is cut short for one of two reasons.
-        ensures short { result < length piece.now → (length self.new ≡ Limits.FRAME_OCTETS) ⊎ (next_in self.old ≡ Next.Broken) }
+        ensures short { result < length piece.now
+            → (length self.new ≡ Limits.FRAME_OCTETS) ⊎ (next_in self.old ≡ Next.Broken) }
         ensures room { length self.new ≤ Limits.FRAME_OCTETS }
     {
         let count = piece.len().min(self.room());

@@ -2,3 +2,4 @@ pub mod Order
 pub mod Rising
 pub mod Counting
 pub mod Keys
+pub mod Due

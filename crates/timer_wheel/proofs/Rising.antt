@@ -12,7 +12,7 @@ use Rattle.timer_wheel.specs.Names.{is_before, has_name}
 use Rattle.timer_wheel.specs.Timers.{before, after, cleared, started, lowered, is_due, due_name, Running, set_timer, clear_timer, after_due}
 use Rattle.timer_wheel.specs.Kept.{AreAfter, DoRise, AreNamed}
 use Rattle.timer_wheel.specs.Lists.{without_due, is_found}
-use Rattle.timer_wheel.proofs.Order.{before-asym, before-chain, before-trans}
+use Rattle.timer_wheel.proofs.Order.{before-asym, before-chain, before-trans, before-itself}
 
 -- ---- what holds of each element
 
@@ -211,17 +211,10 @@ named-lowered n (t ∷ ts) h = (h.0, named-lowered n ts h.1)
 
 -- ---- what is due
 
-irreflexive : (x : TimerName) → is_before x x ≡ false
-irreflexive x =
-    elim (is_before x x) as (λ b. is_before x x ≡ b → b ≡ false) [
-      | true ↦ λ e. sym e ∙ before-asym x x e
-      | false ↦ λ e. refl
-    ] refl
-
 -- to take out the first timer is to stop it
 cleared-here : (t : Timer) (ts : List Timer) → AreAfter t.name ts → cleared t.name (t ∷ ts) ≡ ts
 cleared-here t ts k =
-    let here = irreflexive t.name in
+    let here = before-itself t.name in
     let none : before t.name (t ∷ ts) ≡ [] = ap (λ b. cond b (t ∷ before t.name ts) (before t.name ts)) here ∙ none_before t.name ts k in
     let rest : after t.name (t ∷ ts) ≡ ts = ap (λ b. cond b (t ∷ after t.name ts) (after t.name ts)) here ∙ filter-all _ ts k in
     λ i. none i ++ rest i

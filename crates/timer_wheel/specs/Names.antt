@@ -26,7 +26,9 @@ key_of (T8 set destination) = key 11 set destination
 key_of (T10 set destination) = key 12 set destination
 
 abbrev pub is_key_before : Key → Key → Bool
-is_key_before x y = nat_lt x.kind y.kind || (x.kind == y.kind && (nat_lt x.row y.row || (x.row == y.row && nat_lt x.column y.column)))
+is_key_before x y =
+    nat_lt x.kind y.kind
+    || (x.kind == y.kind && (nat_lt x.row y.row || (x.row == y.row && nat_lt x.column y.column)))
 
 -- whether a name comes before another
 abbrev pub is_before : TimerName → TimerName → Bool
@@ -50,6 +52,7 @@ has_name n (T6 destination) = nat_lt destination n.destinations
 has_name n (T8 set destination) = nat_lt set n.sets && nat_lt destination n.destinations
 has_name n (T10 set destination) = nat_lt set n.sets && nat_lt destination n.destinations
 
--- how many names those are: nine for each link, 16 codes for each set, one for each destination, two for each set and destination
+-- how many names those are: nine for each link, 16 codes for each set, one for each destination, two for each set and
+-- destination
 abbrev pub count_of : NodeCounts → ℕ
 count_of n = 9 * n.links + 16 * n.sets + n.destinations + 2 * (n.sets * n.destinations)

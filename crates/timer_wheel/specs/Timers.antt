@@ -1,5 +1,5 @@
 -- The timers that run: a finite map from names to the ticks that are left, as the list of its entries in name order.
-use Rattle.std.specs.Prelude.{ℕ, ◌-◌, Bool, List, ◌∷◌, ◌++◌, map, filter, find, Option, ◌==◌, max, if◌then◌else◌}
+use Rattle.std.specs.Prelude.{ℕ, ◌+◌, ◌-◌, Bool, List, [], ◌∷◌, ◌++◌, map, filter, find, Option, ◌==◌, max, if◌then◌else◌}
 use Rattle.std.specs.Option.{option_map, option_map_or}
 use Rattle.timer_wheel.specs.declared.name.TimerName.{TimerName}
 use Rattle.timer_wheel.specs.declared.name.NodeCounts.{NodeCounts}
@@ -40,7 +40,8 @@ pub record Running : Type 0 where
   pub counts : NodeCounts
   pub timers : List Timer
 
--- a timer runs out after so many ticks, at the next one where that is 0; a name that the node doesn't have is left aside
+-- a timer runs out after so many ticks, at the next one where that is 0; a name that the node doesn't have is left
+-- aside
 abbrev pub set_timer : TimerName → ℕ → Running → Running
 set_timer name ticks r =
     if has_name r.counts name
@@ -58,3 +59,8 @@ ticked r = record r { timers = map lowered r.timers }
 -- the timer that is due is handed out, and runs no longer
 abbrev pub after_due : Running → Running
 after_due r = option_map_or (λ name. clear_timer name r) (due_name r.timers) r
+
+-- how many timers are due
+abbrev pub due_count : List Timer → ℕ
+due_count [] = 0
+due_count (t ∷ timers) = (if is_due t then 1 else 0) + due_count timers
