@@ -5,8 +5,8 @@ ghost use Rattle.m2pa_codec.specs.Streams.{next_in, room_for, taken_of, left_by,
 
 use crate::layout::COMMON_HEADER_OCTETS;
 use crate::window::Window;
-use std::marker::Model;
 use signalling_types::Limits;
+use std::marker::Model;
 
 /// What a framer finds in front of the octets that it holds.
 #[derive(Clone, Copy, Debug, PartialEq, Eq)]

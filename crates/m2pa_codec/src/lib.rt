@@ -13,8 +13,8 @@ mod writing;
 pub use frame::{BUFFER_OCTETS, Frame};
 pub use framer::{Framer, Next};
 pub use reading::decode;
-pub use status::LinkStatus;
 pub use signalling_types::FrameFault;
+pub use status::LinkStatus;
 pub use writing::encode;
 
 #[cfg(test)]

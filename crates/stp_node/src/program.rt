@@ -14,8 +14,7 @@ use crate::source::Source;
 use exchange::{Exchange, NoMemory};
 use std::alloc::{AllocError, Global};
 use std::io::{Error, ErrorKind};
-use stp_types::DraftFault;
-use stp_types::Settings;
+use stp_types::{DraftFault, Settings};
 
 /// What the words behind the program's name ask for.
 #[derive(Clone, Copy, Debug, PartialEq, Eq)]

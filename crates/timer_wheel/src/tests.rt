@@ -1,7 +1,7 @@
 use super::*;
+use signalling_types::{LinkId, SetId};
 use std::alloc::Global;
 use std::test::*;
-use signalling_types::{LinkId, SetId};
 
 /// Three timers that run out in one tick, set out of order; a fourth that was set again, and one that was stopped.
 fn started(alloc: Global) -> Result<Timers, Fail> {

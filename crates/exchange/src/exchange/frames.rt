@@ -10,7 +10,7 @@ ghost use Rattle.exchange.specs.Frames as rule;
 use super::Exchange;
 use crate::link_state::Phase;
 use link_number::Number24;
-use m2pa_codec::{Frame, decode};
+use m2pa_codec::{Frame, LinkStatus, decode};
 use stp_types::{Cause, FailureReason, FrameFault, LinkId, MsuRef, Notice, Outcome};
 
 impl Exchange {
@@ -62,8 +62,17 @@ impl Exchange {
                 self.links[link.index()].acknowledgement_owed = true;
                 self.deliver(link, MsuRef { sio, sif })
             }
-            Frame::Status { .. } => self.leave_aside(link, FrameFault::Unknown),
+            Frame::Status { status, .. } => self.set_aside(link, status),
         }
+    }
+
+    /// A link status isn't handled yet: it is noted as an unknown frame.
+    fn set_aside(&mut self, link: LinkId, _status: LinkStatus) -> Outcome
+        requires { link < length self.old.node.parts.links }
+        ensures { Ends self.old result self.new
+            (rule.leave_aside kept self.old.settings link FrameFault.Unknown self.old.node) }
+    {
+        self.leave_aside(link, FrameFault::Unknown)
     }
 
     /// Looks at the numbers of a frame of User Data, and says whether they were right. Right ones count; a wrong
