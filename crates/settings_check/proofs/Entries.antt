@@ -1,9 +1,11 @@
 -- The first fault of a list's entries, from one entry to the next.
-use Rattle.std.proofs.Common.{refl, ap, Bool, ◌||◌, slice_set, ◌≡◌, ◌≤◌, ◌<◌, ◌+◌, ℕ, List, [], ◌∷◌, ◌++◌, Option, Some, None, length, take, drop, map, get_or, arith}
+use Rattle.std.proofs.Common.{refl, ap, Bool, true, false, ◌||◌, slice_set, ◌≡◌, ◌≤◌, ◌<◌, ◌+◌, ℕ, List, [], ◌∷◌, ◌++◌, Option, Some, None, length, take, drop, map, get_or, arith}
 use Rattle.std.proofs.lemmas.Grind.{common_steps}
-use Rattle.std.specs.List.{list_any}
-use Rattle.settings_check.specs.Checks.{first_of, entries_fault}
+use Rattle.std.specs.List.{list_any, list_all}
+use Rattle.settings_check.specs.Checks.{first_of, fault_unless, entries_fault}
 use Rattle.settings_rows.specs.declared.fault.DraftFault.{DraftFault}
+use Rattle.settings_rows.specs.declared.fault.FaultKind.{FaultKind}
+use Rattle.settings_rows.specs.declared.key.Key.{Key}
 
 pub first_of-one : (a : Option DraftFault) → first_of (a ∷ []) ≡ a
 first_of-one None = refl
@@ -41,3 +43,25 @@ any-map p f (x ∷ xs) = ap (λ b. p (f x) || b) (any-map p f xs)
 -- what is read of one row more
 pub pushed_map : {A B : Type 0} (g : A → B) (rows : List A) (row : A) (ys : List B) (y : B) → ys ≡ map g rows → y ≡ g row → ys ++ y ∷ [] ≡ map g (rows ++ row ∷ [])
 pushed_map g rows row ys y h k = grind (arith, common_steps)
+
+-- ---- elements that all have to pass
+pub past_passing : {A : Type 0} (p : A → Bool) (xs : List A) (i : ℕ) (x d : A) → i < length xs → x ≡ get_or xs i d → p x ≡ true → list_all p (drop (i + 1) xs) ≡ list_all p (drop i xs)
+past_passing p xs i x d l e h = grind (arith, common_steps)
+
+pub at_failing : {A : Type 0} (p : A → Bool) (xs : List A) (i : ℕ) (x d : A) → i < length xs → x ≡ get_or xs i d → p x ≡ false → list_all p (drop i xs) ≡ false
+at_failing p xs i x d l e h = grind (arith, common_steps)
+
+pub past_last : {A : Type 0} (p : A → Bool) (xs : List A) (i : ℕ) → length xs ≤ i → list_all p (drop i xs) ≡ true
+past_last p xs i l = grind (arith, common_steps)
+
+pub passes : (b : Bool) (kind : FaultKind) (key : Key) → fault_unless b kind key ≡ None → b ≡ true
+passes true kind key h = refl
+passes false kind key h = cc
+
+-- where one test fails, so does the other, with the same fault
+pub fails_too : (b c : Bool) (kind : FaultKind) (key : Key) (fault : DraftFault) → (b ≡ false → c ≡ false) → fault_unless b kind key ≡ Some fault → fault_unless c kind key ≡ Some fault
+fails_too true c kind key fault from h = cc
+fails_too false c kind key fault from h = rw (from refl) h
+
+pub passes_too : (b : Bool) (kind : FaultKind) (key : Key) → b ≡ true → fault_unless b kind key ≡ None
+passes_too b kind key h = rw h refl

@@ -73,6 +73,16 @@ fn has_repeat(numbers: &[u8]) -> bool
     false
 }
 
+/// The number, where it is one from `low` to `high`.
+fn octet(value: &i64, low: u8, high: u8, key: Key) -> Result<u8, DraftFault>
+    ensures value { IfOk result (λ n. n ≡ natural value.now) }
+    ensures well { OnOk result (range_fault low high key value.now ≡ None) }
+    ensures fault { IfErr result (λ fault. range_fault low high key value.now ≡ Some fault) }
+{
+    let number = number(*value, low as u16, high as u16, key)?;
+    Ok(number as u8)
+}
+
 /// The numbers, each from `low` to `high`.
 fn all_within(
     alloc: Global,
@@ -89,9 +99,9 @@ fn all_within(
         ⊎ (fault_unless (list_all (is_within low high) values.now) FaultKind.Range key ≡ Some fault)) }
 {
     let mut numbers = Vec::with_capacity(alloc, values.len())?;
-    for value in values {
-        let number = number(*value, low as u16, high as u16, key)?;
-        numbers.push(number as u8)?;
+    for i in 0..values.len() {
+        let number = octet(&values[i], low, high, key)?;
+        numbers.push(number)?;
     }
     Ok(numbers)
 }

@@ -3,8 +3,8 @@ use Rattle.std.specs.List.{list_all}
 use Rattle.settings_check.specs.Checks.{natural, is_within}
 use Rattle.settings_check.proofs.numbers.all_within.Given as goal
 
-abbrev pub invariant-loop-value : goal.invariant-loop-value
-invariant-loop-value l = record {
-  numbers : l.numbers.items ≡ map natural (take l.value-index l.values);
-  within : list_all (is_within l.low l.high) (drop l.value-index l.values) ≡ list_all (is_within l.low l.high) l.values;
+abbrev pub invariant-loop-i : goal.invariant-loop-i
+invariant-loop-i l = record {
+  numbers : l.numbers.items ≡ map natural (take l.i l.values);
+  within : list_all (is_within l.low l.high) (drop l.i l.values) ≡ list_all (is_within l.low l.high) l.values;
 }
