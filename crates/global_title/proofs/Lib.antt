@@ -1,3 +1,4 @@
 pub mod RowOrder
 pub mod LongestRow
 pub mod TableRows
+pub mod OneRow

@@ -41,7 +41,7 @@ greater-then : (a b c : List ℕ) → place_order b a ≡ Less → (place_order 
 greater-then a b c e (inl f) = reversed c a Less (sym (total.congr b c a f) ∙ e)
 greater-then a b c e (inr f) = reversed c a Less (total.trans c b a (reversed b c Greater f) e)
 
-each-at : (P : TitleEntry → Type 0) (rows : List TitleEntry) → AllByRecursion P rows → (k : ℕ) (d : TitleEntry) → k < length rows → P (get_or rows k d)
+pub each-at : (P : TitleEntry → Type 0) (rows : List TitleEntry) → AllByRecursion P rows → (k : ℕ) (d : TitleEntry) → k < length rows → P (get_or rows k d)
 each-at P [] h k d lt = absurd (omega (arith, lt))
 each-at P (row ∷ rows) h zero d lt = h.0
 each-at P (row ∷ rows) h (suc k) d lt = each-at P rows h.1 k d (omega (arith, lt))

@@ -69,8 +69,9 @@ fn write_message(
     ensures fits { IsOk result ↔ IsWritable (parts_value parts.now) }
     ensures cause { IfErr result (λ cause. cause ≡ Cause.TooLong) }
     ensures unchanged { OnErr result (field.new ≡ field.old) }
-    ensures count { IfOk result (λ count. count ≡ 4 + length ((start ++ pointed (parts_value parts.now)))) }
-    ensures text { IfOk result (λ count. take count field.new ≡ label ++ (start ++ pointed (parts_value parts.now))) }
+    ensures count { IfOk result (λ count. count ≡ 4 + length (start ++ pointed (parts_value parts.now))) }
+    ensures text { IfOk result (λ count.
+        take count field.new ≡ label ++ (start ++ pointed (parts_value parts.now))) }
     ensures label { length label ≡ 4 }
     ensures value { OnOk result (IsPartsValue (parts_value parts.now)) }
 {

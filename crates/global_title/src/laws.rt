@@ -1,0 +1,14 @@
+//! Laws of translation tables, for whoever keeps one. Each function says its law by its contract, and
+//! does nothing.
+
+ghost use Rattle.std.specs.Prelude.{◌≡◌, ℕ, List, Ok};
+ghost use Rattle.settings_rows.specs.Configuration.{TitleEntry};
+ghost use Rattle.sccp_codec.specs.declared.title.TitleKey.{TitleKey};
+ghost use Rattle.global_title.specs.Rows.{IsOrdered};
+ghost use Rattle.global_title.specs.Translation.{IsTranslation, translation};
+
+/// An address has one translation at most, and it is the one that a table in its order answers.
+pub fn one_translation()
+    ensures { (rows : List TitleEntry) (key : TitleKey) (digits : List ℕ) (row : TitleEntry) → IsOrdered rows
+        → IsTranslation rows key digits row → translation rows key digits ≡ Ok row }
+{}
