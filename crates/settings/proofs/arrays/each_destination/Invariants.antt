@@ -1,0 +1,10 @@
+use Rattle.std.proofs.Common.{◌≡◌, drop, map}
+use Rattle.toml.specs.View.{view}
+use Rattle.settings.specs.Shapes.{each}
+use Rattle.settings.specs.Written.{destination_written}
+use Rattle.settings.specs.Entries.{destination_in}
+use Rattle.settings.proofs.Each.{after}
+use Rattle.settings.proofs.arrays.each_destination.Given as goal
+
+abbrev pub invariant-loop-i : goal.invariant-loop-i
+invariant-loop-i l = after (map destination_written l.destinations.items) (each destination_in l.i (map view (drop l.i l.values))) ≡ each destination_in 0 (map view l.values)

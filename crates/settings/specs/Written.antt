@@ -1,0 +1,80 @@
+-- Settings as a file has them, as plain data, and what a draft has of it.
+use Rattle.std.specs.Prelude.{ℕ, ℤ, List, Option, map, string_bytes}
+use Rattle.settings_rows.specs.declared.draft.Draft.{Draft}
+use Rattle.settings_rows.specs.declared.draft.TimersDraft.{TimersDraft}
+use Rattle.settings_rows.specs.declared.draft.SetDraft.{SetDraft}
+use Rattle.settings_rows.specs.declared.draft.LinkDraft.{LinkDraft}
+use Rattle.settings_rows.specs.declared.draft.DestinationDraft.{DestinationDraft}
+use Rattle.settings_rows.specs.declared.draft.TitleDraft.{TitleDraft}
+
+pub record WrittenSet : Type 0 where
+  pub name : List ℕ
+  pub adjacent : ℤ
+
+pub record WrittenLink : Type 0 where
+  pub name : List ℕ
+  pub set : List ℕ
+  pub slc : ℤ
+
+pub record WrittenDestination : Type 0 where
+  pub point : ℤ
+  pub sets : List (List ℕ)
+
+pub record WrittenTitle : Type 0 where
+  pub translation : ℤ
+  pub plan : ℤ
+  pub nature : ℤ
+  pub digits : List ℕ
+  pub point : ℤ
+  pub route : List ℕ
+  pub ssn : Option ℤ
+
+-- the settings of a file, but for its version
+pub record Written : Type 0 where
+  pub own : ℤ
+  pub network : ℤ
+  pub window : ℤ
+  pub pool : ℤ
+  pub users : List ℤ
+  pub subsystems : List ℤ
+  pub timers : TimersDraft
+  pub sets : List WrittenSet
+  pub links : List WrittenLink
+  pub destinations : List WrittenDestination
+  pub titles : List WrittenTitle
+
+abbrev pub set_written : SetDraft → WrittenSet
+set_written s = record { name = string_bytes s.name; adjacent = s.adjacent }
+
+abbrev pub link_written : LinkDraft → WrittenLink
+link_written l = record { name = string_bytes l.name; set = string_bytes l.set; slc = l.slc }
+
+abbrev pub destination_written : DestinationDraft → WrittenDestination
+destination_written d = record { point = d.point; sets = map (λ name. string_bytes name) d.sets.items }
+
+abbrev pub title_written : TitleDraft → WrittenTitle
+title_written t = record {
+  translation = t.translation;
+  plan = t.plan;
+  nature = t.nature;
+  digits = string_bytes t.digits;
+  point = t.point;
+  route = string_bytes t.route;
+  ssn = t.ssn;
+}
+
+-- what a draft has
+abbrev pub written : Draft → Written
+written d = record {
+  own = d.own;
+  network = d.network;
+  window = d.window;
+  pool = d.pool;
+  users = d.users.items;
+  subsystems = d.subsystems.items;
+  timers = d.timers;
+  sets = map set_written d.sets.items;
+  links = map link_written d.links.items;
+  destinations = map destination_written d.destinations.items;
+  titles = map title_written d.titles.items;
+}

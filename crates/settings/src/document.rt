@@ -1,0 +1,126 @@
+//! Reading a settings file.
+
+ghost use Rattle.std.specs.Prelude.{◌≡◌, ◌⊎◌, IfOk, IfErr};
+ghost use Rattle.std.specs.Option.{ok_or};
+ghost use Rattle.toml.specs.Parse.{parse_document};
+ghost use Rattle.toml.specs.View.{table_view};
+ghost use Rattle.settings.specs.Faults.{AnswersOrNoMemory, no_memory};
+ghost use Rattle.settings.specs.Written.{written};
+ghost use Rattle.settings.specs.Document.{numbers_at, document};
+ghost use Rattle.settings.specs.Reading.{reading, IsReadAs, IsFirstFault};
+
+use crate::arrays::{destinations, links, sets, titles};
+use crate::fault::SettingsFault;
+use crate::shapes::{integer, integers};
+use crate::timers::timers;
+use std::alloc::Global;
+use stp_types::{Draft, DraftFault, Key, Settings};
+use toml::Table;
+
+/// The version of the format.
+const VERSION: i64 = 1;
+
+/// The numbers that a file begins with.
+#[derive(Clone, Copy)]
+pub(crate) struct Numbers {
+    pub version: i64,
+    pub own: i64,
+    pub network: i64,
+    pub window: i64,
+    pub pool: i64,
+}
+
+/// What a document says: the version of its format, and settings.
+#[derive(Drop)]
+pub(crate) struct Document {
+    pub version: i64,
+    pub draft: Draft,
+}
+
+/// The numbers that a file begins with.
+#[tactic(auto, unfolding(crate::specs::Document::numbers_at))]
+fn leading_numbers(table: &Table) -> Result<Numbers, SettingsFault>
+    ensures { result ≡ numbers_at (table_view table.now) }
+{
+    Ok(Numbers {
+        version: integer(table, "version", Key::Version)?,
+        own: integer(table, "own", Key::Own)?,
+        network: integer(table, "network", Key::Network)?,
+        window: integer(table, "window", Key::Window)?,
+        pool: integer(table, "pool", Key::Pool)?,
+    })
+}
+
+/// What a document says.
+#[tactic(auto, unfolding(crate::specs::Document::document))]
+fn contents(alloc: Global, table: &Table) -> Result<Document, SettingsFault>
+    ensures { AnswersOrNoMemory (λ d. record { version = d.version; settings = written d.draft })
+        (document (table_view table.now)) result }
+{
+    let numbers = leading_numbers(table)?;
+    let users = integers(alloc, table, "users", Key::Users)?;
+    let subsystems = integers(alloc, table, "subsystems", Key::Subsystems)?;
+    let timers = timers(table)?;
+    let sets = sets(alloc, table)?;
+    let links = links(alloc, table)?;
+    let destinations = destinations(alloc, table)?;
+    let titles = titles(alloc, table)?;
+    Ok(Document {
+        version: numbers.version,
+        draft: Draft {
+            own: numbers.own,
+            network: numbers.network,
+            window: numbers.window,
+            pool: numbers.pool,
+            users,
+            subsystems,
+            timers,
+            sets,
+            links,
+            destinations,
+            titles,
+        },
+    })
+}
+
+/// The table that a text is, where it is TOML.
+fn parse(alloc: Global, text: &str) -> Result<Table, SettingsFault>
+    ensures { AnswersOrNoMemory table_view
+        (ok_or (parse_document text.now) SettingsFault.Text) result }
+{
+    match toml::table_from_str(alloc, text) {
+        Ok(table) => Ok(table),
+        Err(error) if error.is_memory() => Err(SettingsFault::Draft(DraftFault::NoMemory)),
+        Err(_) => Err(SettingsFault::Text),
+    }
+}
+
+/// The settings that a text has.
+#[tactic(auto, unfolding(crate::specs::Reading::reading))]
+fn draft(alloc: Global, text: &str) -> Result<Draft, SettingsFault>
+    ensures { AnswersOrNoMemory written (reading text.now) result }
+{
+    let table = parse(alloc, text)?;
+    let Document { version, draft } = contents(alloc, &table)?;
+    if version != VERSION {
+        return Err(SettingsFault::Version);
+    }
+    Ok(draft)
+}
+
+/// Reads settings from the text of a file, and checks them.
+///
+/// Answers the settings, or the first fault: `Text` where the text isn't TOML; then `Missing` and
+/// `Kind` over all keys in their order, the entries of an array from the first on; then `Version`;
+/// then what `Settings::check` finds. Want of memory may stand in place of any other. Keys of other
+/// names are ignored.
+pub fn read(alloc: Global, text: &str) -> Result<Settings, SettingsFault>
+    ensures settings { IfOk result (IsReadAs text.now) }
+    ensures fault { IfErr result (λ fault. (fault ≡ no_memory) ⊎ IsFirstFault text.now fault) }
+{
+    let draft = draft(alloc, text)?;
+    match Settings::check(alloc, draft) {
+        Ok(settings) => Ok(settings),
+        Err(fault) => Err(SettingsFault::Draft(fault)),
+    }
+}
