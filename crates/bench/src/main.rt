@@ -5,6 +5,8 @@
 //! instructions of two runs: their difference by that of their COUNTs is what a message costs.
 #![tactic(auto)]
 
+ghost use Rattle.std.specs.Prelude.{◌≤◌};
+
 mod arguments;
 mod draft;
 mod incoming;
@@ -12,26 +14,55 @@ mod peer;
 mod traffic;
 
 use arguments::Arguments;
-use peer::Peer;
+use peer::{Peer, Total};
+use std::alloc::Global;
 use std::process::ExitCode;
 use std::{env, io};
+use stp_types::Limits;
 use traffic::carry;
 
 fn main(rt: HostRuntime) -> io::Result<ExitCode> {
-    let words = env::args(&rt)?.skip(1).collect::<Vec<String>>(rt.alloc())?;
-    let Some(arguments) = Arguments::read(words.as_slice()) else {
-        println!(rt;
-            "usage: bench forward|burst|submit|local|acknowledgement OCTETS DESTINATIONS COUNT"
-        )?;
-        return Ok(ExitCode::from(1));
-    };
-    let Some(mut peer) = Peer::of_exchange_with(rt.alloc(), arguments.destinations) else {
-        println!(rt; "the exchange doesn't start")?;
-        return Ok(ExitCode::from(2));
-    };
-    carry(&mut peer, &arguments);
-    let frames = peer.frames();
-    let checksum = peer.checksum();
-    println!(rt; "{frames} frames, checksum {checksum}")?;
-    Ok(ExitCode::from(0))
+    let words = words(&rt)?;
+    match Arguments::read(words.as_slice()) {
+        Some(arguments) => report(&rt, total_of(rt.alloc(), &arguments)),
+        None => refuse(&rt),
+    }
+}
+
+/// The words behind the program's name.
+fn words(rt: &HostRuntime) -> io::Result<Vec<String>> {
+    let words = env::args(rt)?.skip(1).collect(rt.alloc())?;
+    Ok(words)
+}
+
+/// Carries the messages. None where memory ran out.
+fn total_of(alloc: Global, arguments: &Arguments) -> Option<Total>
+    requires octets { arguments.now.octets ≤ Limits.SIF_OCTETS }
+    requires destinations { arguments.now.destinations ≤ Limits.DESTINATIONS }
+{
+    let mut peer = Peer::of_exchange_with(alloc, arguments.destinations)?;
+    carry(&mut peer, arguments);
+    Some(peer.total())
+}
+
+/// Prints what went out.
+fn report(rt: &HostRuntime, total: Option<Total>) -> io::Result<ExitCode> {
+    match total {
+        Some(Total { frames, checksum }) => {
+            println!(rt; "{frames} frames, checksum {checksum}")?;
+            Ok(ExitCode::from(0))
+        }
+        None => {
+            println!(rt; "memory ran out")?;
+            Ok(ExitCode::from(2))
+        }
+    }
+}
+
+/// Says which words are asked for.
+fn refuse(rt: &HostRuntime) -> io::Result<ExitCode> {
+    println!(rt;
+        "usage: bench forward|burst|submit|local|acknowledgement OCTETS DESTINATIONS COUNT"
+    )?;
+    Ok(ExitCode::from(1))
 }

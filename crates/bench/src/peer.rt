@@ -23,8 +23,16 @@ pub(crate) struct Peer {
     /// The message that a user part of the exchange handed over last.
     submitted: Msu,
     buffer: [u8; BUFFER_OCTETS],
-    frames: u64,
-    checksum: u64,
+    total: Total,
+}
+
+/// What went out.
+#[derive(Clone, Copy)]
+pub(crate) struct Total {
+    /// How many frames.
+    pub frames: u64,
+    /// The sum of their words.
+    pub checksum: u64,
 }
 
 impl Peer {
@@ -32,19 +40,20 @@ impl Peer {
     pub(crate) fn of_exchange_with(alloc: Global, destinations: usize) -> Option<Peer>
         requires { destinations ≤ Limits.DESTINATIONS }
     {
-        let draft = draft_with(alloc, destinations).ok()?;
-        let settings = Settings::check(alloc, draft).ok()?;
-        let exchange = Exchange::boot(alloc, settings).ok()?;
+        let submitted = Msu::new(0, &[]).ok()?;
+        let exchange = exchange_with(alloc, destinations)?;
         let mut peer = Peer {
             exchange,
             link: LinkId::new(0),
             taken: Number24::zero().previous(),
             next: Number24::zero(),
             empty: Incoming::empty(),
-            submitted: Msu::new(0, &[]).ok()?,
+            submitted,
             buffer: [0; BUFFER_OCTETS],
-            frames: 0,
-            checksum: 0,
+            total: Total {
+                frames: 0,
+                checksum: 0,
+            },
         };
         peer.open();
         Some(peer)
@@ -85,20 +94,27 @@ impl Peer {
     /// Takes the next frame, where there is one, and counts it in.
     pub(crate) fn take_frame(&mut self) {
         if let Some(count) = self.exchange.take(self.link, &mut self.buffer) {
-            self.frames = self.frames.wrapping_add(1);
-            self.checksum = self.checksum.wrapping_add(sum_of(&self.buffer[..count]));
+            let sum = sum_of(&self.buffer[..count]);
+            self.total = Total {
+                frames: self.total.frames.wrapping_add(1),
+                checksum: self.total.checksum.wrapping_add(sum),
+            };
         }
     }
 
-    /// How many frames went out.
-    pub(crate) fn frames(&self) -> u64 {
-        self.frames
+    /// What the peer took.
+    pub(crate) fn total(&self) -> Total {
+        self.total
     }
+}
 
-    /// The sum of their words.
-    pub(crate) fn checksum(&self) -> u64 {
-        self.checksum
-    }
+/// The exchange with so many destinations, before its first event. None where memory ran out.
+fn exchange_with(alloc: Global, destinations: usize) -> Option<Exchange>
+    requires { destinations ≤ Limits.DESTINATIONS }
+{
+    let draft = draft_with(alloc, destinations).ok()?;
+    let settings = Settings::check(alloc, draft).ok()?;
+    Exchange::boot(alloc, settings).ok()
 }
 
 /// The sum of a frame's words of eight octets, and of its last eight octets.
