@@ -1,3 +1,4 @@
+pub mod Elements
 pub mod Order
 pub mod Rising
 pub mod Counting

@@ -12,54 +12,8 @@ use Rattle.timer_wheel.specs.Names.{is_before, has_name}
 use Rattle.timer_wheel.specs.Timers.{before, after, cleared, started, lowered, is_due, due_name, Running, set_timer, clear_timer, after_due}
 use Rattle.timer_wheel.specs.Kept.{AreAfter, DoRise, AreNamed}
 use Rattle.timer_wheel.specs.Lists.{without_due, is_found}
+use Rattle.timer_wheel.proofs.Elements.{all-filter, all-append, all-without, passes, filter-all, filter-none, filter-append, all-weaker}
 use Rattle.timer_wheel.proofs.Order.{before-asym, before-chain, before-trans, before-itself}
-
--- ---- what holds of each element
-
-module _ {X : Type 0} (P : X → Type 0) where
-  all-filter : (p : X → Bool) (xs : List X) → AllByRecursion P xs → AllByRecursion P (filter p xs)
-  all-filter p [] h = tt
-  all-filter p (x ∷ xs) h =
-      let rest = all-filter p xs h.1 in
-      elim (p x) as (λ b. AllByRecursion P (cond b (x ∷ filter p xs) (filter p xs))) [ true ↦ (h.0, rest) | false ↦ rest ]
-
-  all-append : (xs ys : List X) → AllByRecursion P xs → AllByRecursion P ys → AllByRecursion P (xs ++ ys)
-  all-append [] ys h k = k
-  all-append (x ∷ xs) ys h k = (h.0, all-append xs ys h.1 k)
-
-  all-without : (xs : List X) (x : X) (ys : List X) → AllByRecursion P (xs ++ x ∷ ys) → AllByRecursion P (xs ++ ys)
-  all-without [] x ys h = h.1
-  all-without (z ∷ xs) x ys h = (h.0, all-without xs x ys h.1)
-
-module _ {X : Type 0} (p : X → Bool) where
-  -- each element that a filter leaves passes
-  passes : (xs : List X) → AllByRecursion (λ x. p x ≡ true) (filter p xs)
-  passes [] = tt
-  passes (x ∷ xs) =
-      elim (p x) as (λ b. p x ≡ b → AllByRecursion (λ x. p x ≡ true) (cond b (x ∷ filter p xs) (filter p xs))) [
-        | true ↦ λ e. (e, passes xs)
-        | false ↦ λ e. passes xs
-      ] refl
-
-  filter-all : (xs : List X) → AllByRecursion (λ x. p x ≡ true) xs → filter p xs ≡ xs
-  filter-all [] h = refl
-  filter-all (x ∷ xs) h = ap (λ b. cond b (x ∷ filter p xs) (filter p xs)) h.0 ∙ ap (λ (ys : List X). x ∷ ys) (filter-all xs h.1)
-
-  filter-none : (xs : List X) → AllByRecursion (λ x. p x ≡ false) xs → filter p xs ≡ []
-  filter-none [] h = refl
-  filter-none (x ∷ xs) h = ap (λ b. cond b (x ∷ filter p xs) (filter p xs)) h.0 ∙ filter-none xs h.1
-
-  filter-append : (xs ys : List X) → filter p (xs ++ ys) ≡ filter p xs ++ filter p ys
-  filter-append [] ys = refl
-  filter-append (x ∷ xs) ys =
-      elim (p x) as (λ b. cond b (x ∷ filter p (xs ++ ys)) (filter p (xs ++ ys)) ≡ cond b (x ∷ filter p xs) (filter p xs) ++ filter p ys) [
-        | true ↦ ap (λ (zs : List X). x ∷ zs) (filter-append xs ys)
-        | false ↦ filter-append xs ys
-      ]
-
-all-weaker : {X : Type 0} (P Q : X → Type 0) → ((x : X) → P x → Q x) → (xs : List X) → AllByRecursion P xs → AllByRecursion Q xs
-all-weaker P Q f [] h = tt
-all-weaker P Q f (x ∷ xs) h = (f x h.0, all-weaker P Q f xs h.1)
 
 -- ---- the timers before and after a name
 
