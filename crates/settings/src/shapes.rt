@@ -22,11 +22,7 @@ pub(crate) fn found<'a>(table: &'a Table, name: &str) -> Option<&'a Value>
 
 /// The value of a key that has to be there.
 #[tactic(auto, unfolding(crate::specs::Shapes::value_at))]
-pub(crate) fn value<'a>(
-    table: &'a Table,
-    name: &str,
-    key: Key,
-) -> Result<&'a Value, SettingsFault>
+pub(crate) fn value<'a>(table: &'a Table, name: &str, key: Key) -> Result<&'a Value, SettingsFault>
     ensures { Answers (λ value. view value.now)
         (value_at name.now key (table_view table.now)) result }
 {

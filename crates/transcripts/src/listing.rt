@@ -39,7 +39,21 @@ fn numbers(text: &mut String, settings: &Settings) -> Result<(), AllocError> {
 
 /// The timers.
 fn timers(text: &mut String, t: TimerTicks) -> Result<(), AllocError> {
-    let TimerTicks { l1, l2, l3, l4, l6, l7, t1, t2, t3, t4, t6, t8, t10 } = t;
+    let TimerTicks {
+        l1,
+        l2,
+        l3,
+        l4,
+        l6,
+        l7,
+        t1,
+        t2,
+        t3,
+        t4,
+        t6,
+        t8,
+        t10,
+    } = t;
     writeln!(text, "{l1} {l2} {l3} {l4} {l6} {l7}")?;
     writeln!(text, "{t1} {t2} {t3} {t4} {t6} {t8} {t10}")
 }

@@ -36,11 +36,7 @@ fn play<R: Files + AllocGlobal>(rt: &R, text: &str) -> Result<u64> {
 }
 
 /// The run that a line begins, if it begins one.
-fn begin<R: Files + AllocGlobal>(
-    rt: &R,
-    line: Line<'_>,
-    number: usize,
-) -> Result<Option<Run>> {
+fn begin<R: Files + AllocGlobal>(rt: &R, line: Line<'_>, number: usize) -> Result<Option<Run>> {
     let (mode, name) = match line {
         Line::Check(name) => (Mode::Check, name),
         Line::Run(name) => (Mode::Run, name),
