@@ -13,7 +13,7 @@ pub enum Line<'a> {
     Without(&'a str),
     /// `+ LINE`: this line is put into the settings file.
     With(&'a str),
-    /// `> LINE`: a line of the script.
+    /// `> LINE`, or `>` alone for an empty one: a line of the script.
     Given(&'a str),
     /// `>| TEXT`: the end of the script, without a line end.
     Cut(&'a str),
@@ -28,6 +28,9 @@ pub fn read_line(text: &str) -> Line<'_> {
     }
     if text == "$ stp run" {
         return Line::Run("");
+    }
+    if text == ">" {
+        return Line::Given("");
     }
     match text.split_at_checked(2) {
         Some(("- ", rest)) => Line::Without(rest),

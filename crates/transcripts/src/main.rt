@@ -8,7 +8,7 @@
 //! - `$ stp check FILE` and `$ stp run FILE` begin a run over the settings of that file; `$ stp run`
 //!   begins one over the built-in settings.
 //! - `- LINE` and `+ LINE` behind that take a line out of the file and put one in, for this run.
-//! - `> LINE` is a line of the script, and `>| TEXT` its last one, without a line end.
+//! - `> LINE` is a line of the script, `>` an empty one, and `>| TEXT` its last one, without a line end.
 //! - Every other line is one that is printed.
 #![tactic(auto)]
 
