@@ -2,7 +2,7 @@
 -- document's; keys of other names are ignored.
 use Rattle.std.specs.Prelude.{ℤ, Result, Ok, codes}
 use Rattle.toml.specs.Data.{Members}
-use Rattle.settings_rows.specs.Keys.{timer_name}
+use Rattle.settings.specs.TimerNames.{timer_name}
 use Rattle.settings_rows.specs.declared.draft.TimersDraft.{TimersDraft}
 use Rattle.settings_rows.specs.declared.key.Key.TheVariants as key
 use Rattle.settings_rows.specs.declared.key.TimerKey.{TimerKey}

@@ -2,6 +2,7 @@
 
 ghost use Rattle.std.specs.Prelude.{◌≡◌};
 ghost use Rattle.toml.specs.View.{table_view};
+ghost use Rattle.settings.specs.TimerNames.{timer_name};
 ghost use Rattle.settings.specs.Document.{ticks_at, timers_in, timers_at};
 
 use crate::fault::SettingsFault;
@@ -9,12 +10,33 @@ use crate::shapes::{integer, table_in, value};
 use stp_types::{Key, TimerKey, TimersDraft};
 use toml::Table;
 
+/// The name of a timer in its table.
+fn name(timer: TimerKey) -> &'static str
+    ensures { result.now ≡ timer_name timer }
+{
+    match timer {
+        TimerKey::L1 => "l1",
+        TimerKey::L2 => "l2",
+        TimerKey::L3 => "l3",
+        TimerKey::L4 => "l4",
+        TimerKey::L6 => "l6",
+        TimerKey::L7 => "l7",
+        TimerKey::T1 => "t1",
+        TimerKey::T2 => "t2",
+        TimerKey::T3 => "t3",
+        TimerKey::T4 => "t4",
+        TimerKey::T6 => "t6",
+        TimerKey::T8 => "t8",
+        TimerKey::T10 => "t10",
+    }
+}
+
 /// The ticks that a timer runs.
 #[tactic(auto, unfolding(crate::specs::Document::ticks_at))]
 fn ticks(table: &Table, timer: TimerKey) -> Result<i64, SettingsFault>
     ensures { result ≡ ticks_at timer (table_view table.now) }
 {
-    integer(table, timer.name(), Key::Timer(timer))
+    integer(table, name(timer), Key::Timer(timer))
 }
 
 /// The ticks that each timer of a table runs.
