@@ -10,7 +10,7 @@ use stp_types::{DraftFault, Key};
 
 /// The first fault of a settings file. It prints as the line that tells it: `fault 1`, `fault 3
 /// link[2].slc`, `fault NoMemory`. The numbers are part of the interface.
-#[derive(Clone, Copy, Debug, PartialEq, Eq)]
+#[derive(Clone, Copy)]
 pub enum SettingsFault {
     /// 1: the text isn't TOML.
     Text,
@@ -50,6 +50,12 @@ impl fmt::Display for SettingsFault {
             SettingsFault::Version => write!(f, "fault 4 version"),
             SettingsFault::Draft(fault) => write!(f, "{fault}"),
         }
+    }
+}
+
+impl fmt::Debug for SettingsFault {
+    fn fmt<W: fmt::Write>(&self, f: &mut fmt::Formatter<W>) -> fmt::Result {
+        fmt::Display::fmt(self, f)
     }
 }
 
