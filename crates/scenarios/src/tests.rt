@@ -11,7 +11,6 @@ mod streams;
 use exchange::Exchange;
 use std::alloc::Global;
 use std::process::Abort;
-use std::test::Fail;
 use stp_node::{MemorySink, MemorySource, ScriptFault, Sink, Source, built_in, run_script};
 use stp_types::Settings;
 
@@ -19,54 +18,54 @@ use stp_types::Settings;
 const POOL: i64 = 1000;
 
 /// A node with the built-in settings but for its pool, before its first event.
-fn booted(alloc: Global, pool: i64) -> Result<Exchange, Fail> {
-    let mut draft = built_in(alloc)?;
+fn booted<T: Abort>(rt: &T, alloc: Global, pool: i64) -> Exchange {
+    let mut draft = built_in(alloc).expect(rt, "memory");
     draft.pool = pool;
-    let settings = Settings::check(alloc, draft)?;
-    Ok(Exchange::boot(alloc, settings)?)
+    let settings = Settings::check(alloc, draft).expect(rt, "good settings");
+    Exchange::boot(alloc, settings).expect(rt, "memory")
 }
 
 /// Runs a script on such a node.
-fn run<R: Source, W: Sink>(
+fn run<T: Abort, R: Source, W: Sink>(
+    rt: &T,
     alloc: Global,
     pool: i64,
     reader: &mut R,
     writer: &mut W,
-) -> Result<Result<(), ScriptFault>, Fail> {
-    let mut exchange = booted(alloc, pool)?;
-    Ok(run_script(&mut exchange, reader, writer))
+) -> Result<(), ScriptFault> {
+    let mut exchange = booted(rt, alloc, pool);
+    run_script(&mut exchange, reader, writer)
 }
 
 /// Runs a script on such a node, and compares what it prints and how it ends.
-fn expect_run<R: Abort>(
-    rt: &R,
+fn expect_run<T: Abort>(
+    rt: &T,
     alloc: Global,
     pool: i64,
     script: &[u8],
     printed: &str,
     end: Result<(), ScriptFault>,
-) -> Result<(), Fail> {
+) {
     let mut reader = MemorySource::new(script);
     let mut writer = MemorySink::new(alloc);
-    let ended = run(alloc, pool, &mut reader, &mut writer)?;
+    let ended = run(rt, alloc, pool, &mut reader, &mut writer);
     compare(rt, script, writer.written(), printed);
     assert_eq!(rt; ended, end, "of {script:?}");
-    Ok(())
 }
 
 /// The same, with the built-in settings as they are.
-fn expect_script<R: Abort>(
-    rt: &R,
+fn expect_script<T: Abort>(
+    rt: &T,
     alloc: Global,
     script: &[u8],
     printed: &str,
     end: Result<(), ScriptFault>,
-) -> Result<(), Fail> {
-    expect_run(rt, alloc, POOL, script, printed, end)
+) {
+    expect_run(rt, alloc, POOL, script, printed, end);
 }
 
 /// Compares what a script printed.
-fn compare<R: Abort>(rt: &R, script: &[u8], written: &[u8], printed: &str) {
+fn compare<T: Abort>(rt: &T, script: &[u8], written: &[u8], printed: &str) {
     assert!(rt;
         written == printed.as_bytes(),
         "{written:?} was printed of {script:?}"

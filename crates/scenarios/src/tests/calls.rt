@@ -4,7 +4,6 @@ use super::{POOL, booted};
 use exchange::{Answer, Call, Event, Exchange};
 use std::alloc::Global;
 use std::process::Abort;
-use std::test::Fail;
 use stp_types::{FrameFault, LinkId, Msu, Notice, Outcome};
 
 /// A frame with a message from point 2 to point 300, the first of its link.
@@ -23,7 +22,7 @@ const GOES: [u8; 24] = [
 const OTHER_VERSION: [u8; 8] = [0x02, 0x00, 0x0b, 0x02, 0x00, 0x00, 0x00, 0x08];
 
 /// Makes six calls, of which one submits this message.
-fn made(alloc: Global, exchange: &mut Exchange, message: Msu) -> Result<Vec<Answer>, Fail> {
+fn made<T: Abort>(rt: &T, alloc: Global, exchange: &mut Exchange, message: Msu) -> Vec<Answer> {
     let link = LinkId::new(0);
     let calls = [
         Call::Step(Event::AssociationUp(link)),
@@ -33,39 +32,64 @@ fn made(alloc: Global, exchange: &mut Exchange, message: Msu) -> Result<Vec<Answ
         Call::Take(link),
         Call::Take(link),
     ];
-    Ok(exchange.run(alloc, &calls)?)
+    exchange.run(alloc, &calls).expect(rt, "memory")
 }
 
-/// Compares the answers to them.
-fn expect_answers<R: Abort>(rt: &R, answers: &[Answer]) {
-    match answers {
-        [
-            Answer::Stepped(Outcome::Handled),
-            Answer::Stepped(Outcome::Queued(_)),
-            Answer::Stepped(Outcome::Ignored),
-            Answer::Stepped(Outcome::Local),
-            Answer::Taken(Some(text)),
-            Answer::Taken(None),
-        ] => assert!(rt; text.octets() == GOES.as_slice(), "another frame"),
-        _ => panic!(rt; "other answers"),
+/// What is answered to them.
+const ANSWERS: [&str; 6] = ["handled", "queued", "ignored", "local", "the frame", "none"];
+
+/// What an answer is, in a word or two.
+fn shown(answer: &Answer) -> &'static str {
+    match answer {
+        Answer::Stepped(outcome) => shown_outcome(*outcome),
+        Answer::Taken(Some(text)) if text.octets() == GOES.as_slice() => "the frame",
+        Answer::Taken(Some(_)) => "another frame",
+        Answer::Taken(None) => "none",
     }
 }
 
-/// Makes the calls, and compares their answers and the notice that they leave.
-fn expect_calls<R: Abort>(rt: &R, alloc: Global) -> Result<(), Fail> {
-    let mut exchange = booted(alloc, POOL)?;
+/// What an outcome is, in a word.
+fn shown_outcome(outcome: Outcome) -> &'static str {
+    match outcome {
+        Outcome::Queued(_) => "queued",
+        Outcome::Held => "held",
+        Outcome::Local => "local",
+        Outcome::Handled => "handled",
+        Outcome::Ignored => "ignored",
+        Outcome::Refused(_) => "refused",
+    }
+}
+
+/// Compares the answers.
+fn expect_answers<T: Abort>(rt: &T, answers: &[Answer]) {
+    assert_eq!(rt; answers.len(), ANSWERS.len());
+    for (answer, wanted) in answers.iter().zip(ANSWERS) {
+        assert!(rt; shown(answer) == wanted, "no {wanted}");
+    }
+}
+
+/// Makes the calls, and compares their answers.
+fn expect_calls<T: Abort>(rt: &T, alloc: Global, exchange: &mut Exchange) {
     let message = Msu::new(0x85, &[0x01, 0x80, 0x00, 0x50]).expect(rt, "at most 272 octets");
-    let answers = made(alloc, &mut exchange, message)?;
+    let answers = made(rt, alloc, exchange, message);
     expect_answers(rt, answers.as_slice());
+}
+
+/// Compares the notice that they leave.
+fn expect_notice<T: Abort>(rt: &T, exchange: &Exchange) {
     let notice = exchange.notices().front().copied();
-    assert!(rt;
-        notice == Some(Notice::Frame(FrameFault::Version, LinkId::new(0))),
-        "another notice"
-    );
-    Ok(())
+    let wanted = Notice::Frame(FrameFault::Version, LinkId::new(0));
+    assert!(rt; notice == Some(wanted), "another notice");
+}
+
+/// Makes the calls on a node, and compares what they answer and leave.
+fn expect_all<T: Abort>(rt: &T, alloc: Global) {
+    let mut exchange = booted(rt, alloc, POOL);
+    expect_calls(rt, alloc, &mut exchange);
+    expect_notice(rt, &exchange);
 }
 
 #[test]
-fn calls_in_a_row(rt: HostRuntime) -> Result<(), Fail> {
-    expect_calls(&rt, rt.alloc())
+fn calls_in_a_row(rt: HostRuntime) {
+    expect_all(&rt, rt.alloc());
 }

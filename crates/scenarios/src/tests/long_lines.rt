@@ -1,18 +1,17 @@
 //! Lines at the limits of their length.
 
 use super::{end_of, expect_script};
-use std::alloc::{AllocError, Global};
+use std::alloc::Global;
 use std::process::Abort;
-use std::test::Fail;
 
 /// The start of a line, so many times the same text, and the line's end.
-fn line(alloc: Global, start: &str, times: usize, text: &str) -> Result<String, AllocError> {
-    let mut line = String::from_str(alloc, start)?;
+fn line<T: Abort>(rt: &T, alloc: Global, start: &str, times: usize, text: &str) -> String {
+    let mut line = String::from_str(alloc, start).expect(rt, "memory");
     for _ in 0..times {
-        line.push_str(text)?;
+        line.push_str(text).expect(rt, "memory");
     }
-    line.push_str("\n")?;
-    Ok(line)
+    line.push_str("\n").expect(rt, "memory");
+    line
 }
 
 /// The start of a line, how often which text follows, and what it prints on a node with the built-in
@@ -29,51 +28,46 @@ submit 852c410050|268|a5|refused 4 NoRoute
 submit 852c410050|269|a5|refused 13 TooLong";
 
 /// Runs a row.
-fn expect_row<R: Abort>(rt: &R, alloc: Global, row: &str) -> Result<(), Fail> {
+fn expect_row<T: Abort>(rt: &T, alloc: Global, row: &str) {
     let (start, rest) = row.split_once('|').expect(rt, "a start and a bar");
     let (times, rest) = rest.split_once('|').expect(rt, "a number and a bar");
     let (text, printed) = rest.split_once('|').expect(rt, "a text and a bar");
     let times = times.parse().expect(rt, "a number");
-    expect_line(
-        rt,
-        alloc,
-        line(alloc, start, times, text)?.as_bytes(),
-        printed,
-    )
+    let script = line(rt, alloc, start, times, text);
+    expect_line(rt, alloc, script.as_bytes(), printed);
 }
 
 /// Runs a script of one line that prints this line, or nothing.
-fn expect_line<R: Abort>(rt: &R, alloc: Global, script: &[u8], printed: &str) -> Result<(), Fail> {
-    let end = end_of(printed.strip_prefix("fault ").unwrap_or(""));
+fn expect_line<T: Abort>(rt: &T, alloc: Global, script: &[u8], printed: &str) {
     if printed.is_empty() {
-        return expect_script(rt, alloc, script, "", end);
+        return expect_script(rt, alloc, script, "", Ok(()));
     }
-    let printed = line(alloc, printed, 0, "")?;
-    expect_script(rt, alloc, script, printed.as_str(), end)
+    let end = end_of(printed.strip_prefix("fault ").unwrap_or(""));
+    let printed = line(rt, alloc, printed, 0, "");
+    expect_script(rt, alloc, script, printed.as_str(), end);
 }
 
 #[test]
-fn long_lines(rt: HostRuntime) -> Result<(), Fail> {
+fn long_lines(rt: HostRuntime) {
     for row in ROWS.lines() {
-        expect_row(&rt, rt.alloc(), row)?;
+        expect_row(&rt, rt.alloc(), row);
     }
-    Ok(())
 }
 
 /// A good line, one that is far too long, and a good one.
-fn expect_long<R: Abort>(rt: &R, alloc: Global) -> Result<(), Fail> {
-    let mut script = line(alloc, "up e0\n#", 100_000, "x")?;
-    script.push_str("up e0\n")?;
+fn expect_long<T: Abort>(rt: &T, alloc: Global) {
+    let mut script = line(rt, alloc, "up e0\n#", 100_000, "x");
+    script.push_str("up e0\n").expect(rt, "memory");
     expect_script(
         rt,
         alloc,
         script.as_bytes(),
         "handled\nfault 2\n",
         end_of("2"),
-    )
+    );
 }
 
 #[test]
-fn nothing_of_a_long_line_is_done(rt: HostRuntime) -> Result<(), Fail> {
-    expect_long(&rt, rt.alloc())
+fn nothing_of_a_long_line_is_done(rt: HostRuntime) {
+    expect_long(&rt, rt.alloc());
 }

@@ -1,8 +1,8 @@
 //! The program's words and exit statuses.
 
-use std::alloc::{AllocError, Global};
+use super::compare;
+use std::alloc::Global;
 use std::process::Abort;
-use std::test::Fail;
 use stp_node::{MemorySink, MemorySource, run_program};
 
 /// Words, each behind a comma; a script; the exit status; and what is printed: fields parted by bars,
@@ -19,91 +19,79 @@ const ROWS: &str = "\
     ;,check|up e0\n|1|usage\n";
 
 /// Words, each behind a comma.
-fn words(alloc: Global, text: &str) -> Result<Vec<String>, AllocError> {
+fn words<T: Abort>(rt: &T, alloc: Global, text: &str) -> Vec<String> {
     let mut words = Vec::new(alloc);
     for word in text.split(',').skip(1) {
-        words.push(String::from_str(alloc, word)?)?;
+        push(rt, alloc, &mut words, word);
     }
-    Ok(words)
+    words
+}
+
+/// Puts a word behind others.
+fn push<T: Abort>(rt: &T, alloc: Global, words: &mut Vec<String>, word: &str) {
+    let word = String::from_str(alloc, word).expect(rt, "memory");
+    words.push(word).ok().expect(rt, "memory");
 }
 
 /// Runs the program, and compares its exit status and what it printed.
-fn expect<R: Abort>(
-    rt: &R,
+fn expect<T: Abort>(
+    rt: &T,
     alloc: Global,
     text: &str,
-    mut reader: MemorySource<'_>,
-    mut writer: MemorySink,
+    reader: &mut MemorySource<'_>,
+    writer: &mut MemorySink,
     status: u8,
     printed: &str,
-) -> Result<(), Fail> {
-    let words = words(alloc, text)?;
-    let ended = run_program(alloc, words.as_slice(), &mut reader, &mut writer);
-    let written = writer.written();
-    assert!(rt;
-        written == printed.as_bytes(),
-        "{written:?} was printed of {text}"
-    );
+) {
+    let words = words(rt, alloc, text);
+    let ended = run_program(alloc, words.as_slice(), reader, writer);
     assert_eq!(rt; ended.number(), status, "of {text}");
-    Ok(())
+    compare(rt, text.as_bytes(), writer.written(), printed);
 }
 
 /// Runs a row.
-fn expect_row<R: Abort>(rt: &R, alloc: Global, row: &str) -> Result<(), Fail> {
+fn expect_row<T: Abort>(rt: &T, alloc: Global, row: &str) {
     let (words, rest) = row.split_once('|').expect(rt, "words and a bar");
     let (script, rest) = rest.split_once('|').expect(rt, "a script and a bar");
     let (status, printed) = rest.split_once('|').expect(rt, "a status and a bar");
     let status = status.parse().expect(rt, "a number");
-    let reader = MemorySource::new(script.as_bytes());
-    expect(
-        rt,
-        alloc,
-        words,
-        reader,
-        MemorySink::new(alloc),
-        status,
-        printed,
-    )
+    let mut reader = MemorySource::new(script.as_bytes());
+    let mut writer = MemorySink::new(alloc);
+    expect(rt, alloc, words, &mut reader, &mut writer, status, printed);
 }
 
 #[test]
-fn statuses(rt: HostRuntime) -> Result<(), Fail> {
+fn statuses(rt: HostRuntime) {
     for row in ROWS.split(';').skip(1) {
-        expect_row(&rt, rt.alloc(), row)?;
+        expect_row(&rt, rt.alloc(), row);
     }
-    Ok(())
 }
 
 #[test]
-fn a_read_that_fails(rt: HostRuntime) -> Result<(), Fail> {
-    let reader = MemorySource::new(b"up e0\n").failing_after(1);
+fn a_read_that_fails(rt: HostRuntime) {
+    let mut reader = MemorySource::new(b"up e0\n").failing_after(1);
+    let mut writer = MemorySink::new(rt.alloc());
     expect(
         &rt,
         rt.alloc(),
         ",run",
-        reader,
-        MemorySink::new(rt.alloc()),
+        &mut reader,
+        &mut writer,
         4,
         "handled\n",
-    )
+    );
 }
 
-#[test]
-fn a_write_that_fails(rt: HostRuntime) -> Result<(), Fail> {
-    let writer = MemorySink::new(rt.alloc()).failing_after(0);
-    expect(
-        &rt,
-        rt.alloc(),
-        ",run",
-        MemorySource::new(b"up e0\n"),
-        writer,
-        4,
-        "",
-    )
+/// Runs the program with a sink that takes nothing.
+fn expect_unwritten<T: Abort>(rt: &T, alloc: Global, words: &str) {
+    let mut reader = MemorySource::new(b"up e0\n");
+    let mut writer = MemorySink::new(alloc).failing_after(0);
+    expect(rt, alloc, words, &mut reader, &mut writer, 4, "");
 }
 
+/// The writes of a script's output, and of the usage.
 #[test]
-fn a_usage_that_cannot_be_told(rt: HostRuntime) -> Result<(), Fail> {
-    let writer = MemorySink::new(rt.alloc()).failing_after(0);
-    expect(&rt, rt.alloc(), "", MemorySource::new(b""), writer, 4, "")
+fn writes_that_fail(rt: HostRuntime) {
+    expect_unwritten(&rt, rt.alloc(), ",run");
+    expect_unwritten(&rt, rt.alloc(), "");
 }
