@@ -1,8 +1,8 @@
 -- The words behind the program's name, and its exit statuses.
-use Rattle.std.specs.Prelude.{ℕ, List, [], ◌∷◌, ◌++◌, decimal, if◌then◌else◌}
+use Rattle.std.specs.Prelude.{ℕ, List, [], ◌∷◌, ◌++◌, if◌then◌else◌}
 use Rattle.std.specs.Prelude.{codes, bytes_eq, ◌≡◌, ◌⊎◌, Some, Result, Ok, Err}
 use Rattle.std.specs.Io.KnownBytes.{Appends}
-use Rattle.settings_rows.specs.Faults.{kind_number, key_path}
+use Rattle.settings_rows.specs.Faults.{fault_line}
 use Rattle.settings_check.specs.FirstFault.{first_fault}
 use Rattle.settings_rows.specs.declared.draft.Draft.{Draft}
 use Rattle.settings_rows.specs.declared.fault.DraftFault.{DraftFault}
@@ -42,11 +42,9 @@ status_after (Err (fault.Line line)) = status.Line
 status_after (Err fault.TooManyReads) = status.Stream
 status_after (Err fault.NoMemory) = status.Start
 
--- the line of a fault of settings: its number and its key, or that memory ran out
-abbrev pub fault_line : DraftFault → List ℕ
-fault_line draft_fault.NoMemory = codes "fault NoMemory\n"
-fault_line (draft_fault.At kind key) =
-    codes "fault " ++ (decimal (kind_number kind) ++ (codes " " ++ (key_path key ++ codes "\n")))
+-- a fault of settings, as it is printed
+abbrev pub told : DraftFault → List ℕ
+told fault = fault_line fault ++ codes "\n"
 
 -- a last line was written, and the program ends so; or its write failed
 abbrev pub EndsWith : Status → List ℕ → Output → Output → Status → Type 0
@@ -62,7 +60,7 @@ IsStartFault why = (why ≡ draft_fault.NoMemory) ⊎ ((draft : Draft) × IsBuil
 -- a line says why the node didn't start, and nothing of the script was read
 abbrev pub TellsFault : Input → Input → Output → Output → Status → Type 0
 TellsFault input input_new output output_new ended =
-    (why : DraftFault) × IsStartFault why × EndsWith status.Start (fault_line why) output output_new ended
+    (why : DraftFault) × IsStartFault why × EndsWith status.Start (told why) output output_new ended
     × (input_new ≡ input)
 
 -- the script ran from the first state of a node with the built-in settings, and the program ends by how it ended

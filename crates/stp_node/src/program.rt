@@ -4,7 +4,7 @@ ghost use Rattle.std.specs.Prelude.{◌≡◌, ◌≢◌, ◌⊎◌, IfOk, IfErr
 ghost use Rattle.std.specs.IoError.{error_kind};
 ghost use Rattle.exchange.specs.Stands.{StandsFor, first_state};
 ghost use Rattle.stp_node.specs.BuiltIn.{built_in_settings};
-ghost use Rattle.stp_node.specs.Program.{words_of, status_number, status_after, fault_line, EndsWith, IsStartFault, TellsFault, RunsScript};
+ghost use Rattle.stp_node.specs.Program.{words_of, status_number, status_after, told, EndsWith, IsStartFault, TellsFault, RunsScript};
 
 use crate::defaults::built_in;
 use crate::run::run_script;
@@ -87,7 +87,7 @@ pub fn run_program<R: Source, W: Sink>(
 /// memory ran out.
 pub fn refuse_words<W: Sink>(error: &Error, writer: &mut W) -> Status
     ensures memory { error_kind error.now ≡ ErrorKind.OutOfMemory
-        → EndsWith Status.Start (fault_line DraftFault.NoMemory) (W.output writer.old) (W.output writer.new) result }
+        → EndsWith Status.Start (told DraftFault.NoMemory) (W.output writer.old) (W.output writer.new) result }
     ensures usage { error_kind error.now ≢ ErrorKind.OutOfMemory
         → EndsWith Status.Usage (codes "usage\n") (W.output writer.old) (W.output writer.new) result }
 {
@@ -134,24 +134,18 @@ fn end_with<W: Sink>(status: Status, line: &[u8], writer: &mut W) -> Status
 
 /// Prints what is wrong with the settings, or that memory ran out.
 fn tell_fault<W: Sink>(alloc: Global, fault: DraftFault, writer: &mut W) -> Status
-    ensures { EndsWith Status.Start (fault_line fault) (W.output writer.old) (W.output writer.new) result
-        ⊎ EndsWith Status.Start (fault_line DraftFault.NoMemory) (W.output writer.old) (W.output writer.new) result }
+    ensures { EndsWith Status.Start (told fault) (W.output writer.old) (W.output writer.new) result
+        ⊎ EndsWith Status.Start (told DraftFault.NoMemory) (W.output writer.old) (W.output writer.new) result }
 {
-    match fault_line(alloc, fault) {
+    match told(alloc, fault) {
         Ok(line) => end_with(Status::Start, line.as_bytes(), writer),
         Err(_) => end_with(Status::Start, b"fault NoMemory\n", writer),
     }
 }
 
 /// The line of a fault of settings.
-fn fault_line(alloc: Global, fault: DraftFault) -> Result<String, AllocError>
-    ensures { IfOk result (λ line. string_bytes line ≡ fault_line fault) }
+fn told(alloc: Global, fault: DraftFault) -> Result<String, AllocError>
+    ensures { IfOk result (λ line. string_bytes line ≡ told fault) }
 {
-    match fault {
-        DraftFault::NoMemory => String::from_str(alloc, "fault NoMemory\n"),
-        DraftFault::At(kind, key) => {
-            let number = kind.number();
-            format!(in alloc; "fault {number} {key}\n")
-        }
-    }
+    format!(in alloc; "{fault}\n")
 }
