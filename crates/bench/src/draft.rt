@@ -42,22 +42,25 @@ pub(crate) fn draft_with(alloc: Global, destinations: usize) -> Result<Draft, Al
     })
 }
 
-/// How many ticks each timer runs: none of them matters here.
+/// Ticks that a timer runs: how many doesn't matter here.
+const TICKS: i64 = 10;
+
+/// How many ticks each timer runs.
 fn timers() -> TimersDraft {
     TimersDraft {
-        l1: 10,
-        l2: 10,
-        l3: 10,
-        l4: 3,
-        l6: 20,
-        l7: 5,
-        t1: 4,
-        t2: 6,
-        t3: 4,
-        t4: 4,
-        t6: 4,
-        t8: 3,
-        t10: 8,
+        l1: TICKS,
+        l2: TICKS,
+        l3: TICKS,
+        l4: TICKS,
+        l6: TICKS,
+        l7: TICKS,
+        t1: TICKS,
+        t2: TICKS,
+        t3: TICKS,
+        t4: TICKS,
+        t6: TICKS,
+        t8: TICKS,
+        t10: TICKS,
     }
 }
 

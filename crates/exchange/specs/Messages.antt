@@ -6,7 +6,8 @@ use Rattle.signalling_types.specs.declared.point.Flow.{Flow}
 use Rattle.stp_types.specs.Readings.{destination_place}
 use Rattle.signalling_types.specs.declared.limits.TheConstants.Limits.{MANAGEMENT_MESSAGES, SIF_OCTETS}
 use Rattle.signalling_types.specs.declared.cause.Cause.{Cause}
-use Rattle.signalling_types.specs.declared.cause.Cause.TheVariants.{NotInProfile, UnknownDestination, PoolFull, ManagementFull, NoRoute, TooLong}
+use Rattle.signalling_types.specs.declared.cause.Cause.TheVariants.{NotInProfile, UnknownDestination, TooLong}
+use Rattle.signalling_types.specs.declared.cause.Cause.TheVariants.{PoolFull, ManagementFull, NoRoute}
 use Rattle.signalling_types.specs.declared.outcome.Outcome.TheVariants.{Queued}
 use Rattle.routing_label.specs.Discrimination.{discrimination}
 use Rattle.routing_label.specs.declared.discrimination.Discrimination.{Discrimination}

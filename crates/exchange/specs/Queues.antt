@@ -4,7 +4,8 @@ use Rattle.signalling_types.specs.Message.{Message}
 use Rattle.cell_pool.specs.Lanes.{lane_at, pushed, dropped, users, managements, users_in, managements_in}
 use Rattle.link_sequence.specs.Queue as queue
 use Rattle.link_sequence.specs.Queue.{Queue, first_queue, count_confirmed}
-use Rattle.link_sequence.specs.Counts.{Counts, unconfirmed, kept_first, kept_accept_answer, kept_accepted, kept_to_send, kept_sent_one, kept_emptied, kept_last_sent, kept_last_accepted}
+use Rattle.link_sequence.specs.Counts.{Counts, unconfirmed, kept_first, kept_accept_answer, kept_accepted}
+use Rattle.link_sequence.specs.Counts.{kept_to_send, kept_sent_one, kept_emptied, kept_last_sent, kept_last_accepted}
 use Rattle.exchange.specs.State.{QueueKind}
 
 abbrev pub queue_at : List Queue → ℕ → Queue

@@ -1,11 +1,11 @@
 -- What a line of a script prints, and the state after it, by the calls of an exchange.
-use Rattle.std.specs.Prelude.{ℕ, List, [], take, drop, length, nat_lt}
+use Rattle.std.specs.Prelude.{ℕ, List, [], drop, length, nat_lt}
 use Rattle.std.specs.Prelude.{if◌then◌else◌, Option, Some, None, slice_get, slice_index, unwrap_or}
 use Rattle.std.specs.Option.{option_map}
 use Rattle.signalling_types.specs.Message.{Message}
 use Rattle.settings_rows.specs.Configuration.{Configuration}
 use Rattle.stp_types.specs.Readings.{link_place}
-use Rattle.signalling_types.specs.declared.limits.TheConstants.Limits.{SIF_OCTETS, NAME_OCTETS}
+use Rattle.signalling_types.specs.declared.limits.TheConstants.Limits.{SIF_OCTETS}
 use Rattle.signalling_types.specs.declared.cause.Cause.{Cause}
 use Rattle.signalling_types.specs.declared.cause.Cause.TheVariants.{NoSuchName, TooLong}
 use Rattle.signalling_types.specs.declared.outcome.Outcome.{Outcome}
@@ -45,7 +45,7 @@ meaning c (AskSubmit octets) = submission (message_written octets)
 
 -- the name of a link; nothing where no link has this number
 abbrev pub name_in : Configuration → ℕ → List ℕ
-name_in c link = take NAME_OCTETS (unwrap_or (option_map (λ row. row.name) (slice_get c.links link)) [])
+name_in c link = unwrap_or (option_map (λ row. row.name) (slice_get c.links link)) []
 
 -- the name of the link that an outcome names, if any
 abbrev pub named_link : Configuration → Outcome → List ℕ

@@ -74,10 +74,7 @@ fn name_in(exchange: &Exchange, link: LinkId) -> &[u8]
     ensures fits { length result.now ≤ Limits.NAME_OCTETS }
 {
     match exchange.settings().link_name(link) {
-        Some(name) => {
-            let name = name.as_bytes();
-            &name[..name.len().min(Limits::NAME_OCTETS)]
-        }
+        Some(name) => name.as_bytes(),
         None => b"",
     }
 }

@@ -46,7 +46,8 @@ impl Exchange {
     /// Drops the messages of a link's list.
     pub(super) fn drop_all(&mut self, link: usize)
         requires { link < length self.old.node.parts.links }
-        ensures { self.new ≡ with_node self.old (record self.old.node { queues = without_lane self.old.node.queues link }) }
+        ensures { self.new ≡
+            with_node self.old (record self.old.node { queues = without_lane self.old.node.queues link }) }
     {
         let count = self.lanes.count(link);
         self.lanes.drop_front(link, count);
