@@ -7,7 +7,7 @@ use signalling_types::{LinkId, SetId};
 
 /// A timer by what it is for. Names come in the order of these kinds, and within a kind in the order of
 /// the settings: by link, by set and code, by destination, by set and destination.
-#[derive(Clone, Copy, Debug, PartialEq, Eq)]
+#[derive(Clone, Copy, PartialEq, Eq)]
 pub enum TimerName {
     /// The link waits, aligned and ready, for its peer (Q.703 §12.3).
     L1(LinkId),
@@ -94,7 +94,7 @@ impl Key {
 }
 
 /// How many links, sets and destinations a node has, which says what timers it has.
-#[derive(Clone, Copy, Debug, PartialEq, Eq)]
+#[derive(Clone, Copy, PartialEq, Eq)]
 pub struct NodeCounts {
     /// Its links.
     pub links: u16,
