@@ -78,6 +78,7 @@ keeps_whole w = record {
   sent_one = λ qs l s. kept-replaced qs l (queue.sent_one (queue_at qs l) w) _ s (sound-sent_one (queue_at qs l) w (s.each l)) (sent_one-kept w qs l s);
   emptied = λ qs l s. kept-replaced qs l (queue.emptied (queue_at qs l)) _ s (sound-emptied w (queue_at qs l) (limit-kept qs s))
       (kept-set qs l (queue.emptied (queue_at qs l)) _ _ refl (rw (counts_at-kept qs l)));
+  outstanding = λ qs l. rw (counts_at-kept qs l);
   last_sent = λ qs l s. rw (counts_at-kept qs l) (kept-last_sent (queue_at qs l) (s.each l));
   last_accepted = λ qs l. rw (counts_at-kept qs l) (kept-last_accepted (queue_at qs l));
   users = λ qs. sum_by-map users_in unconfirmed qs;

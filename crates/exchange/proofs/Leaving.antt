@@ -14,18 +14,25 @@ use Rattle.m2pa_codec.specs.Frames.{FrameValue, EmptyFrame, MessageFrame, Status
 use Rattle.m2pa_codec.specs.Reading.{read_frame}
 use Rattle.routing_label.specs.declared.discrimination.Discrimination.{Discrimination}
 use Rattle.routing_label.specs.declared.discrimination.Discrimination.TheVariants as whither
-use Rattle.link_sequence.specs.Queue.{Queue}
+use Rattle.m2pa_codec.specs.declared.status.LinkStatus.{LinkStatus}
+use Rattle.link_alignment.specs.declared.action.Action.{Action}
+use Rattle.link_alignment.specs.declared.action.Action.TheVariants as act
+use Rattle.link_alignment.specs.declared.action.Input.TheVariants.{Status, UserData}
+use Rattle.link_alignment.specs.Table.{action_at}
+use Rattle.link_sequence.specs.Queue.{Queue, count_confirmed}
+use Rattle.signalling_types.specs.declared.notice.FailureReason.TheVariants as reasons
 use Rattle.link_sequence.specs.declared.fault.SeqFault.{SeqFault}
 use Rattle.exchange.specs.State.{Parts, Node, Done, with_node, with_parts, answer, refuse}
 use Rattle.exchange.specs.LinkState.{is_link, link_at, down, in_service}
 use Rattle.exchange.specs.Noting.{note, note_outcome, note_refusal}
 use Rattle.exchange.specs.Local.{local, manage}
 use Rattle.exchange.specs.Messages.{whither_goes, is_destination, link_of, no_room, offer, transfer, hand_over, deliver_to, submit_to}
-use Rattle.exchange.specs.Opening.{open_link, associate}
-use Rattle.exchange.specs.Frames.{numbers, accept, carry, handle_by, leave_aside, read}
-use Rattle.exchange.specs.Happening.{CameUp, FrameCame, Submitted}
+use Rattle.exchange.specs.Opening.{may_open, open_link, associate, bring_down, part, dissociate, allow, activate, deactivate}
+use Rattle.exchange.specs.Statuses.{step_on, act_by_status}
+use Rattle.exchange.specs.Frames.{Carrying, data_of, numbers, accept, carry, handle_by, act_by_data, receive_frame, leave_aside, read}
+use Rattle.exchange.specs.Happening.{CameUp, WentDown, FrameCame, Ticked, Submitted, Activated, Deactivated}
 use Rattle.exchange.specs.Queues.{whole}
-use Rattle.exchange.specs.Laws.{accept_text, refusals_leave, queued_in_service}
+use Rattle.exchange.specs.Laws.{accept_data, accept_frame, accept_text, refusals_leave, queued_in_service}
 use Rattle.exchange.specs.Stands.{Abstract}
 
 -- where a rule refuses, it leaves this node; where it queues a message, it does so on a link in service
@@ -128,16 +135,31 @@ module _ (c : Configuration) where
   ignored_frame : (m n : Node (List Queue)) (link : ℕ) → Notes (answer Ignored m) n link
   ignored_frame m n link = record { left = λ cause e. cc; served = λ l e. cc }
 
-  carry-notes : (link : ℕ) (frame : FrameValue) (n : Node (List Queue)) → Notes (carry whole c link frame n) n link
-  carry-notes link (EmptyFrame bsn fsn) n = handled_frame n n link
-  carry-notes link (MessageFrame bsn fsn sio sif) n =
-      notes (deliver_to whole c (whither_goes c (record { sio = sio; sif = sif })) link (record { sio = sio; sif = sif }) n) n link
-      (deliver_to-leaves (whither_goes c (record { sio = sio; sif = sif })) link (record { sio = sio; sif = sif }) n)
-  carry-notes link (StatusFrame bsn fsn status) n = ignored_frame _ n link
+  carry-notes : (link : ℕ) (m : Option Message) (n : Node (List Queue)) → Notes (carry whole c link m n) n link
+  carry-notes link None n = handled_frame n n link
+  carry-notes link (Some m) n = notes (deliver_to whole c (whither_goes c m) link m n) n link (deliver_to-leaves (whither_goes c m) link m n)
 
-  handle_by-notes : (r : Result ℕ SeqFault) (link : ℕ) (frame : FrameValue) (n : Node (List Queue)) → Notes (handle_by whole c r link frame n) (accept whole c link frame n) link
-  handle_by-notes (Ok count) link frame n = carry-notes link frame (accept whole c link frame n)
-  handle_by-notes (Err fault) link frame n = handled_frame _ _ link
+  handle_by-notes : (r : Result ℕ SeqFault) (link : ℕ) (d : Carrying) (n : Node (List Queue))
+      → Notes (handle_by whole c r link d n) (accept whole c link d (count_confirmed r) n) link
+  handle_by-notes (Ok confirmed) link d n = carry-notes link d.message (accept whole c link d confirmed n)
+  handle_by-notes (Err fault) link d n = handled_frame _ _ link
+
+  act_by_data-notes : (a : Action) (link : ℕ) (d : Carrying) (n : Node (List Queue)) → Notes (act_by_data whole c a link d n) (accept_data a link d c n) link
+  act_by_data-notes act.Ignored link d n = ignored_frame n n link
+  act_by_data-notes act.Fail link d n = handled_frame _ n link
+  act_by_data-notes (act.Go step) link d n =
+      let next : Node (List Queue) = with_parts n (step_on c link step n.parts) in
+      handle_by-notes (numbers whole c link d next) link d next
+
+  act_by_status-notes : (a : Action) (link : ℕ) (status : LinkStatus) (n : Node (List Queue)) → Notes (act_by_status whole c a link status n) n link
+  act_by_status-notes act.Ignored link status n = ignored_frame n n link
+  act_by_status-notes act.Fail link status n = handled_frame _ n link
+  act_by_status-notes (act.Go step) link status n = handled_frame _ n link
+
+  receive_frame-notes : (link : ℕ) (frame : FrameValue) (n : Node (List Queue)) → Notes (receive_frame whole c link frame n) (accept_frame (data_of frame) link c n) link
+  receive_frame-notes link (EmptyFrame bsn fsn) n = act_by_data-notes (action_at (link_at n.parts link).alignment UserData) link _ n
+  receive_frame-notes link (MessageFrame bsn fsn sio sif) n = act_by_data-notes (action_at (link_at n.parts link).alignment UserData) link _ n
+  receive_frame-notes link (StatusFrame bsn fsn status) n = act_by_status-notes (action_at (link_at n.parts link).alignment (Status status)) link status n
 
   leave_aside-notes : (link : ℕ) (fault : FrameFault) (n : Node (List Queue)) → Notes (leave_aside whole c link fault n) n link
   leave_aside-notes link faults.Length n = handled_frame _ n link
@@ -146,7 +168,7 @@ module _ (c : Configuration) where
   leave_aside-notes link faults.Unknown n = ignored_frame _ n link
 
 read-notes : (link : ℕ) (r : Result FrameValue FrameFault) (a : Abstract) → Notes a.settings (read whole a.settings link r a.node) (accept_text link r a) link
-read-notes link (Ok frame) a = handle_by-notes a.settings (numbers whole a.settings link frame a.node) link frame a.node
+read-notes link (Ok frame) a = receive_frame-notes a.settings link frame a.node
 read-notes link (Err fault) a = leave_aside-notes a.settings link fault a.node
 
 -- ---- a frame for a link that is there, and is up
@@ -171,17 +193,36 @@ received_served false d n link a l f e = cc
 
 -- ---- an association
 
-associate-leaves : (link : ℕ) (n : Node (List Queue)) → Leaves (associate whole link n) n
-associate-leaves link n =
-    either (is_link n.parts link) (if (link_at n.parts link).association then refuse causes.LinkNotReady n else answer Handled (open_link whole link n))
-    (refuse causes.NoSuchName n) n
-    (either (link_at n.parts link).association (refuse causes.LinkNotReady n) (answer Handled (open_link whole link n)) n (refused _ n) (handled n _))
-    (refused _ n)
+module _ (c : Configuration) where
+  associate-leaves : (link : ℕ) (n : Node (List Queue)) → Leaves (associate whole c link n) n
+  associate-leaves link n =
+      either (is_link n.parts link) (if may_open (link_at n.parts link) then answer Handled (open_link whole c link n) else refuse causes.LinkNotReady n)
+      (refuse causes.NoSuchName n) n
+      (either (may_open (link_at n.parts link)) (answer Handled (open_link whole c link n)) (refuse causes.LinkNotReady n) n (handled n _) (refused _ n))
+      (refused _ n)
+
+  dissociate-leaves : (link : ℕ) (n : Node (List Queue)) → Leaves (dissociate whole c link n) n
+  dissociate-leaves link n =
+      let gone : Done (List Queue) = answer Handled (part whole c link (bring_down whole c link reasons.Association n)) in
+      either (is_link n.parts link) (if (link_at n.parts link).association then gone else answer Ignored n) (refuse causes.NoSuchName n) n
+      (either (link_at n.parts link).association gone (answer Ignored n) n (handled n _) (ignored n n)) (refused _ n)
+
+  activate-leaves : (link : ℕ) (n : Node (List Queue)) → Leaves (activate whole c link n) n
+  activate-leaves link n =
+      either (is_link n.parts link) (answer Handled (allow whole c true link n)) (refuse causes.NoSuchName n) n (handled n _) (refused _ n)
+
+  deactivate-leaves : (link : ℕ) (n : Node (List Queue)) → Leaves (deactivate whole c link n) n
+  deactivate-leaves link n =
+      either (is_link n.parts link) (answer Handled (allow whole c false link (bring_down whole c link reasons.Operator n))) (refuse causes.NoSuchName n) n (handled n _) (refused _ n)
 
 -- ---- the laws
 
 pub refused_leaves : refusals_leave
-refused_leaves (CameUp link) a cause e = ap (λ (m : Node (List Queue)). with_node a m) ((associate-leaves link a.node).left cause e)
+refused_leaves (CameUp link) a cause e = ap (λ (m : Node (List Queue)). with_node a m) ((associate-leaves a.settings link a.node).left cause e)
+refused_leaves (WentDown link) a cause e = ap (λ (m : Node (List Queue)). with_node a m) ((dissociate-leaves a.settings link a.node).left cause e)
+refused_leaves Ticked a cause e = cc
+refused_leaves (Activated link) a cause e = ap (λ (m : Node (List Queue)). with_node a m) ((activate-leaves a.settings link a.node).left cause e)
+refused_leaves (Deactivated link) a cause e = ap (λ (m : Node (List Queue)). with_node a m) ((deactivate-leaves a.settings link a.node).left cause e)
 refused_leaves (Submitted message) a cause e =
     ap (λ (m : Node (List Queue)). with_node a m) ((submit_to-leaves a.settings (whither_goes a.settings message) message a.node).left cause e)
 refused_leaves (FrameCame link text) a cause e =
@@ -189,7 +230,11 @@ refused_leaves (FrameCame link text) a cause e =
     (accept_text link (read_frame text) a) link a cause (up_notes (down a.node.parts link) link (read_frame text) a) e
 
 pub queued_served : queued_in_service
-queued_served (CameUp link) a l e = (associate-leaves link a.node).served l e
+queued_served (CameUp link) a l e = (associate-leaves a.settings link a.node).served l e
+queued_served (WentDown link) a l e = (dissociate-leaves a.settings link a.node).served l e
+queued_served Ticked a l e = cc
+queued_served (Activated link) a l e = (activate-leaves a.settings link a.node).served l e
+queued_served (Deactivated link) a l e = (deactivate-leaves a.settings link a.node).served l e
 queued_served (Submitted message) a l e = (submit_to-leaves a.settings (whither_goes a.settings message) message a.node).served l e
 queued_served (FrameCame link text) a l e =
     received_served (is_link a.node.parts link) (if down a.node.parts link then answer Ignored a.node else read whole a.settings link (read_frame text) a.node)

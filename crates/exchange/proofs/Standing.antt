@@ -7,13 +7,14 @@ use Rattle.signalling_types.specs.declared.notice.Notice.{Notice}
 use Rattle.link_sequence.specs.Queue.{IsQueue, first_queue}
 use Rattle.link_sequence.specs.Counts.{Counts, counts_of, unconfirmed, kept_first}
 use Rattle.link_sequence.proofs.Sound.{sound-first}
-use Rattle.exchange.specs.declared.link_state.LinkState.{LinkState}
+use Rattle.timer_wheel.specs.Timers.{Running}
+use Rattle.exchange.specs.Link.{Link}
 use Rattle.exchange.specs.State.{Node, Done, keep}
 use Rattle.exchange.specs.LinkState.{down_link}
 use Rattle.exchange.specs.Queues.{KeptQueues, kept, whole}
 use Rattle.exchange.specs.Happening.{Happening}
-use Rattle.exchange.specs.Exchange.{apply, outcome_of, after, frame_to_take, taken}
-use Rattle.exchange.specs.Stands.{Abstract, Kept, AreQueues, IsSound, StandsFor, kept_of, kept_queues_of, first_state}
+use Rattle.exchange.specs.Exchange.{apply, outcome_of, after, frame_to_take, taken, wants_of}
+use Rattle.exchange.specs.Stands.{Abstract, Kept, AreQueues, IsSound, StandsFor, kept_of, kept_queues_of, counts_in, first_state}
 use Rattle.exchange.proofs.Keeping.{Keeps, apply-kept, frame_taken-kept, after_take-kept}
 use Rattle.exchange.proofs.KeptQueues.{keeps_whole}
 use Rattle.exchange.proofs.Lists.{each-replicate, map-replicate}
@@ -46,6 +47,10 @@ stands-taken l k a s =
       kept = ap (λ (x : Kept). taken kept x l) s.kept ∙ ap (λ (n : Node KeptQueues). record { settings = a.settings; node = n }) t.same;
     }
 
+-- what a link wants is said by the parts, which are kept as they are
+pub stands-wants : (l : ℕ) (k : Kept) (a : Abstract) → StandsFor k a → wants_of k l ≡ wants_of a l
+stands-wants l k a s = ap (λ (x : Kept). wants_of x l) s.kept
+
 -- what boot gives stands for the first state
 pub stands-first : (c : Configuration) (k : Kept) → c.window ≤ WINDOW → k ≡ kept_of (first_state c) → StandsFor k (first_state c)
 stands-first c k h e = record {
@@ -54,8 +59,8 @@ stands-first c k h e = record {
 }
 
 -- the parts that boot makes
-pub first-kept : (c : Configuration) (n : ℕ) (lanes : List (List Message)) (counts : List Counts) (links : List LinkState) (notices : List Notice)
-    → n ≡ length c.links → lanes ≡ replicate n [] → counts ≡ replicate n kept_first → links ≡ replicate n down_link → notices ≡ []
-    → record { settings = c; node = record { queues = record { lanes = lanes; counts = counts }; parts = record { links = links; notices = notices } } } ≡ kept_of (first_state c)
-first-kept c n lanes counts links notices e l k d o =
-    rw (l, k, d, o, e, map-replicate unconfirmed (length c.links) first_queue, map-replicate counts_of (length c.links) first_queue)
+pub first-kept : (c : Configuration) (n : ℕ) (lanes : List (List Message)) (counts : List Counts) (links : List Link) (timers : Running) (notices : List Notice)
+    → n ≡ length c.links → lanes ≡ replicate n [] → counts ≡ replicate n kept_first → links ≡ replicate n down_link → timers ≡ record { counts = counts_in c; timers = [] } → notices ≡ []
+    → record { settings = c; node = record { queues = record { lanes = lanes; counts = counts }; parts = record { links = links; timers = timers; notices = notices } } } ≡ kept_of (first_state c)
+first-kept c n lanes counts links timers notices e l k d t o =
+    rw (l, k, d, t, o, e, map-replicate unconfirmed (length c.links) first_queue, map-replicate counts_of (length c.links) first_queue)

@@ -4,17 +4,24 @@ use Rattle.settings_rows.specs.Configuration.{Configuration}
 use Rattle.signalling_types.specs.declared.outcome.Outcome.{Outcome}
 use Rattle.m2pa_codec.specs.Frames.{FrameValue}
 use Rattle.exchange.specs.State.{QueueKind, Node, State, Done, with_node}
-use Rattle.exchange.specs.Happening.{Happening, CameUp, FrameCame, Submitted}
-use Rattle.exchange.specs.Opening.{associate}
+use Rattle.exchange.specs.Happening.{Happening, CameUp, WentDown, FrameCame, Ticked, Submitted}
+use Rattle.exchange.specs.Happening.{Activated, Deactivated}
+use Rattle.exchange.specs.declared.event.Wants.{Wants}
+use Rattle.exchange.specs.Opening.{associate, dissociate, activate, deactivate, wanted}
+use Rattle.exchange.specs.Ticking.{tick}
 use Rattle.exchange.specs.Frames.{receive}
 use Rattle.exchange.specs.Messages.{submit}
 use Rattle.exchange.specs.Sending.{frame_taken, after_take}
 
 -- each event has its rule
 abbrev pub apply : {Q : Type 0} → QueueKind Q → Configuration → Happening → Node Q → Done Q
-apply q c (CameUp link) node = associate q link node
+apply q c (CameUp link) node = associate q c link node
+apply q c (WentDown link) node = dissociate q c link node
 apply q c (FrameCame link text) node = receive q c link text node
+apply q c Ticked node = tick q c node
 apply q c (Submitted message) node = submit q c message node
+apply q c (Activated link) node = activate q c link node
+apply q c (Deactivated link) node = deactivate q c link node
 
 -- what becomes of an event
 abbrev pub outcome_of : {Q : Type 0} → QueueKind Q → Happening → State Q → Outcome
@@ -31,6 +38,10 @@ frame_to_take q s link = frame_taken q s.settings link s.node
 -- and the state after it went out
 abbrev pub taken : {Q : Type 0} → QueueKind Q → State Q → ℕ → State Q
 taken q s link = with_node s (after_take q s.settings link s.node)
+
+-- what a link asks of its caller
+abbrev pub wants_of : {Q : Type 0} → State Q → ℕ → Wants
+wants_of s link = wanted s.node.parts link
 
 -- an exchange that did what a rule says: its answer, and the state that it is in
 abbrev pub Ends : {Q : Type 0} → State Q → Outcome → State Q → Done Q → Type 0

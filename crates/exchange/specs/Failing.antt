@@ -1,23 +1,19 @@
 -- The failure of a link.
-use Rattle.std.specs.Prelude.{ℕ, false}
+use Rattle.std.specs.Prelude.{ℕ}
 use Rattle.signalling_types.specs.declared.notice.FailureReason.{FailureReason}
 use Rattle.signalling_types.specs.declared.notice.Notice.TheVariants as notices
-use Rattle.exchange.specs.declared.link_state.Phase.TheVariants.{Down}
-use Rattle.exchange.specs.State.{QueueKind, Parts, Node, with_parts}
-use Rattle.exchange.specs.LinkState.{link_at, with_link}
+use Rattle.exchange.specs.State.{QueueKind, Parts, Node}
+use Rattle.exchange.specs.LinkState.{link_at, links_with, fallen}
+use Rattle.exchange.specs.Timing.{without_timers}
 use Rattle.exchange.specs.Noting.{note}
 
--- the link is down and owes no acknowledgement, and that is noted
+-- the link is down, its timers don't run, and that is noted
 abbrev pub fall : ℕ → FailureReason → Parts → Parts
 fall link why p =
     note (notices.Failed link why)
-    (with_link p link (record (link_at p link) { phase = Down; acknowledgement_owed = false }))
+    (record p { links = links_with p link (fallen (link_at p link)); timers = without_timers link p.timers })
 
 module _ {Q : Type 0} (q : QueueKind Q) where
-  -- nothing stands in the link's queue any more; what was received stays
-  abbrev pub empty : ℕ → Node Q → Node Q
-  empty link node = record node { queues = q.emptied node.queues link }
-
-  -- a link fails; its queue is emptied at once, since there is no changeover yet
+  -- a link fails. Its queue is emptied at once, since there is no changeover yet; what was received stays
   abbrev pub fail : ℕ → FailureReason → Node Q → Node Q
-  fail link why node = empty link (with_parts node (fall link why node.parts))
+  fail link why node = record { queues = q.emptied node.queues link; parts = fall link why node.parts }

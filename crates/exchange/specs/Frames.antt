@@ -1,6 +1,7 @@
 -- A frame that came by a link (RFC 4165 §4.2.1).
-use Rattle.std.specs.Prelude.{ℕ, Bool, true, false, List, Result, Ok, Err, if◌then◌else◌}
+use Rattle.std.specs.Prelude.{ℕ, Bool, true, List, Option, Some, None, is_some, Result, Ok, Err, if◌then◌else◌}
 use Rattle.settings_rows.specs.Configuration.{Configuration}
+use Rattle.signalling_types.specs.Message.{Message}
 use Rattle.signalling_types.specs.declared.cause.Cause.TheVariants.{NoSuchName}
 use Rattle.signalling_types.specs.declared.outcome.Outcome.TheVariants.{Handled, Ignored}
 use Rattle.signalling_types.specs.declared.notice.Notice.TheVariants as notices
@@ -9,48 +10,89 @@ use Rattle.signalling_types.specs.declared.notice.FrameFault.{FrameFault}
 use Rattle.signalling_types.specs.declared.notice.FrameFault.TheVariants as faults
 use Rattle.m2pa_codec.specs.Frames.{FrameValue, EmptyFrame, MessageFrame, StatusFrame}
 use Rattle.m2pa_codec.specs.Reading.{read_frame}
+use Rattle.link_alignment.specs.declared.action.Action.{Action}
+use Rattle.link_alignment.specs.declared.action.Action.TheVariants as act
+use Rattle.link_alignment.specs.declared.action.Input.TheVariants.{UserData}
+use Rattle.link_alignment.specs.Table.{action_at}
 use Rattle.link_sequence.specs.declared.fault.SeqFault.{SeqFault}
-use Rattle.exchange.specs.State.{QueueKind, Node, Done, with_parts, answer, refuse}
-use Rattle.exchange.specs.LinkState.{is_link, down, owing}
+use Rattle.exchange.specs.State.{QueueKind, Parts, Node, Done, with_parts, answer, refuse}
+use Rattle.exchange.specs.LinkState.{is_link, link_at, with_link, down}
+use Rattle.exchange.specs.Timing.{timed_confirming}
 use Rattle.exchange.specs.Noting.{note}
 use Rattle.exchange.specs.Messages.{deliver}
 use Rattle.exchange.specs.Failing.{fail}
+use Rattle.exchange.specs.Statuses.{step_on, hear}
+
+-- User Data: its numbers, and the message that it carries, if it carries one
+pub record Carrying : Type 0 where
+  pub fsn : ℕ
+  pub bsn : ℕ
+  pub message : Option Message
+
+abbrev pub carries : Carrying → Bool
+carries d = is_some d.message
+
+-- the User Data that a frame is; nothing where it is a link status
+abbrev pub data_of : FrameValue → Option Carrying
+data_of (EmptyFrame bsn fsn) = Some (record { fsn = fsn; bsn = bsn; message = None })
+data_of (MessageFrame bsn fsn sio sif) =
+    Some (record { fsn = fsn; bsn = bsn; message = Some (record { sio = sio; sif = sif }) })
+data_of (StatusFrame bsn fsn status) = None
+
+-- a message that came is to be acknowledged
+abbrev pub owing : ℕ → Option Message → Parts → Parts
+owing link None p = p
+owing link (Some m) p = with_link p link (record (link_at p link) { acknowledgement_owed = true })
+
+-- so many of our own messages were confirmed, and so many are left
+abbrev pub timed_parts : Configuration → ℕ → (confirmed outstanding : ℕ) → Parts → Parts
+timed_parts c link confirmed outstanding p =
+    record p { timers = timed_confirming c link (link_at p link).peer_busy confirmed outstanding p.timers }
 
 module _ {Q : Type 0} (q : QueueKind Q) (c : Configuration) where
-  -- what the numbers of a frame say: FSN first, then BSN; those of a link status are ignored
-  abbrev pub numbers : ℕ → FrameValue → Node Q → Result ℕ SeqFault
-  numbers link (EmptyFrame bsn fsn) node = q.accept_answer node.queues link fsn bsn false
-  numbers link (MessageFrame bsn fsn sio sif) node = q.accept_answer node.queues link fsn bsn true
-  numbers link (StatusFrame bsn fsn status) node = Ok 0
+  -- what its numbers say: how many messages they confirm, or what is wrong with them, FSN first
+  abbrev pub numbers : ℕ → Carrying → Node Q → Result ℕ SeqFault
+  numbers link d node = q.accept_answer node.queues link d.fsn d.bsn (carries d)
 
-  -- a frame of User Data is accepted: its numbers count, and one with a message is to be acknowledged
-  abbrev pub accept : ℕ → FrameValue → Node Q → Node Q
-  accept link (EmptyFrame bsn fsn) node = record node { queues = q.accepted node.queues link fsn bsn false }
-  accept link (MessageFrame bsn fsn sio sif) node =
-      record { queues = q.accepted node.queues link fsn bsn true; parts = owing node.parts link }
-  accept link (StatusFrame bsn fsn status) node = node
+  -- User Data is accepted, and confirms so many messages of our own
+  abbrev pub accept : ℕ → Carrying → (confirmed : ℕ) → Node Q → Node Q
+  accept link d confirmed node =
+      let queues : Q = q.accepted node.queues link d.fsn d.bsn (carries d) in
+      record {
+        queues = queues;
+        parts = owing link d.message (timed_parts c link confirmed (q.outstanding queues link) node.parts);
+      }
 
-  -- what an accepted frame carries; a link status isn't handled yet, and is noted as an unknown frame
-  abbrev pub carry : ℕ → FrameValue → Node Q → Done Q
-  carry link (EmptyFrame bsn fsn) node = answer Handled node
-  carry link (MessageFrame bsn fsn sio sif) node = deliver q c link (record { sio = sio; sif = sif }) node
-  carry link (StatusFrame bsn fsn status) node =
-      answer Ignored (with_parts node (note (notices.Frame faults.Unknown link) node.parts))
+  -- the message that it carries
+  abbrev pub carry : ℕ → Option Message → Node Q → Done Q
+  carry link None node = answer Handled node
+  carry link (Some m) node = deliver q c link m node
 
-  -- what the numbers alone do, right or wrong
-  abbrev pub check_numbers : Bool → (link fsn bsn : ℕ) → Bool → Node Q → Node Q
-  check_numbers right link fsn bsn carries node =
-      if right
-      then record node { queues = q.accepted node.queues link fsn bsn carries }
-      else fail q link reasons.Sequence node
+  -- User Data whose numbers were looked at: a wrong one fails the link, which is no refusal
+  abbrev pub handle_by : Result ℕ SeqFault → ℕ → Carrying → Node Q → Done Q
+  handle_by (Ok confirmed) link d node = carry link d.message (accept link d confirmed node)
+  handle_by (Err fault) link d node = answer Handled (fail q link reasons.Sequence node)
 
-  -- a frame whose numbers were looked at: a wrong one fails the link, which is no refusal
-  abbrev pub handle_by : Result ℕ SeqFault → ℕ → FrameValue → Node Q → Done Q
-  handle_by (Ok count) link frame node = carry link frame (accept link frame node)
-  handle_by (Err fault) link frame node = answer Handled (fail q link reasons.Sequence node)
+  -- User Data on a link in service
+  abbrev pub handle : ℕ → Carrying → Node Q → Done Q
+  handle link d node = handle_by (numbers link d node) link d node
 
-  abbrev pub handle : ℕ → FrameValue → Node Q → Done Q
-  handle link frame node = handle_by (numbers link frame node) link frame node
+  -- User Data fails a link that doesn't expect it yet, and takes one that does into service
+  abbrev pub act_by_data : Action → ℕ → Carrying → Node Q → Done Q
+  act_by_data act.Ignored link d node = answer Ignored node
+  act_by_data act.Fail link d node = answer Handled (fail q link reasons.Sequence node)
+  act_by_data (act.Go step) link d node = handle link d (with_parts node (step_on c link step node.parts))
+
+  abbrev pub take_in : ℕ → Carrying → Node Q → Done Q
+  take_in link d node = act_by_data (action_at (link_at node.parts link).alignment UserData) link d node
+
+  -- a frame by its kind; the numbers of a link status are ignored
+  abbrev pub receive_frame : ℕ → FrameValue → Node Q → Done Q
+  receive_frame link (EmptyFrame bsn fsn) node =
+      take_in link (record { fsn = fsn; bsn = bsn; message = None }) node
+  receive_frame link (MessageFrame bsn fsn sio sif) node =
+      take_in link (record { fsn = fsn; bsn = bsn; message = Some (record { sio = sio; sif = sif }) }) node
+  receive_frame link (StatusFrame bsn fsn status) node = hear q c link status node
 
   -- a frame that can't be read: a wrong length fails the link, any other fault is noted
   abbrev pub leave_aside : ℕ → FrameFault → Node Q → Done Q
@@ -63,7 +105,7 @@ module _ {Q : Type 0} (q : QueueKind Q) (c : Configuration) where
       answer Ignored (with_parts node (note (notices.Frame faults.Unknown link) node.parts))
 
   abbrev pub read : ℕ → Result FrameValue FrameFault → Node Q → Done Q
-  read link (Ok frame) node = handle link frame node
+  read link (Ok frame) node = receive_frame link frame node
   read link (Err fault) node = leave_aside link fault node
 
   -- a frame for a link that is down is ignored

@@ -1,31 +1,57 @@
 -- What the abstract exchange does whatever the event: laws.
-use Rattle.std.specs.Prelude.{◌≡◌, ℕ, true, List, None, Result, Ok, Err, if◌then◌else◌}
+use Rattle.settings_rows.specs.Configuration.{Configuration}
+use Rattle.std.specs.Prelude.{◌≡◌, ℕ, true, List, Option, Some, None, Result, Ok, Err, if◌then◌else◌}
 use Rattle.signalling_types.specs.declared.cause.Cause.{Cause}
 use Rattle.signalling_types.specs.declared.notice.Notice.TheVariants as notices
 use Rattle.signalling_types.specs.declared.notice.FrameFault.{FrameFault}
 use Rattle.signalling_types.specs.declared.outcome.Outcome.TheVariants.{Queued, Refused}
 use Rattle.m2pa_codec.specs.Frames.{FrameValue}
 use Rattle.m2pa_codec.specs.Reading.{read_frame}
-use Rattle.link_sequence.specs.Queue.{Queue}
+use Rattle.link_alignment.specs.declared.action.Action.{Action}
+use Rattle.link_alignment.specs.declared.action.Action.TheVariants as act
+use Rattle.link_alignment.specs.declared.action.Input.TheVariants.{UserData}
+use Rattle.link_alignment.specs.Table.{action_at}
+use Rattle.link_sequence.specs.Queue.{Queue, count_confirmed}
 use Rattle.exchange.specs.State.{Node, with_node, with_parts}
-use Rattle.exchange.specs.LinkState.{is_link, in_service}
+use Rattle.exchange.specs.LinkState.{is_link, link_at, in_service}
 use Rattle.exchange.specs.Noting.{note}
-use Rattle.exchange.specs.Frames.{accept}
-use Rattle.exchange.specs.Happening.{Happening, CameUp, FrameCame, Submitted}
+use Rattle.exchange.specs.Statuses.{step_on}
+use Rattle.exchange.specs.Frames.{Carrying, numbers, accept, data_of}
+use Rattle.exchange.specs.Happening.{Happening, CameUp, WentDown, FrameCame, Ticked, Submitted, Activated, Deactivated}
 use Rattle.exchange.specs.Queues.{whole}
 use Rattle.exchange.specs.Exchange.{outcome_of, after, frame_to_take, taken}
 use Rattle.exchange.specs.Stands.{Abstract}
 
--- the node after the frame of this text was accepted; a text that is no frame does nothing
+-- the node after User Data was accepted on a link in service
+abbrev pub accepted_here : ℕ → Carrying → Configuration → Node (List Queue) → Node (List Queue)
+accepted_here link d c node = accept whole c link d (count_confirmed (numbers whole c link d node)) node
+
+-- the node after a link did so about it: it may enter service first
+abbrev pub accept_data : Action → ℕ → Carrying → Configuration → Node (List Queue) → Node (List Queue)
+accept_data act.Ignored link d c node = node
+accept_data act.Fail link d c node = node
+accept_data (act.Go step) link d c node =
+    accepted_here link d c (with_parts node (step_on c link step node.parts))
+
+abbrev pub accept_frame : Option Carrying → ℕ → Configuration → Node (List Queue) → Node (List Queue)
+accept_frame None link c node = node
+accept_frame (Some d) link c node =
+    accept_data (action_at (link_at node.parts link).alignment UserData) link d c node
+
+-- the node after the frame of this text was accepted; a text that is no User Data is not
 abbrev pub accept_text : ℕ → Result FrameValue FrameFault → Abstract → Node (List Queue)
-accept_text link (Ok frame) a = accept whole a.settings link frame a.node
+accept_text link (Ok frame) a = accept_frame (data_of frame) link a.settings a.node
 accept_text link (Err fault) a = a.node
 
 -- the state after a refused event: a message in a frame leaves what accepting its frame did, and a notice; any other
 -- event changes nothing
 abbrev pub after_refusal : Happening → Cause → Abstract → Abstract
 after_refusal (CameUp link) cause a = a
+after_refusal (WentDown link) cause a = a
+after_refusal Ticked cause a = a
 after_refusal (Submitted message) cause a = a
+after_refusal (Activated link) cause a = a
+after_refusal (Deactivated link) cause a = a
 after_refusal (FrameCame link text) cause a =
     let node : Node (List Queue) = accept_text link (read_frame text) a in
     if is_link a.node.parts link

@@ -1,11 +1,17 @@
+pub mod Link
 pub mod State
 pub mod LinkState
+pub mod LinkRoom
+pub mod Timing
 pub mod Noting
 pub mod Local
 pub mod Messages
 pub mod Opening
 pub mod Failing
+pub mod Statuses
+pub mod Ticking
 pub mod Frames
+pub mod Carried
 pub mod Sending
 pub mod Happening
 pub mod Exchange

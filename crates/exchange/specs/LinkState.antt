@@ -1,45 +1,82 @@
 -- The state of one link, beside its queue.
-use Rattle.std.specs.Prelude.{ℕ, Bool, true, false, nat_lt, length, slice_index_or, slice_set}
-use Rattle.exchange.specs.declared.link_state.LinkState.{LinkState}
-use Rattle.exchange.specs.declared.link_state.Phase.{Phase}
-use Rattle.exchange.specs.declared.link_state.Phase.TheVariants.{Down, InService}
+use Rattle.std.specs.Prelude.{ℕ, Bool, true, false, List, [], ◌++◌, nat_lt, length, slice_index_or, slice_set}
+use Rattle.std.specs.Option.{option_to_list}
+use Rattle.m2pa_codec.specs.declared.status.LinkStatus.{LinkStatus}
+use Rattle.link_alignment.specs.declared.alignment.Alignment.{Alignment}
+use Rattle.link_alignment.specs.declared.alignment.Alignment.TheVariants.{Down, NotAligned, Aligned, Proving}
+use Rattle.link_alignment.specs.declared.alignment.Alignment.TheVariants.{AlignedReady, InService}
+use Rattle.link_alignment.specs.declared.action.Transition.{Transition}
+use Rattle.link_alignment.specs.declared.action.Action.{Action}
+use Rattle.link_alignment.specs.declared.action.Action.TheVariants.{Ignored, Fail, Go}
+use Rattle.link_alignment.specs.Table.{opening}
+use Rattle.exchange.specs.Link.{Link}
 use Rattle.exchange.specs.State.{Parts}
 
--- a link that has never been up
-abbrev pub down_link : LinkState
-down_link = record { phase = Down; association = false; acknowledgement_owed = false }
+-- a link that has never been up; the operator lets it open
+abbrev pub down_link : Link
+down_link = record {
+  alignment = Down;
+  association = false;
+  active = true;
+  waiting = [];
+  peer_busy = false;
+  acknowledgement_owed = false;
+}
 
-abbrev pub link_at : Parts → ℕ → LinkState
-link_at p link = slice_index_or p.links link down_link
+-- a link after a step of its alignment: the status that the step sends waits behind the others
+abbrev pub stepped : Transition → Link → Link
+stepped step l = record l { alignment = step.state; waiting = l.waiting ++ option_to_list step.send }
+
+-- a link after what its alignment does about an input
+abbrev pub acted : Action → Link → Link
+acted Ignored l = l
+acted Fail l = l
+acted (Go step) l = stepped step l
+
+-- a link that got an association
+abbrev pub opened : Link → Link
+opened l = stepped opening (record down_link { association = true; active = l.active })
+
+-- a link that failed: no status waits, and Busy and the acknowledgement that was owed are forgotten
+abbrev pub fallen : Link → Link
+fallen l = record down_link { association = l.association; active = l.active }
+
+-- a link that is down takes no frames
+abbrev pub is_down : Alignment → Bool
+is_down Down = true
+is_down NotAligned = false
+is_down Aligned = false
+is_down (Proving ready) = false
+is_down AlignedReady = false
+is_down InService = false
+
+-- a link in service carries messages
+abbrev pub is_in_service : Alignment → Bool
+is_in_service Down = false
+is_in_service NotAligned = false
+is_in_service Aligned = false
+is_in_service (Proving ready) = false
+is_in_service AlignedReady = false
+is_in_service InService = true
+
+-- ---- the links of a node, by their numbers
 
 abbrev pub is_link : Parts → ℕ → Bool
 is_link p link = nat_lt link (length p.links)
 
--- one link in another state
-abbrev pub with_link : Parts → ℕ → LinkState → Parts
-with_link p link state = record p { links = slice_set p.links link state }
+-- one that isn't there is down
+abbrev pub link_at : Parts → ℕ → Link
+link_at p link = slice_index_or p.links link down_link
 
--- a link that is down takes no frames
-abbrev pub is_down : Phase → Bool
-is_down Down = true
-is_down InService = false
-
--- a link in service carries messages
-abbrev pub is_in_service : Phase → Bool
-is_in_service Down = false
-is_in_service InService = true
-
--- of a link by its number; one that isn't there is down
 abbrev pub down : Parts → ℕ → Bool
-down p link = is_down (link_at p link).phase
+down p link = is_down (link_at p link).alignment
 
 abbrev pub in_service : Parts → ℕ → Bool
-in_service p link = is_in_service (link_at p link).phase
+in_service p link = is_in_service (link_at p link).alignment
 
--- a message that came is to be acknowledged
-abbrev pub owing : Parts → ℕ → Parts
-owing p link = with_link p link (record (link_at p link) { acknowledgement_owed = true })
+-- one link in another state
+abbrev pub links_with : Parts → ℕ → Link → List Link
+links_with p link state = slice_set p.links link state
 
--- no acknowledgement is owed any more
-abbrev pub settled : Parts → ℕ → Parts
-settled p link = with_link p link (record (link_at p link) { acknowledgement_owed = false })
+abbrev pub with_link : Parts → ℕ → Link → Parts
+with_link p link state = record p { links = links_with p link state }

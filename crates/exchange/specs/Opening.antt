@@ -1,25 +1,89 @@
--- An association is there, and a link opens (RFC 4165 §4.1.3).
-use Rattle.std.specs.Prelude.{ℕ, true, false, if◌then◌else◌}
+-- Associations that come and go, and the operator's word on a link (RFC 4165 §4.1.3).
+use Rattle.std.specs.Prelude.{ℕ, Bool, true, false, ◌&&◌, not, if◌then◌else◌}
+use Rattle.settings_rows.specs.Configuration.{Configuration}
 use Rattle.signalling_types.specs.declared.cause.Cause.TheVariants.{NoSuchName, LinkNotReady}
-use Rattle.signalling_types.specs.declared.outcome.Outcome.TheVariants.{Handled}
-use Rattle.exchange.specs.declared.link_state.Phase.TheVariants.{InService}
-use Rattle.exchange.specs.State.{QueueKind, Node, Done, answer, refuse}
-use Rattle.exchange.specs.LinkState.{is_link, link_at, with_link}
+use Rattle.signalling_types.specs.declared.notice.FailureReason.{FailureReason}
+use Rattle.signalling_types.specs.declared.notice.FailureReason.TheVariants as reasons
+use Rattle.signalling_types.specs.declared.outcome.Outcome.TheVariants.{Handled, Ignored}
+use Rattle.link_alignment.specs.Table.{opening}
+use Rattle.exchange.specs.Link.{Link}
+use Rattle.exchange.specs.declared.event.Wants.{Wants}
+use Rattle.exchange.specs.declared.event.Wants.TheVariants.{Nothing, Open, Close}
+use Rattle.exchange.specs.State.{QueueKind, Parts, Node, Done, with_parts, answer, refuse}
+use Rattle.exchange.specs.LinkState.{is_link, link_at, links_with, with_link, is_down, down, opened}
+use Rattle.exchange.specs.Timing.{timed}
+use Rattle.exchange.specs.Failing.{fail}
 
-module _ {Q : Type 0} (q : QueueKind Q) where
-  -- a new epoch begins: the queue and its counts are empty, and the link is in service
+-- a link opens where it has no association yet, and the operator lets it
+abbrev pub may_open : Link → Bool
+may_open l = not l.association && l.active
+
+-- what a link that is down asks of its caller
+abbrev pub wanted_down : Link → Wants
+wanted_down l = if l.association then Close else if l.active then Open else Nothing
+
+-- what a link asks of its caller
+abbrev pub wanted_by : Link → Wants
+wanted_by l = if is_down l.alignment then wanted_down l else Nothing
+
+abbrev pub wanted : Parts → ℕ → Wants
+wanted p link = if is_link p link then wanted_by (link_at p link) else Nothing
+
+-- a link whose association is gone
+abbrev pub without_association : ℕ → Parts → Parts
+without_association link p = with_link p link (record (link_at p link) { association = false })
+
+-- a link that the operator lets open, or keeps from it
+abbrev pub allowed : Bool → ℕ → Parts → Parts
+allowed active link p = with_link p link (record (link_at p link) { active = active })
+
+-- a link that begins to align
+abbrev pub begun : Configuration → ℕ → Parts → Parts
+begun c link p =
+    record p { links = links_with p link (opened (link_at p link)); timers = timed c link opening p.timers }
+
+module _ {Q : Type 0} (q : QueueKind Q) (c : Configuration) where
+  -- a new epoch begins: the queue and its counts are empty, and the link isn't aligned yet
   abbrev pub open_link : ℕ → Node Q → Node Q
-  open_link link node = record {
-    queues = q.started node.queues link;
-    parts = with_link node.parts link
-        (record (link_at node.parts link) { phase = InService; association = true; acknowledgement_owed = false });
-  }
+  open_link link node = record { queues = q.started node.queues link; parts = begun c link node.parts }
 
-  -- an association for a link that has one is refused
+  -- an association comes up; a link that has one, or that the operator keeps from opening, refuses it
   abbrev pub associate : ℕ → Node Q → Done Q
   associate link node =
       if is_link node.parts link
+      then (if may_open (link_at node.parts link)
+      then answer Handled (open_link link node)
+      else refuse LinkNotReady node)
+      else refuse NoSuchName node
+
+  -- a link that isn't down fails
+  abbrev pub bring_down : ℕ → FailureReason → Node Q → Node Q
+  bring_down link why node = if down node.parts link then node else fail q link why node
+
+  -- the node without the association of a link
+  abbrev pub part : ℕ → Node Q → Node Q
+  part link node = with_parts node (without_association link node.parts)
+
+  -- an association goes down
+  abbrev pub dissociate : ℕ → Node Q → Done Q
+  dissociate link node =
+      if is_link node.parts link
       then (if (link_at node.parts link).association
-      then refuse LinkNotReady node
-      else answer Handled (open_link link node))
+      then answer Handled (part link (bring_down link reasons.Association node))
+      else answer Ignored node)
+      else refuse NoSuchName node
+
+  -- the operator lets a link open, or keeps it from it
+  abbrev pub allow : Bool → ℕ → Node Q → Node Q
+  allow active link node = with_parts node (allowed active link node.parts)
+
+  abbrev pub activate : ℕ → Node Q → Done Q
+  activate link node =
+      if is_link node.parts link then answer Handled (allow true link node) else refuse NoSuchName node
+
+  -- a link that isn't down fails first
+  abbrev pub deactivate : ℕ → Node Q → Done Q
+  deactivate link node =
+      if is_link node.parts link
+      then answer Handled (allow false link (bring_down link reasons.Operator node))
       else refuse NoSuchName node

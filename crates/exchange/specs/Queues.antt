@@ -1,5 +1,5 @@
 -- The two kinds of queues: whole, as the definitions have them, and kept, as the code keeps them.
-use Rattle.std.specs.Prelude.{ℕ, List, [], sum_by, slice_index_or, slice_set}
+use Rattle.std.specs.Prelude.{ℕ, ◌-◌, List, [], sum_by, slice_index_or, slice_set}
 use Rattle.signalling_types.specs.Message.{Message}
 use Rattle.cell_pool.specs.Lanes.{lane_at, pushed, dropped, users, managements, users_in, managements_in}
 use Rattle.link_sequence.specs.Queue as queue
@@ -21,6 +21,7 @@ whole = record {
   to_send = λ qs link window. queue.to_send (queue_at qs link) window;
   sent_one = λ qs link window. slice_set qs link (queue.sent_one (queue_at qs link) window);
   emptied = λ qs link. slice_set qs link (queue.emptied (queue_at qs link));
+  outstanding = λ qs link. (queue_at qs link).sent - (queue_at qs link).confirmed;
   last_sent = λ qs link. queue.last_sent (queue_at qs link);
   last_accepted = λ qs link. queue.last_accepted (queue_at qs link);
   users = λ qs. sum_by (λ q. users_in (unconfirmed q)) qs;
@@ -56,6 +57,7 @@ kept = record {
     lanes = slice_set k.lanes link [];
     counts = slice_set k.counts link (kept_emptied (counts_at k.counts link));
   };
+  outstanding = λ k link. (counts_at k.counts link).outstanding;
   last_sent = λ k link. kept_last_sent (counts_at k.counts link);
   last_accepted = λ k link. kept_last_accepted (counts_at k.counts link);
   users = λ k. users k.lanes;

@@ -10,7 +10,7 @@ kept_in e = record {
   settings = e.settings;
   node = record {
     queues = record { lanes = e.lanes.lists; counts = e.sequences.items };
-    parts = record { links = e.links.items; notices = e.notices.items };
+    parts = record { links = e.links.items; timers = e.timers; notices = e.notices.items };
   };
 }
 

@@ -3,19 +3,21 @@ use Rattle.std.specs.Prelude.{List, [], ◌∷◌}
 use Rattle.std.specs.Option.{option_map}
 use Rattle.m2pa_codec.specs.Frames.{spelled}
 use Rattle.exchange.specs.declared.event.Answer.{Answer}
-use Rattle.exchange.specs.declared.event.Answer.TheVariants.{Stepped, Taken}
+use Rattle.exchange.specs.declared.event.Answer.TheVariants.{Stepped, Taken, Wanted}
 use Rattle.exchange.specs.State.{State, QueueKind}
-use Rattle.exchange.specs.Happening.{Asking, Happens, Takes}
-use Rattle.exchange.specs.Exchange.{outcome_of, after, frame_to_take, taken}
+use Rattle.exchange.specs.Happening.{Asking, Happens, Takes, AsksWants}
+use Rattle.exchange.specs.Exchange.{outcome_of, after, frame_to_take, taken, wants_of}
 
 -- the answer to one call, and the state after it
 abbrev pub answer_to_call : {Q : Type 0} → QueueKind Q → Asking → State Q → Answer
 answer_to_call q (Happens what) s = Stepped (outcome_of q what s)
 answer_to_call q (Takes link) s = Taken (option_map spelled (frame_to_take q s link))
+answer_to_call q (AsksWants link) s = Wanted (wants_of s link)
 
 abbrev pub after_call : {Q : Type 0} → QueueKind Q → Asking → State Q → State Q
 after_call q (Happens what) s = after q what s
 after_call q (Takes link) s = taken q s link
+after_call q (AsksWants link) s = s
 
 -- the answers to calls in a row, and the state after all of them
 abbrev pub answers_to : {Q : Type 0} → QueueKind Q → List Asking → State Q → List Answer

@@ -1,6 +1,7 @@
 -- What an exchange keeps of an abstract state, and when it stands for one.
 use Rattle.std.specs.Prelude.{◌≡◌, ℕ, List, [], map, length, replicate}
 use Rattle.settings_rows.specs.Configuration.{Configuration}
+use Rattle.timer_wheel.specs.declared.name.NodeCounts.{NodeCounts}
 use Rattle.link_sequence.specs.Queue.{Queue, IsQueue, first_queue}
 use Rattle.link_sequence.specs.Counts.{counts_of, unconfirmed}
 use Rattle.exchange.specs.State.{Parts, State, keep}
@@ -33,9 +34,17 @@ pub record StandsFor (k : Kept) (a : Abstract) : Type 0 where
   pub sound : IsSound a
   pub kept : k ≡ kept_of a
 
--- every link is down, and nothing was noted
+-- how many links, sets and destinations the settings have
+abbrev pub counts_in : Configuration → NodeCounts
+counts_in c = record { links = length c.links; sets = length c.sets; destinations = length c.destinations }
+
+-- every link is down, no timer runs, and nothing was noted
 abbrev pub first_parts : Configuration → Parts
-first_parts c = record { links = replicate (length c.links) down_link; notices = [] }
+first_parts c = record {
+  links = replicate (length c.links) down_link;
+  timers = record { counts = counts_in c; timers = [] };
+  notices = [];
+}
 
 -- the state that boot gives: nothing stands in any queue
 abbrev pub first_state : Configuration → Abstract

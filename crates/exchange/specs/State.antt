@@ -8,11 +8,13 @@ use Rattle.signalling_types.specs.declared.outcome.Outcome.{Outcome}
 use Rattle.signalling_types.specs.declared.outcome.Outcome.TheVariants.{Refused}
 use Rattle.link_sequence.specs.Queue.{Sending}
 use Rattle.link_sequence.specs.declared.fault.SeqFault.{SeqFault}
-use Rattle.exchange.specs.declared.link_state.LinkState.{LinkState}
+use Rattle.timer_wheel.specs.Timers.{Running}
+use Rattle.exchange.specs.Link.{Link}
 
 -- All that isn't a queue.
 pub record Parts : Type 0 where
-  pub links : List LinkState
+  pub links : List Link
+  pub timers : Running
   pub notices : List Notice
 
 -- What changes as a node runs. Q is the queues of all links together.
@@ -39,6 +41,8 @@ pub record QueueKind (Q : Type 0) : Type 0 where
   pub to_send : Q → ℕ → ℕ → Option Sending
   pub sent_one : Q → ℕ → ℕ → Q
   pub emptied : Q → ℕ → Q
+  -- how many messages were sent and aren't confirmed
+  pub outstanding : Q → ℕ → ℕ
   pub last_sent : Q → ℕ → ℕ
   pub last_accepted : Q → ℕ → ℕ
   -- how many messages of each kind stand in all queues

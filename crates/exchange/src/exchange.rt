@@ -18,9 +18,12 @@ mod noting;
 mod opening;
 mod runs;
 mod sending;
+mod statuses;
+mod ticking;
+mod timing;
 mod views;
 
-use crate::event::Event;
+use crate::event::{Event, Order};
 use crate::link_state::LinkState;
 use cell_pool::RingLanes;
 use circular_buffer::HeapCircularBuffer;
@@ -28,6 +31,7 @@ use link_sequence::Sequence;
 use m2pa_codec::BUFFER_OCTETS;
 use std::marker::Model;
 use stp_types::{LinkId, Notice, Outcome, Settings};
+use timer_wheel::Timers;
 
 /// The links, queues and messages of one node.
 ///
@@ -39,6 +43,7 @@ pub struct Exchange {
     lanes: RingLanes,
     sequences: Vec<Sequence>,
     links: Vec<LinkState>,
+    timers: Timers,
     notices: HeapCircularBuffer<Notice>,
 }
 
@@ -74,7 +79,8 @@ impl Exchange {
     }
 
     /// Writes the next frame that goes out on a link to the front of `buffer`, and answers its length in
-    /// octets: the next message while the window allows, else the acknowledgement that is owed (RFC 4165 §4).
+    /// octets: a status that waits, else the next message while the window allows and the peer isn't busy, else the
+    /// acknowledgement that is owed (RFC 4165 §4).
     ///
     /// None, and nothing is written, where the link isn't there or has nothing to send.
     #[inline(always)]
@@ -102,8 +108,12 @@ impl Exchange {
     {
         match event {
             Event::AssociationUp(link) => self.associate(*link),
+            Event::AssociationDown(link) => self.dissociate(*link),
             Event::Frame(link, octets) => self.receive(*link, octets),
+            Event::Tick => self.tick(),
             Event::Submit(message) => self.submit(message.lend()),
+            Event::Order(Order::Activate(link)) => self.activate(*link),
+            Event::Order(Order::Deactivate(link)) => self.deactivate(*link),
         }
     }
 }

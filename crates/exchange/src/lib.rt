@@ -9,9 +9,8 @@ pub mod laws;
 pub mod link_state;
 pub mod memory;
 
-pub use event::{Answer, Call, Event};
+pub use event::{Answer, Call, Event, Order, Wants};
 pub use exchange::Exchange;
 pub use frame_text::FrameText;
-pub use link_state::{LinkState, Phase};
 pub use m2pa_codec::BUFFER_OCTETS;
 pub use memory::NoMemory;

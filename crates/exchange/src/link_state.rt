@@ -1,30 +1,188 @@
 //! The state of a link, beside its queue.
 
-/// Where a link stands on its way into service (RFC 4165 §4.1).
-#[derive(Clone, Copy, Debug, PartialEq, Eq)]
-pub enum Phase {
-    /// It carries nothing.
-    Down,
-    /// It carries messages.
-    InService,
-}
+ghost use Rattle.std.specs.Prelude.{◌≡◌, ◌+◌, ◌≤◌, false, drop, length, slice_get};
+ghost use Rattle.std.specs.Option.{option_to_list};
+ghost use Rattle.link_alignment.specs.Table.{action_at};
+ghost use Rattle.exchange.specs.LinkState.{down_link, stepped, acted, opened, fallen, is_down, is_in_service};
+ghost use Rattle.exchange.specs.LinkRoom.{sent_by};
+
+use arrayvec::ArrayVec;
+use link_alignment::{Action, Alignment, Input, Transition};
+use m2pa_codec::LinkStatus;
+use std::marker::Model;
+
+/// How many statuses may wait: Alignment, Proving Normal and Ready go out once in an epoch each.
+const STATUSES: usize = 3;
 
 /// The state of a link, beside its queue.
-#[derive(Clone, Copy, Debug, PartialEq, Eq)]
+#[derive(Drop)]
 pub struct LinkState {
-    /// Where it stands.
-    pub phase: Phase,
-    /// Whether it has an association.
-    pub association: bool,
-    /// Whether a message that came isn't acknowledged yet.
-    pub acknowledgement_owed: bool,
+    alignment: Alignment,
+    association: bool,
+    active: bool,
+    waiting: ArrayVec<LinkStatus, STATUSES>,
+    peer_busy: bool,
+    acknowledgement_owed: bool,
+}
+
+impl Model for LinkState {
+    ghost use Rattle.exchange.specs.Link.{Link};
+
+    ghost Value = { Link };
+
+    ghost use Rattle.exchange.specs.LinkRoom.{link_in, HasPlaces};
+
+    ghost view = { link_in };
+
+    ghost invariant = { HasPlaces };
 }
 
 impl LinkState {
-    /// A link that has never been up.
-    pub const DOWN: LinkState = LinkState {
-        phase: Phase::Down,
-        association: false,
-        acknowledgement_owed: false,
-    };
+    /// A link that has never been up, and may open.
+    pub fn new() -> LinkState
+        ensures { result ≡ down_link }
+    {
+        LinkState {
+            alignment: Alignment::Down,
+            association: false,
+            active: true,
+            waiting: ArrayVec::new(),
+            peer_busy: false,
+            acknowledgement_owed: false,
+        }
+    }
+
+    /// Whether it is down.
+    pub fn is_down(&self) -> bool
+        ensures { result ≡ is_down self.now.alignment }
+    {
+        matches!(self.alignment, Alignment::Down)
+    }
+
+    /// Whether it carries messages.
+    pub fn is_in_service(&self) -> bool
+        ensures { result ≡ is_in_service self.now.alignment }
+    {
+        matches!(self.alignment, Alignment::InService)
+    }
+
+    /// Whether it has an association.
+    pub fn has_association(&self) -> bool
+        ensures { result ≡ self.now.association }
+    {
+        self.association
+    }
+
+    /// Whether the operator lets it open.
+    pub fn is_active(&self) -> bool
+        ensures { result ≡ self.now.active }
+    {
+        self.active
+    }
+
+    /// Whether its peer takes no messages for now.
+    pub fn is_peer_busy(&self) -> bool
+        ensures { result ≡ self.now.peer_busy }
+    {
+        self.peer_busy
+    }
+
+    /// Whether a message that came isn't acknowledged yet.
+    pub fn owes_acknowledgement(&self) -> bool
+        ensures { result ≡ self.now.acknowledgement_owed }
+    {
+        self.acknowledgement_owed
+    }
+
+    /// The status that has waited longest.
+    pub fn next_status(&self) -> Option<LinkStatus>
+        ensures { result ≡ slice_get self.now.waiting 0 }
+    {
+        self.waiting.first().copied()
+    }
+
+    /// Does what its alignment does about an input, and says what that is. Where the link is to fail, nothing changes
+    /// here.
+    pub fn on(&mut self, input: Input) -> Action
+        ensures action { result ≡ action_at self.old.alignment input }
+        ensures state { self.new ≡ acted result self.old }
+    {
+        let action = self.alignment.on(input);
+        if let Action::Go(step) = action {
+            self.take_step(step);
+        }
+        action
+    }
+
+    /// Takes a step: the status that it sends waits behind the others.
+    fn take_step(&mut self, step: Transition)
+        requires { sent_by self.old.alignment + length (option_to_list step.send) ≤ sent_by step.state }
+        ensures { self.new ≡ stepped step self.old }
+    {
+        self.alignment = step.state;
+        if let Some(status) = step.send {
+            self.waiting.push(status);
+        }
+    }
+
+    /// Begins to align, with an association.
+    pub fn open(&mut self)
+        ensures { self.new ≡ opened self.old }
+    {
+        let active = self.active;
+        *self = LinkState {
+            association: true,
+            active,
+            ..LinkState::new()
+        };
+        self.take_step(Alignment::open());
+    }
+
+    /// Fails. The association stays.
+    pub fn fall(&mut self)
+        ensures { self.new ≡ fallen self.old }
+    {
+        let association = self.association;
+        let active = self.active;
+        *self = LinkState {
+            association,
+            active,
+            ..LinkState::new()
+        };
+    }
+
+    /// Loses its association.
+    pub fn part(&mut self)
+        ensures { self.new ≡ record self.old { association = false } }
+    {
+        self.association = false;
+    }
+
+    /// May open from now on, or not.
+    pub fn allow(&mut self, active: bool)
+        ensures { self.new ≡ record self.old { active = active } }
+    {
+        self.active = active;
+    }
+
+    /// Knows its peer busy from now on, or not.
+    pub fn set_peer_busy(&mut self, busy: bool)
+        ensures { self.new ≡ record self.old { peer_busy = busy } }
+    {
+        self.peer_busy = busy;
+    }
+
+    /// Owes an acknowledgement from now on, or not.
+    pub fn set_owed(&mut self, owed: bool)
+        ensures { self.new ≡ record self.old { acknowledgement_owed = owed } }
+    {
+        self.acknowledgement_owed = owed;
+    }
+
+    /// Forgets the status that waited longest, if one waits.
+    pub fn drop_status(&mut self)
+        ensures { self.new ≡ record self.old { waiting = drop 1 self.old.waiting } }
+    {
+        self.waiting.pop_at(0);
+    }
 }

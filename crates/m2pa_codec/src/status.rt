@@ -4,7 +4,7 @@ ghost use Rattle.std.specs.Prelude.{◌≡◌};
 ghost use Rattle.m2pa_codec.specs.Statuses.{status_number, status_of};
 
 /// The state that a Link Status message tells (RFC 4165 §2.3.2). The numbers are those of its state field.
-#[derive(Clone, Copy, Debug, PartialEq, Eq)]
+#[derive(Clone, Copy, Debug, Default, PartialEq, Eq)]
 pub enum LinkStatus {
     /// The sender waits for the link to be aligned.
     Alignment = 1,
@@ -23,6 +23,7 @@ pub enum LinkStatus {
     /// The sender takes messages again.
     BusyEnded = 8,
     /// The sender doesn't carry messages on this link.
+    #[default]
     OutOfService = 9,
 }
 

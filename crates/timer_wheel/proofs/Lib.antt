@@ -4,3 +4,4 @@ pub mod Rising
 pub mod Counting
 pub mod Keys
 pub mod Due
+pub mod DueCount

@@ -1,6 +1,6 @@
 //! A list of timers in name order.
 
-ghost use Rattle.std.specs.Prelude.{◌≡◌, ◌<◌, ◌≤◌, length, map, position, vec_capacity, vec_len};
+ghost use Rattle.std.specs.Prelude.{◌≡◌, ◌<◌, ◌≤◌, filter, length, map, position, vec_capacity, vec_len};
 ghost use Rattle.timer_wheel.specs.Timers.{before, cleared, started, lowered, is_due, due_name};
 ghost use Rattle.timer_wheel.specs.Kept.{DoRise};
 ghost use Rattle.timer_wheel.specs.Lists.{without_due, is_found};
@@ -52,6 +52,13 @@ pub(crate) fn take_due(timers: &mut Vec<Timer>) -> Option<TimerName>
         Some(at) => Some(timers.remove(at).name),
         None => None,
     }
+}
+
+/// How many timers are due.
+pub(crate) fn due_count(timers: &[Timer]) -> usize
+    ensures { result ≡ length (filter is_due timers.now) }
+{
+    timers.iter().filter(|timer| timer.left == 0).count()
 }
 
 /// The place of the first timer that is due.

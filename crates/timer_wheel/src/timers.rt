@@ -1,9 +1,9 @@
 //! The timers of a node.
 
 ghost use Rattle.std.specs.Prelude.{◌≡◌, [], IfOk, max};
-ghost use Rattle.timer_wheel.specs.Timers.{set_timer, clear_timer, ticked, due_name, after_due};
+ghost use Rattle.timer_wheel.specs.Timers.{set_timer, clear_timer, ticked, due_name, due_count, after_due};
 
-use crate::list::{lower, start, stop, take_due};
+use crate::list::{due_count, lower, start, stop, take_due};
 use crate::name::{NodeCounts, TimerName};
 use std::alloc::{AllocError, Global};
 use std::marker::Model;
@@ -76,6 +76,14 @@ impl Timers {
         ensures { self.new ≡ ticked self.old }
     {
         lower(&mut self.running);
+    }
+
+    /// How many timers are due.
+    #[tactic(auto, using(crate::proofs::DueCount::due_steps))]
+    pub fn due_count(&self) -> usize
+        ensures { result ≡ due_count self.now.timers }
+    {
+        due_count(&self.running)
     }
 
     /// The first name that is due, in name order; it runs no longer. None where nothing is due. What was stopped or

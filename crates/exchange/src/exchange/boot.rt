@@ -3,7 +3,7 @@
 ghost use Rattle.std.specs.Prelude.{◌≡◌, ◌≤◌, replicate, IfOk};
 ghost use Rattle.link_sequence.specs.Counts.{kept_first};
 ghost use Rattle.exchange.specs.LinkState.{down_link};
-ghost use Rattle.exchange.specs.Stands.{StandsFor, kept_of, first_state};
+ghost use Rattle.exchange.specs.Stands.{StandsFor, kept_of, first_state, counts_in};
 
 use super::Exchange;
 use crate::link_state::LinkState;
@@ -13,6 +13,7 @@ use circular_buffer::HeapCircularBuffer;
 use link_sequence::Sequence;
 use std::alloc::{AllocError, Global};
 use stp_types::{Limits, Settings};
+use timer_wheel::{NodeCounts, Timers};
 
 impl Exchange {
     /// An exchange with these settings, whose links are all down.
@@ -29,12 +30,14 @@ impl Exchange {
         let lanes = RingLanes::new(alloc, count, settings.pool())?;
         let sequences = first_sequences(alloc, count)?;
         let links = down_links(alloc, count)?;
+        let timers = Timers::new(alloc, counts_in(&settings))?;
         let notices = HeapCircularBuffer::with_capacity(alloc, Limits::NOTICES)?;
         Ok(Exchange {
             settings,
             lanes,
             sequences,
             links,
+            timers,
             notices,
         })
     }
@@ -55,7 +58,18 @@ fn down_links(alloc: Global, count: usize) -> Result<Vec<LinkState>, AllocError>
 {
     let mut links = Vec::with_capacity(alloc, count)?;
     for index in 0..count {
-        links.push(LinkState::DOWN)?;
+        links.push(LinkState::new())?;
     }
     Ok(links)
+}
+
+/// How many links, sets and destinations the settings have.
+fn counts_in(settings: &Settings) -> NodeCounts
+    ensures { result ≡ counts_in settings.now }
+{
+    NodeCounts {
+        links: settings.links().len() as u16,
+        sets: settings.sets().len() as u16,
+        destinations: settings.destinations().len() as u16,
+    }
 }

@@ -6,7 +6,6 @@ ghost use Rattle.exchange.specs.Queues.{kept, without_lane};
 ghost use Rattle.exchange.specs.Failing as rule;
 
 use super::Exchange;
-use crate::link_state::{LinkState, Phase};
 use cell_pool::Lanes;
 use stp_types::{FailureReason, LinkId, Notice};
 
@@ -16,31 +15,20 @@ impl Exchange {
         requires { link < length self.old.node.parts.links }
         ensures { self.new ≡ with_node self.old (rule.fail kept link why self.old.node) }
     {
+        let index = link.index();
         self.fall(link, why);
-        self.empty(link.index());
+        self.drop_all(index);
+        self.sequences[index].empty();
     }
 
-    /// A link is down and owes no acknowledgement; that is noted.
+    /// A link is down, its timers don't run, and that is noted.
     fn fall(&mut self, link: LinkId, why: FailureReason)
         requires { link < length self.old.node.parts.links }
         ensures { self.new ≡ with_node self.old (with_parts self.old.node (rule.fall link why self.old.node.parts)) }
     {
-        let index = link.index();
-        self.links[index] = LinkState {
-            phase: Phase::Down,
-            acknowledgement_owed: false,
-            ..self.links[index]
-        };
+        self.links[link.index()].fall();
+        self.stop_all(link);
         self.note(Notice::Failed(link, why));
-    }
-
-    /// Nothing stands in the link's queue any more.
-    fn empty(&mut self, link: usize)
-        requires { link < length self.old.node.parts.links }
-        ensures { self.new ≡ with_node self.old (rule.empty kept link self.old.node) }
-    {
-        self.drop_all(link);
-        self.sequences[link].empty();
     }
 
     /// Drops the messages of a link's list.

@@ -1,14 +1,21 @@
 //! A frame that came by a link.
 
-ghost use Rattle.std.specs.Prelude.{◌≡◌, ◌<◌, length, is_ok};
+ghost use Rattle.std.specs.Prelude.{◌≡◌, ◌<◌, length};
 ghost use Rattle.m2pa_codec.specs.Values.{value_of};
-ghost use Rattle.exchange.specs.State.{with_node};
+ghost use Rattle.exchange.specs.State.{with_node, with_parts};
+ghost use Rattle.std.specs.Option.{option_map};
+ghost use Rattle.signalling_types.specs.Lent.{lent};
 ghost use Rattle.exchange.specs.Queues.{kept};
 ghost use Rattle.exchange.specs.Exchange.{Ends};
+ghost use Rattle.exchange.specs.Ticking.{with_timers};
+ghost use Rattle.exchange.specs.Timing.{timed_confirming};
+ghost use Rattle.exchange.specs.Carried.{carrying};
+ghost use Rattle.exchange.specs.LinkState.{link_at};
+ghost use Rattle.exchange.specs.Frames.{owing};
 ghost use Rattle.exchange.specs.Frames as rule;
 
 use super::Exchange;
-use crate::link_state::Phase;
+use link_alignment::{Action, Alignment, Input, LinkTimer, Transition};
 use link_number::Number24;
 use m2pa_codec::{Frame, LinkStatus, decode};
 use stp_types::{Cause, FailureReason, FrameFault, LinkId, MsuRef, Notice, Outcome};
@@ -21,11 +28,11 @@ impl Exchange {
         if index >= self.links.len() {
             return Outcome::Refused(Cause::NoSuchName);
         }
-        if self.links[index].phase == Phase::Down {
+        if self.links[index].is_down() {
             return Outcome::Ignored;
         }
         match decode(octets) {
-            Ok(frame) => self.handle(link, frame),
+            Ok(frame) => self.receive_frame(link, frame),
             Err(fault) => self.leave_aside(link, fault),
         }
     }
@@ -43,53 +50,106 @@ impl Exchange {
         Outcome::Ignored
     }
 
-    /// A frame of User Data, of which a wrong number fails the link; or a link status, which isn't handled yet and
-    /// is noted as an unknown frame.
-    fn handle(&mut self, link: LinkId, frame: Frame<'_>) -> Outcome
+    /// A frame by its kind.
+    fn receive_frame(&mut self, link: LinkId, frame: Frame<'_>) -> Outcome
         requires { link < length self.old.node.parts.links }
         ensures { Ends self.old result self.new
-            (rule.handle kept self.old.settings link (value_of frame.entry) self.old.node) }
+            (rule.receive_frame kept self.old.settings link (value_of frame.entry) self.old.node) }
     {
         match frame {
-            Frame::Empty { bsn, fsn } => {
-                self.check_numbers(link, fsn, bsn, false);
-                Outcome::Handled
-            }
+            Frame::Empty { bsn, fsn } => self.take_in(link, fsn, bsn, None),
             Frame::Message { bsn, fsn, sio, sif } => {
-                if !self.check_numbers(link, fsn, bsn, true) {
-                    return Outcome::Handled;
-                }
-                self.links[link.index()].acknowledgement_owed = true;
-                self.deliver(link, MsuRef { sio, sif })
+                self.take_in(link, fsn, bsn, Some(MsuRef { sio, sif }))
             }
-            Frame::Status { status, .. } => self.set_aside(link, status),
+            Frame::Status { status, .. } => self.hear(link, status),
         }
     }
 
-    /// A link status isn't handled yet: it is noted as an unknown frame.
-    fn set_aside(&mut self, link: LinkId, _status: LinkStatus) -> Outcome
+    /// User Data, by the state of its link.
+    #[inline(always)]
+    fn take_in(
+        &mut self,
+        link: LinkId,
+        fsn: Number24,
+        bsn: Number24,
+        message: Option<MsuRef<'_>>,
+    ) -> Outcome
         requires { link < length self.old.node.parts.links }
         ensures { Ends self.old result self.new
-            (rule.leave_aside kept self.old.settings link FrameFault.Unknown self.old.node) }
+            (rule.take_in kept self.old.settings link (carrying fsn bsn message.entry) self.old.node) }
     {
-        self.leave_aside(link, FrameFault::Unknown)
+        match self.links[link.index()].on(Input::UserData) {
+            Action::Ignored => Outcome::Ignored,
+            Action::Fail => {
+                self.fail(link, FailureReason::Sequence);
+                Outcome::Handled
+            }
+            Action::Go(step) => {
+                self.time(link, &step);
+                self.handle(link, fsn, bsn, message)
+            }
+        }
     }
 
-    /// Looks at the numbers of a frame of User Data, and says whether they were right. Right ones count; a wrong
-    /// one fails the link.
+    /// User Data on a link in service: right numbers count, and a message is delivered; a wrong number fails the link.
     #[inline(always)]
-    fn check_numbers(&mut self, link: LinkId, fsn: Number24, bsn: Number24, carries: bool) -> bool
+    fn handle(
+        &mut self,
+        link: LinkId,
+        fsn: Number24,
+        bsn: Number24,
+        message: Option<MsuRef<'_>>,
+    ) -> Outcome
         requires { link < length self.old.node.parts.links }
-        ensures accepted { result ≡ is_ok (kept.accept_answer self.old.node.queues link fsn bsn carries) }
-        ensures state { self.new ≡
-            with_node self.old (rule.check_numbers kept self.old.settings result link fsn bsn carries self.old.node) }
+        ensures { Ends self.old result self.new
+            (rule.handle kept self.old.settings link (carrying fsn bsn message.entry) self.old.node) }
     {
         let index = link.index();
-        let answer = self.sequences[index].accept(&mut self.lanes, index, fsn, bsn, carries);
-        if answer.is_err() {
-            self.fail(link, FailureReason::Sequence);
-            return false;
+        let carries = message.is_some();
+        match self.sequences[index].accept(&mut self.lanes, index, fsn, bsn, carries) {
+            Err(_) => {
+                self.fail(link, FailureReason::Sequence);
+                Outcome::Handled
+            }
+            Ok(confirmed) => {
+                self.time_confirming(link, confirmed);
+                self.carry(link, message)
+            }
         }
-        true
+    }
+
+    /// The message that User Data carries: it is to be acknowledged, and is delivered.
+    #[inline(always)]
+    fn carry(&mut self, link: LinkId, message: Option<MsuRef<'_>>) -> Outcome
+        requires { link < length self.old.node.parts.links }
+        ensures { Ends self.old result self.new
+            (rule.carry kept self.old.settings link (option_map lent message.entry)
+            (with_parts self.old.node (owing link (option_map lent message.entry) self.old.node.parts))) }
+    {
+        match message {
+            Some(message) => {
+                self.links[link.index()].set_owed(true);
+                self.deliver(link, message)
+            }
+            None => Outcome::Handled,
+        }
+    }
+
+    /// L7 after some messages were confirmed.
+    fn time_confirming(&mut self, link: LinkId, confirmed: usize)
+        requires { link < length self.old.node.parts.links }
+        ensures { self.new ≡ with_node self.old (with_timers self.old.node
+            (timed_confirming self.old.settings link (link_at self.old.node.parts link).peer_busy confirmed
+            (kept.outstanding self.old.node.queues link) self.old.node.parts.timers)) }
+    {
+        let index = link.index();
+        if confirmed == 0 {
+            return;
+        }
+        if self.sequences[index].outstanding() == 0 {
+            self.stop(link, LinkTimer::L7);
+        } else if !self.links[index].is_peer_busy() {
+            self.start(link, LinkTimer::L7);
+        }
     }
 }

@@ -8,7 +8,6 @@ ghost use Rattle.exchange.specs.Exchange.{Ends};
 ghost use Rattle.exchange.specs.Messages as rule;
 
 use super::Exchange;
-use crate::link_state::Phase;
 use cell_pool::Lanes;
 use routing_label::{Discrimination, Label, discriminate};
 use stp_types::{Cause, Flow, Limits, LinkId, MsuRef, Notice, Outcome};
@@ -112,7 +111,7 @@ impl Exchange {
         ensures fits { IfSome result (λ link. link < length self.now.node.parts.links) }
     {
         match self.links.first() {
-            Some(link) if link.phase == Phase::InService => Some(LinkId::new(0)),
+            Some(link) if link.is_in_service() => Some(LinkId::new(0)),
             _ => None,
         }
     }

@@ -1,43 +1,107 @@
-//! An association is there, and a link opens.
+//! Associations that come and go, and the operator's word on a link.
 
 ghost use Rattle.std.specs.Prelude.{◌≡◌, ◌<◌, length};
 ghost use Rattle.exchange.specs.State.{with_node};
 ghost use Rattle.exchange.specs.Queues.{kept};
-ghost use Rattle.exchange.specs.Exchange.{Ends};
+ghost use Rattle.exchange.specs.Exchange.{Ends, wants_of};
+ghost use Rattle.exchange.specs.Stands.{Abstract, StandsFor};
 ghost use Rattle.exchange.specs.Opening as rule;
 
 use super::Exchange;
-use crate::link_state::{LinkState, Phase};
+use crate::event::Wants;
+use link_alignment::Alignment;
 use link_sequence::Sequence;
-use stp_types::{Cause, LinkId, Outcome};
+use stp_types::{Cause, FailureReason, LinkId, Outcome};
 
 impl Exchange {
+    /// What a link asks of its caller; Nothing where the link isn't there.
+    ///
+    /// Open where it is down without an association, and the operator lets it open; Close where it is down with one.
+    pub fn wants(&self, link: LinkId) -> Wants
+        ensures wants { (a : Abstract) → StandsFor self.now a → result ≡ wants_of a link }
+        ensures kept_wants { result ≡ wants_of self.now link }
+    {
+        match self.links.get(link.index()) {
+            Some(state) if !state.is_down() => Wants::Nothing,
+            Some(state) if state.has_association() => Wants::Close,
+            Some(state) if state.is_active() => Wants::Open,
+            _ => Wants::Nothing,
+        }
+    }
+
+    /// An association comes up.
     pub(super) fn associate(&mut self, link: LinkId) -> Outcome
-        ensures { Ends self.old result self.new (rule.associate kept link self.old.node) }
+        ensures { Ends self.old result self.new (rule.associate kept self.old.settings link self.old.node) }
+    {
+        let Some(state) = self.links.get(link.index()) else {
+            return Outcome::Refused(Cause::NoSuchName);
+        };
+        if state.has_association() || !state.is_active() {
+            return Outcome::Refused(Cause::LinkNotReady);
+        }
+        self.open_link(link);
+        Outcome::Handled
+    }
+
+    /// Begins a new epoch of a link.
+    fn open_link(&mut self, link: LinkId)
+        requires { link < length self.old.node.parts.links }
+        ensures { self.new ≡ with_node self.old (rule.open_link kept self.old.settings link self.old.node) }
+    {
+        let index = link.index();
+        self.drop_all(index);
+        self.sequences[index] = Sequence::start();
+        self.links[index].open();
+        self.time(link, &Alignment::open());
+    }
+
+    /// An association goes down.
+    pub(super) fn dissociate(&mut self, link: LinkId) -> Outcome
+        ensures { Ends self.old result self.new (rule.dissociate kept self.old.settings link self.old.node) }
+    {
+        let Some(state) = self.links.get(link.index()) else {
+            return Outcome::Refused(Cause::NoSuchName);
+        };
+        if !state.has_association() {
+            return Outcome::Ignored;
+        }
+        self.bring_down(link, FailureReason::Association);
+        self.links[link.index()].part();
+        Outcome::Handled
+    }
+
+    /// A link that isn't down fails.
+    fn bring_down(&mut self, link: LinkId, why: FailureReason)
+        requires { link < length self.old.node.parts.links }
+        ensures { self.new ≡ with_node self.old (rule.bring_down kept self.old.settings link why self.old.node) }
+    {
+        if !self.links[link.index()].is_down() {
+            self.fail(link, why);
+        }
+    }
+
+    /// The operator lets a link open.
+    pub(super) fn activate(&mut self, link: LinkId) -> Outcome
+        ensures { Ends self.old result self.new (rule.activate kept self.old.settings link self.old.node) }
     {
         let index = link.index();
         if index >= self.links.len() {
             return Outcome::Refused(Cause::NoSuchName);
         }
-        if self.links[index].association {
-            return Outcome::Refused(Cause::LinkNotReady);
-        }
-        self.open_link(index);
+        self.links[index].allow(true);
         Outcome::Handled
     }
 
-    /// Begins a new epoch of a link.
-    fn open_link(&mut self, link: usize)
-        requires { link < length self.old.node.parts.links }
-        ensures { self.new ≡ with_node self.old (rule.open_link kept link self.old.node) }
+    /// The operator keeps a link from opening; one that isn't down fails first.
+    pub(super) fn deactivate(&mut self, link: LinkId) -> Outcome
+        ensures { Ends self.old result self.new (rule.deactivate kept self.old.settings link self.old.node) }
     {
-        self.drop_all(link);
-        self.sequences[link] = Sequence::start();
-        self.links[link] = LinkState {
-            phase: Phase::InService,
-            association: true,
-            acknowledgement_owed: false,
-            ..self.links[link]
-        };
+        let index = link.index();
+        if index >= self.links.len() {
+            return Outcome::Refused(Cause::NoSuchName);
+        }
+        self.bring_down(link, FailureReason::Operator);
+        self.links[index].allow(false);
+        Outcome::Handled
     }
 }

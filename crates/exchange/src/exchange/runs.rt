@@ -49,6 +49,7 @@ impl Exchange {
         match call {
             Call::Step(event) => Answer::Stepped(self.apply(event)),
             Call::Take(link) => Answer::Taken(self.text(*link)),
+            Call::Wants(link) => Answer::Wanted(self.wants(*link)),
         }
     }
 

@@ -1,21 +1,21 @@
 //! What goes out on a link.
 
-ghost use Rattle.std.specs.Prelude.{◌≡◌, ◌<◌, ◌≤◌, length, IfSome};
-ghost use Rattle.std.specs.Option.{option_map};
+ghost use Rattle.std.specs.Prelude.{◌≡◌, ◌<◌, ◌≤◌, Some, false, length, is_some, IfSome};
 ghost use Rattle.cell_pool.specs.Lanes.{lane_at};
 ghost use Rattle.link_sequence.specs.Counts.{kept_last_accepted, kept_last_sent, kept_to_send, kept_sent_one};
 ghost use Rattle.m2pa_codec.specs.Frames.{sif_of};
 ghost use Rattle.m2pa_codec.specs.Values.{value_of};
+ghost use Rattle.exchange.specs.State.{with_node, with_parts};
 ghost use Rattle.exchange.specs.Queues.{kept};
 ghost use Rattle.exchange.specs.Exchange.{frame_to_take, taken};
 ghost use Rattle.exchange.specs.Sending as rule;
-ghost use Rattle.exchange.specs.Taking.{Writes};
+ghost use Rattle.exchange.specs.Taking.{Writes, frame_of, message_out, owed_out, data_out, sent};
 
 use super::Exchange;
-use crate::link_state::Phase;
 use cell_pool::RingLanes;
+use link_alignment::LinkTimer;
 use link_sequence::Sequence;
-use m2pa_codec::{BUFFER_OCTETS, Frame, encode};
+use m2pa_codec::{BUFFER_OCTETS, Frame, LinkStatus, encode};
 use stp_types::{Limits, LinkId};
 
 impl Exchange {
@@ -29,50 +29,125 @@ impl Exchange {
         ensures state { self.new ≡ taken kept self.old link }
         ensures fits { IfSome result (λ count. count ≤ BUFFER_OCTETS) }
     {
-        let index = link.index();
-        if index >= self.links.len() || self.links[index].phase != Phase::InService {
-            return None;
-        }
-        let window = self.settings.window();
-        let owed = self.links[index].acknowledgement_owed;
-        let sequence = &mut self.sequences[index];
-        match next_frame(sequence, &self.lanes, index, window, owed) {
-            Some(frame) => {
-                self.links[index].acknowledgement_owed = false;
-                Some(encode(&frame, buffer))
-            }
-            None => None,
+        let status = match self.links.get(link.index()) {
+            Some(state) => state.next_status(),
+            None => return None,
+        };
+        match status {
+            Some(status) => Some(self.take_status(link, status, buffer)),
+            None => self.take_data(link, buffer),
         }
     }
 }
 
-/// The next frame that goes out on a link: its next message, else the acknowledgement that is owed.
-fn next_frame<'l>(
+impl Exchange {
+    /// The status that waited longest goes out.
+    fn take_status(
+        &mut self,
+        link: LinkId,
+        status: LinkStatus,
+        buffer: &mut [u8; BUFFER_OCTETS],
+    ) -> usize
+        requires { link < length self.old.node.parts.links }
+        ensures frame { Writes (frame_of self.old link (rule.SendsStatus status)) (Some result) buffer.old buffer.new }
+        ensures state { self.new ≡
+            with_node self.old (with_parts self.old.node (rule.told link self.old.node.parts)) }
+        ensures fits { result ≤ BUFFER_OCTETS }
+    {
+        let index = link.index();
+        self.links[index].drop_status();
+        let sequence = &self.sequences[index];
+        let bsn = sequence.last_accepted();
+        let fsn = sequence.last_sent();
+        encode(&Frame::Status { bsn, fsn, status }, buffer)
+    }
+
+    /// The next message goes out, else the acknowledgement that is owed.
+    fn take_data(&mut self, link: LinkId, buffer: &mut [u8; BUFFER_OCTETS]) -> Option<usize>
+        requires { link < length self.old.node.parts.links }
+        ensures frame { Writes (frame_of self.old link (data_out self.old link)) result buffer.old buffer.new }
+        ensures state { self.new ≡ sent self.old link (data_out self.old link) }
+        ensures fits { IfSome result (λ count. count ≤ BUFFER_OCTETS) }
+    {
+        match self.take_message(link, buffer) {
+            Some(count) => Some(count),
+            None => self.take_acknowledgement(link, buffer),
+        }
+    }
+
+    /// The next message goes out, where the window allows and the peer isn't busy.
+    fn take_message(&mut self, link: LinkId, buffer: &mut [u8; BUFFER_OCTETS]) -> Option<usize>
+        requires { link < length self.old.node.parts.links }
+        ensures frame { Writes (frame_of self.old link (message_out self.old link)) result buffer.old buffer.new }
+        ensures state { self.new ≡ sent self.old link (message_out self.old link) }
+        ensures fits { IfSome result (λ count. count ≤ BUFFER_OCTETS) }
+    {
+        let index = link.index();
+        let state = &self.links[index];
+        if !state.is_in_service() || state.is_peer_busy() {
+            return None;
+        }
+        let window = self.settings.window();
+        let sequence = &mut self.sequences[index];
+        let outstanding = sequence.outstanding();
+        let count = write_message(sequence, &self.lanes, index, window, buffer)?;
+        self.links[index].set_owed(false);
+        if outstanding == 0 {
+            self.start(link, LinkTimer::L7);
+        }
+        Some(count)
+    }
+
+    /// An empty User Data goes out, where an acknowledgement is owed.
+    fn take_acknowledgement(
+        &mut self,
+        link: LinkId,
+        buffer: &mut [u8; BUFFER_OCTETS],
+    ) -> Option<usize>
+        requires { link < length self.old.node.parts.links }
+        ensures frame { Writes (frame_of self.old link (owed_out self.old link)) result buffer.old buffer.new }
+        ensures state { self.new ≡ sent self.old link (owed_out self.old link) }
+        ensures fits { IfSome result (λ count. count ≤ BUFFER_OCTETS) }
+    {
+        let index = link.index();
+        if !self.links[index].owes_acknowledgement() {
+            return None;
+        }
+        self.links[index].set_owed(false);
+        let sequence = &self.sequences[index];
+        let bsn = sequence.last_accepted();
+        let fsn = sequence.last_sent();
+        Some(encode(&Frame::Empty { bsn, fsn }, buffer))
+    }
+}
+
+/// Writes the next message of a link to the front of `buffer`, if one may go out; it counts as sent from now on.
+fn write_message(
     sequence: &mut Sequence,
-    lanes: &'l RingLanes,
+    lanes: &RingLanes,
     lane: usize,
     window: usize,
-    owed: bool,
-) -> Option<Frame<'l>>
+    buffer: &mut [u8; BUFFER_OCTETS],
+) -> Option<usize>
     requires { lane < length lanes.now.lists }
-    ensures frame { option_map value_of result ≡
-        rule.frame_from (kept_last_accepted sequence.old) (kept_last_sent sequence.old)
-        (rule.message_first (kept_to_send sequence.old (lane_at lanes.now.lists lane) window) owed) }
+    ensures frame { Writes (rule.frame_from (kept_last_accepted sequence.old) (kept_last_sent sequence.old)
+        (rule.message_first (kept_to_send sequence.old (lane_at lanes.now.lists lane) window) false))
+        result buffer.old buffer.new }
+    ensures sent { is_some result ≡ is_some (kept_to_send sequence.old (lane_at lanes.now.lists lane) window) }
     ensures counts { sequence.new ≡ kept_sent_one sequence.old (lane_at lanes.now.lists lane) window }
-    ensures fits { IfSome result (λ frame. length (sif_of (value_of frame)) ≤ Limits.SIF_OCTETS) }
+    ensures fits { IfSome result (λ count. count ≤ BUFFER_OCTETS) }
 {
     let bsn = sequence.last_accepted();
-    let last_sent = sequence.last_sent();
-    if let Some((fsn, message)) = sequence.next_to_send(lanes, lane, window) {
-        return Some(Frame::Message {
-            bsn,
-            fsn,
-            sio: message.sio(),
-            sif: message.sif(),
-        });
+    match sequence.next_to_send(lanes, lane, window) {
+        Some((fsn, message)) => Some(encode(
+            &Frame::Message {
+                bsn,
+                fsn,
+                sio: message.sio(),
+                sif: message.sif(),
+            },
+            buffer,
+        )),
+        None => None,
     }
-    owed.then_some(Frame::Empty {
-        bsn,
-        fsn: last_sent,
-    })
 }

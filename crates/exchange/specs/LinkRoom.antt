@@ -1,0 +1,30 @@
+-- How the state of a link is kept, and the room that its statuses have.
+use Rattle.std.specs.Prelude.{ℕ, ◌≤◌, length}
+use Rattle.link_alignment.specs.declared.alignment.Alignment.{Alignment}
+use Rattle.link_alignment.specs.declared.alignment.Alignment.TheVariants.{Down, NotAligned, Aligned, Proving}
+use Rattle.link_alignment.specs.declared.alignment.Alignment.TheVariants.{AlignedReady, InService}
+use Rattle.exchange.specs.Link.{Link}
+use Rattle.exchange.specs.declared.link_state.LinkState.TheInside.{Inside}
+
+abbrev pub link_in : Inside → Link
+link_in s = record {
+  alignment = s.alignment;
+  association = s.association;
+  active = s.active;
+  waiting = s.waiting.items;
+  peer_busy = s.peer_busy;
+  acknowledgement_owed = s.acknowledgement_owed;
+}
+
+-- how many statuses were sent on the way into a state, at most: Alignment, Proving Normal, Ready
+abbrev pub sent_by : Alignment → ℕ
+sent_by Down = 0
+sent_by NotAligned = 1
+sent_by Aligned = 2
+sent_by (Proving ready) = 2
+sent_by AlignedReady = 3
+sent_by InService = 3
+
+-- no more wait than were sent
+pub record HasPlaces (s : Inside) : Type 0 where
+  pub waiting : length s.waiting.items ≤ sent_by s.alignment

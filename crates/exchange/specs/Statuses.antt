@@ -1,0 +1,76 @@
+-- Link Status, and the timers of a link that run out, by the table of the alignment.
+use Rattle.std.specs.Prelude.{ℕ, true, false, if◌then◌else◌}
+use Rattle.settings_rows.specs.Configuration.{Configuration}
+use Rattle.signalling_types.specs.declared.notice.FailureReason.TheVariants as reasons
+use Rattle.signalling_types.specs.declared.outcome.Outcome.TheVariants.{Handled, Ignored}
+use Rattle.m2pa_codec.specs.declared.status.LinkStatus.{LinkStatus}
+use Rattle.m2pa_codec.specs.declared.status.LinkStatus.TheVariants as says
+use Rattle.link_alignment.specs.declared.action.Action.{Action}
+use Rattle.link_alignment.specs.declared.action.Action.TheVariants as act
+use Rattle.link_alignment.specs.declared.action.Input.TheVariants.{Status, Expiry}
+use Rattle.link_alignment.specs.declared.action.LinkTimer.{LinkTimer}
+use Rattle.link_alignment.specs.declared.action.Transition.{Transition}
+use Rattle.link_alignment.specs.Table.{action_at}
+use Rattle.exchange.specs.Link.{Link}
+use Rattle.exchange.specs.State.{QueueKind, Parts, Node, Done, with_parts, answer}
+use Rattle.exchange.specs.LinkState.{link_at, links_with, stepped}
+use Rattle.exchange.specs.Timing.{timed, timed_busy, timed_busy_ended}
+use Rattle.exchange.specs.Failing.{fail}
+
+-- a link takes a step of its alignment
+abbrev pub step_on : Configuration → ℕ → Transition → Parts → Parts
+step_on c link step p =
+    record p { links = links_with p link (stepped step (link_at p link)); timers = timed c link step p.timers }
+
+-- the peer takes no messages for now; a second word of it changes nothing
+abbrev pub become_busy : Configuration → ℕ → Parts → Parts
+become_busy c link p =
+    if (link_at p link).peer_busy then p
+    else record p {
+      links = links_with p link (record (link_at p link) { peer_busy = true });
+      timers = timed_busy c link p.timers;
+    }
+
+-- the peer takes messages again, of which so many are unconfirmed; where it wasn't busy nothing changes
+abbrev pub end_busy : Configuration → ℕ → (outstanding : ℕ) → Parts → Parts
+end_busy c link outstanding p =
+    if (link_at p link).peer_busy
+    then record p {
+      links = links_with p link (record (link_at p link) { peer_busy = false });
+      timers = timed_busy_ended c link outstanding p.timers;
+    }
+    else p
+
+module _ {Q : Type 0} (q : QueueKind Q) (c : Configuration) where
+  -- a status of a peer in service
+  abbrev pub serve_status : ℕ → LinkStatus → Node Q → Node Q
+  serve_status link says.Busy node = with_parts node (become_busy c link node.parts)
+  serve_status link says.BusyEnded node =
+      with_parts node (end_busy c link (q.outstanding node.queues link) node.parts)
+  serve_status link _ node = node
+
+  -- a link takes a step about a status
+  abbrev pub step_by_status : ℕ → LinkStatus → Transition → Node Q → Node Q
+  step_by_status link status step node =
+      let next : Node Q = with_parts node (step_on c link step node.parts) in
+      if step.serve then serve_status link status next else next
+
+  -- what a link does about a status
+  abbrev pub act_by_status : Action → ℕ → LinkStatus → Node Q → Done Q
+  act_by_status act.Ignored link status node = answer Ignored node
+  act_by_status act.Fail link status node = answer Handled (fail q link reasons.Status node)
+  act_by_status (act.Go step) link status node = answer Handled (step_by_status link status step node)
+
+  abbrev pub hear : ℕ → LinkStatus → Node Q → Done Q
+  hear link status node =
+      act_by_status (action_at (link_at node.parts link).alignment (Status status)) link status node
+
+  -- what a link does about a timer of its own that ran out
+  abbrev pub act_by_timer : Action → ℕ → Node Q → Node Q
+  act_by_timer act.Ignored link node = node
+  act_by_timer act.Fail link node = fail q link reasons.Timer node
+  act_by_timer (act.Go step) link node = with_parts node (step_on c link step node.parts)
+
+  abbrev pub run_out : ℕ → LinkTimer → Node Q → Node Q
+  run_out link timer node =
+      act_by_timer (action_at (link_at node.parts link).alignment (Expiry timer)) link node

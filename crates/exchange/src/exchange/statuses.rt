@@ -1,0 +1,95 @@
+//! Link Status, and the timers of a link that run out, by the table of the alignment.
+
+ghost use Rattle.std.specs.Prelude.{◌≡◌, ◌<◌, length};
+ghost use Rattle.exchange.specs.State.{with_node, with_parts};
+ghost use Rattle.exchange.specs.Queues.{kept};
+ghost use Rattle.exchange.specs.Exchange.{Ends};
+ghost use Rattle.exchange.specs.Statuses as rule;
+
+use super::Exchange;
+use link_alignment::{Action, Alignment, Input, LinkTimer, Transition};
+use m2pa_codec::LinkStatus;
+use stp_types::{FailureReason, LinkId, Outcome};
+
+impl Exchange {
+    /// A status that the peer tells.
+    pub(super) fn hear(&mut self, link: LinkId, status: LinkStatus) -> Outcome
+        requires { link < length self.old.node.parts.links }
+        ensures { Ends self.old result self.new (rule.hear kept self.old.settings link status self.old.node) }
+    {
+        match self.links[link.index()].on(Input::Status(status)) {
+            Action::Ignored => Outcome::Ignored,
+            Action::Fail => {
+                self.fail(link, FailureReason::Status);
+                Outcome::Handled
+            }
+            Action::Go(step) => {
+                self.time(link, &step);
+                if step.serve {
+                    self.serve_status(link, status);
+                }
+                Outcome::Handled
+            }
+        }
+    }
+
+    /// A status of a peer in service.
+    fn serve_status(&mut self, link: LinkId, status: LinkStatus)
+        requires { link < length self.old.node.parts.links }
+        ensures { self.new ≡
+            with_node self.old (rule.serve_status kept self.old.settings link status self.old.node) }
+    {
+        match status {
+            LinkStatus::Busy => self.become_busy(link),
+            LinkStatus::BusyEnded => self.end_busy(link),
+            _ => {}
+        }
+    }
+
+    /// The peer takes no messages for now.
+    fn become_busy(&mut self, link: LinkId)
+        requires { link < length self.old.node.parts.links }
+        ensures { self.new ≡ with_node self.old
+            (with_parts self.old.node (rule.become_busy self.old.settings link self.old.node.parts)) }
+    {
+        let state = &mut self.links[link.index()];
+        if state.is_peer_busy() {
+            return;
+        }
+        state.set_peer_busy(true);
+        self.stop(link, LinkTimer::L7);
+        self.start(link, LinkTimer::L6);
+    }
+
+    /// The peer takes messages again.
+    fn end_busy(&mut self, link: LinkId)
+        requires { link < length self.old.node.parts.links }
+        ensures { self.new ≡ with_node self.old (with_parts self.old.node (rule.end_busy self.old.settings link
+            (kept.outstanding self.old.node.queues link) self.old.node.parts)) }
+    {
+        let index = link.index();
+        if !self.links[index].is_peer_busy() {
+            return;
+        }
+        self.links[index].set_peer_busy(false);
+        self.stop(link, LinkTimer::L6);
+        if self.sequences[index].outstanding() > 0 {
+            self.start(link, LinkTimer::L7);
+        }
+    }
+
+    /// A timer of a link ran out.
+    pub(super) fn run_out(&mut self, link: LinkId, timer: LinkTimer)
+        ensures { self.new ≡ with_node self.old (rule.run_out kept self.old.settings link timer self.old.node) }
+    {
+        let index = link.index();
+        if index >= self.links.len() {
+            return;
+        }
+        match self.links[index].on(Input::Expiry(timer)) {
+            Action::Ignored => {}
+            Action::Fail => self.fail(link, FailureReason::Timer),
+            Action::Go(step) => self.time(link, &step),
+        }
+    }
+}

@@ -1,0 +1,55 @@
+//! A tick, and the timers that run in it.
+
+ghost use Rattle.std.specs.Prelude.{◌≡◌};
+ghost use Rattle.exchange.specs.State.{with_node};
+ghost use Rattle.exchange.specs.Queues.{kept};
+ghost use Rattle.exchange.specs.Exchange.{Ends};
+ghost use Rattle.exchange.specs.Ticking as rule;
+
+use super::Exchange;
+use link_alignment::LinkTimer;
+use stp_types::{LinkId, Outcome, SetId};
+use timer_wheel::{TimerName, Timers};
+
+impl Exchange {
+    pub(super) fn tick(&mut self) -> Outcome
+        ensures { Ends self.old result self.new (rule.tick kept self.old.settings self.old.node) }
+    {
+        self.timers.tick();
+        self.run_all();
+        Outcome::Handled
+    }
+
+    /// Runs the timers that are due, in name order, but for those that an earlier one stopped or set.
+    fn run_all(&mut self)
+        ensures { self.new ≡ with_node self.old (rule.run_all kept self.old.settings self.old.node) }
+    {
+        for _ in 0..self.timers.due_count() {
+            self.run_next();
+        }
+    }
+
+    /// Runs the first timer that is due, if one is.
+    fn run_next(&mut self)
+        ensures { self.new ≡ with_node self.old (rule.run_next kept self.old.settings self.old.node) }
+    {
+        if let Some(name) = self.timers.next_due() {
+            self.run_timer(name);
+        }
+    }
+
+    /// Runs a timer. Those of changeover, changeback, rerouting and route management aren't set yet.
+    fn run_timer(&mut self, name: TimerName)
+        ensures { self.new ≡ with_node self.old (rule.run_timer kept self.old.settings name self.old.node) }
+    {
+        match name {
+            TimerName::L1(link) => self.run_out(link, LinkTimer::L1),
+            TimerName::L2(link) => self.run_out(link, LinkTimer::L2),
+            TimerName::L3(link) => self.run_out(link, LinkTimer::L3),
+            TimerName::L4(link) => self.run_out(link, LinkTimer::L4),
+            TimerName::L6(link) => self.run_out(link, LinkTimer::L6),
+            TimerName::L7(link) => self.run_out(link, LinkTimer::L7),
+            _ => {}
+        }
+    }
+}
