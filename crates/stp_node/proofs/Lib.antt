@@ -4,4 +4,5 @@ pub mod Octets
 pub mod Parting
 pub mod Running
 pub mod Standing
+pub mod Passing
 pub mod Written

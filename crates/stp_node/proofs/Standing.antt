@@ -1,5 +1,5 @@
 -- A run over what an exchange keeps is the run over the abstract state that it stands for.
-use Rattle.std.proofs.Common.{◌≡◌, ℕ, ◌+◌, List, [], ◌∷◌, Option, None, Some, Result, Ok, Err, refl, sym, ◌∙◌, ap, subst, inl, inr, ◌++◌, Bool, true, false, nat_lt, length}
+use Rattle.std.proofs.Common.{◌≡◌, ℕ, zero, suc, ◌+◌, List, [], ◌∷◌, Option, None, Some, Result, Ok, Err, refl, sym, ◌∙◌, ap, subst, inl, inr, ◌++◌, Bool, true, false, nat_lt, length}
 use Rattle.std.specs.Prelude.{if◌then◌else◌}
 use Rattle.std.specs.Io.KnownBytes.{Appends}
 use Rattle.link_sequence.specs.Queue.{Queue}
@@ -7,8 +7,11 @@ use Rattle.exchange.specs.declared.event.Answer.{Answer}
 use Rattle.exchange.specs.Queues.{KeptQueues, kept, whole}
 use Rattle.exchange.specs.Stands.{Abstract, Kept, StandsFor, kept_of}
 use Rattle.exchange.proofs.Calls.{stands-answer, stands-call}
+use Rattle.exchange.proofs.Standing.{stands-after}
+use Rattle.exchange.specs.Exchange.{after}
+use Rattle.exchange.specs.Happening.{Ticked}
 use Rattle.stp_node.specs.Asking.{Asked, Reading, Skips, IsMalformed, Asks}
-use Rattle.stp_node.specs.Doing.{Meaning, Calls, Refuses, meaning, answer_text, meaning_printed, meaning_done, printed, done}
+use Rattle.stp_node.specs.Doing.{Meaning, Calls, Passes, Refuses, meaning, answer_text, after_ticks, meaning_printed, meaning_done, printed, done}
 use Rattle.stp_node.specs.Streams.{AppendsFirst}
 use Rattle.stp_node.specs.Lines.{lines}
 use Rattle.stp_node.specs.Runs.{Reached, silent, stopped, line_run, whole_line, onto, unless_ended, behind, lines_run, run_so_far, whole_run, LeadsTo, Does, Runs}
@@ -20,10 +23,16 @@ use Rattle.stp_node.specs.declared.script.ScriptFault.TheVariants.{Read, Write, 
 
 meaning-printed : (m : Meaning) (a : Abstract) → StandsFor (kept_of a) a → meaning_printed kept m (kept_of a) ≡ meaning_printed whole m a
 meaning-printed (Calls asking) a s = ap (λ (answer : Answer). answer_text a.settings asking answer) (stands-answer asking (kept_of a) a s)
+meaning-printed (Passes ticks) a s = refl
 meaning-printed (Refuses cause) a s = refl
+
+ticks-stand : (ticks : ℕ) (k : Kept) (a : Abstract) → StandsFor k a → StandsFor (after_ticks kept ticks k) (after_ticks whole ticks a)
+ticks-stand zero k a s = s
+ticks-stand (suc more) k a s = ticks-stand more (after kept Ticked k) (after whole Ticked a) (stands-after Ticked k a s)
 
 meaning-stands : (m : Meaning) (k : Kept) (a : Abstract) → StandsFor k a → StandsFor (meaning_done kept m k) (meaning_done whole m a)
 meaning-stands (Calls asking) k a s = stands-call asking k a s
+meaning-stands (Passes ticks) k a s = ticks-stand ticks k a s
 meaning-stands (Refuses cause) k a s = s
 
 stands-itself : (k : Kept) (a : Abstract) → StandsFor k a → StandsFor (kept_of a) a

@@ -2,7 +2,9 @@
 use Rattle.std.specs.Prelude.{ℕ, ◌==◌, ◌&&◌, Bool, not, nat_eq, if◌then◌else◌, List, []}
 use Rattle.std.specs.Prelude.{◌∷◌, length, codes, Option, None, Some, Result, Ok, Err, bytes_eq}
 use Rattle.std.specs.Borrow.{Bor}
+use Rattle.std.specs.Option.{option_map}
 use Rattle.stp_node.specs.Lines.{words, is_octets, octets_of}
+use Rattle.stp_node.specs.Numbers.{ticks_written}
 use Rattle.stp_node.specs.declared.line.Command.{Command}
 use Rattle.stp_node.specs.declared.line.Command.TheVariants as command
 use Rattle.stp_node.specs.declared.line.Line.{Line}
@@ -12,8 +14,11 @@ use Rattle.stp_node.specs.declared.line.Malformed.{Malformed}
 -- what a line asks for; a link goes by a name, which no link need have
 pub data Asked : Type 0 where
   AskUp : (link : List ℕ) → Asked
+  AskDown : (link : List ℕ) → Asked
   AskFrame : (link octets : List ℕ) → Asked
+  AskTick : (ticks : ℕ) → Asked
   AskTake : (link : List ℕ) → Asked
+  AskWants : (link : List ℕ) → Asked
   AskSubmit : (octets : List ℕ) → Asked
 
 -- a word that is there
@@ -24,16 +29,22 @@ is_some_word word = not (nat_eq (length word) 0)
 abbrev pub command_named : List ℕ → Option Command
 command_named word =
     if bytes_eq word (codes "up") then Some command.Up
+    else if bytes_eq word (codes "down") then Some command.Down
     else if bytes_eq word (codes "frame") then Some command.Frame
+    else if bytes_eq word (codes "tick") then Some command.Tick
     else if bytes_eq word (codes "take") then Some command.Take
+    else if bytes_eq word (codes "wants") then Some command.Wants
     else if bytes_eq word (codes "submit") then Some command.Submit
     else None
 
 -- a command with one word behind it
 abbrev pub asked_with_one : Command → List ℕ → Option Asked
 asked_with_one command.Up word = if is_some_word word then Some (AskUp word) else None
+asked_with_one command.Down word = if is_some_word word then Some (AskDown word) else None
 asked_with_one command.Frame word = None
+asked_with_one command.Tick word = option_map (λ ticks. AskTick ticks) (ticks_written word)
 asked_with_one command.Take word = if is_some_word word then Some (AskTake word) else None
+asked_with_one command.Wants word = if is_some_word word then Some (AskWants word) else None
 asked_with_one command.Submit word = if is_octets word then Some (AskSubmit (octets_of word)) else None
 
 -- a command with two words behind it
@@ -42,6 +53,9 @@ asked_with_two command.Up first second = None
 asked_with_two command.Frame first second =
     if is_some_word first && is_octets second then Some (AskFrame first (octets_of second)) else None
 asked_with_two command.Take first second = None
+asked_with_two command.Down first second = None
+asked_with_two command.Tick first second = None
+asked_with_two command.Wants first second = None
 asked_with_two command.Submit first second = None
 
 -- the words behind a command
@@ -81,6 +95,9 @@ abbrev pub asked_line : Line → Asked
 asked_line (line.Up link) = AskUp link.now
 asked_line (line.Frame link octets) = AskFrame link.now (octets_of octets.digits.now)
 asked_line (line.Take link) = AskTake link.now
+asked_line (line.Down link) = AskDown link.now
+asked_line (line.Tick ticks) = AskTick ticks
+asked_line (line.Wants link) = AskWants link.now
 asked_line (line.Submit octets) = AskSubmit (octets_of octets.digits.now)
 
 abbrev pub asked_of : Option Line → Option Asked

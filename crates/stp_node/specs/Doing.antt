@@ -1,5 +1,5 @@
 -- What a line of a script prints, and the state after it, by the calls of an exchange.
-use Rattle.std.specs.Prelude.{ℕ, List, [], drop, length, nat_lt}
+use Rattle.std.specs.Prelude.{ℕ, zero, suc, List, [], drop, length, nat_lt}
 use Rattle.std.specs.Prelude.{if◌then◌else◌, Option, Some, None, slice_get, slice_index, unwrap_or}
 use Rattle.std.specs.Option.{option_map}
 use Rattle.signalling_types.specs.Message.{Message}
@@ -11,16 +11,19 @@ use Rattle.signalling_types.specs.declared.cause.Cause.TheVariants.{NoSuchName, 
 use Rattle.signalling_types.specs.declared.outcome.Outcome.{Outcome}
 use Rattle.signalling_types.specs.declared.outcome.Outcome.TheVariants.{Queued, Held, Local, Handled, Ignored, Refused}
 use Rattle.exchange.specs.declared.event.Answer.{Answer}
-use Rattle.exchange.specs.declared.event.Answer.TheVariants.{Stepped, Taken}
+use Rattle.exchange.specs.declared.event.Answer.TheVariants.{Stepped, Taken, Wanted}
 use Rattle.exchange.specs.State.{State, QueueKind}
-use Rattle.exchange.specs.Happening.{CameUp, FrameCame, Submitted, Asking, Happens, Takes}
+use Rattle.exchange.specs.Happening.{CameUp, WentDown, FrameCame, Ticked, Submitted}
+use Rattle.exchange.specs.Happening.{Asking, Happens, Takes, AsksWants}
+use Rattle.exchange.specs.Exchange.{after}
 use Rattle.exchange.specs.Runs.{answer_to_call, after_call}
-use Rattle.stp_node.specs.Asking.{Asked, AskUp, AskFrame, AskTake, AskSubmit}
-use Rattle.stp_node.specs.Texts.{outcome_line, frame_line, none_line}
+use Rattle.stp_node.specs.Asking.{Asked, AskUp, AskDown, AskFrame, AskTick, AskTake, AskWants, AskSubmit}
+use Rattle.stp_node.specs.Texts.{outcome_line, frame_line, none_line, wants_line}
 
--- what a line means at a node: a call of its exchange, or a refusal before any call
+-- what a line means at a node: a call of its exchange, ticks that pass, or a refusal before any call
 pub data Meaning : Type 0 where
   Calls : Asking → Meaning
+  Passes : (ticks : ℕ) → Meaning
   Refuses : Cause → Meaning
 
 -- a call for the link of a name, where there is one
@@ -40,6 +43,9 @@ submission m = (if nat_lt SIF_OCTETS (length m.sif) then Refuses TooLong else Ca
 abbrev pub meaning : Configuration → Asked → Meaning
 meaning c (AskUp name) = at_link (link_place c name) (λ link. Happens (CameUp link))
 meaning c (AskFrame name octets) = at_link (link_place c name) (λ link. Happens (FrameCame link octets))
+meaning c (AskDown name) = at_link (link_place c name) (λ link. Happens (WentDown link))
+meaning c (AskTick ticks) = Passes ticks
+meaning c (AskWants name) = at_link (link_place c name) (λ link. AsksWants link)
 meaning c (AskTake name) = at_link (link_place c name) (λ link. Takes link)
 meaning c (AskSubmit octets) = submission (message_written octets)
 
@@ -69,19 +75,28 @@ taken_text name (Some octets) = frame_line name octets
 abbrev pub name_asked : Configuration → Asking → List ℕ
 name_asked c (Happens what) = []
 name_asked c (Takes link) = name_in c link
+name_asked c (AsksWants link) = []
 
 -- the line of an answer
 abbrev pub answer_text : Configuration → Asking → Answer → List ℕ
 answer_text c asking (Stepped outcome) = report c outcome
 answer_text c asking (Taken frame) = taken_text (name_asked c asking) frame
+answer_text c asking (Wanted wants) = wants_line wants
+
+-- the state after so many ticks
+abbrev pub after_ticks : {Q : Type 0} → QueueKind Q → ℕ → State Q → State Q
+after_ticks q zero s = s
+after_ticks q (suc more) s = after_ticks q more (after q Ticked s)
 
 -- what is printed of a meaning, and the state after it
 abbrev pub meaning_printed : {Q : Type 0} → QueueKind Q → Meaning → State Q → List ℕ
 meaning_printed q (Calls asking) s = answer_text s.settings asking (answer_to_call q asking s)
+meaning_printed q (Passes ticks) s = report s.settings Handled
 meaning_printed q (Refuses cause) s = report s.settings (Refused cause)
 
 abbrev pub meaning_done : {Q : Type 0} → QueueKind Q → Meaning → State Q → State Q
 meaning_done q (Calls asking) s = after_call q asking s
+meaning_done q (Passes ticks) s = after_ticks q ticks s
 meaning_done q (Refuses cause) s = s
 
 -- what is printed of a line, and the state after it

@@ -1,5 +1,6 @@
 pub mod Streams
 pub mod Lines
+pub mod Numbers
 pub mod Asking
 pub mod Texts
 pub mod Doing

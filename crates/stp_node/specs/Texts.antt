@@ -2,6 +2,8 @@
 use Rattle.std.specs.Prelude.{ℕ, ◌++◌, List, codes, decimal}
 use Rattle.hex.specs.Hex.{encode_lower}
 use Rattle.signalling_types.specs.Causes.{cause_number, cause_name}
+use Rattle.exchange.specs.declared.event.Wants.{Wants}
+use Rattle.exchange.specs.declared.event.Wants.TheVariants.{Nothing, Open, Close}
 use Rattle.signalling_types.specs.declared.outcome.Outcome.{Outcome}
 use Rattle.signalling_types.specs.declared.outcome.Outcome.TheVariants.{Queued, Held, Local, Handled, Ignored, Refused}
 
@@ -18,6 +20,12 @@ outcome_line name (Refused cause) =
 -- the line of a frame that goes out on a link
 abbrev pub frame_line : List ℕ → List ℕ → List ℕ
 frame_line name octets = codes "frame " ++ name ++ codes " " ++ encode_lower octets ++ codes "\n"
+
+-- the line of what a link asks of its caller
+abbrev pub wants_line : Wants → List ℕ
+wants_line Nothing = codes "nothing\n"
+wants_line Open = codes "open\n"
+wants_line Close = codes "close\n"
 
 -- where no frame goes out
 abbrev pub none_line : List ℕ

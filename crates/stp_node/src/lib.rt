@@ -11,6 +11,7 @@ pub mod script;
 pub mod sink;
 pub mod source;
 mod text;
+mod ticks;
 
 pub use defaults::built_in;
 pub use hex_octets::HexOctets;

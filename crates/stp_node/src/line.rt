@@ -5,6 +5,7 @@ ghost use Rattle.stp_node.specs.Lines.{words};
 ghost use Rattle.stp_node.specs.Asking.{parsed_line, asked_by, asked_with_one, asked_with_two, command_named, asked_of, reading_of, words_left};
 
 use crate::hex_octets::HexOctets;
+use crate::ticks::read_ticks;
 
 /// What parts the words of a line.
 const SPACE: u8 = b' ';
@@ -20,8 +21,11 @@ pub struct Malformed;
 #[derive(Clone, Copy)]
 enum Command {
     Up,
+    Down,
     Frame,
+    Tick,
     Take,
+    Wants,
     Submit,
 }
 
@@ -33,6 +37,11 @@ pub enum Line<'a> {
         /// The link's name; no link need have it.
         link: &'a [u8],
     },
+    /// `down LINK`: the link's association is gone.
+    Down {
+        /// The link's name; no link need have it.
+        link: &'a [u8],
+    },
     /// `frame LINK HEX`: these octets came by the link.
     Frame {
         /// The link's name; no link need have it.
@@ -40,8 +49,18 @@ pub enum Line<'a> {
         /// The frame.
         octets: HexOctets<'a>,
     },
+    /// `tick N`: so many ticks of the clock pass.
+    Tick {
+        /// How many, 1 to 65,535.
+        ticks: u16,
+    },
     /// `take LINK`: the next frame that goes out by the link.
     Take {
+        /// The link's name; no link need have it.
+        link: &'a [u8],
+    },
+    /// `wants LINK`: what the link asks of its caller.
+    Wants {
         /// The link's name; no link need have it.
         link: &'a [u8],
     },
@@ -88,7 +107,13 @@ fn asked_with_one(command: Command, word: &[u8]) -> Option<Line<'_>>
 {
     match command {
         Command::Up if !word.is_empty() => Some(Line::Up { link: word }),
+        Command::Down if !word.is_empty() => Some(Line::Down { link: word }),
         Command::Take if !word.is_empty() => Some(Line::Take { link: word }),
+        Command::Wants if !word.is_empty() => Some(Line::Wants { link: word }),
+        Command::Tick => {
+            let ticks = read_ticks(word)?;
+            Some(Line::Tick { ticks })
+        }
         Command::Submit => {
             let octets = HexOctets::read(word)?;
             Some(Line::Submit { octets })
@@ -119,10 +144,16 @@ fn command_named(word: &[u8]) -> Option<Command>
 {
     if word == b"up".as_slice() {
         Some(Command::Up)
+    } else if word == b"down".as_slice() {
+        Some(Command::Down)
     } else if word == b"frame".as_slice() {
         Some(Command::Frame)
+    } else if word == b"tick".as_slice() {
+        Some(Command::Tick)
     } else if word == b"take".as_slice() {
         Some(Command::Take)
+    } else if word == b"wants".as_slice() {
+        Some(Command::Wants)
     } else if word == b"submit".as_slice() {
         Some(Command::Submit)
     } else {

@@ -2,11 +2,11 @@
 
 ghost use Rattle.std.specs.Prelude.{◌≡◌, ◌≤◌, length};
 ghost use Rattle.exchange.specs.Queues.{kept};
-ghost use Rattle.stp_node.specs.Asking.{AskTake, asked_line};
-ghost use Rattle.stp_node.specs.Doing.{name_in, report, printed, done};
+ghost use Rattle.stp_node.specs.Asking.{AskTake, AskWants, asked_line};
+ghost use Rattle.stp_node.specs.Doing.{name_in, report, printed, done, after_ticks};
 
 use crate::line::Line;
-use crate::text::{Text, frame_line, none_line, outcome_line};
+use crate::text::{Text, frame_line, none_line, outcome_line, wants_line};
 use exchange::{BUFFER_OCTETS, Event, Exchange};
 use stp_types::{Cause, Limits, LinkId, Msu, Outcome};
 
@@ -24,6 +24,11 @@ pub fn perform(exchange: &mut Exchange, line: Line<'_>) -> Text
             Some(link) => exchange.step(&Event::AssociationUp(link)),
             None => Outcome::Refused(Cause::NoSuchName),
         },
+        Line::Down { link } => match exchange.settings().link_named(link) {
+            Some(link) => exchange.step(&Event::AssociationDown(link)),
+            None => Outcome::Refused(Cause::NoSuchName),
+        },
+        Line::Tick { ticks } => pass(exchange, ticks),
         Line::Frame { link, octets } => match exchange.settings().link_named(link) {
             Some(link) => {
                 let count = octets.decode(&mut buffer);
@@ -39,8 +44,30 @@ pub fn perform(exchange: &mut Exchange, line: Line<'_>) -> Text
             }
         }
         Line::Take { link } => return take(exchange, link),
+        Line::Wants { link } => return wants(exchange, link),
     };
     report(exchange, outcome)
+}
+
+/// Lets so many ticks pass.
+fn pass(exchange: &mut Exchange, ticks: u16) -> Outcome
+    ensures outcome { result ≡ Outcome.Handled }
+    ensures state { exchange.new ≡ after_ticks kept ticks exchange.old }
+{
+    for _ in 0..ticks {
+        exchange.step(&Event::Tick);
+    }
+    Outcome::Handled
+}
+
+/// What the link of this name asks of its caller.
+fn wants(exchange: &Exchange, name: &[u8]) -> Text
+    ensures { result ≡ printed kept (AskWants name.now) exchange.now }
+{
+    match exchange.settings().link_named(name) {
+        Some(link) => wants_line(exchange.wants(link)),
+        None => report(exchange, Outcome::Refused(Cause::NoSuchName)),
+    }
 }
 
 /// Takes the next frame that goes out by the link of this name.

@@ -2,10 +2,10 @@
 
 ghost use Rattle.std.specs.Prelude.{◌≡◌, ◌+◌, ◌*◌, ◌≤◌, ◌<◌, ◌^◌, ◌++◌, [], length, decimal};
 ghost use Rattle.hex.specs.Hex.{encode_lower};
-ghost use Rattle.stp_node.specs.Texts.{outcome_line, frame_line, none_line, line_fault};
+ghost use Rattle.stp_node.specs.Texts.{outcome_line, frame_line, none_line, wants_line, line_fault};
 
 use arrayvec::ArrayVec;
-use exchange::BUFFER_OCTETS;
+use exchange::{BUFFER_OCTETS, Wants};
 use itoa::Buffer;
 use std::marker::Model;
 use stp_types::{Limits, Outcome};
@@ -114,6 +114,19 @@ pub fn frame_line(name: &[u8], octets: &[u8]) -> Text
     text.push(b" ");
     text.push_hex(octets);
     text.push(b"\n");
+    text
+}
+
+/// The line of what a link asks of its caller.
+pub fn wants_line(wants: Wants) -> Text
+    ensures { result ≡ wants_line wants }
+{
+    let mut text = Text::new();
+    text.push(match wants {
+        Wants::Nothing => b"nothing\n",
+        Wants::Open => b"open\n",
+        Wants::Close => b"close\n",
+    });
     text
 }
 
