@@ -6,8 +6,12 @@ use crate::draft::draft_with;
 use crate::incoming::Incoming;
 use exchange::{BUFFER_OCTETS, Event, Exchange};
 use link_number::{Number24, next};
+use m2pa_codec::{Frame, LinkStatus, encode};
 use std::alloc::Global;
 use stp_types::{Limits, LinkId, Msu, MsuRef, Settings};
+
+/// What a link tells on its way into service: Alignment, Proving Normal, Ready.
+const STATUSES: usize = 3;
 
 /// The exchange, and the peer at the other end of its link.
 #[derive(Drop)]
@@ -62,6 +66,29 @@ impl Peer {
     /// Brings the link into service.
     fn open(&mut self) {
         self.exchange.step(&Event::AssociationUp(self.link));
+        self.tell(LinkStatus::ProvingNormal);
+        self.tell(LinkStatus::Ready);
+        let ticks = self.exchange.settings().timers().l4;
+        for _ in 0..ticks {
+            self.exchange.step(&Event::Tick);
+        }
+        self.take_statuses();
+    }
+
+    /// Sends a link status.
+    fn tell(&mut self, status: LinkStatus) {
+        let bsn = self.taken;
+        let fsn = self.next.previous();
+        let count = encode(&Frame::Status { bsn, fsn, status }, &mut self.buffer);
+        self.exchange
+            .step(&Event::Frame(self.link, &self.buffer[..count]));
+    }
+
+    /// Takes what the link tells on its way into service; it doesn't count.
+    fn take_statuses(&mut self) {
+        for _ in 0..STATUSES {
+            self.exchange.take(self.link, &mut self.buffer);
+        }
     }
 
     /// Sends a message in a frame that confirms all that was taken.

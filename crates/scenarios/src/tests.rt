@@ -1,11 +1,12 @@
 //! What the rows share.
 
+mod alignment;
 mod calls;
 mod checked_settings;
 mod lines;
 mod long_lines;
 mod program;
-mod rows;
+mod statuses;
 mod streams;
 
 use exchange::Exchange;

@@ -1,7 +1,8 @@
 //! Calls of an exchange in a row.
 
+use super::statuses::{STATUS_OCTETS, status_frame};
 use super::{POOL, booted};
-use exchange::{Answer, Call, Event, Exchange};
+use exchange::{Answer, Call, Event, Exchange, Order, Wants};
 use std::alloc::Global;
 use std::process::Abort;
 use stp_types::{FrameFault, LinkId, Msu, Notice, Outcome};
@@ -21,30 +22,85 @@ const GOES: [u8; 24] = [
 /// A frame of another version.
 const OTHER_VERSION: [u8; 8] = [0x02, 0x00, 0x0b, 0x02, 0x00, 0x00, 0x00, 0x08];
 
-/// Makes six calls, of which one submits this message.
+/// Brings a link into service, and lets a message through; then an operator closes the link, its association
+/// goes, and he opens it again.
 fn made<T: Abort>(rt: &T, alloc: Global, exchange: &mut Exchange, message: Msu) -> Vec<Answer> {
     let link = LinkId::new(0);
+    let proving = status_frame(2);
+    let ready = status_frame(4);
     let calls = [
         Call::Step(Event::AssociationUp(link)),
+        Call::Step(Event::Frame(link, &proving)),
+        Call::Step(Event::Frame(link, &ready)),
+        Call::Step(Event::Tick),
+        Call::Step(Event::Tick),
+        Call::Step(Event::Tick),
+        Call::Take(link),
+        Call::Take(link),
+        Call::Take(link),
         Call::Step(Event::Frame(link, &COMES)),
         Call::Step(Event::Frame(link, &OTHER_VERSION)),
         Call::Step(Event::Submit(message)),
         Call::Take(link),
         Call::Take(link),
+        Call::Wants(link),
+        Call::Step(Event::Order(Order::Deactivate(link))),
+        Call::Wants(link),
+        Call::Step(Event::AssociationDown(link)),
+        Call::Wants(link),
+        Call::Step(Event::AssociationUp(link)),
+        Call::Step(Event::Order(Order::Activate(link))),
+        Call::Wants(link),
     ];
     exchange.run(alloc, &calls).expect(rt, "memory")
 }
 
 /// What is answered to them.
-const ANSWERS: [&str; 6] = ["handled", "queued", "ignored", "local", "the frame", "none"];
+const ANSWERS: [&str; 22] = [
+    "handled",
+    "handled",
+    "handled",
+    "handled",
+    "handled",
+    "handled",
+    "a status",
+    "a status",
+    "a status",
+    "queued",
+    "ignored",
+    "local",
+    "the frame",
+    "none",
+    "nothing",
+    "handled",
+    "close",
+    "handled",
+    "nothing",
+    "refused",
+    "handled",
+    "open",
+];
 
 /// What an answer is, in a word or two.
 fn shown(answer: &Answer) -> &'static str {
     match answer {
         Answer::Stepped(outcome) => shown_outcome(*outcome),
-        Answer::Taken(Some(text)) if text.octets() == GOES.as_slice() => "the frame",
-        Answer::Taken(Some(_)) => "another frame",
+        Answer::Taken(Some(text)) => shown_frame(text.octets()),
         Answer::Taken(None) => "none",
+        Answer::Wanted(Wants::Nothing) => "nothing",
+        Answer::Wanted(Wants::Open) => "open",
+        Answer::Wanted(Wants::Close) => "close",
+    }
+}
+
+/// What a frame is, in two words.
+fn shown_frame(octets: &[u8]) -> &'static str {
+    if octets == GOES.as_slice() {
+        "the frame"
+    } else if octets.len() == STATUS_OCTETS {
+        "a status"
+    } else {
+        "another frame"
     }
 }
 
@@ -60,11 +116,17 @@ fn shown_outcome(outcome: Outcome) -> &'static str {
     }
 }
 
+/// Compares an answer.
+fn expect_answer<T: Abort>(rt: &T, answers: &[Answer], at: usize, wanted: &str) {
+    let answer = answers.get(at).expect(rt, "an answer for each call");
+    assert!(rt; shown(answer) == wanted, "no {wanted}");
+}
+
 /// Compares the answers.
 fn expect_answers<T: Abort>(rt: &T, answers: &[Answer]) {
     assert_eq!(rt; answers.len(), ANSWERS.len());
-    for (answer, wanted) in answers.iter().zip(ANSWERS) {
-        assert!(rt; shown(answer) == wanted, "no {wanted}");
+    for (at, wanted) in ANSWERS.iter().enumerate() {
+        expect_answer(rt, answers, at, wanted);
     }
 }
 

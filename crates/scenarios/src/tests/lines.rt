@@ -21,9 +21,20 @@ const ROWS: &str = "\
     ; \n|fault 1\n|1\
     ;\0\n|fault 1\n|1\
     ; # remark\n|fault 1\n|1\
-    ;tick 1\n|fault 1\n|1\
-    ;down e0\n|fault 1\n|1\
-    ;wants e0\n|fault 1\n|1\
+    ;tick\n|fault 1\n|1\
+    ;tick \n|fault 1\n|1\
+    ;tick 0\n|fault 1\n|1\
+    ;tick 01\n|fault 1\n|1\
+    ;tick +1\n|fault 1\n|1\
+    ;tick -1\n|fault 1\n|1\
+    ;tick 1a\n|fault 1\n|1\
+    ;tick 65536\n|fault 1\n|1\
+    ;tick 165535\n|fault 1\n|1\
+    ;tick 1 1\n|fault 1\n|1\
+    ;down\n|fault 1\n|1\
+    ;down e0 e0\n|fault 1\n|1\
+    ;wants\n|fault 1\n|1\
+    ;wants e0 e0\n|fault 1\n|1\
     ;activate e0\n|fault 1\n|1\
     ;show links\n|fault 1\n|1\
     ;title remove 0 1 4 49\n|fault 1\n|1\
@@ -65,23 +76,14 @@ const ROWS: &str = "\
     ;frame e0 00\n|ignored\n|\
     ;submit 852c4100\n|refused 2 NoLabel\n|\
     ;submit 852C410050AABB\n|refused 4 NoRoute\n|\
-    ;up e0\nsubmit 852C410050aAbB\n|handled\nqueued e0\n|\
-    ;up e0\n\
-     frame e0 01000b010000001800ffffff0000000000852c810050aabb\n\
-     take e0\n\
-     |handled\n\
-     queued e0\n\
-     frame e0 01000b0100000018000000000000000000852c810050aabb\n|\
-    ;up e0\n\
-     submit 852c410050aabb\n\
-     take e0\n\
-     frame e0 01000b01000000100000000000ffffff\n\
-     take e0\n\
-     |handled\n\
-     queued e0\n\
-     frame e0 01000b010000001800ffffff0000000000852c410050aabb\n\
-     handled\n\
-     none\n|";
+    ;down e0\n|ignored\n|\
+    ;up e0\nwants e0\ndown e0\nwants e0\n|handled\nnothing\nhandled\nopen\n|\
+    ;up e0\nframe e0 01000b0200000015\nwants e0\n|handled\nhandled\nclose\n|\
+    ;wants e\n|refused 22 NoSuchName\n|\
+    ;down e\n|refused 22 NoSuchName\n|\
+    ;tick 1\n|handled\n|\
+    ;tick 65535\n|handled\n|\
+    ;up e0\ntick 9\nwants e0\ntick 1\nwants e0\n|handled\nhandled\nnothing\nhandled\nclose\n|";
 
 /// Runs a row.
 fn expect_row<T: Abort>(rt: &T, alloc: Global, row: &str) {

@@ -9,7 +9,7 @@ use stp_node::{MemorySink, MemorySource, run_program};
 /// in rows that begin with a semicolon.
 const ROWS: &str = "\
     ;,run||0|\
-    ;,run|up e0\ntake e0\n|0|handled\nnone\n\
+    ;,run|up e0\nwants e0\n|0|handled\nnothing\n\
     ;,run|up e0\nup\n|3|handled\nfault 2\n\
     ;|up e0\n|1|usage\n\
     ;,run,run|up e0\n|1|usage\n\

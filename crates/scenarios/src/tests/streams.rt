@@ -11,17 +11,17 @@ use stp_node::{
 };
 
 const SCRIPT: &str = "up e0
-frame e0 01000b010000001800ffffff0000000000852c810050aabb
 take e0
+frame e0 01000b020000001400ffffff00ffffff00000001
 ";
 
 const PRINTED: &str = "handled
-queued e0
-frame e0 01000b0100000018000000000000000000852c810050aabb
+frame e0 01000b020000001400ffffff00ffffff00000001
+handled
 ";
 
 /// How many octets the first lines of the script print.
-const PRINTED_OCTETS: [usize; 4] = [0, 8, 18, 76];
+const PRINTED_OCTETS: [usize; 4] = [0, 8, 58, 66];
 
 /// What the first lines of the script print.
 fn printed(lines: usize) -> &'static [u8] {
@@ -66,7 +66,7 @@ fn pieces_of_any_size(rt: HostRuntime) {
 }
 
 /// How many lines are whole in so many pieces of seven octets of the script.
-const WHOLE_LINES: [usize; 13] = [0, 1, 1, 1, 1, 1, 1, 1, 1, 1, 2, 3, 3];
+const WHOLE_LINES: [usize; 12] = [0, 1, 2, 2, 2, 2, 2, 2, 2, 2, 3, 3];
 
 /// A read that fails after so many others, of seven octets each.
 fn expect_failing_read<T: Abort>(rt: &T, alloc: Global, reads: u64) {
@@ -74,7 +74,7 @@ fn expect_failing_read<T: Abort>(rt: &T, alloc: Global, reads: u64) {
     let mut reader = pieces.failing_after(reads);
     let mut writer = MemorySink::new(alloc);
     let lines = WHOLE_LINES.get(reads as usize).copied().unwrap_or(0);
-    let end = if reads <= 11 {
+    let end = if reads <= 10 {
         Err(ScriptFault::Read)
     } else {
         Ok(())
@@ -84,7 +84,7 @@ fn expect_failing_read<T: Abort>(rt: &T, alloc: Global, reads: u64) {
 
 #[test]
 fn each_read_failing_in_turn(rt: HostRuntime) {
-    for reads in 0..13u64 {
+    for reads in 0..12u64 {
         expect_failing_read(&rt, rt.alloc(), reads);
     }
 }
