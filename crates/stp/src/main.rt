@@ -1,15 +1,21 @@
-//! The node as a program: `stp run` runs the script on standard input.
+//! The node as a program: `stp run` runs the script on standard input, `stp check` looks at settings.
 #![tactic(auto)]
 
 use std::process::ExitCode;
 use std::{env, io};
-use stp_node::{ReaderSource, WriterSink, refuse_words, run_program};
+use stp_node::{Disk, ReaderSource, WriterSink, refuse_words, run_program};
 
 fn main(rt: HostRuntime) -> ExitCode {
     let mut reader = ReaderSource::new(rt.stdin());
     let mut writer = WriterSink::new(io::writer(&rt));
     let status = match words(&rt) {
-        Ok(words) => run_program(rt.alloc(), words.as_slice(), &mut reader, &mut writer),
+        Ok(words) => run_program(
+            rt.alloc(),
+            words.as_slice(),
+            &Disk::new(&rt),
+            &mut reader,
+            &mut writer,
+        ),
         Err(error) => refuse_words(&error, &mut writer),
     };
     ExitCode::from(status.number())

@@ -11,7 +11,8 @@ use Rattle.settings_rows.specs.declared.draft.SetDraft.{SetDraft}
 use Rattle.settings_rows.specs.declared.draft.LinkDraft.{LinkDraft}
 use Rattle.settings_rows.specs.declared.draft.DestinationDraft.{DestinationDraft}
 use Rattle.stp_node.specs.BuiltIn.{IsBuiltIn, IsSets, IsLinks, IsDestination, IsDestinations, built_in_settings}
-use Rattle.stp_node.specs.Program.{IsStartFault}
+use Rattle.settings.specs.declared.fault.SettingsFault.TheVariants as settings_fault
+use Rattle.stp_node.specs.Program.{IsBuiltInFault}
 
 one-place : {A : Type 0} → (test : A → Bool) (x : A) (b : Bool) → test x ≡ b → ◌≡◌ {A = ℕ} (unwrap_or (position test (x ∷ [])) 0) 0
 one-place test x true h = rw h refl
@@ -68,6 +69,7 @@ settings-meant d h =
       h.titles,
     ) refl
 
-pub start_fault : (d : Draft) (why : DraftFault) → IsBuiltIn d → (why ≡ NoMemory) ⊎ (first_fault d ≡ Some why) → IsStartFault why
-start_fault d why h (inl e) = inl e
-start_fault d why h (inr e) = inr (d, h, e)
+pub built_in_fault : (d : Draft) (found : DraftFault) → IsBuiltIn d → (found ≡ NoMemory) ⊎ (first_fault d ≡ Some found)
+    → IsBuiltInFault (settings_fault.Draft found)
+built_in_fault d found h (inl e) = inl (ap (λ (f : DraftFault). settings_fault.Draft f) e)
+built_in_fault d found h (inr e) = inr (d, found, h, e, refl)

@@ -8,4 +8,6 @@ pub mod Faults
 pub mod Steps
 pub mod Runs
 pub mod BuiltIn
+pub mod Words
+pub mod Folders
 pub mod Program

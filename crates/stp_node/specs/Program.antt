@@ -1,29 +1,26 @@
--- The words behind the program's name, and its exit statuses.
-use Rattle.std.specs.Prelude.{ℕ, List, [], ◌∷◌, ◌++◌, if◌then◌else◌}
-use Rattle.std.specs.Prelude.{codes, bytes_eq, ◌≡◌, ◌⊎◌, Some, Result, Ok, Err}
+-- What the program does for what its words ask, and its exit statuses.
+use Rattle.std.specs.Prelude.{◌≡◌, ◌⊎◌, ℕ, List, ◌++◌, codes, Some, Result, Ok, Err}
 use Rattle.std.specs.Io.KnownBytes.{Appends}
-use Rattle.settings_rows.specs.Faults.{fault_line}
+use Rattle.settings_rows.specs.Configuration.{Configuration}
 use Rattle.settings_check.specs.FirstFault.{first_fault}
 use Rattle.settings_rows.specs.declared.draft.Draft.{Draft}
 use Rattle.settings_rows.specs.declared.fault.DraftFault.{DraftFault}
-use Rattle.settings_rows.specs.declared.fault.DraftFault.TheVariants as draft_fault
+use Rattle.settings.specs.Faults.{fault_line, no_memory}
+use Rattle.settings.specs.declared.fault.SettingsFault.{SettingsFault}
+use Rattle.settings.specs.declared.fault.SettingsFault.TheVariants as settings_fault
 use Rattle.exchange.specs.Queues.{whole}
 use Rattle.exchange.specs.Stands.{Abstract, first_state}
 use Rattle.stp_node.specs.BuiltIn.{IsBuiltIn, built_in_settings}
 use Rattle.stp_node.specs.Faults.{Counts}
+use Rattle.stp_node.specs.Folders.{FileRead, AreSettings, IsFault}
 use Rattle.stp_node.specs.Runs.{Runs}
 use Rattle.stp_node.specs.Streams.{Input, Output, AppendsFirst, counted}
+use Rattle.stp_node.specs.Words.{Task, BuiltInRun, FileRun, FileCheck, OtherWords}
+use Rattle.stp_node.specs.declared.folder.FileFault.TheVariants as file_fault
 use Rattle.stp_node.specs.declared.script.ScriptFault.{ScriptFault}
 use Rattle.stp_node.specs.declared.script.ScriptFault.TheVariants as fault
-use Rattle.stp_node.specs.declared.program.Words.{Words}
-use Rattle.stp_node.specs.declared.program.Words.TheVariants as words
 use Rattle.stp_node.specs.declared.program.Status.{Status}
 use Rattle.stp_node.specs.declared.program.Status.TheVariants as status
-
--- `run` alone runs
-abbrev pub words_of : List (List ℕ) → Words
-words_of (word ∷ []) = if bytes_eq word (codes "run") then words.Run else words.Usage
-words_of _ = words.Usage
 
 -- the exit statuses
 abbrev pub status_number : Status → ℕ
@@ -43,7 +40,7 @@ status_after (Err fault.TooManyReads) = status.Stream
 status_after (Err fault.NoMemory) = status.Start
 
 -- a fault of settings, as it is printed
-abbrev pub told : DraftFault → List ℕ
+abbrev pub told : SettingsFault → List ℕ
 told fault = fault_line fault ++ codes "\n"
 
 -- a last line was written, and the program ends so; or its write failed
@@ -53,20 +50,64 @@ EndsWith wanted line output output_new ended =
     ⊎ ((ended ≡ status.Stream) × AppendsFirst output.written output_new.written line
     × (output_new.failures ≡ counted output.failures))
 
+-- a line tells why the settings aren't taken, or that memory ran out
+abbrev pub TellsFault : SettingsFault → Output → Output → Status → Type 0
+TellsFault why output output_new ended = EndsWith status.Start (told why) output output_new ended
+    ⊎ EndsWith status.Start (told no_memory) output output_new ended
+
 -- why a node with the built-in settings doesn't start: memory ran out, or these settings have that fault
-abbrev pub IsStartFault : DraftFault → Type 0
-IsStartFault why = (why ≡ draft_fault.NoMemory) ⊎ ((draft : Draft) × IsBuiltIn draft × (first_fault draft ≡ Some why))
+abbrev pub IsBuiltInFault : SettingsFault → Type 0
+IsBuiltInFault why = (why ≡ no_memory)
+    ⊎ ((draft : Draft) × (found : DraftFault) × IsBuiltIn draft × (first_fault draft ≡ Some found)
+    × (why ≡ settings_fault.Draft found))
 
--- a line says why the node didn't start, and nothing of the script was read
-abbrev pub TellsFault : Input → Input → Output → Output → Status → Type 0
-TellsFault input input_new output output_new ended =
-    (why : DraftFault) × IsStartFault why × EndsWith status.Start (told why) output output_new ended
-    × (input_new ≡ input)
-
--- the script ran from the first state of a node with the built-in settings, and the program ends by how it ended
-abbrev pub RunsScript : Input → Input → Output → Output → Status → Type 0
-RunsScript input input_new output output_new ended =
+-- the script ran from the first state of a node with these settings, and the program ends by how it ended
+abbrev pub RunsScript : Configuration → Input → Input → Output → Output → Status → Type 0
+RunsScript settings input input_new output output_new ended =
     (script : Result Unit ScriptFault) × (after : Abstract)
-    × Runs whole script (first_state built_in_settings) after
+    × Runs whole script (first_state settings) after
     input.remaining input_new.remaining output.written output_new.written
     × Counts script input input_new output output_new × (ended ≡ status_after script)
+
+-- a node runs the script, or the fault of its settings is told and nothing of the script is read
+abbrev pub RunsNode : (Configuration → Type 0) → (SettingsFault → Type 0) → Input → Input → Output → Output → Status
+    → Type 0
+RunsNode IsGiven IsWrong input input_new output output_new ended =
+    ((settings : Configuration) × IsGiven settings × RunsScript settings input input_new output output_new ended)
+    ⊎ ((why : SettingsFault) × IsWrong why × EndsWith status.Start (told why) output output_new ended
+    × (input_new ≡ input))
+
+-- the same with the settings of a file; where the file can't be read, nothing is printed
+abbrev pub RunsFile : FileRead → Input → Input → Output → Output → Status → Type 0
+RunsFile (Ok octets) input input_new output output_new ended =
+    RunsNode (AreSettings octets) (IsFault octets) input input_new output output_new ended
+RunsFile (Err file_fault.Unread) input input_new output output_new ended =
+    (ended ≡ status.Stream) × (output_new ≡ output) × (input_new ≡ input)
+RunsFile (Err file_fault.NoMemory) input input_new output output_new ended =
+    EndsWith status.Start (told no_memory) output output_new ended × (input_new ≡ input)
+
+-- `ok` is printed of a file that has settings, and else the fault
+abbrev pub ChecksFile : FileRead → Output → Output → Status → Type 0
+ChecksFile (Ok octets) output output_new ended =
+    ((settings : Configuration) × AreSettings octets settings
+    × EndsWith status.Done (codes "ok\n") output output_new ended)
+    ⊎ ((why : SettingsFault) × IsFault octets why × EndsWith status.Start (told why) output output_new ended)
+ChecksFile (Err file_fault.Unread) output output_new ended = (ended ≡ status.Stream) × (output_new ≡ output)
+ChecksFile (Err file_fault.NoMemory) output output_new ended =
+    EndsWith status.Start (told no_memory) output output_new ended
+
+-- what the program does for what its words ask, where a file is read as `reads` says
+abbrev pub Does : Task → (List ℕ → FileRead → Type 0) → Input → Input → Output → Output → Status → Type 0
+Does BuiltInRun reads input input_new output output_new ended =
+    RunsNode (λ settings. settings ≡ built_in_settings) IsBuiltInFault input input_new output output_new ended
+Does (FileRun file) reads input input_new output output_new ended =
+    (read : FileRead) × reads file read × RunsFile read input input_new output output_new ended
+Does (FileCheck file) reads input input_new output output_new ended =
+    (read : FileRead) × reads file read × ChecksFile read output output_new ended × (input_new ≡ input)
+Does OtherWords reads input input_new output output_new ended =
+    EndsWith status.Usage (codes "usage\n") output output_new ended × (input_new ≡ input)
+
+-- or it tells that memory ran out, before it reads a file
+abbrev pub DoesOrLacksMemory : Task → (List ℕ → FileRead → Type 0) → Input → Input → Output → Output → Status → Type 0
+DoesOrLacksMemory t reads input input_new output output_new ended = Does t reads input input_new output output_new ended
+    ⊎ (EndsWith status.Start (told no_memory) output output_new ended × (input_new ≡ input))

@@ -2,6 +2,7 @@
 #![tactic(auto)]
 
 pub mod defaults;
+pub mod folder;
 pub mod hex_octets;
 pub mod line;
 mod perform;
@@ -12,12 +13,15 @@ pub mod sink;
 pub mod source;
 mod text;
 mod ticks;
+pub mod words;
 
 pub use defaults::built_in;
+pub use folder::{Disk, FileFault, Folder, OneFile};
 pub use hex_octets::HexOctets;
 pub use line::{Line, Malformed, parse_line};
-pub use program::{Status, Words, read_words, refuse_words, run_program};
+pub use program::{Status, refuse_words, run_program};
 pub use run::run_script;
 pub use script::ScriptFault;
 pub use sink::{MemorySink, Sink, WriteFailed, WriterSink};
 pub use source::{MemorySource, ReadFailed, ReaderSource, Source};
+pub use words::{Words, read_words};

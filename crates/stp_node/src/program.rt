@@ -1,29 +1,27 @@
-//! The program around scripts: its words, and how it ends.
+//! The program around scripts: what it does for its words, and how it ends.
 
-ghost use Rattle.std.specs.Prelude.{◌≡◌, ◌≢◌, ◌⊎◌, IfOk, IfErr, string_bytes, map, codes};
+ghost use Rattle.std.specs.Prelude.{◌≡◌, ◌≢◌, ◌⊎◌, IfOk, IfErr, Some, string_bytes, codes};
 ghost use Rattle.std.specs.IoError.{error_kind};
 ghost use Rattle.exchange.specs.Stands.{StandsFor, first_state};
+ghost use Rattle.settings.specs.Faults.{no_memory};
 ghost use Rattle.stp_node.specs.BuiltIn.{built_in_settings};
-ghost use Rattle.stp_node.specs.Program.{words_of, status_number, status_after, told, EndsWith, IsStartFault, TellsFault, RunsScript};
+ghost use Rattle.stp_node.specs.Folders.{FileRead, AreSettings, IsFault};
+ghost use Rattle.stp_node.specs.Words.{asked};
+ghost use Rattle.stp_node.specs.Program.{status_number, status_after, told, EndsWith, TellsFault, IsBuiltInFault};
+ghost use Rattle.stp_node.specs.Program.{RunsScript, RunsNode, RunsFile, ChecksFile, DoesOrLacksMemory};
 
 use crate::defaults::built_in;
+use crate::folder::{FileFault, Folder};
 use crate::run::run_script;
 use crate::script::ScriptFault;
 use crate::sink::Sink;
 use crate::source::Source;
+use crate::words::{Words, read_words};
 use exchange::{Exchange, NoMemory};
+use settings::SettingsFault;
 use std::alloc::{AllocError, Global};
 use std::io::{Error, ErrorKind};
-use stp_types::{DraftFault, Settings};
-
-/// What the words behind the program's name ask for.
-#[derive(Clone, Copy, Debug, PartialEq, Eq)]
-pub enum Words {
-    /// `run`: run the script on standard input, with the built-in settings.
-    Run,
-    /// Any other words.
-    Usage,
-}
+use stp_types::Settings;
 
 /// How the program ends. The numbers are its exit statuses.
 #[derive(Clone, Copy, Debug, PartialEq, Eq)]
@@ -49,37 +47,24 @@ impl Status {
     }
 }
 
-/// What the words behind the program's name ask for.
-pub fn read_words(words: &[String]) -> Words
-    ensures { result ≡ words_of (map (λ word. string_bytes word) words.now) }
-{
-    match words {
-        [word] if word.as_str() == "run" => Words::Run,
-        _ => Words::Usage,
-    }
-}
-
-/// The whole program: does what the words behind its name ask for. All that it prints goes to the sink.
-pub fn run_program<R: Source, W: Sink>(
+/// The whole program: does what the words behind its name ask for. Settings files come from the folder,
+/// the script from the reader, and all that it prints goes to the writer.
+pub fn run_program<F: Folder, R: Source, W: Sink>(
     alloc: Global,
     words: &[String],
+    folder: &F,
     reader: &mut R,
     writer: &mut W,
 ) -> Status
-    ensures usage { words_of (map (λ word. string_bytes word) words.now) ≡ Words.Usage
-        → EndsWith Status.Usage (codes "usage\n") (W.output writer.old) (W.output writer.new) result }
-    ensures unread { words_of (map (λ word. string_bytes word) words.now) ≡ Words.Usage
-        → R.input reader.new ≡ R.input reader.old }
-    ensures run { words_of (map (λ word. string_bytes word) words.now) ≡ Words.Run
-        → TellsFault (R.input reader.old) (R.input reader.new) (W.output writer.old) (W.output writer.new) result
-        ⊎ RunsScript (R.input reader.old) (R.input reader.new) (W.output writer.old) (W.output writer.new) result }
+    ensures { DoesOrLacksMemory (asked words.now) (F.reads folder.now)
+        (R.input reader.old) (R.input reader.new) (W.output writer.old) (W.output writer.new) result }
 {
-    match read_words(words) {
+    match read_words(alloc, words) {
+        Words::Run(None) => run_built_in(alloc, reader, writer),
+        Words::Run(Some(file)) => run_file(alloc, folder, file.as_str(), reader, writer),
+        Words::Check(file) => check_file(alloc, folder, file.as_str(), writer),
         Words::Usage => end_with(Status::Usage, b"usage\n", writer),
-        Words::Run => match start(alloc) {
-            Ok(mut exchange) => status_after(run_script(&mut exchange, reader, writer)),
-            Err(fault) => tell_fault(alloc, fault, writer),
-        },
+        Words::NoMemory => tell_no_memory(writer),
     }
 }
 
@@ -87,26 +72,121 @@ pub fn run_program<R: Source, W: Sink>(
 /// memory ran out.
 pub fn refuse_words<W: Sink>(error: &Error, writer: &mut W) -> Status
     ensures memory { error_kind error.now ≡ ErrorKind.OutOfMemory
-        → EndsWith Status.Start (told DraftFault.NoMemory) (W.output writer.old) (W.output writer.new) result }
+        → EndsWith Status.Start (told no_memory) (W.output writer.old) (W.output writer.new) result }
     ensures usage { error_kind error.now ≢ ErrorKind.OutOfMemory
         → EndsWith Status.Usage (codes "usage\n") (W.output writer.old) (W.output writer.new) result }
 {
     if error.kind() == ErrorKind::OutOfMemory {
-        return end_with(Status::Start, b"fault NoMemory\n", writer);
+        return tell_no_memory(writer);
     }
     end_with(Status::Usage, b"usage\n", writer)
 }
 
-/// The exchange of the built-in settings, before its first event.
-fn start(alloc: Global) -> Result<Exchange, DraftFault>
-    ensures stands { IfOk result (λ exchange. StandsFor exchange (first_state built_in_settings)) }
-    ensures fault { IfErr result IsStartFault }
+/// Runs the script on a node with the built-in settings.
+fn run_built_in<R: Source, W: Sink>(alloc: Global, reader: &mut R, writer: &mut W) -> Status
+    ensures { RunsNode (λ settings. settings ≡ built_in_settings) IsBuiltInFault
+        (R.input reader.old) (R.input reader.new) (W.output writer.old) (W.output writer.new) result }
+{
+    match built_in_settings(alloc) {
+        Ok(settings) => run_on(alloc, settings, reader, writer),
+        Err(fault) => tell_fault(alloc, fault, writer),
+    }
+}
+
+/// Runs the script on a node with the settings of a file.
+fn run_file<F: Folder, R: Source, W: Sink>(
+    alloc: Global,
+    folder: &F,
+    file: &str,
+    reader: &mut R,
+    writer: &mut W,
+) -> Status
+    ensures { (read : FileRead) × F.reads folder.now file.now read × RunsFile read
+        (R.input reader.old) (R.input reader.new) (W.output writer.old) (W.output writer.new) result }
+{
+    match folder.read(alloc, file) {
+        Ok(octets) => run_octets(alloc, octets.as_slice(), reader, writer),
+        Err(FileFault::Unread) => Status::Stream,
+        Err(FileFault::NoMemory) => tell_no_memory(writer),
+    }
+}
+
+/// Runs the script on a node with the settings that these octets are.
+fn run_octets<R: Source, W: Sink>(
+    alloc: Global,
+    octets: &[u8],
+    reader: &mut R,
+    writer: &mut W,
+) -> Status
+    ensures { RunsNode (AreSettings octets.now) (IsFault octets.now)
+        (R.input reader.old) (R.input reader.new) (W.output writer.old) (W.output writer.new) result }
+{
+    match settings_in(alloc, octets) {
+        Ok(settings) => run_on(alloc, settings, reader, writer),
+        Err(fault) => tell_fault(alloc, fault, writer),
+    }
+}
+
+/// Tells whether the settings of a file have a fault.
+fn check_file<F: Folder, W: Sink>(alloc: Global, folder: &F, file: &str, writer: &mut W) -> Status
+    ensures { (read : FileRead) × F.reads folder.now file.now read
+        × ChecksFile read (W.output writer.old) (W.output writer.new) result }
+{
+    match folder.read(alloc, file) {
+        Ok(octets) => check_octets(alloc, octets.as_slice(), writer),
+        Err(FileFault::Unread) => Status::Stream,
+        Err(FileFault::NoMemory) => tell_no_memory(writer),
+    }
+}
+
+/// Tells whether the settings that these octets are have a fault.
+fn check_octets<W: Sink>(alloc: Global, octets: &[u8], writer: &mut W) -> Status
+    ensures { ChecksFile (Ok octets.now) (W.output writer.old) (W.output writer.new) result }
+{
+    match settings_in(alloc, octets) {
+        Ok(_) => end_with(Status::Done, b"ok\n", writer),
+        Err(fault) => tell_fault(alloc, fault, writer),
+    }
+}
+
+/// Runs the script on a node with these settings.
+fn run_on<R: Source, W: Sink>(
+    alloc: Global,
+    settings: Settings,
+    reader: &mut R,
+    writer: &mut W,
+) -> Status
+    ensures { RunsScript settings
+        (R.input reader.old) (R.input reader.new) (W.output writer.old) (W.output writer.new) result
+        ⊎ (EndsWith Status.Start (told no_memory) (W.output writer.old) (W.output writer.new) result
+        × (R.input reader.new ≡ R.input reader.old)) }
+{
+    match Exchange::boot(alloc, settings) {
+        Ok(mut exchange) => status_after(run_script(&mut exchange, reader, writer)),
+        Err(NoMemory) => tell_no_memory(writer),
+    }
+}
+
+/// The settings that a node has where it is given none.
+fn built_in_settings(alloc: Global) -> Result<Settings, SettingsFault>
+    ensures settings { IfOk result (λ settings. settings ≡ built_in_settings) }
+    ensures fault { IfErr result IsBuiltInFault }
 {
     let draft = built_in(alloc)?;
-    let settings = Settings::check(alloc, draft)?;
-    match Exchange::boot(alloc, settings) {
-        Ok(exchange) => Ok(exchange),
-        Err(NoMemory) => Err(DraftFault::NoMemory),
+    match Settings::check(alloc, draft) {
+        Ok(settings) => Ok(settings),
+        Err(fault) => Err(SettingsFault::Draft(fault)),
+    }
+}
+
+/// The settings that these octets are.
+fn settings_in(alloc: Global, octets: &[u8]) -> Result<Settings, SettingsFault>
+    ensures settings { IfOk result (AreSettings octets.now) }
+    ensures fault { IfErr result (IsFault octets.now) }
+{
+    match str::from_utf8(octets) {
+        Ok(text) => settings::read(alloc, text),
+        Err(_) => Err(SettingsFault::Text),
     }
 }
 
@@ -132,19 +212,25 @@ fn end_with<W: Sink>(status: Status, line: &[u8], writer: &mut W) -> Status
     }
 }
 
+/// Prints that memory ran out.
+fn tell_no_memory<W: Sink>(writer: &mut W) -> Status
+    ensures { EndsWith Status.Start (told no_memory) (W.output writer.old) (W.output writer.new) result }
+{
+    end_with(Status::Start, b"fault NoMemory\n", writer)
+}
+
 /// Prints what is wrong with the settings, or that memory ran out.
-fn tell_fault<W: Sink>(alloc: Global, fault: DraftFault, writer: &mut W) -> Status
-    ensures { EndsWith Status.Start (told fault) (W.output writer.old) (W.output writer.new) result
-        ⊎ EndsWith Status.Start (told DraftFault.NoMemory) (W.output writer.old) (W.output writer.new) result }
+fn tell_fault<W: Sink>(alloc: Global, fault: SettingsFault, writer: &mut W) -> Status
+    ensures { TellsFault fault (W.output writer.old) (W.output writer.new) result }
 {
     match told(alloc, fault) {
         Ok(line) => end_with(Status::Start, line.as_bytes(), writer),
-        Err(_) => end_with(Status::Start, b"fault NoMemory\n", writer),
+        Err(_) => tell_no_memory(writer),
     }
 }
 
 /// The line of a fault of settings.
-fn told(alloc: Global, fault: DraftFault) -> Result<String, AllocError>
+fn told(alloc: Global, fault: SettingsFault) -> Result<String, AllocError>
     ensures { IfOk result (λ line. string_bytes line ≡ told fault) }
 {
     format!(in alloc; "{fault}\n")

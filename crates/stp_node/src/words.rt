@@ -1,0 +1,64 @@
+//! The words behind the program's name.
+
+ghost use Rattle.std.specs.Prelude.{◌≡◌, ◌⊎◌, Some};
+ghost use Rattle.stp_node.specs.Words.{Task, is_file_name, asked_with, asked, said};
+
+use std::alloc::{AllocError, Global};
+
+/// What the words behind the program's name ask for.
+#[derive(Drop)]
+pub enum Words {
+    /// `run` or `run FILE`: run the script on standard input, on the settings of this file, or on those built in.
+    Run(Option<String>),
+    /// `check FILE`: tell whether the settings of this file have a fault.
+    Check(String),
+    /// Any other words.
+    Usage,
+    /// Memory ran out.
+    NoMemory,
+}
+
+impl From<AllocError> for Words {
+    ghost use Rattle.stp_node.specs.declared.words.Words.TheVariants.{NoMemory};
+
+    ghost from_gives = { λ _ words. words ≡ NoMemory };
+
+    fn from(_error: AllocError) -> Words {
+        Words::NoMemory
+    }
+}
+
+/// What the words behind the program's name ask for.
+pub fn read_words(alloc: Global, words: &[String]) -> Words
+    ensures { (said result ≡ Some (asked words.now)) ⊎ (result ≡ Words.NoMemory) }
+{
+    match words {
+        [command] if command.as_str() == "run" => Words::Run(None),
+        [command, file] if is_file_name(file.as_str()) => {
+            with_file(alloc, command.as_str(), file.as_str())
+        }
+        _ => Words::Usage,
+    }
+}
+
+/// Whether a word may name a file.
+fn is_file_name(word: &str) -> bool
+    ensures { result ≡ is_file_name word.now }
+{
+    match word.as_bytes() {
+        [] | [b'-', ..] => false,
+        _ => true,
+    }
+}
+
+/// What a command and a file ask for.
+fn with_file(alloc: Global, command: &str, file: &str) -> Words
+    ensures { (said result ≡ Some (asked_with command.now file.now)) ⊎ (result ≡ Words.NoMemory) }
+{
+    match (command, String::from_str(alloc, file)) {
+        ("run", Ok(file)) => Words::Run(Some(file)),
+        ("check", Ok(file)) => Words::Check(file),
+        (_, Ok(_)) => Words::Usage,
+        (_, Err(_)) => Words::NoMemory,
+    }
+}
