@@ -1,0 +1,36 @@
+//! Plays the transcripts of worked runs, and tells which differ from what the program prints.
+//!
+//! It is given the names of the transcripts; those that end in `.differs` are to differ, to show that
+//! differences are seen. A transcript is what a user types and sees:
+//!
+//! - `# ..` is a remark; the first is the title. Empty lines are skipped.
+//! - `$ stp WORDS` begins a run. Settings files are those beside the transcript.
+//! - `- LINE` and `+ LINE` behind that take a line out of the run's settings file and put one in.
+//! - `> LINE` is a line of the script, `>` an empty one, and `>| TEXT` its last one, without a line feed.
+//! - Every other line is one that is printed; at the end, `[3]` is an exit status other than 0.
+#![tactic(auto)]
+
+mod changed;
+mod differences;
+mod line;
+mod listing;
+mod play;
+mod run;
+mod tally;
+
+use crate::listing::is_built_in;
+use crate::tally::play_all;
+use anyhow::{Result, ensure};
+use std::{env, fs};
+
+fn main(rt: HostRuntime) -> Result<()> {
+    let names: Vec<String> = env::args(&rt)?.skip(1).collect(rt.alloc())?;
+    let tally = play_all(&rt, names.as_slice())?;
+    let text = fs::read_to_string(&rt, "built_in.toml")?;
+    let is_built_in = is_built_in(rt.alloc(), text.as_str())?;
+    println!(rt; "built_in.toml has the built-in settings: {is_built_in}")?;
+    let (good, failed) = (tally.good, tally.failed);
+    println!(rt; "{good} good, {failed} failed")?;
+    ensure!(failed == 0 && is_built_in, "not all is as it is to be");
+    Ok(())
+}

@@ -1,0 +1,173 @@
+//! A run of the program in a transcript.
+
+ghost use Rattle.std.specs.Prelude.{◌≡◌, ◌↔◌, IsOk, IfOk, OnOk};
+ghost use Rattle.stp_node.specs.Words.{asked};
+ghost use Rattle.transcripts.specs.Runs.{status_line, IsPrinted, Prints};
+
+use crate::changed::ChangedFile;
+use crate::differences::{first_difference, line_at};
+use anyhow::{Result, bail};
+use std::alloc::{AllocError, Global};
+use std::fs;
+use std::rt::Files;
+use stp_node::{Disk, Folder, MemorySink, MemorySource, OneFile, Status, run_program};
+
+/// A run of the program: its words, its script, and what it is to print.
+#[derive(Drop)]
+pub struct Run {
+    /// The words behind the program's name.
+    pub words: Vec<String>,
+    /// The settings file, where the transcript changes it.
+    pub file: Option<ChangedFile>,
+    /// The script.
+    pub script: Vec<u8>,
+    /// What is to be printed.
+    pub wanted: Vec<u8>,
+    /// The numbers of the transcript's lines that are to be printed.
+    pub numbers: Vec<usize>,
+    /// The number of the line that begins the run.
+    pub number: usize,
+}
+
+impl Run {
+    /// The run of a command on a line of this number.
+    pub fn new(alloc: Global, command: &[u8], number: usize) -> Result<Run> {
+        Ok(Run {
+            words: words(alloc, command)?,
+            file: None,
+            script: Vec::new(alloc),
+            wanted: Vec::new(alloc),
+            numbers: Vec::new(alloc),
+            number,
+        })
+    }
+
+    /// The file that the words name.
+    fn file_name(&self) -> &str {
+        match self.words.as_slice() {
+            [_, file] => file.as_str(),
+            _ => "",
+        }
+    }
+
+    /// Gives the run more of its script.
+    pub fn give(&mut self, text: &[u8], end: &[u8]) -> Result<(), AllocError> {
+        self.script.extend_from_slice(text)?;
+        self.script.extend_from_slice(end)
+    }
+
+    /// Wants a line to be printed, which is the transcript's line of this number.
+    pub fn want(&mut self, line: &[u8], number: usize) -> Result<(), AllocError> {
+        self.wanted.extend_from_slice(line)?;
+        self.wanted.push(b'\n')?;
+        self.numbers.push(number)?;
+        Ok(())
+    }
+
+    /// Takes a line out of the settings file.
+    pub fn take_out<R: Files + AllocGlobal>(&mut self, rt: &R, line: &[u8]) -> Result<bool> {
+        let mut file = self.changed(rt)?;
+        let is_there = file.take_out(line);
+        self.file = Some(file);
+        Ok(is_there)
+    }
+
+    /// Puts a line into the settings file.
+    pub fn put_in<R: Files + AllocGlobal>(&mut self, rt: &R, line: &[u8]) -> Result<()> {
+        let mut file = self.changed(rt)?;
+        file.put_in(rt.alloc(), line)?;
+        self.file = Some(file);
+        Ok(())
+    }
+
+    /// The settings file with the changes so far, which is moved out.
+    fn changed<R: Files + AllocGlobal>(&mut self, rt: &R) -> Result<ChangedFile> {
+        match self.file.take() {
+            Some(file) => Ok(file),
+            None => {
+                let octets = fs::read(rt, self.file_name())?;
+                Ok(ChangedFile::new(rt.alloc(), octets.as_slice())?)
+            }
+        }
+    }
+
+    /// What the program prints in this run.
+    fn printed<R: Files + AllocGlobal>(&self, rt: &R) -> Result<Vec<u8>, AllocError>
+        ensures { IfOk result (λ printed.
+            IsPrinted self.now.words.items self.now.script.items printed.items) }
+    {
+        let alloc = rt.alloc();
+        let words = self.words.as_slice();
+        let script = self.script.as_slice();
+        match &self.file {
+            None => printed(alloc, words, &Disk::new(rt), script),
+            Some(file) => {
+                let octets = file.octets(alloc)?;
+                let folder = OneFile {
+                    name: self.file_name(),
+                    octets: octets.as_slice(),
+                };
+                printed(alloc, words, &folder, script)
+            }
+        }
+    }
+
+    /// Runs the program, and compares what it prints with what it is to print.
+    pub fn finish<R: Files + AllocGlobal>(&self, rt: &R) -> Result<()>
+        ensures { OnOk result (IsPrinted self.now.words.items self.now.script.items self.now.wanted.items) }
+    {
+        let printed = self.printed(rt)?;
+        self.compare(printed.as_slice())
+    }
+
+    /// Compares what is printed with what is to be printed.
+    fn compare(&self, printed: &[u8]) -> Result<()>
+        ensures { IsOk result ↔ (self.now.wanted.items ≡ printed.now) }
+    {
+        let Some(place) = first_difference(self.wanted.as_slice(), printed) else {
+            return Ok(());
+        };
+        let number = self.numbers.get(place).copied().unwrap_or(self.number);
+        let line = str::from_utf8(line_at(printed, place)).unwrap_or("what is no text");
+        bail!("line {number}: the program prints {line}")
+    }
+}
+
+/// The words of a command, without the program's name.
+fn words(alloc: Global, command: &[u8]) -> Result<Vec<String>> {
+    let mut words = Vec::new(alloc);
+    for word in str::from_utf8(command)?.split(' ').skip(1) {
+        words.push(String::from_str(alloc, word)?)?;
+    }
+    Ok(words)
+}
+
+/// What the program prints of a script, with its exit status where that isn't 0.
+fn printed<F: Folder>(
+    alloc: Global,
+    words: &[String],
+    folder: &F,
+    script: &[u8],
+) -> Result<Vec<u8>, AllocError>
+    ensures { IfOk result (λ printed. Prints (asked words.now) (F.reads folder.now) script.now printed.items) }
+{
+    let mut reader = MemorySource::new(script);
+    let mut writer = MemorySink::new(alloc);
+    let status = run_program(alloc, words, folder, &mut reader, &mut writer);
+    let mut printed = Vec::from_slice(alloc, writer.written())?;
+    printed.extend_from_slice(status_line(status))?;
+    Ok(printed)
+}
+
+/// The line that tells an exit status: `[3]`, and nothing for 0.
+fn status_line(status: Status) -> &'static [u8]
+    ensures { result.now ≡ status_line status }
+{
+    match status {
+        Status::Done => b"",
+        Status::Usage => b"[1]\n",
+        Status::Start => b"[2]\n",
+        Status::Line => b"[3]\n",
+        Status::Stream => b"[4]\n",
+    }
+}
