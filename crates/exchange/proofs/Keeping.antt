@@ -244,7 +244,7 @@ module _ {P Q : Type 0} (p : QueueKind P) (q : QueueKind Q) (h : P → Q) (IsFit
   run_due-kept (Some t) n f = run_timer-kept t n f
 
   run_next-kept : (n : Node P) → IsFit n.queues → KeepsNode (run_next q c (keep h n)) (run_next p c n)
-  run_next-kept n f = run_due-kept (due_name n.parts.timers.timers) (with_timers n (after_due n.parts.timers)) f
+  run_next-kept n f = run_due-kept (due_name n.parts.timers) (with_timers n (after_due n.parts.timers)) f
 
   run_times-kept : (many : ℕ) (n : Node P) → IsFit n.queues → KeepsNode (run_times q c many (keep h n)) (run_times p c many n)
   run_times-kept zero n f = record { same = refl; fit = f }
@@ -255,7 +255,7 @@ module _ {P Q : Type 0} (p : QueueKind P) (q : QueueKind Q) (h : P → Q) (IsFit
   tick-kept : (n : Node P) → IsFit n.queues → Keeps (tick q c (keep h n)) (tick p c n)
   tick-kept n f =
       let m : Node P = with_timers n (ticked n.parts.timers) in
-      answered _ _ _ (run_times-kept (due_count m.parts.timers.timers) m f)
+      answered _ _ _ (run_times-kept (due_count m.parts.timers) m f)
 
   -- ---- frames
 

@@ -7,7 +7,7 @@ use Rattle.signalling_types.specs.declared.notice.Notice.{Notice}
 use Rattle.link_sequence.specs.Queue.{IsQueue, first_queue}
 use Rattle.link_sequence.specs.Counts.{Counts, counts_of, unconfirmed, kept_first}
 use Rattle.link_sequence.proofs.Sound.{sound-first}
-use Rattle.timer_wheel.specs.Timers.{Running}
+use Rattle.timer_wheel.specs.Timers.{Running, none_running}
 use Rattle.exchange.specs.Link.{Link}
 use Rattle.exchange.specs.State.{Node, Done, keep}
 use Rattle.exchange.specs.LinkState.{down_link}
@@ -60,7 +60,7 @@ stands-first c k h e = record {
 
 -- the parts that boot makes
 pub first-kept : (c : Configuration) (n : ℕ) (lanes : List (List Message)) (counts : List Counts) (links : List Link) (timers : Running) (notices : List Notice)
-    → n ≡ length c.links → lanes ≡ replicate n [] → counts ≡ replicate n kept_first → links ≡ replicate n down_link → timers ≡ record { counts = counts_in c; timers = [] } → notices ≡ []
+    → n ≡ length c.links → lanes ≡ replicate n [] → counts ≡ replicate n kept_first → links ≡ replicate n down_link → timers ≡ none_running (counts_in c) → notices ≡ []
     → record { settings = c; node = record { queues = record { lanes = lanes; counts = counts }; parts = record { links = links; timers = timers; notices = notices } } } ≡ kept_of (first_state c)
 first-kept c n lanes counts links timers notices e l k d t o =
     rw (l, k, d, t, o, e, map-replicate unconfirmed (length c.links) first_queue, map-replicate counts_of (length c.links) first_queue)

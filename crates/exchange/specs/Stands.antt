@@ -2,6 +2,7 @@
 use Rattle.std.specs.Prelude.{◌≡◌, ℕ, List, [], map, length, replicate}
 use Rattle.settings_rows.specs.Configuration.{Configuration}
 use Rattle.timer_wheel.specs.declared.name.NodeCounts.{NodeCounts}
+use Rattle.timer_wheel.specs.Timers.{none_running}
 use Rattle.link_sequence.specs.Queue.{Queue, IsQueue, first_queue}
 use Rattle.link_sequence.specs.Counts.{counts_of, unconfirmed}
 use Rattle.exchange.specs.State.{Parts, State, keep}
@@ -42,7 +43,7 @@ counts_in c = record { links = length c.links; sets = length c.sets; destination
 abbrev pub first_parts : Configuration → Parts
 first_parts c = record {
   links = replicate (length c.links) down_link;
-  timers = record { counts = counts_in c; timers = [] };
+  timers = none_running (counts_in c);
   notices = [];
 }
 

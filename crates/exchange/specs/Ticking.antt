@@ -37,7 +37,7 @@ module _ {Q : Type 0} (q : QueueKind Q) (c : Configuration) where
   -- the first timer that is due stops, and runs
   abbrev pub run_next : Node Q → Node Q
   run_next node =
-      run_due (due_name node.parts.timers.timers) (with_timers node (after_due node.parts.timers))
+      run_due (due_name node.parts.timers) (with_timers node (after_due node.parts.timers))
 
   -- as many times; once nothing is due, nothing runs
   abbrev pub run_times : ℕ → Node Q → Node Q
@@ -46,7 +46,7 @@ module _ {Q : Type 0} (q : QueueKind Q) (c : Configuration) where
 
   -- as many run as are due when the tick begins, but for those that an earlier one stopped or set
   abbrev pub run_all : Node Q → Node Q
-  run_all node = run_times (due_count node.parts.timers.timers) node
+  run_all node = run_times (due_count node.parts.timers) node
 
   abbrev pub tick : Node Q → Done Q
   tick node = answer Handled (run_all (with_timers node (ticked node.parts.timers)))

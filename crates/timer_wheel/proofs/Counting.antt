@@ -8,7 +8,7 @@ use Rattle.timer_wheel.specs.declared.name.TimerName.{TimerName}
 use Rattle.timer_wheel.specs.declared.name.TimerName.TheVariants.{L1, L2, L3, L4, L6, L7, T1, T2, T3, T4, T6, T8, T10}
 use Rattle.timer_wheel.specs.declared.name.Key.{Key}
 use Rattle.timer_wheel.specs.declared.name.NodeCounts.{NodeCounts}
-use Rattle.timer_wheel.specs.declared.timers.Timer.{Timer}
+use Rattle.timer_wheel.specs.declared.named.Timer.{Timer}
 use Rattle.timer_wheel.specs.Names.{key, key_of, is_key_before, has_name, count_of}
 use Rattle.timer_wheel.specs.Kept.{AreAfter, DoRise, AreNamed}
 

@@ -3,24 +3,24 @@ use Rattle.std.proofs.Common.{◌≡◌, ℕ, ◌+◌, ◌<◌, ◌≤◌, Bool,
 use Rattle.std.specs.Prelude.{Option, Some, find}
 use Rattle.std.specs.Option.{option_map, option_map_or}
 use Rattle.timer_wheel.specs.declared.name.TimerName.{TimerName}
-use Rattle.timer_wheel.specs.declared.timers.Timer.{Timer}
+use Rattle.timer_wheel.specs.declared.named.Timer.{Timer}
 use Rattle.timer_wheel.specs.Names.{is_before, has_name}
-use Rattle.timer_wheel.specs.Timers.{before, after, cleared, started, is_due, due_name, due_count, Running, set_timer, clear_timer, after_due}
+use Rattle.timer_wheel.specs.Named.{before, after, cleared, started, is_due, first_named, count_named, Named, set_named, clear_named, after_named}
 use Rattle.timer_wheel.proofs.Order.{before-asym, before-itself}
 
 -- what one timer adds
 abbrev one : Timer → ℕ
 one t = cond (is_due t) 1 0
 
-due_count-append : (xs ys : List Timer) → due_count (xs ++ ys) ≡ due_count xs + due_count ys
-due_count-append [] ys = omega arith
-due_count-append (x ∷ xs) ys =
-    let rest = due_count-append xs ys in
-    let goal : one x + due_count (xs ++ ys) ≡ (one x + due_count xs) + due_count ys = omega (arith, rest) in
+count_named-append : (xs ys : List Timer) → count_named (xs ++ ys) ≡ count_named xs + count_named ys
+count_named-append [] ys = omega arith
+count_named-append (x ∷ xs) ys =
+    let rest = count_named-append xs ys in
+    let goal : one x + count_named (xs ++ ys) ≡ (one x + count_named xs) + count_named ys = omega (arith, rest) in
     goal
 
 -- an element that a filter keeps counts once, and else not at all
-kept : (b : Bool) (t : Timer) (ts : List Timer) → due_count (cond b (t ∷ ts) ts) ≡ cond b (one t) 0 + due_count ts
+kept : (b : Bool) (t : Timer) (ts : List Timer) → count_named (cond b (t ∷ ts) ts) ≡ cond b (one t) 0 + count_named ts
 kept true t ts = refl
 kept false t ts = omega arith
 
@@ -31,7 +31,7 @@ at_most_once false true n apart = omega arith
 at_most_once false false n apart = omega arith
 
 abbrev parts : TimerName → List Timer → ℕ
-parts name ts = due_count (before name ts) + due_count (after name ts)
+parts name ts = count_named (before name ts) + count_named (after name ts)
 
 parts-cons : (name : TimerName) (t : Timer) (ts : List Timer)
     → parts name (t ∷ ts) ≡ (cond (is_before t.name name) (one t) 0 + cond (is_before name t.name) (one t) 0) + parts name ts
@@ -40,20 +40,20 @@ parts-cons name t ts =
     let a = kept (is_before name t.name) t (after name ts) in
     omega (arith, a, b)
 
-parts-le : (name : TimerName) (ts : List Timer) → parts name ts ≤ due_count ts
+parts-le : (name : TimerName) (ts : List Timer) → parts name ts ≤ count_named ts
 parts-le name [] = let goal : 0 + 0 ≤ 0 = omega arith in goal
 parts-le name (t ∷ ts) =
     let rest = parts-le name ts in
     let here = at_most_once (is_before t.name name) (is_before name t.name) (one t) (before-asym t.name name) in
     let split = parts-cons name t ts in
-    let goal : parts name (t ∷ ts) ≤ one t + due_count ts = omega (arith, rest, here, split) in
+    let goal : parts name (t ∷ ts) ≤ one t + count_named ts = omega (arith, rest, here, split) in
     goal
 
 -- the first that is due is in neither part
-parts-due : (name : TimerName) (ts : List Timer) → due_name ts ≡ Some name → parts name ts + 1 ≤ due_count ts
+parts-due : (name : TimerName) (ts : List Timer) → first_named ts ≡ Some name → parts name ts + 1 ≤ count_named ts
 parts-due name [] e = absurd cc
 parts-due name (t ∷ ts) e =
-    elim (is_due t) as (λ b. is_due t ≡ b → option_map (λ t. t.name) (cond b (Some t) (find is_due ts)) ≡ Some name → parts name (t ∷ ts) + 1 ≤ one t + due_count ts) [
+    elim (is_due t) as (λ b. is_due t ≡ b → option_map (λ t. t.name) (cond b (Some t) (find is_due ts)) ≡ Some name → parts name (t ∷ ts) + 1 ≤ one t + count_named ts) [
       | true ↦ λ due is.
           let same : t.name ≡ name = cc in
           let no_b : is_before t.name name ≡ false = ap (λ n. is_before n name) same ∙ before-itself name in
@@ -71,34 +71,34 @@ parts-due name (t ∷ ts) e =
           omega (arith, rest, here, split)
     ] refl e
 
-cleared-parts : (name : TimerName) (ts : List Timer) → due_count (cleared name ts) ≡ parts name ts
-cleared-parts name ts = due_count-append (before name ts) (after name ts)
+cleared-parts : (name : TimerName) (ts : List Timer) → count_named (cleared name ts) ≡ parts name ts
+cleared-parts name ts = count_named-append (before name ts) (after name ts)
 
-pub clear-due : (name : TimerName) (r : Running) → due_count (clear_timer name r).timers ≤ due_count r.timers
+pub clear-due : (name : TimerName) (r : Named) → count_named (clear_named name r).timers ≤ count_named r.timers
 clear-due name r = omega (arith, cleared-parts name r.timers, parts-le name r.timers)
 
 -- a timer that is set has a tick left
 not_due : (name : TimerName) (ticks : ℕ) → one (record { name = name; left = max 1 ticks }) ≡ 0
 not_due name ticks = grind arith
 
-started-due : (name : TimerName) (ticks : ℕ) (ts : List Timer) → due_count (started (record { name = name; left = max 1 ticks }) ts) ≤ due_count ts
+started-due : (name : TimerName) (ticks : ℕ) (ts : List Timer) → count_named (started (record { name = name; left = max 1 ticks }) ts) ≤ count_named ts
 started-due name ticks ts =
     let timer : Timer = record { name = name; left = max 1 ticks } in
-    let all = due_count-append (before name ts) (timer ∷ after name ts) in
+    let all = count_named-append (before name ts) (timer ∷ after name ts) in
     let idle = not_due name ticks in
     let rest = parts-le name ts in
-    let goal : due_count (before name ts ++ timer ∷ after name ts) ≤ due_count ts = omega (arith, all, idle, rest) in
+    let goal : count_named (before name ts ++ timer ∷ after name ts) ≤ count_named ts = omega (arith, all, idle, rest) in
     goal
 
-pub set-due : (name : TimerName) (ticks : ℕ) (r : Running) → due_count (set_timer name ticks r).timers ≤ due_count r.timers
+pub set-due : (name : TimerName) (ticks : ℕ) (r : Named) → count_named (set_named name ticks r).timers ≤ count_named r.timers
 set-due name ticks r =
-    elim (has_name r.counts name) as (λ b. due_count (cond b (record r { timers = started (record { name = name; left = max 1 ticks }) r.timers }) r).timers ≤ due_count r.timers) [
+    elim (has_name r.counts name) as (λ b. count_named (cond b (record r { timers = started (record { name = name; left = max 1 ticks }) r.timers }) r).timers ≤ count_named r.timers) [
       | true ↦ started-due name ticks r.timers
-      | false ↦ (let goal : due_count r.timers ≤ due_count r.timers = omega arith in goal)
+      | false ↦ (let goal : count_named r.timers ≤ count_named r.timers = omega arith in goal)
     ]
 
-pub take-due : (name : TimerName) (r : Running) → due_name r.timers ≡ Some name → due_count (after_due r).timers < due_count r.timers
+pub take-due : (name : TimerName) (r : Named) → first_named r.timers ≡ Some name → count_named (after_named r).timers < count_named r.timers
 take-due name r e =
-    let left : after_due r ≡ clear_timer name r = ap (λ (o : Option TimerName). option_map_or (λ name. clear_timer name r) o r) e in
-    let count : due_count (after_due r).timers ≡ due_count (cleared name r.timers) = ap (λ (s : Running). due_count s.timers) left in
+    let left : after_named r ≡ clear_named name r = ap (λ (o : Option TimerName). option_map_or (λ name. clear_named name r) o r) e in
+    let count : count_named (after_named r).timers ≡ count_named (cleared name r.timers) = ap (λ (s : Named). count_named s.timers) left in
     omega (arith, count, cleared-parts name r.timers, parts-due name r.timers e)

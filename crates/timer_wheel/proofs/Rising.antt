@@ -7,9 +7,9 @@ use Rattle.std.specs.Option.{option_map, option_map_or}
 use Rattle.std.specs.List.{AllByRecursion, position_or_len}
 use Rattle.timer_wheel.specs.declared.name.TimerName.{TimerName}
 use Rattle.timer_wheel.specs.declared.name.NodeCounts.{NodeCounts}
-use Rattle.timer_wheel.specs.declared.timers.Timer.{Timer}
+use Rattle.timer_wheel.specs.declared.named.Timer.{Timer}
 use Rattle.timer_wheel.specs.Names.{is_before, has_name}
-use Rattle.timer_wheel.specs.Timers.{before, after, cleared, started, lowered, is_due, due_name, Running, set_timer, clear_timer, after_due}
+use Rattle.timer_wheel.specs.Named.{before, after, cleared, started, lowered, is_due, first_named, Named, set_named, clear_named, after_named}
 use Rattle.timer_wheel.specs.Kept.{AreAfter, DoRise, AreNamed}
 use Rattle.timer_wheel.specs.Lists.{without_due, is_found}
 use Rattle.timer_wheel.proofs.Elements.{all-filter, all-append, all-without, passes, filter-all, filter-none, filter-append, all-weaker}
@@ -174,7 +174,7 @@ cleared-here t ts k =
     λ i. none i ++ rest i
 
 -- what is due in a list comes behind what all of the list comes behind
-due_after : (name other : TimerName) (ts : List Timer) → AreAfter name ts → due_name ts ≡ Some other → is_before name other ≡ true
+due_after : (name other : TimerName) (ts : List Timer) → AreAfter name ts → first_named ts ≡ Some other → is_before name other ≡ true
 due_after name other [] h e = absurd cc
 due_after name other (t ∷ ts) h e =
     elim (is_due t) as (λ b. option_map (λ t. t.name) (cond b (Some t) (find is_due ts)) ≡ Some other → is_before name other ≡ true) [
@@ -185,43 +185,43 @@ due_after name other (t ∷ ts) h e =
 abbrev pub left_after : Option TimerName → List Timer → List Timer
 left_after o ts = option_map_or (λ name. cleared name ts) o ts
 
-left-behind : (t : Timer) (ts : List Timer) (o : Option TimerName) → AreAfter t.name ts → due_name ts ≡ o → left_after o (t ∷ ts) ≡ t ∷ left_after o ts
+left-behind : (t : Timer) (ts : List Timer) (o : Option TimerName) → AreAfter t.name ts → first_named ts ≡ o → left_after o (t ∷ ts) ≡ t ∷ left_after o ts
 left-behind t ts None h e = refl
 left-behind t ts (Some name) h e = cleared-behind name t ts (due_after t.name name ts h e)
 
 -- to take out the first that is due is to stop it
-pub left-without_due : (ts : List Timer) → DoRise ts → left_after (due_name ts) ts ≡ without_due ts
+pub left-without_due : (ts : List Timer) → DoRise ts → left_after (first_named ts) ts ≡ without_due ts
 left-without_due [] r = refl
 left-without_due (t ∷ ts) r =
     elim (is_due t) as (λ b. left_after (option_map (λ t. t.name) (cond b (Some t) (find is_due ts))) (t ∷ ts) ≡ cond b ts (t ∷ without_due ts)) [
       | true ↦ cleared-here t ts r.0
-      | false ↦ left-behind t ts (due_name ts) r.0 refl ∙ ap (λ (us : List Timer). t ∷ us) (left-without_due ts r.1)
+      | false ↦ left-behind t ts (first_named ts) r.0 refl ∙ ap (λ (us : List Timer). t ∷ us) (left-without_due ts r.1)
     ]
 
 pub rise-without_due : (ts : List Timer) → DoRise ts → DoRise (without_due ts)
 rise-without_due ts r =
     subst DoRise (left-without_due ts r)
-    (elim (due_name ts) as (λ o. DoRise (left_after o ts)) [ None ↦ r | Some name ↦ rise-cleared name ts r ])
+    (elim (first_named ts) as (λ o. DoRise (left_after o ts)) [ None ↦ r | Some name ↦ rise-cleared name ts r ])
 
 pub named-without_due : (n : NodeCounts) (ts : List Timer) → DoRise ts → AreNamed n ts → AreNamed n (without_due ts)
 named-without_due n ts r h =
     subst (AreNamed n) (left-without_due ts r)
-    (elim (due_name ts) as (λ o. AreNamed n (left_after o ts)) [ None ↦ h | Some name ↦ named-cleared n name ts h ])
+    (elim (first_named ts) as (λ o. AreNamed n (left_after o ts)) [ None ↦ h | Some name ↦ named-cleared n name ts h ])
 
 -- the first that is due stands where a search for it ends
 pub record DueAt (ts : List Timer) (n : ℕ) (d : Timer) : Type 0 where
-  pub found : n < length ts → (Some (get_or ts n d).name ≡ due_name ts) × (remove ts n ≡ without_due ts)
-  pub missed : length ts ≤ n → (None ≡ due_name ts) × (ts ≡ without_due ts)
+  pub found : n < length ts → (Some (get_or ts n d).name ≡ first_named ts) × (remove ts n ≡ without_due ts)
+  pub missed : length ts ≤ n → (None ≡ first_named ts) × (ts ≡ without_due ts)
 
 due-here : (t : Timer) (ts : List Timer) (d : Timer) → is_due t ≡ true → DueAt (t ∷ ts) 0 d
 due-here t ts d e =
-    let name : due_name (t ∷ ts) ≡ Some t.name = ap (λ b. option_map (λ t. t.name) (cond b (Some t) (find is_due ts))) e in
+    let name : first_named (t ∷ ts) ≡ Some t.name = ap (λ b. option_map (λ t. t.name) (cond b (Some t) (find is_due ts))) e in
     let rest : without_due (t ∷ ts) ≡ ts = ap (λ b. cond b ts (t ∷ without_due ts)) e in
     record { found = λ l. (sym name, sym rest); missed = λ l. absurd (omega arith) }
 
 due-behind : (t : Timer) (ts : List Timer) (n : ℕ) (d : Timer) → is_due t ≡ false → DueAt ts n d → DueAt (t ∷ ts) (suc n) d
 due-behind t ts n d e s =
-    let name : due_name (t ∷ ts) ≡ due_name ts = ap (λ b. option_map (λ t. t.name) (cond b (Some t) (find is_due ts))) e in
+    let name : first_named (t ∷ ts) ≡ first_named ts = ap (λ b. option_map (λ t. t.name) (cond b (Some t) (find is_due ts))) e in
     let rest : without_due (t ∷ ts) ≡ t ∷ without_due ts = ap (λ b. cond b ts (t ∷ without_due ts)) e in
     record {
       found = λ l. let f = s.found (omega arith) in (f.0 ∙ sym name, ap (λ (us : List Timer). t ∷ us) f.1 ∙ sym rest);
@@ -242,29 +242,29 @@ tested : (n m : ℕ) (o : Option ℕ) → o ≡ cond (nat_lt n m) (Some n) None 
 tested n m None e = grind (arith, nat_tests, e)
 tested n m (Some i) e = (grind (arith, nat_tests, e), grind (arith, nat_tests, e))
 
-pub position-none : (ts : List Timer) → None ≡ position is_due ts → (None ≡ due_name ts) × (ts ≡ without_due ts)
+pub position-none : (ts : List Timer) → None ≡ position is_due ts → (None ≡ first_named ts) × (ts ≡ without_due ts)
 position-none [] e = (refl, refl)
 position-none (t ∷ ts) e = (due_at (t ∷ ts) t).missed (tested (position_or_len is_due (t ∷ ts)) (length (t ∷ ts)) None e)
 
-pub position-some : (ts : List Timer) (i : ℕ) (d : Timer) → Some i ≡ position is_due ts → (Some (get_or ts i d).name ≡ due_name ts) × (remove ts i ≡ without_due ts)
+pub position-some : (ts : List Timer) (i : ℕ) (d : Timer) → Some i ≡ position is_due ts → (Some (get_or ts i d).name ≡ first_named ts) × (remove ts i ≡ without_due ts)
 position-some ts i d e =
     let f = tested (position_or_len is_due ts) (length ts) (Some i) e in
-    subst (λ n. (Some (get_or ts n d).name ≡ due_name ts) × (remove ts n ≡ without_due ts)) (sym f.0) ((due_at ts d).found f.1)
+    subst (λ n. (Some (get_or ts n d).name ≡ first_named ts) × (remove ts n ≡ without_due ts)) (sym f.0) ((due_at ts d).found f.1)
 
 -- ---- the timers of a node
 
-abbrev pub running : NodeCounts → List Timer → Running
+abbrev pub running : NodeCounts → List Timer → Named
 running n ts = record { counts = n; timers = ts }
 
 pub set-there : (n : NodeCounts) (name : TimerName) (ticks : ℕ) (ts new : List Timer) → has_name n name ≡ true → new ≡ started (record { name = name; left = max 1 ticks }) ts
-    → running n new ≡ set_timer name ticks (running n ts)
+    → running n new ≡ set_named name ticks (running n ts)
 set-there n name ticks ts new h e =
     ap (running n) e ∙ sym (ap (λ b. cond b (running n (started (record { name = name; left = max 1 ticks }) ts)) (running n ts)) h)
 
-pub without_due-after : (n : NodeCounts) (ts new : List Timer) → DoRise ts → new ≡ without_due ts → running n new ≡ after_due (running n ts)
+pub without_due-after : (n : NodeCounts) (ts new : List Timer) → DoRise ts → new ≡ without_due ts → running n new ≡ after_named (running n ts)
 without_due-after n ts new r e =
     ap (running n) (e ∙ sym (left-without_due ts r))
-    ∙ elim (due_name ts) as (λ o. running n (left_after o ts) ≡ option_map_or (λ name. clear_timer name (running n ts)) o (running n ts)) [ None ↦ refl | Some name ↦ refl ]
+    ∙ elim (first_named ts) as (λ o. running n (left_after o ts) ≡ option_map_or (λ name. clear_named name (running n ts)) o (running n ts)) [ None ↦ refl | Some name ↦ refl ]
 
 pub length-started : (timer : Timer) (ts : List Timer) → length (started timer ts) ≡ length (cleared timer.name ts) + 1
 length-started timer ts =

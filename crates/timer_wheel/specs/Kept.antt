@@ -3,12 +3,12 @@ use Rattle.std.specs.Prelude.{◌≡◌, ◌≤◌, true, List, [], ◌∷◌, v
 use Rattle.std.specs.List.{AllByRecursion}
 use Rattle.timer_wheel.specs.declared.name.TimerName.{TimerName}
 use Rattle.timer_wheel.specs.declared.name.NodeCounts.{NodeCounts}
-use Rattle.timer_wheel.specs.declared.timers.Timer.{Timer}
-use Rattle.timer_wheel.specs.declared.timers.Timers.TheInside.{Inside}
+use Rattle.timer_wheel.specs.declared.named.Timer.{Timer}
+use Rattle.timer_wheel.specs.declared.named.NamedTimers.TheInside.{Inside}
 use Rattle.timer_wheel.specs.Names.{is_before, has_name, count_of}
-use Rattle.timer_wheel.specs.Timers.{Running}
+use Rattle.timer_wheel.specs.Named.{Named}
 
-abbrev pub running_in : Inside → Running
+abbrev pub running_in : Inside → Named
 running_in s = record { counts = s.counts; timers = s.running.items }
 
 -- each timer's name comes after this one

@@ -1,4 +1,7 @@
 pub mod Names
-pub mod Timers
+pub mod Named
 pub mod Kept
 pub mod Lists
+pub mod Table
+pub mod TableRoom
+pub mod Timers

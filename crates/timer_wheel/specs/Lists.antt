@@ -3,8 +3,8 @@ use Rattle.std.specs.Prelude.{ℕ, Bool, false, not, List, [], ◌∷◌, if◌t
 use Rattle.std.specs.Option.{option_map_or}
 use Rattle.timer_wheel.specs.declared.name.TimerName.{TimerName}
 use Rattle.timer_wheel.specs.Names.{is_before}
-use Rattle.timer_wheel.specs.declared.timers.Timer.{Timer}
-use Rattle.timer_wheel.specs.Timers.{is_due}
+use Rattle.timer_wheel.specs.declared.named.Timer.{Timer}
+use Rattle.timer_wheel.specs.Named.{is_due}
 
 -- the timers without the first that is due
 abbrev pub without_due : List Timer → List Timer

@@ -1,66 +1,60 @@
--- The timers that run: a finite map from names to the ticks that are left, as the list of its entries in name order.
-use Rattle.std.specs.Prelude.{ℕ, ◌+◌, ◌-◌, Bool, List, [], ◌∷◌, ◌++◌, map, filter, find, Option, ◌==◌, max, if◌then◌else◌}
-use Rattle.std.specs.Option.{option_map, option_map_or}
+-- The timers that run: a finite map from names to the ticks that are left, as a table for links and a list for the others.
+use Rattle.std.specs.Prelude.{ℕ, ◌+◌, ◌*◌, [], replicate, Option, Some, None, max}
 use Rattle.timer_wheel.specs.declared.name.TimerName.{TimerName}
 use Rattle.timer_wheel.specs.declared.name.NodeCounts.{NodeCounts}
-use Rattle.timer_wheel.specs.declared.timers.Timer.{Timer}
-use Rattle.timer_wheel.specs.Names.{is_before, has_name}
-
--- the timers whose names come before a name
-abbrev pub before : TimerName → List Timer → List Timer
-before name timers = filter (λ t. is_before t.name name) timers
-
--- the timers whose names come after it
-abbrev pub after : TimerName → List Timer → List Timer
-after name timers = filter (λ t. is_before name t.name) timers
-
--- no timer of this name runs
-abbrev pub cleared : TimerName → List Timer → List Timer
-cleared name timers = before name timers ++ after name timers
-
--- the timer of this name runs, and forgets what it was set to before
-abbrev pub started : Timer → List Timer → List Timer
-started timer timers = before timer.name timers ++ timer ∷ after timer.name timers
-
--- a timer with one tick less
-abbrev pub lowered : Timer → Timer
-lowered t = record t { left = t.left - 1 }
-
--- a timer is due where no tick is left
-abbrev pub is_due : Timer → Bool
-is_due t = t.left == 0
-
--- the first name that is due
-abbrev pub due_name : List Timer → Option TimerName
-due_name timers = option_map (λ t. t.name) (find is_due timers)
-
--- ---- the timers of a node
+use Rattle.timer_wheel.specs.declared.name.LinkPlace.{LinkPlace}
+use Rattle.timer_wheel.specs.Names.{place_of, name_at}
+use Rattle.timer_wheel.specs.Table.{Table, with_link_left, with_left, ticked_table, due_place, count_places}
+use Rattle.timer_wheel.specs.Named.{Named, set_named, clear_named, ticked_named, first_named, after_named, count_named}
 
 pub record Running : Type 0 where
-  pub counts : NodeCounts
-  pub timers : List Timer
+  pub links : Table
+  pub others : Named
+
+-- no timer runs
+abbrev pub none_running : NodeCounts → Running
+none_running n = record {
+  links = record { links = n.links; left = replicate (9 * n.links) None };
+  others = record { counts = n; timers = [] };
+}
 
 -- a timer runs out after so many ticks, at the next one where that is 0; a name that the node doesn't have is left
 -- aside
-abbrev pub set_timer : TimerName → ℕ → Running → Running
-set_timer name ticks r =
-    if has_name r.counts name
-    then record r { timers = started (record { name = name; left = max 1 ticks }) r.timers }
-    else r
+abbrev pub set_at : Option LinkPlace → TimerName → ℕ → Running → Running
+set_at (Some p) name ticks r = record r { links = with_link_left p.kind p.link (Some (max 1 ticks)) r.links }
+set_at None name ticks r = record r { others = set_named name ticks r.others }
+
+unfoldable pub set_timer : TimerName → ℕ → Running → Running
+set_timer name ticks r = set_at (place_of name) name ticks r
 
 -- a timer is stopped
-abbrev pub clear_timer : TimerName → Running → Running
-clear_timer name r = record r { timers = cleared name r.timers }
+abbrev pub clear_at : Option LinkPlace → TimerName → Running → Running
+clear_at (Some p) name r = record r { links = with_link_left p.kind p.link None r.links }
+clear_at None name r = record r { others = clear_named name r.others }
+
+unfoldable pub clear_timer : TimerName → Running → Running
+clear_timer name r = clear_at (place_of name) name r
 
 -- a tick lowers all timers
 abbrev pub ticked : Running → Running
-ticked r = record r { timers = map lowered r.timers }
+ticked r = record { links = ticked_table r.links; others = ticked_named r.others }
 
--- the timer that is due is handed out, and runs no longer
+-- the first name that is due: the timers of links come before the others
+abbrev pub due_by : Option ℕ → Running → Option TimerName
+due_by (Some place) r = Some (name_at r.links.links place)
+due_by None r = first_named r.others.timers
+
+abbrev pub due_name : Running → Option TimerName
+due_name r = due_by (due_place r.links) r
+
+-- it is handed out, and runs no longer
+abbrev pub after_due_by : Option ℕ → Running → Running
+after_due_by (Some place) r = record r { links = with_left place None r.links }
+after_due_by None r = record r { others = after_named r.others }
+
 abbrev pub after_due : Running → Running
-after_due r = option_map_or (λ name. clear_timer name r) (due_name r.timers) r
+after_due r = after_due_by (due_place r.links) r
 
 -- how many timers are due
-abbrev pub due_count : List Timer → ℕ
-due_count [] = 0
-due_count (t ∷ timers) = (if is_due t then 1 else 0) + due_count timers
+abbrev pub due_count : Running → ℕ
+due_count r = count_places r.links + count_named r.others.timers

@@ -4,10 +4,14 @@
 pub mod laws;
 mod list;
 pub mod name;
+pub mod named;
+pub mod table;
 pub mod timers;
 
 pub use name::{NodeCounts, TimerName};
-pub use timers::{Timer, Timers};
+pub use named::{NamedTimers, Timer};
+pub use table::LinkTimers;
+pub use timers::Timers;
 
 #[cfg(test)]
 mod tests;

@@ -1,12 +1,12 @@
 //! A list of timers in name order.
 
 ghost use Rattle.std.specs.Prelude.{◌≡◌, ◌<◌, ◌≤◌, filter, length, map, position, vec_capacity, vec_len};
-ghost use Rattle.timer_wheel.specs.Timers.{before, cleared, started, lowered, is_due, due_name};
+ghost use Rattle.timer_wheel.specs.Named.{before, cleared, started, lowered, is_due, first_named};
 ghost use Rattle.timer_wheel.specs.Kept.{DoRise};
 ghost use Rattle.timer_wheel.specs.Lists.{without_due, is_found};
 
 use crate::name::TimerName;
-use crate::timers::Timer;
+use crate::named::Timer;
 
 /// Puts a timer in its place, where none of its name stands and there is room.
 pub(crate) fn start(timers: &mut Vec<Timer>, timer: Timer)
@@ -44,7 +44,7 @@ pub(crate) fn lower(timers: &mut [Timer])
 
 /// Takes out the first timer that is due.
 pub(crate) fn take_due(timers: &mut Vec<Timer>) -> Option<TimerName>
-    ensures name { result ≡ due_name timers.old.items }
+    ensures name { result ≡ first_named timers.old.items }
     ensures timers { timers.new.items ≡ without_due timers.old.items }
     ensures room { vec_capacity timers.new ≡ vec_capacity timers.old }
 {
@@ -55,8 +55,9 @@ pub(crate) fn take_due(timers: &mut Vec<Timer>) -> Option<TimerName>
 }
 
 /// How many timers are due.
-pub(crate) fn due_count(timers: &[Timer]) -> usize
-    ensures { result ≡ length (filter is_due timers.now) }
+pub(crate) fn count_named(timers: &[Timer]) -> usize
+    ensures count { result ≡ length (filter is_due timers.now) }
+    ensures fits { result ≤ length timers.now }
 {
     timers.iter().filter(|timer| timer.left == 0).count()
 }

@@ -1,7 +1,7 @@
 //! The names of timers, and their order.
 
-ghost use Rattle.std.specs.Prelude.{◌≡◌};
-ghost use Rattle.timer_wheel.specs.Names.{key_of, is_before, has_name, count_of};
+ghost use Rattle.std.specs.Prelude.{◌≡◌, ◌≤◌};
+ghost use Rattle.timer_wheel.specs.Names.{key_of, is_before, has_name, count_of, place_of};
 
 use signalling_types::{LinkId, SetId};
 
@@ -49,6 +49,25 @@ impl TimerName {
                 && (one.row < other.row || one.row == other.row && one.column < other.column)
     }
 
+    /// The kind and the link of a timer of a link; none for the others.
+    pub(crate) fn place(&self) -> Option<LinkPlace>
+        ensures { result ≡ place_of self.now }
+    {
+        match *self {
+            TimerName::L1(link) => Some(LinkPlace::of(0, link)),
+            TimerName::L2(link) => Some(LinkPlace::of(1, link)),
+            TimerName::L3(link) => Some(LinkPlace::of(2, link)),
+            TimerName::L4(link) => Some(LinkPlace::of(3, link)),
+            TimerName::L6(link) => Some(LinkPlace::of(4, link)),
+            TimerName::L7(link) => Some(LinkPlace::of(5, link)),
+            TimerName::T1(link) => Some(LinkPlace::of(6, link)),
+            TimerName::T2(link) => Some(LinkPlace::of(7, link)),
+            TimerName::T3(link) => Some(LinkPlace::of(8, link)),
+            TimerName::T4(_, _) | TimerName::T6(_) | TimerName::T8(_, _) | TimerName::T10(_, _) =>
+                None,
+        }
+    }
+
     // What the order of names goes by.
     fn key(&self) -> Key
         ensures { result ≡ key_of self.now }
@@ -67,6 +86,24 @@ impl TimerName {
             TimerName::T6(destination) => Key::new(10, destination.into(), 0),
             TimerName::T8(set, destination) => Key::new(11, set.index(), destination.into()),
             TimerName::T10(set, destination) => Key::new(12, set.index(), destination.into()),
+        }
+    }
+}
+
+/// The kind of a timer of a link, numbered in name order, and its link.
+#[derive(Clone, Copy)]
+pub(crate) struct LinkPlace {
+    pub(crate) kind: u8,
+    pub(crate) link: usize,
+}
+
+impl LinkPlace {
+    fn of(kind: u8, link: LinkId) -> LinkPlace
+        ensures { result ≡ record { kind = kind; link = link } }
+    {
+        LinkPlace {
+            kind,
+            link: link.index(),
         }
     }
 }
@@ -97,7 +134,7 @@ impl Key {
 #[derive(Clone, Copy, PartialEq, Eq)]
 pub struct NodeCounts {
     /// Its links.
-    pub links: u16,
+    pub links: u8,
     /// Its link sets.
     pub sets: u16,
     /// Its destinations.
@@ -105,6 +142,9 @@ pub struct NodeCounts {
 }
 
 impl NodeCounts {
+    /// No node has more timers.
+    pub const MOST: usize = 0xffff_ffff_ffff;
+
     /// Changeback codes of one adjacent point (Q.704 §6).
     pub const CODES: u8 = 16;
 
@@ -133,7 +173,8 @@ impl NodeCounts {
 
     /// How many timers the node has, if all of them run.
     pub fn count(self) -> usize
-        ensures { result ≡ count_of self }
+        ensures count { result ≡ count_of self }
+        ensures fits { result ≤ NodeCounts.MOST }
     {
         let links = usize::from(self.links);
         let sets = usize::from(self.sets);

@@ -1,30 +1,24 @@
 //! The timers of a node.
 
-ghost use Rattle.std.specs.Prelude.{◌≡◌, [], IfOk, max};
-ghost use Rattle.timer_wheel.specs.Timers.{set_timer, clear_timer, ticked, due_name, due_count, after_due};
+ghost use Rattle.std.specs.Prelude.{◌≡◌, IfOk, max};
+ghost use Rattle.timer_wheel.specs.Timers.{none_running, set_timer, clear_timer, ticked};
+ghost use Rattle.timer_wheel.specs.Timers.{due_name, due_count, after_due};
 
-use crate::list::{due_count, lower, start, stop, take_due};
 use crate::name::{NodeCounts, TimerName};
+use crate::named::NamedTimers;
+use crate::table::LinkTimers;
 use std::alloc::{AllocError, Global};
 use std::marker::Model;
 
-/// A timer that runs.
-#[derive(Clone, Copy, PartialEq, Eq)]
-pub struct Timer {
-    /// What it is for.
-    pub name: TimerName,
-    /// The ticks that are left; 0 where it is due.
-    pub left: u16,
-}
-
 /// The timers of a node: a finite map from names to the ticks that are left.
 ///
-/// They are kept in a list, in name order, with room for all names that the node has. A tick costs the timers that
-/// run; so do setting and stopping one, and looking for the one that is due.
+/// The timers of links stand in a table: setting and stopping one is one write. The others stand in a list, in name
+/// order, with room for all names that the node has: setting and stopping one costs the others that run. A tick
+/// costs the table and that list.
 #[derive(Drop)]
 pub struct Timers {
-    counts: NodeCounts,
-    running: Vec<Timer>,
+    links: LinkTimers,
+    others: NamedTimers,
 }
 
 impl Model for Timers {
@@ -32,42 +26,44 @@ impl Model for Timers {
 
     ghost Value = { Running };
 
-    ghost use Rattle.timer_wheel.specs.Kept.{running_in, HasRoom};
-
-    ghost view = { running_in };
-
-    ghost invariant = { HasRoom };
+    ghost view = { λ t. record { links = t.links; others = t.others } };
 }
 
 impl Timers {
     /// The timers of a node with so many links, sets and destinations; none runs. Makes room for all that may run.
     pub fn new(alloc: Global, counts: NodeCounts) -> Result<Timers, AllocError>
-        ensures { IfOk result (λ timers. timers ≡ record { counts = counts; timers = [] }) }
+        ensures { IfOk result (λ timers. timers ≡ none_running counts) }
     {
         Ok(Timers {
-            counts,
-            running: Vec::with_capacity(alloc, counts.count())?,
+            links: LinkTimers::new(alloc, counts.links)?,
+            others: NamedTimers::new(alloc, counts)?,
         })
     }
 
     /// Starts a timer, which runs out after so many ticks, at the next one where that is 0. Where it runs already it
     /// starts anew, and forgets its old moment. A name of a link, set or destination that the node doesn't have is
     /// left aside.
+    #[tactic(auto, unfolding(crate::specs::Timers::set_timer))]
     pub fn set(&mut self, name: TimerName, ticks: u16)
         ensures { self.new ≡ set_timer name ticks self.old }
     {
-        if self.counts.has(&name) {
-            stop(&mut self.running, &name);
-            let left = at_least_one(ticks);
-            start(&mut self.running, Timer { name, left });
+        match name.place() {
+            Some(place) => self
+                .links
+                .put(place.kind, place.link, Some(at_least_one(ticks))),
+            None => self.others.set(name, ticks),
         }
     }
 
     /// Stops a timer, if it runs.
+    #[tactic(auto, unfolding(crate::specs::Timers::clear_timer))]
     pub fn clear(&mut self, name: TimerName)
         ensures { self.new ≡ clear_timer name self.old }
     {
-        stop(&mut self.running, &name);
+        match name.place() {
+            Some(place) => self.links.put(place.kind, place.link, None),
+            None => self.others.clear(name),
+        }
     }
 
     /// Lets one tick pass: each timer has one tick less, and is due where none is left. Take what is due before the
@@ -75,29 +71,32 @@ impl Timers {
     pub fn tick(&mut self)
         ensures { self.new ≡ ticked self.old }
     {
-        lower(&mut self.running);
+        self.links.tick();
+        self.others.tick();
     }
 
     /// How many timers are due.
-    #[tactic(auto, using(crate::proofs::DueCount::due_steps))]
     pub fn due_count(&self) -> usize
-        ensures { result ≡ due_count self.now.timers }
+        ensures { result ≡ due_count self.now }
     {
-        due_count(&self.running)
+        self.links.due_count() + self.others.due_count()
     }
 
     /// The first name that is due, in name order; it runs no longer. None where nothing is due. What was stopped or
     /// set since the tick isn't due.
     pub fn next_due(&mut self) -> Option<TimerName>
-        ensures name { result ≡ due_name self.old.timers }
+        ensures name { result ≡ due_name self.old }
         ensures timers { self.new ≡ after_due self.old }
     {
-        take_due(&mut self.running)
+        match self.links.take_due() {
+            Some(name) => Some(name),
+            None => self.others.next_due(),
+        }
     }
 }
 
 /// The ticks, or one where there are none.
-fn at_least_one(ticks: u16) -> u16
+pub(crate) fn at_least_one(ticks: u16) -> u16
     ensures { result ≡ max 1 ticks }
 {
     ticks.max(1)

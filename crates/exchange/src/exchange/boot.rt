@@ -68,7 +68,7 @@ fn counts_in(settings: &Settings) -> NodeCounts
     ensures { result ≡ counts_in settings.now }
 {
     NodeCounts {
-        links: settings.links().len() as u16,
+        links: settings.links().len() as u8,
         sets: settings.sets().len() as u16,
         destinations: settings.destinations().len() as u16,
     }

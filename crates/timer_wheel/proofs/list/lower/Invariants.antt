@@ -1,5 +1,5 @@
 use Rattle.std.proofs.Common.{◌≡◌, ◌++◌, map, take, drop}
-use Rattle.timer_wheel.specs.Timers.{lowered}
+use Rattle.timer_wheel.specs.Named.{lowered}
 use Rattle.timer_wheel.proofs.list.lower.Given as goal
 
 abbrev pub invariant-loop-timer : goal.invariant-loop-timer

@@ -1,7 +1,7 @@
 use Rattle.std.proofs.Common.{List, length, ap, ◌∙◌}
 use Rattle.std.specs.Prelude.{insert}
-use Rattle.timer_wheel.specs.declared.timers.Timer.{Timer}
-use Rattle.timer_wheel.specs.Timers.{before}
+use Rattle.timer_wheel.specs.declared.named.Timer.{Timer}
+use Rattle.timer_wheel.specs.Named.{before}
 use Rattle.timer_wheel.proofs.Rising.{put-started}
 use Rattle.timer_wheel.proofs.list.start.Goals as goal
 

@@ -1,7 +1,7 @@
 use Rattle.std.proofs.Common.{List, length, sym, ap, ◌∙◌}
 use Rattle.std.specs.Prelude.{remove}
-use Rattle.timer_wheel.specs.declared.timers.Timer.{Timer}
-use Rattle.timer_wheel.specs.Timers.{before}
+use Rattle.timer_wheel.specs.declared.named.Timer.{Timer}
+use Rattle.timer_wheel.specs.Named.{before}
 use Rattle.timer_wheel.specs.Lists.{is_found}
 use Rattle.timer_wheel.proofs.Rising.{stops_at}
 use Rattle.timer_wheel.proofs.list.stop.Goals as goal

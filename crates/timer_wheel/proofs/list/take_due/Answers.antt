@@ -1,7 +1,7 @@
 use Rattle.std.proofs.Common.{List, sym, ap, ◌∙◌}
 use Rattle.std.specs.Prelude.{Some, position}
-use Rattle.timer_wheel.specs.declared.timers.Timer.{Timer}
-use Rattle.timer_wheel.specs.Timers.{is_due}
+use Rattle.timer_wheel.specs.declared.named.Timer.{Timer}
+use Rattle.timer_wheel.specs.Named.{is_due}
 use Rattle.timer_wheel.proofs.Rising.{position-none, position-some}
 use Rattle.timer_wheel.proofs.list.take_due.Goals as goal
 

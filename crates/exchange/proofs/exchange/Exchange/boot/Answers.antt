@@ -1,6 +1,6 @@
 -- The parts are those of the first state.
-use Rattle.std.proofs.Common.{[], ap, ◌∙◌}
-use Rattle.timer_wheel.specs.declared.name.NodeCounts.{NodeCounts}
+use Rattle.std.proofs.Common.{ap, ◌∙◌}
+use Rattle.timer_wheel.specs.Timers.{none_running}
 use Rattle.cell_pool.specs.Stored.{Stored}
 use Rattle.exchange.proofs.Standing.{first-kept, stands-first}
 use Rattle.exchange.proofs.exchange.Exchange.boot.Goals as goal
@@ -8,7 +8,7 @@ use Rattle.exchange.proofs.exchange.Exchange.boot.Goals as goal
 pub returns-clause-exact : goal.returns-clause-exact
 returns-clause-exact c =
     first-kept c.args.settings c.link_count-count.result _ _ _ _ _ c.link_count-count.ensures.value (ap (λ (x : Stored). x.lists) c.in_ok-lanes.ensures) c.in_ok-sequences.ensures c.in_ok-links.ensures
-    (c.in_ok-timers.ensures ∙ ap (λ (x : NodeCounts). record { counts = x; timers = [] }) c.counts_in.ensures) (ap (λ x. x.items) c.in_ok-notices.ensures)
+    (c.in_ok-timers.ensures ∙ ap none_running c.counts_in.ensures) (ap (λ x. x.items) c.in_ok-notices.ensures)
 
 pub returns-clause-first : goal.returns-clause-first
 returns-clause-first c = stands-first c.args.settings _ c.window.ensures.fits (returns-clause-exact c)

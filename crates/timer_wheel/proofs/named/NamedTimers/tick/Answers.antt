@@ -1,9 +1,9 @@
 use Rattle.std.proofs.Common.{◌≡◌, length, map, sym, ap, subst, ◌∙◌}
 use Rattle.std.proofs.lemmas.List.{take_at}
 use Rattle.timer_wheel.specs.Kept.{DoRise, AreNamed}
-use Rattle.timer_wheel.specs.Timers.{lowered}
+use Rattle.timer_wheel.specs.Named.{lowered}
 use Rattle.timer_wheel.proofs.Rising.{rise-lowered, named-lowered, length-lowered}
-use Rattle.timer_wheel.proofs.timers.Timers.tick.Goals as goal
+use Rattle.timer_wheel.proofs.named.NamedTimers.tick.Goals as goal
 
 pub invariant_of-self : goal.invariant_of-self
 invariant_of-self c =

@@ -1,5 +1,5 @@
 use Rattle.timer_wheel.proofs.Rising.{rise-without_due, named-without_due, without_due-after}
-use Rattle.timer_wheel.proofs.timers.Timers.next_due.Goals as goal
+use Rattle.timer_wheel.proofs.named.NamedTimers.next_due.Goals as goal
 
 pub invariant_of-self : goal.invariant_of-self
 invariant_of-self c = record {

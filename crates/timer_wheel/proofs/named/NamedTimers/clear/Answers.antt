@@ -1,5 +1,5 @@
 use Rattle.timer_wheel.proofs.Rising.{rise-cleared, named-cleared}
-use Rattle.timer_wheel.proofs.timers.Timers.clear.Goals as goal
+use Rattle.timer_wheel.proofs.named.NamedTimers.clear.Goals as goal
 
 pub invariant_of-self : goal.invariant_of-self
 invariant_of-self c = record {

@@ -1,11 +1,11 @@
 use Rattle.std.proofs.Common.{◌≡◌, ◌+◌, ◌≤◌, ℕ, List, length, sym, ap, ◌∙◌, arith}
 use Rattle.std.specs.Prelude.{vec_len}
-use Rattle.timer_wheel.specs.declared.timers.Timer.{Timer}
+use Rattle.timer_wheel.specs.declared.named.Timer.{Timer}
 use Rattle.timer_wheel.specs.Names.{count_of}
-use Rattle.timer_wheel.specs.Timers.{cleared, started}
+use Rattle.timer_wheel.specs.Named.{cleared, started}
 use Rattle.timer_wheel.proofs.Rising.{cleared_twice, started_cleared, length-started, rise-started, named-started, set-there}
 use Rattle.timer_wheel.proofs.Counting.{counted}
-use Rattle.timer_wheel.proofs.timers.Timers.set.Goals as goal
+use Rattle.timer_wheel.proofs.named.NamedTimers.set.Goals as goal
 
 pub start-requires-clause-absent : goal.start-requires-clause-absent
 start-requires-clause-absent c = rw c.stop.ensures.timers (cleared_twice c.args.name c.self.inside.running.items)

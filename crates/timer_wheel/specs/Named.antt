@@ -1,0 +1,66 @@
+-- The timers that run: a finite map from names to the ticks that are left, as the list of its entries in name order.
+use Rattle.std.specs.Prelude.{ℕ, ◌+◌, ◌-◌, Bool, List, [], ◌∷◌, ◌++◌, map, filter, find, Option, ◌==◌, max, if◌then◌else◌}
+use Rattle.std.specs.Option.{option_map, option_map_or}
+use Rattle.timer_wheel.specs.declared.name.TimerName.{TimerName}
+use Rattle.timer_wheel.specs.declared.name.NodeCounts.{NodeCounts}
+use Rattle.timer_wheel.specs.declared.named.Timer.{Timer}
+use Rattle.timer_wheel.specs.Names.{is_before, has_name}
+
+-- the timers whose names come before a name
+abbrev pub before : TimerName → List Timer → List Timer
+before name timers = filter (λ t. is_before t.name name) timers
+
+-- the timers whose names come after it
+abbrev pub after : TimerName → List Timer → List Timer
+after name timers = filter (λ t. is_before name t.name) timers
+
+-- no timer of this name runs
+abbrev pub cleared : TimerName → List Timer → List Timer
+cleared name timers = before name timers ++ after name timers
+
+-- the timer of this name runs, and forgets what it was set to before
+abbrev pub started : Timer → List Timer → List Timer
+started timer timers = before timer.name timers ++ timer ∷ after timer.name timers
+
+-- a timer with one tick less
+abbrev pub lowered : Timer → Timer
+lowered t = record t { left = t.left - 1 }
+
+-- a timer is due where no tick is left
+abbrev pub is_due : Timer → Bool
+is_due t = t.left == 0
+
+-- the first name that is due
+abbrev pub first_named : List Timer → Option TimerName
+first_named timers = option_map (λ t. t.name) (find is_due timers)
+
+-- ---- the timers of a node
+
+pub record Named : Type 0 where
+  pub counts : NodeCounts
+  pub timers : List Timer
+
+-- a timer runs out after so many ticks, at the next one where that is 0; a name that the node doesn't have is left
+-- aside
+abbrev pub set_named : TimerName → ℕ → Named → Named
+set_named name ticks r =
+    if has_name r.counts name
+    then record r { timers = started (record { name = name; left = max 1 ticks }) r.timers }
+    else r
+
+-- a timer is stopped
+abbrev pub clear_named : TimerName → Named → Named
+clear_named name r = record r { timers = cleared name r.timers }
+
+-- a tick lowers all timers
+abbrev pub ticked_named : Named → Named
+ticked_named r = record r { timers = map lowered r.timers }
+
+-- the timer that is due is handed out, and runs no longer
+abbrev pub after_named : Named → Named
+after_named r = option_map_or (λ name. clear_named name r) (first_named r.timers) r
+
+-- how many timers are due
+abbrev pub count_named : List Timer → ℕ
+count_named [] = 0
+count_named (t ∷ timers) = (if is_due t then 1 else 0) + count_named timers
