@@ -27,6 +27,10 @@ past_all f xs i l = grind (arith, common_steps)
 pub next_row : {A B : Type 0} (g : A → B) (xs : List A) (i : ℕ) (x d : A) (rows : List B) (row : B) → i < length xs → x ≡ get_or xs i d → rows ≡ map g (take i xs) → row ≡ g x → rows ++ row ∷ [] ≡ map g (take (i + 1) xs)
 next_row g xs i x d rows row l e h k = grind (arith, common_steps)
 
+-- all rows
+pub all_rows : {A B : Type 0} (g : A → B) (xs : List A) (i : ℕ) (rows : List B) → length xs ≤ i → rows ≡ map g (take i xs) → rows ≡ map g xs
+all_rows g xs i rows l h = grind (arith, common_steps)
+
 -- one place more of a row of fixed length
 pub next_place : {A B : Type 0} (g : A → B) (xs : List A) (i : ℕ) (x d : A) (ys : List B) (y : B) → i < length xs → i < length ys → x ≡ get_or xs i d → take i ys ≡ map g (take i xs) → y ≡ g x → take (i + 1) (slice_set ys i y) ≡ map g (take (i + 1) xs)
 next_place g xs i x d ys y l m e h k = grind (arith, common_steps)

@@ -1,5 +1,6 @@
 -- What settings as they were written mean, and which is their first fault.
-use Rattle.std.specs.Prelude.{codes, ℕ, Bool, true, false, not, ◌&&◌, ◌||◌, nat_le, nat_lt, nat_eq, ℤ, pos, negsuc, List, [], ◌∷◌, ◌++◌, Option, Some, None, is_some, length, map}
+use Rattle.std.specs.Prelude.{codes, ℕ, Bool, true, false, not, ◌&&◌, ◌||◌, nat_le, nat_lt, nat_eq, ℤ, pos, negsuc}
+use Rattle.std.specs.Prelude.{List, [], ◌∷◌, ◌++◌, Option, Some, None, is_some, length, map}
 use Rattle.std.specs.List.{list_any, list_all}
 use Rattle.std.specs.Str.{bytes_eq}
 use Rattle.settings_rows.specs.declared.fault.DraftFault.{DraftFault}

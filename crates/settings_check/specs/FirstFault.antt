@@ -1,10 +1,12 @@
 -- The first fault of settings as they were written.
-use Rattle.std.specs.Prelude.{false, String, string_eq, ℕ, Bool, not, ◌&&◌, nat_eq, nat_le, ℤ, List, [], ◌∷◌, Option, length, is_some, string_bytes}
+use Rattle.std.specs.Prelude.{false, String, string_eq, ℕ, Bool, not, ◌&&◌, nat_eq, nat_le, ℤ, List, [], ◌∷◌, Option}
+use Rattle.std.specs.Prelude.{length, is_some, string_bytes}
 use Rattle.std.specs.declared.alloc.Global.{Global}
 use Rattle.std.specs.List.{list_any, list_all}
 use Rattle.std.specs.Str.{bytes_eq}
 use Rattle.std.specs.Ordering.{int_eq}
-use Rattle.settings_check.specs.Checks.{natural, first_of, fault_unless, range_fault, has_repeat, far_point_fault, entries_fault, numbers_fault, count_fault, digits_fault, route_fault, ssn_fault}
+use Rattle.settings_check.specs.Checks.{natural, first_of, fault_unless, range_fault, has_repeat, far_point_fault}
+use Rattle.settings_check.specs.Checks.{entries_fault, numbers_fault, count_fault, digits_fault, route_fault, ssn_fault}
 use Rattle.settings_check.specs.Meaning.{is_by_title, set_place, points_of}
 use Rattle.settings_rows.specs.Names.{is_name}
 use Rattle.settings_rows.specs.declared.fault.DraftFault.{DraftFault}
@@ -12,8 +14,14 @@ use Rattle.settings_rows.specs.declared.fault.FaultKind.TheVariants.{Range, Dupl
 use Rattle.settings_rows.specs.declared.key.TimerKey.{TimerKey}
 use Rattle.settings_rows.specs.declared.key.TimerKey.TheVariants.{L1, L2, L3, L4, L6, L7, T1, T2, T3, T4, T6, T8, T10}
 use Rattle.settings_rows.specs.declared.key.Key.{Key}
-use Rattle.settings_rows.specs.declared.key.Key.TheVariants.{Own, Network, Window, Pool, Users, Subsystems, Timer, Set, SetName, SetAdjacent, Link, LinkName, LinkSet, LinkSlc, Destination, DestinationPoint, DestinationSets, Title, TitleTranslation, TitlePlan, TitleNature, TitleDigits, TitlePoint, TitleRoute, TitleSsn}
-use Rattle.signalling_types.specs.declared.limits.TheConstants.Limits.{WINDOW, POOL, TICKS, LINKS_CARRIED, SETS_CARRIED, TITLES_CARRIED, DESTINATIONS, SETS_PER_DESTINATION}
+use Rattle.settings_rows.specs.declared.key.Key.TheVariants.{Own, Network, Window, Pool, Users, Subsystems, Timer, Set}
+use Rattle.settings_rows.specs.declared.key.Key.TheVariants.{SetName, SetAdjacent, Link, LinkName, LinkSet, LinkSlc}
+use Rattle.settings_rows.specs.declared.key.Key.TheVariants.{Destination, DestinationPoint, DestinationSets, Title}
+use Rattle.settings_rows.specs.declared.key.Key.TheVariants.{TitleTranslation, TitlePlan, TitleNature, TitleDigits}
+use Rattle.settings_rows.specs.declared.key.Key.TheVariants.{TitlePoint, TitleRoute, TitleSsn}
+use Rattle.signalling_types.specs.declared.limits.TheConstants.Limits.{WINDOW, POOL, TICKS, LINKS_CARRIED, SETS_CARRIED}
+use Rattle.signalling_types.specs.declared.limits.TheConstants.Limits.{TITLES_CARRIED, DESTINATIONS}
+use Rattle.signalling_types.specs.declared.limits.TheConstants.Limits.{SETS_PER_DESTINATION}
 use Rattle.settings_check.specs.declared.timers.Written.{Written}
 use Rattle.settings_rows.specs.declared.draft.Draft.{Draft}
 use Rattle.settings_rows.specs.declared.draft.TimersDraft.{TimersDraft}
@@ -174,14 +182,20 @@ title_numbers_fault place t = first_of (
     ∷ range_fault 0 127 (TitleNature place) t.nature
     ∷ [])
 
+-- where a translation row at this place leads to: its point, its route and its subsystem number
+abbrev pub title_target_fault : ℕ → TitleDraft → Option DraftFault
+title_target_fault place t = first_of (
+    range_fault 0 16383 (TitlePoint place) t.point
+    ∷ route_fault (TitleRoute place) (string_bytes t.route)
+    ∷ ssn_fault (is_by_title t) (TitleSsn place) t.ssn
+    ∷ [])
+
 -- the first fault of a translation row, after the rows before it
 abbrev pub title_fault : List TitleDraft → TitleDraft → Option DraftFault
 title_fault earlier t = first_of (
     title_numbers_fault (length earlier) t
     ∷ title_digits_fault earlier t
-    ∷ range_fault 0 16383 (TitlePoint (length earlier)) t.point
-    ∷ route_fault (TitleRoute (length earlier)) (string_bytes t.route)
-    ∷ ssn_fault (is_by_title t) (TitleSsn (length earlier)) t.ssn
+    ∷ title_target_fault (length earlier) t
     ∷ [])
 
 -- whether the first of these names is this one
@@ -191,11 +205,13 @@ is_first_name name (first ∷ rest) = bytes_eq (string_bytes first) name
 
 -- whether a set's adjacent point is a destination whose first set it is
 abbrev pub is_reached : List DestinationDraft → SetDraft → Bool
-is_reached destinations s = list_any (λ d. int_eq d.point s.adjacent && is_first_name (string_bytes s.name) d.sets.items) destinations
+is_reached destinations s =
+    list_any (λ d. int_eq d.point s.adjacent && is_first_name (string_bytes s.name) d.sets.items) destinations
 
 -- a set that is not reached, after the sets before it
 abbrev pub reached_fault : List DestinationDraft → List SetDraft → SetDraft → Option DraftFault
-reached_fault destinations earlier s = fault_unless (is_reached destinations s) UnknownName (SetAdjacent (length earlier))
+reached_fault destinations earlier s =
+    fault_unless (is_reached destinations s) UnknownName (SetAdjacent (length earlier))
 
 -- the first set that is not reached
 unfoldable pub unreached_fault : List DestinationDraft → List SetDraft → Option DraftFault
@@ -238,14 +254,20 @@ scalars_fault d = first_of (
     ∷ range_fault 1 POOL Pool d.pool
     ∷ [])
 
--- the arrays, and last of all the sets whose adjacent point they don't lead to
+-- the destinations and the translation rows, and last of all the sets whose adjacent point they don't lead to
+unfoldable pub tables_fault : Draft → Option DraftFault
+tables_fault d = first_of (
+    destinations_fault (natural d.own) d.sets.items d.destinations.items
+    ∷ titles_fault d.titles.items
+    ∷ unreached_fault d.destinations.items d.sets.items
+    ∷ [])
+
+-- the arrays
 unfoldable pub arrays_fault : Draft → Option DraftFault
 arrays_fault d = first_of (
     sets_fault (natural d.own) d.sets.items
     ∷ links_fault d.sets.items d.links.items
-    ∷ destinations_fault (natural d.own) d.sets.items d.destinations.items
-    ∷ titles_fault d.titles.items
-    ∷ unreached_fault d.destinations.items d.sets.items
+    ∷ tables_fault d
     ∷ [])
 
 -- the first fault of settings: the keys in their order, the entries of an array from the first on

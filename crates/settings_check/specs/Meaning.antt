@@ -1,5 +1,6 @@
 -- What settings as they were written mean.
-use Rattle.std.specs.Prelude.{ℕ, Bool, List, Option, codes, map, position, unwrap_or, nat_le, ◌-◌, if◌then◌else◌, string_bytes}
+use Rattle.std.specs.Prelude.{ℕ, Bool, List, Option, codes, map, position, unwrap_or, nat_le, ◌-◌, if◌then◌else◌}
+use Rattle.std.specs.Prelude.{string_bytes}
 use Rattle.std.specs.Option.{option_map}
 use Rattle.std.specs.Str.{bytes_eq}
 use Rattle.settings_check.specs.Checks.{natural}

@@ -1,11 +1,13 @@
 //! Destinations of settings.
 
-ghost use Rattle.std.specs.Prelude.{◌≡◌, ◌∷◌, ◌++◌, ◌≤◌, ◌⊎◌, [], None, Some, string_eq, length, map, IfOk, OnOk, IfErr, string_bytes};
+ghost use Rattle.std.specs.Prelude.{◌≡◌, ◌∷◌, ◌++◌, ◌≤◌, ◌⊎◌, [], None, Some, string_eq, length, map, IfOk, OnOk};
+ghost use Rattle.std.specs.Prelude.{IfErr, string_bytes};
 ghost use Rattle.std.specs.List.{list_all};
 ghost use Rattle.settings_rows.specs.Names.{is_name};
 ghost use Rattle.settings_check.specs.Checks.{natural, fault_unless, has_repeat, entries_fault};
 ghost use Rattle.settings_check.specs.Meaning.{set_number, destination_of, points_of};
-ghost use Rattle.settings_check.specs.FirstFault.{destination_point_fault, is_set_name, set_list_fault, destination_fault, destinations_fault};
+ghost use Rattle.settings_check.specs.FirstFault.{destination_point_fault, is_set_name, set_list_fault};
+ghost use Rattle.settings_check.specs.FirstFault.{destination_fault, destinations_fault};
 
 use crate::names::is_name;
 use crate::numbers::{count, ensure, far_point};
@@ -145,7 +147,7 @@ fn destination_rows(
     let mut points = IndexSet::with_capacity(alloc, destinations.len())?;
     for i in 0..destinations.len() {
         let row = destination_row(own, sets, &mut points, &destinations[..i], &destinations[i])?;
-        rows.push(row)?;
+        rows.push_reserved(row);
     }
     Ok((rows, points))
 }

@@ -1,11 +1,11 @@
 //! The check of settings: from what was written to rows of checked settings, or to the first fault.
 #![tactic(auto)]
 
-ghost use Rattle.std.specs.Prelude.{◌≡◌, ◌<◌, ◌⊎◌, None, Some, map, IfOk, OnOk, IfErr};
+ghost use Rattle.std.specs.Prelude.{◌≡◌, ◌<◌, ◌≤◌, ◌⊎◌, None, Some, length, map, IfOk, OnOk, IfErr};
 ghost use Rattle.settings_check.specs.Checked.{configuration_in};
 ghost use Rattle.settings_check.specs.Checks.{natural};
 ghost use Rattle.settings_check.specs.Meaning.{settings_of, set_of, link_of, destination_of, title_of};
-ghost use Rattle.settings_check.specs.FirstFault.{scalars_fault, arrays_fault, first_fault};
+ghost use Rattle.settings_check.specs.FirstFault.{scalars_fault, tables_fault, arrays_fault, first_fault};
 
 mod destinations;
 mod links;
@@ -85,10 +85,13 @@ pub fn check_draft(alloc: Global, draft: &Draft) -> Result<Checked, DraftFault>
     let Arrays {
         sets,
         links,
-        destinations,
-        titles,
-        points,
+        tables,
     } = arrays;
+    let Tables {
+        destinations,
+        points,
+        titles,
+    } = tables;
     Ok(Checked {
         own: scalars.own,
         network: scalars.network as u8,
@@ -133,14 +136,48 @@ fn checked_scalars(draft: &Draft) -> Result<Scalars, DraftFault>
     })
 }
 
+/// The destinations of settings, their points, and the translation rows.
+#[derive(Drop)]
+struct Tables {
+    destinations: Vec<DestinationRow>,
+    points: IndexSet<u16>,
+    titles: Vec<TitleRow>,
+}
+
+/// The destinations and the translation rows of settings.
+#[tactic(auto, unfolding(crate::specs::FirstFault::tables_fault))]
+fn checked_tables(alloc: Global, own: PointCode, draft: &Draft) -> Result<Tables, DraftFault>
+    requires own { own ≡ natural draft.now.own }
+    requires sets { length draft.now.sets.items ≤ Limits.SETS }
+    ensures destinations { IfOk result (λ t.
+        t.destinations.items ≡ map (destination_of draft.now.sets.items) draft.now.destinations.items) }
+    ensures points { IfOk result (λ t. t.points.keys ≡ map (λ d. d.point) t.destinations.items) }
+    ensures titles { IfOk result (λ t. t.titles.items ≡ map title_of draft.now.titles.items) }
+    ensures well { OnOk result (tables_fault draft.now ≡ None) }
+    ensures fault { IfErr result (λ fault.
+        (fault ≡ DraftFault.NoMemory) ⊎ (tables_fault draft.now ≡ Some fault)) }
+{
+    let (destinations, points) = checked_destinations(
+        alloc,
+        own,
+        &draft.sets,
+        &draft.destinations,
+    )?;
+    let titles = checked_titles(alloc, &draft.titles)?;
+    all_reached(&draft.destinations, &draft.sets)?;
+    Ok(Tables {
+        destinations,
+        points,
+        titles,
+    })
+}
+
 /// The arrays of settings.
 #[derive(Drop)]
 struct Arrays {
     sets: Vec<SetRow>,
     links: Vec<LinkRow>,
-    destinations: Vec<DestinationRow>,
-    titles: Vec<TitleRow>,
-    points: IndexSet<u16>,
+    tables: Tables,
 }
 
 /// The arrays of settings.
@@ -151,28 +188,20 @@ fn checked_arrays(alloc: Global, own: PointCode, draft: &Draft) -> Result<Arrays
     ensures links { IfOk result (λ a.
         a.links.items ≡ map (link_of draft.now.sets.items) draft.now.links.items) }
     ensures destinations { IfOk result (λ a.
-        a.destinations.items ≡ map (destination_of draft.now.sets.items) draft.now.destinations.items) }
-    ensures titles { IfOk result (λ a. a.titles.items ≡ map title_of draft.now.titles.items) }
-    ensures points { IfOk result (λ a. a.points.keys ≡ map (λ d. d.point) a.destinations.items) }
+        a.tables.destinations.items ≡ map (destination_of draft.now.sets.items) draft.now.destinations.items) }
+    ensures points { IfOk result (λ a.
+        a.tables.points.keys ≡ map (λ d. d.point) a.tables.destinations.items) }
+    ensures titles { IfOk result (λ a. a.tables.titles.items ≡ map title_of draft.now.titles.items) }
     ensures well { OnOk result (arrays_fault draft.now ≡ None) }
     ensures fault { IfErr result (λ fault.
         (fault ≡ DraftFault.NoMemory) ⊎ (arrays_fault draft.now ≡ Some fault)) }
 {
     let sets = checked_sets(alloc, own, &draft.sets)?;
     let links = checked_links(alloc, &draft.sets, &draft.links)?;
-    let (destinations, points) = checked_destinations(
-        alloc,
-        own,
-        &draft.sets,
-        &draft.destinations,
-    )?;
-    let titles = checked_titles(alloc, &draft.titles)?;
-    all_reached(&draft.destinations, &draft.sets)?;
+    let tables = checked_tables(alloc, own, draft)?;
     Ok(Arrays {
         sets,
         links,
-        destinations,
-        titles,
-        points,
+        tables,
     })
 }

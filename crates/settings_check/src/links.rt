@@ -1,10 +1,12 @@
 //! Links of settings.
 
-ghost use Rattle.std.specs.Prelude.{◌≡◌, ◌≤◌, ◌<◌, ◌^◌, ◌⊎◌, [], None, Some, IsTrue, length, map, IfOk, OnOk, IfErr, string_bytes};
+ghost use Rattle.std.specs.Prelude.{◌≡◌, ◌≤◌, ◌<◌, ◌^◌, ◌⊎◌, [], None, Some, IsTrue, length, map, IfOk, OnOk, IfErr};
+ghost use Rattle.std.specs.Prelude.{string_bytes};
 ghost use Rattle.settings_rows.specs.Names.{is_name};
 ghost use Rattle.settings_check.specs.Checks.{natural, entries_fault};
 ghost use Rattle.settings_check.specs.Meaning.{link_of, set_number};
-ghost use Rattle.settings_check.specs.FirstFault.{link_fault, link_name_fault, link_set_fault, link_slc_fault, has_link_named, has_link_code, links_fault};
+ghost use Rattle.settings_check.specs.FirstFault.{link_fault, link_name_fault, link_set_fault, link_slc_fault};
+ghost use Rattle.settings_check.specs.FirstFault.{has_link_named, has_link_code, links_fault};
 
 use crate::names::is_name;
 use crate::numbers::{count, ensure, number};
@@ -107,7 +109,7 @@ fn link_rows(
     let mut rows = Vec::with_capacity(alloc, links.len())?;
     for i in 0..links.len() {
         let row = link_row(sets, &links[..i], &links[i])?;
-        rows.push(row)?;
+        rows.push_reserved(row);
     }
     Ok(rows)
 }

@@ -2,7 +2,8 @@
 
 ghost use Rattle.std.specs.Prelude.{◌≡◌, ◌≤◌, ◌<◌, ◌^◌, nat_eq, ◌⊎◌, None, Some, map, IfOk, OnOk, IfErr};
 ghost use Rattle.std.specs.List.{list_all};
-ghost use Rattle.settings_check.specs.Checks.{range_fault, natural, fault_unless, has_repeat, far_point_fault, is_within, numbers_fault, count_fault};
+ghost use Rattle.settings_check.specs.Checks.{range_fault, natural, fault_unless, has_repeat, far_point_fault};
+ghost use Rattle.settings_check.specs.Checks.{is_within, numbers_fault, count_fault};
 
 use settings_rows::{DraftFault, FaultKind, Key};
 use signalling_types::PointCode;
@@ -101,7 +102,7 @@ fn all_within(
     let mut numbers = Vec::with_capacity(alloc, values.len())?;
     for i in 0..values.len() {
         let number = octet(&values[i], low, high, key)?;
-        numbers.push(number)?;
+        numbers.push_reserved(number);
     }
     Ok(numbers)
 }

@@ -1,10 +1,12 @@
 //! Link sets of settings.
 
-ghost use Rattle.std.specs.Prelude.{◌≡◌, ◌≤◌, ◌⊎◌, [], None, Some, IsTrue, length, map, IfOk, OnOk, IfErr, string_bytes};
+ghost use Rattle.std.specs.Prelude.{◌≡◌, ◌≤◌, ◌⊎◌, [], None, Some, IsTrue, length, map, IfOk, OnOk, IfErr};
+ghost use Rattle.std.specs.Prelude.{string_bytes};
 ghost use Rattle.settings_rows.specs.Names.{is_name};
 ghost use Rattle.settings_check.specs.Checks.{natural, entries_fault};
 ghost use Rattle.settings_check.specs.Meaning.{set_of, set_place};
-ghost use Rattle.settings_check.specs.FirstFault.{set_fault, is_first_name, is_reached, unreached_fault, sets_fault, has_set_named, has_adjacent, set_name_fault, set_adjacent_fault};
+ghost use Rattle.settings_check.specs.FirstFault.{set_fault, is_first_name, is_reached, unreached_fault, sets_fault};
+ghost use Rattle.settings_check.specs.FirstFault.{has_set_named, has_adjacent, set_name_fault, set_adjacent_fault};
 
 use crate::names::is_name;
 use crate::numbers::{count, ensure, far_point};
@@ -84,7 +86,7 @@ fn set_rows(alloc: Global, own: PointCode, sets: &[SetDraft]) -> Result<Vec<SetR
     let mut rows = Vec::with_capacity(alloc, sets.len())?;
     for i in 0..sets.len() {
         let row = set_row(own, &sets[..i], &sets[i])?;
-        rows.push(row)?;
+        rows.push_reserved(row);
     }
     Ok(rows)
 }

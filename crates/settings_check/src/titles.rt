@@ -1,13 +1,16 @@
 //! Translation rows of settings.
 
 ghost use Rattle.std.specs.Option.{option_map};
-ghost use Rattle.std.specs.Prelude.{if◌then◌else◌, ◌≡◌, ◌<◌, ◌≤◌, ◌^◌, ◌∷◌, ◌++◌, ◌⊎◌, [], ◌||◌, None, Some, is_some, All, codes, length, map, IfOk, OnOk, IfErr, string_bytes};
+ghost use Rattle.std.specs.Prelude.{if◌then◌else◌, ◌≡◌, ◌<◌, ◌≤◌, ◌^◌, ◌∷◌, ◌++◌, ◌⊎◌, [], ◌||◌, None, Some, is_some};
+ghost use Rattle.std.specs.Prelude.{All, codes, length, map, IfOk, OnOk, IfErr, string_bytes};
 ghost use Rattle.std.specs.List.{list_all};
 ghost use Rattle.std.specs.Str.{bytes_eq};
-ghost use Rattle.settings_check.specs.Checks.{natural, fault_unless, entries_fault, is_digit, digits_fault, route_fault, subsystem_fault};
+ghost use Rattle.settings_check.specs.Checks.{natural, fault_unless, entries_fault, is_digit, digits_fault};
+ghost use Rattle.settings_check.specs.Checks.{route_fault, subsystem_fault};
 ghost use Rattle.settings_check.specs.Meaning.{title_of, digit_of, route_of};
 ghost use Rattle.settings_check.specs.Titles.{title_key};
-ghost use Rattle.settings_check.specs.FirstFault.{title_numbers_fault, title_digits_fault, title_fault, titles_fault};
+ghost use Rattle.settings_check.specs.FirstFault.{title_numbers_fault, title_digits_fault, title_target_fault};
+ghost use Rattle.settings_check.specs.FirstFault.{title_fault, titles_fault};
 
 use crate::numbers::{ensure, number, point};
 use arrayvec::ArrayVec;
@@ -186,6 +189,36 @@ fn title_numbers(title: &TitleDraft, place: usize) -> Result<(u8, u8, u8), Draft
     Ok((translation as u8, plan as u8, nature as u8))
 }
 
+/// The translation row of these numbers and digits, which stand in the row that was written.
+fn routed_row(
+    title: &TitleDraft,
+    place: usize,
+    numbers: (u8, u8, u8),
+    digits: &[u8],
+) -> Result<TitleRow, DraftFault>
+    requires numbers { numbers
+        ≡ (natural title.now.translation, natural title.now.plan, natural title.now.nature) }
+    requires digits { digits.now ≡ map digit_of (string_bytes title.now.digits) }
+    requires plan { numbers.1 < 2 ^ 4 }
+    requires nature { numbers.2 < 2 ^ 7 }
+    requires some { 1 ≤ length digits.now }
+    requires fits { length digits.now ≤ Limits.TITLE_DIGITS }
+    requires range { All (λ digit. digit < 2 ^ 4) digits.now }
+    ensures value { IfOk result (λ row. row ≡ title_of title.now) }
+    ensures well { OnOk result (title_target_fault place title.now ≡ None) }
+    ensures fault { IfErr result (λ fault. title_target_fault place title.now ≡ Some fault) }
+{
+    let (translation, plan, nature) = numbers;
+    let point = point(title.point, Key::TitlePoint(place))?;
+    let by_title = is_by_title(title.route.as_str(), Key::TitleRoute(place))?;
+    let ssn = subsystem(title.ssn, Key::TitleSsn(place))?;
+    let route = route(by_title, ssn, Key::TitleSsn(place))?;
+    TitleRow::new(translation, plan, nature, digits, point, route).ok_or(DraftFault::At(
+        FaultKind::Range,
+        Key::TitleDigits(place),
+    ))
+}
+
 /// A translation row, after those before it, whose keys are `seen`.
 fn title_row(
     seen: &mut IndexSet<TitleKey>,
@@ -199,17 +232,10 @@ fn title_row(
     ensures fault { IfErr result (λ fault.
         (fault ≡ DraftFault.NoMemory) ⊎ (title_fault earlier.now title.now ≡ Some fault)) }
 {
-    let i = earlier.len();
-    let (translation, plan, nature) = title_numbers(title, i)?;
+    let place = earlier.len();
+    let numbers = title_numbers(title, place)?;
     let digits = title_digits(seen, earlier, title)?;
-    let point = point(title.point, Key::TitlePoint(i))?;
-    let by_title = is_by_title(title.route.as_str(), Key::TitleRoute(i))?;
-    let ssn = subsystem(title.ssn, Key::TitleSsn(i))?;
-    let route = route(by_title, ssn, Key::TitleSsn(i))?;
-    TitleRow::new(translation, plan, nature, digits.as_slice(), point, route).ok_or(DraftFault::At(
-        FaultKind::Range,
-        Key::TitleDigits(i),
-    ))
+    routed_row(title, place, numbers, digits.as_slice())
 }
 
 /// The rows of the translations.
@@ -223,7 +249,7 @@ fn title_rows(alloc: Global, titles: &[TitleDraft]) -> Result<Vec<TitleRow>, Dra
     let mut seen = IndexSet::with_capacity(alloc, titles.len())?;
     for i in 0..titles.len() {
         let row = title_row(&mut seen, &titles[..i], &titles[i])?;
-        rows.push(row)?;
+        rows.push_reserved(row);
     }
     Ok(rows)
 }

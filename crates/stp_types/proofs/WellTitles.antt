@@ -11,14 +11,14 @@ use Rattle.std.proofs.lemmas.Slice.Eq.{bytes_eq-Decides}
 use Rattle.std.proofs.lemmas.Bool.Decides.{nat_tests}
 use Rattle.settings_check.specs.Checks.{natural, is_within, is_digit, fault_unless, range_fault, entries_fault, ssn_fault, route_fault, digits_fault}
 use Rattle.settings_check.specs.Meaning.{title_of, digit_of, route_of, is_by_title}
-use Rattle.settings_check.specs.FirstFault.{titles_fault, title_fault, title_numbers_fault, title_digits_fault, is_same_title}
+use Rattle.settings_check.specs.FirstFault.{titles_fault, title_fault, title_numbers_fault, title_digits_fault, title_target_fault, is_same_title}
 use Rattle.settings_rows.specs.declared.draft.TitleDraft.{TitleDraft}
 use Rattle.settings_rows.specs.declared.key.Key.{Key}
 use Rattle.settings_rows.specs.declared.key.Key.TheVariants.{Title, TitleTranslation, TitlePlan, TitleNature, TitleDigits, TitlePoint, TitleRoute, TitleSsn}
 use Rattle.settings_rows.specs.declared.fault.FaultKind.TheVariants.{Range, Duplicate, TooMany}
 use Rattle.signalling_types.specs.declared.limits.TheConstants.Limits.{TITLES, TITLES_CARRIED, TITLE_DIGITS}
 use Rattle.stp_types.specs.Well.{IsWithin, IsTitle, HasSubsystem, is_same_row}
-use Rattle.stp_types.proofs.Rows.{both, both_of, false_from_not, two_none, three_none, five_none, passes, two_pass, within_from_test, each_entry, each_made, each_of_all, entries_differ, differ_made, none_of_any, none_differ}
+use Rattle.stp_types.proofs.Rows.{both, both_of, false_from_not, two_none, three_none, passes, two_pass, within_from_test, each_entry, each_made, each_of_all, entries_differ, differ_made, none_of_any, none_differ}
 use Rattle.stp_types.proofs.WellNumbers.{in_range}
 use Rattle.stp_types.proofs.WellSets.{int_eq-natural}
 
@@ -60,9 +60,12 @@ record HasRange (t : TitleDraft) : Type 0 where
   point : is_within 0 16383 t.point ≡ true
   route : HasSubsystem (route_of (is_by_title t) (option_map natural t.ssn))
 
-title_none : (earlier : List TitleDraft) (t : TitleDraft) → title_fault earlier t ≡ None → (title_numbers_fault (length earlier) t ≡ None) × (title_digits_fault earlier t ≡ None) × (range_fault 0 16383 (TitlePoint (length earlier)) t.point ≡ None) × (route_fault (TitleRoute (length earlier)) (string_bytes t.route) ≡ None) × (ssn_fault (is_by_title t) (TitleSsn (length earlier)) t.ssn ≡ None)
-title_none earlier t h =
-    five_none (title_numbers_fault (length earlier) t) (title_digits_fault earlier t) (range_fault 0 16383 (TitlePoint (length earlier)) t.point) (route_fault (TitleRoute (length earlier)) (string_bytes t.route)) (ssn_fault (is_by_title t) (TitleSsn (length earlier)) t.ssn) h
+title_none : (earlier : List TitleDraft) (t : TitleDraft) → title_fault earlier t ≡ None → (title_numbers_fault (length earlier) t ≡ None) × (title_digits_fault earlier t ≡ None) × (title_target_fault (length earlier) t ≡ None)
+title_none earlier t h = three_none (title_numbers_fault (length earlier) t) (title_digits_fault earlier t) (title_target_fault (length earlier) t) h
+
+target_none : (place : ℕ) (t : TitleDraft) → title_target_fault place t ≡ None → (range_fault 0 16383 (TitlePoint place) t.point ≡ None) × (route_fault (TitleRoute place) (string_bytes t.route) ≡ None) × (ssn_fault (is_by_title t) (TitleSsn place) t.ssn ≡ None)
+target_none place t h =
+    three_none (range_fault 0 16383 (TitlePoint place) t.point) (route_fault (TitleRoute place) (string_bytes t.route)) (ssn_fault (is_by_title t) (TitleSsn place) t.ssn) h
 
 digits_none : (earlier : List TitleDraft) (t : TitleDraft) → title_digits_fault earlier t ≡ None → (digits_fault (TitleDigits (length earlier)) (string_bytes t.digits) ≡ None) × (fault_unless (not (list_any (is_same_title t) earlier)) Duplicate (TitleDigits (length earlier)) ≡ None)
 digits_none earlier t h =
@@ -72,6 +75,7 @@ has_range : (earlier : List TitleDraft) (t : TitleDraft) → title_fault earlier
 has_range earlier t h =
     let i = length earlier in
     let r = title_none earlier t h in
+    let q = target_none i t r.2 in
     let n = three_none (range_fault 0 255 (TitleTranslation i) t.translation) (range_fault 0 15 (TitlePlan i) t.plan) (range_fault 0 127 (TitleNature i) t.nature) r.0 in
     let d = two_pass (nat_lt 0 (length (string_bytes t.digits)) && nat_le (length (string_bytes t.digits)) TITLE_DIGITS) (list_all is_digit (string_bytes t.digits)) Range Range (TitleDigits i) (digits_none earlier t r.1).0 in
     let count = both_of (nat_lt 0 (length (string_bytes t.digits))) (nat_le (length (string_bytes t.digits)) TITLE_DIGITS) d.0 in
@@ -82,8 +86,8 @@ has_range earlier t h =
       some = count.0;
       fits = count.1;
       digits = each_of_all is_digit (string_bytes t.digits) d.1;
-      point = passes (is_within 0 16383 t.point) Range (TitlePoint i) r.2;
-      route = route_well (is_by_title t) (TitleSsn i) t.ssn r.4;
+      point = passes (is_within 0 16383 t.point) Range (TitlePoint i) q.0;
+      route = route_well (is_by_title t) (TitleSsn i) t.ssn q.2;
     }
 
 some_digit : (n : ℕ) → nat_lt 0 n ≡ true → 1 ≤ n

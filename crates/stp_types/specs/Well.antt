@@ -1,5 +1,6 @@
 -- What holds of all checked settings.
-use Rattle.std.specs.Prelude.{ℕ, Bool, false, ◌&&◌, ◌≡◌, ◌≢◌, ◌≤◌, ◌<◌, ◌^◌, List, [], ◌∷◌, Some, IfSome, All, IsTrue, length, nat_eq, slice_get}
+use Rattle.std.specs.Prelude.{ℕ, Bool, false, ◌&&◌, ◌≡◌, ◌≢◌, ◌≤◌, ◌<◌, ◌^◌, List, [], ◌∷◌, Some, IfSome, All, IsTrue}
+use Rattle.std.specs.Prelude.{length, nat_eq, slice_get}
 use Rattle.std.specs.List.{IsDistinct, count_by, list_any}
 use Rattle.std.specs.Str.{bytes_eq}
 use Rattle.settings_rows.specs.Configuration.{Configuration, SetEntry, LinkEntry, DestinationEntry, TitleEntry}
@@ -8,7 +9,8 @@ use Rattle.settings_rows.specs.Titles.{HasTitleRanges}
 use Rattle.settings_rows.specs.declared.timer_ticks.TimerTicks.{TimerTicks}
 use Rattle.settings_rows.specs.declared.title_row.Route.{Route}
 use Rattle.settings_rows.specs.declared.title_row.Route.TheVariants.{Title, Ssn}
-use Rattle.signalling_types.specs.declared.limits.TheConstants.Limits.{LINKS, LINKS_PER_SET, SETS, SETS_PER_DESTINATION, DESTINATIONS, TITLES, POOL, WINDOW, TICKS}
+use Rattle.signalling_types.specs.declared.limits.TheConstants.Limits.{LINKS, LINKS_PER_SET, SETS, SETS_PER_DESTINATION}
+use Rattle.signalling_types.specs.declared.limits.TheConstants.Limits.{DESTINATIONS, TITLES, POOL, WINDOW, TICKS}
 
 -- a number from low to high
 pub record IsWithin (low : ℕ) (high : ℕ) (n : ℕ) : Type 0 where
@@ -86,7 +88,9 @@ pub record IsTitle (t : TitleEntry) : Type 0 where
 
 -- whether two translation rows have one key and the same digits
 abbrev pub is_same_row : TitleEntry → TitleEntry → Bool
-is_same_row t e = nat_eq t.translation e.translation && (nat_eq t.plan e.plan && (nat_eq t.nature e.nature && bytes_eq t.digits e.digits))
+is_same_row t e =
+    nat_eq t.translation e.translation
+    && (nat_eq t.plan e.plan && (nat_eq t.nature e.nature && bytes_eq t.digits e.digits))
 
 -- every number is within its limits, every name is a name of something, and what has to be distinct is
 pub record IsWell (c : Configuration) : Type 0 where
@@ -111,7 +115,8 @@ pub record IsWell (c : Configuration) : Type 0 where
   pub destination_count : IsWithin 1 DESTINATIONS (length c.destinations)
   pub destinations : All (IsDestination c.own (length c.sets)) c.destinations
   pub points_differ : IsDistinct is_same_point c.destinations
-  pub adjacent_points_led : (set : ℕ) (s : SetEntry) → slice_get c.sets set ≡ Some s → IsTrue (list_any (is_led_first s.adjacent set) c.destinations)
+  pub adjacent_points_led : (set : ℕ) (s : SetEntry) → slice_get c.sets set ≡ Some s →
+      IsTrue (list_any (is_led_first s.adjacent set) c.destinations)
   pub title_count : length c.titles ≤ TITLES
   pub titles : All IsTitle c.titles
   pub titles_differ : IsDistinct is_same_row c.titles

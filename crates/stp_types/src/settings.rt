@@ -3,7 +3,8 @@
 ghost use Rattle.std.specs.Str.{bytes_eq};
 ghost use Rattle.std.specs.List.{list_any};
 ghost use Rattle.std.specs.Option.{option_copied, option_map};
-ghost use Rattle.std.specs.Prelude.{All, IfOk, IfSome, OnOk, IfErr, ◌⊎◌, Some, None, ◌≡◌, position, ◌<◌, ◌≤◌, length, nat_eq, slice_get};
+ghost use Rattle.std.specs.Prelude.{All, IfOk, IfSome, OnOk, IfErr, ◌⊎◌, Some, None, ◌≡◌, position, ◌<◌, ◌≤◌, length};
+ghost use Rattle.std.specs.Prelude.{nat_eq, slice_get};
 ghost use Rattle.settings_check.specs.Meaning.{settings_of};
 ghost use Rattle.settings_check.specs.FirstFault.{first_fault};
 ghost use Rattle.stp_types.specs.Readings.{link_place, destination_place};

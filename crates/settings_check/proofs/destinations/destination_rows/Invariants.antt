@@ -1,4 +1,4 @@
-use Rattle.std.proofs.Common.{◌≡◌, [], map, take, drop}
+use Rattle.std.proofs.Common.{◌≡◌, ◌≤◌, [], length, map, take, drop, vec_len, vec_capacity}
 use Rattle.settings_check.specs.Checks.{entries_fault}
 use Rattle.settings_check.specs.Meaning.{destination_of, points_of}
 use Rattle.settings_check.specs.FirstFault.{destination_fault}
@@ -6,6 +6,8 @@ use Rattle.settings_check.proofs.destinations.destination_rows.Given as goal
 
 abbrev pub invariant-loop-i : goal.invariant-loop-i
 invariant-loop-i l = record {
+  len : vec_len l.rows ≡ l.i;
+  room : length l.destinations ≤ vec_capacity l.rows;
   rows : l.rows.items ≡ map (destination_of l.sets) (take l.i l.destinations);
   points : l.points.keys ≡ points_of (take l.i l.destinations);
   indexed : l.points.keys ≡ map (λ d. d.point) l.rows.items;

@@ -1,8 +1,8 @@
-use Rattle.std.proofs.Common.{inr, ◌∙◌, ◌<◌, ◌≤◌, length, arith}
+use Rattle.std.proofs.Common.{inr, ap, ◌+◌, ◌∙◌, ◌<◌, ◌≤◌, length, arith}
 use Rattle.std.proofs.lemmas.Result.{err_from_is_err_and}
 use Rattle.settings_check.specs.Meaning.{set_of}
 use Rattle.settings_check.specs.FirstFault.{set_fault}
-use Rattle.settings_check.proofs.Entries.{past_entry, at_entry, past_all, next_row}
+use Rattle.settings_check.proofs.Entries.{past_entry, at_entry, past_all, next_row, all_rows}
 use Rattle.settings_check.proofs.sets.set_rows.Goals as goal
 
 pub returns-in_err-row-clause-fault : goal.returns-in_err-row-clause-fault
@@ -15,7 +15,9 @@ pub loop-i-preserved : goal.loop-i-preserved
 loop-i-preserved c =
     let l : c.loop-i.i < length c.args.sets.now = omega (arith, c.loop-i-test.true) in
     record {
-      rows = rw c.in_ok-push.ensures.items (next_row set_of c.args.sets.now c.loop-i.i c.index-sets-i.result _ _ _ l c.index-sets-i.is c.loop-i.invariant.rows c.in_ok-row.ensures.value);
+      len = c.push_reserved.ensures.len ∙ ap (λ n. n + 1) c.loop-i.invariant.len;
+      room = rw c.push_reserved.ensures.capacity c.loop-i.invariant.room;
+      rows = rw c.push_reserved.ensures.items (next_row set_of c.args.sets.now c.loop-i.i c.index-sets-i.result _ _ _ l c.index-sets-i.is c.loop-i.invariant.rows c.in_ok-row.ensures.value);
       fault = past_entry (set_fault c.args.own) c.args.sets.now c.loop-i.i c.index-sets-i.result _ l c.index-sets-i.is c.in_ok-row.ensures.well ∙ c.loop-i.invariant.fault;
     }
 
@@ -23,3 +25,11 @@ pub returns-clause-well : goal.returns-clause-well
 returns-clause-well c =
     let l : length c.args.sets.now ≤ c.loop-i.i = omega (arith, c.loop-i-test.false) in
     rw (← c.loop-i.invariant.fault) (past_all (set_fault c.args.own) c.args.sets.now c.loop-i.i l)
+
+pub push_reserved-requires : goal.push_reserved-requires
+push_reserved-requires c = omega (arith, c.loop-i-test.true, c.loop-i.invariant.len, c.loop-i.invariant.room)
+
+pub returns-clause-value : goal.returns-clause-value
+returns-clause-value c =
+    let l : length c.args.sets.now ≤ c.loop-i.i = omega (arith, c.loop-i-test.false) in
+    all_rows set_of c.args.sets.now c.loop-i.i c.loop-i.rows.items l c.loop-i.invariant.rows

@@ -1,4 +1,4 @@
-use Rattle.std.proofs.Common.{◌≡◌, [], map, take, drop}
+use Rattle.std.proofs.Common.{◌≡◌, ◌≤◌, [], length, map, take, drop, vec_len, vec_capacity}
 use Rattle.settings_check.specs.Checks.{entries_fault}
 use Rattle.settings_check.specs.Meaning.{set_of}
 use Rattle.settings_check.specs.FirstFault.{set_fault}
@@ -6,6 +6,8 @@ use Rattle.settings_check.proofs.sets.set_rows.Given as goal
 
 abbrev pub invariant-loop-i : goal.invariant-loop-i
 invariant-loop-i l = record {
+  len : vec_len l.rows ≡ l.i;
+  room : length l.sets ≤ vec_capacity l.rows;
   rows : l.rows.items ≡ map set_of (take l.i l.sets);
   fault : entries_fault (set_fault l.own) (take l.i l.sets) (drop l.i l.sets) ≡ entries_fault (set_fault l.own) [] l.sets;
 }
