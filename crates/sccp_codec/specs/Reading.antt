@@ -1,5 +1,6 @@
 -- Reading unitdata, with the first fault that is met (Q.713 §1.5, §2.3).
-use Rattle.std.specs.Prelude.{ℕ, ◌+◌, ◌*◌, ◌/◌, ◌%◌, ◌^◌, ◌==◌, ◌||◌, not, if◌then◌else◌, nat_lt, nat_le, List, [], ◌∷◌, length, take, drop, slice_index, Option, Some, None, Result, Ok, Err}
+use Rattle.std.specs.Prelude.{ℕ, ◌+◌, ◌*◌, ◌/◌, ◌%◌, ◌^◌, ◌==◌, ◌||◌, not, if◌then◌else◌, nat_lt, nat_le, List, [], ◌∷◌}
+use Rattle.std.specs.Prelude.{length, take, drop, slice_index, Option, Some, None, Result, Ok, Err}
 use Rattle.sccp_codec.specs.declared.fault.SccpFault.{SccpFault}
 use Rattle.sccp_codec.specs.declared.fault.SccpFault.TheVariants.{Short, Pointer, Kind}
 use Rattle.sccp_codec.specs.declared.address.Routing.TheVariants.{Title, Ssn}

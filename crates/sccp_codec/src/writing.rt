@@ -1,7 +1,9 @@
 //! Unitdata written behind a routing label.
 
-ghost use Rattle.std.specs.Prelude.{◌≡◌, ◌+◌, ◌<◌, ◌≤◌, ◌^◌, ◌++◌, ◌↔◌, length, take, drop, IsOk, IsSome, IfSome, IfOk, IfErr, OnOk, OnErr, Ok};
-ghost use Rattle.sccp_codec.specs.Addresses.{address_octets, point_octets, ssn_octets, indicator_octet, bit, IsAddressValue};
+ghost use Rattle.std.specs.Prelude.{◌≡◌, ◌+◌, ◌<◌, ◌≤◌, ◌^◌, ◌++◌, ◌↔◌, length, take, drop, IsOk, IsSome, IfSome, IfOk};
+ghost use Rattle.std.specs.Prelude.{IfErr, OnOk, OnErr, Ok};
+ghost use Rattle.sccp_codec.specs.Addresses.{address_octets, point_octets, ssn_octets, indicator_octet, bit};
+ghost use Rattle.sccp_codec.specs.Addresses.{IsAddressValue};
 ghost use Rattle.sccp_codec.specs.Messages.{spelled, counted, pointed, IsWritable, IsPartsValue, HasOctets};
 ghost use Rattle.sccp_codec.specs.Layout.{LaysOut};
 ghost use Rattle.sccp_codec.specs.Reading.{read_unitdata};
