@@ -1,6 +1,7 @@
 -- What an address is translated to: among all rows of its key whose digits begin its digits, the longest (Q.714 §2.4;
 -- that the longest is taken is this node's choice).
-use Rattle.std.specs.Prelude.{ℕ, ◌≤◌, Bool, IsTrue, ◌&&◌, ◌==◌, if◌then◌else◌, nat_eq, nat_lt, List, [], ◌∷◌, length, filter, All, Contains, Option, Some, None, Result, Ok, Err}
+use Rattle.std.specs.Prelude.{ℕ, ◌≤◌, Bool, IsTrue, ◌&&◌, ◌==◌, if◌then◌else◌, nat_eq, nat_lt, List, [], ◌∷◌, length}
+use Rattle.std.specs.Prelude.{filter, All, Contains, Option, Some, None, Result, Ok, Err}
 use Rattle.std.specs.List.{starts_with, list_any}
 use Rattle.settings_rows.specs.Configuration.{TitleEntry}
 use Rattle.signalling_types.specs.declared.cause.Cause.{Cause}

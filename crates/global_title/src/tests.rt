@@ -2,42 +2,43 @@
 
 use crate::{TitleKey, Translations};
 use settings_rows::{Route, TitleRow};
-use signalling_types::{Cause, Limits, PointCode};
+use signalling_types::{Cause, Limits, PointCode, Ssn};
 use std::alloc::Global;
 use std::test::Fail;
 
-/// What is done to a table, and what it answers: rows are added with the point that they lead to, addresses are
-/// translated to a point, rows are removed and shown in their order. A key is translation type, plan and nature.
+/// What is done to a table, and what it answers: rows are added with the point that they lead to and how they are
+/// routed there, `title` or by which subsystem number; addresses are translated to these; rows are removed and shown
+/// in their order. A key is translation type, plan and nature.
 const LINES: &str = "\
 translate 0 1 4 491720 NoNature
-add 0 1 4 4917 300 ok
-add 0 1 4 49 3 ok
-translate 0 1 4 491720 300
-translate 0 1 4 4917 300
-translate 0 1 4 491 3
-translate 0 1 4 49 3
+add 0 1 4 4917 300 6 ok
+add 0 1 4 49 3 title ok
+translate 0 1 4 491720 300 6
+translate 0 1 4 4917 300 6
+translate 0 1 4 491 3 title
+translate 0 1 4 49 3 title
 translate 0 1 4 48 NoDigits
 translate 0 1 4 4 NoDigits
 translate 0 1 4 - NoDigits
 translate 0 1 3 491720 NoNature
 translate 0 2 4 491720 NoNature
 translate 1 1 4 491720 NoNature
-add 0 1 4 4917 7 DuplicateRow
-translate 0 1 4 4917 300
-add 0 1 3 4917 7 ok
-add 0 2 4 4917 8 ok
-add 1 1 4 4917 9 ok
-translate 0 1 3 4917 7
-translate 0 2 4 4917 8
-translate 1 1 4 4917 9
-add 0 1 4 491720 10 ok
-translate 0 1 4 491720 10
-translate 0 1 4 491721 300
-add 0 1 4 4a 11 ok
-add 0 1 4 5 12 ok
-add 0 1 4 491 13 ok
-translate 0 1 4 4918 13
-translate 0 1 4 5 12
+add 0 1 4 4917 7 title DuplicateRow
+translate 0 1 4 4917 300 6
+add 0 1 3 4917 7 title ok
+add 0 2 4 4917 8 title ok
+add 1 1 4 4917 9 title ok
+translate 0 1 3 4917 7 title
+translate 0 2 4 4917 8 title
+translate 1 1 4 4917 9 title
+add 0 1 4 491720 10 title ok
+translate 0 1 4 491720 10 title
+translate 0 1 4 491721 300 6
+add 0 1 4 4a 11 title ok
+add 0 1 4 5 12 title ok
+add 0 1 4 491 13 title ok
+translate 0 1 4 4918 13 title
+translate 0 1 4 5 12 title
 translate 0 1 4 6 NoDigits
 row 0 0 1 3 4917
 row 1 0 1 4 49
@@ -55,7 +56,7 @@ remove 0 1 4 4 NoSuchName
 remove 0 1 4 49172 NoSuchName
 remove 0 1 2 491 NoSuchName
 translate 0 1 4 49 NoDigits
-translate 0 1 4 491720 10
+translate 0 1 4 491720 10 title
 row 1 0 1 4 491
 row 7 1 1 4 4917
 row 8 none
@@ -83,17 +84,34 @@ fn key(parts: [&str; 3]) -> Option<TitleKey> {
     })
 }
 
+/// A row that leads to this point, and how it is routed there.
+fn routed(key: TitleKey, digits: &[u8], point: u16, route: Route) -> Option<TitleRow> {
+    let point = PointCode::new(point)?;
+    TitleRow::new(key.translation, key.plan, key.nature, digits, point, route)
+}
+
 /// A row that leads to this point, routed by its title.
 fn row(key: TitleKey, digits: &[u8], point: u16) -> Option<TitleRow> {
-    let point = PointCode::new(point)?;
-    TitleRow::new(
-        key.translation,
-        key.plan,
-        key.nature,
-        digits,
-        point,
-        Route::Title(None),
-    )
+    routed(key, digits, point, Route::Title(None))
+}
+
+/// The row that two words say: where it leads, and how it is routed there.
+fn worded(key: TitleKey, digits: &[u8], words: [&str; 2]) -> Option<TitleRow> {
+    let [point, route] = words;
+    let point = point.parse().ok()?;
+    if route == "title" {
+        return row(key, digits, point);
+    }
+    let ssn = Ssn::new(route.parse().ok()?)?;
+    routed(key, digits, point, Route::Ssn(ssn))
+}
+
+/// Whether a route is what a word says.
+fn is_route(route: Route, word: &str) -> bool {
+    match route {
+        Route::Title(ssn) => ssn.is_none() && word == "title",
+        Route::Ssn(ssn) => word.parse().ok() == Some(ssn.number()),
+    }
 }
 
 /// The name of an answer.
@@ -115,28 +133,29 @@ fn is_row(table: &Translations, index: &str, key: TitleKey, digits: &[u8]) -> Op
     )
 }
 
-/// Whether an address is translated to a point, or refused, as the text says.
-fn is_translated(table: &Translations, key: TitleKey, digits: &[u8], want: &str) -> bool {
+/// Whether an address is translated to a point and a route, or refused, as two words say.
+fn is_translated(table: &Translations, key: TitleKey, digits: &[u8], words: [&str; 2]) -> bool {
+    let [want, route] = words;
     match table.translate(key, digits) {
-        Ok(row) => want.parse().ok() == Some(row.point().code()),
+        Ok(row) => want.parse().ok() == Some(row.point().code()) && is_route(row.route(), route),
         Err(cause) => cause.name() == want,
     }
 }
 
 /// Whether a line with a key holds.
-fn holds(table: &mut Translations, verb: &str, words: [&str; 4], rest: [&str; 2]) -> Option<bool> {
+fn holds(table: &mut Translations, verb: &str, words: [&str; 4], rest: [&str; 3]) -> Option<bool> {
     let mut buffer = [0; Limits::TITLE_DIGITS];
     let [translation, plan, nature, text] = words;
     let key = key([translation, plan, nature])?;
     let digits = digits(text, &mut buffer)?;
-    let [first, second] = rest;
+    let [first, second, third] = rest;
     match verb {
         "add" => {
-            let row = row(key, digits, first.parse().ok()?)?;
-            Some(name(table.add(row)) == second)
+            let row = worded(key, digits, [first, second])?;
+            Some(name(table.add(row)) == third)
         }
         "remove" => Some(name(table.remove(key, digits)) == first),
-        "translate" => Some(is_translated(table, key, digits, first)),
+        "translate" => Some(is_translated(table, key, digits, [first, second])),
         _ => None,
     }
 }
@@ -162,10 +181,11 @@ fn line_holds(table: &mut Translations, line: &str) -> Option<bool> {
     let c = words.next().unwrap_or("");
     let d = words.next().unwrap_or("");
     let e = words.next().unwrap_or("");
+    let f = words.next().unwrap_or("");
     if verb == "row" {
         is_in_order(table, first, [a, b, c, d])
     } else {
-        holds(table, verb, [first, a, b, c], [d, e])
+        holds(table, verb, [first, a, b, c], [d, e, f])
     }
 }
 

@@ -1,6 +1,7 @@
 //! A table of translation rows.
 
-ghost use Rattle.std.specs.Prelude.{◌≡◌, ◌≤◌, ◌↔◌, [], length, filter, slice_get, IsTrue, Some, None, Err, IsOk, IfOk, IfErr, OnOk, OnErr, IsOkUnless};
+ghost use Rattle.std.specs.Prelude.{◌≡◌, ◌≤◌, ◌↔◌, [], length, filter, slice_get, IsTrue, Some, None, Err, IsOk, IfOk};
+ghost use Rattle.std.specs.Prelude.{IfErr, OnOk, OnErr, IsOkUnless};
 ghost use Rattle.std.specs.List.{list_any};
 ghost use Rattle.global_title.specs.Rows.{IsOrdered, place_of, has_row, with_row, without_row, add_refusal};
 ghost use Rattle.global_title.specs.Translation.{translation, leads, longest, longer, has_key, IsTranslation};
