@@ -1,5 +1,5 @@
 -- The first fault of several.
-use Rattle.std.proofs.Common.{◌≡◌, List, [], ◌∷◌, Option, Some, None, refl}
+use Rattle.std.proofs.Common.{◌≡◌, List, ◌∷◌, Option, Some, None, refl}
 use Rattle.settings_check.specs.Checks.{first_of}
 use Rattle.settings_rows.specs.declared.fault.DraftFault.{DraftFault}
 

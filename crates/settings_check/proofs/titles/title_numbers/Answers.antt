@@ -1,4 +1,4 @@
-use Rattle.std.proofs.Common.{rules, [], refl, ◌≡◌}
+use Rattle.std.proofs.Common.{rules, [], ◌≡◌}
 use Rattle.std.specs.Prelude.{None, Some}
 use Rattle.std.proofs.lemmas.Result.{err_from_is_err_and}
 use Rattle.settings_rows.specs.declared.key.Key.TheVariants.{TitleTranslation, TitlePlan, TitleNature}
