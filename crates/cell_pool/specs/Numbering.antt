@@ -1,5 +1,6 @@
 -- Cells of a row, by number: which of them each list has.
-use Rattle.std.specs.Prelude.{◌≡◌, ℕ, ◌+◌, List, [], length, nat_lt, nat_eq, count_by, sum_by, if◌then◌else◌, slice_index_or}
+use Rattle.std.specs.Prelude.{◌≡◌, ℕ, ◌+◌, List, [], length, nat_lt, nat_eq, count_by, sum_by, if◌then◌else◌}
+use Rattle.std.specs.Prelude.{slice_index_or}
 
 -- the numbers of each list's cells in order, one ring for each list, and how many cells there are
 pub record Numbering : Type 0 where

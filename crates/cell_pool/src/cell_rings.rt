@@ -1,6 +1,7 @@
 //! Which cells each list has, in order. The cells that no list has are free.
 
-ghost use Rattle.std.specs.Prelude.{◌≡◌, ℕ, ◌+◌, ◌^◌, ◌<◌, ◌≤◌, List, [], ◌∷◌, ◌++◌, length, drop, replicate, sum_by, slice_get, slice_set, vec_capacity, IfOk, IfSome};
+ghost use Rattle.std.specs.Prelude.{◌≡◌, ℕ, ◌+◌, ◌^◌, ◌<◌, ◌≤◌, List, [], ◌∷◌, ◌++◌, length, drop, replicate, sum_by};
+ghost use Rattle.std.specs.Prelude.{slice_get, slice_set, vec_capacity, IfOk, IfSome};
 ghost use Rattle.std.specs.List.{range_with_len};
 ghost use Rattle.circular_buffer.specs.Buffer.{buffer};
 ghost use Rattle.cell_pool.specs.Numbering.{ring_at, uses};
@@ -73,7 +74,9 @@ impl CellRings {
     pub(crate) fn claim(&mut self, ring: usize) -> CellNumber
         requires ring { ring < length self.old.rings }
         requires room { sum_by length self.old.rings < self.old.total }
-        ensures rings { self.new ≡ record self.old { rings = slice_set self.old.rings ring (ring_at self.old.rings ring ++ result ∷ []) } }
+        ensures rings { self.new ≡ record self.old {
+          rings = slice_set self.old.rings ring (ring_at self.old.rings ring ++ result ∷ []);
+        } }
         ensures within { result < self.old.total }
         ensures fresh { sum_by (uses result) self.old.rings ≡ 0 }
     {
@@ -88,7 +91,9 @@ impl CellRings {
     /// Frees the first number of a ring, where there is one.
     pub(crate) fn release(&mut self, ring: usize)
         requires { ring < length self.old.rings }
-        ensures { self.new ≡ record self.old { rings = slice_set self.old.rings ring (drop 1 (ring_at self.old.rings ring)) } }
+        ensures { self.new ≡ record self.old {
+          rings = slice_set self.old.rings ring (drop 1 (ring_at self.old.rings ring));
+        } }
     {
         let ring = &mut self.rings[ring];
         if let Some(number) = ring.pop_front() {

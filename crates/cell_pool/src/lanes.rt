@@ -1,6 +1,7 @@
 //! What every store of messages does.
 
-ghost use Rattle.std.specs.Prelude.{◌≡◌, ℕ, ◌<◌, ◌≤◌, List, None, Some, length, IfErr, OnOk, is_ok, slice_get, if◌then◌else◌};
+ghost use Rattle.std.specs.Prelude.{◌≡◌, ℕ, ◌<◌, ◌≤◌, List, None, Some, length, IfErr, OnOk, is_ok, slice_get};
+ghost use Rattle.std.specs.Prelude.{if◌then◌else◌};
 ghost use Rattle.std.specs.Option.{option_copied};
 ghost use Rattle.signalling_types.specs.Message.{Message};
 ghost use Rattle.signalling_types.specs.Lent.{lent};
@@ -31,9 +32,11 @@ pub trait Lanes {
     fn push_back(&mut self, lane: usize, message: MsuRef<'_>) -> Result<(), Cause>
         requires lane { lane < length (lists self.old) }
         requires fits { length message.sif.now ≤ Limits.SIF_OCTETS }
-        ensures refused { IfErr result (λ cause. push_refusal (pool self.old) (lists self.old) (lent message.entry) ≡ Some cause) }
+        ensures refused { IfErr result (λ cause.
+            push_refusal (pool self.old) (lists self.old) (lent message.entry) ≡ Some cause) }
         ensures taken { OnOk result (push_refusal (pool self.old) (lists self.old) (lent message.entry) ≡ None) }
-        ensures lists { lists self.new ≡ (if is_ok result then pushed (lists self.old) lane (lent message.entry) else lists self.old) }
+        ensures lists { lists self.new
+            ≡ (if is_ok result then pushed (lists self.old) lane (lent message.entry) else lists self.old) }
         ensures pool { pool self.new ≡ pool self.old };
 
     /// Takes the first message of a list, where there is one.

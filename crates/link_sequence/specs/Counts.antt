@@ -1,6 +1,7 @@
 -- What is kept of a queue: the messages that aren't confirmed, the number of the first of them, how many of them
 -- were sent, and the number that the peer's next message must have.
-use Rattle.std.specs.Prelude.{ℕ, Bool, ◌+◌, ◌-◌, ◌%◌, List, drop, Option, Some, None, Result, Ok, Err, nat_eq, nat_lt, nat_le, slice_get, if◌then◌else◌}
+use Rattle.std.specs.Prelude.{ℕ, Bool, ◌+◌, ◌-◌, ◌%◌, List, drop, Option, Some, None, Result, Ok, Err, nat_eq, nat_lt}
+use Rattle.std.specs.Prelude.{nat_le, slice_get, if◌then◌else◌}
 use Rattle.signalling_types.specs.Message.{Message}
 use Rattle.link_number.specs.Numbers.{modulus, next_number, previous_number, steps_between}
 use Rattle.link_sequence.specs.declared.fault.SeqFault.{SeqFault}
@@ -17,7 +18,11 @@ pub record Counts : Type 0 where
 
 -- what is kept of a queue's counts
 abbrev pub counts_of : Queue → Counts
-counts_of q = record { oldest = number_of q q.confirmed; outstanding = q.sent - q.confirmed; expected = q.received % modulus }
+counts_of q = record {
+  oldest = number_of q q.confirmed;
+  outstanding = q.sent - q.confirmed;
+  expected = q.received % modulus;
+}
 
 -- what is kept of its messages
 abbrev pub unconfirmed : Queue → List Message
@@ -34,7 +39,9 @@ kept_first_at number = record { oldest = number; outstanding = 0; expected = 0 }
 -- how many more messages a number confirms: its distance from the last confirmed one, where as many are outstanding
 abbrev pub kept_newly_confirmed : Counts → ℕ → Option ℕ
 kept_newly_confirmed k bsn =
-    if nat_le (steps_between k.oldest (next_number bsn)) k.outstanding then Some (steps_between k.oldest (next_number bsn)) else None
+    if nat_le (steps_between k.oldest (next_number bsn)) k.outstanding
+    then Some (steps_between k.oldest (next_number bsn))
+    else None
 
 -- the FSN that must come
 abbrev pub kept_expected : Counts → Bool → ℕ
@@ -60,7 +67,9 @@ kept_accepted k fsn bsn carries = kept_after_answer k carries (kept_accept_answe
 -- the next message that goes out: the first that wasn't sent, while fewer than a window are outstanding
 abbrev pub kept_to_send : Counts → List Message → ℕ → Option Sending
 kept_to_send k lane window =
-    if nat_lt k.outstanding window then numbered ((k.oldest + k.outstanding) % modulus) (slice_get lane k.outstanding) else None
+    if nat_lt k.outstanding window
+    then numbered ((k.oldest + k.outstanding) % modulus) (slice_get lane k.outstanding)
+    else None
 
 -- the counts after it went out
 abbrev pub kept_after_sending : Counts → Option Sending → Counts

@@ -11,4 +11,9 @@ abbrev pub IsInStep : Inside → Type 0
 IsInStep s = s.next ≡ (s.oldest + s.outstanding) % modulus
 
 abbrev pub fields_of : Counts → Inside
-fields_of k = record { oldest = k.oldest; next = (k.oldest + k.outstanding) % modulus; outstanding = k.outstanding; expected = k.expected }
+fields_of k = record {
+  oldest = k.oldest;
+  next = (k.oldest + k.outstanding) % modulus;
+  outstanding = k.outstanding;
+  expected = k.expected;
+}

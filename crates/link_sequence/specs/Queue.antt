@@ -1,5 +1,6 @@
 -- The queue of a link: all messages of an epoch in order, numbered from 0, and how far they have come (RFC 4165 §2.2).
-use Rattle.std.specs.Prelude.{◌≡◌, ℕ, zero, suc, Bool, ◌+◌, ◌-◌, ◌%◌, ◌≤◌, List, [], ◌∷◌, ◌++◌, length, find, Option, Some, None, Result, Ok, Err, nat_eq, nat_lt, slice_get, if◌then◌else◌}
+use Rattle.std.specs.Prelude.{◌≡◌, ℕ, zero, suc, Bool, ◌+◌, ◌-◌, ◌%◌, ◌≤◌, List, [], ◌∷◌, ◌++◌, length, find, Option}
+use Rattle.std.specs.Prelude.{Some, None, Result, Ok, Err, nat_eq, nat_lt, slice_get, if◌then◌else◌}
 use Rattle.std.specs.Option.{option_map}
 use Rattle.signalling_types.specs.Message.{Message}
 use Rattle.signalling_types.specs.declared.limits.TheConstants.Limits.{WINDOW}
@@ -17,8 +18,8 @@ pub record Queue : Type 0 where
   -- how many messages of the peer were accepted
   pub received : ℕ
 
--- what is confirmed was sent, what was sent is there, and no more than a window of w is sent and unconfirmed; settings allow no
--- wider one than WINDOW
+-- what is confirmed was sent, what was sent is there, and no more than a window of w is sent and unconfirmed;
+-- settings allow no wider one than WINDOW
 pub record IsQueue (w : ℕ) (q : Queue) : Type 0 where
   pub confirmed : q.confirmed ≤ q.sent
   pub sent : q.sent ≤ length q.all
@@ -51,7 +52,8 @@ counts_from first (suc many) = first ∷ counts_from (first + 1) many
 
 -- the count that it names, found among those from `confirmed` to `sent`
 abbrev pub named_count : Queue → ℕ → Option ℕ
-named_count q bsn = find (λ n. nat_eq (number_of q n) (next_number bsn)) (counts_from q.confirmed (q.sent - q.confirmed + 1))
+named_count q bsn =
+    find (λ n. nat_eq (number_of q n) (next_number bsn)) (counts_from q.confirmed (q.sent - q.confirmed + 1))
 
 -- how many more messages it confirms
 abbrev pub newly_confirmed : Queue → ℕ → Option ℕ
@@ -77,7 +79,10 @@ count_confirmed (Err fault) = 0
 
 -- the queue after a frame; a fault changes nothing
 abbrev pub after_answer : Queue → Bool → Result ℕ SeqFault → Queue
-after_answer q carries (Ok count) = record q { confirmed = q.confirmed + count; received = if carries then q.received + 1 else q.received }
+after_answer q carries (Ok count) = record q {
+  confirmed = q.confirmed + count;
+  received = if carries then q.received + 1 else q.received;
+}
 after_answer q carries (Err fault) = q
 
 abbrev pub accepted : Queue → ℕ → ℕ → Bool → Queue

@@ -1,6 +1,7 @@
 //! The numbers of one link.
 
-ghost use Rattle.std.specs.Prelude.{◌≡◌, ℕ, ◌-◌, ◌<◌, ◌≤◌, List, [], None, OnErr, length, nat_lt, slice_get, if◌then◌else◌};
+ghost use Rattle.std.specs.Prelude.{◌≡◌, ℕ, ◌-◌, ◌<◌, ◌≤◌, List, [], None, OnErr, length, nat_lt, slice_get};
+ghost use Rattle.std.specs.Prelude.{if◌then◌else◌};
 ghost use Rattle.std.specs.Option.{option_map, option_copied};
 ghost use Rattle.cell_pool.specs.Lanes.{lane_at, dropped};
 ghost use Rattle.signalling_types.specs.Message.{Message};
@@ -91,7 +92,8 @@ impl Sequence {
     /// None where it names none from what is confirmed to what was sent.
     pub fn retrieve(&self, confirmed: Number24) -> Option<usize>
         ensures count { result ≡ kept_newly_confirmed self.now confirmed }
-        ensures queue { (w : ℕ) (lane : List Message) (q : Queue) → Keeps w self.now lane q → result ≡ newly_confirmed q confirmed }
+        ensures queue { (w : ℕ) (lane : List Message) (q : Queue) →
+            Keeps w self.now lane q → result ≡ newly_confirmed q confirmed }
     {
         let count = distance(self.oldest, next(confirmed)) as usize;
         (count <= self.outstanding).then_some(count)
@@ -100,7 +102,8 @@ impl Sequence {
     /// How many messages were sent and aren't confirmed.
     pub fn outstanding(&self) -> usize
         ensures count { result ≡ self.now.outstanding }
-        ensures queue { (w : ℕ) (lane : List Message) (q : Queue) → Keeps w self.now lane q → result ≡ q.sent - q.confirmed }
+        ensures queue { (w : ℕ) (lane : List Message) (q : Queue) →
+            Keeps w self.now lane q → result ≡ q.sent - q.confirmed }
     {
         self.outstanding
     }
@@ -126,8 +129,11 @@ impl Sequence {
         ensures pool { L.pool lanes.new ≡ L.pool lanes.old }
         ensures fault { OnErr result (self.new ≡ self.old) }
         ensures fault_lists { OnErr result (L.lists lanes.new ≡ L.lists lanes.old) }
-        ensures queue_answer { (w : ℕ) (q : Queue) → Keeps w self.old (lane_at (L.lists lanes.old) lane) q → result ≡ accept_answer q fsn bsn carries }
-        ensures queue { (w : ℕ) (q : Queue) → Keeps w self.old (lane_at (L.lists lanes.old) lane) q → Keeps w self.new (lane_at (L.lists lanes.new) lane) (accepted q fsn bsn carries) }
+        ensures queue_answer { (w : ℕ) (q : Queue) →
+            Keeps w self.old (lane_at (L.lists lanes.old) lane) q → result ≡ accept_answer q fsn bsn carries }
+        ensures queue { (w : ℕ) (q : Queue) →
+            Keeps w self.old (lane_at (L.lists lanes.old) lane) q →
+            Keeps w self.new (lane_at (L.lists lanes.new) lane) (accepted q fsn bsn carries) }
     {
         let answer = self.accept_numbers(fsn, bsn, carries);
         lanes.drop_front(lane, answer.unwrap_or(0));
@@ -170,10 +176,15 @@ impl Sequence {
         window: usize,
     ) -> Option<(Number24, &'l Msu)>
         requires { lane < length (L.lists lanes.now) }
-        ensures sending { option_map sending_of result ≡ kept_to_send self.old (lane_at (L.lists lanes.now) lane) window }
+        ensures sending { option_map sending_of result
+            ≡ kept_to_send self.old (lane_at (L.lists lanes.now) lane) window }
         ensures counts { self.new ≡ kept_sent_one self.old (lane_at (L.lists lanes.now) lane) window }
-        ensures queue_sending { (w : ℕ) (q : Queue) → Keeps w self.old (lane_at (L.lists lanes.now) lane) q → option_map sending_of result ≡ to_send q window }
-        ensures queue { (q : Queue) → Keeps window self.old (lane_at (L.lists lanes.now) lane) q → Keeps window self.new (lane_at (L.lists lanes.now) lane) (sent_one q window) }
+        ensures queue_sending { (w : ℕ) (q : Queue) →
+            Keeps w self.old (lane_at (L.lists lanes.now) lane) q →
+            option_map sending_of result ≡ to_send q window }
+        ensures queue { (q : Queue) →
+            Keeps window self.old (lane_at (L.lists lanes.now) lane) q →
+            Keeps window self.new (lane_at (L.lists lanes.now) lane) (sent_one q window) }
     {
         let message = self.unsent(lanes, lane, window)?;
         let number = self.next;
@@ -185,7 +196,8 @@ impl Sequence {
     // The next message that goes out, if one may.
     fn unsent<'l, L: Lanes>(&self, lanes: &'l L, lane: usize, window: usize) -> Option<&'l Msu>
         requires { lane < length (L.lists lanes.now) }
-        ensures message { option_copied result ≡ (if nat_lt self.now.outstanding window then slice_get (lane_at (L.lists lanes.now) lane) self.now.outstanding else None) }
+        ensures message { option_copied result ≡ (if nat_lt self.now.outstanding window
+            then slice_get (lane_at (L.lists lanes.now) lane) self.now.outstanding else None) }
     {
         if self.outstanding < window {
             lanes.get(lane, self.outstanding)
@@ -197,7 +209,8 @@ impl Sequence {
     /// Forgets what was sent: the next message that goes out has the number 0. What was received stays.
     pub fn empty(&mut self)
         ensures counts { self.new ≡ kept_emptied self.old }
-        ensures queue { (w : ℕ) (lane : List Message) (q : Queue) → Keeps w self.old lane q → Keeps w self.new [] (emptied q) }
+        ensures queue { (w : ℕ) (lane : List Message) (q : Queue) →
+            Keeps w self.old lane q → Keeps w self.new [] (emptied q) }
     {
         self.oldest = Number24::zero();
         self.next = Number24::zero();

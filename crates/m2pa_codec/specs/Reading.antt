@@ -1,5 +1,6 @@
 -- Reading a frame, with the first fault that is met (RFC 4165 §2).
-use Rattle.std.specs.Prelude.{ℕ, ◌+◌, List, [], ◌∷◌, length, drop, Option, Some, None, is_some, unwrap_or, Result, Ok, Err, nat_lt, ◌==◌, not, if◌then◌else◌, slice_index}
+use Rattle.std.specs.Prelude.{ℕ, ◌+◌, List, [], ◌∷◌, length, drop, Option, Some, None, is_some, unwrap_or, Result, Ok}
+use Rattle.std.specs.Prelude.{Err, nat_lt, ◌==◌, not, if◌then◌else◌, slice_index}
 use Rattle.std.specs.Int.{w32, from_be_bytes}
 use Rattle.signalling_types.specs.declared.notice.FrameFault.{FrameFault}
 use Rattle.signalling_types.specs.declared.notice.FrameFault.TheVariants.{Short, Length, Version, Unknown}
@@ -29,7 +30,8 @@ fsn_field text = number_field text 13
 -- the state that a link status tells, where it has one of the nine: octets 16 to 19
 abbrev pub state_field : List ℕ → Option LinkStatus
 state_field text =
-    status_of (from_be_bytes w32 (slice_index text 16 ∷ slice_index text 17 ∷ slice_index text 18 ∷ slice_index text 19 ∷ []))
+    status_of (from_be_bytes w32
+    (slice_index text 16 ∷ slice_index text 17 ∷ slice_index text 18 ∷ slice_index text 19 ∷ []))
 
 -- the first fault of the common header
 abbrev pub header_fault : List ℕ → Option FrameFault

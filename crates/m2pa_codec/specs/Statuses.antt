@@ -1,7 +1,9 @@
 -- The states that a Link Status message tells, by number (RFC 4165 §2.3.2).
 use Rattle.std.specs.Prelude.{ℕ, Option, Some, None, if◌then◌else◌, ◌==◌}
 use Rattle.m2pa_codec.specs.declared.status.LinkStatus.{LinkStatus}
-use Rattle.m2pa_codec.specs.declared.status.LinkStatus.TheVariants.{Alignment, ProvingNormal, ProvingEmergency, Ready, ProcessorOutage, ProcessorRecovered, Busy, BusyEnded, OutOfService}
+use Rattle.m2pa_codec.specs.declared.status.LinkStatus.TheVariants.{Alignment, ProvingNormal, ProvingEmergency, Ready}
+use Rattle.m2pa_codec.specs.declared.status.LinkStatus.TheVariants.{ProcessorOutage, ProcessorRecovered, Busy}
+use Rattle.m2pa_codec.specs.declared.status.LinkStatus.TheVariants.{BusyEnded, OutOfService}
 
 -- a state's number
 abbrev pub status_number : LinkStatus → ℕ

@@ -1,12 +1,17 @@
 -- The routing label: where a message goes, where it comes from, and how it chooses its link (Q.704 §2.2).
-use Rattle.std.specs.Prelude.{ℕ, ◌+◌, ◌*◌, ◌/◌, ◌%◌, ◌^◌, ◌<◌, List, [], ◌∷◌, Option, Some, None, length, nat_lt, if◌then◌else◌}
+use Rattle.std.specs.Prelude.{ℕ, ◌+◌, ◌*◌, ◌/◌, ◌%◌, ◌^◌, ◌<◌, List, [], ◌∷◌, Option, Some, None, length, nat_lt}
+use Rattle.std.specs.Prelude.{if◌then◌else◌}
 use Rattle.signalling_types.specs.Message.{label_number}
 use Rattle.routing_label.specs.declared.label.Label.{Label}
 
 -- the label of a signalling information field: its first four octets as one number, low octet first;
 -- the low 14 bits are the destination, the next 14 the origin, the top four the link selection
 abbrev pub label_at : List ℕ → Label
-label_at sif = record { dpc = label_number sif % 2 ^ 14; opc = label_number sif / 2 ^ 14 % 2 ^ 14; sls = label_number sif / 2 ^ 28 % 2 ^ 4 }
+label_at sif = record {
+  dpc = label_number sif % 2 ^ 14;
+  opc = label_number sif / 2 ^ 14 % 2 ^ 14;
+  sls = label_number sif / 2 ^ 28 % 2 ^ 4;
+}
 
 -- the same, where the field has four octets
 abbrev pub label_in : List ℕ → Option Label

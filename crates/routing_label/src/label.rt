@@ -51,5 +51,6 @@ impl Label {
 pub fn every_label_reads_back()
     ensures octets { (label : Label) → All (λ octet. octet < 256) (label_octets label) }
     ensures number { (label : Label) → IsLabel label → label_number (label_octets label) ≡ number_of_label label }
-    ensures read_back { (label : Label) (rest : List ℕ) → IsLabel label → label_in (label_octets label ++ rest) ≡ Some label }
+    ensures read_back { (label : Label) (rest : List ℕ) →
+        IsLabel label → label_in (label_octets label ++ rest) ≡ Some label }
 {}

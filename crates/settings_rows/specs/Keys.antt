@@ -4,7 +4,12 @@ use Rattle.std.specs.Fmt.{decimal}
 use Rattle.settings_rows.specs.declared.key.TimerKey.{TimerKey}
 use Rattle.settings_rows.specs.declared.key.TimerKey.TheVariants.{L1, L2, L3, L4, L6, L7, T1, T2, T3, T4, T6, T8, T10}
 use Rattle.settings_rows.specs.declared.key.Key.{Key}
-use Rattle.settings_rows.specs.declared.key.Key.TheVariants.{Version, Own, Network, Window, Pool, Users, Subsystems, Timers, Timer, Set, SetEntry, SetName, SetAdjacent, Link, LinkEntry, LinkName, LinkSet, LinkSlc, Destination, DestinationEntry, DestinationPoint, DestinationSets, Title, TitleEntry, TitleTranslation, TitlePlan, TitleNature, TitleDigits, TitlePoint, TitleRoute, TitleSsn}
+use Rattle.settings_rows.specs.declared.key.Key.TheVariants.{Version, Own, Network, Window, Pool, Users, Subsystems}
+use Rattle.settings_rows.specs.declared.key.Key.TheVariants.{Timers, Timer, Set, SetEntry, SetName, SetAdjacent, Link}
+use Rattle.settings_rows.specs.declared.key.Key.TheVariants.{LinkEntry, LinkName, LinkSet, LinkSlc, Destination}
+use Rattle.settings_rows.specs.declared.key.Key.TheVariants.{DestinationEntry, DestinationPoint, DestinationSets, Title}
+use Rattle.settings_rows.specs.declared.key.Key.TheVariants.{TitleEntry, TitleTranslation, TitlePlan, TitleNature}
+use Rattle.settings_rows.specs.declared.key.Key.TheVariants.{TitleDigits, TitlePoint, TitleRoute, TitleSsn}
 
 -- how the key of a timer is written
 abbrev pub timer_path : TimerKey → List ℕ

@@ -7,5 +7,6 @@ use Rattle.settings_rows.specs.declared.title_row.TitleRow.TheInside.{Inside}
 
 pub put_title-title_in : (t : Inside) → IsTitleInPlace t → put_title (title_in t) ≡ t
 put_title-title_in t h =
-    let row : take t.len t.digits ++ replicate (TITLE_DIGITS - t.len) 0 ≡ t.digits = rw (← h.padded) (take-append-drop t.len t.digits) in
+    let row : take t.len t.digits ++ replicate (TITLE_DIGITS - t.len) 0 ≡ t.digits =
+    rw (← h.padded) (take-append-drop t.len t.digits) in
     rw (h.len, row)

@@ -1,7 +1,12 @@
 -- The causes of refusals, by number and by name.
 use Rattle.std.specs.Prelude.{ℕ, List, codes}
 use Rattle.signalling_types.specs.declared.cause.Cause.{Cause}
-use Rattle.signalling_types.specs.declared.cause.Cause.TheVariants.{WrongNetwork, NoLabel, UnknownDestination, NoRoute, PoolFull, NoUserPart, NotInProfile, BadManagement, BadSccp, NoNature, NoDigits, Unequipped, TooLong, LostUnconfirmed, ManagementFull, NotFromAdjacent, LinkNotReady, ChangeoverPending, NoMemory, TableFull, DuplicateRow, NoSuchName}
+use Rattle.signalling_types.specs.declared.cause.Cause.TheVariants.{WrongNetwork, NoLabel, UnknownDestination, NoRoute}
+use Rattle.signalling_types.specs.declared.cause.Cause.TheVariants.{PoolFull, NoUserPart, NotInProfile, BadManagement}
+use Rattle.signalling_types.specs.declared.cause.Cause.TheVariants.{BadSccp, NoNature, NoDigits, Unequipped, TooLong}
+use Rattle.signalling_types.specs.declared.cause.Cause.TheVariants.{LostUnconfirmed, ManagementFull, NotFromAdjacent}
+use Rattle.signalling_types.specs.declared.cause.Cause.TheVariants.{LinkNotReady, ChangeoverPending, NoMemory}
+use Rattle.signalling_types.specs.declared.cause.Cause.TheVariants.{TableFull, DuplicateRow, NoSuchName}
 
 -- a cause's number
 abbrev pub cause_number : Cause → ℕ

@@ -9,5 +9,6 @@ use Rattle.signalling_types.specs.declared.message.Msu.TheInside.{Inside}
 pub put_in_place-message_in : (m : Inside) → IsInPlace m → put_in_place (message_in m) ≡ m
 put_in_place-message_in m h =
     let len : length (take m.len m.octets) ≡ m.len = length-take-le m.len m.octets (omega (arith, h.row, h.fits)) in
-    let row : take m.len m.octets ++ replicate (SIF_OCTETS - m.len) 0 ≡ m.octets = rw (← h.padded) (take-append-drop m.len m.octets) in
+    let row : take m.len m.octets ++ replicate (SIF_OCTETS - m.len) 0 ≡ m.octets =
+    rw (← h.padded) (take-append-drop m.len m.octets) in
     rw (len, row)

@@ -17,7 +17,8 @@ network_indicator m = m.sio / 64
 
 -- the routing label as one number: the first four octets, low octet first
 abbrev pub label_number : List ℕ → ℕ
-label_number sif = slice_index sif 0 + slice_index sif 1 * 2 ^ 8 + slice_index sif 2 * 2 ^ 16 + slice_index sif 3 * 2 ^ 24
+label_number sif =
+    slice_index sif 0 + slice_index sif 1 * 2 ^ 8 + slice_index sif 2 * 2 ^ 16 + slice_index sif 3 * 2 ^ 24
 
 -- the destination point code: the label's low 14 bits
 abbrev pub dpc_of : Message → ℕ

@@ -3,7 +3,9 @@ use Rattle.std.specs.Prelude.{ℕ, List, codes}
 use Rattle.signalling_types.specs.declared.notice.FrameFault.{FrameFault}
 use Rattle.signalling_types.specs.declared.notice.FrameFault.TheVariants.{Short, Length, Version, Unknown}
 use Rattle.signalling_types.specs.declared.notice.FailureReason.{FailureReason}
-use Rattle.signalling_types.specs.declared.notice.FailureReason.TheVariants.{Association, Timer, Sequence, Status, Length as WrongLength, Changeover, Operator}
+use Rattle.signalling_types.specs.declared.notice.FailureReason.TheVariants.{Association, Timer, Sequence, Status}
+use Rattle.signalling_types.specs.declared.notice.FailureReason.TheVariants.{Length as WrongLength, Changeover}
+use Rattle.signalling_types.specs.declared.notice.FailureReason.TheVariants.{Operator}
 
 -- the number of a frame's fault
 abbrev pub frame_fault_number : FrameFault → ℕ
