@@ -96,18 +96,15 @@ ChecksFile (Err file_fault.Unread) output output_new ended = (ended ≡ status.S
 ChecksFile (Err file_fault.NoMemory) output output_new ended =
     EndsWith status.Start (told no_memory) output output_new ended
 
--- what the program does for what its words ask, where a file is read as `reads` says
+-- what the program does for what its words ask, where a file is read as `reads` says; memory may run out for its name
 abbrev pub Does : Task → (List ℕ → FileRead → Type 0) → Input → Input → Output → Output → Status → Type 0
 Does BuiltInRun reads input input_new output output_new ended =
     RunsNode (λ settings. settings ≡ built_in_settings) IsBuiltInFault input input_new output output_new ended
 Does (FileRun file) reads input input_new output output_new ended =
-    (read : FileRead) × reads file read × RunsFile read input input_new output output_new ended
+    ((read : FileRead) × reads file read × RunsFile read input input_new output output_new ended)
+    ⊎ RunsFile (Err file_fault.NoMemory) input input_new output output_new ended
 Does (FileCheck file) reads input input_new output output_new ended =
-    (read : FileRead) × reads file read × ChecksFile read output output_new ended × (input_new ≡ input)
+    ((read : FileRead) × reads file read × ChecksFile read output output_new ended × (input_new ≡ input))
+    ⊎ (ChecksFile (Err file_fault.NoMemory) output output_new ended × (input_new ≡ input))
 Does OtherWords reads input input_new output output_new ended =
     EndsWith status.Usage (codes "usage\n") output output_new ended × (input_new ≡ input)
-
--- or it tells that memory ran out, before it reads a file
-abbrev pub DoesOrLacksMemory : Task → (List ℕ → FileRead → Type 0) → Input → Input → Output → Output → Status → Type 0
-DoesOrLacksMemory t reads input input_new output output_new ended = Does t reads input input_new output output_new ended
-    ⊎ (EndsWith status.Start (told no_memory) output output_new ended × (input_new ≡ input))

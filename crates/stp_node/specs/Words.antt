@@ -1,5 +1,6 @@
 -- The words behind the program's name, and what they ask for.
-use Rattle.std.specs.Prelude.{ℕ, Bool, false, not, nat_eq, List, [], ◌∷◌, Option, None, Some, map, if◌then◌else◌}
+use Rattle.std.specs.Prelude.{◌≡◌, ◌⊎◌, ℕ, Bool, false, not, nat_eq, List, [], ◌∷◌, Option, None, Some, map}
+use Rattle.std.specs.Prelude.{if◌then◌else◌}
 use Rattle.std.specs.Prelude.{codes, bytes_eq, string_bytes, String}
 use Rattle.std.specs.Global.{Global}
 use Rattle.stp_node.specs.declared.words.Words.{Words}
@@ -39,3 +40,14 @@ said (words.Run (Some file)) = Some (FileRun (string_bytes file))
 said (words.Check file) = Some (FileCheck (string_bytes file))
 said words.Usage = Some OtherWords
 said words.NoMemory = None
+
+-- a file is named, which takes memory
+abbrev pub NamesFile : Task → Type 0
+NamesFile BuiltInRun = ⊥
+NamesFile (FileRun file) = Unit {0}
+NamesFile (FileCheck file) = Unit {0}
+NamesFile OtherWords = ⊥
+
+-- words were read as this task, or memory ran out for the name of its file
+abbrev pub AreReadAs : Task → Words → Type 0
+AreReadAs task read = (said read ≡ Some task) ⊎ ((read ≡ words.NoMemory) × NamesFile task)

@@ -8,7 +8,7 @@ ghost use Rattle.stp_node.specs.BuiltIn.{built_in_settings};
 ghost use Rattle.stp_node.specs.Folders.{FileRead, AreSettings, IsFault};
 ghost use Rattle.stp_node.specs.Words.{asked};
 ghost use Rattle.stp_node.specs.Program.{status_number, status_after, told, EndsWith, TellsFault, IsBuiltInFault};
-ghost use Rattle.stp_node.specs.Program.{RunsScript, RunsNode, RunsFile, ChecksFile, DoesOrLacksMemory};
+ghost use Rattle.stp_node.specs.Program.{RunsScript, RunsNode, RunsFile, ChecksFile, Does};
 
 use crate::defaults::built_in;
 use crate::folder::{FileFault, Folder};
@@ -56,7 +56,7 @@ pub fn run_program<F: Folder, R: Source, W: Sink>(
     reader: &mut R,
     writer: &mut W,
 ) -> Status
-    ensures { DoesOrLacksMemory (asked words.now) (F.reads folder.now)
+    ensures { Does (asked words.now) (F.reads folder.now)
         (R.input reader.old) (R.input reader.new) (W.output writer.old) (W.output writer.new) result }
 {
     match read_words(alloc, words) {

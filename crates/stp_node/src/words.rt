@@ -1,9 +1,9 @@
 //! The words behind the program's name.
 
-ghost use Rattle.std.specs.Prelude.{◌≡◌, ◌⊎◌, Some};
-ghost use Rattle.stp_node.specs.Words.{Task, is_file_name, asked_with, asked, said};
+ghost use Rattle.std.specs.Prelude.{◌≡◌};
+ghost use Rattle.stp_node.specs.Words.{is_file_name, asked_with, asked, AreReadAs};
 
-use std::alloc::{AllocError, Global};
+use std::alloc::Global;
 
 /// What the words behind the program's name ask for.
 #[derive(Drop)]
@@ -18,19 +18,9 @@ pub enum Words {
     NoMemory,
 }
 
-impl From<AllocError> for Words {
-    ghost use Rattle.stp_node.specs.declared.words.Words.TheVariants.{NoMemory};
-
-    ghost from_gives = { λ _ words. words ≡ NoMemory };
-
-    fn from(_error: AllocError) -> Words {
-        Words::NoMemory
-    }
-}
-
 /// What the words behind the program's name ask for.
 pub fn read_words(alloc: Global, words: &[String]) -> Words
-    ensures { (said result ≡ Some (asked words.now)) ⊎ (result ≡ Words.NoMemory) }
+    ensures { AreReadAs (asked words.now) result }
 {
     match words {
         [command] if command.as_str() == "run" => Words::Run(None),
@@ -53,12 +43,17 @@ fn is_file_name(word: &str) -> bool
 
 /// What a command and a file ask for.
 fn with_file(alloc: Global, command: &str, file: &str) -> Words
-    ensures { (said result ≡ Some (asked_with command.now file.now)) ⊎ (result ≡ Words.NoMemory) }
+    ensures { AreReadAs (asked_with command.now file.now) result }
 {
-    match (command, String::from_str(alloc, file)) {
-        ("run", Ok(file)) => Words::Run(Some(file)),
-        ("check", Ok(file)) => Words::Check(file),
-        (_, Ok(_)) => Words::Usage,
-        (_, Err(_)) => Words::NoMemory,
+    match command {
+        "run" => match String::from_str(alloc, file) {
+            Ok(file) => Words::Run(Some(file)),
+            Err(_) => Words::NoMemory,
+        },
+        "check" => match String::from_str(alloc, file) {
+            Ok(file) => Words::Check(file),
+            Err(_) => Words::NoMemory,
+        },
+        _ => Words::Usage,
     }
 }

@@ -2,7 +2,7 @@
 use Rattle.std.specs.Prelude.{◌≡◌, ℕ, List, [], ◌++◌, codes, Some, String}
 use Rattle.std.specs.Global.{Global}
 use Rattle.stp_node.specs.Folders.{FileRead}
-use Rattle.stp_node.specs.Program.{DoesOrLacksMemory}
+use Rattle.stp_node.specs.Program.{Does}
 use Rattle.stp_node.specs.Streams.{Input, Output}
 use Rattle.stp_node.specs.Words.{Task, asked}
 use Rattle.stp_node.specs.declared.program.Status.{Status}
@@ -22,7 +22,7 @@ pub record Prints (t : Task) (reads : List ℕ → FileRead → Type 0) (script 
   pub input : Input
   pub output : Output
   pub written : List ℕ
-  pub does : DoesOrLacksMemory t reads (record { remaining = Some script; reads = 0; failures = 0 }) input
+  pub does : Does t reads (record { remaining = Some script; reads = 0; failures = 0 }) input
       (record { written = Some []; failures = 0 }) output status
   pub known : output.written ≡ Some written
   pub all : printed ≡ written ++ status_line status

@@ -1,24 +1,11 @@
-//! The program's words and exit statuses.
+//! The program where a read or a write fails. What it does else is in the transcripts.
 
 use super::compare;
 use std::alloc::Global;
 use std::process::Abort;
-use stp_node::{MemorySink, MemorySource, run_program};
+use stp_node::{MemorySink, MemorySource, OneFile, run_program};
 
-/// Words, each behind a comma; a script; the exit status; and what is printed: fields parted by bars,
-/// in rows that begin with a semicolon.
-const ROWS: &str = "\
-    ;,run||0|\
-    ;,run|up e0\nwants e0\n|0|handled\nnothing\n\
-    ;,run|up e0\nup\n|3|handled\nfault 2\n\
-    ;|up e0\n|1|usage\n\
-    ;,run,run|up e0\n|1|usage\n\
-    ;,Run|up e0\n|1|usage\n\
-    ;,run |up e0\n|1|usage\n\
-    ;,|up e0\n|1|usage\n\
-    ;,check|up e0\n|1|usage\n";
-
-/// Words, each behind a comma.
+/// The words, each behind a comma.
 fn words<T: Abort>(rt: &T, alloc: Global, text: &str) -> Vec<String> {
     let mut words = Vec::new(alloc);
     for word in text.split(',').skip(1) {
@@ -33,7 +20,7 @@ fn push<T: Abort>(rt: &T, alloc: Global, words: &mut Vec<String>, word: &str) {
     words.push(word).ok().expect(rt, "memory");
 }
 
-/// Runs the program, and compares its exit status and what it printed.
+/// Runs the program, with an empty file `f`, and compares its exit status and what it printed.
 fn expect<T: Abort>(
     rt: &T,
     alloc: Global,
@@ -44,42 +31,25 @@ fn expect<T: Abort>(
     printed: &str,
 ) {
     let words = words(rt, alloc, text);
-    let ended = run_program(alloc, words.as_slice(), reader, writer);
+    let folder = OneFile {
+        name: "f",
+        octets: b"",
+    };
+    let ended = run_program(alloc, words.as_slice(), &folder, reader, writer);
     assert_eq!(rt; ended.number(), status, "of {text}");
     compare(rt, text.as_bytes(), writer.written(), printed);
 }
 
-/// Runs a row.
-fn expect_row<T: Abort>(rt: &T, alloc: Global, row: &str) {
-    let (words, rest) = row.split_once('|').expect(rt, "words and a bar");
-    let (script, rest) = rest.split_once('|').expect(rt, "a script and a bar");
-    let (status, printed) = rest.split_once('|').expect(rt, "a status and a bar");
-    let status = status.parse().expect(rt, "a number");
-    let mut reader = MemorySource::new(script.as_bytes());
+/// Runs the program with a source whose second read fails.
+fn expect_unread<T: Abort>(rt: &T, alloc: Global) {
+    let mut reader = MemorySource::new(b"up e0\n").failing_after(1);
     let mut writer = MemorySink::new(alloc);
-    expect(rt, alloc, words, &mut reader, &mut writer, status, printed);
-}
-
-#[test]
-fn statuses(rt: HostRuntime) {
-    for row in ROWS.split(';').skip(1) {
-        expect_row(&rt, rt.alloc(), row);
-    }
+    expect(rt, alloc, ",run", &mut reader, &mut writer, 4, "handled\n");
 }
 
 #[test]
 fn a_read_that_fails(rt: HostRuntime) {
-    let mut reader = MemorySource::new(b"up e0\n").failing_after(1);
-    let mut writer = MemorySink::new(rt.alloc());
-    expect(
-        &rt,
-        rt.alloc(),
-        ",run",
-        &mut reader,
-        &mut writer,
-        4,
-        "handled\n",
-    );
+    expect_unread(&rt, rt.alloc());
 }
 
 /// Runs the program with a sink that takes nothing.
@@ -89,9 +59,10 @@ fn expect_unwritten<T: Abort>(rt: &T, alloc: Global, words: &str) {
     expect(rt, alloc, words, &mut reader, &mut writer, 4, "");
 }
 
-/// The writes of a script's output, and of the usage.
+/// The writes of a script's output, of the usage, and of a fault.
 #[test]
 fn writes_that_fail(rt: HostRuntime) {
-    expect_unwritten(&rt, rt.alloc(), ",run");
-    expect_unwritten(&rt, rt.alloc(), "");
+    for words in [",run", "", ",check,f", ",run,f"] {
+        expect_unwritten(&rt, rt.alloc(), words);
+    }
 }
