@@ -1,0 +1,3 @@
+pub mod Facts
+pub mod Chosen
+pub mod Room

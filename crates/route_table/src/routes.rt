@@ -1,0 +1,172 @@
+//! Routing facts, and what follows from them.
+
+ghost use Rattle.std.specs.Prelude.{◌≡◌, ◌≤◌, false, length, map, find, replicate, IfOk, slice_index_or};
+ghost use Rattle.std.specs.Option.{option_map};
+ghost use Rattle.linkset.specs.Preference.{first_in_service, has_link};
+ghost use Rattle.route_table.specs.Facts.{first_facts, first_sets, first_routes, set_at, routes_to};
+ghost use Rattle.route_table.specs.Facts.{with_link, with_status};
+ghost use Rattle.route_table.specs.Chosen.{chosen_set, chosen_link, first_set, is_open};
+
+use crate::route::{Route, RouteList, RouteStatus};
+use linkset::LinkSet;
+use settings_rows::{DestinationRow, LinkRow};
+use signalling_types::{Limits, LinkId, SetId, Sls};
+use std::alloc::{AllocError, Global};
+use std::marker::Model;
+
+/// Which links are in service, and by which sets each destination is reached with which status. A destination goes by
+/// its number in the order of the settings.
+///
+/// All room is made by `new`. The set of a destination and the link of a flow are worked out on each call: that takes
+/// the sets that lead to the destination and their links, however many others there are.
+#[derive(Drop)]
+pub struct Routes {
+    sets: Vec<LinkSet>,
+    in_service: Vec<bool>,
+    destinations: Vec<RouteList>,
+}
+
+impl Model for Routes {
+    ghost use Rattle.route_table.specs.Facts.{Facts};
+
+    ghost Value = { Facts };
+
+    ghost use Rattle.route_table.specs.Room.{facts_in};
+
+    ghost view = { facts_in };
+}
+
+impl Routes {
+    /// The routes of a node with so many sets, these links and these destinations: no link is in service, and all
+    /// routes are allowed. The error means that memory ran out.
+    pub fn new(
+        alloc: Global,
+        sets: usize,
+        links: &[LinkRow],
+        destinations: &[DestinationRow],
+    ) -> Result<Routes, AllocError>
+        requires sets { sets ≤ Limits.SETS }
+        requires links { length links.now ≤ Limits.LINKS }
+        ensures { IfOk result (λ routes. routes ≡ first_facts sets links.now destinations.now) }
+    {
+        Ok(Routes {
+            sets: link_sets(alloc, sets, links)?,
+            in_service: none_in_service(alloc, links.len())?,
+            destinations: route_lists(alloc, destinations)?,
+        })
+    }
+
+    /// A link enters service, or leaves it. A link that isn't there is left aside.
+    pub fn set_link(&mut self, link: LinkId, in_service: bool)
+        ensures { self.new ≡ with_link link in_service self.old }
+    {
+        if let Some(is) = self.in_service.get_mut(link.index()) {
+            *is = in_service;
+        }
+    }
+
+    /// The route to a destination by a set gets a status. A route that isn't there is left aside.
+    pub fn set_status(&mut self, destination: usize, set: SetId, status: RouteStatus)
+        ensures { self.new ≡ with_status destination set status self.old }
+    {
+        if let Some(routes) = self.destinations.get_mut(destination) {
+            routes.tell(set, status);
+        }
+    }
+
+    /// The set of a destination: the first of its sets that has a link in service and is allowed, else the first that
+    /// has one and is restricted (Q.704 §4.2).
+    pub fn set_of(&self, destination: usize) -> Option<SetId>
+        ensures { result ≡ chosen_set self.now destination }
+    {
+        match self.first_set(destination, RouteStatus::Allowed) {
+            Some(set) => Some(set),
+            None => self.first_set(destination, RouteStatus::Restricted),
+        }
+    }
+
+    /// The link of a flow: of the set of its destination, the first in service in the order in which the selection
+    /// tries them (Q.704 §4.2).
+    pub fn link_of(&self, destination: usize, sls: Sls) -> Option<LinkId>
+        ensures { result ≡ chosen_link self.now destination sls }
+    {
+        match self.set_of(destination) {
+            Some(set) => self.link_in(set, sls),
+            None => None,
+        }
+    }
+
+    /// The first link of a set in service that a selection tries.
+    fn link_in(&self, set: SetId, sls: Sls) -> Option<LinkId>
+        ensures { result ≡ first_in_service sls self.now.in_service (set_at self.now set) }
+    {
+        match self.sets.get(set.index()) {
+            Some(links) => links.first_in_service(sls, &self.in_service),
+            None => None,
+        }
+    }
+
+    /// Whether some link of a set is in service.
+    fn has_link(&self, set: SetId) -> bool
+        ensures { result ≡ has_link self.now.in_service (set_at self.now set) }
+    {
+        match self.sets.get(set.index()) {
+            Some(links) => links.has_link(&self.in_service),
+            None => false,
+        }
+    }
+
+    /// The routes to a destination.
+    fn routes_to(&self, destination: usize) -> &[Route]
+        ensures { result.now ≡ routes_to self.now destination }
+    {
+        match self.destinations.get(destination) {
+            Some(routes) => routes.routes(),
+            None => &[],
+        }
+    }
+
+    /// The first set that leads to a destination with this status and has a link in service.
+    fn first_set(&self, destination: usize, status: RouteStatus) -> Option<SetId>
+        ensures { result ≡ first_set self.now destination status }
+    {
+        for route in self.routes_to(destination) {
+            if route.status.is(status) && self.has_link(route.set) {
+                return Some(route.set);
+            }
+        }
+        None
+    }
+}
+
+/// The first sets, so many of them, among the links of a node.
+#[tactic(auto, using(crate::proofs::Facts::sets))]
+fn link_sets(alloc: Global, sets: usize, links: &[LinkRow]) -> Result<Vec<LinkSet>, AllocError>
+    requires sets { sets ≤ Limits.SETS }
+    requires links { length links.now ≤ Limits.LINKS }
+    ensures { IfOk result (λ made. made.items ≡ first_sets sets links.now) }
+{
+    let mut made = Vec::with_capacity(alloc, sets)?;
+    for set in 0..sets {
+        made.push_reserved(LinkSet::of(links, SetId::new(set as u8)));
+    }
+    Ok(made)
+}
+
+/// So many links, none in service.
+fn none_in_service(alloc: Global, links: usize) -> Result<Vec<bool>, AllocError>
+    ensures { IfOk result (λ made. made.items ≡ replicate links false) }
+{
+    Ok(vec![in alloc; false; links]?)
+}
+
+/// The routes to each destination, all of them allowed.
+fn route_lists(alloc: Global, destinations: &[DestinationRow]) -> Result<Vec<RouteList>, AllocError>
+    ensures { IfOk result (λ made. made.items ≡ map first_routes destinations.now) }
+{
+    let mut made = Vec::with_capacity(alloc, destinations.len())?;
+    for destination in destinations {
+        made.push_reserved(RouteList::new(destination));
+    }
+    Ok(made)
+}

@@ -1,0 +1,79 @@
+use super::*;
+use arrayvec::ArrayVec;
+use settings_rows::{DestinationRow, LinkRow};
+use signalling_types::{LinkId, PointCode, SetId, Sls};
+use std::alloc::Global;
+use std::test::*;
+
+/// A node with the links e0, e1, e2 of set 0 and w0 of set 1, all in service, and one destination, which both sets lead
+/// to, set 0 first.
+fn two_sets(alloc: Global) -> Result<Routes, Fail> {
+    let (east, west) = (SetId::new(0), SetId::new(1));
+    let links = [
+        LinkRow::new("e0", east, 0),
+        LinkRow::new("e1", east, 1),
+        LinkRow::new("e2", east, 2),
+        LinkRow::new("w0", west, 0),
+    ];
+    let mut sets = ArrayVec::new();
+    sets.push(east);
+    sets.push(west);
+    let destinations = [DestinationRow::new(PointCode::new(2).unwrap(), sets)];
+    let mut routes = Routes::new(alloc, 2, &links, &destinations)?;
+    for link in 0..4u8 {
+        routes.set_link(LinkId::new(link), true);
+    }
+    Ok(routes)
+}
+
+/// Whether the flows of all 16 selections take these links.
+fn take(routes: &Routes, links: &[u8; 16]) -> bool {
+    for selection in 0..16u8 {
+        let link = match Sls::new(selection) {
+            Some(sls) => routes.link_of(0, sls),
+            None => None,
+        };
+        let Some(number) = links.get(selection as usize) else {
+            return false;
+        };
+        if link != Some(LinkId::new(*number)) {
+            return false;
+        }
+    }
+    true
+}
+
+/// Whether load is shared as links fail one by one.
+fn share(mut routes: Routes) -> bool {
+    let all = take(&routes, &[0, 1, 2, 0, 1, 2, 0, 1, 2, 0, 1, 2, 0, 1, 2, 0]);
+    routes.set_link(LinkId::new(1), false);
+    let two = take(&routes, &[0, 0, 2, 0, 2, 2, 0, 0, 2, 0, 2, 2, 0, 0, 2, 0]);
+    routes.set_link(LinkId::new(2), false);
+    let one = take(&routes, &[0; 16]);
+    routes.set_link(LinkId::new(0), false);
+    all && two && one && take(&routes, &[3; 16])
+}
+
+#[test]
+fn load_sharing(rt: HostRuntime) -> Result<(), Fail> {
+    assert!(rt; share(two_sets(rt.alloc())?));
+    Ok(())
+}
+
+/// Whether the set of the destination goes by the statuses.
+fn choose(mut routes: Routes) -> bool {
+    let (east, west) = (SetId::new(0), SetId::new(1));
+    let preferred = routes.set_of(0) == Some(east);
+    routes.set_status(0, east, RouteStatus::Restricted);
+    let allowed = routes.set_of(0) == Some(west);
+    routes.set_status(0, west, RouteStatus::Prohibited);
+    let restricted = routes.set_of(0) == Some(east);
+    routes.set_status(0, east, RouteStatus::Prohibited);
+    preferred && allowed && restricted && routes.set_of(0).is_none() && routes.set_of(1).is_none()
+}
+
+#[test]
+fn allowed_then_restricted(rt: HostRuntime) -> Result<(), Fail> {
+    assert!(rt; choose(two_sets(rt.alloc())?));
+    Ok(())
+}
