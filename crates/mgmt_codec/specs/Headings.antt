@@ -1,0 +1,30 @@
+-- The octet behind the label, which says what kind of message it is (Q.704 §15.3, Q.707 §5).
+use Rattle.std.specs.Prelude.{ℕ, ◌+◌, ◌*◌, ◌==◌, if◌then◌else◌, Option, Some, None}
+use Rattle.mgmt_codec.specs.declared.link_test.TestKind.{TestKind}
+use Rattle.mgmt_codec.specs.declared.link_test.TestKind.TheVariants.{Test, Acknowledgement}
+use Rattle.mgmt_codec.specs.declared.management.Management.{Management}
+use Rattle.mgmt_codec.specs.declared.management.Management.TheVariants.{TrafficRestartAllowed}
+
+-- the group H0 in the low half, the message H1 in the high half
+abbrev pub heading : (h0 h1 : ℕ) → ℕ
+heading h0 h1 = h0 + h1 * 16
+
+-- a link test, and its answer
+abbrev pub kind_heading : TestKind → ℕ
+kind_heading Test = heading 1 1
+kind_heading Acknowledgement = heading 1 2
+
+-- the kind of test message that a heading names
+abbrev pub kind_of : ℕ → Option TestKind
+kind_of octet =
+    if octet == kind_heading Test then Some Test
+    else if octet == kind_heading Acknowledgement then Some Acknowledgement
+    else None
+
+-- a management message
+abbrev pub management_heading : Management → ℕ
+management_heading TrafficRestartAllowed = heading 7 1
+
+-- the management message that a heading names
+abbrev pub management_of : ℕ → Option Management
+management_of octet = if octet == management_heading TrafficRestartAllowed then Some TrafficRestartAllowed else None

@@ -1,0 +1,5 @@
+pub mod Faults
+pub mod Headings
+pub mod LinkTests
+pub mod Values
+pub mod Management

@@ -1,0 +1,13 @@
+//! Management messages and link tests: what their octets say, and the answer to a link test.
+#![tactic(auto)]
+
+pub mod fault;
+pub mod link_test;
+pub mod management;
+
+pub use fault::MgmtFault;
+pub use link_test::{ANSWER_OCTETS, LinkTest, TestKind};
+pub use management::Management;
+
+#[cfg(test)]
+mod tests;

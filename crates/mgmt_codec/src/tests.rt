@@ -1,0 +1,54 @@
+use super::*;
+use signalling_types::PointCode;
+use std::test::*;
+
+/// Whether the answer from point 1 to point 2 to the test of this field is this.
+fn is_answered(sif: &[u8], want: &[u8]) -> bool {
+    let (Some(here), Some(there)) = (PointCode::new(1), PointCode::new(2)) else {
+        return false;
+    };
+    let mut out = [0; ANSWER_OCTETS];
+    match LinkTest::read(sif) {
+        Ok(test) => {
+            let count = test.answer(there, here, &mut out);
+            test.kind == TestKind::Test && &out[..count] == want
+        }
+        Err(_) => false,
+    }
+}
+
+#[test]
+fn answer_to_a_link_test(rt: HostRuntime) {
+    let sif = [0x01, 0x80, 0x00, 0x00, 0x11, 0x20, 0xaa, 0xbb];
+    let want = [0x02, 0x40, 0x00, 0x00, 0x21, 0x20, 0xaa, 0xbb];
+    assert!(rt; is_answered(&sif, &want));
+    let sif = [0x01, 0x80, 0x00, 0x50, 0x11, 0x2f, 0xaa, 0xbb, 0xcc];
+    let want = [0x02, 0x40, 0x00, 0x50, 0x21, 0x20, 0xaa, 0xbb];
+    assert!(rt; is_answered(&sif, &want));
+}
+
+/// The fault of a link test behind a label, by number; 0 where it has none.
+fn test_fault(octets: &[u8]) -> u8 {
+    match LinkTest::read(octets) {
+        Ok(_) => 0,
+        Err(fault) => fault.number(),
+    }
+}
+
+#[test]
+fn faults(rt: HostRuntime) {
+    assert!(rt; test_fault(&[0x01, 0x80, 0x00]) == 1);
+    assert!(rt; test_fault(&[0x01, 0x80, 0x00, 0x00]) == 1);
+    assert!(rt; test_fault(&[0x01, 0x80, 0x00, 0x00, 0x31]) == 2);
+    assert!(rt; test_fault(&[0x01, 0x80, 0x00, 0x00, 0x21]) == 1);
+    assert!(rt; test_fault(&[0x01, 0x80, 0x00, 0x00, 0x21, 0x10]) == 1);
+    assert!(rt; test_fault(&[0x01, 0x80, 0x00, 0x00, 0x21, 0x0f]) == 0);
+    assert!(rt;
+        Management::read(&[0x01, 0x80, 0x00, 0x00, 0x17]) == Ok(Management::TrafficRestartAllowed)
+    );
+    assert!(rt;
+        Management::read(&[0x01, 0x80, 0x00, 0x00, 0x14, 0x2c, 0x01])
+            == Err(MgmtFault::NotInProfile)
+    );
+    assert!(rt; Management::read(&[0x01, 0x80, 0x00, 0x00]) == Err(MgmtFault::Short));
+}
