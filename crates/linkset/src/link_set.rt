@@ -1,0 +1,167 @@
+//! A link set.
+
+ghost use Rattle.std.specs.Prelude.{◌≡◌, ◌+◌, ◌<◌, ◌≤◌, ◌++◌, length, position, IfSome};
+ghost use Rattle.std.specs.Option.{option_to_list};
+ghost use Rattle.arrayvec.specs.ArrayVec.{array_vec_len};
+ghost use Rattle.linkset.specs.Members.{has_code, link_with, links_of};
+ghost use Rattle.linkset.specs.Preference.{preference, first_in_service, has_link, is_in_service};
+
+use arrayvec::ArrayVec;
+use settings_rows::LinkRow;
+use signalling_types::{Limits, LinkId, SetId, Sls};
+use std::marker::Model;
+
+/// A link of a link set.
+#[derive(Clone, Copy, PartialEq, Eq)]
+pub struct SetLink {
+    /// Its signalling link code in the set (Q.704 §15.2).
+    pub slc: u8,
+    /// The link.
+    pub link: LinkId,
+}
+
+impl Default for SetLink {
+    fn default() -> SetLink {
+        SetLink {
+            slc: 0,
+            link: LinkId::new(0),
+        }
+    }
+}
+
+/// The links of one link set, at most 16, in the order of their signalling link codes (Q.704 §15.2).
+#[derive(Drop)]
+pub struct LinkSet {
+    links: ArrayVec<SetLink, { Limits::LINKS_PER_SET }>,
+}
+
+impl Model for LinkSet {
+    ghost use Rattle.std.specs.Prelude.{List};
+    ghost use Rattle.linkset.specs.declared.link_set.SetLink.{SetLink};
+
+    ghost Value = { List SetLink };
+
+    ghost view = { λ s. s.links.items };
+}
+
+impl LinkSet {
+    /// The links of this set among the links of a node. Of two with one code it has the first.
+    #[tactic(auto, using(crate::proofs::Members::steps))]
+    pub fn of(links: &[LinkRow], set: SetId) -> LinkSet
+        requires { length links.now ≤ Limits.LINKS }
+        ensures { result ≡ links_of links.now set }
+    {
+        let mut members = ArrayVec::new();
+        for slc in 0..Limits::LINKS_PER_SET as u8 {
+            add(&mut members, link_with(links, set, slc));
+        }
+        LinkSet { links: members }
+    }
+
+    /// The links, in the order of their codes.
+    pub fn links(&self) -> &[SetLink]
+        ensures links { result.now ≡ self.now }
+        ensures fits { length self.now ≤ Limits.LINKS_PER_SET }
+    {
+        self.links.as_slice()
+    }
+
+    /// The links, in the order in which a flow of this selection tries them: first the one at the selection modulo
+    /// their count, then the others in the same way by the quotient.
+    pub fn preference(&self, sls: Sls) -> ArrayVec<SetLink, { Limits::LINKS_PER_SET }>
+        ensures { result.items ≡ preference sls self.now }
+    {
+        let mut left = copied(&self.links);
+        let mut selection = usize::from(sls.number());
+        let mut order = ArrayVec::new();
+        for _ in 0..self.links.len() {
+            let count = left.len();
+            order.push(left.remove(selection % count));
+            selection /= count;
+        }
+        order
+    }
+
+    /// The link of a flow of this selection: the first in service of those that it tries. `in_service` says of each
+    /// link by its number whether it is in service.
+    pub fn first_in_service(&self, sls: Sls, in_service: &[bool]) -> Option<LinkId>
+        ensures { result ≡ first_in_service sls in_service.now self.now }
+    {
+        let mut left = copied(&self.links);
+        let mut selection = usize::from(sls.number());
+        for _ in 0..self.links.len() {
+            let count = left.len();
+            let link = left.remove(selection % count).link;
+            if is_in_service(in_service, link) {
+                return Some(link);
+            }
+            selection /= count;
+        }
+        None
+    }
+
+    /// Whether some link of the set is in service.
+    pub fn has_link(&self, in_service: &[bool]) -> bool
+        ensures { result ≡ has_link in_service.now self.now }
+    {
+        self.links
+            .iter()
+            .any(|member| is_in_service(in_service, member.link))
+    }
+}
+
+/// Puts a link behind the others, if there is one.
+fn add(links: &mut ArrayVec<SetLink, { Limits::LINKS_PER_SET }>, link: Option<SetLink>)
+    requires { array_vec_len links.old < Limits.LINKS_PER_SET }
+    ensures links { links.new.items ≡ links.old.items ++ option_to_list link }
+    ensures count { array_vec_len links.new ≤ array_vec_len links.old + 1 }
+{
+    if let Some(link) = link {
+        links.push(link);
+    }
+}
+
+/// The link of a set that has this code.
+fn link_with(links: &[LinkRow], set: SetId, slc: u8) -> Option<SetLink>
+    requires { length links.now ≤ Limits.LINKS }
+    ensures { result ≡ link_with links.now set slc }
+{
+    match place_of(links, set, slc) {
+        Some(place) => Some(SetLink {
+            slc,
+            link: LinkId::new(place as u8),
+        }),
+        None => None,
+    }
+}
+
+/// The place of the first link of a set that has this code.
+fn place_of(links: &[LinkRow], set: SetId, slc: u8) -> Option<usize>
+    ensures place { result ≡ position (has_code set slc) links.now }
+    ensures fits { IfSome result (λ place. place < length links.now) }
+{
+    links.iter().position(|link| link.set().index() == set.index() && link.slc() == slc)
+}
+
+/// The same links again.
+fn copied(
+    links: &ArrayVec<SetLink, { Limits::LINKS_PER_SET }>,
+) -> ArrayVec<SetLink, { Limits::LINKS_PER_SET }>
+    ensures { result.items ≡ links.now.items }
+{
+    let mut copy = ArrayVec::new();
+    for link in links.as_slice() {
+        copy.push(*link);
+    }
+    copy
+}
+
+/// Whether a link is in service.
+fn is_in_service(in_service: &[bool], link: LinkId) -> bool
+    ensures { result ≡ is_in_service in_service.now link }
+{
+    match in_service.get(link.index()) {
+        Some(is) => *is,
+        None => false,
+    }
+}
