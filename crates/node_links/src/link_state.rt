@@ -3,8 +3,8 @@
 ghost use Rattle.std.specs.Prelude.{◌≡◌, ◌+◌, ◌≤◌, false, drop, length, slice_get};
 ghost use Rattle.std.specs.Option.{option_to_list};
 ghost use Rattle.link_alignment.specs.Table.{action_at};
-ghost use Rattle.exchange.specs.LinkState.{down_link, stepped, acted, opened, fallen, is_down, is_in_service};
-ghost use Rattle.exchange.specs.LinkRoom.{sent_by};
+ghost use Rattle.node_links.specs.LinkState.{down_link, stepped, acted, opened, fallen, is_down, is_in_service};
+ghost use Rattle.node_links.specs.LinkRoom.{sent_by};
 
 use arrayvec::ArrayVec;
 use link_alignment::{Action, Alignment, Input, Transition};
@@ -26,11 +26,11 @@ pub struct LinkState {
 }
 
 impl Model for LinkState {
-    ghost use Rattle.exchange.specs.Link.{Link};
+    ghost use Rattle.node_links.specs.Link.{Link};
 
     ghost Value = { Link };
 
-    ghost use Rattle.exchange.specs.LinkRoom.{link_in, HasPlaces};
+    ghost use Rattle.node_links.specs.LinkRoom.{link_in, HasPlaces};
 
     ghost view = { link_in };
 

@@ -3,8 +3,8 @@ use Rattle.std.specs.Prelude.{ℕ, ◌≤◌, length}
 use Rattle.link_alignment.specs.declared.alignment.Alignment.{Alignment}
 use Rattle.link_alignment.specs.declared.alignment.Alignment.TheVariants.{Down, NotAligned, Aligned, Proving}
 use Rattle.link_alignment.specs.declared.alignment.Alignment.TheVariants.{AlignedReady, InService}
-use Rattle.exchange.specs.Link.{Link}
-use Rattle.exchange.specs.declared.link_state.LinkState.TheInside.{Inside}
+use Rattle.node_links.specs.Link.{Link}
+use Rattle.node_links.specs.declared.link_state.LinkState.TheInside.{Inside}
 
 abbrev pub link_in : Inside → Link
 link_in s = record {

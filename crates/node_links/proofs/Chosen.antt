@@ -1,0 +1,36 @@
+-- The link that a flow takes is there, and in service.
+use Rattle.std.proofs.Common.{◌≡◌, ◌<◌, ℕ, zero, suc, Bool, true, false, List, [], ◌∷◌, map, length, refl, ap, sym, ◌∙◌, subst, arith}
+use Rattle.std.specs.Prelude.{Option, Some, None, IfSome, slice_index_or}
+use Rattle.std.proofs.Math.ListN.{get_or-map}
+use Rattle.std.proofs.lemmas.List.{length-map}
+use Rattle.route_table.specs.Facts.{Facts}
+use Rattle.route_table.specs.Chosen.{chosen_link}
+use Rattle.route_table.proofs.InService.{chosen_serves}
+use Rattle.node_links.specs.Link.{Link}
+use Rattle.node_links.specs.LinkState.{down_link, is_in_service}
+use Rattle.node_links.specs.Network.{Network, serving, facts_of, link_in}
+
+-- facts that agree with the states of the links
+pub facts_kept : (f : Facts) (links : List Link) → f.in_service ≡ serving links → f ≡ facts_of (record { links = links; sets = f.sets; routes = f.routes })
+facts_kept f links e = ap (λ (bs : List Bool). record { sets = f.sets; in_service = bs; routes = f.routes }) e
+
+-- where a list says true, it has a place
+within : (bs : List Bool) (place : ℕ) → slice_index_or bs place false ≡ true → place < length bs
+within [] place e = absurd cc
+within (b ∷ bs) zero e = grind (arith, e)
+within (b ∷ bs) (suc place) e = grind (arith, within bs place e)
+
+pub chosen_serving : (n : Network) (destination selection link : ℕ)
+    → chosen_link (facts_of n) destination selection ≡ Some link → is_in_service (link_in n.links link).alignment ≡ true
+chosen_serving n destination selection link e =
+    sym (get_or-map (λ (l : Link). is_in_service l.alignment) n.links link down_link) ∙ chosen_serves (facts_of n) destination selection link e
+
+chosen_is_there : (n : Network) (destination selection link : ℕ) → chosen_link (facts_of n) destination selection ≡ Some link → link < length n.links
+chosen_is_there n destination selection link e =
+    subst (λ m. link < m) (length-map n.links (λ (l : Link). is_in_service l.alignment)) (within (serving n.links) link (chosen_serves (facts_of n) destination selection link e))
+
+-- the same of an answer
+pub answer_is_there : (n : Network) (destination selection : ℕ) (answer : Option ℕ) → answer ≡ chosen_link (facts_of n) destination selection
+    → IfSome answer (λ link. link < length n.links)
+answer_is_there n destination selection None e = tt
+answer_is_there n destination selection (Some link) e = chosen_is_there n destination selection link (sym e)

@@ -1,0 +1,28 @@
+-- Which links are in service, as one of them changes.
+use Rattle.std.proofs.Common.{◌≡◌, ◌∷◌, ℕ, Bool, false, List, map, replicate, zero, suc, refl, ap, sym, ◌∙◌}
+use Rattle.std.specs.Prelude.{slice_index_or, slice_set}
+use Rattle.std.proofs.lemmas.List.{map-set, set-get_or}
+use Rattle.node_links.specs.Link.{Link}
+use Rattle.node_links.specs.LinkState.{down_link, is_in_service}
+use Rattle.node_links.specs.Network.{serving}
+
+-- one link changes
+pub serving_set : (links : List Link) (link : ℕ) (state : Link)
+    → serving (slice_set links link state) ≡ slice_set (serving links) link (is_in_service state.alignment)
+serving_set links link state = map-set (λ (l : Link). is_in_service l.alignment) links link state
+
+-- one link changes, and carries messages as before
+pub serving_alike : (links : List Link) (link : ℕ) (old state : Link) → is_in_service state.alignment ≡ is_in_service (slice_index_or links link old).alignment
+    → serving (slice_set links link state) ≡ serving links
+serving_alike links link old state e =
+    serving_set links link state
+    ∙ ap (λ (b : Bool). slice_set (serving links) link b) e
+    ∙ sym (serving_set links link (slice_index_or links link old))
+    ∙ ap serving (set-get_or links link old)
+
+-- no link that is down carries messages
+pub serving_none : (n : ℕ) → serving (replicate n down_link) ≡ replicate n false
+serving_none zero = refl
+serving_none (suc n) = ap (λ (bs : List Bool). false ∷ bs) (serving_none n)
+
+pub ruleset kept = (serving_set, serving_none)

@@ -1,0 +1,15 @@
+-- The routes know which links are in service, and a link that is in service is there.
+use Rattle.std.proofs.Common.{ap, ◌∙◌}
+use Rattle.route_table.specs.Facts.{Facts}
+use Rattle.route_table.specs.Chosen.{chosen_link}
+use Rattle.node_links.specs.Network.{facts_of}
+use Rattle.node_links.proofs.Chosen.{facts_kept, answer_is_there}
+use Rattle.node_links.proofs.node_links.NodeLinks.link_of.Goals as goal
+
+pub returns-clause-link : goal.returns-clause-link
+returns-clause-link c =
+    c.link_of.ensures ∙ ap (λ (f : Facts). chosen_link f c.args.destination c.args.sls)
+    (facts_kept c.self.inside.routes c.self.inside.states.items c.self.invariant.serving ∙ ap facts_of c.self.view_is)
+
+pub returns-clause-fits : goal.returns-clause-fits
+returns-clause-fits c = answer_is_there c.args.self.now c.args.destination c.args.sls _ (returns-clause-link c)

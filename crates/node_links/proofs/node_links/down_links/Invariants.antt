@@ -1,0 +1,7 @@
+use Rattle.std.proofs.Common.{◌≡◌, replicate}
+use Rattle.node_links.specs.LinkState.{down_link}
+use Rattle.node_links.proofs.node_links.down_links.Given as goal
+
+-- as many as the loop has gone round
+abbrev pub invariant-loop-index : goal.invariant-loop-index
+invariant-loop-index l = l.links.items ≡ replicate l.index down_link

@@ -1,0 +1,5 @@
+pub mod Link
+pub mod LinkState
+pub mod LinkRoom
+pub mod Network
+pub mod NetworkRoom

@@ -1,0 +1,59 @@
+-- The state of one link, beside its queue.
+use Rattle.std.specs.Prelude.{Bool, true, false, [], ◌++◌}
+use Rattle.std.specs.Option.{option_to_list}
+use Rattle.m2pa_codec.specs.declared.status.LinkStatus.{LinkStatus}
+use Rattle.link_alignment.specs.declared.alignment.Alignment.{Alignment}
+use Rattle.link_alignment.specs.declared.alignment.Alignment.TheVariants.{Down, NotAligned, Aligned, Proving}
+use Rattle.link_alignment.specs.declared.alignment.Alignment.TheVariants.{AlignedReady, InService}
+use Rattle.link_alignment.specs.declared.action.Transition.{Transition}
+use Rattle.link_alignment.specs.declared.action.Action.{Action}
+use Rattle.link_alignment.specs.declared.action.Action.TheVariants.{Ignored, Fail, Go}
+use Rattle.link_alignment.specs.Table.{opening}
+use Rattle.node_links.specs.Link.{Link}
+
+-- a link that has never been up; the operator lets it open
+abbrev pub down_link : Link
+down_link = record {
+  alignment = Down;
+  association = false;
+  active = true;
+  waiting = [];
+  peer_busy = false;
+  acknowledgement_owed = false;
+}
+
+-- a link after a step of its alignment: the status that the step sends waits behind the others
+abbrev pub stepped : Transition → Link → Link
+stepped step l = record l { alignment = step.state; waiting = l.waiting ++ option_to_list step.send }
+
+-- a link after what its alignment does about an input
+abbrev pub acted : Action → Link → Link
+acted Ignored l = l
+acted Fail l = l
+acted (Go step) l = stepped step l
+
+-- a link that got an association
+abbrev pub opened : Link → Link
+opened l = stepped opening (record down_link { association = true; active = l.active })
+
+-- a link that failed: no status waits, and Busy and the acknowledgement that was owed are forgotten
+abbrev pub fallen : Link → Link
+fallen l = record down_link { association = l.association; active = l.active }
+
+-- a link that is down takes no frames
+abbrev pub is_down : Alignment → Bool
+is_down Down = true
+is_down NotAligned = false
+is_down Aligned = false
+is_down (Proving ready) = false
+is_down AlignedReady = false
+is_down InService = false
+
+-- a link in service carries messages
+abbrev pub is_in_service : Alignment → Bool
+is_in_service Down = false
+is_in_service NotAligned = false
+is_in_service Aligned = false
+is_in_service (Proving ready) = false
+is_in_service AlignedReady = false
+is_in_service InService = true

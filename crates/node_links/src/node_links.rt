@@ -1,0 +1,175 @@
+//! The links of a node, and the routes that they open.
+
+ghost use Rattle.std.specs.Prelude.{◌≡◌, ◌<◌, ◌≤◌, false, drop, length, replicate, IfOk, IfSome, option_copied, slice_get};
+ghost use Rattle.link_alignment.specs.Table.{action_at};
+ghost use Rattle.route_table.specs.Chosen.{chosen_link};
+ghost use Rattle.node_links.specs.LinkState.{acted, down_link, fallen, opened};
+ghost use Rattle.node_links.specs.Network.{facts_of, first_network, link_in, with_state};
+
+use crate::link_state::LinkState;
+use link_alignment::{Action, Input};
+use route_table::Routes;
+use settings_rows::{DestinationRow, LinkRow};
+use signalling_types::{Limits, LinkId, Sls};
+use std::alloc::{AllocError, Global};
+use std::marker::Model;
+
+/// The state of each link, and the routes, which always know which links are in service.
+///
+/// All room is made by `new`. Each call but `new` and `link_of` costs the same however many links there are.
+#[derive(Drop)]
+pub struct NodeLinks {
+    states: Vec<LinkState>,
+    routes: Routes,
+}
+
+impl Model for NodeLinks {
+    ghost use Rattle.node_links.specs.Network.{Network};
+
+    ghost Value = { Network };
+
+    ghost use Rattle.node_links.specs.NetworkRoom.{network_in, Agrees};
+
+    ghost view = { network_in };
+
+    ghost invariant = { Agrees };
+}
+
+impl NodeLinks {
+    /// The links of a node with so many sets, these links and these destinations: every link is down, and every route
+    /// is allowed. The error means that memory ran out.
+    #[tactic(auto, using(crate::proofs::Serving::kept))]
+    pub fn new(
+        alloc: Global,
+        sets: usize,
+        links: &[LinkRow],
+        destinations: &[DestinationRow],
+    ) -> Result<NodeLinks, AllocError>
+        requires sets { sets ≤ Limits.SETS }
+        requires links { length links.now ≤ Limits.LINKS }
+        ensures { IfOk result (λ made. made ≡ first_network sets links.now destinations.now) }
+    {
+        Ok(NodeLinks {
+            states: down_links(alloc, links.len())?,
+            routes: Routes::new(alloc, sets, links, destinations)?,
+        })
+    }
+
+    /// How many links there are.
+    pub fn count(&self) -> usize
+        ensures { result ≡ length self.now.links }
+    {
+        self.states.len()
+    }
+
+    /// A link, or None where no link has this number.
+    pub fn get(&self, link: LinkId) -> Option<&LinkState>
+        ensures { option_copied result ≡ slice_get self.now.links link }
+    {
+        self.states.get(link.index())
+    }
+
+    /// A link that is there.
+    pub fn state(&self, link: LinkId) -> &LinkState
+        requires { link < length self.now.links }
+        ensures { result.now ≡ link_in self.now.links link }
+    {
+        &self.states[link.index()]
+    }
+
+    /// The link of a flow, by the number of its destination and its selection: of the set of that destination, the
+    /// first in service in the order in which the selection tries them (Q.704 §4.2).
+    pub fn link_of(&self, destination: usize, sls: Sls) -> Option<LinkId>
+        ensures link { result ≡ chosen_link (facts_of self.now) destination sls }
+        ensures fits { IfSome result (λ link. link < length self.now.links) }
+    {
+        self.routes.link_of(destination, sls)
+    }
+
+    /// A link does what its alignment does about an input, and says what that is. Where the link is to fail, nothing
+    /// changes here.
+    #[tactic(auto, using(crate::proofs::Serving::kept))]
+    pub fn on(&mut self, link: LinkId, input: Input) -> Action
+        requires { link < length self.old.links }
+        ensures action { result ≡ action_at (link_in self.old.links link).alignment input }
+        ensures state { self.new ≡ with_state self.old link (acted result (link_in self.old.links link)) }
+    {
+        let state = &mut self.states[link.index()];
+        let action = state.on(input);
+        self.routes.set_link(link, state.is_in_service());
+        action
+    }
+
+    /// A link begins to align, with an association.
+    #[tactic(auto, using(crate::proofs::Serving::kept))]
+    pub fn open(&mut self, link: LinkId)
+        requires { link < length self.old.links }
+        ensures { self.new ≡ with_state self.old link (opened (link_in self.old.links link)) }
+    {
+        self.states[link.index()].open();
+        self.routes.set_link(link, false);
+    }
+
+    /// A link fails. Its association stays.
+    #[tactic(auto, using(crate::proofs::Serving::kept))]
+    pub fn fall(&mut self, link: LinkId)
+        requires { link < length self.old.links }
+        ensures { self.new ≡ with_state self.old link (fallen (link_in self.old.links link)) }
+    {
+        self.states[link.index()].fall();
+        self.routes.set_link(link, false);
+    }
+
+    /// A link loses its association.
+    pub fn part(&mut self, link: LinkId)
+        requires { link < length self.old.links }
+        ensures { self.new ≡ with_state self.old link (record (link_in self.old.links link) { association = false }) }
+    {
+        self.states[link.index()].part();
+    }
+
+    /// A link may open from now on, or not.
+    pub fn allow(&mut self, link: LinkId, active: bool)
+        requires { link < length self.old.links }
+        ensures { self.new ≡ with_state self.old link (record (link_in self.old.links link) { active = active }) }
+    {
+        self.states[link.index()].allow(active);
+    }
+
+    /// A link knows its peer busy from now on, or not.
+    pub fn set_peer_busy(&mut self, link: LinkId, busy: bool)
+        requires { link < length self.old.links }
+        ensures { self.new ≡ with_state self.old link (record (link_in self.old.links link) { peer_busy = busy }) }
+    {
+        self.states[link.index()].set_peer_busy(busy);
+    }
+
+    /// A link owes an acknowledgement from now on, or not.
+    pub fn set_owed(&mut self, link: LinkId, owed: bool)
+        requires { link < length self.old.links }
+        ensures { self.new ≡ with_state self.old link
+            (record (link_in self.old.links link) { acknowledgement_owed = owed }) }
+    {
+        self.states[link.index()].set_owed(owed);
+    }
+
+    /// A link forgets the status that waited longest, if one waits.
+    pub fn drop_status(&mut self, link: LinkId)
+        requires { link < length self.old.links }
+        ensures { self.new ≡ with_state self.old link
+            (record (link_in self.old.links link) { waiting = drop 1 (link_in self.old.links link).waiting }) }
+    {
+        self.states[link.index()].drop_status();
+    }
+}
+
+/// So many links that have never been up.
+fn down_links(alloc: Global, count: usize) -> Result<Vec<LinkState>, AllocError>
+    ensures { IfOk result (λ links. links.items ≡ replicate count down_link) }
+{
+    let mut links = Vec::with_capacity(alloc, count)?;
+    for index in 0..count {
+        links.push_reserved(LinkState::new());
+    }
+    Ok(links)
+}
