@@ -2,7 +2,7 @@
 -- kinds of queues P and Q of which h keeps one as the other.
 use Rattle.std.proofs.Common.{◌≡◌, ℕ, zero, suc, Bool, true, false, List, Option, Some, None, Result, Ok, Err, refl, ap, ◌∙◌}
 use Rattle.std.specs.Prelude.{if◌then◌else◌, nat_eq}
-use Rattle.signalling_types.specs.Message.{Message, dpc_of, flow_of, is_management, service_indicator}
+use Rattle.signalling_types.specs.Message.{Message, dpc_of, opc_of, flow_of, is_management, service_indicator}
 use Rattle.settings_rows.specs.Configuration.{Configuration}
 use Rattle.signalling_types.specs.declared.cause.Cause.{Cause}
 use Rattle.signalling_types.specs.declared.cause.Cause.TheVariants as causes
@@ -26,18 +26,28 @@ use Rattle.link_alignment.specs.Table.{action_at}
 use Rattle.timer_wheel.specs.declared.name.TimerName.{TimerName}
 use Rattle.timer_wheel.specs.declared.name.TimerName.TheVariants as name
 use Rattle.timer_wheel.specs.Timers.{ticked, due_name, due_count, after_due}
+use Rattle.mgmt_codec.specs.declared.fault.MgmtFault.{MgmtFault}
+use Rattle.mgmt_codec.specs.declared.link_test.TestKind.{TestKind}
+use Rattle.mgmt_codec.specs.declared.link_test.TestKind.TheVariants.{Test, Acknowledgement}
+use Rattle.mgmt_codec.specs.declared.management.Management.{Management}
+use Rattle.mgmt_codec.specs.declared.management.Management.TheVariants.{TrafficRestartAllowed}
+use Rattle.mgmt_codec.specs.LinkTests.{LinkTestValue, read_link_test}
+use Rattle.mgmt_codec.specs.Management.{read_management}
 use Rattle.routing_label.specs.declared.discrimination.Discrimination.{Discrimination}
 use Rattle.routing_label.specs.declared.discrimination.Discrimination.TheVariants as whither
 use Rattle.link_sequence.specs.declared.fault.SeqFault.{SeqFault}
 use Rattle.exchange.specs.State.{Parts, Node, Done, QueueKind, keep, with_parts, answer, refuse}
-use Rattle.exchange.specs.LinkState.{is_link, link_at, down}
+use Rattle.exchange.specs.Links.{is_link, link_at, down}
 use Rattle.exchange.specs.Noting.{note_refusal}
-use Rattle.exchange.specs.Local.{local, manage}
-use Rattle.exchange.specs.Messages.{whither_goes, is_destination, link_of, no_room, offer, transfer, hand_over, deliver_to, deliver, submit_to}
+use Rattle.exchange.specs.Routing.{link_of}
+use Rattle.exchange.specs.Arrival.{is_destination, no_room, offer, transfer}
+use Rattle.exchange.specs.Made.{send, send_on}
+use Rattle.exchange.specs.Local.{is_user, is_adjacent, test_answer, local, do_read, do_kind, do_test, manage, hand_over}
+use Rattle.exchange.specs.Messages.{whither_goes, deliver_to, deliver, submit_to}
 use Rattle.exchange.specs.Opening.{may_open, begun, open_link, associate, bring_down, part, dissociate, allowed, allow, activate, deactivate, without_association}
 use Rattle.exchange.specs.Failing.{fall, fail}
 use Rattle.exchange.specs.Statuses.{step_on, end_busy, serve_status, step_by_status, act_by_status, hear, act_by_timer, run_out}
-use Rattle.exchange.specs.Ticking.{with_timers, run_timer, run_due, run_next, run_times, run_all, tick}
+use Rattle.exchange.specs.Ticking.{with_timers, run_timer, run_due, run_next, run_times, tick}
 use Rattle.exchange.specs.Frames.{Carrying, carries, owing, timed_parts, numbers, accept, carry, handle_by, handle, act_by_data, take_in, receive_frame, leave_aside, read, receive}
 use Rattle.exchange.specs.Sending.{Outgoing, SendsStatus, SendsMessage, Acknowledges, SendsNothing, carried, goes_out, after_sending, frame_taken, after_take}
 use Rattle.exchange.specs.Happening.{Happening, CameUp, WentDown, FrameCame, Ticked, Submitted, Activated, Deactivated}
@@ -115,9 +125,11 @@ module _ {P Q : Type 0} (p : QueueKind P) (q : QueueKind Q) (h : P → Q) (IsFit
   no_room-kept : (m : Message) (x : P) → no_room q c m (h x) ≡ no_room p c m x
   no_room-kept m x = rw (k.users x, k.managements x)
 
-  local-kept : (m : Message) (n : Node P) → IsFit n.queues → Keeps (local m (keep h n)) (local m n)
+  local-kept : (m : Message) (n : Node P) → IsFit n.queues → Keeps (local c m (keep h n)) (local c m n)
   local-kept m n f =
-      either (nat_eq (service_indicator m) 3) _ _ (refuse causes.NotInProfile n) (answer Local n) (parted _ n.parts n.queues f) (parted _ n.parts n.queues f)
+      either (nat_eq (service_indicator m) 3) _ _ (refuse causes.NotInProfile n) (if is_user c (service_indicator m) then answer Local n else refuse causes.NoUserPart n)
+      (parted _ n.parts n.queues f)
+      (either (is_user c (service_indicator m)) _ _ (answer Local n) (refuse causes.NoUserPart n) (parted _ n.parts n.queues f) (parted _ n.parts n.queues f))
 
   offer-kept : (room : Option Cause) (link : Option ℕ) (m : Message) (n : Node P) → IsFit n.queues → Keeps (offer q c room link m (keep h n)) (offer p c room link m n)
   offer-kept (Some cause) link m n f = parted _ n.parts n.queues f
@@ -126,16 +138,45 @@ module _ {P Q : Type 0} (p : QueueKind P) (q : QueueKind Q) (h : P → Q) (IsFit
 
   transfer-kept : (m : Message) (n : Node P) → IsFit n.queues → Keeps (transfer q c m (keep h n)) (transfer p c m n)
   transfer-kept m n f =
-      let e : offer q c (no_room q c m (h n.queues)) (link_of n.parts (flow_of m)) m (keep h n) ≡ offer q c (no_room p c m n.queues) (link_of n.parts (flow_of m)) m (keep h n) =
-      ap (λ (r : Option Cause). offer q c r (link_of n.parts (flow_of m)) m (keep h n)) (no_room-kept m n.queues) in
-      let o : Keeps (offer q c (no_room p c m n.queues) (link_of n.parts (flow_of m)) m (keep h n)) (offer p c (no_room p c m n.queues) (link_of n.parts (flow_of m)) m n) =
-      offer-kept (no_room p c m n.queues) (link_of n.parts (flow_of m)) m n f in
-      either (is_destination c (dpc_of m)) _ _ (offer p c (no_room p c m n.queues) (link_of n.parts (flow_of m)) m n) (refuse causes.UnknownDestination n)
+      let e : offer q c (no_room q c m (h n.queues)) (link_of c n.parts (flow_of m)) m (keep h n) ≡ offer q c (no_room p c m n.queues) (link_of c n.parts (flow_of m)) m (keep h n) =
+      ap (λ (r : Option Cause). offer q c r (link_of c n.parts (flow_of m)) m (keep h n)) (no_room-kept m n.queues) in
+      let o : Keeps (offer q c (no_room p c m n.queues) (link_of c n.parts (flow_of m)) m (keep h n)) (offer p c (no_room p c m n.queues) (link_of c n.parts (flow_of m)) m n) =
+      offer-kept (no_room p c m n.queues) (link_of c n.parts (flow_of m)) m n f in
+      either (is_destination c (dpc_of m)) _ _ (offer p c (no_room p c m n.queues) (link_of c n.parts (flow_of m)) m n) (refuse causes.UnknownDestination n)
       (record { same = e ∙ o.same; fit = o.fit }) (parted _ n.parts n.queues f)
+
+  send-kept : (room : Option Cause) (l : ℕ) (m : Message) (n : Node P) → IsFit n.queues → KeepsNode (send q c room l m (keep h n)) (send p c room l m n)
+  send-kept (Some cause) l m n f = record { same = refl; fit = f }
+  send-kept None l m n f = changed _ _ n.parts (k.appended n.queues l m f)
+
+  send_on-kept : (l : ℕ) (m : Message) (n : Node P) → IsFit n.queues → KeepsNode (send_on q c l m (keep h n)) (send_on p c l m n)
+  send_on-kept l m n f =
+      let s : KeepsNode (send q c (no_room p c m n.queues) l m (keep h n)) (send p c (no_room p c m n.queues) l m n) = send-kept (no_room p c m n.queues) l m n f in
+      record { same = ap (λ (r : Option Cause). send q c r l m (keep h n)) (no_room-kept m n.queues) ∙ s.same; fit = s.fit }
+
+  do_kind-kept : (t : TestKind) (l z : ℕ) (v : LinkTestValue) (n : Node P) → IsFit n.queues → Keeps (do_kind q c t l z v (keep h n)) (do_kind p c t l z v n)
+  do_kind-kept Test l z v n f = answered _ _ _ (send_on-kept l (test_answer c z v) n f)
+  do_kind-kept Acknowledgement l z v n f = parted _ n.parts n.queues f
+
+  do_test-kept : (r : Result LinkTestValue MgmtFault) (l z : ℕ) (n : Node P) → IsFit n.queues → Keeps (do_test q c r l z (keep h n)) (do_test p c r l z n)
+  do_test-kept (Err fault) l z n f = parted _ n.parts n.queues f
+  do_test-kept (Ok v) l z n f = do_kind-kept v.kind l z v n f
+
+  do_read-kept : (r : Result Management MgmtFault) (n : Node P) → IsFit n.queues → Keeps (do_read r (keep h n)) (do_read r n)
+  do_read-kept (Err fault) n f = parted _ n.parts n.queues f
+  do_read-kept (Ok TrafficRestartAllowed) n f = parted _ n.parts n.queues f
+
+  manage-kept : (l : ℕ) (m : Message) (n : Node P) → IsFit n.queues → Keeps (manage q c l m (keep h n)) (manage p c l m n)
+  manage-kept l m n f =
+      let t : Done P = do_test p c (read_link_test m.sif) l (opc_of m) n in
+      let r : Done P = do_read (read_management m.sif) n in
+      either (is_adjacent c (opc_of m)) _ _ (if nat_eq (service_indicator m) 1 then t else r) (refuse causes.NotFromAdjacent n)
+      (either (nat_eq (service_indicator m) 1) _ _ t r (do_test-kept (read_link_test m.sif) l (opc_of m) n f) (do_read-kept (read_management m.sif) n f))
+      (parted _ n.parts n.queues f)
 
   hand_over-kept : (l : ℕ) (m : Message) (n : Node P) → IsFit n.queues → Keeps (hand_over q c l m (keep h n)) (hand_over p c l m n)
   hand_over-kept l m n f =
-      either (is_management m) _ _ (manage l m n) (local m n) (parted _ n.parts n.queues f) (local-kept m n f)
+      either (is_management m) _ _ (manage p c l m n) (local c m n) (manage-kept l m n f) (local-kept m n f)
 
   deliver_to-kept : (d : Discrimination) (l : ℕ) (m : Message) (n : Node P) → IsFit n.queues → Keeps (deliver_to q c d l m (keep h n)) (deliver_to p c d l m n)
   deliver_to-kept (whither.Refused cause) l m n f = parted _ n.parts n.queues f
@@ -151,7 +192,7 @@ module _ {P Q : Type 0} (p : QueueKind P) (q : QueueKind Q) (h : P → Q) (IsFit
   submit_to-kept : (d : Discrimination) (m : Message) (n : Node P) → IsFit n.queues → Keeps (submit_to q c d m (keep h n)) (submit_to p c d m n)
   submit_to-kept (whither.Refused cause) m n f = parted _ n.parts n.queues f
   submit_to-kept whither.Here m n f =
-      either (is_management m) _ _ (refuse causes.NotInProfile n) (local m n) (parted _ n.parts n.queues f) (local-kept m n f)
+      either (is_management m) _ _ (refuse causes.NotInProfile n) (local c m n) (parted _ n.parts n.queues f) (local-kept m n f)
   submit_to-kept whither.Transfer m n f =
       either (is_management m) _ _ (refuse causes.NotInProfile n) (transfer p c m n) (parted _ n.parts n.queues f) (transfer-kept m n f)
 

@@ -1,7 +1,9 @@
 -- A refused event leaves what it is to leave, and a message is queued on a link in service.
-use Rattle.std.proofs.Common.{◌≡◌, ℕ, Bool, true, false, List, Option, Some, None, Result, Ok, Err, refl, ap, subst, ◌∙◌}
-use Rattle.std.specs.Prelude.{if◌then◌else◌, nat_eq, unwrap_or}
-use Rattle.signalling_types.specs.Message.{Message, dpc_of, flow_of, is_management, service_indicator}
+use Rattle.std.proofs.Common.{◌≡◌, ℕ, Bool, true, false, List, Option, Some, None, Result, Ok, Err, refl, ap, ◌∙◌}
+use Rattle.std.specs.Prelude.{if◌then◌else◌, nat_eq}
+use Rattle.signalling_types.specs.Message.{Message, dpc_of, opc_of, flow_of, is_management, service_indicator}
+use Rattle.signalling_types.specs.declared.point.Flow.{Flow}
+use Rattle.std.specs.Option.{option_and_then}
 use Rattle.settings_rows.specs.Configuration.{Configuration}
 use Rattle.signalling_types.specs.declared.cause.Cause.{Cause}
 use Rattle.signalling_types.specs.declared.cause.Cause.TheVariants as causes
@@ -12,6 +14,17 @@ use Rattle.signalling_types.specs.declared.notice.FrameFault.{FrameFault}
 use Rattle.signalling_types.specs.declared.notice.FrameFault.TheVariants as faults
 use Rattle.m2pa_codec.specs.Frames.{FrameValue, EmptyFrame, MessageFrame, StatusFrame}
 use Rattle.m2pa_codec.specs.Reading.{read_frame}
+use Rattle.stp_types.specs.Readings.{destination_place}
+use Rattle.route_table.specs.Chosen.{chosen_link}
+use Rattle.node_links.proofs.Chosen.{chosen_serving}
+use Rattle.exchange.specs.Routing.{facts}
+use Rattle.mgmt_codec.specs.declared.fault.MgmtFault.{MgmtFault}
+use Rattle.mgmt_codec.specs.declared.link_test.TestKind.{TestKind}
+use Rattle.mgmt_codec.specs.declared.link_test.TestKind.TheVariants.{Test, Acknowledgement}
+use Rattle.mgmt_codec.specs.declared.management.Management.{Management}
+use Rattle.mgmt_codec.specs.declared.management.Management.TheVariants.{TrafficRestartAllowed}
+use Rattle.mgmt_codec.specs.LinkTests.{LinkTestValue, read_link_test}
+use Rattle.mgmt_codec.specs.Management.{read_management}
 use Rattle.routing_label.specs.declared.discrimination.Discrimination.{Discrimination}
 use Rattle.routing_label.specs.declared.discrimination.Discrimination.TheVariants as whither
 use Rattle.m2pa_codec.specs.declared.status.LinkStatus.{LinkStatus}
@@ -23,10 +36,13 @@ use Rattle.link_sequence.specs.Queue.{Queue, count_confirmed}
 use Rattle.signalling_types.specs.declared.notice.FailureReason.TheVariants as reasons
 use Rattle.link_sequence.specs.declared.fault.SeqFault.{SeqFault}
 use Rattle.exchange.specs.State.{Parts, Node, Done, with_node, with_parts, answer, refuse}
-use Rattle.exchange.specs.LinkState.{is_link, link_at, down, in_service}
+use Rattle.exchange.specs.Links.{is_link, link_at, down, in_service}
 use Rattle.exchange.specs.Noting.{note, note_outcome, note_refusal}
-use Rattle.exchange.specs.Local.{local, manage}
-use Rattle.exchange.specs.Messages.{whither_goes, is_destination, link_of, no_room, offer, transfer, hand_over, deliver_to, submit_to}
+use Rattle.exchange.specs.Routing.{network_of, link_of}
+use Rattle.exchange.specs.Arrival.{is_destination, no_room, offer, transfer}
+use Rattle.exchange.specs.Made.{send_on}
+use Rattle.exchange.specs.Local.{is_user, is_adjacent, cause_of, test_answer, local, do_read, do_kind, do_test, manage, hand_over}
+use Rattle.exchange.specs.Messages.{whither_goes, deliver_to, submit_to}
 use Rattle.exchange.specs.Opening.{may_open, open_link, associate, bring_down, part, dissociate, allow, activate, deactivate}
 use Rattle.exchange.specs.Statuses.{step_on, act_by_status}
 use Rattle.exchange.specs.Frames.{Carrying, data_of, numbers, accept, carry, handle_by, act_by_data, receive_frame, leave_aside, read}
@@ -69,13 +85,19 @@ either false d e n f g = g
 
 -- ---- messages
 
-chosen_serves : (p : Parts) (t : Bool) (l : ℕ) → in_service p 0 ≡ t → (if t then Some 0 else None) ≡ Some l → in_service p l ≡ true
-chosen_serves p true l s e = subst (λ k. in_service p k ≡ true) (ap (λ (o : Option ℕ). unwrap_or o 0) e) s
-chosen_serves p false l s e = cc
+chosen_at : (c : Configuration) (p : Parts) (place : Option ℕ) (selection l : ℕ)
+    → option_and_then (λ d. chosen_link (facts c p) d selection) place ≡ Some l → in_service p l ≡ true
+chosen_at c p None selection l e = absurd cc
+chosen_at c p (Some d) selection l e = chosen_serving (network_of c p) d selection l e
+
+chosen_serves : (c : Configuration) (p : Parts) (f : Flow) (l : ℕ) → link_of c p f ≡ Some l → in_service p l ≡ true
+chosen_serves c p f l e = chosen_at c p (destination_place c f.point) f.sls l e
 
 module _ (c : Configuration) where
-  local-leaves : (m : Message) (n : Node (List Queue)) → Leaves (local m n) n
-  local-leaves m n = either (nat_eq (service_indicator m) 3) (refuse causes.NotInProfile n) (answer Local n) n (refused _ n) (stayed n n)
+  local-leaves : (m : Message) (n : Node (List Queue)) → Leaves (local c m n) n
+  local-leaves m n =
+      either (nat_eq (service_indicator m) 3) (refuse causes.NotInProfile n) (if is_user c (service_indicator m) then answer Local n else refuse causes.NoUserPart n) n (refused _ n)
+      (either (is_user c (service_indicator m)) (answer Local n) (refuse causes.NoUserPart n) n (stayed n n) (refused _ n))
 
   offer-leaves : (room : Option Cause) (link : Option ℕ) (m : Message) (n : Node (List Queue)) → ((l : ℕ) → link ≡ Some l → in_service n.parts l ≡ true)
       → Leaves (offer whole c room link m n) n
@@ -85,11 +107,31 @@ module _ (c : Configuration) where
 
   transfer-leaves : (m : Message) (n : Node (List Queue)) → Leaves (transfer whole c m n) n
   transfer-leaves m n =
-      either (is_destination c (dpc_of m)) (offer whole c (no_room whole c m n.queues) (link_of n.parts (flow_of m)) m n) (refuse causes.UnknownDestination n) n
-      (offer-leaves (no_room whole c m n.queues) (link_of n.parts (flow_of m)) m n (λ l e. chosen_serves n.parts (in_service n.parts 0) l refl e)) (refused _ n)
+      either (is_destination c (dpc_of m)) (offer whole c (no_room whole c m n.queues) (link_of c n.parts (flow_of m)) m n) (refuse causes.UnknownDestination n) n
+      (offer-leaves (no_room whole c m n.queues) (link_of c n.parts (flow_of m)) m n (λ l e. chosen_serves c n.parts (flow_of m) l e)) (refused _ n)
+
+  do_kind-leaves : (t : TestKind) (link z : ℕ) (v : LinkTestValue) (n : Node (List Queue)) → Leaves (do_kind whole c t link z v n) n
+  do_kind-leaves Test link z v n = handled n (send_on whole c link (test_answer c z v) n)
+  do_kind-leaves Acknowledgement link z v n = ignored n n
+
+  do_test-leaves : (r : Result LinkTestValue MgmtFault) (link z : ℕ) (n : Node (List Queue)) → Leaves (do_test whole c r link z n) n
+  do_test-leaves (Err fault) link z n = refused (cause_of fault) n
+  do_test-leaves (Ok v) link z n = do_kind-leaves v.kind link z v n
+
+  do_read-leaves : (r : Result Management MgmtFault) (n : Node (List Queue)) → Leaves (do_read r n) n
+  do_read-leaves (Err fault) n = refused (cause_of fault) n
+  do_read-leaves (Ok TrafficRestartAllowed) n = ignored n n
+
+  manage-leaves : (link : ℕ) (m : Message) (n : Node (List Queue)) → Leaves (manage whole c link m n) n
+  manage-leaves link m n =
+      let t : Done (List Queue) = do_test whole c (read_link_test m.sif) link (opc_of m) n in
+      let r : Done (List Queue) = do_read (read_management m.sif) n in
+      either (is_adjacent c (opc_of m)) (if nat_eq (service_indicator m) 1 then t else r) (refuse causes.NotFromAdjacent n) n
+      (either (nat_eq (service_indicator m) 1) t r n (do_test-leaves (read_link_test m.sif) link (opc_of m) n) (do_read-leaves (read_management m.sif) n))
+      (refused _ n)
 
   hand_over-leaves : (link : ℕ) (m : Message) (n : Node (List Queue)) → Leaves (hand_over whole c link m n) n
-  hand_over-leaves link m n = either (is_management m) (manage link m n) (local m n) n (refused _ n) (local-leaves m n)
+  hand_over-leaves link m n = either (is_management m) (manage whole c link m n) (local c m n) n (manage-leaves link m n) (local-leaves m n)
 
   deliver_to-leaves : (d : Discrimination) (link : ℕ) (m : Message) (n : Node (List Queue)) → Leaves (deliver_to whole c d link m n) n
   deliver_to-leaves (whither.Refused cause) link m n = refused cause n
@@ -98,7 +140,7 @@ module _ (c : Configuration) where
 
   submit_to-leaves : (d : Discrimination) (m : Message) (n : Node (List Queue)) → Leaves (submit_to whole c d m n) n
   submit_to-leaves (whither.Refused cause) m n = refused cause n
-  submit_to-leaves whither.Here m n = either (is_management m) (refuse causes.NotInProfile n) (local m n) n (refused _ n) (local-leaves m n)
+  submit_to-leaves whither.Here m n = either (is_management m) (refuse causes.NotInProfile n) (local c m n) n (refused _ n) (local-leaves m n)
   submit_to-leaves whither.Transfer m n =
       either (is_management m) (refuse causes.NotInProfile n) (transfer whole c m n) n (refused _ n) (transfer-leaves m n)
 

@@ -8,9 +8,9 @@ use Rattle.link_sequence.specs.Queue.{IsQueue, first_queue}
 use Rattle.link_sequence.specs.Counts.{Counts, counts_of, unconfirmed, kept_first}
 use Rattle.link_sequence.proofs.Sound.{sound-first}
 use Rattle.timer_wheel.specs.Timers.{Running, none_running}
-use Rattle.exchange.specs.Link.{Link}
+use Rattle.node_links.specs.Network.{Network}
+use Rattle.exchange.specs.Routing.{first_network_of}
 use Rattle.exchange.specs.State.{Node, Done, keep}
-use Rattle.exchange.specs.LinkState.{down_link}
 use Rattle.exchange.specs.Queues.{KeptQueues, kept, whole}
 use Rattle.exchange.specs.Happening.{Happening}
 use Rattle.exchange.specs.Exchange.{apply, outcome_of, after, frame_to_take, taken, wants_of}
@@ -59,8 +59,14 @@ stands-first c k h e = record {
 }
 
 -- the parts that boot makes
-pub first-kept : (c : Configuration) (n : ℕ) (lanes : List (List Message)) (counts : List Counts) (links : List Link) (timers : Running) (notices : List Notice)
-    → n ≡ length c.links → lanes ≡ replicate n [] → counts ≡ replicate n kept_first → links ≡ replicate n down_link → timers ≡ none_running (counts_in c) → notices ≡ []
-    → record { settings = c; node = record { queues = record { lanes = lanes; counts = counts }; parts = record { links = links; timers = timers; notices = notices } } } ≡ kept_of (first_state c)
-first-kept c n lanes counts links timers notices e l k d t o =
+pub first-kept : (c : Configuration) (n : ℕ) (lanes : List (List Message)) (counts : List Counts) (network : Network) (timers : Running) (notices : List Notice)
+    → n ≡ length c.links → lanes ≡ replicate n [] → counts ≡ replicate n kept_first → network ≡ first_network_of c → timers ≡ none_running (counts_in c) → notices ≡ []
+    → record {
+      settings = c;
+      node = record {
+        queues = record { lanes = lanes; counts = counts };
+        parts = record { links = network.links; routes = network.routes; timers = timers; notices = notices };
+      };
+    } ≡ kept_of (first_state c)
+first-kept c n lanes counts network timers notices e l k d t o =
     rw (l, k, d, t, o, e, map-replicate unconfirmed (length c.links) first_queue, map-replicate counts_of (length c.links) first_queue)

@@ -1,5 +1,5 @@
 -- One timer has run, and one fewer is left to run.
-use Rattle.std.proofs.Common.{◌≡◌, ◌<◌, ◌+◌, ◌-◌, ℕ, suc, refl, arith}
+use Rattle.std.proofs.Common.{◌≡◌, ◌<◌, ◌+◌, ◌-◌, ℕ, suc, arith}
 use Rattle.exchange.specs.State.{State, with_node}
 use Rattle.exchange.specs.Queues.{KeptQueues, kept}
 use Rattle.exchange.specs.Ticking.{run_next, run_times}

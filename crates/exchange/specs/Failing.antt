@@ -3,7 +3,8 @@ use Rattle.std.specs.Prelude.{ℕ}
 use Rattle.signalling_types.specs.declared.notice.FailureReason.{FailureReason}
 use Rattle.signalling_types.specs.declared.notice.Notice.TheVariants as notices
 use Rattle.exchange.specs.State.{QueueKind, Parts, Node}
-use Rattle.exchange.specs.LinkState.{link_at, links_with, fallen}
+use Rattle.node_links.specs.LinkState.{fallen}
+use Rattle.exchange.specs.Links.{link_at, links_with}
 use Rattle.exchange.specs.Timing.{without_timers}
 use Rattle.exchange.specs.Noting.{note}
 

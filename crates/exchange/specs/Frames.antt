@@ -16,7 +16,7 @@ use Rattle.link_alignment.specs.declared.action.Input.TheVariants.{UserData}
 use Rattle.link_alignment.specs.Table.{action_at}
 use Rattle.link_sequence.specs.declared.fault.SeqFault.{SeqFault}
 use Rattle.exchange.specs.State.{QueueKind, Parts, Node, Done, with_parts, answer, refuse}
-use Rattle.exchange.specs.LinkState.{is_link, link_at, with_link, down}
+use Rattle.exchange.specs.Links.{is_link, link_at, with_link, down}
 use Rattle.exchange.specs.Timing.{timed_confirming}
 use Rattle.exchange.specs.Noting.{note}
 use Rattle.exchange.specs.Messages.{deliver}

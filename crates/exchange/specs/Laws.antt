@@ -13,7 +13,7 @@ use Rattle.link_alignment.specs.declared.action.Input.TheVariants.{UserData}
 use Rattle.link_alignment.specs.Table.{action_at}
 use Rattle.link_sequence.specs.Queue.{Queue, count_confirmed}
 use Rattle.exchange.specs.State.{Node, with_node, with_parts}
-use Rattle.exchange.specs.LinkState.{is_link, link_at, in_service}
+use Rattle.exchange.specs.Links.{is_link, link_at, in_service}
 use Rattle.exchange.specs.Noting.{note}
 use Rattle.exchange.specs.Statuses.{step_on}
 use Rattle.exchange.specs.Frames.{Carrying, numbers, accept, data_of}

@@ -1,9 +1,10 @@
-pub mod Link
 pub mod State
-pub mod LinkState
-pub mod LinkRoom
+pub mod Links
+pub mod Routing
 pub mod Timing
 pub mod Noting
+pub mod Arrival
+pub mod Made
 pub mod Local
 pub mod Messages
 pub mod Opening

@@ -1,18 +1,82 @@
 -- A message for this point, by its service indicator (Q.704 §14.2.1).
-use Rattle.std.specs.Prelude.{ℕ, nat_eq, if◌then◌else◌}
-use Rattle.signalling_types.specs.Message.{Message, service_indicator}
-use Rattle.signalling_types.specs.declared.cause.Cause.TheVariants.{NotInProfile}
-use Rattle.signalling_types.specs.declared.outcome.Outcome.TheVariants.{Local}
-use Rattle.exchange.specs.State.{Node, Done, answer, refuse}
+use Rattle.std.specs.Prelude.{ℕ, Bool, nat_eq, is_some, if◌then◌else◌, Result, Ok, Err}
+use Rattle.std.specs.List.{list_any}
+use Rattle.signalling_types.specs.Message.{Message, service_indicator, opc_of, is_management}
+use Rattle.settings_rows.specs.Configuration.{Configuration}
+use Rattle.stp_types.specs.Readings.{set_place}
+use Rattle.signalling_types.specs.declared.cause.Cause.{Cause}
+use Rattle.signalling_types.specs.declared.cause.Cause.TheVariants.{NotInProfile, NoUserPart, BadManagement}
+use Rattle.signalling_types.specs.declared.cause.Cause.TheVariants.{NotFromAdjacent}
+use Rattle.signalling_types.specs.declared.outcome.Outcome.TheVariants.{Local, Handled, Ignored}
+use Rattle.mgmt_codec.specs.declared.fault.MgmtFault.{MgmtFault}
+use Rattle.mgmt_codec.specs.declared.fault.MgmtFault.TheVariants as faults
+use Rattle.mgmt_codec.specs.declared.link_test.TestKind.{TestKind}
+use Rattle.mgmt_codec.specs.declared.link_test.TestKind.TheVariants.{Test, Acknowledgement}
+use Rattle.mgmt_codec.specs.declared.management.Management.{Management}
+use Rattle.mgmt_codec.specs.declared.management.Management.TheVariants.{TrafficRestartAllowed}
+use Rattle.mgmt_codec.specs.LinkTests.{LinkTestValue, read_link_test, spelled, answer_to}
+use Rattle.mgmt_codec.specs.Management.{read_management}
+use Rattle.exchange.specs.State.{QueueKind, Node, Done, answer, refuse}
+use Rattle.exchange.specs.Made.{own_sio, send_on}
 
--- the service indicator of SCCP
+-- the service indicators of tests and of SCCP; that of management is 0
+abbrev pub testing : ℕ
+testing = 1
+
 abbrev pub sccp : ℕ
 sccp = 3
 
--- a message for a user part; SCCP has no part here yet
-abbrev pub local : {Q : Type 0} → Message → Node Q → Done Q
-local m node = (if nat_eq (service_indicator m) sccp then refuse NotInProfile node else answer Local node)
+-- whether a user part of this service indicator stands on this node
+abbrev pub is_user : Configuration → ℕ → Bool
+is_user c service_indicator = list_any (λ user. nat_eq user service_indicator) c.users
 
--- management and tests, by the link that they came by, have no part here yet
-abbrev pub manage : {Q : Type 0} → ℕ → Message → Node Q → Done Q
-manage link m node = refuse NotInProfile node
+-- whether the links of some set lead to this point
+abbrev pub is_adjacent : Configuration → ℕ → Bool
+is_adjacent c point = is_some (set_place c point)
+
+-- a message for a user part; SCCP has no part here yet
+abbrev pub local : {Q : Type 0} → Configuration → Message → Node Q → Done Q
+local c m node =
+    if nat_eq (service_indicator m) sccp then refuse NotInProfile node
+    else if is_user c (service_indicator m) then answer Local node
+    else refuse NoUserPart node
+
+-- why a management or test message that can't be read is refused
+abbrev pub cause_of : MgmtFault → Cause
+cause_of faults.Short = BadManagement
+cause_of faults.NotInProfile = NotInProfile
+
+-- the answer to a link test from a point
+abbrev pub test_answer : Configuration → ℕ → LinkTestValue → Message
+test_answer c point test = record { sio = own_sio c testing; sif = spelled point c.own (answer_to test) }
+
+-- the adjacent point has restarted, which asks nothing of this node
+abbrev pub do_management : {Q : Type 0} → Management → Node Q → Done Q
+do_management TrafficRestartAllowed node = answer Ignored node
+
+abbrev pub do_read : {Q : Type 0} → Result Management MgmtFault → Node Q → Done Q
+do_read (Err fault) node = refuse (cause_of fault) node
+do_read (Ok message) node = do_management message node
+
+module _ {Q : Type 0} (q : QueueKind Q) (c : Configuration) where
+  -- a link test is answered on the link that it came by; an answer to one is ignored (Q.707 §2.2)
+  abbrev pub do_kind : TestKind → ℕ → ℕ → LinkTestValue → Node Q → Done Q
+  do_kind Test link point test node = answer Handled (send_on q c link (test_answer c point test) node)
+  do_kind Acknowledgement link point test node = answer Ignored node
+
+  abbrev pub do_test : Result LinkTestValue MgmtFault → ℕ → ℕ → Node Q → Done Q
+  do_test (Err fault) link point node = refuse (cause_of fault) node
+  do_test (Ok test) link point node = do_kind test.kind link point test node
+
+  -- management and tests, by the link that they came by: only an adjacent point is heard
+  abbrev pub manage : ℕ → Message → Node Q → Done Q
+  manage link m node =
+      if is_adjacent c (opc_of m)
+      then (if nat_eq (service_indicator m) testing
+      then do_test (read_link_test m.sif) link (opc_of m) node
+      else do_read (read_management m.sif) node)
+      else refuse NotFromAdjacent node
+
+  -- a message for this point, by the link that it came by
+  abbrev pub hand_over : ℕ → Message → Node Q → Done Q
+  hand_over link m node = (if is_management m then manage link m node else local c m node)

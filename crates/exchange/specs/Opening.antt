@@ -6,11 +6,12 @@ use Rattle.signalling_types.specs.declared.notice.FailureReason.{FailureReason}
 use Rattle.signalling_types.specs.declared.notice.FailureReason.TheVariants as reasons
 use Rattle.signalling_types.specs.declared.outcome.Outcome.TheVariants.{Handled, Ignored}
 use Rattle.link_alignment.specs.Table.{opening}
-use Rattle.exchange.specs.Link.{Link}
+use Rattle.node_links.specs.Link.{Link}
 use Rattle.exchange.specs.declared.event.Wants.{Wants}
 use Rattle.exchange.specs.declared.event.Wants.TheVariants.{Nothing, Open, Close}
 use Rattle.exchange.specs.State.{QueueKind, Parts, Node, Done, with_parts, answer, refuse}
-use Rattle.exchange.specs.LinkState.{is_link, link_at, links_with, with_link, is_down, down, opened}
+use Rattle.node_links.specs.LinkState.{is_down, opened}
+use Rattle.exchange.specs.Links.{is_link, link_at, links_with, with_link, down}
 use Rattle.exchange.specs.Timing.{timed}
 use Rattle.exchange.specs.Failing.{fail}
 

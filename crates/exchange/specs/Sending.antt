@@ -4,9 +4,10 @@ use Rattle.settings_rows.specs.Configuration.{Configuration}
 use Rattle.m2pa_codec.specs.declared.status.LinkStatus.{LinkStatus}
 use Rattle.m2pa_codec.specs.Frames.{FrameValue, EmptyFrame, MessageFrame, StatusFrame}
 use Rattle.link_sequence.specs.Queue.{Sending}
-use Rattle.exchange.specs.Link.{Link}
+use Rattle.node_links.specs.Link.{Link}
 use Rattle.exchange.specs.State.{QueueKind, Parts, Node, with_parts}
-use Rattle.exchange.specs.LinkState.{is_in_service, link_at, links_with, with_link}
+use Rattle.node_links.specs.LinkState.{is_in_service}
+use Rattle.exchange.specs.Links.{link_at, links_with, with_link}
 use Rattle.exchange.specs.Timing.{timed_sending}
 
 pub data Outgoing : Type 0 where

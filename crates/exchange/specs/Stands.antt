@@ -6,7 +6,8 @@ use Rattle.timer_wheel.specs.Timers.{none_running}
 use Rattle.link_sequence.specs.Queue.{Queue, IsQueue, first_queue}
 use Rattle.link_sequence.specs.Counts.{counts_of, unconfirmed}
 use Rattle.exchange.specs.State.{Parts, State, keep}
-use Rattle.exchange.specs.LinkState.{down_link}
+use Rattle.route_table.specs.Facts.{first_routes}
+use Rattle.node_links.specs.LinkState.{down_link}
 use Rattle.exchange.specs.Queues.{KeptQueues, queue_at}
 
 -- the abstract state: whole queues
@@ -39,10 +40,11 @@ pub record StandsFor (k : Kept) (a : Abstract) : Type 0 where
 abbrev pub counts_in : Configuration → NodeCounts
 counts_in c = record { links = length c.links; sets = length c.sets; destinations = length c.destinations }
 
--- every link is down, no timer runs, and nothing was noted
+-- every link is down, every route is allowed, no timer runs, and nothing was noted
 abbrev pub first_parts : Configuration → Parts
 first_parts c = record {
   links = replicate (length c.links) down_link;
+  routes = map first_routes c.destinations;
   timers = none_running (counts_in c);
   notices = [];
 }

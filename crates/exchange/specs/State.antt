@@ -9,11 +9,14 @@ use Rattle.signalling_types.specs.declared.outcome.Outcome.TheVariants.{Refused}
 use Rattle.link_sequence.specs.Queue.{Sending}
 use Rattle.link_sequence.specs.declared.fault.SeqFault.{SeqFault}
 use Rattle.timer_wheel.specs.Timers.{Running}
-use Rattle.exchange.specs.Link.{Link}
+use Rattle.route_table.specs.declared.route.Route.{Route}
+use Rattle.node_links.specs.Link.{Link}
 
 -- All that isn't a queue.
 pub record Parts : Type 0 where
   pub links : List Link
+  -- of each destination the sets that lead there, each with its status
+  pub routes : List (List Route)
   pub timers : Running
   pub notices : List Notice
 

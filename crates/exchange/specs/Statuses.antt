@@ -11,9 +11,9 @@ use Rattle.link_alignment.specs.declared.action.Input.TheVariants.{Status, Expir
 use Rattle.link_alignment.specs.declared.action.LinkTimer.{LinkTimer}
 use Rattle.link_alignment.specs.declared.action.Transition.{Transition}
 use Rattle.link_alignment.specs.Table.{action_at}
-use Rattle.exchange.specs.Link.{Link}
 use Rattle.exchange.specs.State.{QueueKind, Parts, Node, Done, with_parts, answer}
-use Rattle.exchange.specs.LinkState.{link_at, links_with, stepped}
+use Rattle.node_links.specs.LinkState.{stepped}
+use Rattle.exchange.specs.Links.{link_at, links_with}
 use Rattle.exchange.specs.Timing.{timed, timed_busy, timed_busy_ended}
 use Rattle.exchange.specs.Failing.{fail}
 

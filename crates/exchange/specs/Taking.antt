@@ -2,7 +2,7 @@
 use Rattle.std.specs.Prelude.{◌≡◌, ℕ, false, List, length, take, Option, Some, None}
 use Rattle.m2pa_codec.specs.Frames.{FrameValue, spelled}
 use Rattle.exchange.specs.State.{State, with_node}
-use Rattle.exchange.specs.LinkState.{link_at}
+use Rattle.exchange.specs.Links.{link_at}
 use Rattle.exchange.specs.Queues.{KeptQueues, kept}
 use Rattle.exchange.specs.Sending.{Outgoing, message_first, if_owed, frame_from, next_message, after_sending}
 

@@ -6,7 +6,7 @@ use Rattle.link_alignment.specs.declared.action.LinkTimer.TheVariants as timer
 use Rattle.timer_wheel.specs.declared.name.TimerName.{TimerName}
 use Rattle.timer_wheel.specs.declared.name.TimerName.TheVariants.{L1, L2, L3, L4, L6, L7, T1, T2, T3, T4, T6, T8, T10}
 use Rattle.timer_wheel.specs.Timers.{Running, ticked, due_name, due_count, after_due}
-use Rattle.exchange.specs.State.{QueueKind, Parts, Node, Done, with_parts, answer}
+use Rattle.exchange.specs.State.{QueueKind, Node, Done, with_parts, answer}
 use Rattle.exchange.specs.Statuses.{run_out}
 
 -- the same node with other timers

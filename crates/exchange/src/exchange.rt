@@ -9,10 +9,12 @@ ghost use Rattle.exchange.specs.Exchange as rule;
 ghost use Rattle.exchange.specs.Taking.{Writes};
 ghost use Rattle.exchange.specs.Stands.{Abstract, StandsFor};
 
+mod arrival;
 mod boot;
 mod failing;
 mod frames;
 mod local;
+mod made;
 mod messages;
 mod noting;
 mod opening;
@@ -24,11 +26,11 @@ mod timing;
 mod views;
 
 use crate::event::{Event, Order};
-use crate::link_state::LinkState;
 use cell_pool::RingLanes;
 use circular_buffer::HeapCircularBuffer;
 use link_sequence::Sequence;
 use m2pa_codec::BUFFER_OCTETS;
+use node_links::NodeLinks;
 use std::marker::Model;
 use stp_types::{LinkId, Notice, Outcome, Settings};
 use timer_wheel::Timers;
@@ -42,7 +44,7 @@ pub struct Exchange {
     settings: Settings,
     lanes: RingLanes,
     sequences: Vec<Sequence>,
-    links: Vec<LinkState>,
+    links: NodeLinks,
     timers: Timers,
     notices: HeapCircularBuffer<Notice>,
 }

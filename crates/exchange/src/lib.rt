@@ -6,7 +6,6 @@ pub mod event;
 pub mod exchange;
 pub mod frame_text;
 pub mod laws;
-pub mod link_state;
 pub mod memory;
 
 pub use event::{Answer, Call, Event, Order, Wants};

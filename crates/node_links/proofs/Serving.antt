@@ -1,5 +1,5 @@
 -- Which links are in service, as one of them changes.
-use Rattle.std.proofs.Common.{◌≡◌, ◌∷◌, ℕ, Bool, false, List, map, replicate, zero, suc, refl, ap, sym, ◌∙◌}
+use Rattle.std.proofs.Common.{◌≡◌, ◌∷◌, ℕ, Bool, false, List, replicate, zero, suc, refl, ap, sym, ◌∙◌}
 use Rattle.std.specs.Prelude.{slice_index_or, slice_set}
 use Rattle.std.proofs.lemmas.List.{map-set, set-get_or}
 use Rattle.node_links.specs.Link.{Link}

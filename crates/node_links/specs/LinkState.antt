@@ -1,7 +1,6 @@
 -- The state of one link, beside its queue.
 use Rattle.std.specs.Prelude.{Bool, true, false, [], ◌++◌}
 use Rattle.std.specs.Option.{option_to_list}
-use Rattle.m2pa_codec.specs.declared.status.LinkStatus.{LinkStatus}
 use Rattle.link_alignment.specs.declared.alignment.Alignment.{Alignment}
 use Rattle.link_alignment.specs.declared.alignment.Alignment.TheVariants.{Down, NotAligned, Aligned, Proving}
 use Rattle.link_alignment.specs.declared.alignment.Alignment.TheVariants.{AlignedReady, InService}

@@ -10,5 +10,4 @@ pub fn the_link_of_a_flow_is_in_service()
     ensures { (n : Network) (destination selection link : ℕ)
         → chosen_link (facts_of n) destination selection ≡ Some link
         → is_in_service (link_in n.links link).alignment ≡ true }
-{
-}
+{}

@@ -1,6 +1,6 @@
 //! The links of a node, and the routes that they open.
 
-ghost use Rattle.std.specs.Prelude.{◌≡◌, ◌<◌, ◌≤◌, false, drop, length, replicate, IfOk, IfSome, option_copied, slice_get};
+ghost use Rattle.std.specs.Prelude.{◌≡◌, ◌<◌, ◌≤◌, false, drop, length, replicate, nat_lt, IfOk, IfSome};
 ghost use Rattle.link_alignment.specs.Table.{action_at};
 ghost use Rattle.route_table.specs.Chosen.{chosen_link};
 ghost use Rattle.node_links.specs.LinkState.{acted, down_link, fallen, opened};
@@ -55,18 +55,11 @@ impl NodeLinks {
         })
     }
 
-    /// How many links there are.
-    pub fn count(&self) -> usize
-        ensures { result ≡ length self.now.links }
+    /// Whether a link has this number.
+    pub fn has(&self, link: LinkId) -> bool
+        ensures { result ≡ nat_lt link (length self.now.links) }
     {
-        self.states.len()
-    }
-
-    /// A link, or None where no link has this number.
-    pub fn get(&self, link: LinkId) -> Option<&LinkState>
-        ensures { option_copied result ≡ slice_get self.now.links link }
-    {
-        self.states.get(link.index())
+        link.index() < self.states.len()
     }
 
     /// A link that is there.

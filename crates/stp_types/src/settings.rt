@@ -7,12 +7,12 @@ ghost use Rattle.std.specs.Prelude.{All, IfOk, IfSome, OnOk, IfErr, ◌⊎◌, S
 ghost use Rattle.std.specs.Prelude.{nat_eq, slice_get};
 ghost use Rattle.settings_check.specs.Meaning.{settings_of};
 ghost use Rattle.settings_check.specs.FirstFault.{first_fault};
-ghost use Rattle.stp_types.specs.Readings.{link_place, destination_place};
+ghost use Rattle.stp_types.specs.Readings.{link_place, destination_place, set_place};
 ghost use Rattle.stp_types.specs.Well.{IsWell, IsWithin, IsSet, IsLink, IsDestination, IsTitle, all_ticks};
 
 use settings_check::{Checked, check_draft};
 use settings_rows::{DestinationRow, Draft, DraftFault, LinkRow, SetRow, TimerTicks, TitleRow};
-use signalling_types::{Limits, LinkId, PointCode};
+use signalling_types::{Limits, LinkId, PointCode, SetId};
 use std::alloc::Global;
 use std::marker::Model;
 
@@ -183,6 +183,21 @@ impl Settings {
     {
         self.checked.points.get_index_of(&point.code())
     }
+
+    /// The set whose links lead to this point. It looks through all sets.
+    pub fn set_to(&self, point: PointCode) -> Option<SetId>
+        ensures { result ≡ set_place self.now point }
+    {
+        let place = set_position(&self.checked.sets, point)?;
+        Some(SetId::new(place as u8))
+    }
+}
+
+/// The number of the set that leads to this point.
+fn set_position(sets: &[SetRow], point: PointCode) -> Option<usize>
+    ensures { result ≡ position (λ s. nat_eq point s.adjacent) sets.now }
+{
+    sets.iter().position(|row| point == row.adjacent())
 }
 
 /// The number of the link of this name.

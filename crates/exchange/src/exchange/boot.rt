@@ -2,15 +2,15 @@
 
 ghost use Rattle.std.specs.Prelude.{◌≡◌, ◌≤◌, replicate, IfOk};
 ghost use Rattle.link_sequence.specs.Counts.{kept_first};
-ghost use Rattle.exchange.specs.LinkState.{down_link};
 ghost use Rattle.exchange.specs.Stands.{StandsFor, kept_of, first_state, counts_in};
+ghost use Rattle.exchange.specs.Routing.{first_network_of};
 
 use super::Exchange;
-use crate::link_state::LinkState;
 use crate::memory::NoMemory;
 use cell_pool::RingLanes;
 use circular_buffer::HeapCircularBuffer;
 use link_sequence::Sequence;
+use node_links::NodeLinks;
 use std::alloc::{AllocError, Global};
 use stp_types::{Limits, Settings};
 use timer_wheel::{NodeCounts, Timers};
@@ -29,7 +29,7 @@ impl Exchange {
         prove!(settings.window() <= Limits::WINDOW);
         let lanes = RingLanes::new(alloc, count, settings.pool())?;
         let sequences = first_sequences(alloc, count)?;
-        let links = down_links(alloc, count)?;
+        let links = node_links(alloc, &settings)?;
         let timers = Timers::new(alloc, counts_in(&settings))?;
         let notices = HeapCircularBuffer::with_capacity(alloc, Limits::NOTICES)?;
         Ok(Exchange {
@@ -53,14 +53,12 @@ fn first_sequences(alloc: Global, count: usize) -> Result<Vec<Sequence>, AllocEr
     Ok(sequences)
 }
 
-fn down_links(alloc: Global, count: usize) -> Result<Vec<LinkState>, AllocError>
-    ensures { IfOk result (λ links. links.items ≡ replicate count down_link) }
+/// The links of these settings, all of them down.
+fn node_links(alloc: Global, settings: &Settings) -> Result<NodeLinks, AllocError>
+    ensures { IfOk result (λ links. links ≡ first_network_of settings.now) }
 {
-    let mut links = Vec::with_capacity(alloc, count)?;
-    for index in 0..count {
-        links.push(LinkState::new())?;
-    }
-    Ok(links)
+    let sets = settings.sets().len();
+    NodeLinks::new(alloc, sets, settings.links(), settings.destinations())
 }
 
 /// How many links, sets and destinations the settings have.

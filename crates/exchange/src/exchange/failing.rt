@@ -26,7 +26,7 @@ impl Exchange {
         requires { link < length self.old.node.parts.links }
         ensures { self.new ≡ with_node self.old (with_parts self.old.node (rule.fall link why self.old.node.parts)) }
     {
-        self.links[link.index()].fall();
+        self.links.fall(link);
         self.stop_all(link);
         self.note(Notice::Failed(link, why));
     }

@@ -10,7 +10,7 @@ ghost use Rattle.exchange.specs.Exchange.{Ends};
 ghost use Rattle.exchange.specs.Ticking.{with_timers};
 ghost use Rattle.exchange.specs.Timing.{timed_confirming};
 ghost use Rattle.exchange.specs.Carried.{carrying};
-ghost use Rattle.exchange.specs.LinkState.{link_at};
+ghost use Rattle.exchange.specs.Links.{link_at};
 ghost use Rattle.exchange.specs.Frames.{owing};
 ghost use Rattle.exchange.specs.Frames as rule;
 
@@ -21,14 +21,14 @@ use m2pa_codec::{Frame, LinkStatus, decode};
 use stp_types::{Cause, FailureReason, FrameFault, LinkId, MsuRef, Notice, Outcome};
 
 impl Exchange {
+    /// A frame that came by a link; one for a link that is down is ignored.
     pub(super) fn receive(&mut self, link: LinkId, octets: &[u8]) -> Outcome
         ensures { Ends self.old result self.new (rule.receive kept self.old.settings link octets.now self.old.node) }
     {
-        let index = link.index();
-        if index >= self.links.len() {
+        if !self.links.has(link) {
             return Outcome::Refused(Cause::NoSuchName);
         }
-        if self.links[index].is_down() {
+        if self.links.state(link).is_down() {
             return Outcome::Ignored;
         }
         match decode(octets) {
@@ -78,7 +78,7 @@ impl Exchange {
         ensures { Ends self.old result self.new
             (rule.take_in kept self.old.settings link (carrying fsn bsn message.entry) self.old.node) }
     {
-        match self.links[link.index()].on(Input::UserData) {
+        match self.links.on(link, Input::UserData) {
             Action::Ignored => Outcome::Ignored,
             Action::Fail => {
                 self.fail(link, FailureReason::Sequence);
@@ -128,7 +128,7 @@ impl Exchange {
     {
         match message {
             Some(message) => {
-                self.links[link.index()].set_owed(true);
+                self.links.set_owed(link, true);
                 self.deliver(link, message)
             }
             None => Outcome::Handled,
@@ -148,7 +148,7 @@ impl Exchange {
         }
         if self.sequences[index].outstanding() == 0 {
             self.stop(link, LinkTimer::L7);
-        } else if !self.links[index].is_peer_busy() {
+        } else if !self.links.state(link).is_peer_busy() {
             self.start(link, LinkTimer::L7);
         }
     }

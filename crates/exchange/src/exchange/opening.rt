@@ -21,11 +21,18 @@ impl Exchange {
         ensures wants { (a : Abstract) → StandsFor self.now a → result ≡ wants_of a link }
         ensures kept_wants { result ≡ wants_of self.now link }
     {
-        match self.links.get(link.index()) {
-            Some(state) if !state.is_down() => Wants::Nothing,
-            Some(state) if state.has_association() => Wants::Close,
-            Some(state) if state.is_active() => Wants::Open,
-            _ => Wants::Nothing,
+        if !self.links.has(link) {
+            return Wants::Nothing;
+        }
+        let state = self.links.state(link);
+        if !state.is_down() {
+            Wants::Nothing
+        } else if state.has_association() {
+            Wants::Close
+        } else if state.is_active() {
+            Wants::Open
+        } else {
+            Wants::Nothing
         }
     }
 
@@ -33,9 +40,10 @@ impl Exchange {
     pub(super) fn associate(&mut self, link: LinkId) -> Outcome
         ensures { Ends self.old result self.new (rule.associate kept self.old.settings link self.old.node) }
     {
-        let Some(state) = self.links.get(link.index()) else {
+        if !self.links.has(link) {
             return Outcome::Refused(Cause::NoSuchName);
-        };
+        }
+        let state = self.links.state(link);
         if state.has_association() || !state.is_active() {
             return Outcome::Refused(Cause::LinkNotReady);
         }
@@ -51,7 +59,7 @@ impl Exchange {
         let index = link.index();
         self.drop_all(index);
         self.sequences[index] = Sequence::start();
-        self.links[index].open();
+        self.links.open(link);
         self.time(link, &Alignment::open());
     }
 
@@ -59,14 +67,14 @@ impl Exchange {
     pub(super) fn dissociate(&mut self, link: LinkId) -> Outcome
         ensures { Ends self.old result self.new (rule.dissociate kept self.old.settings link self.old.node) }
     {
-        let Some(state) = self.links.get(link.index()) else {
+        if !self.links.has(link) {
             return Outcome::Refused(Cause::NoSuchName);
-        };
-        if !state.has_association() {
+        }
+        if !self.links.state(link).has_association() {
             return Outcome::Ignored;
         }
         self.bring_down(link, FailureReason::Association);
-        self.links[link.index()].part();
+        self.links.part(link);
         Outcome::Handled
     }
 
@@ -75,7 +83,7 @@ impl Exchange {
         requires { link < length self.old.node.parts.links }
         ensures { self.new ≡ with_node self.old (rule.bring_down kept self.old.settings link why self.old.node) }
     {
-        if !self.links[link.index()].is_down() {
+        if !self.links.state(link).is_down() {
             self.fail(link, why);
         }
     }
@@ -84,11 +92,10 @@ impl Exchange {
     pub(super) fn activate(&mut self, link: LinkId) -> Outcome
         ensures { Ends self.old result self.new (rule.activate kept self.old.settings link self.old.node) }
     {
-        let index = link.index();
-        if index >= self.links.len() {
+        if !self.links.has(link) {
             return Outcome::Refused(Cause::NoSuchName);
         }
-        self.links[index].allow(true);
+        self.links.allow(link, true);
         Outcome::Handled
     }
 
@@ -96,12 +103,11 @@ impl Exchange {
     pub(super) fn deactivate(&mut self, link: LinkId) -> Outcome
         ensures { Ends self.old result self.new (rule.deactivate kept self.old.settings link self.old.node) }
     {
-        let index = link.index();
-        if index >= self.links.len() {
+        if !self.links.has(link) {
             return Outcome::Refused(Cause::NoSuchName);
         }
         self.bring_down(link, FailureReason::Operator);
-        self.links[index].allow(false);
+        self.links.allow(link, false);
         Outcome::Handled
     }
 }

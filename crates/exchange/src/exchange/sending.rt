@@ -29,11 +29,10 @@ impl Exchange {
         ensures state { self.new ≡ taken kept self.old link }
         ensures fits { IfSome result (λ count. count ≤ BUFFER_OCTETS) }
     {
-        let status = match self.links.get(link.index()) {
-            Some(state) => state.next_status(),
-            None => return None,
-        };
-        match status {
+        if !self.links.has(link) {
+            return None;
+        }
+        match self.links.state(link).next_status() {
             Some(status) => Some(self.take_status(link, status, buffer)),
             None => self.take_data(link, buffer),
         }
@@ -55,7 +54,7 @@ impl Exchange {
         ensures fits { result ≤ BUFFER_OCTETS }
     {
         let index = link.index();
-        self.links[index].drop_status();
+        self.links.drop_status(link);
         let sequence = &self.sequences[index];
         let bsn = sequence.last_accepted();
         let fsn = sequence.last_sent();
@@ -83,7 +82,7 @@ impl Exchange {
         ensures fits { IfSome result (λ count. count ≤ BUFFER_OCTETS) }
     {
         let index = link.index();
-        let state = &self.links[index];
+        let state = self.links.state(link);
         if !state.is_in_service() || state.is_peer_busy() {
             return None;
         }
@@ -91,7 +90,7 @@ impl Exchange {
         let sequence = &mut self.sequences[index];
         let outstanding = sequence.outstanding();
         let count = write_message(sequence, &self.lanes, index, window, buffer)?;
-        self.links[index].set_owed(false);
+        self.links.set_owed(link, false);
         if outstanding == 0 {
             self.start(link, LinkTimer::L7);
         }
@@ -110,10 +109,10 @@ impl Exchange {
         ensures fits { IfSome result (λ count. count ≤ BUFFER_OCTETS) }
     {
         let index = link.index();
-        if !self.links[index].owes_acknowledgement() {
+        if !self.links.state(link).owes_acknowledgement() {
             return None;
         }
-        self.links[index].set_owed(false);
+        self.links.set_owed(link, false);
         let sequence = &self.sequences[index];
         let bsn = sequence.last_accepted();
         let fsn = sequence.last_sent();

@@ -17,7 +17,7 @@ impl Exchange {
         requires { link < length self.old.node.parts.links }
         ensures { Ends self.old result self.new (rule.hear kept self.old.settings link status self.old.node) }
     {
-        match self.links[link.index()].on(Input::Status(status)) {
+        match self.links.on(link, Input::Status(status)) {
             Action::Ignored => Outcome::Ignored,
             Action::Fail => {
                 self.fail(link, FailureReason::Status);
@@ -52,11 +52,10 @@ impl Exchange {
         ensures { self.new ≡ with_node self.old
             (with_parts self.old.node (rule.become_busy self.old.settings link self.old.node.parts)) }
     {
-        let state = &mut self.links[link.index()];
-        if state.is_peer_busy() {
+        if self.links.state(link).is_peer_busy() {
             return;
         }
-        state.set_peer_busy(true);
+        self.links.set_peer_busy(link, true);
         self.stop(link, LinkTimer::L7);
         self.start(link, LinkTimer::L6);
     }
@@ -67,13 +66,12 @@ impl Exchange {
         ensures { self.new ≡ with_node self.old (with_parts self.old.node (rule.end_busy self.old.settings link
             (kept.outstanding self.old.node.queues link) self.old.node.parts)) }
     {
-        let index = link.index();
-        if !self.links[index].is_peer_busy() {
+        if !self.links.state(link).is_peer_busy() {
             return;
         }
-        self.links[index].set_peer_busy(false);
+        self.links.set_peer_busy(link, false);
         self.stop(link, LinkTimer::L6);
-        if self.sequences[index].outstanding() > 0 {
+        if self.sequences[link.index()].outstanding() > 0 {
             self.start(link, LinkTimer::L7);
         }
     }
@@ -82,11 +80,10 @@ impl Exchange {
     pub(super) fn run_out(&mut self, link: LinkId, timer: LinkTimer)
         ensures { self.new ≡ with_node self.old (rule.run_out kept self.old.settings link timer self.old.node) }
     {
-        let index = link.index();
-        if index >= self.links.len() {
+        if !self.links.has(link) {
             return;
         }
-        match self.links[index].on(Input::Expiry(timer)) {
+        match self.links.on(link, Input::Expiry(timer)) {
             Action::Ignored => {}
             Action::Fail => self.fail(link, FailureReason::Timer),
             Action::Go(step) => self.time(link, &step),

@@ -12,6 +12,7 @@ use stp_types::{LinkId, Outcome, SetId};
 use timer_wheel::{TimerName, Timers};
 
 impl Exchange {
+    /// Lowers every timer by one, and runs those that are due.
     pub(super) fn tick(&mut self) -> Outcome
         ensures { Ends self.old result self.new (rule.tick kept self.old.settings self.old.node) }
     {
