@@ -58,8 +58,8 @@ numbers_fault low high key ns = first_of (
 
 -- the first fault of an array by its length: at most so many entries, and at least one
 abbrev pub count_fault : ℕ → Key → ℕ → Option DraftFault
-count_fault carried key n = first_of (
-    fault_unless (nat_le n carried) TooMany key
+count_fault limit key n = first_of (
+    fault_unless (nat_le n limit) TooMany key
     ∷ fault_unless (nat_lt 0 n) Range key
     ∷ [])
 

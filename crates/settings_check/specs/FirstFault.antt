@@ -19,9 +19,8 @@ use Rattle.settings_rows.specs.declared.key.Key.TheVariants.{SetName, SetAdjacen
 use Rattle.settings_rows.specs.declared.key.Key.TheVariants.{Destination, DestinationPoint, DestinationSets, Title}
 use Rattle.settings_rows.specs.declared.key.Key.TheVariants.{TitleTranslation, TitlePlan, TitleNature, TitleDigits}
 use Rattle.settings_rows.specs.declared.key.Key.TheVariants.{TitlePoint, TitleRoute, TitleSsn}
-use Rattle.signalling_types.specs.declared.limits.TheConstants.Limits.{WINDOW, POOL, TICKS, LINKS_CARRIED, SETS_CARRIED}
-use Rattle.signalling_types.specs.declared.limits.TheConstants.Limits.{TITLES_CARRIED, DESTINATIONS}
-use Rattle.signalling_types.specs.declared.limits.TheConstants.Limits.{SETS_PER_DESTINATION}
+use Rattle.signalling_types.specs.declared.limits.TheConstants.Limits.{WINDOW, POOL, TICKS, LINKS, SETS, TITLES}
+use Rattle.signalling_types.specs.declared.limits.TheConstants.Limits.{DESTINATIONS, SETS_PER_DESTINATION}
 use Rattle.settings_check.specs.declared.timers.Written.{Written}
 use Rattle.settings_rows.specs.declared.draft.Draft.{Draft}
 use Rattle.settings_rows.specs.declared.draft.TimersDraft.{TimersDraft}
@@ -217,17 +216,17 @@ reached_fault destinations earlier s =
 unfoldable pub unreached_fault : List DestinationDraft → List SetDraft → Option DraftFault
 unreached_fault destinations sets = entries_fault (reached_fault destinations) [] sets
 
--- the link sets: as many as are carried, and each without a fault
+-- the link sets: as many as there may be, and each without a fault
 unfoldable pub sets_fault : ℕ → List SetDraft → Option DraftFault
 sets_fault own sets = first_of (
-    count_fault SETS_CARRIED Set (length sets)
+    count_fault SETS Set (length sets)
     ∷ entries_fault (set_fault own) [] sets
     ∷ [])
 
--- the links: as many as are carried, and each without a fault
+-- the links: as many as there may be, and each without a fault
 unfoldable pub links_fault : List SetDraft → List LinkDraft → Option DraftFault
 links_fault sets links = first_of (
-    count_fault LINKS_CARRIED Link (length links)
+    count_fault LINKS Link (length links)
     ∷ entries_fault (link_fault sets) [] links
     ∷ [])
 
@@ -238,10 +237,10 @@ destinations_fault own sets destinations = first_of (
     ∷ entries_fault (destination_fault own sets) [] destinations
     ∷ [])
 
--- translation rows may be left out
+-- the translation rows: as many as there may be, or none, and each without a fault
 unfoldable pub titles_fault : List TitleDraft → Option DraftFault
 titles_fault titles = first_of (
-    fault_unless (nat_le (length titles) TITLES_CARRIED) TooMany Title
+    fault_unless (nat_le (length titles) TITLES) TooMany Title
     ∷ entries_fault title_fault [] titles
     ∷ [])
 

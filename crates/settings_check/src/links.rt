@@ -114,7 +114,7 @@ fn link_rows(
     Ok(rows)
 }
 
-/// The links, as many as the node carries.
+/// The links, as many as there may be.
 #[tactic(auto, unfolding(crate::specs::FirstFault::links_fault))]
 pub(crate) fn checked_links(
     alloc: Global,
@@ -127,6 +127,6 @@ pub(crate) fn checked_links(
     ensures fault { IfErr result (λ fault.
         (fault ≡ DraftFault.NoMemory) ⊎ (links_fault sets.now links.now ≡ Some fault)) }
 {
-    count(links.len(), Limits::LINKS_CARRIED, Key::Link)?;
+    count(links.len(), Limits::LINKS, Key::Link)?;
     link_rows(alloc, sets, links)
 }

@@ -91,7 +91,7 @@ fn set_rows(alloc: Global, own: PointCode, sets: &[SetDraft]) -> Result<Vec<SetR
     Ok(rows)
 }
 
-/// The link sets, as many as the node carries.
+/// The link sets, as many as there may be.
 #[tactic(auto, unfolding(crate::specs::FirstFault::sets_fault))]
 pub(crate) fn checked_sets(
     alloc: Global,
@@ -104,7 +104,7 @@ pub(crate) fn checked_sets(
     ensures fault { IfErr result (λ fault.
         (fault ≡ DraftFault.NoMemory) ⊎ (sets_fault own sets.now ≡ Some fault)) }
 {
-    count(sets.len(), Limits::SETS_CARRIED, Key::Set)?;
+    count(sets.len(), Limits::SETS, Key::Set)?;
     set_rows(alloc, own, sets)
 }
 
