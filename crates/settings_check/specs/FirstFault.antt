@@ -6,7 +6,8 @@ use Rattle.std.specs.List.{list_any, list_all}
 use Rattle.std.specs.Str.{bytes_eq}
 use Rattle.std.specs.Ordering.{int_eq}
 use Rattle.settings_check.specs.Checks.{natural, first_of, fault_unless, range_fault, has_repeat, far_point_fault}
-use Rattle.settings_check.specs.Checks.{entries_fault, numbers_fault, count_fault, digits_fault, route_fault, ssn_fault}
+use Rattle.settings_check.specs.Checks.{entries_fault, numbers_fault, count_fault, name_fault, digits_fault, route_fault}
+use Rattle.settings_check.specs.Checks.{ssn_fault}
 use Rattle.settings_check.specs.Meaning.{is_by_title, set_place, points_of}
 use Rattle.settings_rows.specs.Names.{is_name}
 use Rattle.settings_rows.specs.declared.fault.DraftFault.{DraftFault}
@@ -39,10 +40,8 @@ has_adjacent sets n = list_any (λ s. int_eq s.adjacent n) sets
 
 -- the name of a set: well formed, and no other before it has it
 abbrev pub set_name_fault : List SetDraft → SetDraft → Option DraftFault
-set_name_fault earlier s = first_of (
-    fault_unless (is_name (string_bytes s.name)) Range (SetName (length earlier))
-    ∷ fault_unless (not (has_set_named earlier (string_bytes s.name))) Duplicate (SetName (length earlier))
-    ∷ [])
+set_name_fault earlier s =
+    name_fault (SetName (length earlier)) (string_bytes s.name) (has_set_named earlier (string_bytes s.name))
 
 -- the adjacent point of a set: not the own one, and of no other set before it
 abbrev pub set_adjacent_fault : ℕ → List SetDraft → SetDraft → Option DraftFault
@@ -100,10 +99,8 @@ has_link_code links set n = list_any (λ l. int_eq l.slc n && bytes_eq (string_b
 
 -- the name of a link: well formed, and no other before it has it
 abbrev pub link_name_fault : List LinkDraft → LinkDraft → Option DraftFault
-link_name_fault earlier l = first_of (
-    fault_unless (is_name (string_bytes l.name)) Range (LinkName (length earlier))
-    ∷ fault_unless (not (has_link_named earlier (string_bytes l.name))) Duplicate (LinkName (length earlier))
-    ∷ [])
+link_name_fault earlier l =
+    name_fault (LinkName (length earlier)) (string_bytes l.name) (has_link_named earlier (string_bytes l.name))
 
 -- the set of a link: well formed, and the name of a set
 abbrev pub link_set_fault : List SetDraft → List LinkDraft → LinkDraft → Option DraftFault
