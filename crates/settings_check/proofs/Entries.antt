@@ -1,7 +1,9 @@
 -- The first fault of a list's entries, from one entry to the next.
-use Rattle.std.proofs.Common.{refl, ap, Bool, true, false, ◌||◌, slice_set, ◌≡◌, ◌≤◌, ◌<◌, ◌+◌, ℕ, List, [], ◌∷◌, ◌++◌, Option, Some, None, length, take, drop, map, get_or, arith}
+use Rattle.std.proofs.Common.{refl, ap, Bool, true, false, not, cond, suc, nat_lt, ◌||◌, slice_set, ◌≡◌, ◌≤◌, ◌<◌, ◌+◌, ℕ, List, [], ◌∷◌, ◌++◌, Option, Some, None, length, take, drop, map, get_or, arith}
 use Rattle.std.proofs.lemmas.Grind.{common_steps}
-use Rattle.std.specs.List.{list_any, list_all}
+use Rattle.std.specs.Prelude.{is_some}
+use Rattle.std.specs.List.{list_any, list_all, position, position_or_len}
+use Rattle.std.proofs.lemmas.Bool.Decides.{nat_tests}
 use Rattle.settings_check.specs.Checks.{first_of, fault_unless, entries_fault}
 use Rattle.settings_rows.specs.declared.fault.DraftFault.{DraftFault}
 use Rattle.settings_rows.specs.declared.fault.FaultKind.{FaultKind}
@@ -38,6 +40,18 @@ next_place g xs i x d ys y l m e h k = grind (arith, common_steps)
 -- all places
 pub last_place : {A B : Type 0} (g : A → B) (xs : List A) (i : ℕ) (ys : List B) → length xs ≤ i → length ys ≤ i → take i ys ≡ map g (take i xs) → ys ≡ map g xs
 last_place g xs i ys l m h = grind (arith, common_steps)
+
+-- a place is found where some element passes
+pub some_place : {A : Type 0} (p : A → Bool) (xs : List A) → is_some (position p xs) ≡ list_any p xs
+some_place p [] = refl
+some_place p (x ∷ xs) = by (p x) (position_or_len p xs) (length xs) (list_any p xs) (some_place p xs)
+  where
+    place : ℕ → ℕ → Option ℕ
+    place m n = cond (nat_lt m n) (Some m) None
+
+    by : (b : Bool) (m n : ℕ) (a : Bool) → is_some (place m n) ≡ a → is_some (place (cond (not b) (1 + m) 0) (suc n)) ≡ (b || a)
+    by true m n a h = grind (arith, nat_tests)
+    by false m n a h = grind (arith, nat_tests)
 
 -- whether an image passes
 pub any-map : {A B : Type 0} (p : B → Bool) (f : A → B) (xs : List A) → list_any p (map f xs) ≡ list_any (λ x. p (f x)) xs

@@ -8,6 +8,7 @@ use Rattle.settings_rows.specs.declared.fault.DraftFault.TheVariants.{At}
 use Rattle.settings_rows.specs.declared.fault.FaultKind.{FaultKind}
 use Rattle.settings_rows.specs.declared.fault.FaultKind.TheVariants.{Range, Duplicate, TooMany}
 use Rattle.settings_rows.specs.declared.key.Key.{Key}
+use Rattle.settings_rows.specs.Names.{is_name}
 use Rattle.signalling_types.specs.declared.limits.TheConstants.Limits.{TITLE_DIGITS}
 
 -- the first fault of several, in their order
@@ -58,9 +59,16 @@ numbers_fault low high key ns = first_of (
 
 -- the first fault of an array by its length: at most so many entries, and at least one
 abbrev pub count_fault : ℕ → Key → ℕ → Option DraftFault
-count_fault carried key n = first_of (
-    fault_unless (nat_le n carried) TooMany key
+count_fault limit key n = first_of (
+    fault_unless (nat_le n limit) TooMany key
     ∷ fault_unless (nat_lt 0 n) Range key
+    ∷ [])
+
+-- the fault of a name: well formed, and no other before it is the same
+abbrev pub name_fault : Key → List ℕ → Bool → Option DraftFault
+name_fault key name is_repeat = first_of (
+    fault_unless (is_name name) Range key
+    ∷ fault_unless (not is_repeat) Duplicate key
     ∷ [])
 
 -- a digit of an address: 0 to 9, a to f

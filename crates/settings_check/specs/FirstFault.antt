@@ -6,7 +6,8 @@ use Rattle.std.specs.List.{list_any, list_all}
 use Rattle.std.specs.Str.{bytes_eq}
 use Rattle.std.specs.Ordering.{int_eq}
 use Rattle.settings_check.specs.Checks.{natural, first_of, fault_unless, range_fault, has_repeat, far_point_fault}
-use Rattle.settings_check.specs.Checks.{entries_fault, numbers_fault, count_fault, digits_fault, route_fault, ssn_fault}
+use Rattle.settings_check.specs.Checks.{entries_fault, numbers_fault, count_fault, name_fault, digits_fault, route_fault}
+use Rattle.settings_check.specs.Checks.{ssn_fault}
 use Rattle.settings_check.specs.Meaning.{is_by_title, set_place, points_of}
 use Rattle.settings_rows.specs.Names.{is_name}
 use Rattle.settings_rows.specs.declared.fault.DraftFault.{DraftFault}
@@ -19,9 +20,8 @@ use Rattle.settings_rows.specs.declared.key.Key.TheVariants.{SetName, SetAdjacen
 use Rattle.settings_rows.specs.declared.key.Key.TheVariants.{Destination, DestinationPoint, DestinationSets, Title}
 use Rattle.settings_rows.specs.declared.key.Key.TheVariants.{TitleTranslation, TitlePlan, TitleNature, TitleDigits}
 use Rattle.settings_rows.specs.declared.key.Key.TheVariants.{TitlePoint, TitleRoute, TitleSsn}
-use Rattle.signalling_types.specs.declared.limits.TheConstants.Limits.{WINDOW, POOL, TICKS, LINKS_CARRIED, SETS_CARRIED}
-use Rattle.signalling_types.specs.declared.limits.TheConstants.Limits.{TITLES_CARRIED, DESTINATIONS}
-use Rattle.signalling_types.specs.declared.limits.TheConstants.Limits.{SETS_PER_DESTINATION}
+use Rattle.signalling_types.specs.declared.limits.TheConstants.Limits.{WINDOW, POOL, TICKS, LINKS, SETS, TITLES}
+use Rattle.signalling_types.specs.declared.limits.TheConstants.Limits.{DESTINATIONS, SETS_PER_DESTINATION}
 use Rattle.settings_check.specs.declared.timers.Written.{Written}
 use Rattle.settings_rows.specs.declared.draft.Draft.{Draft}
 use Rattle.settings_rows.specs.declared.draft.TimersDraft.{TimersDraft}
@@ -40,10 +40,8 @@ has_adjacent sets n = list_any (λ s. int_eq s.adjacent n) sets
 
 -- the name of a set: well formed, and no other before it has it
 abbrev pub set_name_fault : List SetDraft → SetDraft → Option DraftFault
-set_name_fault earlier s = first_of (
-    fault_unless (is_name (string_bytes s.name)) Range (SetName (length earlier))
-    ∷ fault_unless (not (has_set_named earlier (string_bytes s.name))) Duplicate (SetName (length earlier))
-    ∷ [])
+set_name_fault earlier s =
+    name_fault (SetName (length earlier)) (string_bytes s.name) (has_set_named earlier (string_bytes s.name))
 
 -- the adjacent point of a set: not the own one, and of no other set before it
 abbrev pub set_adjacent_fault : ℕ → List SetDraft → SetDraft → Option DraftFault
@@ -101,10 +99,8 @@ has_link_code links set n = list_any (λ l. int_eq l.slc n && bytes_eq (string_b
 
 -- the name of a link: well formed, and no other before it has it
 abbrev pub link_name_fault : List LinkDraft → LinkDraft → Option DraftFault
-link_name_fault earlier l = first_of (
-    fault_unless (is_name (string_bytes l.name)) Range (LinkName (length earlier))
-    ∷ fault_unless (not (has_link_named earlier (string_bytes l.name))) Duplicate (LinkName (length earlier))
-    ∷ [])
+link_name_fault earlier l =
+    name_fault (LinkName (length earlier)) (string_bytes l.name) (has_link_named earlier (string_bytes l.name))
 
 -- the set of a link: well formed, and the name of a set
 abbrev pub link_set_fault : List SetDraft → List LinkDraft → LinkDraft → Option DraftFault
@@ -217,17 +213,17 @@ reached_fault destinations earlier s =
 unfoldable pub unreached_fault : List DestinationDraft → List SetDraft → Option DraftFault
 unreached_fault destinations sets = entries_fault (reached_fault destinations) [] sets
 
--- the link sets: as many as are carried, and each without a fault
+-- the link sets: as many as there may be, and each without a fault
 unfoldable pub sets_fault : ℕ → List SetDraft → Option DraftFault
 sets_fault own sets = first_of (
-    count_fault SETS_CARRIED Set (length sets)
+    count_fault SETS Set (length sets)
     ∷ entries_fault (set_fault own) [] sets
     ∷ [])
 
--- the links: as many as are carried, and each without a fault
+-- the links: as many as there may be, and each without a fault
 unfoldable pub links_fault : List SetDraft → List LinkDraft → Option DraftFault
 links_fault sets links = first_of (
-    count_fault LINKS_CARRIED Link (length links)
+    count_fault LINKS Link (length links)
     ∷ entries_fault (link_fault sets) [] links
     ∷ [])
 
@@ -238,10 +234,10 @@ destinations_fault own sets destinations = first_of (
     ∷ entries_fault (destination_fault own sets) [] destinations
     ∷ [])
 
--- translation rows may be left out
+-- the translation rows: as many as there may be, or none, and each without a fault
 unfoldable pub titles_fault : List TitleDraft → Option DraftFault
 titles_fault titles = first_of (
-    fault_unless (nat_le (length titles) TITLES_CARRIED) TooMany Title
+    fault_unless (nat_le (length titles) TITLES) TooMany Title
     ∷ entries_fault title_fault [] titles
     ∷ [])
 

@@ -152,7 +152,7 @@ fn destination_rows(
     Ok((rows, points))
 }
 
-/// The destinations, as many as the node carries, and their points.
+/// The destinations, as many as there may be, and their points.
 #[tactic(auto, unfolding(crate::specs::FirstFault::destinations_fault))]
 pub(crate) fn checked_destinations(
     alloc: Global,

@@ -1,14 +1,13 @@
 //! Links of settings.
 
-ghost use Rattle.std.specs.Prelude.{◌≡◌, ◌≤◌, ◌<◌, ◌^◌, ◌⊎◌, [], None, Some, IsTrue, length, map, IfOk, OnOk, IfErr};
+ghost use Rattle.std.specs.Prelude.{◌≡◌, ◌≤◌, ◌<◌, ◌^◌, ◌⊎◌, [], None, Some, length, map, IfOk, OnOk, IfErr};
 ghost use Rattle.std.specs.Prelude.{string_bytes};
-ghost use Rattle.settings_rows.specs.Names.{is_name};
 ghost use Rattle.settings_check.specs.Checks.{natural, entries_fault};
 ghost use Rattle.settings_check.specs.Meaning.{link_of, set_number};
-ghost use Rattle.settings_check.specs.FirstFault.{link_fault, link_name_fault, link_set_fault, link_slc_fault};
+ghost use Rattle.settings_check.specs.FirstFault.{link_fault, link_set_fault, link_slc_fault};
 ghost use Rattle.settings_check.specs.FirstFault.{has_link_named, has_link_code, links_fault};
 
-use crate::names::is_name;
+use crate::names::{ensure_name, is_name};
 use crate::numbers::{count, ensure, number};
 use crate::sets::set_place;
 use settings_rows::{DraftFault, FaultKind, Key, LinkDraft, LinkRow, SetDraft};
@@ -32,18 +31,6 @@ fn has_link_code(links: &[LinkDraft], set: &str, slc: i64) -> bool
     links
         .iter()
         .any(|link| link.slc == slc && link.set.as_str() == set)
-}
-
-/// Sees that a link has a name, after the links before it.
-fn ensure_link_name(earlier: &[LinkDraft], link: &LinkDraft) -> Result<(), DraftFault>
-    ensures form { OnOk result (IsTrue (is_name (string_bytes link.now.name))) }
-    ensures well { OnOk result (link_name_fault earlier.now link.now ≡ None) }
-    ensures fault { IfErr result (λ fault. link_name_fault earlier.now link.now ≡ Some fault) }
-{
-    let key = Key::LinkName(earlier.len());
-    ensure(is_name(link.name.as_str()), FaultKind::Range, key)?;
-    let is_repeat = has_link_named(earlier, link.name.as_str());
-    ensure(!is_repeat, FaultKind::Duplicate, key)
 }
 
 /// The set of a link, after the links before it.
@@ -87,7 +74,8 @@ fn link_row(
     ensures well { OnOk result (link_fault sets.now earlier.now link.now ≡ None) }
     ensures fault { IfErr result (λ fault. link_fault sets.now earlier.now link.now ≡ Some fault) }
 {
-    ensure_link_name(earlier, link)?;
+    let is_repeat = has_link_named(earlier, link.name.as_str());
+    ensure_name(link.name.as_str(), is_repeat, Key::LinkName(earlier.len()))?;
     let set = link_set(sets, earlier, link)?;
     let slc = link_slc(earlier, link)?;
     Ok(LinkRow::new(link.name.as_str(), set, slc))
@@ -114,7 +102,7 @@ fn link_rows(
     Ok(rows)
 }
 
-/// The links, as many as the node carries.
+/// The links, as many as there may be.
 #[tactic(auto, unfolding(crate::specs::FirstFault::links_fault))]
 pub(crate) fn checked_links(
     alloc: Global,
@@ -127,6 +115,6 @@ pub(crate) fn checked_links(
     ensures fault { IfErr result (λ fault.
         (fault ≡ DraftFault.NoMemory) ⊎ (links_fault sets.now links.now ≡ Some fault)) }
 {
-    count(links.len(), Limits::LINKS_CARRIED, Key::Link)?;
+    count(links.len(), Limits::LINKS, Key::Link)?;
     link_rows(alloc, sets, links)
 }

@@ -1,9 +1,12 @@
 //! Names of links and link sets.
 
-ghost use Rattle.std.specs.Prelude.{◌≡◌};
+ghost use Rattle.std.specs.Prelude.{◌≡◌, None, Some, IsTrue, OnOk, IfErr};
 ghost use Rattle.std.specs.List.{list_all};
 ghost use Rattle.settings_rows.specs.Names.{is_name, is_name_octet};
+ghost use Rattle.settings_check.specs.Checks.{name_fault};
 
+use crate::numbers::ensure;
+use settings_rows::{DraftFault, FaultKind, Key};
 use signalling_types::Limits;
 
 /// Whether an octet may stand in a name.
@@ -25,4 +28,14 @@ pub(crate) fn is_name(text: &str) -> bool
     ensures { result ≡ is_name text.now }
 {
     0 < text.len() && text.len() <= Limits::NAME_OCTETS && are_name_octets(text.as_bytes())
+}
+
+/// Sees that a text is a name, and that it doesn't stand twice.
+pub(crate) fn ensure_name(text: &str, is_repeat: bool, key: Key) -> Result<(), DraftFault>
+    ensures form { OnOk result (IsTrue (is_name text.now)) }
+    ensures well { OnOk result (name_fault key text.now is_repeat ≡ None) }
+    ensures fault { IfErr result (λ fault. name_fault key text.now is_repeat ≡ Some fault) }
+{
+    ensure(is_name(text), FaultKind::Range, key)?;
+    ensure(!is_repeat, FaultKind::Duplicate, key)
 }

@@ -126,11 +126,11 @@ pub(crate) fn distinct_numbers(
     Ok(numbers)
 }
 
-/// An array by its length: at most `carried` entries, and at least one.
-pub(crate) fn count(len: usize, carried: usize, key: Key) -> Result<(), DraftFault>
-    ensures well { OnOk result (count_fault carried key len ≡ None) }
-    ensures fault { IfErr result (λ fault. count_fault carried key len ≡ Some fault) }
+/// An array by its length: at most `limit` entries, and at least one.
+pub(crate) fn count(len: usize, limit: usize, key: Key) -> Result<(), DraftFault>
+    ensures well { OnOk result (count_fault limit key len ≡ None) }
+    ensures fault { IfErr result (λ fault. count_fault limit key len ≡ Some fault) }
 {
-    ensure(len <= carried, FaultKind::TooMany, key)?;
+    ensure(len <= limit, FaultKind::TooMany, key)?;
     ensure(0 < len, FaultKind::Range, key)
 }

@@ -1,14 +1,12 @@
 //! Link sets of settings.
 
-ghost use Rattle.std.specs.Prelude.{◌≡◌, ◌≤◌, ◌⊎◌, [], None, Some, IsTrue, length, map, IfOk, OnOk, IfErr};
-ghost use Rattle.std.specs.Prelude.{string_bytes};
-ghost use Rattle.settings_rows.specs.Names.{is_name};
+ghost use Rattle.std.specs.Prelude.{◌≡◌, ◌≤◌, ◌⊎◌, [], None, Some, length, map, IfOk, OnOk, IfErr};
 ghost use Rattle.settings_check.specs.Checks.{natural, entries_fault};
 ghost use Rattle.settings_check.specs.Meaning.{set_of, set_place};
 ghost use Rattle.settings_check.specs.FirstFault.{set_fault, is_first_name, is_reached, unreached_fault, sets_fault};
-ghost use Rattle.settings_check.specs.FirstFault.{has_set_named, has_adjacent, set_name_fault, set_adjacent_fault};
+ghost use Rattle.settings_check.specs.FirstFault.{has_set_named, has_adjacent, set_adjacent_fault};
 
-use crate::names::is_name;
+use crate::names::ensure_name;
 use crate::numbers::{count, ensure, far_point};
 use settings_rows::{DestinationDraft, DraftFault, FaultKind, Key, SetDraft, SetRow};
 use signalling_types::{Limits, PointCode};
@@ -25,7 +23,7 @@ pub(crate) fn set_place(sets: &[SetDraft], name: &str) -> Option<usize>
 fn has_set_named(sets: &[SetDraft], name: &str) -> bool
     ensures { result ≡ has_set_named sets.now name.now }
 {
-    sets.iter().any(|set| set.name.as_str() == name)
+    set_place(sets, name).is_some()
 }
 
 /// Whether a set with this adjacent point is among these.
@@ -33,18 +31,6 @@ fn has_adjacent(sets: &[SetDraft], adjacent: i64) -> bool
     ensures { result ≡ has_adjacent sets.now adjacent }
 {
     sets.iter().any(|set| set.adjacent == adjacent)
-}
-
-/// Sees that a set has a name, after the sets before it.
-fn ensure_set_name(earlier: &[SetDraft], set: &SetDraft) -> Result<(), DraftFault>
-    ensures form { OnOk result (IsTrue (is_name (string_bytes set.now.name))) }
-    ensures well { OnOk result (set_name_fault earlier.now set.now ≡ None) }
-    ensures fault { IfErr result (λ fault. set_name_fault earlier.now set.now ≡ Some fault) }
-{
-    let key = Key::SetName(earlier.len());
-    ensure(is_name(set.name.as_str()), FaultKind::Range, key)?;
-    let is_repeat = has_set_named(earlier, set.name.as_str());
-    ensure(!is_repeat, FaultKind::Duplicate, key)
 }
 
 /// The adjacent point of a set, after the sets before it.
@@ -71,7 +57,8 @@ fn set_row(own: PointCode, earlier: &[SetDraft], set: &SetDraft) -> Result<SetRo
     ensures well { OnOk result (set_fault own earlier.now set.now ≡ None) }
     ensures fault { IfErr result (λ fault. set_fault own earlier.now set.now ≡ Some fault) }
 {
-    ensure_set_name(earlier, set)?;
+    let is_repeat = has_set_named(earlier, set.name.as_str());
+    ensure_name(set.name.as_str(), is_repeat, Key::SetName(earlier.len()))?;
     let adjacent = set_adjacent(own, earlier, set)?;
     Ok(SetRow::new(set.name.as_str(), adjacent))
 }
@@ -91,7 +78,7 @@ fn set_rows(alloc: Global, own: PointCode, sets: &[SetDraft]) -> Result<Vec<SetR
     Ok(rows)
 }
 
-/// The link sets, as many as the node carries.
+/// The link sets, as many as there may be.
 #[tactic(auto, unfolding(crate::specs::FirstFault::sets_fault))]
 pub(crate) fn checked_sets(
     alloc: Global,
@@ -104,7 +91,7 @@ pub(crate) fn checked_sets(
     ensures fault { IfErr result (λ fault.
         (fault ≡ DraftFault.NoMemory) ⊎ (sets_fault own sets.now ≡ Some fault)) }
 {
-    count(sets.len(), Limits::SETS_CARRIED, Key::Set)?;
+    count(sets.len(), Limits::SETS, Key::Set)?;
     set_rows(alloc, own, sets)
 }
 

@@ -254,7 +254,7 @@ fn title_rows(alloc: Global, titles: &[TitleDraft]) -> Result<Vec<TitleRow>, Dra
     Ok(rows)
 }
 
-/// The translation rows, as many as the node carries.
+/// The translation rows, as many as there may be.
 #[tactic(auto, unfolding(crate::specs::FirstFault::titles_fault))]
 pub(crate) fn checked_titles(
     alloc: Global,
@@ -265,7 +265,7 @@ pub(crate) fn checked_titles(
     ensures fault { IfErr result (λ fault.
         (fault ≡ DraftFault.NoMemory) ⊎ (titles_fault titles.now ≡ Some fault)) }
 {
-    let is_carried = titles.len() <= Limits::TITLES_CARRIED;
-    ensure(is_carried, FaultKind::TooMany, Key::Title)?;
+    let fits = titles.len() <= Limits::TITLES;
+    ensure(fits, FaultKind::TooMany, Key::Title)?;
     title_rows(alloc, titles)
 }

@@ -51,13 +51,4 @@ impl Limits {
 
     /// Notices that are kept.
     pub const NOTICES: usize = 64;
-
-    /// Links that the node carries today.
-    pub const LINKS_CARRIED: usize = 1;
-
-    /// Link sets that the node carries today.
-    pub const SETS_CARRIED: usize = 1;
-
-    /// Translation rows that the node carries today.
-    pub const TITLES_CARRIED: usize = 0;
 }

@@ -46,7 +46,7 @@ is_listed : (sets : List SetDraft) (key : Key) (names : List (String Global)) �
 is_listed sets key names h =
     let r = four_none (count_fault SETS_PER_DESTINATION key (length names)) (fault_unless (list_all (λ name. is_name (string_bytes name)) names) Range key) (fault_unless (not (has_repeat string_eq names)) Duplicate key) (fault_unless (list_all (is_set_name sets) names) UnknownName key) h in
     record {
-      count = count_within SETS_PER_DESTINATION SETS_PER_DESTINATION (length names) key (omega arith) r.0;
+      count = count_within SETS_PER_DESTINATION (length names) key r.0;
       differ = false_from_not (has_repeat string_eq names) (passes (not (has_repeat string_eq names)) Duplicate key r.2);
       known = each_of_all (is_set_name sets) names (passes (list_all (is_set_name sets) names) UnknownName key r.3);
     }
@@ -80,7 +80,7 @@ destinations_none own sets ds h = two_none (count_fault DESTINATIONS Destination
 
 pub destination_count_well : (own : ℕ) (sets : List SetDraft) (ds : List DestinationDraft) → destinations_fault own sets ds ≡ None → IsWithin 1 DESTINATIONS (length (map (destination_of sets) ds))
 destination_count_well own sets ds h =
-    rw (length-map ds (destination_of sets)) (count_within DESTINATIONS DESTINATIONS (length ds) Destination (omega arith) (destinations_none own sets ds h).0)
+    rw (length-map ds (destination_of sets)) (count_within DESTINATIONS (length ds) Destination (destinations_none own sets ds h).0)
 
 pub destinations_well : (own : ℕ) (sets : List SetDraft) (ds : List DestinationDraft) → destinations_fault own sets ds ≡ None → All (IsDestination own (length (map set_of sets))) (map (destination_of sets) ds)
 destinations_well own sets ds h =

@@ -21,7 +21,7 @@ use Rattle.settings_rows.specs.declared.draft.SetDraft.{SetDraft}
 use Rattle.settings_rows.specs.declared.draft.LinkDraft.{LinkDraft}
 use Rattle.settings_rows.specs.declared.key.Key.TheVariants.{Link, LinkName, LinkSet, LinkSlc}
 use Rattle.settings_rows.specs.declared.fault.FaultKind.TheVariants.{Range, Duplicate, UnknownName}
-use Rattle.signalling_types.specs.declared.limits.TheConstants.Limits.{LINKS, LINKS_CARRIED, LINKS_PER_SET}
+use Rattle.signalling_types.specs.declared.limits.TheConstants.Limits.{LINKS, LINKS_PER_SET}
 use Rattle.stp_types.specs.Well.{IsWithin, IsLink, is_link_of_same_name, is_same_code}
 use Rattle.stp_types.proofs.Rows.{both, both_of, false_from_not, two_none, three_none, two_pass, within_from_test, each_entry, each_made, entries_differ, differ_made, none_of_any, none_differ, every, each_passes, each_filtered, differ_filter, below_from_each}
 use Rattle.stp_types.proofs.WellNumbers.{count_within}
@@ -49,9 +49,9 @@ same_set (s ∷ rest) a b h k e =
     let n : set_number (s ∷ rest) a ≡ set_number (s ∷ rest) b = grind (arith, nat_tests) in
     (bytes_eq-Decides a b).1 (sym (named (s ∷ rest) a s h) ∙ ap (λ i. string_bytes (get_or (s ∷ rest) i s).name) n ∙ named (s ∷ rest) b s k)
 
-links_none : (sets : List SetDraft) (links : List LinkDraft) → links_fault sets links ≡ None → (count_fault LINKS_CARRIED Link (length links) ≡ None) × (entries_fault (link_fault sets) [] links ≡ None)
+links_none : (sets : List SetDraft) (links : List LinkDraft) → links_fault sets links ≡ None → (count_fault LINKS Link (length links) ≡ None) × (entries_fault (link_fault sets) [] links ≡ None)
 unfolding links_fault
-links_none sets links h = two_none (count_fault LINKS_CARRIED Link (length links)) (entries_fault (link_fault sets) [] links) h
+links_none sets links h = two_none (count_fault LINKS Link (length links)) (entries_fault (link_fault sets) [] links) h
 
 link_none : (sets : List SetDraft) (earlier : List LinkDraft) (l : LinkDraft) → link_fault sets earlier l ≡ None → (link_name_fault earlier l ≡ None) × (link_set_fault sets earlier l ≡ None) × (link_slc_fault earlier l ≡ None)
 link_none sets earlier l h = three_none (link_name_fault earlier l) (link_set_fault sets earlier l) (link_slc_fault earlier l) h
@@ -69,7 +69,7 @@ code_none sets earlier l h =
     two_pass (is_within 0 15 l.slc) (not (has_link_code earlier (string_bytes l.set) l.slc)) Range Duplicate (LinkSlc (length earlier)) (link_none sets earlier l h).2
 
 pub link_count_well : (sets : List SetDraft) (links : List LinkDraft) → links_fault sets links ≡ None → IsWithin 1 LINKS (length (map (link_of sets) links))
-link_count_well sets links h = rw (length-map links (link_of sets)) (count_within LINKS_CARRIED LINKS (length links) Link (omega arith) (links_none sets links h).0)
+link_count_well sets links h = rw (length-map links (link_of sets)) (count_within LINKS (length links) Link (links_none sets links h).0)
 
 each_link : (sets : List SetDraft) (earlier : List LinkDraft) (l : LinkDraft) → link_fault sets earlier l ≡ None → IsLink (length (map set_of sets)) (link_of sets l)
 each_link sets earlier l h =

@@ -35,10 +35,10 @@ pub numbers_differ : (low high : ℕ) (key : Key) (ns : List ℤ) → numbers_fa
 numbers_differ low high key ns h =
     no_repeat nat_eq nat_eq nat_eq-flips (map natural ns) (false_from_not (has_repeat nat_eq (map natural ns)) (numbers_pass low high key ns h).1)
 
-pub count_within : (carried limit n : ℕ) (key : Key) → carried ≤ limit → count_fault carried key n ≡ None → IsWithin 1 limit n
-count_within carried limit n key fits h =
-    let r = two_pass (nat_le n carried) (nat_lt 0 n) TooMany Range key h in
-    let few : nat_le n carried ≡ true = r.0 in
+pub count_within : (limit n : ℕ) (key : Key) → count_fault limit key n ≡ None → IsWithin 1 limit n
+count_within limit n key h =
+    let r = two_pass (nat_le n limit) (nat_lt 0 n) TooMany Range key h in
+    let few : nat_le n limit ≡ true = r.0 in
     let some : nat_lt 0 n ≡ true = r.1 in
     record { above = grind (arith, nat_tests); below = grind (arith, nat_tests) }
 

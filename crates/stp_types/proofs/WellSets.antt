@@ -14,7 +14,7 @@ use Rattle.settings_rows.specs.Names.{is_name}
 use Rattle.settings_rows.specs.declared.draft.SetDraft.{SetDraft}
 use Rattle.settings_rows.specs.declared.key.Key.TheVariants.{Set, SetName, SetAdjacent}
 use Rattle.settings_rows.specs.declared.fault.FaultKind.TheVariants.{Range, Duplicate}
-use Rattle.signalling_types.specs.declared.limits.TheConstants.Limits.{SETS, SETS_CARRIED}
+use Rattle.signalling_types.specs.declared.limits.TheConstants.Limits.{SETS}
 use Rattle.stp_types.specs.Well.{IsWithin, IsSet, is_set_of_same_name, is_set_to_same_point}
 use Rattle.stp_types.proofs.Rows.{false_from_not, two_none, passes, two_pass, each_entry, each_made, entries_differ, differ_made, none_of_any, none_differ, every}
 use Rattle.stp_types.proofs.WellNumbers.{count_within, far_point_within, far_point_well}
@@ -25,9 +25,9 @@ int_eq-natural low high (pos n) (pos m) h k e = (Decides-int_eq (pos n) (pos m))
 int_eq-natural low high (pos n) (negsuc m) h k e = cc
 int_eq-natural low high (negsuc n) y h k e = cc
 
-sets_none : (own : ℕ) (sets : List SetDraft) → sets_fault own sets ≡ None → (count_fault SETS_CARRIED Set (length sets) ≡ None) × (entries_fault (set_fault own) [] sets ≡ None)
+sets_none : (own : ℕ) (sets : List SetDraft) → sets_fault own sets ≡ None → (count_fault SETS Set (length sets) ≡ None) × (entries_fault (set_fault own) [] sets ≡ None)
 unfolding sets_fault
-sets_none own sets h = two_none (count_fault SETS_CARRIED Set (length sets)) (entries_fault (set_fault own) [] sets) h
+sets_none own sets h = two_none (count_fault SETS Set (length sets)) (entries_fault (set_fault own) [] sets) h
 
 set_none : (own : ℕ) (earlier : List SetDraft) (s : SetDraft) → set_fault own earlier s ≡ None → (set_name_fault earlier s ≡ None) × (set_adjacent_fault own earlier s ≡ None)
 set_none own earlier s h = two_none (set_name_fault earlier s) (set_adjacent_fault own earlier s) h
@@ -41,7 +41,7 @@ adjacent_none own earlier s h =
     two_none (far_point_fault own (SetAdjacent (length earlier)) s.adjacent) (fault_unless (not (has_adjacent earlier s.adjacent)) Duplicate (SetAdjacent (length earlier))) h
 
 pub set_count_well : (own : ℕ) (sets : List SetDraft) → sets_fault own sets ≡ None → IsWithin 1 SETS (length (map set_of sets))
-set_count_well own sets h = rw (length-map sets set_of) (count_within SETS_CARRIED SETS (length sets) Set (omega arith) (sets_none own sets h).0)
+set_count_well own sets h = rw (length-map sets set_of) (count_within SETS (length sets) Set (sets_none own sets h).0)
 
 each_set : (own : ℕ) (earlier : List SetDraft) (s : SetDraft) → set_fault own earlier s ≡ None → IsSet own (set_of s)
 each_set own earlier s h =

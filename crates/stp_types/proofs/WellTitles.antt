@@ -16,7 +16,7 @@ use Rattle.settings_rows.specs.declared.draft.TitleDraft.{TitleDraft}
 use Rattle.settings_rows.specs.declared.key.Key.{Key}
 use Rattle.settings_rows.specs.declared.key.Key.TheVariants.{Title, TitleTranslation, TitlePlan, TitleNature, TitleDigits, TitlePoint, TitleRoute, TitleSsn}
 use Rattle.settings_rows.specs.declared.fault.FaultKind.TheVariants.{Range, Duplicate, TooMany}
-use Rattle.signalling_types.specs.declared.limits.TheConstants.Limits.{TITLES, TITLES_CARRIED, TITLE_DIGITS}
+use Rattle.signalling_types.specs.declared.limits.TheConstants.Limits.{TITLES, TITLE_DIGITS}
 use Rattle.stp_types.specs.Well.{IsWithin, IsTitle, HasSubsystem, is_same_row}
 use Rattle.stp_types.proofs.Rows.{both, both_of, false_from_not, two_none, three_none, passes, two_pass, within_from_test, each_entry, each_made, each_of_all, entries_differ, differ_made, none_of_any, none_differ}
 use Rattle.stp_types.proofs.WellNumbers.{in_range}
@@ -115,16 +115,16 @@ within_well t h =
       route = h.route;
     }
 
-titles_none : (titles : List TitleDraft) → titles_fault titles ≡ None → (fault_unless (nat_le (length titles) TITLES_CARRIED) TooMany Title ≡ None) × (entries_fault title_fault [] titles ≡ None)
+titles_none : (titles : List TitleDraft) → titles_fault titles ≡ None → (fault_unless (nat_le (length titles) TITLES) TooMany Title ≡ None) × (entries_fault title_fault [] titles ≡ None)
 unfolding titles_fault
-titles_none titles h = two_none (fault_unless (nat_le (length titles) TITLES_CARRIED) TooMany Title) (entries_fault title_fault [] titles) h
+titles_none titles h = two_none (fault_unless (nat_le (length titles) TITLES) TooMany Title) (entries_fault title_fault [] titles) h
 
-few_titles : (n : ℕ) → nat_le n TITLES_CARRIED ≡ true → n ≤ TITLES
+few_titles : (n : ℕ) → nat_le n TITLES ≡ true → n ≤ TITLES
 few_titles n h = grind (arith, nat_tests)
 
 pub title_count_well : (titles : List TitleDraft) → titles_fault titles ≡ None → length (map title_of titles) ≤ TITLES
 title_count_well titles h =
-    rw (length-map titles title_of) (few_titles (length titles) (passes (nat_le (length titles) TITLES_CARRIED) TooMany Title (titles_none titles h).0))
+    rw (length-map titles title_of) (few_titles (length titles) (passes (nat_le (length titles) TITLES) TooMany Title (titles_none titles h).0))
 
 have_range : (titles : List TitleDraft) → titles_fault titles ≡ None → AllByRecursion HasRange titles
 have_range titles h = each_entry title_fault HasRange has_range [] titles (titles_none titles h).1

@@ -32,7 +32,7 @@ subsystems 1 255: ok
 subsystems 256: fault 4 subsystems
 subsystems 8 8: fault 5 subsystems
 set: fault 4 set
-set east/2 west/3: fault 7 set
+set east/2 west/3: fault 6 set[1].adjacent
 set /2: fault 4 set[0].name
 set East/2: fault 4 set[0].name
 set abcdefghijklmnopq/2: fault 4 set[0].name
@@ -40,7 +40,7 @@ set east/1: fault 4 set[0].adjacent
 set east/16384: fault 4 set[0].adjacent
 set east/3: fault 6 set[0].adjacent
 link: fault 4 link
-link e0/east/0 e1/east/1: fault 7 link
+link e0/east/0 e1/east/1: ok
 link e_0/east/0: fault 4 link[0].name
 link e0//0: fault 4 link[0].set
 link e0/west/0: fault 6 link[0].set
@@ -54,7 +54,7 @@ destination 2/east,,east: fault 4 destination[0].sets
 destination 2/west,west: fault 5 destination[0].sets
 destination 2/east 300/west: fault 6 destination[1].sets
 destination 2/a,b,c,d,e,f,g,h,i: fault 7 destination[0].sets
-title 0/1/4/49/3/title: fault 7 title";
+title 0/1/4/49/3/title: ok";
 
 #[test]
 fn checked_settings(rt: HostRuntime) -> Result<(), Fail> {
