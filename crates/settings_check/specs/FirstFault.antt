@@ -6,8 +6,8 @@ use Rattle.std.specs.List.{list_any, list_all}
 use Rattle.std.specs.Str.{bytes_eq}
 use Rattle.std.specs.Ordering.{int_eq}
 use Rattle.settings_check.specs.Checks.{natural, first_of, fault_unless, range_fault, has_repeat, far_point_fault}
-use Rattle.settings_check.specs.Checks.{entries_fault, numbers_fault, count_fault, name_fault, digits_fault, route_fault}
-use Rattle.settings_check.specs.Checks.{ssn_fault}
+use Rattle.settings_check.specs.Checks.{entries_fault, numbers_fault, count_fault, name_fault, digits_fault}
+use Rattle.settings_check.specs.Checks.{route_fault, ssn_fault}
 use Rattle.settings_check.specs.Meaning.{is_by_title, set_place, points_of}
 use Rattle.settings_rows.specs.Names.{is_name}
 use Rattle.settings_rows.specs.declared.fault.DraftFault.{DraftFault}
