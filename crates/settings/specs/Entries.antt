@@ -5,7 +5,8 @@ use Rattle.toml.specs.Data.{Data, Members, get_member}
 use Rattle.settings_rows.specs.declared.key.Key.TheVariants as key
 use Rattle.settings.specs.declared.fault.SettingsFault.{SettingsFault}
 use Rattle.settings.specs.declared.fault.SettingsFault.TheVariants.{Missing}
-use Rattle.settings.specs.Shapes.{and_then, each, table_in, array_in, integer_in, integer_at, text_at, texts_at, entries_at}
+use Rattle.settings.specs.Shapes.{and_then, each, table_in, array_in, integer_in}
+use Rattle.settings.specs.Shapes.{integer_at, text_at, texts_at, entries_at}
 use Rattle.settings.specs.Written.{WrittenSet, WrittenLink, WrittenDestination, WrittenTitle}
 
 -- a link set: its name and its adjacent point

@@ -5,7 +5,8 @@ ghost use Rattle.toml.specs.View.{view, table_view};
 ghost use Rattle.settings.specs.Faults.{AnswersOrNoMemory};
 ghost use Rattle.settings.specs.Shapes.{each};
 ghost use Rattle.settings.specs.Written.{set_written, link_written, destination_written, title_written};
-ghost use Rattle.settings.specs.Entries.{set_in, link_in, destination_in, ssn_at, title_in, sets_at, links_at, destinations_at, titles_at};
+ghost use Rattle.settings.specs.Entries.{set_in, link_in, destination_in, ssn_at, title_in};
+ghost use Rattle.settings.specs.Entries.{sets_at, links_at, destinations_at, titles_at};
 
 use crate::fault::SettingsFault;
 use crate::shapes::{array_in, entries, found, integer, integer_in, table_in, text, texts};

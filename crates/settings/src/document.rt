@@ -23,17 +23,24 @@ const VERSION: i64 = 1;
 /// The numbers that a file begins with.
 #[derive(Clone, Copy)]
 pub(crate) struct Numbers {
+    /// The version of the format.
     pub version: i64,
+    /// The own point code.
     pub own: i64,
+    /// The network indicator.
     pub network: i64,
+    /// How many messages of a link may be sent and not confirmed.
     pub window: i64,
+    /// How many messages the node holds at most.
     pub pool: i64,
 }
 
 /// What a document says: the version of its format, and settings.
 #[derive(Drop)]
 pub(crate) struct Document {
+    /// The version of its format.
     pub version: i64,
+    /// The settings, not checked yet.
     pub draft: Draft,
 }
 

@@ -5,7 +5,8 @@ ghost use Rattle.std.specs.Option.{option_map};
 ghost use Rattle.toml.specs.Data.{get_member};
 ghost use Rattle.toml.specs.View.{view, table_view};
 ghost use Rattle.settings.specs.Faults.{Answers, AnswersOrNoMemory};
-ghost use Rattle.settings.specs.Shapes.{value_at, integer_in, integer_at, text_in, text_at, table_in, array_in, some_in, each, integers_at, texts_at, entries_at};
+ghost use Rattle.settings.specs.Shapes.{value_at, integer_in, integer_at, text_in, text_at, table_in, array_in};
+ghost use Rattle.settings.specs.Shapes.{some_in, each, integers_at, texts_at, entries_at};
 
 use crate::fault::SettingsFault;
 use std::alloc::Global;

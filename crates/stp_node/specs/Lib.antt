@@ -8,6 +8,5 @@ pub mod Faults
 pub mod Steps
 pub mod Runs
 pub mod BuiltIn
-pub mod Words
 pub mod Folders
 pub mod Program

@@ -1,5 +1,6 @@
 -- What the program does for what its words ask, and its exit statuses.
-use Rattle.std.specs.Prelude.{◌≡◌, ◌⊎◌, ℕ, List, ◌++◌, codes, Some, Result, Ok, Err}
+use Rattle.std.specs.Prelude.{◌≡◌, ◌⊎◌, ℕ, List, ◌++◌, codes, Some, Result, Ok, Err, String, true}
+use Rattle.std.specs.Global.{Global}
 use Rattle.std.specs.Io.KnownBytes.{Appends}
 use Rattle.settings_rows.specs.Configuration.{Configuration}
 use Rattle.settings_check.specs.FirstFault.{first_fault}
@@ -15,12 +16,12 @@ use Rattle.stp_node.specs.Faults.{Counts}
 use Rattle.stp_node.specs.Folders.{FileRead, AreSettings, IsFault}
 use Rattle.stp_node.specs.Runs.{Runs}
 use Rattle.stp_node.specs.Streams.{Input, Output, AppendsFirst, counted}
-use Rattle.stp_node.specs.Words.{Task, BuiltInRun, FileRun, FileCheck, OtherWords}
 use Rattle.stp_node.specs.declared.folder.FileFault.TheVariants as file_fault
 use Rattle.stp_node.specs.declared.script.ScriptFault.{ScriptFault}
 use Rattle.stp_node.specs.declared.script.ScriptFault.TheVariants as fault
 use Rattle.stp_node.specs.declared.program.Status.{Status}
 use Rattle.stp_node.specs.declared.program.Status.TheVariants as status
+use Rattle.words.specs.Words.{Task, BuiltInRun, FileRun, FileCheck, OtherWords, are_plain, asked}
 
 -- the exit statuses
 abbrev pub status_number : Status → ℕ
@@ -96,15 +97,21 @@ ChecksFile (Err file_fault.Unread) output output_new ended = (ended ≡ status.S
 ChecksFile (Err file_fault.NoMemory) output output_new ended =
     EndsWith status.Start (told no_memory) output output_new ended
 
--- what the program does for what its words ask, where a file is read as `reads` says; memory may run out for its name
-abbrev pub Does : Task → (List ℕ → FileRead → Type 0) → Input → Input → Output → Output → Status → Type 0
-Does BuiltInRun reads input input_new output output_new ended =
+-- what the program does for a task, where a file is read as `reads` says
+abbrev pub DoesTask : Task → (List ℕ → FileRead → Type 0) → Input → Input → Output → Output → Status → Type 0
+DoesTask BuiltInRun reads input input_new output output_new ended =
     RunsNode (λ settings. settings ≡ built_in_settings) IsBuiltInFault input input_new output output_new ended
-Does (FileRun file) reads input input_new output output_new ended =
-    ((read : FileRead) × reads file read × RunsFile read input input_new output output_new ended)
-    ⊎ RunsFile (Err file_fault.NoMemory) input input_new output output_new ended
-Does (FileCheck file) reads input input_new output output_new ended =
-    ((read : FileRead) × reads file read × ChecksFile read output output_new ended × (input_new ≡ input))
-    ⊎ (ChecksFile (Err file_fault.NoMemory) output output_new ended × (input_new ≡ input))
-Does OtherWords reads input input_new output output_new ended =
+DoesTask (FileRun file) reads input input_new output output_new ended =
+    (read : FileRead) × reads file read × RunsFile read input input_new output output_new ended
+DoesTask (FileCheck file) reads input input_new output output_new ended =
+    (read : FileRead) × reads file read × ChecksFile read output output_new ended × (input_new ≡ input)
+DoesTask OtherWords reads input input_new output output_new ended =
     EndsWith status.Usage (codes "usage\n") output output_new ended × (input_new ≡ input)
+
+-- what the program does for its words: what they ask for, or memory runs out for them, where they are plain
+abbrev pub Does : List (String Global) → (List ℕ → FileRead → Type 0) → Input → Input → Output → Output → Status
+    → Type 0
+Does words reads input input_new output output_new ended =
+    DoesTask (asked words) reads input input_new output output_new ended
+    ⊎ ((are_plain words ≡ true) × EndsWith status.Start (told no_memory) output output_new ended
+    × (input_new ≡ input))

@@ -37,7 +37,9 @@ pub struct Disk<'a, R> {
 
 impl<'a, R: Files + AllocGlobal> Disk<'a, R> {
     /// The files that this runtime reads.
-    pub fn new(rt: &'a R) -> Disk<'a, R> {
+    pub fn new(rt: &'a R) -> Disk<'a, R>
+        ensures { result.rt ≡ rt.entry }
+    {
         Disk { rt }
     }
 }

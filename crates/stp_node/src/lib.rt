@@ -13,7 +13,6 @@ pub mod sink;
 pub mod source;
 mod text;
 mod ticks;
-pub mod words;
 
 pub use defaults::built_in;
 pub use folder::{Disk, FileFault, Folder, OneFile};

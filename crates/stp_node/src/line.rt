@@ -2,7 +2,8 @@
 
 ghost use Rattle.std.specs.Prelude.{◌≡◌, ◌∷◌, length};
 ghost use Rattle.stp_node.specs.Lines.{words};
-ghost use Rattle.stp_node.specs.Asking.{parsed_line, asked_by, asked_with_one, asked_with_two, command_named, asked_of, reading_of, words_left};
+ghost use Rattle.stp_node.specs.Asking.{parsed_line, asked_by, asked_with_one, asked_with_two};
+ghost use Rattle.stp_node.specs.Asking.{command_named, asked_of, reading_of, words_left};
 
 use crate::hex_octets::HexOctets;
 use crate::ticks::read_ticks;

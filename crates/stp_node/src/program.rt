@@ -6,7 +6,6 @@ ghost use Rattle.exchange.specs.Stands.{StandsFor, first_state};
 ghost use Rattle.settings.specs.Faults.{no_memory};
 ghost use Rattle.stp_node.specs.BuiltIn.{built_in_settings};
 ghost use Rattle.stp_node.specs.Folders.{FileRead, AreSettings, IsFault};
-ghost use Rattle.stp_node.specs.Words.{asked};
 ghost use Rattle.stp_node.specs.Program.{status_number, status_after, told, EndsWith, TellsFault, IsBuiltInFault};
 ghost use Rattle.stp_node.specs.Program.{RunsScript, RunsNode, RunsFile, ChecksFile, Does};
 
@@ -16,12 +15,12 @@ use crate::run::run_script;
 use crate::script::ScriptFault;
 use crate::sink::Sink;
 use crate::source::Source;
-use crate::words::{Words, read_words};
 use exchange::{Exchange, NoMemory};
 use settings::SettingsFault;
 use std::alloc::{AllocError, Global};
 use std::io::{Error, ErrorKind};
 use stp_types::Settings;
+use words::{Words, read_words};
 
 /// How the program ends. The numbers are its exit statuses.
 #[derive(Clone, Copy, Debug, PartialEq, Eq)]
@@ -56,7 +55,7 @@ pub fn run_program<F: Folder, R: Source, W: Sink>(
     reader: &mut R,
     writer: &mut W,
 ) -> Status
-    ensures { Does (asked words.now) (F.reads folder.now)
+    ensures { Does words.now (F.reads folder.now)
         (R.input reader.old) (R.input reader.new) (W.output writer.old) (W.output writer.new) result }
 {
     match read_words(alloc, words) {

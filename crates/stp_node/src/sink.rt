@@ -1,6 +1,7 @@
 //! Where a script's output is written to.
 
-ghost use Rattle.std.specs.Prelude.{◌≡◌, ℕ, ◌<◌, ◌≤◌, ◌++◌, [], List, Option, None, Some, length, take, IsOk, IsErr, OnOk, OnErr};
+ghost use Rattle.std.specs.Prelude.{◌≡◌, ℕ, ◌<◌, ◌≤◌, ◌++◌, [], List};
+ghost use Rattle.std.specs.Prelude.{Option, None, Some, length, take, IsOk, IsErr, OnOk, OnErr};
 ghost use Rattle.std.specs.Io.KnownBytes.{Appends};
 ghost use Rattle.stp_node.specs.Streams.{Output, AppendsFirst, failures_after};
 

@@ -1,6 +1,7 @@
 //! Where a script is read from.
 
-ghost use Rattle.std.specs.Prelude.{◌≡◌, ℕ, ◌<◌, ◌≤◌, ◌++◌, List, [], Option, None, Some, length, take, IfOk, IsErr, ◌↔◌, min, max, drop};
+ghost use Rattle.std.specs.Prelude.{◌≡◌, ℕ, ◌<◌, ◌≤◌, ◌++◌, List, []};
+ghost use Rattle.std.specs.Prelude.{Option, None, Some, length, take, IfOk, IsErr, ◌↔◌, min, max, drop};
 ghost use Rattle.std.specs.Io.KnownBytes.{ReadConsumes};
 ghost use Rattle.stp_node.specs.Streams.{Input, counted, failures_after};
 

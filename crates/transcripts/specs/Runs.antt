@@ -1,12 +1,14 @@
 -- What a run of the program prints.
-use Rattle.std.specs.Prelude.{◌≡◌, ℕ, List, [], ◌++◌, codes, Some, String}
+use Rattle.std.specs.Prelude.{◌≡◌, ◌⊎◌, ℕ, List, [], ◌∷◌, ◌++◌, codes, Option, None, Some, Ok, Err, String, string_bytes}
+use Rattle.std.specs.Prelude.{if◌then◌else◌, bytes_eq}
 use Rattle.std.specs.Global.{Global}
 use Rattle.stp_node.specs.Folders.{FileRead}
 use Rattle.stp_node.specs.Program.{Does}
 use Rattle.stp_node.specs.Streams.{Input, Output}
-use Rattle.stp_node.specs.Words.{Task, asked}
+use Rattle.stp_node.specs.declared.folder.FileFault.TheVariants.{Unread, NoMemory}
 use Rattle.stp_node.specs.declared.program.Status.{Status}
 use Rattle.stp_node.specs.declared.program.Status.TheVariants as status
+use Rattle.transcripts.specs.Changed.{Changed}
 
 -- an exit status, as transcripts have it: nothing for 0
 abbrev pub status_line : Status → List ℕ
@@ -16,17 +18,30 @@ status_line status.Start = codes "[2]\n"
 status_line status.Line = codes "[3]\n"
 status_line status.Stream = codes "[4]\n"
 
--- the program, asked for this, prints this of a script
-pub record Prints (t : Task) (reads : List ℕ → FileRead → Type 0) (script printed : List ℕ) : Type 0 where
+-- the program prints this for these words and this script, and no read of the script or write fails
+pub record Prints (words : List (String Global)) (reads : List ℕ → FileRead → Type 0) (script printed : List ℕ) : Type 0 where
   pub status : Status
   pub input : Input
   pub output : Output
   pub written : List ℕ
-  pub does : Does t reads (record { remaining = Some script; reads = 0; failures = 0 }) input
+  pub does : Does words reads (record { remaining = Some script; reads = 0; failures = 0 }) input
       (record { written = Some []; failures = 0 }) output status
+  pub read : input.failures ≡ 0
+  pub wrote : output.failures ≡ 0
   pub known : output.written ≡ Some written
   pub all : printed ≡ written ++ status_line status
 
--- the program prints this for these words and this script, whatever the file that they name holds
-abbrev pub IsPrinted : List (String Global) → List ℕ → List ℕ → Type 0
-IsPrinted words script printed = Prints (asked words) (λ file read. Unit {0}) script printed
+-- the file that words name
+abbrev pub file_name : List (String Global) → List ℕ
+file_name (command ∷ file ∷ []) = string_bytes file
+file_name _ = []
+
+-- what a read of a file may come to: of files that lie on the disk nothing is known; of a file that was changed all is
+abbrev pub reads_of : List (String Global) → Option Changed → List ℕ → FileRead → Type 0
+reads_of words None name read = Unit {0}
+reads_of words (Some file) name read =
+    (read ≡ (if bytes_eq name (file_name words) then Ok file.text else Err Unread)) ⊎ (read ≡ Err NoMemory)
+
+-- the program prints this for these words, this script and this file, where it was changed
+abbrev pub IsPrinted : List (String Global) → Option Changed → List ℕ → List ℕ → Type 0
+IsPrinted words file script printed = Prints words (reads_of words file) script printed

@@ -25,7 +25,7 @@ fn same_lines(wanted: &[u8], printed: &[u8]) -> usize {
     same
 }
 
-/// The line of this number, from 0.
+/// The line of this number, from 0. It is empty behind the last.
 pub fn line_at(text: &[u8], place: usize) -> &[u8] {
     text.split(|octet| *octet == b'\n')
         .nth(place)

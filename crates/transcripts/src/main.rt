@@ -21,16 +21,27 @@ mod tally;
 use crate::listing::is_built_in;
 use crate::tally::play_all;
 use anyhow::{Result, ensure};
+use std::rt::Files;
 use std::{env, fs};
 
 fn main(rt: HostRuntime) -> Result<()> {
     let names: Vec<String> = env::args(&rt)?.skip(1).collect(rt.alloc())?;
     let tally = play_all(&rt, names.as_slice())?;
-    let text = fs::read_to_string(&rt, "built_in.toml")?;
-    let is_built_in = is_built_in(rt.alloc(), text.as_str())?;
-    println!(rt; "built_in.toml has the built-in settings: {is_built_in}")?;
+    let built_in = tell_whether_built_in(&rt, "built_in.toml")?;
+    let single = tell_whether_built_in(&rt, "single.toml")?;
     let (good, failed) = (tally.good, tally.failed);
     println!(rt; "{good} good, {failed} failed")?;
-    ensure!(failed == 0 && is_built_in, "not all is as it is to be");
+    ensure!(
+        failed == 0 && built_in && !single,
+        "not all is as it is to be"
+    );
     Ok(())
+}
+
+/// Tells whether the settings of a file are those built in.
+fn tell_whether_built_in<R: Files + Print + AllocGlobal>(rt: &R, name: &str) -> Result<bool> {
+    let text = fs::read_to_string(rt, name)?;
+    let is_built_in = is_built_in(rt.alloc(), text.as_str())?;
+    println!(rt; "{name} has the built-in settings: {is_built_in}")?;
+    Ok(is_built_in)
 }

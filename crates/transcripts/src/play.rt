@@ -1,5 +1,9 @@
 //! Playing a transcript.
 
+ghost use Rattle.std.specs.Prelude.{◌≡◌, IfSome, OnOk};
+ghost use Rattle.transcripts.specs.Lines.{said};
+ghost use Rattle.transcripts.specs.Plays.{GoesOn, IsGood, Plays};
+
 use crate::line::{Line, read_line};
 use crate::run::Run;
 use anyhow::{Result, bail, ensure};
@@ -33,13 +37,11 @@ struct Player {
 }
 
 impl Player {
-    /// Takes a line of this number.
-    fn take<R: Files + AllocGlobal>(
-        &mut self,
-        rt: &R,
-        line: Line<'_>,
-        number: usize,
-    ) -> Result<()> {
+    /// Takes a line of this number. A command ends the run before it, which has to be good; every other line belongs
+    /// to the run that was begun.
+    fn take<R: Files + AllocGlobal>(&mut self, rt: &R, line: Line<'_>, number: usize) -> Result<()>
+        ensures { OnOk result (Plays (said line.entry) self.old.run self.new.run) }
+    {
         match line {
             Line::Remark => Ok(()),
             Line::Command(command) => {
@@ -56,7 +58,9 @@ impl Player {
     }
 
     /// Ends a run, if one was begun.
-    fn finish<R: Files + AllocGlobal>(&self, rt: &R) -> Result<()> {
+    fn finish<R: Files + AllocGlobal>(&self, rt: &R) -> Result<()>
+        ensures { OnOk result (IfSome self.now.run IsGood) }
+    {
         match &self.run {
             Some(run) => run.finish(rt),
             None => Ok(()),
@@ -65,12 +69,9 @@ impl Player {
 }
 
 /// Takes a line into the run that it belongs to.
-fn go_on<R: Files + AllocGlobal>(
-    rt: &R,
-    run: &mut Run,
-    line: Line<'_>,
-    number: usize,
-) -> Result<()> {
+fn go_on<R: Files + AllocGlobal>(rt: &R, run: &mut Run, line: Line<'_>, number: usize) -> Result<()>
+    ensures { OnOk result (GoesOn (said line.entry) run.old run.new) }
+{
     match line {
         Line::Remark | Line::Command(_) => {}
         Line::Without(line) => {

@@ -1,8 +1,8 @@
 //! A run of the program in a transcript.
 
-ghost use Rattle.std.specs.Prelude.{◌≡◌, ◌↔◌, IsOk, IfOk, OnOk};
-ghost use Rattle.stp_node.specs.Words.{asked};
-ghost use Rattle.transcripts.specs.Runs.{status_line, IsPrinted, Prints};
+ghost use Rattle.std.specs.Prelude.{◌≡◌, ◌↔◌, ◌++◌, ◌∷◌, [], IsOk, IfOk, OnOk, None};
+ghost use Rattle.transcripts.specs.Changed.{Changed, StartsFrom, TakesOut, PutsIn};
+ghost use Rattle.transcripts.specs.Runs.{file_name, status_line, IsPrinted, Prints};
 
 use crate::changed::ChangedFile;
 use crate::differences::{first_difference, line_at};
@@ -31,7 +31,18 @@ pub struct Run {
 
 impl Run {
     /// The run of a command on a line of this number.
-    pub fn new(alloc: Global, command: &[u8], number: usize) -> Result<Run> {
+    pub fn new(alloc: Global, command: &[u8], number: usize) -> Result<Run>
+        ensures others { IfOk result (λ run. run ≡ record {
+          words = run.words;
+          file = None;
+          script = run.script;
+          wanted = run.wanted;
+          numbers = run.numbers;
+          number = number;
+        }) }
+        ensures empty { IfOk result (λ run. (run.script.items ≡ []) × (run.wanted.items ≡ [])
+            × (run.numbers.items ≡ [])) }
+    {
         Ok(Run {
             words: words(alloc, command)?,
             file: None,
@@ -43,7 +54,9 @@ impl Run {
     }
 
     /// The file that the words name.
-    fn file_name(&self) -> &str {
+    fn file_name(&self) -> &str
+        ensures { result.now ≡ file_name self.now.words.items }
+    {
         match self.words.as_slice() {
             [_, file] => file.as_str(),
             _ => "",
@@ -51,21 +64,33 @@ impl Run {
     }
 
     /// Gives the run more of its script.
-    pub fn give(&mut self, text: &[u8], end: &[u8]) -> Result<(), AllocError> {
+    pub fn give(&mut self, text: &[u8], end: &[u8]) -> Result<(), AllocError>
+        ensures script { OnOk result (self.new.script.items ≡ self.old.script.items ++ (text.now ++ end.now)) }
+        ensures others { self.new ≡ record self.old { script = self.new.script } }
+    {
         self.script.extend_from_slice(text)?;
         self.script.extend_from_slice(end)
     }
 
     /// Wants a line to be printed, which is the transcript's line of this number.
-    pub fn want(&mut self, line: &[u8], number: usize) -> Result<(), AllocError> {
+    pub fn want(&mut self, line: &[u8], number: usize) -> Result<(), AllocError>
+        ensures wanted { OnOk result (self.new.wanted.items ≡ self.old.wanted.items ++ (line.now ++ 10 ∷ [])) }
+        ensures numbers { OnOk result (self.new.numbers.items ≡ self.old.numbers.items ++ number ∷ []) }
+        ensures others { self.new ≡ record self.old { wanted = self.new.wanted; numbers = self.new.numbers } }
+    {
         self.wanted.extend_from_slice(line)?;
         self.wanted.push(b'\n')?;
         self.numbers.push(number)?;
         Ok(())
     }
 
-    /// Takes a line out of the settings file.
-    pub fn take_out<R: Files + AllocGlobal>(&mut self, rt: &R, line: &[u8]) -> Result<bool> {
+    /// Takes a line out of the settings file, and answers whether it was there.
+    pub fn take_out<R: Files + AllocGlobal>(&mut self, rt: &R, line: &[u8]) -> Result<bool>
+        ensures file { IfOk result (λ is_there. (before : Changed) × (after : Changed)
+            × StartsFrom self.old.file before × TakesOut line.now before after is_there
+            × (self.new.file ≡ Some after)) }
+        ensures others { self.new ≡ record self.old { file = self.new.file } }
+    {
         let mut file = self.changed(rt)?;
         let is_there = file.take_out(line);
         self.file = Some(file);
@@ -73,15 +98,22 @@ impl Run {
     }
 
     /// Puts a line into the settings file.
-    pub fn put_in<R: Files + AllocGlobal>(&mut self, rt: &R, line: &[u8]) -> Result<()> {
+    pub fn put_in<R: Files + AllocGlobal>(&mut self, rt: &R, line: &[u8]) -> Result<()>
+        ensures file { OnOk result ((before : Changed) × (after : Changed)
+            × StartsFrom self.old.file before × PutsIn line.now before after × (self.new.file ≡ Some after)) }
+        ensures others { self.new ≡ record self.old { file = self.new.file } }
+    {
         let mut file = self.changed(rt)?;
-        file.put_in(rt.alloc(), line)?;
+        file.put_in(line)?;
         self.file = Some(file);
         Ok(())
     }
 
     /// The settings file with the changes so far, which is moved out.
-    fn changed<R: Files + AllocGlobal>(&mut self, rt: &R) -> Result<ChangedFile> {
+    fn changed<R: Files + AllocGlobal>(&mut self, rt: &R) -> Result<ChangedFile>
+        ensures file { IfOk result (StartsFrom self.old.file) }
+        ensures others { self.new ≡ record self.old { file = None } }
+    {
         match self.file.take() {
             Some(file) => Ok(file),
             None => {
@@ -92,9 +124,9 @@ impl Run {
     }
 
     /// What the program prints in this run.
-    fn printed<R: Files + AllocGlobal>(&self, rt: &R) -> Result<Vec<u8>, AllocError>
+    fn printed<R: Files + AllocGlobal>(&self, rt: &R) -> Result<Vec<u8>>
         ensures { IfOk result (λ printed.
-            IsPrinted self.now.words.items self.now.script.items printed.items) }
+            IsPrinted self.now.words.items self.now.file self.now.script.items printed.items) }
     {
         let alloc = rt.alloc();
         let words = self.words.as_slice();
@@ -102,10 +134,9 @@ impl Run {
         match &self.file {
             None => printed(alloc, words, &Disk::new(rt), script),
             Some(file) => {
-                let octets = file.octets(alloc)?;
                 let folder = OneFile {
                     name: self.file_name(),
-                    octets: octets.as_slice(),
+                    octets: file.octets(),
                 };
                 printed(alloc, words, &folder, script)
             }
@@ -114,7 +145,8 @@ impl Run {
 
     /// Runs the program, and compares what it prints with what it is to print.
     pub fn finish<R: Files + AllocGlobal>(&self, rt: &R) -> Result<()>
-        ensures { OnOk result (IsPrinted self.now.words.items self.now.script.items self.now.wanted.items) }
+        ensures { OnOk result (IsPrinted self.now.words.items self.now.file self.now.script.items
+            self.now.wanted.items) }
     {
         let printed = self.printed(rt)?;
         self.compare(printed.as_slice())
@@ -127,9 +159,18 @@ impl Run {
         let Some(place) = first_difference(self.wanted.as_slice(), printed) else {
             return Ok(());
         };
-        let number = self.numbers.get(place).copied().unwrap_or(self.number);
-        let line = str::from_utf8(line_at(printed, place)).unwrap_or("what is no text");
-        bail!("line {number}: the program prints {line}")
+        let line = match str::from_utf8(line_at(printed, place)) {
+            Ok("") => "no more",
+            Ok(line) => line,
+            Err(_) => "what is no text",
+        };
+        match self.numbers.get(place) {
+            Some(number) => bail!("line {number}: the program prints {line}"),
+            None => {
+                let last = self.numbers.last().copied().unwrap_or(self.number);
+                bail!("line {last}: behind it the program prints {line}")
+            }
+        }
     }
 }
 
@@ -142,18 +183,17 @@ fn words(alloc: Global, command: &[u8]) -> Result<Vec<String>> {
     Ok(words)
 }
 
-/// What the program prints of a script, with its exit status where that isn't 0.
-fn printed<F: Folder>(
-    alloc: Global,
-    words: &[String],
-    folder: &F,
-    script: &[u8],
-) -> Result<Vec<u8>, AllocError>
-    ensures { IfOk result (λ printed. Prints (asked words.now) (F.reads folder.now) script.now printed.items) }
+/// What the program prints of a script, with its exit status where that isn't 0. The error comes where memory runs
+/// out, and where a read of the script or a write failed.
+fn printed<F: Folder>(alloc: Global, words: &[String], folder: &F, script: &[u8]) -> Result<Vec<u8>>
+    ensures { IfOk result (λ printed. Prints words.now (F.reads folder.now) script.now printed.items) }
 {
     let mut reader = MemorySource::new(script);
     let mut writer = MemorySink::new(alloc);
     let status = run_program(alloc, words, folder, &mut reader, &mut writer);
+    if reader.failures() != 0 || writer.failures() != 0 {
+        bail!("a stream in memory failed");
+    }
     let mut printed = Vec::from_slice(alloc, writer.written())?;
     printed.extend_from_slice(status_line(status))?;
     Ok(printed)

@@ -1,4 +1,4 @@
-use Rattle.std.proofs.Common.{Some, refl}
+use Rattle.std.proofs.Common.{Some, refl, rules}
 use Rattle.transcripts.proofs.run.printed.Goals as goal
 
 pub returns : goal.returns
@@ -11,6 +11,8 @@ returns g c =
       output = record { written = Some writer.written; failures = writer.failures };
       written = writer.written;
       does = rw (c.new-reader.ensures, c.new-writer.ensures) at c.run_program-status.ensures;
+      read = search rules;
+      wrote = search rules;
       known = refl;
       all = cc (
         c.in_ok-extend_from_slice.ensures.items,
