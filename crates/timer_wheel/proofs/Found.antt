@@ -13,7 +13,8 @@ use Rattle.timer_wheel.specs.Kept.{AreAfter, DoRise, AreNamed}
 use Rattle.timer_wheel.specs.Lists.{without_due}
 use Rattle.timer_wheel.specs.Lookup.{is_same, named_left}
 use Rattle.timer_wheel.specs.Table.{one_less}
-use Rattle.timer_wheel.proofs.Order.{before-asym, before-itself}
+use Rattle.timer_wheel.proofs.Elements.{all-weaker}
+use Rattle.timer_wheel.proofs.Order.{before-asym, before-itself, before-trans}
 use Rattle.timer_wheel.proofs.Same.{same_is, is_itself, other_is_not, before-total, before-differs}
 
 first_is : {x y : TimerName} → Some x ≡ Some y → x ≡ y
@@ -21,10 +22,10 @@ first_is {x} {y} e = cc
 
 -- ---- one timer
 
-here : (name : TimerName) (t : Timer) (ts : List Timer) → is_same t.name name ≡ true → named_left name (t ∷ ts) ≡ Some t.left
+pub here : (name : TimerName) (t : Timer) (ts : List Timer) → is_same t.name name ≡ true → named_left name (t ∷ ts) ≡ Some t.left
 here name t ts e = ap (λ b. cond b (Some t.left) (named_left name ts)) e
 
-past : (name : TimerName) (t : Timer) (ts : List Timer) → is_same t.name name ≡ false → named_left name (t ∷ ts) ≡ named_left name ts
+pub past : (name : TimerName) (t : Timer) (ts : List Timer) → is_same t.name name ≡ false → named_left name (t ∷ ts) ≡ named_left name ts
 past name t ts e = ap (λ b. cond b (Some t.left) (named_left name ts)) e
 
 -- ---- parts of a list
@@ -247,3 +248,24 @@ first-named n name (t ∷ ts) h e =
       | true ↦ λ d. let same : t.name ≡ name = first_is (sym (first-here t ts d) ∙ e) in subst (λ x. has_name n x ≡ true) same h.0
       | false ↦ λ d. first-named n name ts h.1 (sym (first-past t ts d) ∙ e)
     ] refl
+
+-- ---- lists that rise
+
+pub after-chain : (name next : TimerName) (ts : List Timer) → is_before name next ≡ true → AreAfter next ts → AreAfter name ts
+after-chain name next ts h k = all-weaker _ (λ t. is_before name t.name ≡ true) (λ t e. before-trans name next t.name h e) ts k
+
+-- nothing is left to a name that all come after
+pub left-behind : (name : TimerName) (ts : List Timer) → AreAfter name ts → named_left name ts ≡ None
+left-behind name [] h = refl
+left-behind name (t ∷ ts) h =
+    let apart = other_is_not t.name name (λ e. false≢true (sym (before-itself name) ∙ ap (λ n. is_before name n) (sym e) ∙ h.0)) in
+    past name t ts apart ∙ left-behind name ts h.1
+
+pub differ : (x y : TimerName) → is_same x y ≡ false → x ≢ y
+differ x y e k = false≢true (sym e ∙ ap (λ z. is_same x z) (sym k) ∙ is_itself x)
+
+pub both : (b : Bool) → b ≡ true → b ≡ false → ⊥
+both b h k = false≢true (sym k ∙ h)
+
+pub some_left : {m n : ℕ} → Some m ≡ Some n → m ≡ n
+some_left {m} {n} e = cc

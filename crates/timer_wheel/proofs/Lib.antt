@@ -12,3 +12,4 @@ pub mod InTable
 pub mod Joined
 pub mod JoinedDue
 pub mod Whole
+pub mod Alike

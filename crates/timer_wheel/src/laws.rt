@@ -91,3 +91,10 @@ pub fn timers_stay_whole()
     ensures ticked { (r : Running) → IsWhole r → IsWhole (ticked r) }
     ensures taken { (r : Running) → IsWhole r → IsWhole (after_due r) }
 {}
+
+/// What is left to each name says all: two nodes with the same names, each with the same ticks left, have the same
+/// timers.
+pub fn what_is_left_says_all()
+    ensures { (r s : Running) → IsWhole r → IsWhole s → counts_of r ≡ counts_of s
+        → ((name : TimerName) → left_to name r ≡ left_to name s) → r ≡ s }
+{}

@@ -14,8 +14,9 @@ use std::marker::Model;
 /// The timers of a node: a finite map from names to the ticks that are left.
 ///
 /// The timers of links stand in a table: setting and stopping one is one write. The others stand in a list, in name
-/// order, with room for all names that the node has: setting and stopping one costs the others that run. A tick
-/// costs the table and that list.
+/// order, with room for all names of sets and destinations that the node has: setting and stopping one costs the
+/// others that run. A tick costs the table and that list. What is left to a name is `left_to`; `laws` says what each
+/// call does to it.
 #[derive(Drop)]
 pub struct Timers {
     links: LinkTimers,
