@@ -66,6 +66,12 @@ GivesFirst (Whole count) old new out = IsText (take count out) × (old ≡ take 
 GivesFirst Wait old new out = Unit {0}
 GivesFirst Broken old new out = Unit {0}
 
+-- the buffer changes by the text alone: what lies behind it stays, and without a text the whole buffer
+abbrev pub ChangesFront : Next → (before out : List ℕ) → Type 0
+ChangesFront (Whole count) before out = drop count out ≡ drop count before
+ChangesFront Wait before out = out ≡ before
+ChangesFront Broken before out = out ≡ before
+
 -- ---- many calls
 
 -- what a framer is called for

@@ -1,7 +1,7 @@
 //! A stream of octets, cut into the texts of frames.
 
 ghost use Rattle.std.specs.Prelude.{◌≡◌, ◌<◌, ◌≤◌, ◌⊎◌, [], ◌++◌, length};
-ghost use Rattle.m2pa_codec.specs.Streams.{next_in, room_for, taken_of, left_by, GivesFirst};
+ghost use Rattle.m2pa_codec.specs.Streams.{next_in, room_for, taken_of, left_by, GivesFirst, ChangesFront};
 
 use crate::layout::COMMON_HEADER_OCTETS;
 use crate::window::Window;
@@ -63,12 +63,13 @@ impl Framer {
     }
 
     /// The first text once it is whole: it lies in front of the buffer, and is held no longer. Else
-    /// what is held stays, and the buffer too. Broken where the length field in a frame's place is
+    /// what is held stays, and the buffer too; behind a text the buffer stays in any case. Broken where the length field in a frame's place is
     /// under 8 or above 4,096, then and from then on.
     pub fn next(&mut self, out: &mut [u8; Limits::FRAME_OCTETS]) -> Next
         ensures answer { result ≡ next_in self.old }
         ensures held { self.new ≡ left_by result self.old }
         ensures first { GivesFirst result self.old self.new out.new }
+        ensures buffer { ChangesFront result out.old out.new }
         // A text always fits: with all the room in use there is one, or the stream is broken.
         ensures full { result ≡ Next.Wait → length self.old < Limits.FRAME_OCTETS }
     {

@@ -1,12 +1,10 @@
--- How many timers are due: fewer once one is taken, and no more when one is set or stopped.
-use Rattle.std.proofs.Common.{◌≡◌, ℕ, ◌+◌, ◌<◌, ◌≤◌, Bool, true, false, cond, List, [], ◌∷◌, ◌++◌, refl, ap, ◌∙◌, arith, max}
-use Rattle.std.specs.Prelude.{Option, Some, find}
-use Rattle.std.specs.Option.{option_map, option_map_or}
+-- How many timers are due: no more when one is set or stopped.
+use Rattle.std.proofs.Common.{◌≡◌, ℕ, ◌+◌, ◌≤◌, Bool, true, false, cond, List, [], ◌∷◌, ◌++◌, refl, ap, arith, max}
 use Rattle.timer_wheel.specs.declared.name.TimerName.{TimerName}
 use Rattle.timer_wheel.specs.declared.named.Timer.{Timer}
 use Rattle.timer_wheel.specs.Names.{is_before, has_name}
-use Rattle.timer_wheel.specs.Named.{before, after, cleared, started, is_due, first_named, count_named, Named, set_named, clear_named, after_named}
-use Rattle.timer_wheel.proofs.Order.{before-asym, before-itself}
+use Rattle.timer_wheel.specs.Named.{before, after, cleared, started, is_due, count_named, Named, set_named, clear_named}
+use Rattle.timer_wheel.proofs.Order.{before-asym}
 
 -- what one timer adds
 abbrev one : Timer → ℕ
@@ -49,28 +47,6 @@ parts-le name (t ∷ ts) =
     let goal : parts name (t ∷ ts) ≤ one t + count_named ts = omega (arith, rest, here, split) in
     goal
 
--- the first that is due is in neither part
-parts-due : (name : TimerName) (ts : List Timer) → first_named ts ≡ Some name → parts name ts + 1 ≤ count_named ts
-parts-due name [] e = absurd cc
-parts-due name (t ∷ ts) e =
-    elim (is_due t) as (λ b. is_due t ≡ b → option_map (λ t. t.name) (cond b (Some t) (find is_due ts)) ≡ Some name → parts name (t ∷ ts) + 1 ≤ one t + count_named ts) [
-      | true ↦ λ due is.
-          let same : t.name ≡ name = cc in
-          let no_b : is_before t.name name ≡ false = ap (λ n. is_before n name) same ∙ before-itself name in
-          let no_a : is_before name t.name ≡ false = ap (λ n. is_before name n) same ∙ before-itself name in
-          let b : cond (is_before t.name name) (one t) 0 ≡ 0 = ap (λ x. cond x (one t) 0) no_b in
-          let a : cond (is_before name t.name) (one t) 0 ≡ 0 = ap (λ x. cond x (one t) 0) no_a in
-          let counts : one t ≡ 1 = ap (λ x. cond x 1 0) due in
-          let split = parts-cons name t ts in
-          let rest = parts-le name ts in
-          omega (arith, a, b, counts, split, rest)
-      | false ↦ λ idle is.
-          let rest = parts-due name ts is in
-          let here = at_most_once (is_before t.name name) (is_before name t.name) (one t) (before-asym t.name name) in
-          let split = parts-cons name t ts in
-          omega (arith, rest, here, split)
-    ] refl e
-
 cleared-parts : (name : TimerName) (ts : List Timer) → count_named (cleared name ts) ≡ parts name ts
 cleared-parts name ts = count_named-append (before name ts) (after name ts)
 
@@ -96,9 +72,3 @@ set-due name ticks r =
       | true ↦ started-due name ticks r.timers
       | false ↦ (let goal : count_named r.timers ≤ count_named r.timers = omega arith in goal)
     ]
-
-pub take-due : (name : TimerName) (r : Named) → first_named r.timers ≡ Some name → count_named (after_named r).timers < count_named r.timers
-take-due name r e =
-    let left : after_named r ≡ clear_named name r = ap (λ (o : Option TimerName). option_map_or (λ name. clear_named name r) o r) e in
-    let count : count_named (after_named r).timers ≡ count_named (cleared name r.timers) = ap (λ (s : Named). count_named s.timers) left in
-    omega (arith, count, cleared-parts name r.timers, parts-due name r.timers e)

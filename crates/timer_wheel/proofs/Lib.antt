@@ -5,3 +5,11 @@ pub mod Counting
 pub mod Keys
 pub mod Due
 pub mod DueCount
+pub mod Places
+pub mod Same
+pub mod Found
+pub mod InTable
+pub mod Joined
+pub mod JoinedDue
+pub mod Whole
+pub mod Alike

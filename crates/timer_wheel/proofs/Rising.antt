@@ -271,3 +271,5 @@ length-started timer ts =
     let front = before timer.name ts in
     let behind = after timer.name ts in
     length-append front (timer ∷ behind) ∙ (let e : length front + length (timer ∷ behind) ≡ (length front + length behind) + 1 = omega arith in e) ∙ ap (λ (n : ℕ). n + 1) (sym (length-append front behind))
+
+pub ruleset restart_steps = (cleared_twice, started_cleared, length-started)

@@ -5,3 +5,4 @@ pub mod Lists
 pub mod Table
 pub mod TableRoom
 pub mod Timers
+pub mod Lookup

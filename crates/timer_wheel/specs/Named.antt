@@ -1,5 +1,6 @@
 -- The timers that run: a finite map from names to the ticks that are left, as the list of its entries in name order.
-use Rattle.std.specs.Prelude.{ℕ, ◌+◌, ◌-◌, Bool, List, [], ◌∷◌, ◌++◌, map, filter, find, Option, ◌==◌, max, if◌then◌else◌}
+use Rattle.std.specs.Prelude.{ℕ, ◌+◌, ◌-◌, ◌==◌, max, Bool, if◌then◌else◌}
+use Rattle.std.specs.Prelude.{List, [], ◌∷◌, ◌++◌, map, filter, find, Option}
 use Rattle.std.specs.Option.{option_map, option_map_or}
 use Rattle.timer_wheel.specs.declared.name.TimerName.{TimerName}
 use Rattle.timer_wheel.specs.declared.name.NodeCounts.{NodeCounts}

@@ -1,6 +1,6 @@
 -- The timers of links: a table of the ticks that are left, kind by kind, and within a kind link by link.
-use Rattle.std.specs.Prelude.{ℕ, ◌+◌, ◌-◌, ◌*◌, Bool, false, ◌==◌, nat_lt, if◌then◌else◌, List, length, map, filter, Option, None, Some, max}
-use Rattle.std.specs.Prelude.{position, slice_set}
+use Rattle.std.specs.Prelude.{ℕ, ◌+◌, ◌-◌, ◌*◌, ◌==◌, nat_lt, Bool, false, if◌then◌else◌, Option, None, Some}
+use Rattle.std.specs.Prelude.{List, length, map, filter, position, slice_set}
 
 pub record Table : Type 0 where
   -- how many links

@@ -1,4 +1,5 @@
--- The timers that run: a finite map from names to the ticks that are left, as a table for links and a list for the others.
+-- The timers that run: a finite map from names to the ticks that are left, as a table for links and a list for the
+-- others.
 use Rattle.std.specs.Prelude.{ℕ, ◌+◌, ◌*◌, [], replicate, Option, Some, None, max}
 use Rattle.timer_wheel.specs.declared.name.TimerName.{TimerName}
 use Rattle.timer_wheel.specs.declared.name.NodeCounts.{NodeCounts}
@@ -11,11 +12,11 @@ pub record Running : Type 0 where
   pub links : Table
   pub others : Named
 
--- no timer runs
+-- no timer runs; the list has room for no link's, since they stand in the table
 abbrev pub none_running : NodeCounts → Running
 none_running n = record {
   links = record { links = n.links; left = replicate (9 * n.links) None };
-  others = record { counts = n; timers = [] };
+  others = record { counts = record n { links = 0 }; timers = [] };
 }
 
 -- a timer runs out after so many ticks, at the next one where that is 0; a name that the node doesn't have is left

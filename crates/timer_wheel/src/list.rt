@@ -8,8 +8,20 @@ ghost use Rattle.timer_wheel.specs.Lists.{without_due, is_found};
 use crate::name::TimerName;
 use crate::named::Timer;
 
+/// Starts a timer in its place, in place of one of its name, where there is room.
+#[tactic(auto, using(crate::proofs::Rising::restart_steps))]
+pub(crate) fn restart(timers: &mut Vec<Timer>, timer: Timer)
+    requires rise { DoRise timers.old.items }
+    requires room { length (started timer timers.old.items) ≤ vec_capacity timers.old }
+    ensures timers { timers.new.items ≡ started timer timers.old.items }
+    ensures room { vec_capacity timers.old ≤ vec_capacity timers.new }
+{
+    stop(timers, &timer.name);
+    start(timers, timer);
+}
+
 /// Puts a timer in its place, where none of its name stands and there is room.
-pub(crate) fn start(timers: &mut Vec<Timer>, timer: Timer)
+fn start(timers: &mut Vec<Timer>, timer: Timer)
     requires absent { cleared timer.name timers.old.items ≡ timers.old.items }
     requires room { vec_len timers.old < vec_capacity timers.old }
     ensures timers { timers.new.items ≡ started timer timers.old.items }

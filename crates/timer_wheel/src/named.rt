@@ -1,9 +1,10 @@
 //! The timers that aren't of a link, in a list.
 
 ghost use Rattle.std.specs.Prelude.{◌≡◌, ◌≤◌, [], IfOk};
+ghost use Rattle.timer_wheel.specs.Kept.{DoRise, AreNamed};
 ghost use Rattle.timer_wheel.specs.Named.{set_named, clear_named, ticked_named, first_named, count_named, after_named};
 
-use crate::list::{count_named, lower, start, stop, take_due};
+use crate::list::{count_named, lower, restart, stop, take_due};
 use crate::name::{NodeCounts, TimerName};
 use crate::timers::at_least_one;
 use std::alloc::{AllocError, Global};
@@ -51,6 +52,14 @@ impl NamedTimers {
         })
     }
 
+    /// The law that the names rise, and are the node's. The call does nothing.
+    pub fn are_in_order(&self)
+        ensures rise { DoRise self.now.timers }
+        ensures named { AreNamed self.now.counts self.now.timers }
+    {
+        let _ = &self.running;
+    }
+
     /// Starts a timer, which runs out after so many ticks, at the next one where that is 0. Where it runs already it
     /// starts anew, and forgets its old moment. A name of a link, set or destination that the node doesn't have is
     /// left aside.
@@ -58,9 +67,8 @@ impl NamedTimers {
         ensures { self.new ≡ set_named name ticks self.old }
     {
         if self.counts.has(&name) {
-            stop(&mut self.running, &name);
             let left = at_least_one(ticks);
-            start(&mut self.running, Timer { name, left });
+            restart(&mut self.running, Timer { name, left });
         }
     }
 

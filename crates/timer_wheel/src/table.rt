@@ -47,8 +47,15 @@ impl LinkTimers {
         })
     }
 
-    /// The timer of a kind and a link has so many ticks left from now on, or doesn't run. A link that isn't there is left
-    /// aside.
+    /// The law that there is a place for each timer. The call does nothing.
+    pub fn has_places(&self)
+        ensures { length self.now.left ≡ 9 * self.now.links }
+    {
+        let _ = &self.left;
+    }
+
+    /// The timer of a kind and a link has so many ticks left from now on, or doesn't run. A link that isn't there is
+    /// left aside.
     pub fn put(&mut self, kind: u8, link: usize, left: Option<u16>)
         ensures { self.new ≡ with_link_left kind link left self.old }
     {
@@ -77,7 +84,8 @@ impl LinkTimers {
     /// The name of the first timer that is due; it runs no longer.
     pub fn take_due(&mut self) -> Option<TimerName>
         ensures name { result ≡ option_map (λ place. name_at self.old.links place) (due_place self.old) }
-        ensures state { self.new ≡ option_map_or (λ place. with_left place None self.old) (due_place self.old) self.old }
+        ensures state { self.new
+            ≡ option_map_or (λ place. with_left place None self.old) (due_place self.old) self.old }
     {
         match first_due(&self.left) {
             Some(place) => {

@@ -3,6 +3,7 @@
 ghost use Rattle.std.specs.Prelude.{◌≡◌, IfOk, max};
 ghost use Rattle.timer_wheel.specs.Timers.{none_running, set_timer, clear_timer, ticked};
 ghost use Rattle.timer_wheel.specs.Timers.{due_name, due_count, after_due};
+ghost use Rattle.timer_wheel.specs.Lookup.{IsWhole};
 
 use crate::name::{NodeCounts, TimerName};
 use crate::named::NamedTimers;
@@ -13,8 +14,9 @@ use std::marker::Model;
 /// The timers of a node: a finite map from names to the ticks that are left.
 ///
 /// The timers of links stand in a table: setting and stopping one is one write. The others stand in a list, in name
-/// order, with room for all names that the node has: setting and stopping one costs the others that run. A tick
-/// costs the table and that list.
+/// order, with room for all names of sets and destinations that the node has: setting and stopping one costs the
+/// others that run. A tick costs the table and that list. What is left to a name is `left_to`; `laws` says what each
+/// call does to it.
 #[derive(Drop)]
 pub struct Timers {
     links: LinkTimers,
@@ -22,11 +24,14 @@ pub struct Timers {
 }
 
 impl Model for Timers {
+    ghost use Rattle.std.specs.Prelude.{◌≡◌};
     ghost use Rattle.timer_wheel.specs.Timers.{Running};
 
     ghost Value = { Running };
 
     ghost view = { λ t. record { links = t.links; others = t.others } };
+
+    ghost invariant = { λ t. t.others.counts.links ≡ 0 };
 }
 
 impl Timers {
@@ -36,8 +41,17 @@ impl Timers {
     {
         Ok(Timers {
             links: LinkTimers::new(alloc, counts.links)?,
-            others: NamedTimers::new(alloc, counts)?,
+            others: NamedTimers::new(alloc, NodeCounts { links: 0, ..counts })?,
         })
+    }
+
+    /// The law that there is a place for each timer of a link, and that the others stand in name order. The call does
+    /// nothing.
+    pub fn are_whole(&self)
+        ensures { IsWhole self.now }
+    {
+        self.links.has_places();
+        self.others.are_in_order();
     }
 
     /// Starts a timer, which runs out after so many ticks, at the next one where that is 0. Where it runs already it

@@ -2,10 +2,10 @@
 
 use super::statuses::status_frame;
 use super::{POOL, booted};
-use exchange::{BUFFER_OCTETS, Event, Exchange};
+use exchange::{BUFFER_OCTETS, Event, Exchange, Wants};
 use std::alloc::Global;
 use std::process::Abort;
-use stp_types::{LinkId, Notice, Outcome};
+use stp_types::{LinkId, Msu, Notice, Outcome};
 
 /// User Data without a message, before any message.
 const EMPTY: [u8; 16] = [
@@ -16,23 +16,24 @@ const EMPTY: [u8; 16] = [
 ///
 /// Inputs are `u`, its association comes up; `1` to `9`, a Link Status of this state; `d`, User Data; and `t`, as many
 /// ticks as the longest timer of the alignment runs, or `p`, as many as proving takes. What it does is `.`, the
-/// input is ignored; `+`, it is handled; `1` to `9`, it is handled and a Link Status of this state goes out; or the
-/// first letter of why the link fails: `s` status, `t` timer, and `q` for sequence.
+/// input is ignored, and no notice is left; `+`, it is handled; `1` to `9`, it is handled and a Link Status of this
+/// state goes out; or the first letter of why the link fails, which the one notice that is left says: `s` status, `t`
+/// timer, and `q` for sequence. The link is then down.
 ///
-/// Down, with no association and with one; NotAligned; Aligned; Proving, four ways; Proving with the peer's Ready, two
-/// ways; AlignedReady; InService, five ways.
+/// Down, with no association, and with one, two ways; NotAligned; Aligned, two ways, of which one hears Ready too early;
+/// Proving, four ways; Proving with the peer's Ready, two ways; AlignedReady; InService, five ways.
 const ROWS: &str = "\
 |..........+
 u5d|..........+
 ut|..........+
 u|222......qt
 u1|.++.....sqt
+u144|.++.....sqt
 u2|...+s...sq4
 u3|...+s...sq4
 u12|...+s...sq4
 u13|...+s...sq4
 u24|...+s...sq4
-u144|.++.....sqt
 u1244|...+s...sq4
 u2p|s..+s...s+t
 u24p|sss.s.++s++
@@ -45,11 +46,34 @@ u12p4|sss.s.++s++
 /// The inputs, in the order of a row.
 const INPUTS: &[u8] = b"123456789dt";
 
+/// The same for the timers of a link in service, about each input of `WAITS`. In a way, `m` is a message that is
+/// submitted; it goes out behind the statuses.
+///
+/// InService with nothing sent; with a busy peer, and L6 runs out; with a message unconfirmed, and L7 runs out.
+const WAITING_ROWS: &str = "\
+u24p|++++
+u24p7|+++t
+u24pm|+ttt
+";
+
+/// Ticks, in the order of these rows: one less than a confirmation may take, as many as that, one less than a peer may
+/// be busy, and as many as that.
+const WAITS: &[u8] = b"kclb";
+
 /// Ticks in which each timer of the alignment runs out, but for that of the proving.
 const LONG: usize = 10;
 
 /// Ticks of the proving.
 const PROVING: usize = 3;
+
+/// Ticks that a confirmation may take.
+const CONFIRMING: usize = 5;
+
+/// Ticks that a peer may be busy.
+const BUSY: usize = 20;
+
+/// How many frames may wait where a way ends: three statuses, and a message.
+const WAITING: usize = 4;
 
 /// Hands one input in.
 fn put(exchange: &mut Exchange, input: u8) -> Outcome {
@@ -59,6 +83,11 @@ fn put(exchange: &mut Exchange, input: u8) -> Outcome {
         b'd' => exchange.step(&Event::Frame(link, &EMPTY)),
         b't' => tick(exchange, LONG),
         b'p' => tick(exchange, PROVING),
+        b'k' => tick(exchange, CONFIRMING - 1),
+        b'c' => tick(exchange, CONFIRMING),
+        b'l' => tick(exchange, BUSY - 1),
+        b'b' => tick(exchange, BUSY),
+        b'm' => submit(exchange),
         state => exchange.step(&Event::Frame(link, &status_frame(state.wrapping_sub(b'0')))),
     }
 }
@@ -71,6 +100,14 @@ fn tick(exchange: &mut Exchange, ticks: usize) -> Outcome {
     Outcome::Handled
 }
 
+/// Submits a message for the destination behind the link.
+fn submit(exchange: &mut Exchange) -> Outcome {
+    match Msu::new(0x85, &[0x2c, 0x41, 0x00, 0x50, 0xaa, 0xbb]) {
+        Ok(message) => exchange.step(&Event::Submit(message)),
+        Err(cause) => Outcome::Refused(cause),
+    }
+}
+
 /// The state that the next frame tells, as a digit; `+` where none goes out.
 fn told(exchange: &mut Exchange) -> u8 {
     let mut buffer = [0; BUFFER_OCTETS];
@@ -81,9 +118,9 @@ fn told(exchange: &mut Exchange) -> u8 {
     }
 }
 
-/// Takes the statuses that wait.
+/// Takes what waits.
 fn take_all(exchange: &mut Exchange) {
-    for _ in 0..3usize {
+    for _ in 0..WAITING {
         told(exchange);
     }
 }
@@ -97,17 +134,22 @@ fn why(exchange: &Exchange) -> Option<u8> {
     }
 }
 
-/// What a link does about an input.
+/// What a link does about an input: ignored or handled it leaves no notice, and one notice where it fails and is down.
 fn done(exchange: &mut Exchange, input: u8) -> u8 {
-    let notices = exchange.notices().len();
+    let before = exchange.notices().len();
     let outcome = put(exchange, input);
-    if outcome == Outcome::Ignored {
-        return b'.';
+    let noted = exchange.notices().len().wrapping_sub(before);
+    match (outcome, noted) {
+        (Outcome::Ignored, 0) => b'.',
+        (Outcome::Handled, 0) => told(exchange),
+        (Outcome::Handled, 1) if is_down(exchange) => why(exchange).unwrap_or(b'?'),
+        _ => b'?',
     }
-    if exchange.notices().len() > notices {
-        return why(exchange).unwrap_or(b'?');
-    }
-    told(exchange)
+}
+
+/// Whether the link is down, with its association.
+fn is_down(exchange: &Exchange) -> bool {
+    exchange.wants(LinkId::new(0)) == Wants::Close
 }
 
 /// Goes a way.
@@ -125,9 +167,8 @@ fn done_after<T: Abort>(rt: &T, alloc: Global, way: &[u8], input: u8) -> u8 {
     done(&mut exchange, input)
 }
 
-/// Compares what a link does about the input at this place.
-fn expect_cell<T: Abort>(rt: &T, alloc: Global, way: &[u8], at: usize, wanted: u8) {
-    let input = INPUTS.get(at).copied().unwrap_or(b'?');
+/// Compares what a link does about an input.
+fn expect_cell<T: Abort>(rt: &T, alloc: Global, way: &[u8], input: u8, wanted: u8) {
     let done = done_after(rt, alloc, way, input);
     assert!(rt;
         done == wanted,
@@ -135,18 +176,25 @@ fn expect_cell<T: Abort>(rt: &T, alloc: Global, way: &[u8], at: usize, wanted: u
     );
 }
 
-/// Compares a row.
-fn expect_row<T: Abort>(rt: &T, alloc: Global, row: &str) {
+/// Compares a row, about these inputs.
+fn expect_row<T: Abort>(rt: &T, alloc: Global, inputs: &[u8], row: &str) {
     let (way, cells) = row.split_once('|').expect(rt, "a way and a bar");
-    assert_eq!(rt; cells.len(), INPUTS.len());
-    for (at, wanted) in cells.bytes().enumerate() {
-        expect_cell(rt, alloc, way.as_bytes(), at, wanted);
+    assert_eq!(rt; cells.len(), inputs.len());
+    for (input, wanted) in inputs.iter().zip(cells.bytes()) {
+        expect_cell(rt, alloc, way.as_bytes(), *input, wanted);
     }
 }
 
 #[test]
 fn each_cell(rt: HostRuntime) {
     for row in ROWS.lines() {
-        expect_row(&rt, rt.alloc(), row);
+        expect_row(&rt, rt.alloc(), INPUTS, row);
+    }
+}
+
+#[test]
+fn each_timer_in_service(rt: HostRuntime) {
+    for row in WAITING_ROWS.lines() {
+        expect_row(&rt, rt.alloc(), WAITS, row);
     }
 }

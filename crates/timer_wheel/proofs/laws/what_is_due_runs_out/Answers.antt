@@ -1,11 +1,14 @@
-use Rattle.timer_wheel.proofs.Due.{take-due, set-due, clear-due}
+use Rattle.timer_wheel.proofs.JoinedDue.{count-after, count-none, count-set, count-clear}
 use Rattle.timer_wheel.proofs.laws.what_is_due_runs_out.Goals as goal
 
 pub returns-clause-taken : goal.returns-clause-taken
-returns-clause-taken c = take-due
+returns-clause-taken c = count-after
+
+pub returns-clause-none : goal.returns-clause-none
+returns-clause-none c = count-none
 
 pub returns-clause-set : goal.returns-clause-set
-returns-clause-set c = set-due
+returns-clause-set c = count-set
 
 pub returns-clause-cleared : goal.returns-clause-cleared
-returns-clause-cleared c = clear-due
+returns-clause-cleared c = count-clear

@@ -1,0 +1,111 @@
+-- The table and the list together are a finite map.
+use Rattle.std.proofs.Common.{◌≡◌, ◌≢◌, ℕ, nat_lt, Bool, true, false, cond, refl, sym, ap, ◌∙◌}
+use Rattle.std.specs.Prelude.{Option, Some, None, max}
+use Rattle.timer_wheel.specs.declared.name.TimerName.{TimerName}
+use Rattle.timer_wheel.specs.declared.name.LinkPlace.{LinkPlace}
+use Rattle.timer_wheel.specs.declared.name.NodeCounts.{NodeCounts}
+use Rattle.timer_wheel.specs.Names.{has_name, place_of, name_of_kind}
+use Rattle.timer_wheel.specs.Named.{Named, set_named, started}
+use Rattle.timer_wheel.specs.Timers.{Running, none_running, set_at, set_timer, clear_at, clear_timer, ticked}
+use Rattle.timer_wheel.specs.Lookup.{link_left, left_at, left_to, named_left, counts_of, IsWhole}
+use Rattle.timer_wheel.specs.Table.{one_less}
+use Rattle.timer_wheel.proofs.Places.{IsAt, is_at, IsOfLink, IsOther}
+use Rattle.timer_wheel.proofs.Found as list
+use Rattle.timer_wheel.proofs.InTable as table
+
+-- ---- setting
+
+has_other : (name : TimerName) (r : Running) → IsOther name → (b : Bool) → has_name (counts_of r) name ≡ b → has_name r.others.counts name ≡ b
+has_other name r o b h = sym (o.has r.others.counts r.links.links) ∙ h
+
+set_there : (name : TimerName) (ticks : ℕ) (n : Named) → has_name n.counts name ≡ true
+    → set_named name ticks n ≡ record n { timers = started (record { name = name; left = max 1 ticks }) n.timers }
+set_there name ticks n h = ap (λ b. cond b (record n { timers = started (record { name = name; left = max 1 ticks }) n.timers }) n) h
+
+set_absent : (name : TimerName) (ticks : ℕ) (n : Named) → has_name n.counts name ≡ false → set_named name ticks n ≡ n
+set_absent name ticks n h = ap (λ b. cond b (record n { timers = started (record { name = name; left = max 1 ticks }) n.timers }) n) h
+
+pub left-set : (name : TimerName) (ticks : ℕ) (r : Running) → IsWhole r → has_name (counts_of r) name ≡ true → left_to name (set_timer name ticks r) ≡ Some (max 1 ticks)
+unfolding left_to set_timer
+left-set name ticks r w h = at (place_of name) (is_at name)
+  where
+    at : (o : Option LinkPlace) → IsAt name o → left_at o name (set_at o name ticks r) ≡ Some (max 1 ticks)
+    at (Some p) q = table.left-put p.kind p.link (Some (max 1 ticks)) r.links w.places q.kind (sym (q.has (counts_of r)) ∙ h)
+    at None q = ap (λ (n : Named). named_left name n.timers) (set_there name ticks r.others (has_other name r q true h)) ∙ list.left-started (record { name = name; left = max 1 ticks }) r.others.timers
+
+-- two names are at two places
+apart : (name other : TimerName) (p q : LinkPlace) → IsOfLink name p → IsOfLink other q → name ≢ other → (q.kind ≡ p.kind) × (q.link ≡ p.link) → ⊥
+apart name other p q a b h e = h (a.named ∙ sym (λ i. name_of_kind (e.0 i) (e.1 i)) ∙ sym b.named)
+
+pub left-set_other : (name other : TimerName) (ticks : ℕ) (r : Running) → name ≢ other → left_to other (set_timer name ticks r) ≡ left_to other r
+unfolding left_to set_timer
+left-set_other name other ticks r h = at (place_of name) (place_of other) (is_at name) (is_at other)
+  where
+    at : (o u : Option LinkPlace) → IsAt name o → IsAt other u → left_at u other (set_at o name ticks r) ≡ left_at u other r
+    at (Some p) (Some q) a b = table.left-put_other p.kind p.link (Some (max 1 ticks)) q.kind q.link r.links (apart name other p q a b h)
+    at (Some p) None a b = refl
+    at None (Some q) a b = refl
+    at None None a b =
+        elim (has_name r.others.counts name) as (λ c. has_name r.others.counts name ≡ c → named_left other (set_named name ticks r.others).timers ≡ named_left other r.others.timers) [
+          | true ↦ λ e. ap (λ (n : Named). named_left other n.timers) (set_there name ticks r.others e) ∙ list.left-started_other (record { name = name; left = max 1 ticks }) other r.others.timers h
+          | false ↦ λ e. ap (λ (n : Named). named_left other n.timers) (set_absent name ticks r.others e)
+        ] refl
+
+pub set-absent : (name : TimerName) (ticks : ℕ) (r : Running) → has_name (counts_of r) name ≡ false → set_timer name ticks r ≡ r
+unfolding set_timer
+set-absent name ticks r h = at (place_of name) (is_at name)
+  where
+    at : (o : Option LinkPlace) → IsAt name o → set_at o name ticks r ≡ r
+    at (Some p) q = ap (λ t. record r { links = t }) (table.link-absent p.kind p.link (Some (max 1 ticks)) r.links (sym (q.has (counts_of r)) ∙ h))
+    at None q = ap (λ n. record r { others = n }) (set_absent name ticks r.others (has_other name r q false h))
+
+-- ---- stopping
+
+pub left-clear : (name : TimerName) (r : Running) → IsWhole r → left_to name (clear_timer name r) ≡ None
+unfolding left_to clear_timer
+left-clear name r w = at (place_of name) (is_at name)
+  where
+    at : (o : Option LinkPlace) → IsAt name o → left_at o name (clear_at o name r) ≡ None
+    at (Some p) q =
+        elim (nat_lt p.link r.links.links) as (λ b. nat_lt p.link r.links.links ≡ b → left_at (Some p) name (clear_at (Some p) name r) ≡ None) [
+          | true ↦ λ e. table.left-put p.kind p.link None r.links w.places q.kind e
+          | false ↦ λ e. ap (link_left p.kind p.link) (table.link-absent p.kind p.link None r.links e) ∙ table.left-absent p.kind p.link r.links e
+        ] refl
+    at None q = list.left-cleared name r.others.timers
+
+pub left-clear_other : (name other : TimerName) (r : Running) → name ≢ other → left_to other (clear_timer name r) ≡ left_to other r
+unfolding left_to clear_timer
+left-clear_other name other r h = at (place_of name) (place_of other) (is_at name) (is_at other)
+  where
+    at : (o u : Option LinkPlace) → IsAt name o → IsAt other u → left_at u other (clear_at o name r) ≡ left_at u other r
+    at (Some p) (Some q) a b = table.left-put_other p.kind p.link None q.kind q.link r.links (apart name other p q a b h)
+    at (Some p) None a b = refl
+    at None (Some q) a b = refl
+    at None None a b = list.left-cleared_other name other r.others.timers h
+
+-- ---- at first, and by a tick
+
+pub left-none : (name : TimerName) (n : NodeCounts) → left_to name (none_running n) ≡ None
+unfolding left_to
+left-none name n = at (place_of name) (is_at name)
+  where
+    at : (o : Option LinkPlace) → IsAt name o → left_at o name (none_running n) ≡ None
+    at (Some p) q = table.left-none n.links p.kind p.link q.kind
+    at None q = refl
+
+pub left-ticked : (name : TimerName) (r : Running) → left_to name (ticked r) ≡ one_less (left_to name r)
+unfolding left_to
+left-ticked name r = at (place_of name)
+  where
+    at : (o : Option LinkPlace) → left_at o name (ticked r) ≡ one_less (left_at o name r)
+    at (Some p) = table.left-ticked p.kind p.link r.links
+    at None = list.left-lowered name r.others.timers
+
+-- only a name that the node has runs
+pub left-absent : (name : TimerName) (r : Running) → IsWhole r → has_name (counts_of r) name ≡ false → left_to name r ≡ None
+unfolding left_to
+left-absent name r w h = at (place_of name) (is_at name)
+  where
+    at : (o : Option LinkPlace) → IsAt name o → left_at o name r ≡ None
+    at (Some p) q = table.left-absent p.kind p.link r.links (sym (q.has (counts_of r)) ∙ h)
+    at None q = list.left-unnamed r.others.counts name r.others.timers w.named (has_other name r q false h)

@@ -1,0 +1,90 @@
+-- Each call keeps a place for each timer of a link, and the others in name order.
+use Rattle.std.proofs.Common.{◌≡◌, ℕ, ◌*◌, true, false, cond, refl, sym, ap, subst, ◌∙◌}
+use Rattle.std.proofs.lemmas.List.{length-replicate, length-map}
+use Rattle.std.specs.Prelude.{Option, Some, None, max}
+use Rattle.timer_wheel.specs.declared.name.TimerName.{TimerName}
+use Rattle.timer_wheel.specs.declared.name.LinkPlace.{LinkPlace}
+use Rattle.timer_wheel.specs.declared.name.NodeCounts.{NodeCounts}
+use Rattle.timer_wheel.specs.declared.named.Timer.{Timer}
+use Rattle.timer_wheel.specs.Names.{has_name, place_of}
+use Rattle.timer_wheel.specs.Named.{started}
+use Rattle.timer_wheel.specs.Table.{one_less}
+use Rattle.timer_wheel.specs.Timers.{Running, none_running, set_at, set_timer, clear_at, clear_timer, ticked, due_name, after_due}
+use Rattle.timer_wheel.specs.Lookup.{counts_of, IsWhole}
+use Rattle.timer_wheel.proofs.Rising.{rise-started, rise-cleared, rise-lowered, named-started, named-cleared, named-lowered}
+use Rattle.timer_wheel.proofs.InTable.{places-put, links-put}
+use Rattle.timer_wheel.proofs.JoinedDue.{after-clear, after-none}
+
+-- what stays: the counts, and that the timers are well kept
+pub record Stays (r s : Running) : Type 0 where
+  pub counts : counts_of s ≡ counts_of r
+  pub whole : IsWhole r → IsWhole s
+
+pub whole-none : (n : NodeCounts) → IsWhole (none_running n)
+whole-none n = record { places = length-replicate (9 * n.links) None; rise = tt; named = tt; no_links = refl }
+
+pub stays-set : (name : TimerName) (ticks : ℕ) (r : Running) → Stays r (set_timer name ticks r)
+unfolding set_timer
+stays-set name ticks r = at (place_of name)
+  where
+    at : (o : Option LinkPlace) → Stays r (set_at o name ticks r)
+    at (Some p) = record {
+      counts = ap (λ l. record r.others.counts { links = l }) (links-put p.kind p.link (Some (max 1 ticks)) r.links);
+      whole = λ w. record {
+        places = places-put p.kind p.link (Some (max 1 ticks)) r.links w.places;
+        rise = w.rise;
+        named = w.named;
+        no_links = w.no_links;
+      };
+    }
+    at None =
+        let timer : Timer = record { name = name; left = max 1 ticks } in
+        elim (has_name r.others.counts name) as (λ b. has_name r.others.counts name ≡ b → Stays r (record r { others = cond b (record r.others { timers = started timer r.others.timers }) r.others })) [
+          | true ↦ λ e. record {
+            counts = refl;
+            whole = λ w. record {
+              places = w.places;
+              rise = rise-started timer r.others.timers w.rise;
+              named = named-started r.others.counts timer r.others.timers e w.named;
+              no_links = w.no_links;
+            };
+          }
+          | false ↦ λ e. record { counts = refl; whole = λ w. w }
+        ] refl
+
+pub stays-clear : (name : TimerName) (r : Running) → Stays r (clear_timer name r)
+unfolding clear_timer
+stays-clear name r = at (place_of name)
+  where
+    at : (o : Option LinkPlace) → Stays r (clear_at o name r)
+    at (Some p) = record {
+      counts = ap (λ l. record r.others.counts { links = l }) (links-put p.kind p.link None r.links);
+      whole = λ w. record { places = places-put p.kind p.link None r.links w.places; rise = w.rise; named = w.named; no_links = w.no_links };
+    }
+    at None = record {
+      counts = refl;
+      whole = λ w. record {
+        places = w.places;
+        rise = rise-cleared name r.others.timers w.rise;
+        named = named-cleared r.others.counts name r.others.timers w.named;
+        no_links = w.no_links;
+      };
+    }
+
+pub stays-ticked : (r : Running) → Stays r (ticked r)
+stays-ticked r = record {
+  counts = refl;
+  whole = λ w. record {
+    places = length-map r.links.left one_less ∙ w.places;
+    rise = rise-lowered r.others.timers w.rise;
+    named = named-lowered r.others.counts r.others.timers w.named;
+    no_links = w.no_links;
+  };
+}
+
+pub stays-after : (r : Running) → IsWhole r → Stays r (after_due r)
+stays-after r w =
+    elim (due_name r) as (λ o. due_name r ≡ o → Stays r (after_due r)) [
+      | Some name ↦ λ e. subst (Stays r) (sym (after-clear name r w e)) (stays-clear name r)
+      | None ↦ λ e. subst (Stays r) (sym (after-none r e)) (record { counts = refl; whole = λ w. w })
+    ] refl

@@ -1,0 +1,14 @@
+use Rattle.timer_wheel.proofs.Whole.{stays-set, stays-clear, stays-ticked, stays-after}
+use Rattle.timer_wheel.proofs.laws.timers_stay_whole.Goals as goal
+
+pub returns-clause-set : goal.returns-clause-set
+returns-clause-set c = λ name ticks r. (stays-set name ticks r).whole
+
+pub returns-clause-cleared : goal.returns-clause-cleared
+returns-clause-cleared c = λ name r. (stays-clear name r).whole
+
+pub returns-clause-ticked : goal.returns-clause-ticked
+returns-clause-ticked c = λ r. (stays-ticked r).whole
+
+pub returns-clause-taken : goal.returns-clause-taken
+returns-clause-taken c = λ r w. (stays-after r w).whole w
