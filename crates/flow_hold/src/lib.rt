@@ -2,6 +2,7 @@
 #![tactic(auto)]
 
 pub mod holds;
+pub mod laws;
 pub mod procedure;
 mod row;
 
