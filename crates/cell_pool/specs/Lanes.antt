@@ -1,5 +1,5 @@
 -- Numbered lists of messages, under one limit on all user messages and one on all management messages.
-use Rattle.std.specs.Prelude.{ℕ, List, [], ◌∷◌, ◌++◌, Option, Some, None, drop, count_by, sum_by, nat_le, not}
+use Rattle.std.specs.Prelude.{◌≡◌, ℕ, List, [], ◌∷◌, ◌++◌, Option, Some, None, drop, count_by, sum_by, nat_le, not}
 use Rattle.std.specs.Prelude.{if◌then◌else◌, slice_index_or, slice_set}
 use Rattle.signalling_types.specs.Message.{Message, is_management}
 use Rattle.signalling_types.specs.declared.cause.Cause.{Cause}
@@ -38,3 +38,8 @@ pushed lists lane m = slice_set lists lane (lane_at lists lane ++ m ∷ [])
 -- a list without its first messages
 abbrev pub dropped : List (List Message) → ℕ → ℕ → List (List Message)
 dropped lists lane count = slice_set lists lane (drop count (lane_at lists lane))
+
+-- as many messages of each kind in all lists together
+pub record HasAsMany (old new : List (List Message)) : Type 0 where
+  pub users : users new ≡ users old
+  pub managements : managements new ≡ managements old

@@ -1,4 +1,6 @@
 pub mod Lanes
+pub mod Moves
+pub mod Turns
 pub mod Numbering
 pub mod Rings
 pub mod Cells

@@ -4,6 +4,7 @@ ghost use Rattle.std.specs.Prelude.{◌≡◌, ℕ, ◌^◌, ◌<◌, ◌≤◌,
 ghost use Rattle.std.specs.Option.{option_copied};
 ghost use Rattle.signalling_types.specs.Lent.{lent};
 ghost use Rattle.cell_pool.specs.Lanes.{lane_at, pushed, dropped};
+ghost use Rattle.cell_pool.specs.Moves.{first_behind, last_before};
 
 use crate::cell_rings::CellRings;
 use signalling_types::{Limits, Msu, MsuRef};
@@ -87,5 +88,24 @@ impl CellLists {
         ensures { self.new ≡ record self.old { lists = dropped self.old.lists list 1 } }
     {
         self.numbers.release(list);
+    }
+
+    /// Moves the first message of a list, where there is one, to the end of a list, also of its own: its cell stays.
+    pub(crate) fn move_first(&mut self, from: usize, to: usize)
+        requires from { from < length self.old.lists }
+        requires to { to < length self.old.lists }
+        ensures { self.new ≡ record self.old { lists = first_behind self.old.lists from to } }
+    {
+        self.numbers.move_first(from, to);
+    }
+
+    /// Moves the last message of a list, where there is one, before all messages of a list, also of its own: its cell
+    /// stays.
+    pub(crate) fn move_last(&mut self, from: usize, to: usize)
+        requires from { from < length self.old.lists }
+        requires to { to < length self.old.lists }
+        ensures { self.new ≡ record self.old { lists = last_before self.old.lists from to } }
+    {
+        self.numbers.move_last(from, to);
     }
 }

@@ -4,6 +4,7 @@ ghost use Rattle.std.specs.Prelude.{◌≡◌, ℕ, ◌+◌, ◌^◌, ◌<◌, �
 ghost use Rattle.std.specs.Prelude.{slice_get, slice_set, vec_capacity, IfOk, IfSome};
 ghost use Rattle.std.specs.List.{range_with_len};
 ghost use Rattle.circular_buffer.specs.Buffer.{buffer};
+ghost use Rattle.cell_pool.specs.Moves.{first_behind, last_before};
 ghost use Rattle.cell_pool.specs.Numbering.{ring_at, uses};
 
 use crate::cell_number::CellNumber;
@@ -98,6 +99,32 @@ impl CellRings {
         let ring = &mut self.rings[ring];
         if let Some(number) = ring.pop_front() {
             self.free.push_reserved(number);
+        }
+    }
+
+    /// Moves the first number of a ring, where there is one, to the end of a ring, also of its own.
+    pub(crate) fn move_first(&mut self, from: usize, to: usize)
+        requires from { from < length self.old.rings }
+        requires to { to < length self.old.rings }
+        ensures { self.new ≡ record self.old { rings = first_behind self.old.rings from to } }
+    {
+        let source = &mut self.rings[from];
+        if let Some(number) = source.pop_front() {
+            let target = &mut self.rings[to];
+            target.push_back(number);
+        }
+    }
+
+    /// Moves the last number of a ring, where there is one, before all numbers of a ring, also of its own.
+    pub(crate) fn move_last(&mut self, from: usize, to: usize)
+        requires from { from < length self.old.rings }
+        requires to { to < length self.old.rings }
+        ensures { self.new ≡ record self.old { rings = last_before self.old.rings from to } }
+    {
+        let source = &mut self.rings[from];
+        if let Some(number) = source.pop_back() {
+            let target = &mut self.rings[to];
+            target.push_front(number);
         }
     }
 }

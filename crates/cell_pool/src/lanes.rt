@@ -1,13 +1,15 @@
 //! What every store of messages does.
 
-ghost use Rattle.std.specs.Prelude.{◌≡◌, ℕ, ◌<◌, ◌≤◌, List, None, Some, length, IfErr, OnOk, is_ok, slice_get};
+ghost use Rattle.std.specs.Prelude.{◌≡◌, ◌≢◌, ℕ, ◌<◌, ◌≤◌, List, None, Some, length, IfErr, OnOk, is_ok, slice_get};
 ghost use Rattle.std.specs.Prelude.{if◌then◌else◌};
 ghost use Rattle.std.specs.Option.{option_copied};
 ghost use Rattle.signalling_types.specs.Message.{Message};
 ghost use Rattle.signalling_types.specs.Lent.{lent};
 ghost use Rattle.signalling_types.specs.declared.limits.TheConstants.Limits;
 ghost use Rattle.cell_pool.specs.Lanes.{lane_at, push_refusal, pushed, dropped};
+ghost use Rattle.cell_pool.specs.Moves.{first_behind, all_behind, all_before, picked_behind, picked_before};
 
+use crate::pick::Pick;
 use signalling_types::{Cause, Msu, MsuRef};
 
 /// Numbered lists of messages. All lists together keep at most a stated number of user messages, and
@@ -50,6 +52,46 @@ pub trait Lanes {
     fn drop_front(&mut self, lane: usize, count: usize)
         requires { lane < length (lists self.old) }
         ensures lists { lists self.new ≡ dropped (lists self.old) lane count }
+        ensures pool { pool self.new ≡ pool self.old };
+
+    /// Moves the first message of a list, where there is one, to the end of a list, also of its own.
+    fn move_first(&mut self, from: usize, to: usize)
+        requires from { from < length (lists self.old) }
+        requires to { to < length (lists self.old) }
+        ensures lists { lists self.new ≡ first_behind (lists self.old) from to }
+        ensures pool { pool self.new ≡ pool self.old };
+
+    /// Moves all messages of a list, in order, to the end of another. The first list is empty then.
+    fn append(&mut self, from: usize, to: usize)
+        requires from { from < length (lists self.old) }
+        requires to { to < length (lists self.old) }
+        requires apart { from ≢ to }
+        ensures lists { lists self.new ≡ all_behind (lists self.old) from to }
+        ensures pool { pool self.new ≡ pool self.old };
+
+    /// Moves all messages of a list, in order, before all messages of another. The first list is empty then.
+    fn splice_front(&mut self, from: usize, to: usize)
+        requires from { from < length (lists self.old) }
+        requires to { to < length (lists self.old) }
+        requires apart { from ≢ to }
+        ensures lists { lists self.new ≡ all_before (lists self.old) from to }
+        ensures pool { pool self.new ≡ pool self.old };
+
+    /// Moves the messages of a list that a choice takes, in order, to the end of another. The others stay in order.
+    fn move_where<P: Pick>(&mut self, from: usize, to: usize, pick: &P)
+        requires from { from < length (lists self.old) }
+        requires to { to < length (lists self.old) }
+        requires apart { from ≢ to }
+        ensures lists { lists self.new ≡ picked_behind (P.picks pick.now) (lists self.old) from to }
+        ensures pool { pool self.new ≡ pool self.old };
+
+    /// Moves the messages of a list that a choice takes, in order, before all messages of another. The others stay in
+    /// order.
+    fn splice_where<P: Pick>(&mut self, from: usize, to: usize, pick: &P)
+        requires from { from < length (lists self.old) }
+        requires to { to < length (lists self.old) }
+        requires apart { from ≢ to }
+        ensures lists { lists self.new ≡ picked_before (P.picks pick.now) (lists self.old) from to }
         ensures pool { pool self.new ≡ pool self.old };
 
     /// The message at a place of a list, from 0, where there is one.

@@ -6,9 +6,12 @@ mod cell_lists;
 mod cell_number;
 mod cell_rings;
 pub mod lanes;
+pub mod laws;
+pub mod pick;
 pub mod ring_lanes;
 
 pub use lanes::Lanes;
+pub use pick::{Pick, UserMessages};
 pub use ring_lanes::RingLanes;
 
 #[cfg(test)]

@@ -1,10 +1,14 @@
 //! Lanes as rings of cell numbers over one row of messages.
 
 ghost use Rattle.std.specs.Prelude.{◌≡◌, ℕ, ◌+◌, ◌<◌, ◌≤◌, List, [], length, replicate, IfOk};
-ghost use Rattle.cell_pool.specs.Lanes.{dropped};
+ghost use Rattle.std.specs.Prelude.{Bool, if◌then◌else◌};
+ghost use Rattle.cell_pool.specs.Lanes.{lane_at, dropped};
+ghost use Rattle.cell_pool.specs.Moves.{first_behind, last_before};
+ghost use Rattle.cell_pool.specs.Turns.{turned, turned_back};
 
 use crate::cell_lists::CellLists;
 use crate::lanes::Lanes;
+use crate::pick::Pick;
 use signalling_types::{Cause, Limits, Msu, MsuRef};
 use std::alloc::{AllocError, Global};
 use std::marker::Model;
@@ -14,8 +18,10 @@ use std::marker::Model;
 /// there; a list is a ring of cell numbers.
 ///
 /// All room is made by `new`: no other call takes memory. `drop_front` takes a step for each message
-/// that it drops, and every other call a fixed number of steps, however many lists and messages
-/// there are.
+/// that it drops, `append` and `splice_front` one for each message that they move, `move_where` and
+/// `splice_where` one for each message of the list that they look through, and every other call a fixed
+/// number of steps, however many lists and messages there are. A move passes cell numbers, and copies
+/// no message.
 #[derive(Drop)]
 pub struct RingLanes {
     lists: CellLists,
@@ -69,6 +75,44 @@ impl RingLanes {
             self.lists.drop_first(lane);
         }
     }
+
+    /// Moves the last message of a list, where there is one, before all messages of a list, also of its own.
+    fn move_last(&mut self, from: usize, to: usize)
+        requires from { from < length self.old.lists }
+        requires to { to < length self.old.lists }
+        ensures { self.new ≡ record self.old { lists = last_before self.old.lists from to } }
+    {
+        self.lists.move_last(from, to);
+    }
+
+    /// Moves the first message of a list, where there is one, to the end of another where a choice takes it, else to
+    /// the end of its own.
+    fn turn<P: Pick>(&mut self, from: usize, to: usize, pick: &P)
+        requires from { from < length self.old.lists }
+        requires to { to < length self.old.lists }
+        ensures { self.new ≡ record self.old { lists = turned (P.picks pick.now) self.old.lists from to } }
+    {
+        let picked = match self.lists.get(from, 0) {
+            Some(message) => pick.picks(message),
+            None => false,
+        };
+        self.move_first(from, if picked { to } else { from });
+    }
+
+    /// Moves the last message of a list, where there is one, before all of another where a choice takes it, else before
+    /// all of its own.
+    fn turn_back<P: Pick>(&mut self, from: usize, to: usize, pick: &P)
+        requires from { from < length self.old.lists }
+        requires to { to < length self.old.lists }
+        ensures { self.new ≡ record self.old { lists = turned_back (P.picks pick.now) self.old.lists from to } }
+    {
+        let last = self.lists.count(from).saturating_sub(1);
+        let picked = match self.lists.get(from, last) {
+            Some(message) => pick.picks(message),
+            None => false,
+        };
+        self.move_last(from, if picked { to } else { from });
+    }
 }
 
 impl Lanes for RingLanes {
@@ -111,6 +155,34 @@ impl Lanes for RingLanes {
     fn drop_front(&mut self, lane: usize, count: usize) {
         for _ in 0..count.min(self.lists.count(lane)) {
             self.drop_first(lane);
+        }
+    }
+
+    fn move_first(&mut self, from: usize, to: usize) {
+        self.lists.move_first(from, to);
+    }
+
+    fn append(&mut self, from: usize, to: usize) {
+        for _ in 0..self.lists.count(from) {
+            self.move_first(from, to);
+        }
+    }
+
+    fn splice_front(&mut self, from: usize, to: usize) {
+        for _ in 0..self.lists.count(from) {
+            self.move_last(from, to);
+        }
+    }
+
+    fn move_where<P: Pick>(&mut self, from: usize, to: usize, pick: &P) {
+        for _ in 0..self.lists.count(from) {
+            self.turn(from, to, pick);
+        }
+    }
+
+    fn splice_where<P: Pick>(&mut self, from: usize, to: usize, pick: &P) {
+        for _ in 0..self.lists.count(from) {
+            self.turn_back(from, to, pick);
         }
     }
 

@@ -2,7 +2,7 @@
 
 ghost use Rattle.std.specs.Prelude.{◌<◌};
 
-use crate::{Lanes, RingLanes};
+use crate::{Lanes, RingLanes, UserMessages};
 use signalling_types::{Cause, Limits, Msu};
 use std::alloc::Global;
 use std::process::Abort;
@@ -201,4 +201,63 @@ fn each_kind_has_its_limit(rt: HostRuntime) -> Result<(), Fail> {
     assert!(rt; 0 < lanes.lanes());
     assert_eq!(rt; lanes.count(0), 259);
     Ok(())
+}
+
+/// A message of a kind, known by its last octet.
+fn numbered(sio: u8, octet: u8) -> Result<Msu, Fail> {
+    Ok(Msu::new(sio, &[0x2c, 0x41, 0x00, 0x50, octet])?)
+}
+
+/// Puts messages at the end of a list: those with an even octet are management messages.
+fn put<L: Lanes>(rt: &impl Abort, lanes: &mut L, lane: usize, octets: &[u8]) -> Result<(), Fail> {
+    for octet in octets {
+        let message = numbered(if octet % 2 == 0 { MANAGEMENT } else { ISUP }, *octet)?;
+        assert!(rt; lane < lanes.lanes());
+        assert_eq!(rt; lanes.push_back(lane, message.lend()), Ok(()));
+    }
+    Ok(())
+}
+
+/// The last octets of the messages of a list are these.
+fn has<L: Lanes>(rt: &impl Abort, lanes: &L, lane: usize, octets: &[u8]) {
+    assert!(rt; lane < lanes.lanes());
+    assert_eq!(rt; lanes.count(lane), octets.len());
+    for (index, octet) in octets.iter().enumerate() {
+        assert!(rt; lane < lanes.lanes());
+        assert!(rt;
+            lanes
+                .get(lane, index)
+                .is_some_and(|kept| kept.sif().last() == Some(octet))
+        );
+    }
+}
+
+/// Each move, in a store that is full of user messages.
+fn moved<L: Lanes>(rt: &impl Abort, lanes: &mut L) -> Result<(), Fail> {
+    put(rt, lanes, 0, &[1, 2, 3, 4])?;
+    put(rt, lanes, 1, &[5])?;
+    assert!(rt; 1 < lanes.lanes());
+    lanes.splice_where(0, 1, &UserMessages);
+    has(rt, lanes, 0, &[2, 4]);
+    has(rt, lanes, 1, &[1, 3, 5]);
+    assert!(rt; 1 < lanes.lanes());
+    lanes.move_first(1, 1);
+    has(rt, lanes, 1, &[3, 5, 1]);
+    assert!(rt; 1 < lanes.lanes());
+    lanes.append(1, 0);
+    has(rt, lanes, 0, &[2, 4, 3, 5, 1]);
+    assert!(rt; 1 < lanes.lanes());
+    lanes.move_where(0, 1, &UserMessages);
+    has(rt, lanes, 0, &[2, 4]);
+    has(rt, lanes, 1, &[3, 5, 1]);
+    assert!(rt; 1 < lanes.lanes());
+    lanes.splice_front(0, 1);
+    has(rt, lanes, 0, &[]);
+    has(rt, lanes, 1, &[2, 4, 3, 5, 1]);
+    Ok(())
+}
+
+#[test]
+fn moves_keep_the_order(rt: HostRuntime) -> Result<(), Fail> {
+    moved(&rt, &mut RingLanes::new(rt.alloc(), 2, 3)?)
 }

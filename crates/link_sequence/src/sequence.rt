@@ -88,8 +88,9 @@ impl Sequence {
         }
     }
 
-    /// How many more messages are confirmed by a frame with this backward number: up to the count that it names.
-    /// None where it names none from what is confirmed to what was sent.
+    /// How many messages of the lane stand before the count that a number names: a frame with this backward number
+    /// confirms them, and a changeover with it moves those behind them (Q.704 §5.4). None where the number names no
+    /// count from what is confirmed to what was sent.
     pub fn retrieve(&self, confirmed: Number24) -> Option<usize>
         ensures count { result ≡ kept_newly_confirmed self.now confirmed }
         ensures queue { (w : ℕ) (lane : List Message) (q : Queue) →

@@ -37,7 +37,7 @@ fn sent<L: Lanes>(
     }
 }
 
-/// Numbers go on with 0 after the last, and a number names a count on either side of that.
+/// How many of four messages, sent from number 16,777,214 on, stand behind the count that a number names.
 fn wraps<L: Lanes>(rt: &impl Abort, lanes: &mut L) -> Result<(), Fail> {
     fill(rt, lanes, 4)?;
     let mut sequence = Sequence::starting_at(number(16_777_214));
@@ -46,16 +46,17 @@ fn wraps<L: Lanes>(rt: &impl Abort, lanes: &mut L) -> Result<(), Fail> {
     }
     assert_eq!(rt; sent(rt, &mut sequence, lanes, 8), None);
     assert_eq!(rt; sequence.last_sent().value(), 1);
-    for (confirmed, want) in [
-        (16_777_213, Some(0)),
+    for (confirmed, behind) in [
+        (16_777_213, Some(4)),
         (16_777_215, Some(2)),
-        (1, Some(4)),
+        (1, Some(0)),
         (16_777_212, None),
         (2, None),
     ] {
+        let before = sequence.retrieve(number(confirmed));
         assert_eq!(rt;
-            sequence.retrieve(number(confirmed)),
-            want,
+            before.map(|count| 4usize.saturating_sub(count)),
+            behind,
             "at {confirmed}"
         );
     }

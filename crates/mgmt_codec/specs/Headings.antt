@@ -3,6 +3,10 @@ use Rattle.std.specs.Prelude.{ℕ, ◌+◌, ◌*◌, ◌==◌, if◌then◌else�
 use Rattle.mgmt_codec.specs.declared.link_test.TestKind.{TestKind}
 use Rattle.mgmt_codec.specs.declared.link_test.TestKind.TheVariants.{Test, Acknowledgement}
 use Rattle.mgmt_codec.specs.declared.management.Management.{Management}
+use Rattle.mgmt_codec.specs.declared.management.Management.TheVariants.{ExtendedChangeoverOrder}
+use Rattle.mgmt_codec.specs.declared.management.Management.TheVariants.{ExtendedChangeoverAcknowledgement}
+use Rattle.mgmt_codec.specs.declared.management.Management.TheVariants.{EmergencyChangeoverOrder}
+use Rattle.mgmt_codec.specs.declared.management.Management.TheVariants.{EmergencyChangeoverAcknowledgement}
 use Rattle.mgmt_codec.specs.declared.management.Management.TheVariants.{TrafficRestartAllowed}
 
 -- the group H0 in the low half, the message H1 in the high half
@@ -23,8 +27,8 @@ kind_of octet =
 
 -- a management message
 abbrev pub management_heading : Management → ℕ
+management_heading (ExtendedChangeoverOrder slc number) = heading 1 3
+management_heading (ExtendedChangeoverAcknowledgement slc number) = heading 1 4
+management_heading (EmergencyChangeoverOrder slc) = heading 2 1
+management_heading (EmergencyChangeoverAcknowledgement slc) = heading 2 2
 management_heading TrafficRestartAllowed = heading 7 1
-
--- the management message that a heading names
-abbrev pub management_of : ℕ → Option Management
-management_of octet = if octet == management_heading TrafficRestartAllowed then Some TrafficRestartAllowed else None

@@ -4,10 +4,11 @@
 pub mod fault;
 pub mod link_test;
 pub mod management;
+mod writing;
 
 pub use fault::MgmtFault;
 pub use link_test::{ANSWER_OCTETS, LinkTest, TestKind};
-pub use management::Management;
+pub use management::{MANAGEMENT_OCTETS, Management};
 
 #[cfg(test)]
 mod tests;

@@ -1,11 +1,12 @@
 //! Link tests and their answers.
 
-ghost use Rattle.std.specs.Prelude.{◌≡◌, ◌+◌, ◌≤◌, ◌++◌, length, take, IfOk, Ok};
+ghost use Rattle.std.specs.Prelude.{◌≡◌, ◌+◌, ◌≤◌, length, take, IfOk, Ok};
 ghost use Rattle.mgmt_codec.specs.Headings.{kind_of, kind_heading};
 ghost use Rattle.mgmt_codec.specs.LinkTests.{answer_to, pattern_in, read_link_test, spelled};
 ghost use Rattle.mgmt_codec.specs.Values.{test_value, Gives};
 
 use crate::fault::MgmtFault;
+use crate::writing::write_at;
 use routing_label::Label;
 use signalling_types::{PointCode, Sls};
 
@@ -115,15 +116,4 @@ fn read_pattern(kind: TestKind, slc: Sls, rest: &[u8]) -> Result<LinkTest<'_>, M
         Some(pattern) => Ok(LinkTest { kind, slc, pattern }),
         None => Err(MgmtFault::Short),
     }
-}
-
-/// Writes octets from a place on, and returns the place behind them.
-fn write_at(out: &mut [u8; ANSWER_OCTETS], at: usize, octets: &[u8]) -> usize
-    requires { at + length octets.now ≤ 21 }
-    ensures count { result ≡ at + length octets.now }
-    ensures text { take result out.new ≡ take at out.old ++ octets.now }
-{
-    let end = at + octets.len();
-    out[at..end].copy_from_slice(octets);
-    end
 }

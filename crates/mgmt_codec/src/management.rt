@@ -1,17 +1,43 @@
 //! Management messages.
 
-ghost use Rattle.std.specs.Prelude.{◌≡◌};
-ghost use Rattle.mgmt_codec.specs.Headings.{management_of};
-ghost use Rattle.mgmt_codec.specs.Management.{read_management};
+ghost use Rattle.std.specs.Prelude.{◌≡◌, ◌≤◌, Ok, length, take};
+ghost use Rattle.mgmt_codec.specs.Headings.{management_heading};
+ghost use Rattle.mgmt_codec.specs.Management.{code_of, last_accepted_of, message_of, number_in};
+ghost use Rattle.mgmt_codec.specs.Management.{read_management, management_octets};
 
 use crate::fault::MgmtFault;
+use crate::writing::write_at;
+use link_number::Number24;
+use routing_label::Label;
+use signalling_types::{PointCode, Sls};
 
-/// The heading of TRA (Q.704 §15.12).
+/// Octets of a management message, at most: label, heading, and the longest fields.
+pub const MANAGEMENT_OCTETS: usize = 8;
+
+/// Headings: the group H0 in the low half, the message H1 in the high half (Q.704 §15.3, Q.2210 §10).
+const EXTENDED_CHANGEOVER_ORDER: u8 = 0x31;
+
+const EXTENDED_CHANGEOVER_ACKNOWLEDGEMENT: u8 = 0x41;
+
+const EMERGENCY_CHANGEOVER_ORDER: u8 = 0x12;
+
+const EMERGENCY_CHANGEOVER_ACKNOWLEDGEMENT: u8 = 0x22;
+
 const TRAFFIC_RESTART_ALLOWED: u8 = 0x17;
 
-/// A management message: a message of service indicator 0 (Q.704 §15).
+/// A management message: a message of service indicator 0 (Q.704 §15). A signalling link code names a link of the set
+/// between the two points.
 #[derive(Clone, Copy, Debug, PartialEq, Eq)]
 pub enum Management {
+    /// XCO: the link of this code has failed, and this is the number of the last message that the sender accepted on it
+    /// (Q.2210 §9.8).
+    ExtendedChangeoverOrder(Sls, Number24),
+    /// XCA: answers XCO or ECO, with the number of the last message that the sender accepted on the link (Q.2210 §9.8).
+    ExtendedChangeoverAcknowledgement(Sls, Number24),
+    /// ECO: the link of this code has failed, and the sender can't tell what it accepted (Q.704 §5.6).
+    EmergencyChangeoverOrder(Sls),
+    /// ECA: answers XCO or ECO; the sender can't tell what it accepted (Q.704 §5.6).
+    EmergencyChangeoverAcknowledgement(Sls),
     /// TRA: the adjacent point has restarted (Q.704 §9).
     TrafficRestartAllowed,
 }
@@ -20,26 +46,121 @@ impl Management {
     /// The message of a signalling information field.
     ///
     /// Short where there is no heading behind the label; else NotInProfile where the heading is one that the node
-    /// leaves out. Octets behind the fields of a message are ignored.
+    /// leaves out; else Short where the message has a number and fewer than three octets stand there. Octets behind the
+    /// fields of a message are ignored.
     pub fn read(sif: &[u8]) -> Result<Management, MgmtFault>
         ensures { result ≡ read_management sif.now }
     {
-        let [_, _, _, _, heading, ..] = *sif else {
+        let Some(label) = Label::read(sif) else {
             return Err(MgmtFault::Short);
         };
-        match Management::of_heading(heading) {
-            Some(message) => Ok(message),
-            None => Err(MgmtFault::NotInProfile),
+        let [_, _, _, _, heading, ref fields @ ..] = *sif else {
+            return Err(MgmtFault::Short);
+        };
+        Management::of_heading(heading, label.sls, fields)
+    }
+
+    /// The message of a heading, of a link code, which stands in the label, and of the fields behind the heading.
+    fn of_heading(heading: u8, slc: Sls, fields: &[u8]) -> Result<Management, MgmtFault>
+        ensures { result ≡ message_of heading slc fields.now }
+    {
+        match heading {
+            EXTENDED_CHANGEOVER_ORDER => {
+                Ok(Management::ExtendedChangeoverOrder(slc, number_in(fields)?))
+            }
+            EXTENDED_CHANGEOVER_ACKNOWLEDGEMENT => {
+                Ok(Management::ExtendedChangeoverAcknowledgement(slc, number_in(fields)?))
+            }
+            EMERGENCY_CHANGEOVER_ORDER => Ok(Management::EmergencyChangeoverOrder(slc)),
+            EMERGENCY_CHANGEOVER_ACKNOWLEDGEMENT => {
+                Ok(Management::EmergencyChangeoverAcknowledgement(slc))
+            }
+            TRAFFIC_RESTART_ALLOWED => Ok(Management::TrafficRestartAllowed),
+            _ => Err(MgmtFault::NotInProfile),
         }
     }
 
-    /// The message that a heading names.
-    fn of_heading(heading: u8) -> Option<Management>
-        ensures { result ≡ management_of heading }
+    /// Writes this message at the front of a buffer, from the point `opc` to the point `dpc`, and returns how many
+    /// octets it has. What is written is read back.
+    pub fn write(&self, dpc: PointCode, opc: PointCode, out: &mut [u8; MANAGEMENT_OCTETS]) -> usize
+        ensures count { result ≡ length (management_octets dpc opc self.now) }
+        ensures text { take result out.new ≡ management_octets dpc opc self.now }
+        ensures read_back { read_management (take result out.new) ≡ Ok self.now }
     {
-        match heading {
-            TRAFFIC_RESTART_ALLOWED => Some(Management::TrafficRestartAllowed),
+        let label = Label {
+            dpc,
+            opc,
+            sls: self.code(),
+        };
+        let at = write_at(out, 0, &label.write());
+        let at = write_at(out, at, &[self.heading()]);
+        match self.last_accepted() {
+            Some(number) => {
+                let [high, middle, low] = number.to_be_bytes();
+                write_at(out, at, &[low, middle, high])
+            }
+            None => at,
+        }
+    }
+
+    /// The heading of this message.
+    fn heading(&self) -> u8
+        ensures { result ≡ management_heading self.now }
+    {
+        match self {
+            Management::ExtendedChangeoverOrder(_, _) => EXTENDED_CHANGEOVER_ORDER,
+            Management::ExtendedChangeoverAcknowledgement(_, _) => {
+                EXTENDED_CHANGEOVER_ACKNOWLEDGEMENT
+            }
+            Management::EmergencyChangeoverOrder(_) => EMERGENCY_CHANGEOVER_ORDER,
+            Management::EmergencyChangeoverAcknowledgement(_) => {
+                EMERGENCY_CHANGEOVER_ACKNOWLEDGEMENT
+            }
+            Management::TrafficRestartAllowed => TRAFFIC_RESTART_ALLOWED,
+        }
+    }
+
+    /// What stands in the label's place of the selection: the link code of a message that has one, else 0.
+    fn code(&self) -> Sls
+        ensures { result ≡ code_of self.now }
+    {
+        match self {
+            Management::ExtendedChangeoverOrder(slc, _) => *slc,
+            Management::ExtendedChangeoverAcknowledgement(slc, _) => *slc,
+            Management::EmergencyChangeoverOrder(slc) => *slc,
+            Management::EmergencyChangeoverAcknowledgement(slc) => *slc,
+            Management::TrafficRestartAllowed => no_code(),
+        }
+    }
+
+    /// The number of the last message that the sender accepted, in a message that tells it.
+    fn last_accepted(&self) -> Option<Number24>
+        ensures { result ≡ last_accepted_of self.now }
+    {
+        match self {
+            Management::ExtendedChangeoverOrder(_, number) => Some(*number),
+            Management::ExtendedChangeoverAcknowledgement(_, number) => Some(*number),
             _ => None,
         }
     }
+}
+
+/// What stands in the place of a link code in a message that has none.
+fn no_code() -> Sls
+    ensures { result ≡ 0 }
+{
+    let Some(code) = Sls::new(0) else {
+        unreachable!()
+    };
+    code
+}
+
+/// The number in front of the fields, low octet first.
+fn number_in(fields: &[u8]) -> Result<Number24, MgmtFault>
+    ensures { result ≡ number_in fields.now }
+{
+    let [low, middle, high, ..] = *fields else {
+        return Err(MgmtFault::Short);
+    };
+    Ok(Number24::from_be_bytes([high, middle, low]))
 }

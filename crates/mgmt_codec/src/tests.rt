@@ -27,6 +27,32 @@ fn answer_to_a_link_test(rt: HostRuntime) {
     assert!(rt; is_answered(&sif, &want));
 }
 
+/// Whether the message of this field is read, and written the same from point 1 to point 2.
+fn is_written(sif: &[u8]) -> bool {
+    let (Some(here), Some(there)) = (PointCode::new(1), PointCode::new(2)) else {
+        return false;
+    };
+    let mut out = [0; MANAGEMENT_OCTETS];
+    match Management::read(sif) {
+        Ok(message) => {
+            let count = message.write(there, here, &mut out);
+            &out[..count] == sif
+        }
+        Err(_) => false,
+    }
+}
+
+#[test]
+fn changeover_messages(rt: HostRuntime) {
+    assert!(rt; is_written(&[0x02, 0x40, 0x00, 0x10, 0x31, 0x04, 0x00, 0x00]));
+    assert!(rt; is_written(&[0x02, 0x40, 0x00, 0x20, 0x41, 0x01, 0x02, 0x03]));
+    assert!(rt; is_written(&[0x02, 0x40, 0x00, 0x10, 0x12]));
+    assert!(rt; is_written(&[0x02, 0x40, 0x00, 0x10, 0x22]));
+    assert!(rt;
+        Management::read(&[0x02, 0x40, 0x00, 0x10, 0x31, 0x04, 0x00]) == Err(MgmtFault::Short)
+    );
+}
+
 /// The fault of a link test behind a label, by number; 0 where it has none.
 fn test_fault(octets: &[u8]) -> u8 {
     match LinkTest::read(octets) {

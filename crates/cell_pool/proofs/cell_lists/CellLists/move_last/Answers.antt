@@ -1,0 +1,11 @@
+-- The last cell of a list passes to one.
+use Rattle.std.proofs.Common.{◌<◌, List, length, ap}
+use Rattle.signalling_types.specs.Message.{Message}
+use Rattle.cell_pool.proofs.Reading.{within_rings, last-lists}
+use Rattle.cell_pool.proofs.cell_lists.CellLists.move_last.Goals as goal
+
+pub returns : goal.returns
+returns c =
+    let inside : c.args.from < length c.self.inside.numbers.rings = within_rings c.self.inside _ c.args.from c.self.view_is c.requires.from in
+    let target : c.args.to < length c.self.inside.numbers.rings = within_rings c.self.inside _ c.args.to c.self.view_is c.requires.to in
+    rw (← c.self.view_is, c.move_last.ensures) (ap (λ (lists : List (List Message)). record { lists = lists; cells = c.self.inside.numbers.total }) (last-lists c.self.inside.cells.items _ c.args.from c.args.to inside target))

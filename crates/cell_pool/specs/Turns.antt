@@ -1,0 +1,19 @@
+-- A list is gone through once, message by message: each goes to another list or stays.
+use Rattle.std.specs.Prelude.{ℕ, Bool, ◌-◌, List, Option, Some, None, false, length, slice_get, if◌then◌else◌}
+use Rattle.cell_pool.specs.Moves.{list_at, first_behind, last_before}
+
+-- whether there is an element that a test picks
+abbrev pub is_picked : {A : Type 0} → (A → Bool) → Option A → Bool
+is_picked picks (Some x) = picks x
+is_picked picks None = false
+
+-- the first goes to the end of another list where it is picked, else to the end of its own
+abbrev pub turned : {A : Type 0} → (A → Bool) → List (List A) → (from to : ℕ) → List (List A)
+turned picks lists from to =
+    first_behind lists from (if is_picked picks (slice_get (list_at lists from) 0) then to else from)
+
+-- the last goes before all of another list where it is picked, else before all of its own
+abbrev pub turned_back : {A : Type 0} → (A → Bool) → List (List A) → (from to : ℕ) → List (List A)
+turned_back picks lists from to =
+    last_before lists from
+    (if is_picked picks (slice_get (list_at lists from) (length (list_at lists from) - 1)) then to else from)

@@ -1,0 +1,4 @@
+pub mod Completion
+pub mod Failure
+pub mod Laws
+pub mod Kept

@@ -1,0 +1,3 @@
+pub mod Counting
+pub mod Clearing
+pub mod Pairing

@@ -1,0 +1,10 @@
+//! Which flows are held, and by which procedures: a flow that some procedure holds sends nothing.
+#![tactic(auto)]
+
+pub mod holds;
+pub mod laws;
+pub mod procedure;
+mod row;
+
+pub use holds::Holds;
+pub use procedure::Procedure;
