@@ -7,7 +7,7 @@ use stp_types::Limits;
 /// Octets of a routing label, which each message has (Q.704 §2.2).
 pub(crate) const LABEL_OCTETS: usize = 4;
 
-/// Destinations at least: the adjacent point, and one behind it.
+/// Destinations at least: the adjacent point of a link set, and one behind it.
 pub(crate) const FEWEST_DESTINATIONS: usize = 2;
 
 /// What a message meets.
@@ -31,17 +31,21 @@ pub(crate) struct Arguments {
     pub kind: Kind,
     pub octets: usize,
     pub destinations: usize,
+    /// Links in the settings. One of them carries the messages; the others are down.
+    pub links: usize,
     pub count: u32,
 }
 
 impl Arguments {
-    /// Reads the four words. None where one of them is missing, unknown or out of range.
+    /// Reads the five words. None where one of them is missing, unknown or out of range, or where each destination is the
+    /// adjacent point of a link set.
     pub(crate) fn read(words: &[String]) -> Option<Arguments>
         ensures octets { IfSome result (λ arguments. arguments.octets ≤ Limits.SIF_OCTETS) }
         ensures label { IfSome result (λ arguments. LABEL_OCTETS ≤ arguments.octets) }
         ensures few { IfSome result (λ arguments. arguments.destinations ≤ Limits.DESTINATIONS) }
+        ensures links { IfSome result (λ arguments. arguments.links ≤ Limits.LINKS) }
     {
-        let [kind, octets, destinations, count] = words else {
+        let [kind, octets, destinations, links, count] = words else {
             return None;
         };
         let kind = kind_of(kind.as_str())?;
@@ -51,14 +55,27 @@ impl Arguments {
             FEWEST_DESTINATIONS,
             Limits::DESTINATIONS,
         )?;
+        let links = within(links.as_str(), 1, Limits::LINKS)?;
         let count = count.as_str().parse::<u32>().ok()?;
+        if destinations <= sets_of(links) {
+            return None;
+        }
         Some(Arguments {
             kind,
             octets,
             destinations,
+            links,
             count,
         })
     }
+}
+
+/// How many link sets so many links make, with as many links in each as may be.
+pub(crate) fn sets_of(links: usize) -> usize
+    requires { links ≤ Limits.LINKS }
+    ensures { result ≤ Limits.LINKS }
+{
+    links.div_ceil(Limits::LINKS_PER_SET)
 }
 
 /// The kind of this name.

@@ -2,13 +2,14 @@
 
 ghost use Rattle.std.specs.Prelude.{◌≤◌};
 
+use crate::arguments::sets_of;
 use std::alloc::{AllocError, Global};
 use stp_types::{DestinationDraft, Draft, Limits, LinkDraft, SetDraft, TimersDraft};
 
 /// The node's own point.
 pub(crate) const OWN: u16 = 1;
 
-/// The point at the other end of the link; further destinations have the numbers after it.
+/// The point at the other end of the first link; further destinations have the numbers after it.
 pub(crate) const ADJACENT: u16 = 2;
 
 /// The network indicator of the international network (Q.704 §14.2.2).
@@ -20,13 +21,17 @@ pub(crate) const WINDOW: usize = 128;
 /// The service indicator of the ISDN user part (Q.704 §14.2.1).
 pub(crate) const ISUP: u8 = 5;
 
-/// The name of the one link set, and of the one link.
-const NAME: &str = "east";
-
-/// The settings of a node with one link, and so many destinations behind it.
-pub(crate) fn draft_with(alloc: Global, destinations: usize) -> Result<Draft, AllocError>
-    requires { destinations ≤ Limits.DESTINATIONS }
+/// The settings of a node with so many links, and so many destinations. The adjacent point of each link set is a
+/// destination; the others lie behind the first set.
+pub(crate) fn draft_with(
+    alloc: Global,
+    destinations: usize,
+    links: usize,
+) -> Result<Draft, AllocError>
+    requires destinations { destinations ≤ Limits.DESTINATIONS }
+    requires links { links ≤ Limits.LINKS }
 {
+    let sets = sets_of(links);
     Ok(Draft {
         own: OWN as i64,
         network: INTERNATIONAL as i64,
@@ -35,9 +40,9 @@ pub(crate) fn draft_with(alloc: Global, destinations: usize) -> Result<Draft, Al
         users: vec![in alloc; ISUP as i64]?,
         subsystems: Vec::new(alloc),
         timers: timers(),
-        sets: sets(alloc)?,
-        links: links(alloc)?,
-        destinations: destinations_after(alloc, destinations)?,
+        sets: set_drafts(alloc, sets)?,
+        links: link_drafts(alloc, links)?,
+        destinations: destination_drafts(alloc, destinations, sets)?,
         titles: Vec::new(alloc),
     })
 }
@@ -64,38 +69,57 @@ fn timers() -> TimersDraft {
     }
 }
 
-fn sets(alloc: Global) -> Result<Vec<SetDraft>, AllocError> {
-    let name = String::from_str(alloc, NAME)?;
+/// The name of the link set of this number.
+fn set_name(alloc: Global, set: usize) -> Result<String, AllocError> {
+    format!(in alloc; "s{set}")
+}
+
+/// So many link sets.
+fn set_drafts(alloc: Global, count: usize) -> Result<Vec<SetDraft>, AllocError>
+    requires { count ≤ Limits.LINKS }
+{
     let mut sets = Vec::new(alloc);
-    sets.push(SetDraft {
-        name,
-        adjacent: ADJACENT as i64,
-    })?;
+    for set in 0..count {
+        sets.push(SetDraft {
+            name: set_name(alloc, set)?,
+            adjacent: ADJACENT as i64 + set as i64,
+        })?;
+    }
     Ok(sets)
 }
 
-fn links(alloc: Global) -> Result<Vec<LinkDraft>, AllocError> {
-    let name = String::from_str(alloc, NAME)?;
-    let set = String::from_str(alloc, NAME)?;
+/// So many links, of which each set has as many as it may have.
+fn link_drafts(alloc: Global, count: usize) -> Result<Vec<LinkDraft>, AllocError> {
     let mut links = Vec::new(alloc);
-    links.push(LinkDraft { name, set, slc: 0 })?;
+    for link in 0..count {
+        links.push(LinkDraft {
+            name: format!(in alloc; "l{link}")?,
+            set: set_name(alloc, link / Limits::LINKS_PER_SET)?,
+            slc: (link % Limits::LINKS_PER_SET) as i64,
+        })?;
+    }
     Ok(links)
 }
 
-/// So many destinations, from the adjacent point on.
-fn destinations_after(alloc: Global, count: usize) -> Result<Vec<DestinationDraft>, AllocError>
+/// So many destinations, the adjacent point of each set before the others.
+fn destination_drafts(
+    alloc: Global,
+    count: usize,
+    sets: usize,
+) -> Result<Vec<DestinationDraft>, AllocError>
     requires { count ≤ Limits.DESTINATIONS }
 {
     let mut destinations = Vec::new(alloc);
     for index in 0..count {
-        destinations.push(destination(alloc, ADJACENT as i64 + index as i64)?)?;
+        let set = if index < sets { index } else { 0 };
+        destinations.push(destination(alloc, ADJACENT as i64 + index as i64, set)?)?;
     }
     Ok(destinations)
 }
 
-/// A destination by the one link set.
-fn destination(alloc: Global, point: i64) -> Result<DestinationDraft, AllocError> {
+/// A destination by one link set.
+fn destination(alloc: Global, point: i64, set: usize) -> Result<DestinationDraft, AllocError> {
     let mut sets = Vec::new(alloc);
-    sets.push(String::from_str(alloc, NAME)?)?;
+    sets.push(set_name(alloc, set)?)?;
     Ok(DestinationDraft { point, sets })
 }

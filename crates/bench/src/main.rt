@@ -1,7 +1,7 @@
-//! `bench KIND OCTETS DESTINATIONS COUNT`: what a message costs.
+//! `bench KIND OCTETS DESTINATIONS LINKS COUNT`: what a message costs.
 //!
 //! Carries COUNT messages, whose signalling information fields have OCTETS octets, through an exchange with
-//! so many destinations, and prints how many frames went out with a checksum of their octets. Count the
+//! so many destinations and links, and prints how many frames went out with a checksum of their octets. Count the
 //! instructions of two runs: their difference by that of their COUNTs is what a message costs.
 #![tactic(auto)]
 
@@ -39,8 +39,9 @@ fn words(rt: &HostRuntime) -> io::Result<Vec<String>> {
 fn total_of(alloc: Global, arguments: &Arguments) -> Option<Total>
     requires octets { arguments.now.octets ≤ Limits.SIF_OCTETS }
     requires destinations { arguments.now.destinations ≤ Limits.DESTINATIONS }
+    requires links { arguments.now.links ≤ Limits.LINKS }
 {
-    let mut peer = Peer::of_exchange_with(alloc, arguments.destinations)?;
+    let mut peer = Peer::of_exchange_with(alloc, arguments.destinations, arguments.links)?;
     carry(&mut peer, arguments);
     Some(peer.total())
 }
@@ -62,7 +63,7 @@ fn report(rt: &HostRuntime, total: Option<Total>) -> io::Result<ExitCode> {
 /// Says which words are asked for.
 fn refuse(rt: &HostRuntime) -> io::Result<ExitCode> {
     println!(rt;
-        "usage: bench forward|burst|submit|local|acknowledgement OCTETS DESTINATIONS COUNT"
+        "usage: bench forward|burst|submit|local|acknowledgement OCTETS DESTINATIONS LINKS COUNT"
     )?;
     Ok(ExitCode::from(1))
 }

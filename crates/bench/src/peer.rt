@@ -40,12 +40,14 @@ pub(crate) struct Total {
 }
 
 impl Peer {
-    /// The peer of an exchange with so many destinations, its link in service. None where memory ran out.
-    pub(crate) fn of_exchange_with(alloc: Global, destinations: usize) -> Option<Peer>
-        requires { destinations ≤ Limits.DESTINATIONS }
+    /// The peer of an exchange with so many destinations and links, the first link in service. None where memory ran
+    /// out.
+    pub(crate) fn of_exchange_with(alloc: Global, destinations: usize, links: usize) -> Option<Peer>
+        requires destinations { destinations ≤ Limits.DESTINATIONS }
+        requires links { links ≤ Limits.LINKS }
     {
         let submitted = Msu::new(0, &[]).ok()?;
-        let exchange = exchange_with(alloc, destinations)?;
+        let exchange = exchange_with(alloc, destinations, links)?;
         let mut peer = Peer {
             exchange,
             link: LinkId::new(0),
@@ -135,11 +137,12 @@ impl Peer {
     }
 }
 
-/// The exchange with so many destinations, before its first event. None where memory ran out.
-fn exchange_with(alloc: Global, destinations: usize) -> Option<Exchange>
-    requires { destinations ≤ Limits.DESTINATIONS }
+/// The exchange with so many destinations and links, before its first event. None where memory ran out.
+fn exchange_with(alloc: Global, destinations: usize, links: usize) -> Option<Exchange>
+    requires destinations { destinations ≤ Limits.DESTINATIONS }
+    requires links { links ≤ Limits.LINKS }
 {
-    let draft = draft_with(alloc, destinations).ok()?;
+    let draft = draft_with(alloc, destinations, links).ok()?;
     let settings = Settings::check(alloc, draft).ok()?;
     Exchange::boot(alloc, settings).ok()
 }

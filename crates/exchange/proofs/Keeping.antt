@@ -30,7 +30,7 @@ use Rattle.mgmt_codec.specs.declared.fault.MgmtFault.{MgmtFault}
 use Rattle.mgmt_codec.specs.declared.link_test.TestKind.{TestKind}
 use Rattle.mgmt_codec.specs.declared.link_test.TestKind.TheVariants.{Test, Acknowledgement}
 use Rattle.mgmt_codec.specs.declared.management.Management.{Management}
-use Rattle.mgmt_codec.specs.declared.management.Management.TheVariants.{TrafficRestartAllowed}
+use Rattle.mgmt_codec.specs.declared.management.Management.TheVariants.{TrafficRestartAllowed, ExtendedChangeoverOrder, ExtendedChangeoverAcknowledgement, EmergencyChangeoverOrder, EmergencyChangeoverAcknowledgement}
 use Rattle.mgmt_codec.specs.LinkTests.{LinkTestValue, read_link_test}
 use Rattle.mgmt_codec.specs.Management.{read_management}
 use Rattle.routing_label.specs.declared.discrimination.Discrimination.{Discrimination}
@@ -165,6 +165,10 @@ module _ {P Q : Type 0} (p : QueueKind P) (q : QueueKind Q) (h : P → Q) (IsFit
   do_read-kept : (r : Result Management MgmtFault) (n : Node P) → IsFit n.queues → Keeps (do_read r (keep h n)) (do_read r n)
   do_read-kept (Err fault) n f = parted _ n.parts n.queues f
   do_read-kept (Ok TrafficRestartAllowed) n f = parted _ n.parts n.queues f
+  do_read-kept (Ok (ExtendedChangeoverOrder slc number)) n f = parted _ n.parts n.queues f
+  do_read-kept (Ok (ExtendedChangeoverAcknowledgement slc number)) n f = parted _ n.parts n.queues f
+  do_read-kept (Ok (EmergencyChangeoverOrder slc)) n f = parted _ n.parts n.queues f
+  do_read-kept (Ok (EmergencyChangeoverAcknowledgement slc)) n f = parted _ n.parts n.queues f
 
   manage-kept : (l : ℕ) (m : Message) (n : Node P) → IsFit n.queues → Keeps (manage q c l m (keep h n)) (manage p c l m n)
   manage-kept l m n f =

@@ -22,7 +22,7 @@ use Rattle.mgmt_codec.specs.declared.fault.MgmtFault.{MgmtFault}
 use Rattle.mgmt_codec.specs.declared.link_test.TestKind.{TestKind}
 use Rattle.mgmt_codec.specs.declared.link_test.TestKind.TheVariants.{Test, Acknowledgement}
 use Rattle.mgmt_codec.specs.declared.management.Management.{Management}
-use Rattle.mgmt_codec.specs.declared.management.Management.TheVariants.{TrafficRestartAllowed}
+use Rattle.mgmt_codec.specs.declared.management.Management.TheVariants.{TrafficRestartAllowed, ExtendedChangeoverOrder, ExtendedChangeoverAcknowledgement, EmergencyChangeoverOrder, EmergencyChangeoverAcknowledgement}
 use Rattle.mgmt_codec.specs.LinkTests.{LinkTestValue, read_link_test}
 use Rattle.mgmt_codec.specs.Management.{read_management}
 use Rattle.routing_label.specs.declared.discrimination.Discrimination.{Discrimination}
@@ -121,6 +121,10 @@ module _ (c : Configuration) where
   do_read-leaves : (r : Result Management MgmtFault) (n : Node (List Queue)) → Leaves (do_read r n) n
   do_read-leaves (Err fault) n = refused (cause_of fault) n
   do_read-leaves (Ok TrafficRestartAllowed) n = ignored n n
+  do_read-leaves (Ok (ExtendedChangeoverOrder slc number)) n = refused causes.NotInProfile n
+  do_read-leaves (Ok (ExtendedChangeoverAcknowledgement slc number)) n = refused causes.NotInProfile n
+  do_read-leaves (Ok (EmergencyChangeoverOrder slc)) n = refused causes.NotInProfile n
+  do_read-leaves (Ok (EmergencyChangeoverAcknowledgement slc)) n = refused causes.NotInProfile n
 
   manage-leaves : (link : ℕ) (m : Message) (n : Node (List Queue)) → Leaves (manage whole c link m n) n
   manage-leaves link m n =

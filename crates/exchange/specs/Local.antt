@@ -50,9 +50,10 @@ cause_of faults.NotInProfile = NotInProfile
 abbrev pub test_answer : Configuration → ℕ → LinkTestValue → Message
 test_answer c point test = record { sio = own_sio c testing; sif = spelled point c.own (answer_to test) }
 
--- the adjacent point has restarted, which asks nothing of this node
+-- that the adjacent point has restarted asks nothing of this node; the messages of the changeover have no part here yet
 abbrev pub do_management : {Q : Type 0} → Management → Node Q → Done Q
 do_management TrafficRestartAllowed node = answer Ignored node
+do_management _ node = refuse NotInProfile node
 
 abbrev pub do_read : {Q : Type 0} → Result Management MgmtFault → Node Q → Done Q
 do_read (Err fault) node = refuse (cause_of fault) node

@@ -110,6 +110,7 @@ impl Exchange {
         match Management::read(sif) {
             Err(fault) => Outcome::Refused(cause_of(fault)),
             Ok(Management::TrafficRestartAllowed) => Outcome::Ignored,
+            Ok(_) => Outcome::Refused(Cause::NotInProfile),
         }
     }
 }
