@@ -37,8 +37,8 @@ pub(crate) struct Arguments {
 }
 
 impl Arguments {
-    /// Reads the five words. None where one of them is missing, unknown or out of range, or where each destination is the
-    /// adjacent point of a link set.
+    /// Reads the five words. None where one of them is missing, unknown or out of range, or where each destination is
+    /// the adjacent point of a link set.
     pub(crate) fn read(words: &[String]) -> Option<Arguments>
         ensures octets { IfSome result (λ arguments. arguments.octets ≤ Limits.SIF_OCTETS) }
         ensures label { IfSome result (λ arguments. LABEL_OCTETS ≤ arguments.octets) }

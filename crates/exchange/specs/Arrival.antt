@@ -5,7 +5,8 @@ use Rattle.settings_rows.specs.Configuration.{Configuration}
 use Rattle.stp_types.specs.Readings.{destination_place}
 use Rattle.signalling_types.specs.declared.limits.TheConstants.Limits.{MANAGEMENT_MESSAGES}
 use Rattle.signalling_types.specs.declared.cause.Cause.{Cause}
-use Rattle.signalling_types.specs.declared.cause.Cause.TheVariants.{UnknownDestination, PoolFull, ManagementFull, NoRoute}
+use Rattle.signalling_types.specs.declared.cause.Cause.TheVariants.{UnknownDestination, NoRoute}
+use Rattle.signalling_types.specs.declared.cause.Cause.TheVariants.{PoolFull, ManagementFull}
 use Rattle.signalling_types.specs.declared.outcome.Outcome.TheVariants.{Queued}
 use Rattle.exchange.specs.State.{QueueKind, Node, Done, refuse}
 use Rattle.exchange.specs.Routing.{link_of}
