@@ -28,7 +28,8 @@ GoesOn (Printed line) run after = (after ≡ record run { wanted = after.wanted;
 abbrev pub IsNew : Run → Type 0
 IsNew run = (run.file ≡ None) × (run.script.items ≡ []) × (run.wanted.items ≡ [])
 
--- a command begins a run, behind one that has to be good; every other line but a remark belongs to the run that was begun
+-- a command begins a run, behind one that has to be good; every other line but a remark belongs to the run that was
+-- begun
 abbrev pub Plays : LineValue → Option Run → Option Run → Type 0
 Plays Remark run after = after ≡ run
 Plays (Command words) run after = IfSome run IsGood × IsSomeAnd after IsNew

@@ -1,6 +1,6 @@
 -- What a run of the program prints.
-use Rattle.std.specs.Prelude.{◌≡◌, ◌⊎◌, ℕ, List, [], ◌∷◌, ◌++◌, codes, Option, None, Some, Ok, Err, String, string_bytes}
-use Rattle.std.specs.Prelude.{if◌then◌else◌, bytes_eq}
+use Rattle.std.specs.Prelude.{◌≡◌, ◌⊎◌, ℕ, List, [], ◌∷◌, ◌++◌, codes, Option, None, Some, Ok, Err}
+use Rattle.std.specs.Prelude.{String, string_bytes, if◌then◌else◌, bytes_eq}
 use Rattle.std.specs.Global.{Global}
 use Rattle.stp_node.specs.Folders.{FileRead}
 use Rattle.stp_node.specs.Program.{Does}
@@ -19,7 +19,8 @@ status_line status.Line = codes "[3]\n"
 status_line status.Stream = codes "[4]\n"
 
 -- the program prints this for these words and this script, and no read of the script or write fails
-pub record Prints (words : List (String Global)) (reads : List ℕ → FileRead → Type 0) (script printed : List ℕ) : Type 0 where
+pub record Prints (words : List (String Global)) (reads : List ℕ → FileRead → Type 0) (script printed : List ℕ)
+    : Type 0 where
   pub status : Status
   pub input : Input
   pub output : Output
