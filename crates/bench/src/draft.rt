@@ -9,7 +9,7 @@ use stp_types::{DestinationDraft, Draft, Limits, LinkDraft, SetDraft, TimersDraf
 /// The node's own point.
 pub(crate) const OWN: u16 = 1;
 
-/// The point at the other end of the first link; further destinations have the numbers after it.
+/// The point at the other end of the first links; further destinations have the numbers after it.
 pub(crate) const ADJACENT: u16 = 2;
 
 /// The network indicator of the international network (Q.704 §14.2.2).

@@ -40,8 +40,8 @@ pub(crate) struct Total {
 }
 
 impl Peer {
-    /// The peer of an exchange with so many destinations and links, the first link in service. None where memory ran
-    /// out.
+    /// The peer of an exchange with so many destinations and links. The last link of the first set is in service and
+    /// carries all messages, so that the others of its set are looked at in vain. None where memory ran out.
     pub(crate) fn of_exchange_with(alloc: Global, destinations: usize, links: usize) -> Option<Peer>
         requires destinations { destinations ≤ Limits.DESTINATIONS }
         requires links { links ≤ Limits.LINKS }
@@ -50,7 +50,7 @@ impl Peer {
         let exchange = exchange_with(alloc, destinations, links)?;
         let mut peer = Peer {
             exchange,
-            link: LinkId::new(0),
+            link: last_of_first_set(links),
             taken: Number24::zero().previous(),
             next: Number24::zero(),
             empty: Incoming::empty(),
@@ -135,6 +135,12 @@ impl Peer {
     pub(crate) fn total(&self) -> Total {
         self.total
     }
+}
+
+/// The last link of the first set, where a node has so many links.
+fn last_of_first_set(links: usize) -> LinkId {
+    let last = links.clamp(1, Limits::LINKS_PER_SET) - 1;
+    LinkId::new(last as u8)
 }
 
 /// The exchange with so many destinations and links, before its first event. None where memory ran out.

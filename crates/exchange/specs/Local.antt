@@ -14,6 +14,10 @@ use Rattle.mgmt_codec.specs.declared.link_test.TestKind.{TestKind}
 use Rattle.mgmt_codec.specs.declared.link_test.TestKind.TheVariants.{Test, Acknowledgement}
 use Rattle.mgmt_codec.specs.declared.management.Management.{Management}
 use Rattle.mgmt_codec.specs.declared.management.Management.TheVariants.{TrafficRestartAllowed}
+use Rattle.mgmt_codec.specs.declared.management.Management.TheVariants.{ExtendedChangeoverOrder}
+use Rattle.mgmt_codec.specs.declared.management.Management.TheVariants.{ExtendedChangeoverAcknowledgement}
+use Rattle.mgmt_codec.specs.declared.management.Management.TheVariants.{EmergencyChangeoverOrder}
+use Rattle.mgmt_codec.specs.declared.management.Management.TheVariants.{EmergencyChangeoverAcknowledgement}
 use Rattle.mgmt_codec.specs.LinkTests.{LinkTestValue, read_link_test, spelled, answer_to}
 use Rattle.mgmt_codec.specs.Management.{read_management}
 use Rattle.exchange.specs.State.{QueueKind, Node, Done, answer, refuse}
@@ -53,7 +57,10 @@ test_answer c point test = record { sio = own_sio c testing; sif = spelled point
 -- that the adjacent point has restarted asks nothing of this node; the messages of the changeover have no part here yet
 abbrev pub do_management : {Q : Type 0} → Management → Node Q → Done Q
 do_management TrafficRestartAllowed node = answer Ignored node
-do_management _ node = refuse NotInProfile node
+do_management (ExtendedChangeoverOrder slc number) node = refuse NotInProfile node
+do_management (ExtendedChangeoverAcknowledgement slc number) node = refuse NotInProfile node
+do_management (EmergencyChangeoverOrder slc) node = refuse NotInProfile node
+do_management (EmergencyChangeoverAcknowledgement slc) node = refuse NotInProfile node
 
 abbrev pub do_read : {Q : Type 0} → Result Management MgmtFault → Node Q → Done Q
 do_read (Err fault) node = refuse (cause_of fault) node

@@ -110,7 +110,12 @@ impl Exchange {
         match Management::read(sif) {
             Err(fault) => Outcome::Refused(cause_of(fault)),
             Ok(Management::TrafficRestartAllowed) => Outcome::Ignored,
-            Ok(_) => Outcome::Refused(Cause::NotInProfile),
+            Ok(
+                Management::ExtendedChangeoverOrder(_, _)
+                | Management::ExtendedChangeoverAcknowledgement(_, _)
+                | Management::EmergencyChangeoverOrder(_)
+                | Management::EmergencyChangeoverAcknowledgement(_),
+            ) => Outcome::Refused(Cause::NotInProfile),
         }
     }
 }
