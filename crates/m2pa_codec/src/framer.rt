@@ -63,8 +63,8 @@ impl Framer {
     }
 
     /// The first text once it is whole: it lies in front of the buffer, and is held no longer. Else
-    /// what is held stays, and the buffer too; behind a text the buffer stays in any case. Broken where the length field in a frame's place is
-    /// under 8 or above 4,096, then and from then on.
+    /// what is held stays. Nothing else of the buffer changes. Broken where the length field in a
+    /// frame's place is under 8 or above 4,096, then and from then on.
     pub fn next(&mut self, out: &mut [u8; Limits::FRAME_OCTETS]) -> Next
         ensures answer { result ≡ next_in self.old }
         ensures held { self.new ≡ left_by result self.old }

@@ -20,8 +20,8 @@ const EMPTY: [u8; 16] = [
 /// state goes out; or the first letter of why the link fails, which the one notice that is left says: `s` status, `t`
 /// timer, and `q` for sequence. The link is then down.
 ///
-/// Down, with no association, and with one, two ways; NotAligned; Aligned, two ways, of which one hears Ready too early;
-/// Proving, four ways; Proving with the peer's Ready, two ways; AlignedReady; InService, five ways.
+/// Down, with no association, and with one, two ways; NotAligned; Aligned, two ways, of which one hears Ready too
+/// early; Proving, four ways; Proving with the peer's Ready, two ways; AlignedReady; InService, five ways.
 const ROWS: &str = "\
 |..........+
 u5d|..........+
