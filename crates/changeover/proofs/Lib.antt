@@ -1,2 +1,4 @@
 pub mod Completing
 pub mod Keeping
+pub mod Splicing
+pub mod Taking

@@ -1,4 +1,5 @@
--- Completing a changeover: what becomes of the messages of the link that failed (Q.704 §5.4, with the numbers of Q.2210).
+-- Completing a changeover: what becomes of the messages of the link that failed (Q.704 §5.4, with the numbers of
+-- Q.2210).
 use Rattle.std.specs.Prelude.{ℕ, ◌-◌, not, List, [], ◌++◌, take, drop, filter, Option, Some, None}
 use Rattle.std.specs.Option.{option_and_then}
 use Rattle.signalling_types.specs.Message.{Message, is_management}

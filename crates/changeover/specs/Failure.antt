@@ -19,8 +19,8 @@ abbrev pub is_taken : (link : Option ℕ) (failed : ℕ) → Queue → (point sl
 is_taken link failed q point sls =
     goes_by link failed || list_any (is_of_flow point sls) (drop q.confirmed q.all)
 
--- where a link to the adjacent point is left, an order goes there, with the number of the last message that was accepted,
--- T2 runs, and the answer is awaited; else T1 runs
+-- where a link to the adjacent point is left, an order goes there, with the number of the last message that was
+-- accepted, T2 runs, and the answer is awaited; else T1 runs
 pub data Beginning : Type 0 where
   Orders : (number : ℕ) → Beginning
   Waits : Beginning

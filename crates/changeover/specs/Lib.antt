@@ -2,3 +2,4 @@ pub mod Completion
 pub mod Failure
 pub mod Laws
 pub mod Kept
+pub mod Lanes

@@ -1,7 +1,8 @@
-//! What holds of a completion.
+//! What holds of a failure and of a completion.
 
 ghost use Rattle.changeover.specs.Kept.{kept_completes_alike};
-ghost use Rattle.changeover.specs.Laws.{each_once, lost_then_moved, none_lost};
+ghost use Rattle.changeover.specs.Lanes.{splicing_completes};
+ghost use Rattle.changeover.specs.Laws.{each_once, lost_then_moved, none_lost, takes_what_waits};
 
 /// The user messages of a failed link from the last confirmed one on are, in order and each once: those that the number
 /// confirms, those named as lost, and those that move.
@@ -22,4 +23,15 @@ pub fn reasonable_number_loses_none()
 /// What is kept of a queue completes as the whole queue does.
 pub fn kept_queue_completes_alike()
     ensures { kept_completes_alike }
+{}
+
+/// Dropping what is accepted, and putting the user messages before all that is held, completes: in order, with the
+/// management messages left.
+pub fn splicing_lists_completes()
+    ensures { splicing_completes }
+{}
+
+/// The changeover holds the flow of each user message that stands unconfirmed on the failed link.
+pub fn waiting_flows_are_taken()
+    ensures { takes_what_waits }
 {}
