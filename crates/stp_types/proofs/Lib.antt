@@ -1,4 +1,5 @@
 pub mod Places
+pub mod Adjacent
 pub mod Rows
 pub mod WellNumbers
 pub mod WellSets

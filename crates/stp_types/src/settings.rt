@@ -7,7 +7,7 @@ ghost use Rattle.std.specs.Prelude.{All, IfOk, IfSome, OnOk, IfErr, ◌⊎◌, S
 ghost use Rattle.std.specs.Prelude.{nat_eq, slice_get};
 ghost use Rattle.settings_check.specs.Meaning.{settings_of};
 ghost use Rattle.settings_check.specs.FirstFault.{first_fault};
-ghost use Rattle.stp_types.specs.Readings.{link_place, destination_place, set_place};
+ghost use Rattle.stp_types.specs.Readings.{link_place, destination_place, first_to, set_place};
 ghost use Rattle.stp_types.specs.Well.{IsWell, IsWithin, IsSet, IsLink, IsDestination, IsTitle, all_ticks};
 
 use settings_check::{Checked, check_draft};
@@ -184,20 +184,24 @@ impl Settings {
         self.checked.points.get_index_of(&point.code())
     }
 
-    /// The set whose links lead to this point. It looks through all sets.
+    /// The set whose links lead to this point. It costs the same however many sets there are.
     pub fn set_to(&self, point: PointCode) -> Option<SetId>
         ensures { result ≡ set_place self.now point }
     {
-        let place = set_position(&self.checked.sets, point)?;
-        Some(SetId::new(place as u8))
+        let checked = &self.checked;
+        let place = self.destination(point)?;
+        let destination = &checked.destinations[place];
+        first_to(&checked.sets, destination.sets(), point)
     }
 }
 
-/// The number of the set that leads to this point.
-fn set_position(sets: &[SetRow], point: PointCode) -> Option<usize>
-    ensures { result ≡ position (λ s. nat_eq point s.adjacent) sets.now }
+/// The first of these sets, where its links lead to this point.
+fn first_to(sets: &[SetRow], ids: &[SetId], point: PointCode) -> Option<SetId>
+    ensures { result ≡ first_to sets.now ids.now point }
 {
-    sets.iter().position(|row| point == row.adjacent())
+    let first = *ids.first()?;
+    let row = sets.get(first.index())?;
+    (row.adjacent() == point).then_some(first)
 }
 
 /// The number of the link of this name.
