@@ -25,8 +25,9 @@ def link_sets(count):
 
 
 def destinations(count, sets):
-    names = ", ".join(f'"{name}"' for name in SETS[:sets])
-    entries = "".join(f"{{point = {2 + i}, sets = [{names}]}},\n" for i in range(count))
+    # each set comes first somewhere, so that its adjacent point is led to
+    lists = [", ".join(f'"{name}"' for name in SETS[i:sets] + SETS[:i]) for i in range(sets)]
+    entries = "".join(f"{{point = {2 + i}, sets = [{lists[i % sets]}]}},\n" for i in range(count))
     return f"destination = [\n{entries}]\n"
 
 

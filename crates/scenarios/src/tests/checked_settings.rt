@@ -74,7 +74,11 @@ fn expect_answer<R: Abort>(rt: &R, alloc: Global, row: &str) -> Result<(), Fail>
 
 /// What checking the built-in settings with this change answers.
 fn answer(alloc: Global, change: &str) -> Result<String, Fail> {
-    let draft = changed(alloc, change)?;
+    answer_to(alloc, changed(alloc, change)?)
+}
+
+/// What checking these settings answers.
+fn answer_to(alloc: Global, draft: Draft) -> Result<String, Fail> {
     match Settings::check(alloc, draft) {
         Ok(_) => Ok(String::from_str(alloc, "ok")?),
         Err(fault) => Ok(format!(in alloc; "{fault}")?),
@@ -195,4 +199,39 @@ fn titles(alloc: Global, values: &str) -> Result<Vec<TitleDraft>, Fail> {
         })?;
     }
     Ok(all)
+}
+
+#[test]
+fn most_titles(rt: HostRuntime) -> Result<(), Fail> {
+    expect_titles(&rt, rt.alloc(), 65_535, "ok")?;
+    expect_titles(&rt, rt.alloc(), 65_536, "fault 7 title")
+}
+
+/// Checks the built-in settings with so many translation rows, and compares the answer.
+fn expect_titles<R: Abort>(rt: &R, alloc: Global, count: u32, want: &str) -> Result<(), Fail> {
+    let given = answer_to(alloc, with_titles(alloc, count)?)?;
+    assert_eq!(rt; given.as_str(), want, "of {count} titles");
+    Ok(())
+}
+
+/// The built-in settings with so many translation rows.
+fn with_titles(alloc: Global, count: u32) -> Result<Draft, Fail> {
+    let mut draft = built_in(alloc)?;
+    for number in 0..count {
+        draft.titles.push(title(alloc, number)?)?;
+    }
+    Ok(draft)
+}
+
+/// A translation row of its own for each number.
+fn title(alloc: Global, number: u32) -> Result<TitleDraft, Fail> {
+    Ok(TitleDraft {
+        translation: 0,
+        plan: 1,
+        nature: 4,
+        digits: format!(in alloc; "{number}")?,
+        point: 2,
+        route: String::from_str(alloc, "title")?,
+        ssn: None,
+    })
 }
