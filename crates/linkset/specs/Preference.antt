@@ -1,5 +1,5 @@
 -- In which order a flow tries the links of its set (own).
-use Rattle.std.specs.Prelude.{ℕ, zero, suc, ◌/◌, ◌%◌, Bool, false, List, [], ◌∷◌, Option, length, find, slice_index_or}
+use Rattle.std.specs.Prelude.{ℕ, zero, suc, ◌/◌, ◌%◌, Bool, false, List, [], ◌∷◌, Option, length, find, slice_get, slice_index_or}
 use Rattle.std.specs.List.{remove, list_any}
 use Rattle.std.specs.Option.{option_map}
 use Rattle.linkset.specs.declared.link_set.SetLink.{SetLink}
@@ -28,3 +28,7 @@ has_link in_service links = list_any (λ l. is_in_service in_service l.link) lin
 abbrev pub first_in_service : ℕ → List Bool → List SetLink → Option ℕ
 first_in_service selection in_service links =
     option_map (λ l. l.link) (find (λ l. is_in_service in_service l.link) (preference selection links))
+
+-- the link that a flow of this selection tries first
+abbrev pub first_tried : ℕ → List SetLink → Option ℕ
+first_tried selection links = option_map (λ l. l.link) (slice_get (preference selection links) 0)

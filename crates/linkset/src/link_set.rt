@@ -4,7 +4,7 @@ ghost use Rattle.std.specs.Prelude.{◌≡◌, ◌+◌, ◌<◌, ◌≤◌, ◌+
 ghost use Rattle.std.specs.Option.{option_to_list};
 ghost use Rattle.arrayvec.specs.ArrayVec.{array_vec_len};
 ghost use Rattle.linkset.specs.Members.{has_code, link_with, links_of};
-ghost use Rattle.linkset.specs.Preference.{preference, first_in_service, has_link, is_in_service};
+ghost use Rattle.linkset.specs.Preference.{preference, first_in_service, first_tried, has_link, is_in_service};
 
 use arrayvec::ArrayVec;
 use settings_rows::LinkRow;
@@ -85,6 +85,27 @@ impl LinkSet {
     /// The link of a flow of this selection: the first in service of those that it tries. `in_service` says of each
     /// link by its number whether it is in service.
     pub fn first_in_service(&self, sls: Sls, in_service: &[bool]) -> Option<LinkId>
+        ensures { result ≡ first_in_service sls in_service.now self.now }
+    {
+        match self.first_tried(sls) {
+            Some(link) if is_in_service(in_service, link) => Some(link),
+            _ => self.search(sls, in_service),
+        }
+    }
+
+    /// The link that a flow of this selection tries first.
+    fn first_tried(&self, sls: Sls) -> Option<LinkId>
+        ensures { result ≡ first_tried sls self.now }
+    {
+        let links = self.links.as_slice();
+        if links.is_empty() {
+            return None;
+        }
+        Some(links[usize::from(sls.number()) % links.len()].link)
+    }
+
+    /// The same as `first_in_service`, link by link.
+    fn search(&self, sls: Sls, in_service: &[bool]) -> Option<LinkId>
         ensures { result ≡ first_in_service sls in_service.now self.now }
     {
         let mut left = copied(&self.links);

@@ -1,7 +1,7 @@
 use Rattle.std.proofs.Common.{◌≡◌, ◌+◌}
 use Rattle.arrayvec.specs.ArrayVec.{array_vec_len}
 use Rattle.linkset.specs.Preference.{first_in_service}
-use Rattle.linkset.proofs.link_set.LinkSet.first_in_service.Given as goal
+use Rattle.linkset.proofs.link_set.LinkSet.search.Given as goal
 
 abbrev pub invariant-loop : goal.invariant-loop
 invariant-loop l = record {
