@@ -2,7 +2,8 @@
 #![tactic(auto)]
 
 ghost use Rattle.std.specs.Prelude.{◌≡◌, ℕ, ◌+◌, ◌%◌, ◌^◌, ◌<◌, ◌≤◌, ◌↔◌, IsTrue, IsSome, IfSome};
-ghost use Rattle.link_number.specs.Numbers.{next_number, previous_number, steps_between, is_within, three_octets, number_of};
+ghost use Rattle.link_number.specs.Numbers.{next_number, previous_number, steps_between, is_within};
+ghost use Rattle.link_number.specs.Numbers.{three_octets, number_of};
 
 use std::marker::Model;
 

@@ -1,5 +1,6 @@
 -- In which order a flow tries the links of its set (own).
-use Rattle.std.specs.Prelude.{ℕ, zero, suc, ◌/◌, ◌%◌, Bool, false, List, [], ◌∷◌, Option, length, find, slice_get, slice_index_or}
+use Rattle.std.specs.Prelude.{ℕ, zero, suc, ◌/◌, ◌%◌, Bool, false, List, [], ◌∷◌, Option}
+use Rattle.std.specs.Prelude.{length, find, slice_get, slice_index_or}
 use Rattle.std.specs.List.{remove, list_any}
 use Rattle.std.specs.Option.{option_map}
 use Rattle.linkset.specs.declared.link_set.SetLink.{SetLink}
