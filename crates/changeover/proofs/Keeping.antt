@@ -1,5 +1,5 @@
 -- What is kept of a queue completes as the queue does.
-use Rattle.std.proofs.Common.{◌≡◌, ℕ, ◌+◌, ◌-◌, ◌≤◌, List, drop, refl, ap, ◌∙◌, arith, Option, Some, None}
+use Rattle.std.proofs.Common.{◌≡◌, ℕ, ◌+◌, ◌-◌, ◌≤◌, List, drop, refl, ap, ◌∙◌, arith, Option, Some, None, is_some}
 use Rattle.std.specs.Option.{option_map}
 use Rattle.std.proofs.lemmas.List.{drop-drop}
 use Rattle.signalling_types.specs.Message.{Message}
@@ -17,6 +17,14 @@ ahead q count = option_map (λ n. n - q.confirmed) count
 counted : {w : ℕ} (q : Queue) (number : Option ℕ) → IsQueue w q → kept_accepted_count (counts_of q) number ≡ ahead q (accepted_count q number)
 counted q (Some bsn) h = kept-newly_confirmed q bsn h
 counted q None h = refl
+
+some-ahead : (q : Queue) (count : Option ℕ) → is_some (ahead q count) ≡ is_some count
+some-ahead q (Some n) = refl
+some-ahead q None = refl
+
+-- a number is reasonable for what is kept where it is for the queue
+pub counted-some : {w : ℕ} (q : Queue) (number : Option ℕ) → IsQueue w q → is_some (kept_accepted_count (counts_of q) number) ≡ is_some (accepted_count q number)
+counted-some q number h = ap is_some (counted q number h) ∙ some-ahead q (accepted_count q number)
 
 dropped : (xs : List Message) (c n : ℕ) → c ≤ n → drop (n - c) (drop c xs) ≡ drop n xs
 dropped xs c n h =

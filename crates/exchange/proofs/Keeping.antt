@@ -1,6 +1,6 @@
 -- What is kept of the node that a rule leaves is what the rule leaves of what was kept, and it stays sound. Each rule once, over any two
 -- kinds of queues P and Q of which h keeps one as the other.
-use Rattle.std.proofs.Common.{◌≡◌, ℕ, zero, suc, Bool, true, false, List, Option, Some, None, Result, Ok, Err, refl, ap, ◌∙◌}
+use Rattle.std.proofs.Common.{◌≡◌, ℕ, zero, suc, Bool, true, false, List, [], ◌∷◌, Option, Some, None, Result, Ok, Err, refl, ap, ◌∙◌}
 use Rattle.std.specs.Prelude.{if◌then◌else◌, nat_eq}
 use Rattle.signalling_types.specs.Message.{Message, dpc_of, opc_of, flow_of, is_management, service_indicator}
 use Rattle.settings_rows.specs.Configuration.{Configuration}
@@ -36,22 +36,29 @@ use Rattle.mgmt_codec.specs.Management.{read_management}
 use Rattle.routing_label.specs.declared.discrimination.Discrimination.{Discrimination}
 use Rattle.routing_label.specs.declared.discrimination.Discrimination.TheVariants as whither
 use Rattle.link_sequence.specs.declared.fault.SeqFault.{SeqFault}
-use Rattle.exchange.specs.State.{Parts, Node, Done, QueueKind, keep, with_parts, answer, refuse}
-use Rattle.exchange.specs.Links.{is_link, link_at, down}
+use Rattle.signalling_types.specs.declared.notice.ChangeoverTimer.{ChangeoverTimer}
+use Rattle.signalling_types.specs.declared.notice.ChangeoverTimer.TheVariants as changeover
+use Rattle.changeover.specs.Standing.{completed, may_restart}
+use Rattle.exchange.specs.State.{Parts, Node, Done, Found, QueueKind, keep, with_parts, answer, refuse}
+use Rattle.exchange.specs.Links.{is_link, link_at, down, in_service}
+use Rattle.exchange.specs.Holding.{waits}
 use Rattle.exchange.specs.Noting.{note_refusal}
 use Rattle.exchange.specs.Routing.{link_of}
 use Rattle.exchange.specs.Arrival.{is_destination, no_room, offer, transfer}
-use Rattle.exchange.specs.Made.{send, send_on}
-use Rattle.exchange.specs.Local.{is_user, is_adjacent, test_answer, local, do_read, do_kind, do_test, manage, hand_over}
+use Rattle.exchange.specs.Made.{send, send_on, send_routed, send_anew}
+use Rattle.exchange.specs.Suspending.{suspended}
+use Rattle.exchange.specs.Local.{is_user, is_adjacent, link_with_code, test_answer, local, do_order, do_acknowledgement, do_read, do_kind, do_test, manage, hand_over}
 use Rattle.exchange.specs.Messages.{whither_goes, deliver_to, deliver, submit_to}
 use Rattle.exchange.specs.Opening.{may_open, begun, open_link, associate, bring_down, part, dissociate, allowed, allow, activate, deactivate, without_association}
-use Rattle.exchange.specs.Failing.{fall, fail}
+use Rattle.exchange.specs.Failing.{fall, order_about, standing_of, with_changeover, has_other, changing, drop_out, begin, change_over, fail, follow, fail_by_peer}
+use Rattle.exchange.specs.ChangingOver.{concluded, answer_about, expired, heard, send_each, conclude, complete_if, heed, complete_by_order, tell, order, acknowledge, expire}
+use Rattle.exchange.specs.Releasing.{go_on, go_by, go, go_each, release, settled}
 use Rattle.exchange.specs.Statuses.{step_on, end_busy, serve_status, step_by_status, act_by_status, hear, act_by_timer, run_out}
 use Rattle.exchange.specs.Ticking.{with_timers, run_timer, run_due, run_next, run_times, tick}
 use Rattle.exchange.specs.Frames.{Carrying, carries, owing, timed_parts, numbers, accept, carry, handle_by, handle, act_by_data, take_in, receive_frame, leave_aside, read, receive}
 use Rattle.exchange.specs.Sending.{Outgoing, SendsStatus, SendsMessage, Acknowledges, SendsNothing, carried, goes_out, after_sending, frame_taken, after_take}
 use Rattle.exchange.specs.Happening.{Happening, CameUp, WentDown, FrameCame, Ticked, Submitted, Activated, Deactivated}
-use Rattle.exchange.specs.Exchange.{apply}
+use Rattle.exchange.specs.Exchange.{apply, done_by}
 
 -- y is what h keeps of x, and x is sound
 pub record IsKept {P Q : Type 0} (h : P → Q) (IsFit : P → Type 0) (y : Q) (x : P) : Type 0 where
@@ -66,7 +73,12 @@ pub record IsKeeping {P Q : Type 0} (p : QueueKind P) (q : QueueKind Q) (h : P �
   pub accepted : (x : P) (l f b : ℕ) (c : Bool) → IsFit x → IsKept h IsFit (q.accepted (h x) l f b c) (p.accepted x l f b c)
   pub to_send : (x : P) (l : ℕ) → IsFit x → q.to_send (h x) l w ≡ p.to_send x l w
   pub sent_one : (x : P) (l : ℕ) → IsFit x → IsKept h IsFit (q.sent_one (h x) l w) (p.sent_one x l w)
-  pub emptied : (x : P) (l : ℕ) → IsFit x → IsKept h IsFit (q.emptied (h x) l) (p.emptied x l)
+  pub unconfirmed : (x : P) (l : ℕ) → q.unconfirmed (h x) l ≡ p.unconfirmed x l
+  pub found : (x : P) (l : ℕ) (number : Option ℕ) → IsFit x → q.found (h x) l number ≡ p.found x l number
+  pub completed : (x : P) (l : ℕ) (number : Option ℕ) → IsFit x → IsKept h IsFit (q.completed (h x) l number) (p.completed x l number)
+  pub held : (x : P) → q.held (h x) ≡ p.held x
+  pub holding : (x : P) (m : Message) → IsFit x → IsKept h IsFit (q.holding (h x) m) (p.holding x m)
+  pub without_held : (x : P) → IsFit x → IsKept h IsFit (q.without_held (h x)) (p.without_held x)
   pub outstanding : (x : P) (l : ℕ) → q.outstanding (h x) l ≡ p.outstanding x l
   pub last_sent : (x : P) (l : ℕ) → IsFit x → q.last_sent (h x) l ≡ p.last_sent x l
   pub last_accepted : (x : P) (l : ℕ) → q.last_accepted (h x) l ≡ p.last_accepted x l
@@ -120,6 +132,14 @@ module _ {P Q : Type 0} (p : QueueKind P) (q : QueueKind Q) (h : P → Q) (IsFit
   behind : (f : Node Q → Done Q) (s : Done P) (n : Node Q) (m : Node P) → n ≡ keep h m → Keeps (f (keep h m)) s → Keeps (f n) s
   behind f s n m e r = record { same = ap f e ∙ r.same; fit = r.fit }
 
+  -- a release behind a rule
+  behind_done : (s : Done P) (t : Done Q) → t ≡ record { outcome = s.outcome; left = keep h s.left }
+      → KeepsNode (release q c (keep h s.left)) (release p c s.left) → Keeps (settled q c t) (settled p c s)
+  behind_done s t e r = record {
+    same = ap (λ (d : Done Q). settled q c d) e ∙ ap (λ (n : Node Q). record { outcome = s.outcome; left = n }) r.same;
+    fit = r.fit;
+  }
+
   -- ---- messages
 
   no_room-kept : (m : Message) (x : P) → no_room q c m (h x) ≡ no_room p c m x
@@ -131,28 +151,143 @@ module _ {P Q : Type 0} (p : QueueKind P) (q : QueueKind Q) (h : P → Q) (IsFit
       (parted _ n.parts n.queues f)
       (either (is_user c (service_indicator m)) _ _ (answer Local n) (refuse causes.NoUserPart n) (parted _ n.parts n.queues f) (parted _ n.parts n.queues f))
 
-  offer-kept : (room : Option Cause) (link : Option ℕ) (m : Message) (n : Node P) → IsFit n.queues → Keeps (offer q c room link m (keep h n)) (offer p c room link m n)
-  offer-kept (Some cause) link m n f = parted _ n.parts n.queues f
-  offer-kept None None m n f = parted _ n.parts n.queues f
-  offer-kept None (Some link) m n f = answered _ _ _ (changed _ _ n.parts (k.appended n.queues link m f))
+  offer-kept : (room : Option Cause) (waiting : Bool) (link : Option ℕ) (m : Message) (n : Node P) → IsFit n.queues
+      → Keeps (offer q c room waiting link m (keep h n)) (offer p c room waiting link m n)
+  offer-kept (Some cause) waiting link m n f = parted _ n.parts n.queues f
+  offer-kept None true link m n f = answered _ _ _ (changed _ _ n.parts (k.holding n.queues m f))
+  offer-kept None false None m n f = parted _ n.parts n.queues f
+  offer-kept None false (Some link) m n f = answered _ _ _ (changed _ _ n.parts (k.appended n.queues link m f))
 
   transfer-kept : (m : Message) (n : Node P) → IsFit n.queues → Keeps (transfer q c m (keep h n)) (transfer p c m n)
   transfer-kept m n f =
-      let e : offer q c (no_room q c m (h n.queues)) (link_of c n.parts (flow_of m)) m (keep h n) ≡ offer q c (no_room p c m n.queues) (link_of c n.parts (flow_of m)) m (keep h n) =
-      ap (λ (r : Option Cause). offer q c r (link_of c n.parts (flow_of m)) m (keep h n)) (no_room-kept m n.queues) in
-      let o : Keeps (offer q c (no_room p c m n.queues) (link_of c n.parts (flow_of m)) m (keep h n)) (offer p c (no_room p c m n.queues) (link_of c n.parts (flow_of m)) m n) =
-      offer-kept (no_room p c m n.queues) (link_of c n.parts (flow_of m)) m n f in
-      either (is_destination c (dpc_of m)) _ _ (offer p c (no_room p c m n.queues) (link_of c n.parts (flow_of m)) m n) (refuse causes.UnknownDestination n)
+      let held : Bool = waits c n.parts.holds m in
+      let link : Option ℕ = link_of c n.parts (flow_of m) in
+      let e : offer q c (no_room q c m (h n.queues)) held link m (keep h n) ≡ offer q c (no_room p c m n.queues) held link m (keep h n) =
+      ap (λ (r : Option Cause). offer q c r held link m (keep h n)) (no_room-kept m n.queues) in
+      let o : Keeps (offer q c (no_room p c m n.queues) held link m (keep h n)) (offer p c (no_room p c m n.queues) held link m n) =
+      offer-kept (no_room p c m n.queues) held link m n f in
+      either (is_destination c (dpc_of m)) _ _ (offer p c (no_room p c m n.queues) held link m n) (refuse causes.UnknownDestination n)
       (record { same = e ∙ o.same; fit = o.fit }) (parted _ n.parts n.queues f)
 
-  send-kept : (room : Option Cause) (l : ℕ) (m : Message) (n : Node P) → IsFit n.queues → KeepsNode (send q c room l m (keep h n)) (send p c room l m n)
-  send-kept (Some cause) l m n f = record { same = refl; fit = f }
-  send-kept None l m n f = changed _ _ n.parts (k.appended n.queues l m f)
+  -- ---- management made here
+
+  send-kept : (room : Option Cause) (link : Option ℕ) (m : Message) (n : Node P) → IsFit n.queues → KeepsNode (send q c room link m (keep h n)) (send p c room link m n)
+  send-kept (Some cause) link m n f = record { same = refl; fit = f }
+  send-kept None None m n f = record { same = refl; fit = f }
+  send-kept None (Some l) m n f = changed _ _ n.parts (k.appended n.queues l m f)
+
+  send_by-kept : (link : Option ℕ) (m : Message) (n : Node P) → IsFit n.queues
+      → KeepsNode (send q c (no_room q c m (h n.queues)) link m (keep h n)) (send p c (no_room p c m n.queues) link m n)
+  send_by-kept link m n f =
+      let s : KeepsNode (send q c (no_room p c m n.queues) link m (keep h n)) (send p c (no_room p c m n.queues) link m n) = send-kept (no_room p c m n.queues) link m n f in
+      record { same = ap (λ (r : Option Cause). send q c r link m (keep h n)) (no_room-kept m n.queues) ∙ s.same; fit = s.fit }
 
   send_on-kept : (l : ℕ) (m : Message) (n : Node P) → IsFit n.queues → KeepsNode (send_on q c l m (keep h n)) (send_on p c l m n)
-  send_on-kept l m n f =
-      let s : KeepsNode (send q c (no_room p c m n.queues) l m (keep h n)) (send p c (no_room p c m n.queues) l m n) = send-kept (no_room p c m n.queues) l m n f in
-      record { same = ap (λ (r : Option Cause). send q c r l m (keep h n)) (no_room-kept m n.queues) ∙ s.same; fit = s.fit }
+  send_on-kept l m n f = send_by-kept (Some l) m n f
+
+  send_routed-kept : (m : Message) (n : Node P) → IsFit n.queues → KeepsNode (send_routed q c m (keep h n)) (send_routed p c m n)
+  send_routed-kept m n f = send_by-kept (link_of c n.parts (flow_of m)) m n f
+
+  send_each-kept : (ms : List Message) (n : Node P) → IsFit n.queues → KeepsNode (send_each q c ms (keep h n)) (send_each p c ms n)
+  send_each-kept [] n f = record { same = refl; fit = f }
+  send_each-kept (m ∷ ms) n f =
+      let e : KeepsNode (send_anew q c m (keep h n)) (send_anew p c m n) = send-kept None (link_of c n.parts (flow_of m)) m n f in
+      behind_node (λ (z : Node Q). send_each q c ms z) (send_each p c ms (send_anew p c m n)) _ (send_anew p c m n) e.same
+      (send_each-kept ms (send_anew p c m n) e.fit)
+
+  -- ---- a link fails
+
+  -- a message about a link, with the number of the last one that was accepted there
+  about-kept : (about : ℕ → Message) (l : ℕ) (n : Node P) → IsFit n.queues
+      → KeepsNode (send_routed q c (about (q.last_accepted (h n.queues) l)) (keep h n)) (send_routed p c (about (p.last_accepted n.queues l)) n)
+  about-kept about l n f =
+      let s : KeepsNode (send_routed q c (about (p.last_accepted n.queues l)) (keep h n)) (send_routed p c (about (p.last_accepted n.queues l)) n) =
+      send_routed-kept (about (p.last_accepted n.queues l)) n f in
+      record { same = ap (λ (a : ℕ). send_routed q c (about a) (keep h n)) (k.last_accepted n.queues l) ∙ s.same; fit = s.fit }
+
+  drop_out-kept : (b : Bool) (l : ℕ) (why : FailureReason) (n : Node P) → IsFit n.queues → KeepsNode (drop_out q c b l why (keep h n)) (drop_out p c b l why n)
+  drop_out-kept true l why n f = record {
+    same = ap (λ (ms : List Message). with_parts (keep h n) (fall l why (suspended c l ms n.parts))) (k.unconfirmed n.queues l);
+    fit = f;
+  }
+  drop_out-kept false l why n f = record { same = refl; fit = f }
+
+  begin-kept : (b : Bool) (l : ℕ) (n : Node P) → IsFit n.queues → KeepsNode (begin q c b l (keep h n)) (begin p c b l n)
+  begin-kept true l n f = about-kept (order_about c l) l (with_parts n (changing c true l n.parts)) f
+  begin-kept false l n f = record { same = refl; fit = f }
+
+  change_over-kept : (b : Bool) (l : ℕ) (n : Node P) → IsFit n.queues → KeepsNode (change_over q c b l (keep h n)) (change_over p c b l n)
+  change_over-kept true l n f = begin-kept (has_other c l n.parts) l n f
+  change_over-kept false l n f = record { same = refl; fit = f }
+
+  fail-kept : (l : ℕ) (why : FailureReason) (n : Node P) → IsFit n.queues → KeepsNode (fail q c l why (keep h n)) (fail p c l why n)
+  fail-kept l why n f =
+      let b : Bool = in_service n.parts l in
+      let e : KeepsNode (drop_out q c b l why (keep h n)) (drop_out p c b l why n) = drop_out-kept b l why n f in
+      behind_node (λ (z : Node Q). change_over q c b l z) (change_over p c b l (drop_out p c b l why n)) _ (drop_out p c b l why n) e.same
+      (change_over-kept b l (drop_out p c b l why n) e.fit)
+
+  follow-kept : (b : Bool) (l : ℕ) (n : Node P) → IsFit n.queues → KeepsNode (follow q c b l (keep h n)) (follow p c b l n)
+  follow-kept true l n f = record { same = refl; fit = f }
+  follow-kept false l n f = record { same = refl; fit = f }
+
+  fail_by_peer-kept : (l : ℕ) (n : Node P) → IsFit n.queues → KeepsNode (fail_by_peer q c l (keep h n)) (fail_by_peer p c l n)
+  fail_by_peer-kept l n f =
+      let b : Bool = in_service n.parts l in
+      let e : KeepsNode (drop_out q c b l reasons.Changeover (keep h n)) (drop_out p c b l reasons.Changeover n) = drop_out-kept b l reasons.Changeover n f in
+      behind_node (λ (z : Node Q). follow q c b l z) (follow p c b l (drop_out p c b l reasons.Changeover n)) _ (drop_out p c b l reasons.Changeover n) e.same
+      (follow-kept b l (drop_out p c b l reasons.Changeover n) e.fit)
+
+  -- ---- a changeover goes on
+
+  concluding-kept : (found : Found) (l : ℕ) (number : Option ℕ) (n : Node P) → IsFit n.queues
+      → KeepsNode (conclude q c found l number (keep h n)) (conclude p c found l number n)
+  concluding-kept found l number n f =
+      let m : Node P = record { queues = p.completed n.queues l number; parts = concluded l found n.parts } in
+      let e : KeepsNode (record { queues = q.completed (h n.queues) l number; parts = concluded l found n.parts }) m = changed _ _ (concluded l found n.parts) (k.completed n.queues l number f) in
+      behind_node (λ (z : Node Q). send_each q c found.queued_anew z) (send_each p c found.queued_anew m) _ m e.same (send_each-kept found.queued_anew m e.fit)
+
+  conclude-kept : (l : ℕ) (number : Option ℕ) (n : Node P) → IsFit n.queues
+      → KeepsNode (conclude q c (q.found (h n.queues) l number) l number (keep h n)) (conclude p c (p.found n.queues l number) l number n)
+  conclude-kept l number n f =
+      let s : KeepsNode (conclude q c (p.found n.queues l number) l number (keep h n)) (conclude p c (p.found n.queues l number) l number n) =
+      concluding-kept (p.found n.queues l number) l number n f in
+      record { same = ap (λ (x : Found). conclude q c x l number (keep h n)) (k.found n.queues l number f) ∙ s.same; fit = s.fit }
+
+  complete_if-kept : (b : Bool) (l : ℕ) (number : Option ℕ) (n : Node P) → IsFit n.queues → KeepsNode (complete_if q c b l number (keep h n)) (complete_if p c b l number n)
+  complete_if-kept true l number n f = conclude-kept l number n f
+  complete_if-kept false l number n f = record { same = refl; fit = f }
+
+  heed-kept : (l : ℕ) (n : Node P) → IsFit n.queues → KeepsNode (heed q c l (keep h n)) (heed p c l n)
+  heed-kept l n f = either_node (down n.parts l) _ _ n (fail_by_peer p c l n) (record { same = refl; fit = f }) (fail_by_peer-kept l n f)
+
+  complete_by_order-kept : (l : ℕ) (number : Option ℕ) (n : Node P) → IsFit n.queues
+      → KeepsNode (complete_by_order q c l number (keep h n)) (complete_by_order p c l number n)
+  complete_by_order-kept l number n f =
+      complete_if-kept (standing_of n.parts l).incomplete l number (with_parts n (with_changeover l (completed (standing_of n.parts l)) n.parts)) f
+
+  order-kept : (l : ℕ) (number : Option ℕ) (n : Node P) → IsFit n.queues → Keeps (order q c l number (keep h n)) (order p c l number n)
+  order-kept l number n f =
+      let one : Node P = heed p c l n in
+      let two : Node P = complete_by_order p c l number one in
+      let e : KeepsNode (heed q c l (keep h n)) one = heed-kept l n f in
+      let g : KeepsNode (complete_by_order q c l number (heed q c l (keep h n))) two =
+      behind_node (λ (z : Node Q). complete_by_order q c l number z) two _ one e.same (complete_by_order-kept l number one e.fit) in
+      answered _ _ _ (behind_node (λ (z : Node Q). tell q c l z) (tell p c l two) _ two g.same (about-kept (answer_about c l) l two g.fit))
+
+  acknowledge-kept : (l : ℕ) (number : Option ℕ) (n : Node P) → IsFit n.queues → Keeps (acknowledge q c l number (keep h n)) (acknowledge p c l number n)
+  acknowledge-kept l number n f =
+      let one : Node P = complete_if p c (standing_of n.parts l).incomplete l number (with_parts n (heard l n.parts)) in
+      either (standing_of n.parts l).awaited _ _ (answer Handled one) (answer Ignored n)
+      (answered _ _ _ (complete_if-kept (standing_of n.parts l).incomplete l number (with_parts n (heard l n.parts)) f)) (parted _ n.parts n.queues f)
+
+  expire-kept : (t : ChangeoverTimer) (l : ℕ) (n : Node P) → IsFit n.queues → KeepsNode (expire q c t l (keep h n)) (expire p c t l n)
+  expire-kept t l n f =
+      let one : Node P = complete_if p c (standing_of n.parts l).incomplete l None (with_parts n (expired t l n.parts)) in
+      either_node (is_link n.parts l) _ _ one n
+      (complete_if-kept (standing_of n.parts l).incomplete l None (with_parts n (expired t l n.parts)) f) (record { same = refl; fit = f })
+
+  -- ---- messages for this point
 
   do_kind-kept : (t : TestKind) (l z : ℕ) (v : LinkTestValue) (n : Node P) → IsFit n.queues → Keeps (do_kind q c t l z v (keep h n)) (do_kind p c t l z v n)
   do_kind-kept Test l z v n f = answered _ _ _ (send_on-kept l (test_answer c z v) n f)
@@ -162,20 +297,29 @@ module _ {P Q : Type 0} (p : QueueKind P) (q : QueueKind Q) (h : P → Q) (IsFit
   do_test-kept (Err fault) l z n f = parted _ n.parts n.queues f
   do_test-kept (Ok v) l z n f = do_kind-kept v.kind l z v n f
 
-  do_read-kept : (r : Result Management MgmtFault) (n : Node P) → IsFit n.queues → Keeps (do_read r (keep h n)) (do_read r n)
-  do_read-kept (Err fault) n f = parted _ n.parts n.queues f
-  do_read-kept (Ok TrafficRestartAllowed) n f = parted _ n.parts n.queues f
-  do_read-kept (Ok (ExtendedChangeoverOrder slc number)) n f = parted _ n.parts n.queues f
-  do_read-kept (Ok (ExtendedChangeoverAcknowledgement slc number)) n f = parted _ n.parts n.queues f
-  do_read-kept (Ok (EmergencyChangeoverOrder slc)) n f = parted _ n.parts n.queues f
-  do_read-kept (Ok (EmergencyChangeoverAcknowledgement slc)) n f = parted _ n.parts n.queues f
+  do_order-kept : (link : Option ℕ) (number : Option ℕ) (n : Node P) → IsFit n.queues → Keeps (do_order q c link number (keep h n)) (do_order p c link number n)
+  do_order-kept (Some l) number n f = order-kept l number n f
+  do_order-kept None number n f = parted _ n.parts n.queues f
+
+  do_acknowledgement-kept : (link : Option ℕ) (number : Option ℕ) (n : Node P) → IsFit n.queues
+      → Keeps (do_acknowledgement q c link number (keep h n)) (do_acknowledgement p c link number n)
+  do_acknowledgement-kept (Some l) number n f = acknowledge-kept l number n f
+  do_acknowledgement-kept None number n f = parted _ n.parts n.queues f
+
+  do_read-kept : (r : Result Management MgmtFault) (z : ℕ) (n : Node P) → IsFit n.queues → Keeps (do_read q c r z (keep h n)) (do_read p c r z n)
+  do_read-kept (Err fault) z n f = parted _ n.parts n.queues f
+  do_read-kept (Ok TrafficRestartAllowed) z n f = parted _ n.parts n.queues f
+  do_read-kept (Ok (ExtendedChangeoverOrder slc number)) z n f = do_order-kept (link_with_code c z slc) (Some number) n f
+  do_read-kept (Ok (ExtendedChangeoverAcknowledgement slc number)) z n f = do_acknowledgement-kept (link_with_code c z slc) (Some number) n f
+  do_read-kept (Ok (EmergencyChangeoverOrder slc)) z n f = do_order-kept (link_with_code c z slc) None n f
+  do_read-kept (Ok (EmergencyChangeoverAcknowledgement slc)) z n f = do_acknowledgement-kept (link_with_code c z slc) None n f
 
   manage-kept : (l : ℕ) (m : Message) (n : Node P) → IsFit n.queues → Keeps (manage q c l m (keep h n)) (manage p c l m n)
   manage-kept l m n f =
       let t : Done P = do_test p c (read_link_test m.sif) l (opc_of m) n in
-      let r : Done P = do_read (read_management m.sif) n in
+      let r : Done P = do_read p c (read_management m.sif) (opc_of m) n in
       either (is_adjacent c (opc_of m)) _ _ (if nat_eq (service_indicator m) 1 then t else r) (refuse causes.NotFromAdjacent n)
-      (either (nat_eq (service_indicator m) 1) _ _ t r (do_test-kept (read_link_test m.sif) l (opc_of m) n f) (do_read-kept (read_management m.sif) n f))
+      (either (nat_eq (service_indicator m) 1) _ _ t r (do_test-kept (read_link_test m.sif) l (opc_of m) n f) (do_read-kept (read_management m.sif) (opc_of m) n f))
       (parted _ n.parts n.queues f)
 
   hand_over-kept : (l : ℕ) (m : Message) (n : Node P) → IsFit n.queues → Keeps (hand_over q c l m (keep h n)) (hand_over p c l m n)
@@ -202,19 +346,19 @@ module _ {P Q : Type 0} (p : QueueKind P) (q : QueueKind Q) (h : P → Q) (IsFit
 
   -- ---- links
 
-  fail-kept : (l : ℕ) (why : FailureReason) (n : Node P) → IsFit n.queues → KeepsNode (fail q l why (keep h n)) (fail p l why n)
-  fail-kept l why n f = changed _ _ (fall l why n.parts) (k.emptied n.queues l f)
-
   associate-kept : (l : ℕ) (n : Node P) → IsFit n.queues → Keeps (associate q c l (keep h n)) (associate p c l n)
   associate-kept l n f =
-      either (is_link n.parts l) _ _
-      (if may_open (link_at n.parts l) then answer Handled (open_link p c l n) else refuse causes.LinkNotReady n) (refuse causes.NoSuchName n)
-      (either (may_open (link_at n.parts l)) _ _ (answer Handled (open_link p c l n)) (refuse causes.LinkNotReady n)
+      let opened : Done P = answer Handled (open_link p c l n) in
+      let restarted : Done P = if may_restart (standing_of n.parts l) then opened else refuse causes.ChangeoverPending n in
+      either (is_link n.parts l) _ _ (if may_open (link_at n.parts l) then restarted else refuse causes.LinkNotReady n) (refuse causes.NoSuchName n)
+      (either (may_open (link_at n.parts l)) _ _ restarted (refuse causes.LinkNotReady n)
+      (either (may_restart (standing_of n.parts l)) _ _ opened (refuse causes.ChangeoverPending n)
       (answered _ _ _ (changed _ _ (begun c l n.parts) (k.started n.queues l f))) (parted _ n.parts n.queues f))
+      (parted _ n.parts n.queues f))
       (parted _ n.parts n.queues f)
 
   bring_down-kept : (l : ℕ) (why : FailureReason) (n : Node P) → IsFit n.queues → KeepsNode (bring_down q c l why (keep h n)) (bring_down p c l why n)
-  bring_down-kept l why n f = either_node (down n.parts l) _ _ n (fail p l why n) (record { same = refl; fit = f }) (fail-kept l why n f)
+  bring_down-kept l why n f = either_node (down n.parts l) _ _ n (fail p c l why n) (record { same = refl; fit = f }) (fail-kept l why n f)
 
   dissociate-kept : (l : ℕ) (n : Node P) → IsFit n.queues → Keeps (dissociate q c l (keep h n)) (dissociate p c l n)
   dissociate-kept l n f =
@@ -276,8 +420,8 @@ module _ {P Q : Type 0} (p : QueueKind P) (q : QueueKind Q) (h : P → Q) (IsFit
   run_timer-kept (name.L4 l) n f = run_out-kept l timer.L4 n f
   run_timer-kept (name.L6 l) n f = run_out-kept l timer.L6 n f
   run_timer-kept (name.L7 l) n f = run_out-kept l timer.L7 n f
-  run_timer-kept (name.T1 l) n f = record { same = refl; fit = f }
-  run_timer-kept (name.T2 l) n f = record { same = refl; fit = f }
+  run_timer-kept (name.T1 l) n f = expire-kept changeover.T1 l n f
+  run_timer-kept (name.T2 l) n f = expire-kept changeover.T2 l n f
   run_timer-kept (name.T3 l) n f = record { same = refl; fit = f }
   run_timer-kept (name.T4 s code) n f = record { same = refl; fit = f }
   run_timer-kept (name.T6 d) n f = record { same = refl; fit = f }
@@ -365,7 +509,7 @@ module _ {P Q : Type 0} (p : QueueKind P) (q : QueueKind Q) (h : P → Q) (IsFit
 
   -- ---- all events, and what goes out
 
-  pub apply-kept : (what : Happening) (n : Node P) → IsFit n.queues → Keeps (apply q c what (keep h n)) (apply p c what n)
+  apply-kept : (what : Happening) (n : Node P) → IsFit n.queues → Keeps (apply q c what (keep h n)) (apply p c what n)
   apply-kept (CameUp link) n f = associate-kept link n f
   apply-kept (WentDown link) n f = dissociate-kept link n f
   apply-kept (FrameCame link text) n f = receive-kept link text n f
@@ -373,6 +517,35 @@ module _ {P Q : Type 0} (p : QueueKind P) (q : QueueKind Q) (h : P → Q) (IsFit
   apply-kept (Submitted message) n f = submit_to-kept (whither_goes c message) message n f
   apply-kept (Activated link) n f = activate-kept link n f
   apply-kept (Deactivated link) n f = deactivate-kept link n f
+
+  -- ---- release
+
+  go_on-kept : (link : Option ℕ) (m : Message) (n : Node P) → IsFit n.queues → KeepsNode (go_on q c link m (keep h n)) (go_on p c link m n)
+  go_on-kept (Some l) m n f = changed _ _ n.parts (k.appended n.queues l m f)
+  go_on-kept None m n f = record { same = refl; fit = f }
+
+  go_by-kept : (b : Bool) (m : Message) (n : Node P) → IsFit n.queues → KeepsNode (go_by q c b m (keep h n)) (go_by p c b m n)
+  go_by-kept true m n f = changed _ _ n.parts (k.holding n.queues m f)
+  go_by-kept false m n f = go_on-kept (link_of c n.parts (flow_of m)) m n f
+
+  go_each-kept : (ms : List Message) (n : Node P) → IsFit n.queues → KeepsNode (go_each q c ms (keep h n)) (go_each p c ms n)
+  go_each-kept [] n f = record { same = refl; fit = f }
+  go_each-kept (m ∷ ms) n f =
+      let e : KeepsNode (go q c m (keep h n)) (go p c m n) = go_by-kept (waits c n.parts.holds m) m n f in
+      behind_node (λ (z : Node Q). go_each q c ms z) (go_each p c ms (go p c m n)) _ (go p c m n) e.same (go_each-kept ms (go p c m n) e.fit)
+
+  release-kept : (n : Node P) → IsFit n.queues → KeepsNode (release q c (keep h n)) (release p c n)
+  release-kept n f =
+      let m : Node P = record n { queues = p.without_held n.queues } in
+      let e : KeepsNode (record { queues = q.without_held (h n.queues); parts = n.parts }) m = changed _ _ n.parts (k.without_held n.queues f) in
+      let s : KeepsNode (go_each q c (p.held n.queues) (record { queues = q.without_held (h n.queues); parts = n.parts })) (go_each p c (p.held n.queues) m) =
+      behind_node (λ (z : Node Q). go_each q c (p.held n.queues) z) (go_each p c (p.held n.queues) m) _ m e.same (go_each-kept (p.held n.queues) m e.fit) in
+      record { same = ap (λ (ms : List Message). go_each q c ms (record { queues = q.without_held (h n.queues); parts = n.parts })) (k.held n.queues) ∙ s.same; fit = s.fit }
+
+  pub done-kept : (what : Happening) (n : Node P) → IsFit n.queues → Keeps (done_by q c what (keep h n)) (done_by p c what n)
+  done-kept what n f =
+      let d : Keeps (apply q c what (keep h n)) (apply p c what n) = apply-kept what n f in
+      behind_done (apply p c what n) _ d.same (release-kept (apply p c what n).left d.fit)
 
   goes_out-kept : (l : ℕ) (n : Node P) → IsFit n.queues → goes_out q c l (keep h n) ≡ goes_out p c l n
   goes_out-kept l n f = rw (k.to_send n.queues l f)

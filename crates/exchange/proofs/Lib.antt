@@ -1,6 +1,7 @@
 pub mod Lists
 pub mod Keeping
 pub mod KeptQueues
+pub mod Settling
 pub mod Standing
 pub mod Ticking
 pub mod Calls

@@ -1,5 +1,5 @@
 -- An exchange that stood for an abstract state stands for the state after each event and each frame that goes out.
-use Rattle.std.proofs.Common.{◌≡◌, ℕ, List, [], ap, ◌∙◌, length, ◌≤◌, replicate}
+use Rattle.std.proofs.Common.{◌≡◌, ℕ, suc, false, List, [], refl, ap, ◌∙◌, length, ◌≤◌, replicate}
 use Rattle.settings_rows.specs.Configuration.{Configuration}
 use Rattle.signalling_types.specs.Message.{Message}
 use Rattle.signalling_types.specs.declared.limits.TheConstants.Limits.{WINDOW}
@@ -13,16 +13,19 @@ use Rattle.exchange.specs.Routing.{first_network_of}
 use Rattle.exchange.specs.State.{Node, Done, keep}
 use Rattle.exchange.specs.Queues.{KeptQueues, kept, whole}
 use Rattle.exchange.specs.Happening.{Happening}
-use Rattle.exchange.specs.Exchange.{apply, outcome_of, after, frame_to_take, taken, wants_of}
+use Rattle.exchange.specs.Exchange.{apply, done_by, outcome_of, after, frame_to_take, taken, wants_of}
 use Rattle.exchange.specs.Stands.{Abstract, Kept, AreQueues, IsSound, StandsFor, kept_of, kept_queues_of, counts_in, first_state}
-use Rattle.exchange.proofs.Keeping.{Keeps, apply-kept, frame_taken-kept, after_take-kept}
+use Rattle.exchange.proofs.Keeping.{Keeps, done-kept, frame_taken-kept, after_take-kept}
 use Rattle.exchange.proofs.KeptQueues.{keeps_whole}
+use Rattle.changeover.specs.Standing.{Standing, no_changeover}
+use Rattle.flow_hold.specs.Holds.{HoldTable, no_holds}
+use Rattle.exchange.proofs.Settling.{release-waits, take-waits}
 use Rattle.exchange.proofs.Lists.{each-replicate, map-replicate}
 
 applied : (what : Happening) (a : Abstract) → IsSound a →
     Keeps whole kept kept_queues_of (AreQueues a.settings.window) a.settings (keeps_whole a.settings.window)
-    (apply kept a.settings what (keep kept_queues_of a.node)) (apply whole a.settings what a.node)
-applied what a s = apply-kept whole kept kept_queues_of (AreQueues a.settings.window) a.settings (keeps_whole a.settings.window) what a.node s.queues
+    (done_by kept a.settings what (keep kept_queues_of a.node)) (done_by whole a.settings what a.node)
+applied what a s = done-kept whole kept kept_queues_of (AreQueues a.settings.window) a.settings (keeps_whole a.settings.window) what a.node s.queues
 
 pub stands-outcome : (what : Happening) (k : Kept) (a : Abstract) → StandsFor k a → outcome_of kept what k ≡ outcome_of whole what a
 stands-outcome what k a s =
@@ -30,7 +33,7 @@ stands-outcome what k a s =
 
 pub stands-after : (what : Happening) (k : Kept) (a : Abstract) → StandsFor k a → StandsFor (after kept what k) (after whole what a)
 stands-after what k a s = record {
-  sound = record { queues = (applied what a s.sound).fit };
+  sound = record { queues = (applied what a s.sound).fit; waiting = release-waits a.settings (apply whole a.settings what a.node).left };
   kept = ap (λ (x : Kept). after kept what x) s.kept ∙ ap (λ (d : Done KeptQueues). record { settings = a.settings; node = d.left }) (applied what a s.sound).same;
 }
 
@@ -43,7 +46,7 @@ pub stands-taken : (l : ℕ) (k : Kept) (a : Abstract) → StandsFor k a → Sta
 stands-taken l k a s =
     let t = after_take-kept whole kept kept_queues_of (AreQueues a.settings.window) a.settings (keeps_whole a.settings.window) l a.node s.sound.queues in
     record {
-      sound = record { queues = t.fit };
+      sound = record { queues = t.fit; waiting = take-waits a.settings l a.node s.sound.waiting };
       kept = ap (λ (x : Kept). taken kept x l) s.kept ∙ ap (λ (n : Node KeptQueues). record { settings = a.settings; node = n }) t.same;
     }
 
@@ -54,19 +57,32 @@ stands-wants l k a s = ap (λ (x : Kept). wants_of x l) s.kept
 -- what boot gives stands for the first state
 pub stands-first : (c : Configuration) (k : Kept) → c.window ≤ WINDOW → k ≡ kept_of (first_state c) → StandsFor k (first_state c)
 stands-first c k h e = record {
-  sound = record { queues = record { each = λ l. each-replicate (IsQueue c.window) (length c.links) l first_queue (sound-first c.window h) } };
+  sound = record {
+    queues = record { each = λ l. each-replicate (IsQueue c.window) (length c.links) l first_queue (sound-first c.window h) };
+    waiting = refl;
+  };
   kept = e;
 }
 
 -- the parts that boot makes
-pub first-kept : (c : Configuration) (n : ℕ) (lanes : List (List Message)) (counts : List Counts) (network : Network) (timers : Running) (notices : List Notice)
-    → n ≡ length c.links → lanes ≡ replicate n [] → counts ≡ replicate n kept_first → network ≡ first_network_of c → timers ≡ none_running (counts_in c) → notices ≡ []
+pub first-kept : (c : Configuration) (n : ℕ) (lanes : List (List Message)) (counts : List Counts) (network : Network) (changeovers : List Standing) (holds : HoldTable)
+    (timers : Running) (notices : List Notice)
+    → n ≡ length c.links → lanes ≡ replicate (suc n) [] → counts ≡ replicate n kept_first → network ≡ first_network_of c → changeovers ≡ replicate n no_changeover
+    → holds ≡ no_holds n (length c.sets) (length c.destinations) → timers ≡ none_running (counts_in c) → notices ≡ []
     → record {
       settings = c;
       node = record {
         queues = record { lanes = lanes; counts = counts };
-        parts = record { links = network.links; routes = network.routes; timers = timers; notices = notices };
+        parts = record {
+          links = network.links;
+          routes = network.routes;
+          changeovers = changeovers;
+          holds = holds;
+          timers = timers;
+          notices = notices;
+          lost_any = false;
+        };
       };
     } ≡ kept_of (first_state c)
-first-kept c n lanes counts network timers notices e l k d t o =
-    rw (l, k, d, t, o, e, map-replicate unconfirmed (length c.links) first_queue, map-replicate counts_of (length c.links) first_queue)
+first-kept c n lanes counts network changeovers holds timers notices e l k d x y t o =
+    rw (l, k, d, x, y, t, o, e, map-replicate unconfirmed (length c.links) first_queue, map-replicate counts_of (length c.links) first_queue)

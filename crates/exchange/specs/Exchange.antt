@@ -11,6 +11,7 @@ use Rattle.exchange.specs.Opening.{associate, dissociate, activate, deactivate, 
 use Rattle.exchange.specs.Ticking.{tick}
 use Rattle.exchange.specs.Frames.{receive}
 use Rattle.exchange.specs.Messages.{submit}
+use Rattle.exchange.specs.Releasing.{settled}
 use Rattle.exchange.specs.Sending.{frame_taken, after_take}
 
 -- each event has its rule
@@ -23,13 +24,17 @@ apply q c (Submitted message) node = submit q c message node
 apply q c (Activated link) node = activate q c link node
 apply q c (Deactivated link) node = deactivate q c link node
 
+-- then what is held no longer goes on
+abbrev pub done_by : {Q : Type 0} → QueueKind Q → Configuration → Happening → Node Q → Done Q
+done_by q c what node = settled q c (apply q c what node)
+
 -- what becomes of an event
 abbrev pub outcome_of : {Q : Type 0} → QueueKind Q → Happening → State Q → Outcome
-outcome_of q what s = (apply q s.settings what s.node).outcome
+outcome_of q what s = (done_by q s.settings what s.node).outcome
 
 -- and the state after it
 abbrev pub after : {Q : Type 0} → QueueKind Q → Happening → State Q → State Q
-after q what s = with_node s (apply q s.settings what s.node).left
+after q what s = with_node s (done_by q s.settings what s.node).left
 
 -- the frame that goes out next on a link
 abbrev pub frame_to_take : {Q : Type 0} → QueueKind Q → State Q → ℕ → Option FrameValue

@@ -1,12 +1,46 @@
--- The failure of a link.
-use Rattle.std.specs.Prelude.{ℕ}
+-- The failure of a link, and the changeover that it begins (Q.704 §5.2, §5.3).
+use Rattle.std.specs.Prelude.{ℕ, Bool, true, false, [], slice_index_or, if◌then◌else◌}
+use Rattle.settings_rows.specs.Configuration.{Configuration, LinkEntry, SetEntry}
+use Rattle.signalling_types.specs.Message.{Message}
 use Rattle.signalling_types.specs.declared.notice.FailureReason.{FailureReason}
+use Rattle.signalling_types.specs.declared.notice.FailureReason.TheVariants as reasons
 use Rattle.signalling_types.specs.declared.notice.Notice.TheVariants as notices
-use Rattle.exchange.specs.State.{QueueKind, Parts, Node}
+use Rattle.linkset.specs.Preference.{has_link}
+use Rattle.route_table.specs.Facts.{set_at}
+use Rattle.mgmt_codec.specs.declared.management.Management.TheVariants.{ExtendedChangeoverOrder}
+use Rattle.timer_wheel.specs.declared.name.TimerName.TheVariants.{T1, T2}
+use Rattle.timer_wheel.specs.Timers.{Running, set_timer}
+use Rattle.changeover.specs.Standing.{Standing, standing_at, with_standing, failed, begun_by_peer}
 use Rattle.node_links.specs.LinkState.{fallen}
-use Rattle.exchange.specs.Links.{link_at, links_with}
+use Rattle.exchange.specs.State.{QueueKind, Parts, Node, with_parts}
+use Rattle.exchange.specs.Links.{link_at, links_with, in_service}
 use Rattle.exchange.specs.Timing.{without_timers}
 use Rattle.exchange.specs.Noting.{note}
+use Rattle.exchange.specs.Routing.{facts}
+use Rattle.exchange.specs.Made.{management_to, send_routed}
+use Rattle.exchange.specs.Suspending.{suspended}
+
+-- the row of a link in the settings, and the point that the links of its set lead to
+abbrev pub entry_of : Configuration → ℕ → LinkEntry
+entry_of c link = slice_index_or c.links link (record { name = []; set = 0; slc = 0 })
+
+abbrev pub peer_of : Configuration → ℕ → ℕ
+peer_of c link = (slice_index_or c.sets (entry_of c link).set (record { name = []; adjacent = 0 })).adjacent
+
+-- whether a link of the same set is in service
+abbrev pub has_other : Configuration → ℕ → Parts → Bool
+has_other c link p = has_link (facts c p).in_service (set_at (facts c p) (entry_of c link).set)
+
+-- the order to change over from a link, with the number of the last message that was accepted on it
+abbrev pub order_about : Configuration → ℕ → ℕ → Message
+order_about c link number = management_to c (peer_of c link) (ExtendedChangeoverOrder (entry_of c link).slc number)
+
+-- how far the changeover of a link is
+abbrev pub standing_of : Parts → ℕ → Standing
+standing_of p link = standing_at p.changeovers link
+
+abbrev pub with_changeover : ℕ → Standing → Parts → Parts
+with_changeover link standing p = record p { changeovers = with_standing p.changeovers link standing }
 
 -- the link is down, its timers don't run, and that is noted
 abbrev pub fall : ℕ → FailureReason → Parts → Parts
@@ -14,7 +48,50 @@ fall link why p =
     note (notices.Failed link why)
     (record p { links = links_with p link (fallen (link_at p link)); timers = without_timers link p.timers })
 
-module _ {Q : Type 0} (q : QueueKind Q) where
-  -- a link fails. Its queue is emptied at once, since there is no changeover yet; what was received stays
+-- T2 runs where an order goes out, else T1
+abbrev pub timed_changeover : Configuration → (ordered : Bool) → ℕ → Running → Running
+timed_changeover c ordered link r =
+    if ordered then set_timer (T2 link) c.timers.t2 r else set_timer (T1 link) c.timers.t1 r
+
+-- its changeover isn't complete, and where an order goes out, the answer is awaited
+abbrev pub changing : Configuration → (ordered : Bool) → ℕ → Parts → Parts
+changing c ordered link p = record p {
+  changeovers = with_standing p.changeovers link (failed ordered (standing_of p link));
+  timers = timed_changeover c ordered link p.timers;
+}
+
+module _ {Q : Type 0} (q : QueueKind Q) (c : Configuration) where
+  -- a link goes down. In service, the flows that its changeover is to hold are held first: until then it is their link
+  abbrev pub drop_out : (serving : Bool) → ℕ → FailureReason → Node Q → Node Q
+  drop_out true link why node =
+      with_parts node (fall link why (suspended c link (q.unconfirmed node.queues link) node.parts))
+  drop_out false link why node = with_parts node (fall link why node.parts)
+
+  -- where a link of its set is left, an order goes out
+  abbrev pub begin : (ordered : Bool) → ℕ → Node Q → Node Q
+  begin true link node =
+      send_routed q c (order_about c link (q.last_accepted node.queues link))
+      (with_parts node (changing c true link node.parts))
+  begin false link node = with_parts node (changing c false link node.parts)
+
+  -- a link that was in service begins its changeover
+  abbrev pub change_over : (served : Bool) → ℕ → Node Q → Node Q
+  change_over true link node = begin (has_other c link node.parts) link node
+  change_over false link node = node
+
+  -- a link fails
   abbrev pub fail : ℕ → FailureReason → Node Q → Node Q
-  fail link why node = record { queues = q.emptied node.queues link; parts = fall link why node.parts }
+  fail link why node =
+      change_over (in_service node.parts link) link (drop_out (in_service node.parts link) link why node)
+
+  -- its changeover isn't complete, and no order goes out
+  abbrev pub follow : (served : Bool) → ℕ → Node Q → Node Q
+  follow true link node =
+      with_parts node (with_changeover link (begun_by_peer (standing_of node.parts link)) node.parts)
+  follow false link node = node
+
+  -- a link fails since its peer tells so
+  abbrev pub fail_by_peer : ℕ → Node Q → Node Q
+  fail_by_peer link node =
+      follow (in_service node.parts link) link
+      (drop_out (in_service node.parts link) link reasons.Changeover node)

@@ -71,7 +71,7 @@ module _ {Q : Type 0} (q : QueueKind Q) (c : Configuration) where
   -- User Data whose numbers were looked at: a wrong one fails the link, which is no refusal
   abbrev pub handle_by : Result ℕ SeqFault → ℕ → Carrying → Node Q → Done Q
   handle_by (Ok confirmed) link d node = carry link d.message (accept link d confirmed node)
-  handle_by (Err fault) link d node = answer Handled (fail q link reasons.Sequence node)
+  handle_by (Err fault) link d node = answer Handled (fail q c link reasons.Sequence node)
 
   -- User Data on a link in service
   abbrev pub handle : ℕ → Carrying → Node Q → Done Q
@@ -80,7 +80,7 @@ module _ {Q : Type 0} (q : QueueKind Q) (c : Configuration) where
   -- User Data fails a link that doesn't expect it yet, and takes one that does into service
   abbrev pub act_by_data : Action → ℕ → Carrying → Node Q → Done Q
   act_by_data act.Ignored link d node = answer Ignored node
-  act_by_data act.Fail link d node = answer Handled (fail q link reasons.Sequence node)
+  act_by_data act.Fail link d node = answer Handled (fail q c link reasons.Sequence node)
   act_by_data (act.Go step) link d node = handle link d (with_parts node (step_on c link step node.parts))
 
   abbrev pub take_in : ℕ → Carrying → Node Q → Done Q
@@ -96,7 +96,7 @@ module _ {Q : Type 0} (q : QueueKind Q) (c : Configuration) where
 
   -- a frame that can't be read: a wrong length fails the link, any other fault is noted
   abbrev pub leave_aside : ℕ → FrameFault → Node Q → Done Q
-  leave_aside link faults.Length node = answer Handled (fail q link reasons.Length node)
+  leave_aside link faults.Length node = answer Handled (fail q c link reasons.Length node)
   leave_aside link faults.Short node =
       answer Ignored (with_parts node (note (notices.Frame faults.Short link) node.parts))
   leave_aside link faults.Version node =

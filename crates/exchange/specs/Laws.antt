@@ -11,35 +11,35 @@ use Rattle.link_alignment.specs.declared.action.Action.{Action}
 use Rattle.link_alignment.specs.declared.action.Action.TheVariants as act
 use Rattle.link_alignment.specs.declared.action.Input.TheVariants.{UserData}
 use Rattle.link_alignment.specs.Table.{action_at}
-use Rattle.link_sequence.specs.Queue.{Queue, count_confirmed}
+use Rattle.link_sequence.specs.Queue.{count_confirmed}
 use Rattle.exchange.specs.State.{Node, with_node, with_parts}
 use Rattle.exchange.specs.Links.{is_link, link_at, in_service}
 use Rattle.exchange.specs.Noting.{note}
 use Rattle.exchange.specs.Statuses.{step_on}
 use Rattle.exchange.specs.Frames.{Carrying, numbers, accept, data_of}
 use Rattle.exchange.specs.Happening.{Happening, CameUp, WentDown, FrameCame, Ticked, Submitted, Activated, Deactivated}
-use Rattle.exchange.specs.Queues.{whole}
+use Rattle.exchange.specs.Queues.{WholeQueues, whole}
 use Rattle.exchange.specs.Exchange.{outcome_of, after, frame_to_take, taken}
-use Rattle.exchange.specs.Stands.{Abstract}
+use Rattle.exchange.specs.Stands.{Abstract, IsSound}
 
 -- the node after User Data was accepted on a link in service
-abbrev pub accepted_here : ℕ → Carrying → Configuration → Node (List Queue) → Node (List Queue)
+abbrev pub accepted_here : ℕ → Carrying → Configuration → Node WholeQueues → Node WholeQueues
 accepted_here link d c node = accept whole c link d (count_confirmed (numbers whole c link d node)) node
 
 -- the node after a link did so about it: it may enter service first
-abbrev pub accept_data : Action → ℕ → Carrying → Configuration → Node (List Queue) → Node (List Queue)
+abbrev pub accept_data : Action → ℕ → Carrying → Configuration → Node WholeQueues → Node WholeQueues
 accept_data act.Ignored link d c node = node
 accept_data act.Fail link d c node = node
 accept_data (act.Go step) link d c node =
     accepted_here link d c (with_parts node (step_on c link step node.parts))
 
-abbrev pub accept_frame : Option Carrying → ℕ → Configuration → Node (List Queue) → Node (List Queue)
+abbrev pub accept_frame : Option Carrying → ℕ → Configuration → Node WholeQueues → Node WholeQueues
 accept_frame None link c node = node
 accept_frame (Some d) link c node =
     accept_data (action_at (link_at node.parts link).alignment UserData) link d c node
 
 -- the node after the frame of this text was accepted; a text that is no User Data is not
-abbrev pub accept_text : ℕ → Result FrameValue FrameFault → Abstract → Node (List Queue)
+abbrev pub accept_text : ℕ → Result FrameValue FrameFault → Abstract → Node WholeQueues
 accept_text link (Ok frame) a = accept_frame (data_of frame) link a.settings a.node
 accept_text link (Err fault) a = a.node
 
@@ -53,13 +53,13 @@ after_refusal (Submitted message) cause a = a
 after_refusal (Activated link) cause a = a
 after_refusal (Deactivated link) cause a = a
 after_refusal (FrameCame link text) cause a =
-    let node : Node (List Queue) = accept_text link (read_frame text) a in
+    let node : Node WholeQueues = accept_text link (read_frame text) a in
     if is_link a.node.parts link
     then with_node a (with_parts node (note (notices.Refused cause link) node.parts))
     else a
 
 abbrev pub refusals_leave : Type 0
-refusals_leave = (what : Happening) (a : Abstract) (cause : Cause) → outcome_of whole what a ≡ Refused cause →
+refusals_leave = (what : Happening) (a : Abstract) (cause : Cause) → IsSound a → outcome_of whole what a ≡ Refused cause →
     after whole what a ≡ after_refusal what cause a
 
 -- a take that gives nothing changes nothing

@@ -3,12 +3,16 @@ pub mod Links
 pub mod Routing
 pub mod Timing
 pub mod Noting
+pub mod Holding
 pub mod Arrival
 pub mod Made
+pub mod Suspending
+pub mod Failing
+pub mod ChangingOver
+pub mod Releasing
 pub mod Local
 pub mod Messages
 pub mod Opening
-pub mod Failing
 pub mod Statuses
 pub mod Ticking
 pub mod Frames

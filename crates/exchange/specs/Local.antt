@@ -1,5 +1,6 @@
 -- A message for this point, by its service indicator (Q.704 §14.2.1).
-use Rattle.std.specs.Prelude.{ℕ, Bool, nat_eq, is_some, if◌then◌else◌, Result, Ok, Err}
+use Rattle.std.specs.Prelude.{ℕ, Bool, ◌&&◌, nat_eq, is_some, position, if◌then◌else◌, Option, Some, None, Result, Ok, Err}
+use Rattle.std.specs.Option.{option_and_then}
 use Rattle.std.specs.List.{list_any}
 use Rattle.signalling_types.specs.Message.{Message, service_indicator, opc_of, is_management}
 use Rattle.settings_rows.specs.Configuration.{Configuration}
@@ -22,6 +23,7 @@ use Rattle.mgmt_codec.specs.LinkTests.{LinkTestValue, read_link_test, spelled, a
 use Rattle.mgmt_codec.specs.Management.{read_management}
 use Rattle.exchange.specs.State.{QueueKind, Node, Done, answer, refuse}
 use Rattle.exchange.specs.Made.{own_sio, send_on}
+use Rattle.exchange.specs.ChangingOver.{order, acknowledge}
 
 -- the service indicators of tests and of SCCP; that of management is 0
 abbrev pub testing : ℕ
@@ -54,17 +56,13 @@ cause_of faults.NotInProfile = NotInProfile
 abbrev pub test_answer : Configuration → ℕ → LinkTestValue → Message
 test_answer c point test = record { sio = own_sio c testing; sif = spelled point c.own (answer_to test) }
 
--- that the adjacent point has restarted asks nothing of this node; the messages of the changeover have no part here yet
-abbrev pub do_management : {Q : Type 0} → Management → Node Q → Done Q
-do_management TrafficRestartAllowed node = answer Ignored node
-do_management (ExtendedChangeoverOrder slc number) node = refuse NotInProfile node
-do_management (ExtendedChangeoverAcknowledgement slc number) node = refuse NotInProfile node
-do_management (EmergencyChangeoverOrder slc) node = refuse NotInProfile node
-do_management (EmergencyChangeoverAcknowledgement slc) node = refuse NotInProfile node
+-- the link of a code in a set
+abbrev pub link_in_set : Configuration → (slc set : ℕ) → Option ℕ
+link_in_set c slc set = position (λ l. nat_eq l.set set && nat_eq l.slc slc) c.links
 
-abbrev pub do_read : {Q : Type 0} → Result Management MgmtFault → Node Q → Done Q
-do_read (Err fault) node = refuse (cause_of fault) node
-do_read (Ok message) node = do_management message node
+-- the link of a code in the set that leads to a point
+abbrev pub link_with_code : Configuration → (point slc : ℕ) → Option ℕ
+link_with_code c point slc = option_and_then (link_in_set c slc) (set_place c point)
 
 module _ {Q : Type 0} (q : QueueKind Q) (c : Configuration) where
   -- a link test is answered on the link that it came by; an answer to one is ignored (Q.707 §2.2)
@@ -76,13 +74,38 @@ module _ {Q : Type 0} (q : QueueKind Q) (c : Configuration) where
   do_test (Err fault) link point node = refuse (cause_of fault) node
   do_test (Ok test) link point node = do_kind test.kind link point test node
 
+  -- an order to change over, or the answer to one, is about a link of the set to its sender
+  abbrev pub do_order : Option ℕ → (number : Option ℕ) → Node Q → Done Q
+  do_order (Some link) number node = order q c link number node
+  do_order None number node = refuse BadManagement node
+
+  abbrev pub do_acknowledgement : Option ℕ → (number : Option ℕ) → Node Q → Done Q
+  do_acknowledgement (Some link) number node = acknowledge q c link number node
+  do_acknowledgement None number node = refuse BadManagement node
+
+  -- a management message from a point; that it has restarted asks nothing of this node
+  abbrev pub do_management : Management → ℕ → Node Q → Done Q
+  do_management TrafficRestartAllowed point node = answer Ignored node
+  do_management (ExtendedChangeoverOrder slc number) point node =
+      do_order (link_with_code c point slc) (Some number) node
+  do_management (EmergencyChangeoverOrder slc) point node =
+      do_order (link_with_code c point slc) None node
+  do_management (ExtendedChangeoverAcknowledgement slc number) point node =
+      do_acknowledgement (link_with_code c point slc) (Some number) node
+  do_management (EmergencyChangeoverAcknowledgement slc) point node =
+      do_acknowledgement (link_with_code c point slc) None node
+
+  abbrev pub do_read : Result Management MgmtFault → ℕ → Node Q → Done Q
+  do_read (Err fault) point node = refuse (cause_of fault) node
+  do_read (Ok message) point node = do_management message point node
+
   -- management and tests, by the link that they came by: only an adjacent point is heard
   abbrev pub manage : ℕ → Message → Node Q → Done Q
   manage link m node =
       if is_adjacent c (opc_of m)
       then (if nat_eq (service_indicator m) testing
       then do_test (read_link_test m.sif) link (opc_of m) node
-      else do_read (read_management m.sif) node)
+      else do_read (read_management m.sif) (opc_of m) node)
       else refuse NotFromAdjacent node
 
   -- a message for this point, by the link that it came by

@@ -1,5 +1,5 @@
 -- Notices: what an operator is told.
-use Rattle.std.specs.Prelude.{ℕ, [], ◌∷◌, ◌++◌}
+use Rattle.std.specs.Prelude.{ℕ, true, [], ◌∷◌, ◌++◌}
 use Rattle.circular_buffer.specs.Buffer.{keep_last}
 use Rattle.signalling_types.specs.declared.limits.TheConstants.Limits.{NOTICES}
 use Rattle.signalling_types.specs.declared.outcome.Outcome.{Outcome}
@@ -11,6 +11,10 @@ use Rattle.exchange.specs.State.{Parts, Done, with_parts}
 -- of the notices the last 64 are kept
 abbrev pub note : Notice → Parts → Parts
 note notice p = record p { notices = keep_last NOTICES (p.notices ++ notice ∷ []) }
+
+-- a message may have been lost from now on
+abbrev pub flagged : Parts → Parts
+flagged p = record p { lost_any = true }
 
 -- a message in a frame that is refused leaves a notice
 abbrev pub note_outcome : ℕ → Outcome → Parts → Parts

@@ -2,6 +2,7 @@
 use Rattle.std.specs.Prelude.{ℕ, Bool, true, false, ◌&&◌, not, if◌then◌else◌}
 use Rattle.settings_rows.specs.Configuration.{Configuration}
 use Rattle.signalling_types.specs.declared.cause.Cause.TheVariants.{NoSuchName, LinkNotReady}
+use Rattle.signalling_types.specs.declared.cause.Cause.TheVariants.{ChangeoverPending}
 use Rattle.signalling_types.specs.declared.notice.FailureReason.{FailureReason}
 use Rattle.signalling_types.specs.declared.notice.FailureReason.TheVariants as reasons
 use Rattle.signalling_types.specs.declared.outcome.Outcome.TheVariants.{Handled, Ignored}
@@ -13,22 +14,25 @@ use Rattle.exchange.specs.State.{QueueKind, Parts, Node, Done, with_parts, answe
 use Rattle.node_links.specs.LinkState.{is_down, opened}
 use Rattle.exchange.specs.Links.{is_link, link_at, links_with, with_link, down}
 use Rattle.exchange.specs.Timing.{timed}
-use Rattle.exchange.specs.Failing.{fail}
+use Rattle.changeover.specs.Standing.{may_restart}
+use Rattle.exchange.specs.Failing.{standing_of, fail}
 
 -- a link opens where it has no association yet, and the operator lets it
 abbrev pub may_open : Link → Bool
 may_open l = not l.association && l.active
 
--- what a link that is down asks of its caller
-abbrev pub wanted_down : Link → Wants
-wanted_down l = if l.association then Close else if l.active then Open else Nothing
+-- what a link that is down asks of its caller; while its changeover isn't complete, or the answer to its order is
+-- awaited, it doesn't open
+abbrev pub wanted_down : (restarts : Bool) → Link → Wants
+wanted_down restarts l = if l.association then Close else if l.active && restarts then Open else Nothing
 
 -- what a link asks of its caller
-abbrev pub wanted_by : Link → Wants
-wanted_by l = if is_down l.alignment then wanted_down l else Nothing
+abbrev pub wanted_by : (restarts : Bool) → Link → Wants
+wanted_by restarts l = if is_down l.alignment then wanted_down restarts l else Nothing
 
 abbrev pub wanted : Parts → ℕ → Wants
-wanted p link = if is_link p link then wanted_by (link_at p link) else Nothing
+wanted p link =
+    if is_link p link then wanted_by (may_restart (standing_of p link)) (link_at p link) else Nothing
 
 -- a link whose association is gone
 abbrev pub without_association : ℕ → Parts → Parts
@@ -48,18 +52,21 @@ module _ {Q : Type 0} (q : QueueKind Q) (c : Configuration) where
   abbrev pub open_link : ℕ → Node Q → Node Q
   open_link link node = record { queues = q.started node.queues link; parts = begun c link node.parts }
 
-  -- an association comes up; a link that has one, or that the operator keeps from opening, refuses it
+  -- an association comes up; a link that has one, or that the operator keeps from opening, refuses it, and so does one
+  -- whose changeover isn't complete, or whose answer is awaited
   abbrev pub associate : ℕ → Node Q → Done Q
   associate link node =
       if is_link node.parts link
       then (if may_open (link_at node.parts link)
+      then (if may_restart (standing_of node.parts link)
       then answer Handled (open_link link node)
+      else refuse ChangeoverPending node)
       else refuse LinkNotReady node)
       else refuse NoSuchName node
 
   -- a link that isn't down fails
   abbrev pub bring_down : ℕ → FailureReason → Node Q → Node Q
-  bring_down link why node = if down node.parts link then node else fail q link why node
+  bring_down link why node = if down node.parts link then node else fail q c link why node
 
   -- the node without the association of a link
   abbrev pub part : ℕ → Node Q → Node Q

@@ -1,62 +1,111 @@
 -- The two kinds of queues: whole, as the definitions have them, and kept, as the code keeps them.
-use Rattle.std.specs.Prelude.{ℕ, ◌-◌, List, [], sum_by, slice_index_or, slice_set}
+use Rattle.std.specs.Prelude.{ℕ, suc, ◌+◌, ◌-◌, List, [], ◌∷◌, ◌++◌, is_some, sum_by, slice_index_or, slice_set}
 use Rattle.signalling_types.specs.Message.{Message}
 use Rattle.cell_pool.specs.Lanes.{lane_at, pushed, dropped, users, managements, users_in, managements_in}
 use Rattle.link_sequence.specs.Queue as queue
 use Rattle.link_sequence.specs.Queue.{Queue, first_queue, count_confirmed}
-use Rattle.link_sequence.specs.Counts.{Counts, unconfirmed, kept_first, kept_accept_answer, kept_accepted}
+use Rattle.link_sequence.specs.Counts as counts
+use Rattle.link_sequence.specs.Counts.{Counts, kept_first, kept_accept_answer, kept_accepted}
 use Rattle.link_sequence.specs.Counts.{kept_to_send, kept_sent_one, kept_emptied, kept_last_sent, kept_last_accepted}
+use Rattle.changeover.specs.Completion.{accepted_count, held_after, lost, queued_anew}
+use Rattle.changeover.specs.Kept.{kept_accepted_count, kept_moved, kept_lost, kept_queued_anew}
 use Rattle.exchange.specs.State.{QueueKind}
 
-abbrev pub queue_at : List Queue → ℕ → Queue
-queue_at qs link = slice_index_or qs link first_queue
+-- the messages that are held, and the queue of each link
+pub record WholeQueues : Type 0 where
+  pub held : List Message
+  pub links : List Queue
+
+abbrev pub queue_at : WholeQueues → ℕ → Queue
+queue_at qs link = slice_index_or qs.links link first_queue
+
+-- one link's queue in another state
+abbrev pub with_queue : WholeQueues → ℕ → Queue → WholeQueues
+with_queue qs link q = record qs { links = slice_set qs.links link q }
 
 -- all messages of each link's epoch, with counts that have no bound
-abbrev pub whole : QueueKind (List Queue)
+abbrev pub whole : QueueKind WholeQueues
 whole = record {
-  started = λ qs link. slice_set qs link first_queue;
-  appended = λ qs link m. slice_set qs link (queue.appended (queue_at qs link) m);
+  started = λ qs link. with_queue qs link first_queue;
+  appended = λ qs link m. with_queue qs link (queue.appended (queue_at qs link) m);
   accept_answer = λ qs link fsn bsn carries. queue.accept_answer (queue_at qs link) fsn bsn carries;
-  accepted = λ qs link fsn bsn carries. slice_set qs link (queue.accepted (queue_at qs link) fsn bsn carries);
+  accepted = λ qs link fsn bsn carries. with_queue qs link (queue.accepted (queue_at qs link) fsn bsn carries);
   to_send = λ qs link window. queue.to_send (queue_at qs link) window;
-  sent_one = λ qs link window. slice_set qs link (queue.sent_one (queue_at qs link) window);
-  emptied = λ qs link. slice_set qs link (queue.emptied (queue_at qs link));
+  sent_one = λ qs link window. with_queue qs link (queue.sent_one (queue_at qs link) window);
+  unconfirmed = λ qs link. counts.unconfirmed (queue_at qs link);
+  found = λ qs link number. record {
+    is_reasonable = is_some (accepted_count (queue_at qs link) number);
+    lost = lost (queue_at qs link) number;
+    queued_anew = queued_anew (queue_at qs link) number;
+  };
+  completed = λ qs link number. record {
+    held = held_after (queue_at qs link) number qs.held;
+    links = slice_set qs.links link (queue.emptied (queue_at qs link));
+  };
+  held = λ qs. qs.held;
+  holding = λ qs m. record qs { held = qs.held ++ m ∷ [] };
+  without_held = λ qs. record qs { held = [] };
   outstanding = λ qs link. (queue_at qs link).sent - (queue_at qs link).confirmed;
   last_sent = λ qs link. queue.last_sent (queue_at qs link);
   last_accepted = λ qs link. queue.last_accepted (queue_at qs link);
-  users = λ qs. sum_by (λ q. users_in (unconfirmed q)) qs;
-  managements = λ qs. sum_by (λ q. managements_in (unconfirmed q)) qs;
+  users = λ qs. users_in qs.held + sum_by (λ q. users_in (counts.unconfirmed q)) qs.links;
+  managements = λ qs. managements_in qs.held + sum_by (λ q. managements_in (counts.unconfirmed q)) qs.links;
 }
 
--- of each link the messages that aren't confirmed, and three numbers
+-- The messages of Held, then of each link those that aren't confirmed; and of each link three numbers.
 pub record KeptQueues : Type 0 where
   pub lanes : List (List Message)
   pub counts : List Counts
 
+abbrev pub held_lane : ℕ
+held_lane = 0
+
+abbrev pub lane_of : ℕ → ℕ
+lane_of link = suc link
+
 abbrev pub counts_at : List Counts → ℕ → Counts
 counts_at cs link = slice_index_or cs link kept_first
 
+-- the messages of one link
+abbrev pub link_lane : KeptQueues → ℕ → List Message
+link_lane k link = lane_at k.lanes (lane_of link)
+
+-- one list in another state
+abbrev pub with_lane : KeptQueues → ℕ → List Message → KeptQueues
+with_lane k lane messages = record k { lanes = slice_set k.lanes lane messages }
+
 -- the messages of one link are gone
 abbrev pub without_lane : KeptQueues → ℕ → KeptQueues
-without_lane k link = record k { lanes = slice_set k.lanes link [] }
+without_lane k link = with_lane k (lane_of link) []
 
 abbrev pub kept : QueueKind KeptQueues
 kept = record {
-  started = λ k link. record { lanes = slice_set k.lanes link []; counts = slice_set k.counts link kept_first };
-  appended = λ k link m. record k { lanes = pushed k.lanes link m };
+  started = λ k link. record (without_lane k link) { counts = slice_set k.counts link kept_first };
+  appended = λ k link m. record k { lanes = pushed k.lanes (lane_of link) m };
   accept_answer = λ k link fsn bsn carries. kept_accept_answer (counts_at k.counts link) fsn bsn carries;
   accepted = λ k link fsn bsn carries. record {
-    lanes = dropped k.lanes link (count_confirmed (kept_accept_answer (counts_at k.counts link) fsn bsn carries));
+    lanes = dropped k.lanes (lane_of link)
+        (count_confirmed (kept_accept_answer (counts_at k.counts link) fsn bsn carries));
     counts = slice_set k.counts link (kept_accepted (counts_at k.counts link) fsn bsn carries);
   };
-  to_send = λ k link window. kept_to_send (counts_at k.counts link) (lane_at k.lanes link) window;
+  to_send = λ k link window. kept_to_send (counts_at k.counts link) (link_lane k link) window;
   sent_one = λ k link window. record k {
-    counts = slice_set k.counts link (kept_sent_one (counts_at k.counts link) (lane_at k.lanes link) window);
+    counts = slice_set k.counts link (kept_sent_one (counts_at k.counts link) (link_lane k link) window);
   };
-  emptied = λ k link. record {
-    lanes = slice_set k.lanes link [];
+  unconfirmed = λ k link. link_lane k link;
+  found = λ k link number. record {
+    is_reasonable = is_some (kept_accepted_count (counts_at k.counts link) number);
+    lost = kept_lost (counts_at k.counts link) (link_lane k link) number;
+    queued_anew = kept_queued_anew (counts_at k.counts link) (link_lane k link) number;
+  };
+  completed = λ k link number. record {
+    lanes = slice_set (slice_set k.lanes (lane_of link) []) held_lane
+        (kept_moved (counts_at k.counts link) (link_lane k link) number ++ lane_at k.lanes held_lane);
     counts = slice_set k.counts link (kept_emptied (counts_at k.counts link));
   };
+  held = λ k. lane_at k.lanes held_lane;
+  holding = λ k m. record k { lanes = pushed k.lanes held_lane m };
+  without_held = λ k. with_lane k held_lane [];
   outstanding = λ k link. (counts_at k.counts link).outstanding;
   last_sent = λ k link. kept_last_sent (counts_at k.counts link);
   last_accepted = λ k link. kept_last_accepted (counts_at k.counts link);

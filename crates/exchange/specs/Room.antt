@@ -1,9 +1,11 @@
 -- How an exchange lies in its parts, and the room that they have.
 use Rattle.signalling_types.specs.declared.limits.TheConstants.Limits.{NOTICES}
-use Rattle.std.specs.Prelude.{◌≡◌, length, vec_len}
+use Rattle.std.specs.Prelude.{◌≡◌, ◌+◌, ◌||◌, true, length, vec_len}
+use Rattle.cell_pool.specs.Lanes.{lane_at}
+use Rattle.exchange.specs.Holding.{all_wait}
 use Rattle.exchange.specs.State.{State}
 use Rattle.exchange.specs.Routing.{sets_in}
-use Rattle.exchange.specs.Queues.{KeptQueues}
+use Rattle.exchange.specs.Queues.{KeptQueues, held_lane}
 use Rattle.exchange.specs.declared.exchange.Exchange.TheInside.{Inside}
 
 abbrev pub kept_in : Inside → State KeptQueues
@@ -14,17 +16,24 @@ kept_in e = record {
     parts = record {
       links = e.links.links;
       routes = e.links.routes;
+      changeovers = e.changeovers;
+      holds = e.holds;
       timers = e.timers;
       notices = e.notices.items;
+      lost_any = e.lost_any;
     };
   };
 }
 
--- each link has its list, its numbers and its state, and the sets are those of the settings; the pool and the notices
--- have the room that they are to have
+-- Held and each link have their list, each link its numbers, its state and its changeover, and links and sets are those of
+-- the settings; the pool and the notices have the room that they are to have; unless a release is due, each message of
+-- Held waits
 pub record HasRoom (e : Inside) : Type 0 where
-  pub lanes : length e.lanes.lists ≡ length e.links.links
+  pub lanes : length e.lanes.lists ≡ length e.links.links + 1
   pub sequences : vec_len e.sequences ≡ length e.links.links
+  pub changeovers : length e.changeovers ≡ length e.links.links
+  pub links : length e.links.links ≡ length e.settings.links
   pub sets : e.links.sets ≡ sets_in e.settings
   pub pool : e.lanes.pool ≡ e.settings.pool
   pub notices : e.notices.capacity ≡ NOTICES
+  pub waiting : (e.release_due || all_wait e.settings e.holds (lane_at e.lanes.lists held_lane)) ≡ true

@@ -11,16 +11,30 @@ use Rattle.link_sequence.specs.declared.fault.SeqFault.{SeqFault}
 use Rattle.timer_wheel.specs.Timers.{Running}
 use Rattle.route_table.specs.declared.route.Route.{Route}
 use Rattle.node_links.specs.Link.{Link}
+use Rattle.changeover.specs.Standing.{Standing}
+use Rattle.flow_hold.specs.Holds.{HoldTable}
 
 -- All that isn't a queue.
 pub record Parts : Type 0 where
   pub links : List Link
   -- of each destination the sets that lead there, each with its status
   pub routes : List (List Route)
+  -- of each link, how far its changeover is
+  pub changeovers : List Standing
+  pub holds : HoldTable
   pub timers : Running
   pub notices : List Notice
+  -- whether a message may have been lost since the node was booted
+  pub lost_any : Bool
 
--- What changes as a node runs. Q is the queues of all links together.
+-- What a completion finds on a link, by the number that its peer gave: whether that names a count, the user messages that
+-- are named as lost, and the management messages that are queued anew.
+pub record Found : Type 0 where
+  pub is_reasonable : Bool
+  pub lost : List Message
+  pub queued_anew : List Message
+
+-- What changes as a node runs. Q is Held and the queues of all links together.
 pub record Node (Q : Type 0) : Type 0 where
   pub queues : Q
   pub parts : Parts
@@ -35,7 +49,7 @@ pub record Done (Q : Type 0) : Type 0 where
   pub outcome : Outcome
   pub left : Node Q
 
--- What the rules ask of queues and do with them, each at one link.
+-- What the rules ask of queues and do with them: each at one link, or in Held.
 pub record QueueKind (Q : Type 0) : Type 0 where
   pub started : Q → ℕ → Q
   pub appended : Q → ℕ → Message → Q
@@ -43,12 +57,21 @@ pub record QueueKind (Q : Type 0) : Type 0 where
   pub accepted : Q → ℕ → ℕ → ℕ → Bool → Q
   pub to_send : Q → ℕ → ℕ → Option Sending
   pub sent_one : Q → ℕ → ℕ → Q
-  pub emptied : Q → ℕ → Q
+  -- the messages of a link that aren't confirmed, sent or not
+  pub unconfirmed : Q → ℕ → List Message
+  -- what a completion finds on a link, and what it leaves: the user messages that move stand before all of Held, and
+  -- nothing stands on the link
+  pub found : Q → ℕ → Option ℕ → Found
+  pub completed : Q → ℕ → Option ℕ → Q
+  -- the messages of Held; one more at its end; none
+  pub held : Q → List Message
+  pub holding : Q → Message → Q
+  pub without_held : Q → Q
   -- how many messages were sent and aren't confirmed
   pub outstanding : Q → ℕ → ℕ
   pub last_sent : Q → ℕ → ℕ
   pub last_accepted : Q → ℕ → ℕ
-  -- how many messages of each kind stand in all queues
+  -- how many messages of each kind stand in all queues and in Held
   pub users : Q → ℕ
   pub managements : Q → ℕ
 

@@ -58,7 +58,7 @@ module _ {Q : Type 0} (q : QueueKind Q) (c : Configuration) where
   -- what a link does about a status
   abbrev pub act_by_status : Action → ℕ → LinkStatus → Node Q → Done Q
   act_by_status act.Ignored link status node = answer Ignored node
-  act_by_status act.Fail link status node = answer Handled (fail q link reasons.Status node)
+  act_by_status act.Fail link status node = answer Handled (fail q c link reasons.Status node)
   act_by_status (act.Go step) link status node = answer Handled (step_by_status link status step node)
 
   abbrev pub hear : ℕ → LinkStatus → Node Q → Done Q
@@ -68,7 +68,7 @@ module _ {Q : Type 0} (q : QueueKind Q) (c : Configuration) where
   -- what a link does about a timer of its own that ran out
   abbrev pub act_by_timer : Action → ℕ → Node Q → Node Q
   act_by_timer act.Ignored link node = node
-  act_by_timer act.Fail link node = fail q link reasons.Timer node
+  act_by_timer act.Fail link node = fail q c link reasons.Timer node
   act_by_timer (act.Go step) link node = with_parts node (step_on c link step node.parts)
 
   abbrev pub run_out : ℕ → LinkTimer → Node Q → Node Q

@@ -7,14 +7,16 @@ use Rattle.timer_wheel.specs.declared.name.TimerName.{TimerName}
 use Rattle.timer_wheel.specs.declared.name.TimerName.TheVariants.{L1, L2, L3, L4, L6, L7, T1, T2, T3, T4, T6, T8, T10}
 use Rattle.timer_wheel.specs.Timers.{Running, ticked, due_name, due_count, after_due}
 use Rattle.exchange.specs.State.{QueueKind, Node, Done, with_parts, answer}
+use Rattle.signalling_types.specs.declared.notice.ChangeoverTimer.TheVariants as changeover
 use Rattle.exchange.specs.Statuses.{run_out}
+use Rattle.exchange.specs.ChangingOver.{expire}
 
 -- the same node with other timers
 abbrev pub with_timers : {Q : Type 0} → Node Q → Running → Node Q
 with_timers node timers = with_parts node (record node.parts { timers = timers })
 
 module _ {Q : Type 0} (q : QueueKind Q) (c : Configuration) where
-  -- a timer runs; those of changeover, changeback, rerouting and route management aren't set yet
+  -- a timer runs; those of changeback, rerouting and route management aren't set yet
   abbrev pub run_timer : TimerName → Node Q → Node Q
   run_timer (L1 link) node = run_out q c link timer.L1 node
   run_timer (L2 link) node = run_out q c link timer.L2 node
@@ -22,8 +24,8 @@ module _ {Q : Type 0} (q : QueueKind Q) (c : Configuration) where
   run_timer (L4 link) node = run_out q c link timer.L4 node
   run_timer (L6 link) node = run_out q c link timer.L6 node
   run_timer (L7 link) node = run_out q c link timer.L7 node
-  run_timer (T1 link) node = node
-  run_timer (T2 link) node = node
+  run_timer (T1 link) node = expire q c changeover.T1 link node
+  run_timer (T2 link) node = expire q c changeover.T2 link node
   run_timer (T3 link) node = node
   run_timer (T4 set code) node = node
   run_timer (T6 destination) node = node

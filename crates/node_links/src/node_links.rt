@@ -2,6 +2,8 @@
 
 ghost use Rattle.std.specs.Prelude.{◌≡◌, ◌<◌, ◌≤◌, false, drop, length, replicate, nat_lt, IfOk, IfSome};
 ghost use Rattle.link_alignment.specs.Table.{action_at};
+ghost use Rattle.linkset.specs.Preference.{has_link};
+ghost use Rattle.route_table.specs.Facts.{set_at};
 ghost use Rattle.route_table.specs.Chosen.{chosen_link};
 ghost use Rattle.node_links.specs.LinkState.{acted, down_link, fallen, opened};
 ghost use Rattle.node_links.specs.Network.{facts_of, first_network, link_in, with_state};
@@ -10,7 +12,7 @@ use crate::link_state::LinkState;
 use link_alignment::{Action, Input};
 use route_table::Routes;
 use settings_rows::{DestinationRow, LinkRow};
-use signalling_types::{Limits, LinkId, Sls};
+use signalling_types::{Limits, LinkId, SetId, Sls};
 use std::alloc::{AllocError, Global};
 use std::marker::Model;
 
@@ -77,6 +79,13 @@ impl NodeLinks {
         ensures fits { IfSome result (λ link. link < length self.now.links) }
     {
         self.routes.link_of(destination, sls)
+    }
+
+    /// Whether some link of a set is in service; a set that isn't there has none.
+    pub fn has_link(&self, set: SetId) -> bool
+        ensures { result ≡ has_link (facts_of self.now).in_service (set_at (facts_of self.now) set) }
+    {
+        self.routes.has_link(set)
     }
 
     /// A link does what its alignment does about an input, and says what that is. Where the link is to fail, nothing

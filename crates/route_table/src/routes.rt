@@ -106,8 +106,8 @@ impl Routes {
         }
     }
 
-    /// Whether some link of a set is in service.
-    fn has_link(&self, set: SetId) -> bool
+    /// Whether some link of a set is in service; a set that isn't there has none.
+    pub fn has_link(&self, set: SetId) -> bool
         ensures { result ≡ has_link self.now.in_service (set_at self.now set) }
     {
         match self.sets.get(set.index()) {

@@ -1,0 +1,119 @@
+-- How a changeover goes on and ends: by an order or an answer of the peer, or by a timer (Q.704 §5.4 to §5.7, with the
+-- numbers of Q.2210).
+use Rattle.std.specs.Prelude.{ℕ, Bool, true, false, List, [], ◌∷◌, Option, Some, None, if◌then◌else◌}
+use Rattle.settings_rows.specs.Configuration.{Configuration}
+use Rattle.signalling_types.specs.Message.{Message, flow_of}
+use Rattle.signalling_types.specs.declared.cause.Cause.{Cause}
+use Rattle.signalling_types.specs.declared.cause.Cause.TheVariants.{LostUnconfirmed}
+use Rattle.signalling_types.specs.declared.outcome.Outcome.TheVariants.{Handled, Ignored}
+use Rattle.signalling_types.specs.declared.notice.Notice.TheVariants as notices
+use Rattle.signalling_types.specs.declared.notice.ChangeoverTimer.{ChangeoverTimer}
+use Rattle.signalling_types.specs.declared.notice.ChangeoverTimer.TheVariants as timer
+use Rattle.mgmt_codec.specs.declared.management.Management.TheVariants.{ExtendedChangeoverAcknowledgement}
+use Rattle.timer_wheel.specs.declared.name.TimerName.TheVariants.{T1, T2}
+use Rattle.timer_wheel.specs.Timers.{clear_timer}
+use Rattle.flow_hold.specs.declared.procedure.Procedure.TheVariants.{Changeover}
+use Rattle.flow_hold.specs.Holds.{lifted}
+use Rattle.changeover.specs.Standing as standing
+use Rattle.changeover.specs.Standing.{Standing, completed, answered}
+use Rattle.exchange.specs.State.{QueueKind, Parts, Node, Done, Found, with_parts, answer}
+use Rattle.exchange.specs.Links.{is_link, down}
+use Rattle.exchange.specs.Noting.{note, flagged}
+use Rattle.exchange.specs.Made.{management_to, send_routed, send_anew}
+use Rattle.exchange.specs.Failing.{entry_of, peer_of, standing_of, with_changeover, fail_by_peer}
+
+-- a user message is lost: that is noted
+abbrev pub lose : Cause → Message → Parts → Parts
+lose cause m p = flagged (note (notices.Lost cause (flow_of m).point (flow_of m).sls) p)
+
+abbrev pub lose_each : List Message → Parts → Parts
+lose_each [] p = p
+lose_each (m ∷ ms) p = lose_each ms (lose LostUnconfirmed m p)
+
+-- without a reasonable number something may be lost, also where nothing was sent
+abbrev pub judged : (is_reasonable : Bool) → Parts → Parts
+judged true p = p
+judged false p = flagged p
+
+-- the hold of the changeover is lifted, and T1 stops
+abbrev pub lifted_parts : ℕ → Parts → Parts
+lifted_parts link p = record p { holds = lifted p.holds (Changeover link); timers = clear_timer (T1 link) p.timers }
+
+-- the parts when a completion has found this
+abbrev pub concluded : ℕ → Found → Parts → Parts
+concluded link found p = lifted_parts link (judged found.is_reasonable (lose_each found.lost p))
+
+-- the answer about a link, with the number of the last message that was accepted on it
+abbrev pub answer_about : Configuration → ℕ → ℕ → Message
+answer_about c link number =
+    management_to c (peer_of c link) (ExtendedChangeoverAcknowledgement (entry_of c link).slc number)
+
+-- where T2 ran out, something may be lost
+abbrev pub flagged_by : ChangeoverTimer → Parts → Parts
+flagged_by timer.T1 p = p
+flagged_by timer.T2 p = flagged p
+
+-- a timer of the changeover ran out: that is noted
+abbrev pub expired : ChangeoverTimer → ℕ → Parts → Parts
+expired which link p =
+    flagged_by which
+    (with_changeover link (standing.expired which (standing_of p link)) (note (notices.Expired which link) p))
+
+-- the answer came: T2 stops
+abbrev pub heard : ℕ → Parts → Parts
+heard link p =
+    record p {
+      changeovers = (with_changeover link (answered (standing_of p link)) p).changeovers;
+      timers = clear_timer (T2 link) p.timers;
+    }
+
+module _ {Q : Type 0} (q : QueueKind Q) (c : Configuration) where
+  -- management messages go out anew, each on the link of its flow
+  abbrev pub send_each : List Message → Node Q → Node Q
+  send_each [] node = node
+  send_each (m ∷ ms) node = send_each ms (send_anew q c m node)
+
+  -- what becomes of the messages of a link, by the number that its peer gave
+  abbrev pub conclude : Found → ℕ → Option ℕ → Node Q → Node Q
+  conclude found link number node =
+      send_each found.queued_anew
+      (record { queues = q.completed node.queues link number; parts = concluded link found node.parts })
+
+  -- a changeover is completed, if it isn't complete
+  abbrev pub complete_if : (incomplete : Bool) → ℕ → Option ℕ → Node Q → Node Q
+  complete_if true link number node = conclude (q.found node.queues link number) link number node
+  complete_if false link number node = node
+
+  -- a link that isn't down fails by its peer's order
+  abbrev pub heed : ℕ → Node Q → Node Q
+  heed link node = if down node.parts link then node else fail_by_peer q c link node
+
+  -- the changeover of a link is completed, by the number in the peer's order
+  abbrev pub complete_by_order : ℕ → Option ℕ → Node Q → Node Q
+  complete_by_order link number node =
+      complete_if (standing_of node.parts link).incomplete link number
+      (with_parts node (with_changeover link (completed (standing_of node.parts link)) node.parts))
+
+  -- the peer is told what was accepted on the link
+  abbrev pub tell : ℕ → Node Q → Node Q
+  tell link node = send_routed q c (answer_about c link (q.last_accepted node.queues link)) node
+
+  -- the peer orders a changeover
+  abbrev pub order : ℕ → Option ℕ → Node Q → Done Q
+  order link number node = answer Handled (tell link (complete_by_order link number (heed link node)))
+
+  -- the peer answers an order
+  abbrev pub acknowledge : ℕ → Option ℕ → Node Q → Done Q
+  acknowledge link number node =
+      if (standing_of node.parts link).awaited
+      then answer Handled (complete_if (standing_of node.parts link).incomplete link number
+      (with_parts node (heard link node.parts)))
+      else answer Ignored node
+
+  -- T1 or T2 of a link ran out
+  abbrev pub expire : ChangeoverTimer → ℕ → Node Q → Node Q
+  expire timer link node =
+      if is_link node.parts link
+      then complete_if (standing_of node.parts link).incomplete link None
+      (with_parts node (expired timer link node.parts))
+      else node
