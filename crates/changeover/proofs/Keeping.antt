@@ -14,7 +14,7 @@ use Rattle.changeover.proofs.Completing.{named-from}
 abbrev pub ahead : Queue → Option ℕ → Option ℕ
 ahead q count = option_map (λ n. n - q.confirmed) count
 
-counted : {w : ℕ} (q : Queue) (number : Option ℕ) → IsQueue w q → kept_accepted_count (counts_of q) number ≡ ahead q (accepted_count q number)
+pub counted : {w : ℕ} (q : Queue) (number : Option ℕ) → IsQueue w q → kept_accepted_count (counts_of q) number ≡ ahead q (accepted_count q number)
 counted q (Some bsn) h = kept-newly_confirmed q bsn h
 counted q None h = refl
 

@@ -1,4 +1,5 @@
 pub mod Completing
+pub mod Finishing
 pub mod Keeping
 pub mod Splicing
 pub mod Taking

@@ -34,6 +34,11 @@ abbrev pub in_doubt : Queue → Option ℕ → List Message
 in_doubt q (Some n) = []
 in_doubt q None = take (q.sent - q.confirmed) (drop q.confirmed q.all)
 
+-- how many these are
+abbrev pub doubted : Queue → (count : Option ℕ) → Option ℕ
+doubted q (Some n) = None
+doubted q None = Some (q.sent - q.confirmed)
+
 -- the user messages that are named as lost
 abbrev pub lost : Queue → Option ℕ → List Message
 lost q number = users_of (in_doubt q (accepted_count q number))

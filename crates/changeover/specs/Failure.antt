@@ -3,6 +3,9 @@ use Rattle.std.specs.Prelude.{ℕ, Bool, false, ◌&&◌, ◌||◌, not, drop, O
 use Rattle.std.specs.List.{list_any}
 use Rattle.signalling_types.specs.Message.{Message, flow_of, is_management}
 use Rattle.link_sequence.specs.Queue.{Queue, last_accepted}
+use Rattle.link_sequence.specs.Counts.{Counts, kept_last_accepted}
+use Rattle.changeover.specs.declared.beginning.Beginning.{Beginning}
+use Rattle.changeover.specs.declared.beginning.Beginning.TheVariants.{Orders, Waits}
 
 -- whether a message is a user message of a flow
 abbrev pub is_of_flow : (point sls : ℕ) → Message → Bool
@@ -21,9 +24,12 @@ is_taken link failed q point sls =
 
 -- where a link to the adjacent point is left, an order goes there, with the number of the last message that was
 -- accepted, T2 runs, and the answer is awaited; else T1 runs
-pub data Beginning : Type 0 where
-  Orders : (number : ℕ) → Beginning
-  Waits : Beginning
+abbrev pub begins_with : (link_left : Bool) → (number : ℕ) → Beginning
+begins_with link_left number = if link_left then Orders number else Waits
 
 abbrev pub beginning : (link_left : Bool) → Queue → Beginning
-beginning link_left q = if link_left then Orders (last_accepted q) else Waits
+beginning link_left q = begins_with link_left (last_accepted q)
+
+-- the same by what is kept of the queue
+abbrev pub kept_beginning : (link_left : Bool) → Counts → Beginning
+kept_beginning link_left k = begins_with link_left (kept_last_accepted k)

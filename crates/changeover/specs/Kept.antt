@@ -11,6 +11,19 @@ use Rattle.changeover.specs.Completion.{users_of, managements_of, moved, queued_
 abbrev pub kept_accepted_count : Counts → Option ℕ → Option ℕ
 kept_accepted_count k number = option_and_then (kept_newly_confirmed k) number
 
+-- how many of them the changeover is done with: those, or without a reasonable number those that were sent
+abbrev pub kept_done : Counts → (count : Option ℕ) → ℕ
+kept_done k (Some count) = count
+kept_done k None = k.outstanding
+
+abbrev pub kept_done_with : Counts → (number : Option ℕ) → ℕ
+kept_done_with k number = kept_done k (kept_accepted_count k number)
+
+-- how many of them are in doubt, where the number isn't reasonable: those that were sent
+abbrev pub kept_doubted : Counts → (count : Option ℕ) → Option ℕ
+kept_doubted k (Some count) = None
+kept_doubted k None = Some k.outstanding
+
 -- the messages from there on; without a reasonable number, those that weren't sent
 abbrev pub kept_behind : Counts → List Message → Option ℕ → List Message
 kept_behind k lane (Some count) = drop count lane

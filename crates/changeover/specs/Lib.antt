@@ -3,3 +3,5 @@ pub mod Failure
 pub mod Laws
 pub mod Kept
 pub mod Lanes
+pub mod Standing
+pub mod Inside

@@ -1,4 +1,15 @@
 //! Extended changeover: what becomes of the messages of a link that failed (Q.704 §5, with the numbers of Q.2210).
 #![tactic(auto)]
 
+pub mod beginning;
+pub mod changeover;
+pub mod completion;
 pub mod laws;
+mod standing;
+
+pub use beginning::Beginning;
+pub use changeover::Changeover;
+pub use completion::{complete, in_doubt};
+
+#[cfg(test)]
+mod tests;

@@ -1,0 +1,47 @@
+-- Dropping what the changeover is done with, and splicing what is left, completes as the whole queue does.
+use Rattle.std.proofs.Common.{◌≡◌, ◌≢◌, ℕ, Bool, ◌<◌, List, ◌++◌, length, drop, refl, ap, ◌∙◌, Option, Some, None}
+use Rattle.signalling_types.specs.Message.{Message}
+use Rattle.cell_pool.specs.Lanes.{lane_at}
+use Rattle.link_sequence.specs.Queue.{Queue}
+use Rattle.link_sequence.specs.Counts.{Counts, counts_of}
+use Rattle.link_sequence.specs.Keeps.{Keeps}
+use Rattle.link_sequence.proofs.Keeping.{answers-last_accepted}
+use Rattle.changeover.specs.Completion.{users_of, managements_of, accepted_count, doubted, held_after, queued_anew}
+use Rattle.changeover.specs.Failure.{begins_with, beginning, kept_beginning}
+use Rattle.changeover.specs.Kept.{kept_accepted_count, kept_behind, kept_done, kept_done_with, kept_doubted}
+use Rattle.changeover.specs.Lanes.{spliced}
+use Rattle.changeover.proofs.Keeping.{ahead, alike, counted}
+use Rattle.changeover.proofs.Splicing.{splices}
+
+behind-done : (k : Counts) (lane : List Message) (count : Option ℕ) → drop (kept_done k count) lane ≡ kept_behind k lane count
+behind-done k lane (Some count) = refl
+behind-done k lane None = refl
+
+pub held-completed : (w : ℕ) (lists : List (List Message)) (lane held : ℕ) (k : Counts) (q : Queue) (number : Option ℕ) →
+    lane < length lists → held < length lists → lane ≢ held → Keeps w k (lane_at lists lane) q →
+    lane_at (spliced lists lane (kept_done_with k number) held) held ≡ held_after q number (lane_at lists held)
+held-completed w lists lane held k q number inside target apart h =
+    (splices lists lane (kept_done_with k number) held inside target apart).0
+    ∙ ap (λ (ms : List Message). users_of ms ++ lane_at lists held) (behind-done k (lane_at lists lane) (kept_accepted_count k number))
+    ∙ ap (λ (ms : List Message). ms ++ lane_at lists held) (alike w k (lane_at lists lane) q number h).0
+
+pub anew-completed : (w : ℕ) (lists : List (List Message)) (lane held : ℕ) (k : Counts) (q : Queue) (number : Option ℕ) →
+    lane < length lists → held < length lists → lane ≢ held → Keeps w k (lane_at lists lane) q →
+    lane_at (spliced lists lane (kept_done_with k number) held) lane ≡ queued_anew q number
+anew-completed w lists lane held k q number inside target apart h =
+    (splices lists lane (kept_done_with k number) held inside target apart).1
+    ∙ ap managements_of (behind-done k (lane_at lists lane) (kept_accepted_count k number))
+    ∙ (alike w k (lane_at lists lane) q number h).1
+
+doubted-ahead : (q : Queue) (count : Option ℕ) → kept_doubted (counts_of q) (ahead q count) ≡ doubted q count
+doubted-ahead q (Some n) = refl
+doubted-ahead q None = refl
+
+pub doubted-alike : (w : ℕ) (k : Counts) (lane : List Message) (q : Queue) (number : Option ℕ) → Keeps w k lane q →
+    kept_doubted k (kept_accepted_count k number) ≡ doubted q (accepted_count q number)
+doubted-alike w k lane q number h =
+    rw h.counts (ap (kept_doubted (counts_of q)) (counted q number h.sound) ∙ doubted-ahead q (accepted_count q number))
+
+pub beginning-alike : (w : ℕ) (link_left : Bool) (k : Counts) (lane : List Message) (q : Queue) → Keeps w k lane q →
+    kept_beginning link_left k ≡ beginning link_left q
+beginning-alike w link_left k lane q h = ap (begins_with link_left) (answers-last_accepted k lane q h)

@@ -1,0 +1,9 @@
+-- How the standing of a changeover is kept.
+use Rattle.changeover.specs.Standing.{Standing}
+use Rattle.changeover.specs.declared.standing.LinkStanding.TheInside.{Inside}
+
+abbrev pub standing_in : Inside → Standing
+standing_in s = record { incomplete = s.incomplete; awaited = s.awaited }
+
+abbrev pub fields_of : Standing → Inside
+fields_of s = record { incomplete = s.incomplete; awaited = s.awaited }

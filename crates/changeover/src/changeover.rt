@@ -1,0 +1,126 @@
+//! The changeovers of the links of a node.
+
+ghost use Rattle.std.specs.Prelude.{◌≡◌, ℕ, ◌<◌, List, length, replicate, IfOk, if◌then◌else◌};
+ghost use Rattle.signalling_types.specs.Message.{Message};
+ghost use Rattle.link_sequence.specs.Queue.{Queue};
+ghost use Rattle.link_sequence.specs.Keeps.{Keeps};
+ghost use Rattle.changeover.specs.Failure.{beginning, kept_beginning};
+ghost use Rattle.changeover.specs.Standing.{no_changeover, standing_at, with_standing, may_restart, failed};
+ghost use Rattle.changeover.specs.Standing.{begun_by_peer, completed, answered, completed_by_answer, expired};
+
+use crate::beginning::Beginning;
+use crate::standing::LinkStanding;
+use link_sequence::Sequence;
+use signalling_types::{ChangeoverTimer, LinkId};
+use std::alloc::{AllocError, Global};
+use std::marker::Model;
+
+/// How far the changeover of each link of a node is: whether it is complete, and whether the answer to its changeover
+/// order is awaited (Q.704 §5).
+///
+/// All room is made by `new`, two octets for each link. Every other call takes a fixed number of steps.
+#[derive(Drop)]
+pub struct Changeover {
+    links: Vec<LinkStanding>,
+}
+
+impl Model for Changeover {
+    ghost use Rattle.std.specs.Prelude.{List};
+    ghost use Rattle.changeover.specs.Standing.{Standing};
+
+    ghost Value = { List Standing };
+
+    ghost view = { λ c. c.links.items };
+}
+
+impl Changeover {
+    /// For so many links, of which none has failed. The error means that memory ran out.
+    pub fn new(alloc: Global, links: usize) -> Result<Changeover, AllocError>
+        ensures { IfOk result (λ changeover. changeover ≡ replicate links no_changeover) }
+    {
+        Ok(Changeover {
+            links: vec![in alloc; LinkStanding::none(); links]?,
+        })
+    }
+
+    /// Begins the changeover of a link that failed in service (Q.704 §5.2, §5.3), and says with what. `link_left` says
+    /// whether another link to its adjacent point is in service, and `sequence` has the numbers of the failed link.
+    pub fn failed(&mut self, link: LinkId, link_left: bool, sequence: &Sequence) -> Beginning
+        requires { link < length self.old }
+        ensures beginning { result ≡ kept_beginning link_left sequence.now }
+        ensures queue { (w : ℕ) (lane : List Message) (q : Queue) →
+            Keeps w sequence.now lane q → result ≡ beginning link_left q }
+        ensures standing { self.new ≡ with_standing self.old link (failed link_left (standing_at self.old link)) }
+    {
+        self.links[link.index()] = self.standing(link).failed(link_left);
+        Beginning::of(link_left, sequence)
+    }
+
+    /// Begins the changeover of a link that the adjacent point's order made fail. No order of its own goes out.
+    pub fn failed_by_peer(&mut self, link: LinkId)
+        requires { link < length self.old }
+        ensures { self.new ≡ with_standing self.old link (begun_by_peer (standing_at self.old link)) }
+    {
+        self.links[link.index()] = self.standing(link).begun_by_peer();
+    }
+
+    /// Takes an order about a link, with a number or without one, and says whether an incomplete changeover is to be
+    /// completed now; it counts as complete from then on. An answer that is awaited stays awaited.
+    pub fn order(&mut self, link: LinkId) -> bool
+        requires { link < length self.old }
+        ensures completes { result ≡ (standing_at self.old link).incomplete }
+        ensures standing { self.new ≡ with_standing self.old link (completed (standing_at self.old link)) }
+    {
+        let standing = self.standing(link);
+        self.links[link.index()] = standing.completed();
+        standing.is_incomplete()
+    }
+
+    /// Takes an answer about a link, with a number or without one. None, and nothing changes, where no answer is
+    /// awaited. Else it is no longer awaited, and the call says whether an incomplete changeover is to be completed
+    /// now; it counts as complete from then on.
+    pub fn answer(&mut self, link: LinkId) -> Option<bool>
+        requires { link < length self.old }
+        ensures completes { result ≡ completed_by_answer (standing_at self.old link) }
+        ensures standing { self.new ≡ (if (standing_at self.old link).awaited
+            then with_standing self.old link (answered (standing_at self.old link)) else self.old) }
+    {
+        let standing = self.standing(link);
+        if !standing.is_awaited() {
+            return None;
+        }
+        self.links[link.index()] = standing.answered();
+        Some(standing.is_incomplete())
+    }
+
+    /// A timer of a link's changeover ran out (Q.704 §16.8): says whether an incomplete changeover is to be completed
+    /// now, without a number; it counts as complete from then on. T2 also ends the wait for the answer.
+    pub fn expired(&mut self, link: LinkId, timer: ChangeoverTimer) -> bool
+        requires { link < length self.old }
+        ensures completes { result ≡ (standing_at self.old link).incomplete }
+        ensures standing { self.new ≡ with_standing self.old link (expired timer (standing_at self.old link)) }
+    {
+        let standing = self.standing(link);
+        self.links[link.index()] = match timer {
+            ChangeoverTimer::T1 => standing.completed(),
+            ChangeoverTimer::T2 => standing.answered(),
+        };
+        standing.is_incomplete()
+    }
+
+    /// Whether a link may open again: its changeover is complete, and no answer is awaited.
+    pub fn may_restart(&self, link: LinkId) -> bool
+        requires { link < length self.now }
+        ensures { result ≡ may_restart (standing_at self.now link) }
+    {
+        self.standing(link).may_restart()
+    }
+
+    /// How far the changeover of a link is.
+    fn standing(&self, link: LinkId) -> LinkStanding
+        requires { link < length self.now }
+        ensures { result ≡ standing_at self.now link }
+    {
+        self.links[link.index()]
+    }
+}

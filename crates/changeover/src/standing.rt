@@ -1,0 +1,98 @@
+//! How far the changeover of one link is.
+
+ghost use Rattle.std.specs.Prelude.{◌≡◌};
+ghost use Rattle.changeover.specs.Standing.{no_changeover, may_restart, failed, begun_by_peer, completed, answered};
+
+use std::marker::Model;
+
+/// How far the changeover of one link is.
+#[derive(Clone, Copy)]
+pub(crate) struct LinkStanding {
+    incomplete: bool,
+    awaited: bool,
+}
+
+impl Model for LinkStanding {
+    ghost use Rattle.changeover.specs.Standing.{Standing};
+
+    ghost Value = { Standing };
+
+    ghost use Rattle.changeover.specs.Inside.{standing_in, fields_of};
+
+    ghost view = { standing_in };
+
+    ghost inverse = { fields_of };
+}
+
+impl LinkStanding {
+    /// That of a link which hasn't failed.
+    pub(crate) fn none() -> LinkStanding
+        ensures { result ≡ no_changeover }
+    {
+        LinkStanding {
+            incomplete: false,
+            awaited: false,
+        }
+    }
+
+    /// Whether it isn't complete.
+    pub(crate) fn is_incomplete(self) -> bool
+        ensures { result ≡ self.incomplete }
+    {
+        self.incomplete
+    }
+
+    /// Whether the answer to its order is awaited.
+    pub(crate) fn is_awaited(self) -> bool
+        ensures { result ≡ self.awaited }
+    {
+        self.awaited
+    }
+
+    /// Whether the link may open again.
+    pub(crate) fn may_restart(self) -> bool
+        ensures { result ≡ may_restart self }
+    {
+        !self.incomplete && !self.awaited
+    }
+
+    /// After the link failed in service. Its own order went out, or not.
+    pub(crate) fn failed(self, ordered: bool) -> LinkStanding
+        ensures { result ≡ failed ordered self }
+    {
+        LinkStanding {
+            incomplete: true,
+            awaited: ordered,
+        }
+    }
+
+    /// After the adjacent point's order made the link fail.
+    pub(crate) fn begun_by_peer(self) -> LinkStanding
+        ensures { result ≡ begun_by_peer self }
+    {
+        LinkStanding {
+            incomplete: true,
+            ..self
+        }
+    }
+
+    /// After it is completed. An answer that is awaited stays awaited.
+    pub(crate) fn completed(self) -> LinkStanding
+        ensures { result ≡ completed self }
+    {
+        LinkStanding {
+            incomplete: false,
+            ..self
+        }
+    }
+
+    /// After the answer came, or is no longer waited for.
+    pub(crate) fn answered(self) -> LinkStanding
+        ensures { result ≡ answered self }
+    {
+        LinkStanding {
+            awaited: false,
+            ..self.completed()
+        }
+    }
+}
