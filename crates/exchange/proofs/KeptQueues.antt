@@ -85,8 +85,8 @@ found-kept {w} qs l number s =
     let r : is_some (kept_accepted_count (counts_of q) number) ≡ is_some (accepted_count q number) = counted-some q number (s.each l) in
     rw (counts_at-kept qs l, lane_at-kept qs l)
     (ap (λ (b : Bool). record { is_reasonable = b; lost = kept_lost (counts_of q) (unconfirmed q) number; queued_anew = kept_queued_anew (counts_of q) (unconfirmed q) number }) r
-    ∙ ap (λ (ms : List Message). record { is_reasonable = is_some (accepted_count q number); lost = ms; queued_anew = kept_queued_anew (counts_of q) (unconfirmed q) number }) a.1.1
-    ∙ ap (λ (ms : List Message). record { is_reasonable = is_some (accepted_count q number); lost = lost q number; queued_anew = ms }) a.1.0)
+    ∙ ap (λ (ms : List Message). record { is_reasonable = is_some (accepted_count q number); lost = ms; queued_anew = kept_queued_anew (counts_of q) (unconfirmed q) number }) a.2
+    ∙ ap (λ (ms : List Message). record { is_reasonable = is_some (accepted_count q number); lost = lost q number; queued_anew = ms }) a.1)
 
 completed-kept : {w : ℕ} (qs : WholeQueues) (l : ℕ) (number : Option ℕ) → AreQueues w qs → kept.completed (kept_queues_of qs) l number ≡ kept_queues_of (whole.completed qs l number)
 completed-kept {w} qs l number s =

@@ -39,9 +39,13 @@ judged false p = flagged p
 abbrev pub lifted_parts : ℕ → Parts → Parts
 lifted_parts link p = record p { holds = lifted p.holds (Changeover link); timers = clear_timer (T1 link) p.timers }
 
+-- what is lost is noted
+abbrev pub doubted : Found → Parts → Parts
+doubted found p = judged found.is_reasonable (lose_each found.lost p)
+
 -- the parts when a completion has found this
 abbrev pub concluded : ℕ → Found → Parts → Parts
-concluded link found p = lifted_parts link (judged found.is_reasonable (lose_each found.lost p))
+concluded link found p = lifted_parts link (doubted found p)
 
 -- the answer about a link, with the number of the last message that was accepted on it
 abbrev pub answer_about : Configuration → ℕ → ℕ → Message

@@ -25,4 +25,6 @@ pub mod Stands
 pub mod Runs
 pub mod Room
 pub mod Taking
+pub mod Head
+pub mod Draining
 pub mod Laws

@@ -11,23 +11,30 @@ ghost use Rattle.exchange.specs.Stands.{Abstract, StandsFor};
 
 mod arrival;
 mod boot;
+mod changing_over;
 mod failing;
 mod frames;
+mod labels;
+mod lanes;
 mod local;
 mod made;
 mod messages;
 mod noting;
 mod opening;
+mod releasing;
 mod runs;
 mod sending;
 mod statuses;
+mod suspending;
 mod ticking;
 mod timing;
 mod views;
 
 use crate::event::{Event, Order};
 use cell_pool::RingLanes;
+use changeover::Changeover;
 use circular_buffer::HeapCircularBuffer;
+use flow_hold::Holds;
 use link_sequence::Sequence;
 use m2pa_codec::BUFFER_OCTETS;
 use node_links::NodeLinks;
@@ -45,8 +52,13 @@ pub struct Exchange {
     lanes: RingLanes,
     sequences: Vec<Sequence>,
     links: NodeLinks,
+    changeovers: Changeover,
+    holds: Holds,
     timers: Timers,
     notices: HeapCircularBuffer<Notice>,
+    lost_any: bool,
+    // whether a hold changed since the messages of Held were last gone through
+    release_due: bool,
 }
 
 impl Model for Exchange {
@@ -103,9 +115,19 @@ impl Exchange {
 }
 
 impl Exchange {
-    /// Hands an event to its handler.
+    /// Hands an event to its handler; then what is held no longer goes on.
     #[inline(always)]
     fn apply(&mut self, event: &Event<'_>) -> Outcome
+        ensures { Ends self.old result self.new (rule.done_by kept self.old.settings (happened event.now) self.old.node) }
+    {
+        let outcome = self.handle_event(event);
+        self.settle();
+        outcome
+    }
+
+    /// Hands an event to its handler.
+    #[inline(always)]
+    fn handle_event(&mut self, event: &Event<'_>) -> Outcome
         ensures { Ends self.old result self.new (rule.apply kept self.old.settings (happened event.now) self.old.node) }
     {
         match event {

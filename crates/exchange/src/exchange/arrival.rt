@@ -1,11 +1,14 @@
 //! The arrival of a message for another point.
 
-ghost use Rattle.std.specs.Prelude.{◌≡◌, ◌<◌, ◌≤◌, length, IfSome};
-ghost use Rattle.std.specs.Option.{option_and_then};
+ghost use Rattle.std.specs.Prelude.{◌≡◌, ◌<◌, ◌≤◌, ◌&&◌, None, true, false, not, length, IfSome};
 ghost use Rattle.signalling_types.specs.Lent.{lent};
+ghost use Rattle.signalling_types.specs.Message.{is_management};
+ghost use Rattle.flow_hold.specs.Holds.{is_held};
+ghost use Rattle.exchange.specs.Holding as holding;
 ghost use Rattle.route_table.specs.Chosen.{chosen_link};
 ghost use Rattle.exchange.specs.Queues.{kept};
 ghost use Rattle.exchange.specs.Exchange.{Ends};
+ghost use Rattle.exchange.specs.Routing as routing;
 ghost use Rattle.exchange.specs.Routing.{facts};
 ghost use Rattle.exchange.specs.Arrival as rule;
 
@@ -15,7 +18,7 @@ use routing_label::Label;
 use stp_types::{Cause, Limits, LinkId, MsuRef, Outcome, Sls};
 
 impl Exchange {
-    /// A message for another point: a known destination, then room, then a route.
+    /// A message for another point: a known destination, then room, then no hold, then a route.
     #[inline(always)]
     pub(super) fn transfer(&mut self, message: MsuRef<'_>) -> Outcome
         requires label { 4 ≤ length message.sif.now }
@@ -32,10 +35,49 @@ impl Exchange {
         if let Some(cause) = self.lanes.refusal(message) {
             return Outcome::Refused(cause);
         }
-        let Some(link) = self.link_to(destination, label.sls) else {
+        if self.is_waiting(message, destination, label.sls) {
+            self.offer_held(message)
+        } else {
+            self.offer_on(self.link_to(destination, label.sls), message)
+        }
+    }
+
+    /// Whether a message to the destination of this number waits: a user message whose flow has a hold.
+    #[inline(always)]
+    fn is_waiting(&self, message: MsuRef<'_>, destination: usize, sls: Sls) -> bool
+        ensures { result ≡
+            (not (is_management (lent message.entry)) && is_held self.now.node.parts.holds destination sls) }
+    {
+        !message.is_management() && self.holds.is_held(destination, sls)
+    }
+
+    /// A message that waits stands at the end of Held, where it has room.
+    fn offer_held(&mut self, message: MsuRef<'_>) -> Outcome
+        requires fits { length message.sif.now ≤ Limits.SIF_OCTETS }
+        requires waits { holding.waits self.old.settings self.old.node.parts.holds (lent message) ≡ true }
+        ensures { Ends self.old result self.new (rule.offer kept self.old.settings
+            (rule.no_room kept self.old.settings (lent message.entry) self.old.node.queues) true None
+            (lent message.entry) self.old.node) }
+    {
+        match self.hold(message) {
+            Ok(()) => Outcome::Held,
+            Err(cause) => Outcome::Refused(cause),
+        }
+    }
+
+    /// A message stands at the end of the queue of its link, where it has room and a link.
+    #[inline(always)]
+    fn offer_on(&mut self, link: Option<LinkId>, message: MsuRef<'_>) -> Outcome
+        requires link { IfSome link (λ link. link < length self.old.node.parts.links) }
+        requires room { rule.no_room kept self.old.settings (lent message) self.old.node.queues ≡ None }
+        requires fits { length message.sif.now ≤ Limits.SIF_OCTETS }
+        ensures { Ends self.old result self.new
+            (rule.offer kept self.old.settings None false link (lent message.entry) self.old.node) }
+    {
+        let Some(link) = link else {
             return Outcome::Refused(Cause::NoRoute);
         };
-        match self.lanes.push_back(link.index(), message) {
+        match self.queue(link, message) {
             Ok(()) => Outcome::Queued(link),
             Err(cause) => Outcome::Refused(cause),
         }
@@ -47,5 +89,17 @@ impl Exchange {
         ensures fits { IfSome result (λ link. link < length self.now.node.parts.links) }
     {
         self.links.link_of(destination, sls)
+    }
+
+    /// The link of the flow of a label.
+    pub(super) fn link_of(&self, label: &Label) -> Option<LinkId>
+        ensures link { result ≡ routing.link_of self.now.settings self.now.node.parts
+            (record { point = label.now.dpc; sls = label.now.sls }) }
+        ensures fits { IfSome result (λ link. link < length self.now.node.parts.links) }
+    {
+        match self.settings.destination(label.dpc) {
+            Some(destination) => self.link_to(destination, label.sls),
+            None => None,
+        }
     }
 }

@@ -1,6 +1,7 @@
 //! The exchange before its first event.
 
-ghost use Rattle.std.specs.Prelude.{◌≡◌, ◌≤◌, replicate, IfOk};
+ghost use Rattle.std.specs.Prelude.{◌≡◌, ◌≤◌, length, replicate, IfOk};
+ghost use Rattle.flow_hold.specs.Holds.{no_holds};
 ghost use Rattle.link_sequence.specs.Counts.{kept_first};
 ghost use Rattle.exchange.specs.Stands.{StandsFor, kept_of, first_state, counts_in};
 ghost use Rattle.exchange.specs.Routing.{first_network_of};
@@ -8,7 +9,9 @@ ghost use Rattle.exchange.specs.Routing.{first_network_of};
 use super::Exchange;
 use crate::memory::NoMemory;
 use cell_pool::RingLanes;
+use changeover::Changeover;
 use circular_buffer::HeapCircularBuffer;
+use flow_hold::Holds;
 use link_sequence::Sequence;
 use node_links::NodeLinks;
 use std::alloc::{AllocError, Global};
@@ -27,9 +30,11 @@ impl Exchange {
     {
         let count = settings.link_count();
         prove!(settings.window() <= Limits::WINDOW);
-        let lanes = RingLanes::new(alloc, count, settings.pool())?;
+        let lanes = RingLanes::new(alloc, count + 1, settings.pool())?;
         let sequences = first_sequences(alloc, count)?;
         let links = node_links(alloc, &settings)?;
+        let changeovers = Changeover::new(alloc, count)?;
+        let holds = no_holds(alloc, &settings)?;
         let timers = Timers::new(alloc, counts_in(&settings))?;
         let notices = HeapCircularBuffer::with_capacity(alloc, Limits::NOTICES)?;
         Ok(Exchange {
@@ -37,8 +42,12 @@ impl Exchange {
             lanes,
             sequences,
             links,
+            changeovers,
+            holds,
             timers,
             notices,
+            lost_any: false,
+            release_due: false,
         })
     }
 }
@@ -59,6 +68,16 @@ fn node_links(alloc: Global, settings: &Settings) -> Result<NodeLinks, AllocErro
 {
     let sets = settings.sets().len();
     NodeLinks::new(alloc, sets, settings.links(), settings.destinations())
+}
+
+/// No holds, for the links, sets and destinations of these settings.
+fn no_holds(alloc: Global, settings: &Settings) -> Result<Holds, AllocError>
+    ensures { IfOk result (λ holds. holds ≡ no_holds (length settings.now.links) (length settings.now.sets)
+        (length settings.now.destinations)) }
+{
+    let sets = settings.sets().len();
+    let destinations = settings.destinations().len();
+    Holds::new(alloc, settings.links().len(), sets, destinations)
 }
 
 /// How many links, sets and destinations the settings have.

@@ -1,24 +1,55 @@
-//! The failure of a link.
+//! The failure of a link, and the changeover that it begins.
 
-ghost use Rattle.std.specs.Prelude.{◌≡◌, ◌<◌, length};
+ghost use Rattle.std.specs.Prelude.{◌≡◌, ◌<◌, length, true};
 ghost use Rattle.exchange.specs.State.{with_node, with_parts};
-ghost use Rattle.exchange.specs.Queues.{kept, without_lane};
+ghost use Rattle.exchange.specs.Links.{in_service};
+ghost use Rattle.exchange.specs.Queues.{kept};
+ghost use Rattle.exchange.specs.Made as made;
 ghost use Rattle.exchange.specs.Failing as rule;
 
 use super::Exchange;
-use cell_pool::Lanes;
-use stp_types::{FailureReason, LinkId, Notice};
+use changeover::Beginning;
+use link_number::Number24;
+use mgmt_codec::Management;
+use settings_rows::LinkRow;
+use stp_types::{FailureReason, LinkId, Notice, PointCode, Sls};
+use timer_wheel::TimerName;
 
 impl Exchange {
-    /// A link fails, and its queue is emptied.
+    /// A link fails. Where it was in service, its changeover begins.
     pub(super) fn fail(&mut self, link: LinkId, why: FailureReason)
         requires { link < length self.old.node.parts.links }
-        ensures { self.new ≡ with_node self.old (rule.fail kept link why self.old.node) }
+        ensures { self.new ≡ with_node self.old (rule.fail kept self.old.settings link why self.old.node) }
     {
-        let index = link.index();
+        if self.drop_out(link, why) {
+            self.change_over(link);
+        }
+    }
+
+    /// A link fails since its peer tells so. Where it was in service, its changeover begins, with no order to the peer.
+    pub(super) fn fail_by_peer(&mut self, link: LinkId)
+        requires { link < length self.old.node.parts.links }
+        ensures { self.new ≡ with_node self.old (rule.fail_by_peer kept self.old.settings link self.old.node) }
+    {
+        if self.drop_out(link, FailureReason::Changeover) {
+            self.changeovers.failed_by_peer(link);
+        }
+    }
+
+    /// A link goes down, and says whether it was in service. Then the flows that its changeover is to hold are held
+    /// first: until then it is their link.
+    fn drop_out(&mut self, link: LinkId, why: FailureReason) -> bool
+        requires { link < length self.old.node.parts.links }
+        ensures served { result ≡ in_service self.old.node.parts link }
+        ensures state { self.new ≡ with_node self.old (rule.drop_out kept self.old.settings
+            (in_service self.old.node.parts link) link why self.old.node) }
+    {
+        let served = self.links.state(link).is_in_service();
+        if served {
+            self.suspend(link);
+        }
         self.fall(link, why);
-        self.drop_all(index);
-        self.sequences[index].empty();
+        served
     }
 
     /// A link is down, its timers don't run, and that is noted.
@@ -31,13 +62,70 @@ impl Exchange {
         self.note(Notice::Failed(link, why));
     }
 
-    /// Drops the messages of a link's list.
-    pub(super) fn drop_all(&mut self, link: usize)
+    /// The changeover of a link begins: an order goes out where a link of its set is left.
+    fn change_over(&mut self, link: LinkId)
         requires { link < length self.old.node.parts.links }
-        ensures { self.new ≡
-            with_node self.old (record self.old.node { queues = without_lane self.old.node.queues link }) }
+        ensures { self.new ≡ with_node self.old (rule.change_over kept self.old.settings true link self.old.node) }
     {
-        let count = self.lanes.count(link);
-        self.lanes.drop_front(link, count);
+        let left = self.has_other(link);
+        let sequence = &self.sequences[link.index()];
+        match self.changeovers.failed(link, left, sequence) {
+            Beginning::Orders(number) => {
+                self.timers
+                    .set(TimerName::T2(link), self.settings.timers().t2);
+                self.order_about(link, number);
+            }
+            Beginning::Waits => {
+                self.timers
+                    .set(TimerName::T1(link), self.settings.timers().t1);
+            }
+        }
+    }
+
+    /// Orders the peer to change over from a link, with the number of the last message that was accepted on it.
+    fn order_about(&mut self, link: LinkId, number: Number24)
+        requires { link < length self.old.node.parts.links }
+        ensures { self.new ≡ with_node self.old (made.send_routed kept self.old.settings
+            (rule.order_about self.old.settings link number) self.old.node) }
+    {
+        let order = Management::ExtendedChangeoverOrder(self.code_of(link), number);
+        self.tell(self.peer_of(link), &order);
+    }
+
+    /// Whether a link of the same set is in service.
+    fn has_other(&self, link: LinkId) -> bool
+        requires { link < length self.now.node.parts.links }
+        ensures { result ≡ rule.has_other self.now.settings link self.now.node.parts }
+    {
+        self.links.has_link(self.row_of(link).set())
+    }
+
+    /// The signalling link code of a link.
+    pub(super) fn code_of(&self, link: LinkId) -> Sls
+        requires { link < length self.now.node.parts.links }
+        ensures { result ≡ (rule.entry_of self.now.settings link).slc }
+    {
+        let Some(code) = Sls::new(self.row_of(link).slc()) else {
+            unreachable!()
+        };
+        code
+    }
+
+    /// The point that a link leads to.
+    pub(super) fn peer_of(&self, link: LinkId) -> PointCode
+        requires { link < length self.now.node.parts.links }
+        ensures { result ≡ rule.peer_of self.now.settings link }
+    {
+        let set = self.row_of(link).set();
+        self.settings.sets()[set.index()].adjacent()
+    }
+
+    /// The row of a link in the settings.
+    fn row_of(&self, link: LinkId) -> &LinkRow
+        requires { link < length self.now.node.parts.links }
+        ensures row { result.now ≡ rule.entry_of self.now.settings link }
+        ensures set { (rule.entry_of self.now.settings link).set < length self.now.settings.sets }
+    {
+        &self.settings.links()[link.index()]
     }
 }

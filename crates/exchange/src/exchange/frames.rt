@@ -104,9 +104,8 @@ impl Exchange {
         ensures { Ends self.old result self.new
             (rule.handle kept self.old.settings link (carrying fsn bsn message.entry) self.old.node) }
     {
-        let index = link.index();
         let carries = message.is_some();
-        match self.sequences[index].accept(&mut self.lanes, index, fsn, bsn, carries) {
+        match self.accept(link, fsn, bsn, carries) {
             Err(_) => {
                 self.fail(link, FailureReason::Sequence);
                 Outcome::Handled

@@ -1,6 +1,6 @@
 //! A message for this point.
 
-ghost use Rattle.std.specs.Prelude.{◌≡◌, ◌<◌, ◌≤◌, length};
+ghost use Rattle.std.specs.Prelude.{◌≡◌, ◌<◌, ◌≤◌, ◌&&◌, length, position, nat_eq, IfSome};
 ghost use Rattle.signalling_types.specs.Lent.{lent};
 ghost use Rattle.mgmt_codec.specs.LinkTests.{read_link_test};
 ghost use Rattle.mgmt_codec.specs.Management.{read_management};
@@ -12,9 +12,11 @@ ghost use Rattle.exchange.specs.Exchange.{Ends};
 ghost use Rattle.exchange.specs.Local as rule;
 
 use super::Exchange;
+use link_number::Number24;
 use mgmt_codec::{ANSWER_OCTETS, LinkTest, Management, MgmtFault, TestKind};
 use routing_label::Label;
-use stp_types::{Cause, LinkId, MsuRef, Outcome, PointCode};
+use settings_rows::LinkRow;
+use stp_types::{Cause, Limits, LinkId, MsuRef, Outcome, PointCode, SetId, Sls};
 
 /// The service indicator of tests (Q.704 §14.2.1).
 const TESTING: u8 = 1;
@@ -67,7 +69,7 @@ impl Exchange {
         if message.service_indicator() == TESTING {
             self.do_test(link, label.opc, message.sif)
         } else {
-            self.do_management(message.sif)
+            self.do_management(label.opc, message.sif)
         }
     }
 
@@ -104,20 +106,89 @@ impl Exchange {
     }
 
     /// A management message from an adjacent point.
-    fn do_management(&mut self, sif: &[u8]) -> Outcome
-        ensures { Ends self.old result self.new (rule.do_read (read_management sif.now) self.old.node) }
+    fn do_management(&mut self, point: PointCode, sif: &[u8]) -> Outcome
+        ensures { Ends self.old result self.new
+            (rule.do_read kept self.old.settings (read_management sif.now) point self.old.node) }
     {
         match Management::read(sif) {
             Err(fault) => Outcome::Refused(cause_of(fault)),
-            Ok(Management::TrafficRestartAllowed) => Outcome::Ignored,
-            Ok(
-                Management::ExtendedChangeoverOrder(_, _)
-                | Management::ExtendedChangeoverAcknowledgement(_, _)
-                | Management::EmergencyChangeoverOrder(_)
-                | Management::EmergencyChangeoverAcknowledgement(_),
-            ) => Outcome::Refused(Cause::NotInProfile),
+            Ok(message) => self.heed(point, message),
         }
     }
+
+    /// Does what a management message from an adjacent point asks; that it has restarted asks nothing.
+    fn heed(&mut self, point: PointCode, message: Management) -> Outcome
+        ensures { Ends self.old result self.new
+            (rule.do_management kept self.old.settings message point self.old.node) }
+    {
+        match message {
+            Management::TrafficRestartAllowed => Outcome::Ignored,
+            Management::ExtendedChangeoverOrder(slc, number) => {
+                let link = self.link_with_code(point, slc);
+                self.do_order(link, Some(number))
+            }
+            Management::EmergencyChangeoverOrder(slc) => {
+                let link = self.link_with_code(point, slc);
+                self.do_order(link, None)
+            }
+            Management::ExtendedChangeoverAcknowledgement(slc, number) => {
+                let link = self.link_with_code(point, slc);
+                self.do_acknowledgement(link, Some(number))
+            }
+            Management::EmergencyChangeoverAcknowledgement(slc) => {
+                let link = self.link_with_code(point, slc);
+                self.do_acknowledgement(link, None)
+            }
+        }
+    }
+
+    /// An order to change over from a link of the set to its sender.
+    fn do_order(&mut self, link: Option<LinkId>, number: Option<Number24>) -> Outcome
+        requires { IfSome link (λ link. link < length self.old.node.parts.links) }
+        ensures { Ends self.old result self.new (rule.do_order kept self.old.settings link number self.old.node) }
+    {
+        match link {
+            Some(link) => self.order(link, number),
+            None => Outcome::Refused(Cause::BadManagement),
+        }
+    }
+
+    /// The answer to such an order.
+    fn do_acknowledgement(&mut self, link: Option<LinkId>, number: Option<Number24>) -> Outcome
+        requires { IfSome link (λ link. link < length self.old.node.parts.links) }
+        ensures { Ends self.old result self.new
+            (rule.do_acknowledgement kept self.old.settings link number self.old.node) }
+    {
+        match link {
+            Some(link) => self.acknowledge(link, number),
+            None => Outcome::Refused(Cause::BadManagement),
+        }
+    }
+
+    /// The link of a code in the set that leads to a point.
+    fn link_with_code(&self, point: PointCode, slc: Sls) -> Option<LinkId>
+        ensures link { result ≡ rule.link_with_code self.now.settings point slc }
+        ensures fits { IfSome result (λ link. link < length self.now.node.parts.links) }
+    {
+        match self.settings.set_to(point) {
+            Some(set) => link_in_set(self.settings.links(), slc, set),
+            None => None,
+        }
+    }
+}
+
+/// The link of a code in a set.
+fn link_in_set(links: &[LinkRow], slc: Sls, set: SetId) -> Option<LinkId>
+    requires { length links.now ≤ Limits.LINKS }
+    ensures link { result ≡ position (λ l. nat_eq l.set set && nat_eq l.slc slc) links.now }
+    ensures fits { IfSome result (λ link. link < length links.now) }
+{
+    for (index, row) in links.iter().enumerate() {
+        if row.set() == set && row.slc() == slc.number() {
+            return Some(LinkId::new(index as u8));
+        }
+    }
+    None
 }
 
 /// Why a management or test message that can't be read is refused.

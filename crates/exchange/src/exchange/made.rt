@@ -1,15 +1,22 @@
-//! Management that this node makes.
+//! Management that this node makes, or that a link left over when it failed.
 
 ghost use Rattle.std.specs.Prelude.{◌≡◌, ◌<◌, ◌≤◌, length};
 ghost use Rattle.signalling_types.specs.Lent.{lent};
 ghost use Rattle.signalling_types.specs.Message.{dpc_of};
-ghost use Rattle.exchange.specs.State.{with_node};
+ghost use Rattle.exchange.specs.State.{with_node, with_parts};
 ghost use Rattle.exchange.specs.Queues.{kept};
+ghost use Rattle.exchange.specs.Noting.{note, flagged};
+ghost use Rattle.signalling_types.specs.declared.notice.Notice.TheVariants as notices;
 ghost use Rattle.exchange.specs.Made as rule;
 
 use super::Exchange;
 use cell_pool::Lanes;
-use stp_types::{Limits, LinkId, MsuRef, Notice, PointCode};
+use mgmt_codec::{MANAGEMENT_OCTETS, Management};
+use routing_label::Label;
+use stp_types::{Cause, Limits, LinkId, MsuRef, Notice, PointCode};
+
+/// The service indicator of management (Q.704 §14.2.1).
+const MANAGEMENT: u8 = 0;
 
 impl Exchange {
     /// The service information octet of a message made here, with this service indicator: it names this node's network.
@@ -28,8 +35,52 @@ impl Exchange {
         ensures { self.new ≡
             with_node self.old (rule.send_on kept self.old.settings link (lent message.entry) self.old.node) }
     {
-        if let Err(cause) = self.lanes.push_back(link.index(), message) {
-            self.note(Notice::Unsent(cause, point));
+        if let Err(cause) = self.queue(link, message) {
+            self.unsent(cause, point);
         }
+    }
+
+    /// A management message made here for a point goes out on the link of its flow.
+    pub(super) fn tell(&mut self, point: PointCode, message: &Management)
+        ensures { self.new ≡ with_node self.old (rule.send_routed kept self.old.settings
+            (rule.management_to self.old.settings point message.now) self.old.node) }
+    {
+        let mut octets = [0; MANAGEMENT_OCTETS];
+        let count = message.write(point, self.settings.own(), &mut octets);
+        let sio = self.own_sio(MANAGEMENT);
+        self.send_routed(MsuRef {
+            sio,
+            sif: &octets[..count],
+        });
+    }
+
+    /// A message made here goes out on the link of its flow. Where it finds no room or no link it is dropped, and that
+    /// is noted.
+    fn send_routed(&mut self, message: MsuRef<'_>)
+        requires label { 4 ≤ length message.sif.now }
+        requires fits { length message.sif.now ≤ Limits.SIF_OCTETS }
+        ensures { self.new ≡
+            with_node self.old (rule.send_routed kept self.old.settings (lent message.entry) self.old.node) }
+    {
+        let Some(label) = Label::read(message.sif) else {
+            unreachable!()
+        };
+        if let Some(cause) = self.lanes.refusal(message) {
+            self.unsent(cause, label.dpc);
+            return;
+        }
+        match self.link_of(&label) {
+            Some(link) => self.send_on(link, label.dpc, message),
+            None => self.unsent(Cause::NoRoute, label.dpc),
+        }
+    }
+
+    /// A management message for a point is dropped, and that is noted.
+    pub(super) fn unsent(&mut self, cause: Cause, point: PointCode)
+        ensures { self.new ≡ with_node self.old (with_parts self.old.node
+            (flagged (note (notices.Unsent cause point) self.old.node.parts))) }
+    {
+        self.lost_any = true;
+        self.note(Notice::Unsent(cause, point));
     }
 }

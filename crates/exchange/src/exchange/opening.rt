@@ -16,7 +16,8 @@ use stp_types::{Cause, FailureReason, LinkId, Outcome};
 impl Exchange {
     /// What a link asks of its caller; Nothing where the link isn't there.
     ///
-    /// Open where it is down without an association, and the operator lets it open; Close where it is down with one.
+    /// Open where it is down without an association, the operator lets it open, its changeover is complete and no answer
+    /// to its changeover order is awaited; Close where it is down with an association.
     pub fn wants(&self, link: LinkId) -> Wants
         ensures wants { (a : Abstract) → StandsFor self.now a → result ≡ wants_of a link }
         ensures kept_wants { result ≡ wants_of self.now link }
@@ -29,7 +30,7 @@ impl Exchange {
             Wants::Nothing
         } else if state.has_association() {
             Wants::Close
-        } else if state.is_active() {
+        } else if state.is_active() && self.changeovers.may_restart(link) {
             Wants::Open
         } else {
             Wants::Nothing
@@ -47,6 +48,9 @@ impl Exchange {
         if state.has_association() || !state.is_active() {
             return Outcome::Refused(Cause::LinkNotReady);
         }
+        if !self.changeovers.may_restart(link) {
+            return Outcome::Refused(Cause::ChangeoverPending);
+        }
         self.open_link(link);
         Outcome::Handled
     }
@@ -56,9 +60,8 @@ impl Exchange {
         requires { link < length self.old.node.parts.links }
         ensures { self.new ≡ with_node self.old (rule.open_link kept self.old.settings link self.old.node) }
     {
-        let index = link.index();
-        self.drop_all(index);
-        self.sequences[index] = Sequence::start();
+        self.drop_all(link);
+        self.sequences[link.index()] = Sequence::start();
         self.links.open(link);
         self.time(link, &Alignment::open());
     }

@@ -12,6 +12,7 @@ ghost use Rattle.exchange.specs.Sending as rule;
 ghost use Rattle.exchange.specs.Taking.{Writes, frame_of, message_out, owed_out, data_out, sent};
 
 use super::Exchange;
+use super::lanes::lane_of;
 use cell_pool::RingLanes;
 use link_alignment::LinkTimer;
 use link_sequence::Sequence;
@@ -89,7 +90,7 @@ impl Exchange {
         let window = self.settings.window();
         let sequence = &mut self.sequences[index];
         let outstanding = sequence.outstanding();
-        let count = write_message(sequence, &self.lanes, index, window, buffer)?;
+        let count = write_message(sequence, &self.lanes, lane_of(link), window, buffer)?;
         self.links.set_owed(link, false);
         if outstanding == 0 {
             self.start(link, LinkTimer::L7);

@@ -8,7 +8,7 @@ ghost use Rattle.exchange.specs.Ticking as rule;
 
 use super::Exchange;
 use link_alignment::LinkTimer;
-use stp_types::{LinkId, Outcome, SetId};
+use stp_types::{ChangeoverTimer, LinkId, Outcome, SetId};
 use timer_wheel::{TimerName, Timers};
 
 impl Exchange {
@@ -39,7 +39,7 @@ impl Exchange {
         }
     }
 
-    /// Runs a timer. Those of changeover, changeback, rerouting and route management aren't set yet.
+    /// Runs a timer. Those of changeback, rerouting and route management aren't set yet.
     fn run_timer(&mut self, name: TimerName)
         ensures { self.new ≡ with_node self.old (rule.run_timer kept self.old.settings name self.old.node) }
     {
@@ -50,6 +50,8 @@ impl Exchange {
             TimerName::L4(link) => self.run_out(link, LinkTimer::L4),
             TimerName::L6(link) => self.run_out(link, LinkTimer::L6),
             TimerName::L7(link) => self.run_out(link, LinkTimer::L7),
+            TimerName::T1(link) => self.expire(ChangeoverTimer::T1, link),
+            TimerName::T2(link) => self.expire(ChangeoverTimer::T2, link),
             _ => {}
         }
     }

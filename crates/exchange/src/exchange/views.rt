@@ -16,6 +16,15 @@ impl Exchange {
         &self.settings
     }
 
+    /// Whether a message may have been lost since `boot`: a notice of a lost message or of a dropped management message
+    /// fell, a changeover ended without a reasonable number, or T2 ran out. It never falls back to false.
+    pub fn lost_any(&self) -> bool
+        ensures lost { (a : Abstract) → StandsFor self.now a → result ≡ a.node.parts.lost_any }
+        ensures kept_lost { result ≡ self.now.node.parts.lost_any }
+    {
+        self.lost_any
+    }
+
     /// The last 64 notices, the oldest first.
     pub fn notices(&self) -> &HeapCircularBuffer<Notice>
         ensures notices { (a : Abstract) → StandsFor self.now a → result.now.items ≡ a.node.parts.notices }

@@ -1,0 +1,193 @@
+//! How a changeover goes on and ends: by an order or an answer of the peer, or by a timer.
+
+ghost use Rattle.std.specs.Prelude.{◌≡◌, ◌<◌, Some, true, length, slice_get};
+ghost use Rattle.std.specs.Option.{option_map};
+ghost use Rattle.changeover.specs.Standing.{completed, answered};
+ghost use Rattle.exchange.specs.State.{with_node, with_parts};
+ghost use Rattle.exchange.specs.Queues as queues;
+ghost use Rattle.exchange.specs.Queues.{kept, link_lane};
+ghost use Rattle.exchange.specs.Exchange.{Ends};
+ghost use Rattle.exchange.specs.Failing as failing;
+ghost use Rattle.exchange.specs.Draining as draining;
+ghost use Rattle.exchange.specs.ChangingOver as rule;
+
+use super::Exchange;
+use super::lanes::{HELD, lane_of};
+use cell_pool::Lanes;
+use changeover::{complete, in_doubt};
+use flow_hold::Procedure;
+use link_number::Number24;
+use mgmt_codec::Management;
+use stp_types::{Cause, ChangeoverTimer, LinkId, Notice, Outcome};
+use timer_wheel::TimerName;
+
+impl Exchange {
+    /// The peer orders a changeover of a link, with the number of the last message that it accepted there, or without
+    /// one. It is answered in every case.
+    pub(super) fn order(&mut self, link: LinkId, number: Option<Number24>) -> Outcome
+        requires { link < length self.old.node.parts.links }
+        ensures { Ends self.old result self.new (rule.order kept self.old.settings link number self.old.node) }
+    {
+        if !self.links.state(link).is_down() {
+            self.fail_by_peer(link);
+        }
+        if self.changeovers.order(link) {
+            self.conclude(link, number);
+        }
+        self.answer_about(link);
+        Outcome::Handled
+    }
+
+    /// Tells the peer the number of the last message that was accepted on a link.
+    fn answer_about(&mut self, link: LinkId)
+        requires { link < length self.old.node.parts.links }
+        ensures { self.new ≡ with_node self.old (rule.tell kept self.old.settings link self.old.node) }
+    {
+        let number = self.sequences[link.index()].last_accepted();
+        let answer = Management::ExtendedChangeoverAcknowledgement(self.code_of(link), number);
+        self.tell(self.peer_of(link), &answer);
+    }
+
+    /// The peer answers an order about a link; ignored where no answer is awaited.
+    pub(super) fn acknowledge(&mut self, link: LinkId, number: Option<Number24>) -> Outcome
+        requires { link < length self.old.node.parts.links }
+        ensures { Ends self.old result self.new
+            (rule.acknowledge kept self.old.settings link number self.old.node) }
+    {
+        let Some(incomplete) = self.changeovers.answer(link) else {
+            return Outcome::Ignored;
+        };
+        self.timers.clear(TimerName::T2(link));
+        if incomplete {
+            self.conclude(link, number);
+        }
+        Outcome::Handled
+    }
+
+    /// A timer of a link's changeover ran out: it is completed without a number.
+    pub(super) fn expire(&mut self, timer: ChangeoverTimer, link: LinkId)
+        ensures { self.new ≡ with_node self.old (rule.expire kept self.old.settings timer link self.old.node) }
+    {
+        if !self.links.has(link) {
+            return;
+        }
+        self.note(Notice::Expired(timer, link));
+        if timer == ChangeoverTimer::T2 {
+            self.lost_any = true;
+        }
+        if self.changeovers.expired(link, timer) {
+            self.conclude(link, None);
+        }
+    }
+
+    /// Does with the messages of a failed link what the peer's number says: those that it accepted are gone, user
+    /// messages behind them go before all of Held, and management goes out anew. Without a reasonable number those that
+    /// were sent are lost.
+    fn conclude(&mut self, link: LinkId, number: Option<Number24>)
+        requires { link < length self.old.node.parts.links }
+        ensures { self.new ≡ with_node self.old (rule.conclude kept self.old.settings
+            (kept.found self.old.node.queues link number) link number self.old.node) }
+    {
+        self.lose_doubtful(link, &number);
+        self.lift(link);
+        self.splice(link, number);
+        self.send_each(link);
+    }
+
+    /// Without a reasonable number, the user messages of a link that were sent are lost.
+    fn lose_doubtful(&mut self, link: LinkId, number: &Option<Number24>)
+        requires { link < length self.old.node.parts.links }
+        ensures { self.new ≡ with_node self.old (with_parts self.old.node
+            (rule.doubted (kept.found self.old.node.queues link number.now) self.old.node.parts)) }
+    {
+        let number = copied(number);
+        if let Some(count) = in_doubt(&self.sequences[link.index()], number) {
+            self.lose_first(link, count);
+            self.lost_any = true;
+        }
+    }
+
+    /// The user messages among the first so many of a link's list are lost.
+    fn lose_first(&mut self, link: LinkId, count: usize)
+        requires { link < length self.old.node.parts.links }
+        ensures { self.new ≡ with_node self.old (with_parts self.old.node
+            (draining.lose_first count (link_lane self.old.node.queues link) self.old.node.parts)) }
+    {
+        for place in 0..count {
+            self.lose_at(link, place);
+        }
+    }
+
+    /// The message at a place of a link's list is lost, where it is a user message.
+    fn lose_at(&mut self, link: LinkId, place: usize)
+        requires { link < length self.old.node.parts.links }
+        ensures { self.new ≡ with_node self.old (with_parts self.old.node
+            (draining.lose_one (slice_get (link_lane self.old.node.queues link) place) self.old.node.parts)) }
+    {
+        if let Some(head) = self.head_at(link, place) && !head.is_management {
+            self.lose(Cause::LostUnconfirmed, &head.label);
+        }
+    }
+
+    /// The changeover of a link holds nothing any more, and T1 stops.
+    fn lift(&mut self, link: LinkId)
+        ensures { self.new ≡ with_node self.old
+            (with_parts self.old.node (rule.lifted_parts link self.old.node.parts)) }
+    {
+        self.release_due = true;
+        self.holds.lift(Procedure::Changeover(link));
+        self.timers.clear(TimerName::T1(link));
+    }
+
+    /// The user messages that move go before all of Held; the management messages are left in the link's list.
+    fn splice(&mut self, link: LinkId, number: Option<Number24>)
+        requires { link < length self.old.node.parts.links }
+        ensures { self.new ≡ with_node self.old (record self.old.node {
+            queues = draining.spliced_queues self.old.node.queues link number;
+        }) }
+    {
+        self.release_due = true;
+        let sequence = &mut self.sequences[link.index()];
+        complete(&mut self.lanes, lane_of(link), HELD, sequence, number);
+    }
+
+    /// The management messages in the list of a link go out anew, each on the link of its flow.
+    fn send_each(&mut self, link: LinkId)
+        requires { link < length self.old.node.parts.links }
+        ensures { self.new ≡ with_node self.old (draining.drained (draining.anew self.old.settings)
+            (length (link_lane self.old.node.queues link)) (queues.lane_of link) self.old.node) }
+    {
+        for _ in 0..self.count_on(link) {
+            self.send_first(link);
+        }
+    }
+
+    /// The first message in the list of a link goes out anew.
+    fn send_first(&mut self, link: LinkId)
+        requires { link < length self.old.node.parts.links }
+        ensures { self.new ≡ with_node self.old (draining.first_gone (draining.anew self.old.settings)
+            (queues.lane_of link) self.old.node) }
+    {
+        let lane = lane_of(link);
+        let Some(head) = self.head_at(link, 0) else {
+            return;
+        };
+        match self.link_of(&head.label) {
+            Some(target) => self.lanes.move_first(lane, lane_of(target)),
+            None => {
+                self.lanes.drop_front(lane, 1);
+                self.unsent(Cause::NoRoute, head.label.dpc);
+            }
+        }
+    }
+}
+
+/// The same number, if there is one.
+fn copied(number: &Option<Number24>) -> Option<Number24>
+    ensures { result ≡ number.now }
+{
+    match number {
+        Some(number) => Some(*number),
+        None => None,
+    }
+}

@@ -1,0 +1,84 @@
+//! What is read of a message that stands in a list.
+
+ghost use Rattle.std.specs.Prelude.{◌≡◌, ◌<◌, length, slice_get};
+ghost use Rattle.std.specs.Option.{option_map};
+ghost use Rattle.routing_label.specs.Label.{label_at};
+ghost use Rattle.signalling_types.specs.Message.{label_number};
+ghost use Rattle.cell_pool.specs.Lanes.{lane_at};
+ghost use Rattle.exchange.specs.Queues.{kept, link_lane};
+ghost use Rattle.exchange.specs.Head.{head_of};
+
+use super::Exchange;
+use super::lanes::{HELD, lane_of};
+use cell_pool::{Lanes, RingLanes};
+use routing_label::Label;
+use stp_types::{LinkId, Msu};
+
+/// What is read of a message that stands in a list: its label, and whether it is a management message.
+#[derive(Clone, Copy)]
+pub(super) struct Head {
+    pub(super) label: Label,
+    pub(super) is_management: bool,
+}
+
+impl Head {
+    fn of(message: &Msu) -> Head
+        ensures { result ≡ head_of message.now }
+    {
+        Head {
+            label: label_of(message.sif()),
+            is_management: message.is_management(),
+        }
+    }
+}
+
+impl Exchange {
+    /// What is read of the first message of Held, where there is one.
+    pub(super) fn held_head(&self) -> Option<Head>
+        ensures { result ≡ option_map head_of (slice_get (kept.held self.now.node.queues) 0) }
+    {
+        head_in(&self.lanes, HELD, 0)
+    }
+
+    /// What is read of the message at a place of a link's list, where there is one.
+    pub(super) fn head_at(&self, link: LinkId, place: usize) -> Option<Head>
+        requires { link < length self.now.node.parts.links }
+        ensures { result ≡ option_map head_of (slice_get (link_lane self.now.node.queues link) place) }
+    {
+        head_in(&self.lanes, lane_of(link), place)
+    }
+}
+
+/// What is read of the message at a place of a list, where there is one.
+fn head_in(lanes: &RingLanes, lane: usize, place: usize) -> Option<Head>
+    requires { lane < length lanes.now.lists }
+    ensures { result ≡ option_map head_of (slice_get (lane_at lanes.now.lists lane) place) }
+{
+    match lanes.get(lane, place) {
+        Some(message) => Some(Head::of(message)),
+        None => None,
+    }
+}
+
+/// The label of a field; octets that are missing count as 0.
+fn label_of(sif: &[u8]) -> Label
+    ensures { result ≡ label_at sif.now }
+{
+    let Some(label) = Label::read(&label_octets(sif)) else {
+        unreachable!()
+    };
+    label
+}
+
+/// The octets of a field's label; those that are missing are 0.
+fn label_octets(sif: &[u8]) -> [u8; 4]
+    ensures { label_number result ≡ label_number sif.now }
+{
+    match *sif {
+        [first, second, third, fourth, ..] => [first, second, third, fourth],
+        [first, second, third] => [first, second, third, 0],
+        [first, second] => [first, second, 0, 0],
+        [first] => [first, 0, 0, 0],
+        [] => [0; 4],
+    }
+}

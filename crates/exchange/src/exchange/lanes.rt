@@ -1,0 +1,102 @@
+//! The lists of messages: the first one is Held, and behind it comes one for each link.
+
+ghost use Rattle.std.specs.Prelude.{◌≡◌, ◌<◌, ◌≤◌, length, None, Some, true, IfErr, OnOk, is_ok, if◌then◌else◌};
+ghost use Rattle.signalling_types.specs.Lent.{lent};
+ghost use Rattle.exchange.specs.State.{with_node};
+ghost use Rattle.exchange.specs.Arrival.{no_room, queue_on};
+ghost use Rattle.exchange.specs.Holding as holding;
+ghost use Rattle.exchange.specs.Queues as queues;
+ghost use Rattle.exchange.specs.Queues.{kept, link_lane, without_lane};
+
+use super::Exchange;
+use cell_pool::Lanes;
+use link_number::Number24;
+use link_sequence::SeqFault;
+use stp_types::{Cause, Limits, LinkId, MsuRef};
+
+/// The list of the messages that are held.
+pub(super) const HELD: usize = 0;
+
+/// The list of a link's messages.
+pub(super) fn lane_of(link: LinkId) -> usize
+    ensures { result ≡ queues.lane_of link }
+{
+    link.index() + 1
+}
+
+impl Exchange {
+    /// Puts a message at the end of a link's list; refused where there is no room for it.
+    #[inline(always)]
+    pub(super) fn queue(&mut self, link: LinkId, message: MsuRef<'_>) -> Result<(), Cause>
+        requires link { link < length self.old.node.parts.links }
+        requires fits { length message.sif.now ≤ Limits.SIF_OCTETS }
+        ensures refused { IfErr result (λ cause.
+            no_room kept self.old.settings (lent message.entry) self.old.node.queues ≡ Some cause) }
+        ensures taken { OnOk result
+            (no_room kept self.old.settings (lent message.entry) self.old.node.queues ≡ None) }
+        ensures state { self.new ≡ (if is_ok result
+            then with_node self.old (queue_on kept self.old.settings link (lent message.entry) self.old.node)
+            else self.old) }
+    {
+        self.lanes.push_back(lane_of(link), message)
+    }
+
+    /// Puts a message whose flow has a hold at the end of Held; refused where there is no room for it.
+    pub(super) fn hold(&mut self, message: MsuRef<'_>) -> Result<(), Cause>
+        requires fits { length message.sif.now ≤ Limits.SIF_OCTETS }
+        requires waits { holding.waits self.old.settings self.old.node.parts.holds (lent message) ≡ true }
+        ensures refused { IfErr result (λ cause.
+            no_room kept self.old.settings (lent message.entry) self.old.node.queues ≡ Some cause) }
+        ensures taken { OnOk result
+            (no_room kept self.old.settings (lent message.entry) self.old.node.queues ≡ None) }
+        ensures state { self.new ≡ (if is_ok result
+            then with_node self.old (holding.hold kept (lent message.entry) self.old.node)
+            else self.old) }
+    {
+        self.lanes.push_back(HELD, message)
+    }
+
+    /// Takes the numbers of User Data on a link: what it confirms leaves the link's list.
+    #[inline(always)]
+    pub(super) fn accept(
+        &mut self,
+        link: LinkId,
+        fsn: Number24,
+        bsn: Number24,
+        carries: bool,
+    ) -> Result<usize, SeqFault>
+        requires { link < length self.old.node.parts.links }
+        ensures answer { result ≡ kept.accept_answer self.old.node.queues link fsn bsn carries }
+        ensures state { self.new ≡ with_node self.old (record self.old.node {
+            queues = kept.accepted self.old.node.queues link fsn bsn carries;
+        }) }
+    {
+        self.sequences[link.index()].accept(&mut self.lanes, lane_of(link), fsn, bsn, carries)
+    }
+
+    /// How many messages are held.
+    pub(super) fn count_held(&self) -> usize
+        ensures { result ≡ length (kept.held self.now.node.queues) }
+    {
+        self.lanes.count(HELD)
+    }
+
+    /// How many messages a link's list has.
+    pub(super) fn count_on(&self, link: LinkId) -> usize
+        requires { link < length self.now.node.parts.links }
+        ensures { result ≡ length (link_lane self.now.node.queues link) }
+    {
+        self.lanes.count(lane_of(link))
+    }
+
+    /// Drops the messages of a link's list.
+    pub(super) fn drop_all(&mut self, link: LinkId)
+        requires { link < length self.old.node.parts.links }
+        ensures { self.new ≡
+            with_node self.old (record self.old.node { queues = without_lane self.old.node.queues link }) }
+    {
+        let lane = lane_of(link);
+        let count = self.lanes.count(lane);
+        self.lanes.drop_front(lane, count);
+    }
+}

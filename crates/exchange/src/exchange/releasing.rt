@@ -1,0 +1,91 @@
+//! The end of each event: the messages of Held whose flows have no hold any more go on.
+
+ghost use Rattle.std.specs.Prelude.{◌≡◌, length};
+ghost use Rattle.exchange.specs.State.{with_node, with_parts};
+ghost use Rattle.exchange.specs.Noting.{note, flagged};
+ghost use Rattle.exchange.specs.Queues.{kept, held_lane};
+ghost use Rattle.exchange.specs.Head as heads;
+ghost use Rattle.exchange.specs.Draining as draining;
+ghost use Rattle.exchange.specs.Releasing as rule;
+ghost use Rattle.signalling_types.specs.declared.notice.Notice.TheVariants as notices;
+
+use super::Exchange;
+use super::labels::Head;
+use super::lanes::{HELD, lane_of};
+use cell_pool::Lanes;
+use routing_label::Label;
+use stp_types::{Cause, Notice};
+
+impl Exchange {
+    /// Lets go what is held no longer. Unless a hold changed in the event, each message of Held waits, and nothing is
+    /// to be done.
+    #[inline(always)]
+    pub(super) fn settle(&mut self)
+        ensures { self.new ≡ with_node self.old (rule.release kept self.old.settings self.old.node) }
+    {
+        if self.release_due {
+            self.release();
+        }
+    }
+
+    /// Each message of Held goes where it is to go, in order; what still waits stands in Held again.
+    fn release(&mut self)
+        ensures { self.new ≡ with_node self.old (rule.release kept self.old.settings self.old.node) }
+    {
+        self.release_each();
+        self.release_due = false;
+    }
+
+    /// The same, where a release stays due.
+    fn release_each(&mut self)
+        ensures { self.new ≡ with_node self.old (rule.release kept self.old.settings self.old.node) }
+    {
+        for _ in 0..self.count_held() {
+            self.release_first();
+        }
+    }
+
+    /// The first message of Held goes to the end of Held where it waits, else to its link; without one it is lost.
+    fn release_first(&mut self)
+        ensures { self.new ≡ with_node self.old
+            (draining.first_gone (draining.onward self.old.settings) held_lane self.old.node) }
+    {
+        self.release_due = true;
+        let Some(head) = self.held_head() else {
+            return;
+        };
+        if self.waits(&head) {
+            self.lanes.move_first(HELD, HELD);
+            return;
+        }
+        match self.link_of(&head.label) {
+            Some(link) => self.lanes.move_first(HELD, lane_of(link)),
+            None => {
+                self.lanes.drop_front(HELD, 1);
+                self.lose(Cause::NoRoute, &head.label);
+            }
+        }
+    }
+
+    /// Whether a message waits: a user message whose flow has a hold.
+    fn waits(&self, head: &Head) -> bool
+        ensures { result ≡ heads.waits_by self.now.settings self.now.node.parts.holds head.now }
+    {
+        if head.is_management {
+            return false;
+        }
+        match self.settings.destination(head.label.dpc) {
+            Some(destination) => self.holds.is_held(destination, head.label.sls),
+            None => false,
+        }
+    }
+
+    /// A user message is lost: that is noted.
+    pub(super) fn lose(&mut self, cause: Cause, label: &Label)
+        ensures { self.new ≡ with_node self.old (with_parts self.old.node
+            (flagged (note (notices.Lost cause label.now.dpc label.now.sls) self.old.node.parts))) }
+    {
+        self.lost_any = true;
+        self.note(Notice::Lost(cause, label.dpc, label.sls));
+    }
+}
