@@ -43,7 +43,7 @@ impl Changeover {
         })
     }
 
-    /// Begins the changeover of a link that failed in service (Q.704 §5.2, §5.3), and says with what. `link_left` says
+    /// Begins the changeover of a link that failed in service (Q.704 §5.2, §5.3), and says with what. `link_left` is
     /// whether another link to its adjacent point is in service, and `sequence` has the numbers of the failed link.
     pub fn failed(&mut self, link: LinkId, link_left: bool, sequence: &Sequence) -> Beginning
         requires { link < length self.old }
