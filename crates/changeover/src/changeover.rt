@@ -52,7 +52,7 @@ impl Changeover {
             Keeps w sequence.now lane q → result ≡ beginning link_left q }
         ensures standing { self.new ≡ with_standing self.old link (failed link_left (standing_at self.old link)) }
     {
-        self.links[link.index()] = self.standing(link).failed(link_left);
+        self.links[link.index()] = LinkStanding::failed(link_left);
         Beginning::of(link_left, sequence)
     }
 
