@@ -1,5 +1,6 @@
 -- A link fails in service: what its changeover begins with (Q.704 §5.2, §5.3).
-use Rattle.std.specs.Prelude.{ℕ, Bool, false, ◌&&◌, ◌||◌, not, drop, Option, Some, None, nat_eq, if◌then◌else◌}
+use Rattle.std.specs.Prelude.{ℕ, Bool, false, ◌&&◌, ◌||◌, not, drop, Option, Some, None, nat_eq}
+use Rattle.std.specs.Prelude.{if◌then◌else◌}
 use Rattle.std.specs.List.{list_any}
 use Rattle.signalling_types.specs.Message.{Message, flow_of, is_management}
 use Rattle.link_sequence.specs.Queue.{Queue, last_accepted}

@@ -12,6 +12,7 @@ spliced lists lane count held = picked_before (λ m. not (is_management m)) (dro
 -- the user messages stand before all that was held, in order, and the management messages are left, in order
 abbrev pub splicing_completes : Type 0
 splicing_completes =
-    (lists : List (List Message)) (lane count held : ℕ) → lane < length lists → held < length lists → lane ≢ held →
+    (lists : List (List Message)) (lane count held : ℕ) →
+    lane < length lists → held < length lists → lane ≢ held →
     (lane_at (spliced lists lane count held) held ≡ users_of (drop count (lane_at lists lane)) ++ lane_at lists held)
     × (lane_at (spliced lists lane count held) lane ≡ managements_of (drop count (lane_at lists lane)))

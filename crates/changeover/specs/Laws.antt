@@ -1,5 +1,6 @@
 -- What holds of a failure and of a completion.
-use Rattle.std.specs.Prelude.{◌≡◌, ℕ, ◌-◌, true, false, List, [], ◌∷◌, ◌++◌, take, drop, Option, Some, None}
+use Rattle.std.specs.Prelude.{◌≡◌, ℕ, ◌-◌, true, false, List, [], ◌∷◌, ◌++◌, take, drop}
+use Rattle.std.specs.Prelude.{Option, Some, None}
 use Rattle.signalling_types.specs.Message.{Message, flow_of, is_management}
 use Rattle.link_sequence.specs.Queue.{Queue, IsQueue, Names}
 use Rattle.changeover.specs.Completion.{users_of, accepted_count, moved, lost}
@@ -30,7 +31,8 @@ each_once =
 -- a number that names a count
 abbrev pub none_lost : Type 0
 none_lost =
-    (window : ℕ) (q : Queue) (number n : ℕ) → IsQueue window q → Names q number n → lost q (Some number) ≡ []
+    (window : ℕ) (q : Queue) (number n : ℕ) → IsQueue window q →
+    Names q number n → lost q (Some number) ≡ []
 
 -- the changeover holds the flow of each user message that stands unconfirmed on the link
 abbrev pub takes_what_waits : Type 0

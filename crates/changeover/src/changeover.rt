@@ -43,7 +43,7 @@ impl Changeover {
         })
     }
 
-    /// Begins the changeover of a link that failed in service (Q.704 §5.2, §5.3), and says with what. `link_left` says
+    /// Begins the changeover of a link that failed in service (Q.704 §5.2, §5.3), and says with what. `link_left` is
     /// whether another link to its adjacent point is in service, and `sequence` has the numbers of the failed link.
     pub fn failed(&mut self, link: LinkId, link_left: bool, sequence: &Sequence) -> Beginning
         requires { link < length self.old }
@@ -52,7 +52,7 @@ impl Changeover {
             Keeps w sequence.now lane q → result ≡ beginning link_left q }
         ensures standing { self.new ≡ with_standing self.old link (failed link_left (standing_at self.old link)) }
     {
-        self.links[link.index()] = self.standing(link).failed(link_left);
+        self.links[link.index()] = LinkStanding::failed(link_left);
         Beginning::of(link_left, sequence)
     }
 

@@ -56,9 +56,9 @@ impl LinkStanding {
         !self.incomplete && !self.awaited
     }
 
-    /// After the link failed in service. Its own order went out, or not.
-    pub(crate) fn failed(self, ordered: bool) -> LinkStanding
-        ensures { result ≡ failed ordered self }
+    /// That of a link which just failed in service, whose order goes out, or not.
+    pub(crate) fn failed(ordered: bool) -> LinkStanding
+        ensures { result ≡ failed ordered no_changeover }
     {
         LinkStanding {
             incomplete: true,

@@ -71,10 +71,10 @@ fn completes<L: Lanes>(rt: &impl Abort, lanes: &mut L, row: &Row<'_>) -> Result<
     put(rt, lanes, HELD, &[9])?;
     let mut sequence = Sequence::starting_at(number(FIRST));
     send(rt, lanes, &mut sequence);
-    let confirmed = Some(number(row.confirmed));
-    assert_eq!(rt; in_doubt(&sequence, confirmed), row.in_doubt);
+    let confirmed = number(row.confirmed);
+    assert_eq!(rt; in_doubt(&sequence, Some(confirmed)), row.in_doubt);
     assert!(rt; HELD < lanes.lanes());
-    complete(lanes, LANE, HELD, &mut sequence, confirmed);
+    complete(lanes, LANE, HELD, &mut sequence, Some(confirmed));
     assert_eq!(rt; sequence.outstanding(), 0);
     gives(rt, lanes, HELD, row.held);
     gives(rt, lanes, LANE, row.left);
