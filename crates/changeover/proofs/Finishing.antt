@@ -13,7 +13,7 @@ use Rattle.changeover.specs.Lanes.{spliced}
 use Rattle.changeover.proofs.Keeping.{ahead, alike, counted}
 use Rattle.changeover.proofs.Splicing.{splices}
 
-behind-done : (k : Counts) (lane : List Message) (count : Option ℕ) → drop (kept_done k count) lane ≡ kept_behind k lane count
+pub behind-done : (k : Counts) (lane : List Message) (count : Option ℕ) → drop (kept_done k count) lane ≡ kept_behind k lane count
 behind-done k lane (Some count) = refl
 behind-done k lane None = refl
 

@@ -1,5 +1,5 @@
 -- A refused event leaves what it is to leave, and a message is queued on a link in service.
-use Rattle.std.proofs.Common.{◌≡◌, ℕ, Bool, true, false, List, Option, Some, None, Result, Ok, Err, refl, ap, ◌∙◌}
+use Rattle.std.proofs.Common.{◌≡◌, ℕ, Bool, true, false, List, [], ◌∷◌, Option, Some, None, Result, Ok, Err, refl, ap, ◌∙◌}
 use Rattle.std.specs.Prelude.{if◌then◌else◌, nat_eq}
 use Rattle.signalling_types.specs.Message.{Message, dpc_of, opc_of, flow_of, is_management, service_indicator}
 use Rattle.signalling_types.specs.declared.point.Flow.{Flow}
@@ -41,15 +41,21 @@ use Rattle.exchange.specs.Noting.{note, note_outcome, note_refusal}
 use Rattle.exchange.specs.Routing.{network_of, link_of}
 use Rattle.exchange.specs.Arrival.{is_destination, no_room, offer, transfer}
 use Rattle.exchange.specs.Made.{send_on}
-use Rattle.exchange.specs.Local.{is_user, is_adjacent, cause_of, test_answer, local, do_read, do_kind, do_test, manage, hand_over}
+use Rattle.exchange.specs.Local.{is_user, is_adjacent, cause_of, test_answer, link_with_code, local, do_order, do_acknowledgement, do_read, do_kind, do_test, manage, hand_over}
 use Rattle.exchange.specs.Messages.{whither_goes, deliver_to, submit_to}
 use Rattle.exchange.specs.Opening.{may_open, open_link, associate, bring_down, part, dissociate, allow, activate, deactivate}
 use Rattle.exchange.specs.Statuses.{step_on, act_by_status}
 use Rattle.exchange.specs.Frames.{Carrying, data_of, numbers, accept, carry, handle_by, act_by_data, receive_frame, leave_aside, read}
 use Rattle.exchange.specs.Happening.{CameUp, WentDown, FrameCame, Ticked, Submitted, Activated, Deactivated}
-use Rattle.exchange.specs.Queues.{whole}
+use Rattle.exchange.specs.Queues.{WholeQueues, whole}
+use Rattle.exchange.specs.Holding.{waits, all_wait}
+use Rattle.exchange.specs.ChangingOver.{order, acknowledge, complete_if, heard, heed, complete_by_order, tell}
+use Rattle.exchange.specs.Releasing.{go_on, go_by, go, go_each, release, settled}
+use Rattle.exchange.specs.Failing.{standing_of}
+use Rattle.changeover.specs.Standing.{may_restart}
+use Rattle.exchange.proofs.Settling.{nothing_released}
 use Rattle.exchange.specs.Laws.{accept_data, accept_frame, accept_text, refusals_leave, queued_in_service}
-use Rattle.exchange.specs.Stands.{Abstract}
+use Rattle.exchange.specs.Stands.{Abstract, IsSound}
 
 -- where a rule refuses, it leaves this node; where it queues a message, it does so on a link in service
 record Leaves (d : Done WholeQueues) (n : Node WholeQueues) : Type 0 where
@@ -99,16 +105,22 @@ module _ (c : Configuration) where
       either (nat_eq (service_indicator m) 3) (refuse causes.NotInProfile n) (if is_user c (service_indicator m) then answer Local n else refuse causes.NoUserPart n) n (refused _ n)
       (either (is_user c (service_indicator m)) (answer Local n) (refuse causes.NoUserPart n) n (stayed n n) (refused _ n))
 
-  offer-leaves : (room : Option Cause) (link : Option ℕ) (m : Message) (n : Node WholeQueues) → ((l : ℕ) → link ≡ Some l → in_service n.parts l ≡ true)
-      → Leaves (offer whole c room link m n) n
-  offer-leaves (Some cause) link m n f = refused cause n
-  offer-leaves None None m n f = refused _ n
-  offer-leaves None (Some link) m n f = record { left = λ cause e. cc; served = λ l e. f l (ap queued_on e) }
+  waiting-leaves : (m n : Node WholeQueues) → Leaves (answer Held m) n
+  waiting-leaves m n = record { left = λ cause e. cc; served = λ l e. cc }
+
+  offer-leaves : (room : Option Cause) (is_waiting : Bool) (link : Option ℕ) (m : Message) (n : Node WholeQueues)
+      → ((l : ℕ) → link ≡ Some l → in_service n.parts l ≡ true) → Leaves (offer whole c room is_waiting link m n) n
+  offer-leaves (Some cause) w link m n f = refused cause n
+  offer-leaves None true link m n f = waiting-leaves _ n
+  offer-leaves None false None m n f = refused _ n
+  offer-leaves None false (Some link) m n f = record { left = λ cause e. cc; served = λ l e. f l (ap queued_on e) }
 
   transfer-leaves : (m : Message) (n : Node WholeQueues) → Leaves (transfer whole c m n) n
   transfer-leaves m n =
-      either (is_destination c (dpc_of m)) (offer whole c (no_room whole c m n.queues) (link_of c n.parts (flow_of m)) m n) (refuse causes.UnknownDestination n) n
-      (offer-leaves (no_room whole c m n.queues) (link_of c n.parts (flow_of m)) m n (λ l e. chosen_serves c n.parts (flow_of m) l e)) (refused _ n)
+      let held : Bool = waits c n.parts.holds m in
+      let link : Option ℕ = link_of c n.parts (flow_of m) in
+      either (is_destination c (dpc_of m)) (offer whole c (no_room whole c m n.queues) held link m n) (refuse causes.UnknownDestination n) n
+      (offer-leaves (no_room whole c m n.queues) held link m n (λ l e. chosen_serves c n.parts (flow_of m) l e)) (refused _ n)
 
   do_kind-leaves : (t : TestKind) (link z : ℕ) (v : LinkTestValue) (n : Node WholeQueues) → Leaves (do_kind whole c t link z v n) n
   do_kind-leaves Test link z v n = handled n (send_on whole c link (test_answer c z v) n)
@@ -118,20 +130,33 @@ module _ (c : Configuration) where
   do_test-leaves (Err fault) link z n = refused (cause_of fault) n
   do_test-leaves (Ok v) link z n = do_kind-leaves v.kind link z v n
 
-  do_read-leaves : (r : Result Management MgmtFault) (n : Node WholeQueues) → Leaves (do_read r n) n
-  do_read-leaves (Err fault) n = refused (cause_of fault) n
-  do_read-leaves (Ok TrafficRestartAllowed) n = ignored n n
-  do_read-leaves (Ok (ExtendedChangeoverOrder slc number)) n = refused causes.NotInProfile n
-  do_read-leaves (Ok (ExtendedChangeoverAcknowledgement slc number)) n = refused causes.NotInProfile n
-  do_read-leaves (Ok (EmergencyChangeoverOrder slc)) n = refused causes.NotInProfile n
-  do_read-leaves (Ok (EmergencyChangeoverAcknowledgement slc)) n = refused causes.NotInProfile n
+  do_order-leaves : (link : Option ℕ) (number : Option ℕ) (n : Node WholeQueues) → Leaves (do_order whole c link number n) n
+  do_order-leaves (Some link) number n = handled n (tell whole c link (complete_by_order whole c link number (heed whole c link n)))
+  do_order-leaves None number n = refused causes.BadManagement n
+
+  acknowledge-leaves : (link : ℕ) (number : Option ℕ) (n : Node WholeQueues) → Leaves (acknowledge whole c link number n) n
+  acknowledge-leaves link number n =
+      let done : Node WholeQueues = complete_if whole c (standing_of n.parts link).incomplete link number (with_parts n (heard link n.parts)) in
+      either (standing_of n.parts link).awaited (answer Handled done) (answer Ignored n) n (handled n done) (ignored n n)
+
+  do_acknowledgement-leaves : (link : Option ℕ) (number : Option ℕ) (n : Node WholeQueues) → Leaves (do_acknowledgement whole c link number n) n
+  do_acknowledgement-leaves (Some link) number n = acknowledge-leaves link number n
+  do_acknowledgement-leaves None number n = refused causes.BadManagement n
+
+  do_read-leaves : (r : Result Management MgmtFault) (z : ℕ) (n : Node WholeQueues) → Leaves (do_read whole c r z n) n
+  do_read-leaves (Err fault) z n = refused (cause_of fault) n
+  do_read-leaves (Ok TrafficRestartAllowed) z n = ignored n n
+  do_read-leaves (Ok (ExtendedChangeoverOrder slc number)) z n = do_order-leaves (link_with_code c z slc) (Some number) n
+  do_read-leaves (Ok (ExtendedChangeoverAcknowledgement slc number)) z n = do_acknowledgement-leaves (link_with_code c z slc) (Some number) n
+  do_read-leaves (Ok (EmergencyChangeoverOrder slc)) z n = do_order-leaves (link_with_code c z slc) None n
+  do_read-leaves (Ok (EmergencyChangeoverAcknowledgement slc)) z n = do_acknowledgement-leaves (link_with_code c z slc) None n
 
   manage-leaves : (link : ℕ) (m : Message) (n : Node WholeQueues) → Leaves (manage whole c link m n) n
   manage-leaves link m n =
       let t : Done WholeQueues = do_test whole c (read_link_test m.sif) link (opc_of m) n in
-      let r : Done WholeQueues = do_read (read_management m.sif) n in
+      let r : Done WholeQueues = do_read whole c (read_management m.sif) (opc_of m) n in
       either (is_adjacent c (opc_of m)) (if nat_eq (service_indicator m) 1 then t else r) (refuse causes.NotFromAdjacent n) n
-      (either (nat_eq (service_indicator m) 1) t r n (do_test-leaves (read_link_test m.sif) link (opc_of m) n) (do_read-leaves (read_management m.sif) n))
+      (either (nat_eq (service_indicator m) 1) t r n (do_test-leaves (read_link_test m.sif) link (opc_of m) n) (do_read-leaves (read_management m.sif) (opc_of m) n))
       (refused _ n)
 
   hand_over-leaves : (link : ℕ) (m : Message) (n : Node WholeQueues) → Leaves (hand_over whole c link m n) n
@@ -224,12 +249,60 @@ up_notes : (t : Bool) (link : ℕ) (r : Result FrameValue FrameFault) (a : Abstr
 up_notes true link r a = ignored_frame a.settings a.node (accept_text link r a) link
 up_notes false link r a = read-notes link r a
 
+-- ---- a release behind a rule
+
+-- a release changes no link
+go_on-serves : (c : Configuration) (link : Option ℕ) (m : Message) (n : Node WholeQueues) (l : ℕ) → in_service (go_on whole c link m n).parts l ≡ in_service n.parts l
+go_on-serves c (Some link) m n l = refl
+go_on-serves c None m n l = refl
+
+go_by-serves : (c : Configuration) (b : Bool) (m : Message) (n : Node WholeQueues) (l : ℕ) → in_service (go_by whole c b m n).parts l ≡ in_service n.parts l
+go_by-serves c true m n l = refl
+go_by-serves c false m n l = go_on-serves c (link_of c n.parts (flow_of m)) m n l
+
+go_each-serves : (c : Configuration) (ms : List Message) (n : Node WholeQueues) (l : ℕ) → in_service (go_each whole c ms n).parts l ≡ in_service n.parts l
+go_each-serves c [] n l = refl
+go_each-serves c (m ∷ ms) n l = go_each-serves c ms (go whole c m n) l ∙ go_by-serves c (waits c n.parts.holds m) m n l
+
+release-serves : (c : Configuration) (n : Node WholeQueues) (l : ℕ) → in_service (release whole c n).parts l ≡ in_service n.parts l
+release-serves c n l = go_each-serves c n.queues.held (record n { queues = whole.without_held n.queues }) l
+
+-- where each message of Held waits, a refusal leaves what it left before the release
+settled-left : (c : Configuration) (d : Done WholeQueues) (n : Node WholeQueues) → d.left ≡ n → all_wait c n.parts.holds n.queues.held ≡ true → (settled whole c d).left ≡ n
+settled-left c d n e w = ap (λ (m : Node WholeQueues). release whole c m) e ∙ nothing_released c n w
+
+-- accepting a frame changes neither Held nor the holds
+accept-waits : (c : Configuration) (link : ℕ) (d : Carrying) (m : Option Message) (confirmed : ℕ) (n : Node WholeQueues) → d.message ≡ m
+    → all_wait c n.parts.holds n.queues.held ≡ true → all_wait c (accept whole c link d confirmed n).parts.holds (accept whole c link d confirmed n).queues.held ≡ true
+accept-waits c link d None confirmed n e w = rw e w
+accept-waits c link d (Some m) confirmed n e w = rw e w
+
+accept_data-waits : (c : Configuration) (a : Action) (link : ℕ) (d : Carrying) (n : Node WholeQueues) → all_wait c n.parts.holds n.queues.held ≡ true
+    → all_wait c (accept_data a link d c n).parts.holds (accept_data a link d c n).queues.held ≡ true
+accept_data-waits c act.Ignored link d n w = w
+accept_data-waits c act.Fail link d n w = w
+accept_data-waits c (act.Go step) link d n w =
+    let next : Node WholeQueues = with_parts n (step_on c link step n.parts) in
+    accept-waits c link d d.message (count_confirmed (numbers whole c link d next)) next refl w
+
+accept_frame-waits : (c : Configuration) (carried : Option Carrying) (link : ℕ) (n : Node WholeQueues) → all_wait c n.parts.holds n.queues.held ≡ true
+    → all_wait c (accept_frame carried link c n).parts.holds (accept_frame carried link c n).queues.held ≡ true
+accept_frame-waits c None link n w = w
+accept_frame-waits c (Some d) link n w = accept_data-waits c (action_at (link_at n.parts link).alignment UserData) link d n w
+
+accept_text-waits : (link : ℕ) (r : Result FrameValue FrameFault) (a : Abstract) → all_wait a.settings a.node.parts.holds a.node.queues.held ≡ true
+    → all_wait a.settings (accept_text link r a).parts.holds (accept_text link r a).queues.held ≡ true
+accept_text-waits link (Ok frame) a w = accept_frame-waits a.settings (data_of frame) link a.node w
+accept_text-waits link (Err fault) a w = w
+
 received_left : (t : Bool) (d : Done WholeQueues) (n : Node WholeQueues) (link : ℕ) (a : Abstract) (cause : Cause) → Notes a.settings d n link
+    → all_wait a.settings n.parts.holds n.queues.held ≡ true → all_wait a.settings a.node.parts.holds a.node.queues.held ≡ true
     → (if t then d else refuse causes.NoSuchName a.node).outcome ≡ Refused cause
-    → with_node a (if t then d else refuse causes.NoSuchName a.node).left
+    → with_node a (settled whole a.settings (if t then d else refuse causes.NoSuchName a.node)).left
     ≡ (if t then with_node a (with_parts n (note (notices.Refused cause link) n.parts)) else a)
-received_left true d n link a cause f e = ap (λ (m : Node WholeQueues). with_node a m) (f.left cause e)
-received_left false d n link a cause f e = refl
+received_left true d n link a cause f w v e =
+    ap (λ (m : Node WholeQueues). with_node a m) (settled-left a.settings d (with_parts n (note (notices.Refused cause link) n.parts)) (f.left cause e) w)
+received_left false d n link a cause f w v e = ap (λ (m : Node WholeQueues). with_node a m) (nothing_released a.settings a.node v)
 
 received_served : (t : Bool) (d : Done WholeQueues) (n : Node WholeQueues) (link : ℕ) (a : Abstract) (l : ℕ) → Notes a.settings d n link
     → (if t then d else refuse causes.NoSuchName a.node).outcome ≡ Queued l
@@ -242,9 +315,11 @@ received_served false d n link a l f e = cc
 module _ (c : Configuration) where
   associate-leaves : (link : ℕ) (n : Node WholeQueues) → Leaves (associate whole c link n) n
   associate-leaves link n =
-      either (is_link n.parts link) (if may_open (link_at n.parts link) then answer Handled (open_link whole c link n) else refuse causes.LinkNotReady n)
-      (refuse causes.NoSuchName n) n
-      (either (may_open (link_at n.parts link)) (answer Handled (open_link whole c link n)) (refuse causes.LinkNotReady n) n (handled n _) (refused _ n))
+      let opened : Done WholeQueues = answer Handled (open_link whole c link n) in
+      let restarted : Done WholeQueues = if may_restart (standing_of n.parts link) then opened else refuse causes.ChangeoverPending n in
+      either (is_link n.parts link) (if may_open (link_at n.parts link) then restarted else refuse causes.LinkNotReady n) (refuse causes.NoSuchName n) n
+      (either (may_open (link_at n.parts link)) restarted (refuse causes.LinkNotReady n) n
+      (either (may_restart (standing_of n.parts link)) opened (refuse causes.ChangeoverPending n) n (handled n _) (refused _ n)) (refused _ n))
       (refused _ n)
 
   dissociate-leaves : (link : ℕ) (n : Node WholeQueues) → Leaves (dissociate whole c link n) n
@@ -263,25 +338,37 @@ module _ (c : Configuration) where
 
 -- ---- the laws
 
+-- what a refusal leaves, with the release behind it
+left-so : (a : Abstract) (d : Done WholeQueues) (cause : Cause) → IsSound a → Leaves d a.node → d.outcome ≡ Refused cause → with_node a (settled whole a.settings d).left ≡ a
+left-so a d cause s f e = ap (λ (m : Node WholeQueues). with_node a m) (settled-left a.settings d a.node (f.left cause e) s.waiting)
+
 pub refused_leaves : refusals_leave
-refused_leaves (CameUp link) a cause e = ap (λ (m : Node WholeQueues). with_node a m) ((associate-leaves a.settings link a.node).left cause e)
-refused_leaves (WentDown link) a cause e = ap (λ (m : Node WholeQueues). with_node a m) ((dissociate-leaves a.settings link a.node).left cause e)
-refused_leaves Ticked a cause e = cc
-refused_leaves (Activated link) a cause e = ap (λ (m : Node WholeQueues). with_node a m) ((activate-leaves a.settings link a.node).left cause e)
-refused_leaves (Deactivated link) a cause e = ap (λ (m : Node WholeQueues). with_node a m) ((deactivate-leaves a.settings link a.node).left cause e)
-refused_leaves (Submitted message) a cause e =
-    ap (λ (m : Node WholeQueues). with_node a m) ((submit_to-leaves a.settings (whither_goes a.settings message) message a.node).left cause e)
-refused_leaves (FrameCame link text) a cause e =
+refused_leaves (CameUp link) a cause s e = left-so a _ cause s (associate-leaves a.settings link a.node) e
+refused_leaves (WentDown link) a cause s e = left-so a _ cause s (dissociate-leaves a.settings link a.node) e
+refused_leaves Ticked a cause s e = cc
+refused_leaves (Activated link) a cause s e = left-so a _ cause s (activate-leaves a.settings link a.node) e
+refused_leaves (Deactivated link) a cause s e = left-so a _ cause s (deactivate-leaves a.settings link a.node) e
+refused_leaves (Submitted message) a cause s e = left-so a _ cause s (submit_to-leaves a.settings (whither_goes a.settings message) message a.node) e
+refused_leaves (FrameCame link text) a cause s e =
     received_left (is_link a.node.parts link) (if down a.node.parts link then answer Ignored a.node else read whole a.settings link (read_frame text) a.node)
-    (accept_text link (read_frame text) a) link a cause (up_notes (down a.node.parts link) link (read_frame text) a) e
+    (accept_text link (read_frame text) a) link a cause (up_notes (down a.node.parts link) link (read_frame text) a)
+    (accept_text-waits link (read_frame text) a s.waiting) s.waiting e
+
+-- a link that a rule leaves in service is so after the release
+still : (a : Abstract) (d : Done WholeQueues) (l : ℕ) → in_service d.left.parts l ≡ true → in_service (settled whole a.settings d).left.parts l ≡ true
+still a d l e = release-serves a.settings d.left l ∙ e
+
+served-so : (a : Abstract) (d : Done WholeQueues) (l : ℕ) → Leaves d a.node → d.outcome ≡ Queued l → in_service (settled whole a.settings d).left.parts l ≡ true
+served-so a d l f e = still a d l (f.served l e)
 
 pub queued_served : queued_in_service
-queued_served (CameUp link) a l e = (associate-leaves a.settings link a.node).served l e
-queued_served (WentDown link) a l e = (dissociate-leaves a.settings link a.node).served l e
+queued_served (CameUp link) a l e = served-so a _ l (associate-leaves a.settings link a.node) e
+queued_served (WentDown link) a l e = served-so a _ l (dissociate-leaves a.settings link a.node) e
 queued_served Ticked a l e = cc
-queued_served (Activated link) a l e = (activate-leaves a.settings link a.node).served l e
-queued_served (Deactivated link) a l e = (deactivate-leaves a.settings link a.node).served l e
-queued_served (Submitted message) a l e = (submit_to-leaves a.settings (whither_goes a.settings message) message a.node).served l e
+queued_served (Activated link) a l e = served-so a _ l (activate-leaves a.settings link a.node) e
+queued_served (Deactivated link) a l e = served-so a _ l (deactivate-leaves a.settings link a.node) e
+queued_served (Submitted message) a l e = served-so a _ l (submit_to-leaves a.settings (whither_goes a.settings message) message a.node) e
 queued_served (FrameCame link text) a l e =
-    received_served (is_link a.node.parts link) (if down a.node.parts link then answer Ignored a.node else read whole a.settings link (read_frame text) a.node)
-    (accept_text link (read_frame text) a) link a l (up_notes (down a.node.parts link) link (read_frame text) a) e
+    let up : Done WholeQueues = if down a.node.parts link then answer Ignored a.node else read whole a.settings link (read_frame text) a.node in
+    still a (if is_link a.node.parts link then up else refuse causes.NoSuchName a.node) l
+    (received_served (is_link a.node.parts link) up (accept_text link (read_frame text) a) link a l (up_notes (down a.node.parts link) link (read_frame text) a) e)

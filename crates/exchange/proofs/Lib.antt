@@ -2,6 +2,10 @@ pub mod Lists
 pub mod Keeping
 pub mod KeptQueues
 pub mod Settling
+pub mod Draining
+pub mod Suspending
+pub mod Passing
+pub mod Concluding
 pub mod Standing
 pub mod Ticking
 pub mod Calls

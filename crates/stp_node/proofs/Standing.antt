@@ -2,9 +2,9 @@
 use Rattle.std.proofs.Common.{◌≡◌, ℕ, zero, suc, ◌+◌, List, [], ◌∷◌, Option, None, Some, Result, Ok, Err, refl, sym, ◌∙◌, ap, subst, inl, inr, ◌++◌, Bool, true, false, nat_lt, length}
 use Rattle.std.specs.Prelude.{if◌then◌else◌}
 use Rattle.std.specs.Io.KnownBytes.{Appends}
-use Rattle.link_sequence.specs.Queue.{Queue}
+
 use Rattle.exchange.specs.declared.event.Answer.{Answer}
-use Rattle.exchange.specs.Queues.{KeptQueues, kept, whole}
+use Rattle.exchange.specs.Queues.{WholeQueues, KeptQueues, kept, whole}
 use Rattle.exchange.specs.Stands.{Abstract, Kept, StandsFor, kept_of}
 use Rattle.exchange.proofs.Calls.{stands-answer, stands-call}
 use Rattle.exchange.proofs.Standing.{stands-after}
@@ -52,7 +52,7 @@ stands-done asked k a s =
 -- ---- lines in a row
 
 -- both print the same, and stop at the same line or at none
-record Same (r : Reached KeptQueues) (t : Reached (List Queue)) : Type 0 where
+record Same (r : Reached KeptQueues) (t : Reached WholeQueues) : Type 0 where
   pub text : r.text ≡ t.text
   pub state : StandsFor r.state t.state
   pub fault : r.fault ≡ t.fault
@@ -73,20 +73,20 @@ same-either : (b : Bool) (number : ℕ) (k : Kept) (a : Abstract) → StandsFor 
 same-either true number k a s = same-stopped number k a s
 same-either false number k a s = same-silent k a s
 
-same-onto : (xs ys : List ℕ) (r : Reached KeptQueues) (t : Reached (List Queue)) → xs ≡ ys → Same r t → Same (onto xs r) (onto ys t)
+same-onto : (xs ys : List ℕ) (r : Reached KeptQueues) (t : Reached WholeQueues) → xs ≡ ys → Same r t → Same (onto xs r) (onto ys t)
 same-onto xs ys r t e h = record {
   text = ap (λ (text : List ℕ). text ++ r.text) e ∙ ap (λ (text : List ℕ). ys ++ text) h.text;
   state = h.state;
   fault = h.fault;
 }
 
-same-unless : (f : Option ℕ) (r : Reached KeptQueues) (t : Reached (List Queue)) (next : Kept → Reached KeptQueues) (follow : Abstract → Reached (List Queue))
+same-unless : (f : Option ℕ) (r : Reached KeptQueues) (t : Reached WholeQueues) (next : Kept → Reached KeptQueues) (follow : Abstract → Reached WholeQueues)
     → Same r t → ((k : Kept) (a : Abstract) → StandsFor k a → Same (next k) (follow a))
     → Same (unless_ended f r next) (unless_ended f t follow)
 same-unless None r t next follow h k = same-onto r.text t.text (next r.state) (follow t.state) h.text (k r.state t.state h.state)
 same-unless (Some number) r t next follow h k = h
 
-same-behind : (r : Reached KeptQueues) (t : Reached (List Queue)) (next : Kept → Reached KeptQueues) (follow : Abstract → Reached (List Queue))
+same-behind : (r : Reached KeptQueues) (t : Reached WholeQueues) (next : Kept → Reached KeptQueues) (follow : Abstract → Reached WholeQueues)
     → Same r t → ((k : Kept) (a : Abstract) → StandsFor k a → Same (next k) (follow a))
     → Same (behind r next) (behind t follow)
 same-behind r t next follow h k =
@@ -103,10 +103,10 @@ same-lines most number (line ∷ next ∷ more) k a s =
 
 -- ---- a whole run
 
-abbrev DoesWhole : Reached (List Queue) → Result Unit ScriptFault → Kept → Option (List ℕ) → Option (List ℕ) → Type 0
+abbrev DoesWhole : Reached WholeQueues → Result Unit ScriptFault → Kept → Option (List ℕ) → Option (List ℕ) → Type 0
 DoesWhole t result k w0 w1 = StandsFor k t.state × Does t result t.state w0 w1
 
-does-stands : (r : Reached KeptQueues) (t : Reached (List Queue)) (result : Result Unit ScriptFault) (k : Kept) (w0 w1 : Option (List ℕ))
+does-stands : (r : Reached KeptQueues) (t : Reached WholeQueues) (result : Result Unit ScriptFault) (k : Kept) (w0 w1 : Option (List ℕ))
     → Same r t → Does r result k w0 w1 → DoesWhole t result k w0 w1
 does-stands r t (Ok x) k w0 w1 h d =
     (subst (λ (x : Kept). StandsFor x t.state) d.1 h.state, (sym h.fault ∙ d.0, refl, subst (λ (text : List ℕ). Appends w0 w1 text) h.text d.2))
@@ -120,7 +120,7 @@ does-stands r t (Err NoMemory) k w0 w1 h d = absurd d
 
 -- what is kept leads to the same place as what it stands for
 record LeadsWhole (octets more : List ℕ) (left : Option (List ℕ)) (a : Abstract) (r : Reached KeptQueues) : Type 0 where
-  pub reached : Reached (List Queue)
+  pub reached : Reached WholeQueues
   pub leads : LeadsTo whole octets more left a reached
   pub same : Same r reached
 

@@ -68,7 +68,7 @@ impl Exchange {
     /// A message stands at the end of the queue of its link, where it has room and a link.
     #[inline(always)]
     fn offer_on(&mut self, link: Option<LinkId>, message: MsuRef<'_>) -> Outcome
-        requires link { IfSome link (λ link. link < length self.old.node.parts.links) }
+        requires link { IfSome link (λ link. link < length self.old.settings.links) }
         requires room { rule.no_room kept self.old.settings (lent message) self.old.node.queues ≡ None }
         requires fits { length message.sif.now ≤ Limits.SIF_OCTETS }
         ensures { Ends self.old result self.new
@@ -86,7 +86,7 @@ impl Exchange {
     /// The link of a flow to the destination of this number.
     fn link_to(&self, destination: usize, sls: Sls) -> Option<LinkId>
         ensures link { result ≡ chosen_link (facts self.now.settings self.now.node.parts) destination sls }
-        ensures fits { IfSome result (λ link. link < length self.now.node.parts.links) }
+        ensures fits { IfSome result (λ link. link < length self.now.settings.links) }
     {
         self.links.link_of(destination, sls)
     }
@@ -95,7 +95,7 @@ impl Exchange {
     pub(super) fn link_of(&self, label: &Label) -> Option<LinkId>
         ensures link { result ≡ routing.link_of self.now.settings self.now.node.parts
             (record { point = label.now.dpc; sls = label.now.sls }) }
-        ensures fits { IfSome result (λ link. link < length self.now.node.parts.links) }
+        ensures fits { IfSome result (λ link. link < length self.now.settings.links) }
     {
         match self.settings.destination(label.dpc) {
             Some(destination) => self.link_to(destination, label.sls),

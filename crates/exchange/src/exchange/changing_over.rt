@@ -2,7 +2,7 @@
 
 ghost use Rattle.std.specs.Prelude.{◌≡◌, ◌<◌, Some, true, length, slice_get};
 ghost use Rattle.std.specs.Option.{option_map};
-ghost use Rattle.changeover.specs.Standing.{completed, answered};
+ghost use Rattle.changeover.specs.Kept.{kept_accepted_count, kept_doubted};
 ghost use Rattle.exchange.specs.State.{with_node, with_parts};
 ghost use Rattle.exchange.specs.Queues as queues;
 ghost use Rattle.exchange.specs.Queues.{kept, link_lane};
@@ -25,7 +25,7 @@ impl Exchange {
     /// The peer orders a changeover of a link, with the number of the last message that it accepted there, or without
     /// one. It is answered in every case.
     pub(super) fn order(&mut self, link: LinkId, number: Option<Number24>) -> Outcome
-        requires { link < length self.old.node.parts.links }
+        requires { link < length self.old.settings.links }
         ensures { Ends self.old result self.new (rule.order kept self.old.settings link number self.old.node) }
     {
         if !self.links.state(link).is_down() {
@@ -40,7 +40,7 @@ impl Exchange {
 
     /// Tells the peer the number of the last message that was accepted on a link.
     fn answer_about(&mut self, link: LinkId)
-        requires { link < length self.old.node.parts.links }
+        requires { link < length self.old.settings.links }
         ensures { self.new ≡ with_node self.old (rule.tell kept self.old.settings link self.old.node) }
     {
         let number = self.sequences[link.index()].last_accepted();
@@ -50,7 +50,7 @@ impl Exchange {
 
     /// The peer answers an order about a link; ignored where no answer is awaited.
     pub(super) fn acknowledge(&mut self, link: LinkId, number: Option<Number24>) -> Outcome
-        requires { link < length self.old.node.parts.links }
+        requires { link < length self.old.settings.links }
         ensures { Ends self.old result self.new
             (rule.acknowledge kept self.old.settings link number self.old.node) }
     {
@@ -73,7 +73,7 @@ impl Exchange {
         }
         self.note(Notice::Expired(timer, link));
         if timer == ChangeoverTimer::T2 {
-            self.lost_any = true;
+            self.flag_loss();
         }
         if self.changeovers.expired(link, timer) {
             self.conclude(link, None);
@@ -84,7 +84,7 @@ impl Exchange {
     /// messages behind them go before all of Held, and management goes out anew. Without a reasonable number those that
     /// were sent are lost.
     fn conclude(&mut self, link: LinkId, number: Option<Number24>)
-        requires { link < length self.old.node.parts.links }
+        requires { link < length self.old.settings.links }
         ensures { self.new ≡ with_node self.old (rule.conclude kept self.old.settings
             (kept.found self.old.node.queues link number) link number self.old.node) }
     {
@@ -96,20 +96,28 @@ impl Exchange {
 
     /// Without a reasonable number, the user messages of a link that were sent are lost.
     fn lose_doubtful(&mut self, link: LinkId, number: &Option<Number24>)
-        requires { link < length self.old.node.parts.links }
+        requires { link < length self.old.settings.links }
         ensures { self.new ≡ with_node self.old (with_parts self.old.node
             (rule.doubted (kept.found self.old.node.queues link number.now) self.old.node.parts)) }
     {
-        let number = copied(number);
-        if let Some(count) = in_doubt(&self.sequences[link.index()], number) {
+        if let Some(count) = self.in_doubt(link, number) {
             self.lose_first(link, count);
-            self.lost_any = true;
+            self.flag_loss();
         }
+    }
+
+    /// Without a reasonable number, how many messages of a link were sent and aren't confirmed.
+    fn in_doubt(&self, link: LinkId, number: &Option<Number24>) -> Option<usize>
+        requires { link < length self.now.settings.links }
+        ensures { result ≡ kept_doubted (queues.counts_at self.now.node.queues.counts link)
+            (kept_accepted_count (queues.counts_at self.now.node.queues.counts link) number.now) }
+    {
+        in_doubt(&self.sequences[link.index()], *number)
     }
 
     /// The user messages among the first so many of a link's list are lost.
     fn lose_first(&mut self, link: LinkId, count: usize)
-        requires { link < length self.old.node.parts.links }
+        requires { link < length self.old.settings.links }
         ensures { self.new ≡ with_node self.old (with_parts self.old.node
             (draining.lose_first count (link_lane self.old.node.queues link) self.old.node.parts)) }
     {
@@ -120,7 +128,7 @@ impl Exchange {
 
     /// The message at a place of a link's list is lost, where it is a user message.
     fn lose_at(&mut self, link: LinkId, place: usize)
-        requires { link < length self.old.node.parts.links }
+        requires { link < length self.old.settings.links }
         ensures { self.new ≡ with_node self.old (with_parts self.old.node
             (draining.lose_one (slice_get (link_lane self.old.node.queues link) place) self.old.node.parts)) }
     {
@@ -141,10 +149,13 @@ impl Exchange {
 
     /// The user messages that move go before all of Held; the management messages are left in the link's list.
     fn splice(&mut self, link: LinkId, number: Option<Number24>)
-        requires { link < length self.old.node.parts.links }
-        ensures { self.new ≡ with_node self.old (record self.old.node {
+        requires { link < length self.old.settings.links }
+        ensures state { self.new ≡ with_node self.old (record self.old.node {
             queues = draining.spliced_queues self.old.node.queues link number;
         }) }
+        ensures anew { link_lane self.new.node.queues link
+            ≡ (kept.found self.old.node.queues link number).queued_anew }
+        ensures there { queues.lane_of link < length self.old.node.queues.lanes }
     {
         self.release_due = true;
         let sequence = &mut self.sequences[link.index()];
@@ -153,7 +164,7 @@ impl Exchange {
 
     /// The management messages in the list of a link go out anew, each on the link of its flow.
     fn send_each(&mut self, link: LinkId)
-        requires { link < length self.old.node.parts.links }
+        requires { link < length self.old.settings.links }
         ensures { self.new ≡ with_node self.old (draining.drained (draining.anew self.old.settings)
             (length (link_lane self.old.node.queues link)) (queues.lane_of link) self.old.node) }
     {
@@ -164,7 +175,7 @@ impl Exchange {
 
     /// The first message in the list of a link goes out anew.
     fn send_first(&mut self, link: LinkId)
-        requires { link < length self.old.node.parts.links }
+        requires { link < length self.old.settings.links }
         ensures { self.new ≡ with_node self.old (draining.first_gone (draining.anew self.old.settings)
             (queues.lane_of link) self.old.node) }
     {
@@ -179,15 +190,5 @@ impl Exchange {
                 self.unsent(Cause::NoRoute, head.label.dpc);
             }
         }
-    }
-}
-
-/// The same number, if there is one.
-fn copied(number: &Option<Number24>) -> Option<Number24>
-    ensures { result ≡ number.now }
-{
-    match number {
-        Some(number) => Some(*number),
-        None => None,
     }
 }

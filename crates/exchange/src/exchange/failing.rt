@@ -18,7 +18,7 @@ use timer_wheel::TimerName;
 impl Exchange {
     /// A link fails. Where it was in service, its changeover begins.
     pub(super) fn fail(&mut self, link: LinkId, why: FailureReason)
-        requires { link < length self.old.node.parts.links }
+        requires { link < length self.old.settings.links }
         ensures { self.new ≡ with_node self.old (rule.fail kept self.old.settings link why self.old.node) }
     {
         if self.drop_out(link, why) {
@@ -28,7 +28,7 @@ impl Exchange {
 
     /// A link fails since its peer tells so. Where it was in service, its changeover begins, with no order to the peer.
     pub(super) fn fail_by_peer(&mut self, link: LinkId)
-        requires { link < length self.old.node.parts.links }
+        requires { link < length self.old.settings.links }
         ensures { self.new ≡ with_node self.old (rule.fail_by_peer kept self.old.settings link self.old.node) }
     {
         if self.drop_out(link, FailureReason::Changeover) {
@@ -39,7 +39,7 @@ impl Exchange {
     /// A link goes down, and says whether it was in service. Then the flows that its changeover is to hold are held
     /// first: until then it is their link.
     fn drop_out(&mut self, link: LinkId, why: FailureReason) -> bool
-        requires { link < length self.old.node.parts.links }
+        requires { link < length self.old.settings.links }
         ensures served { result ≡ in_service self.old.node.parts link }
         ensures state { self.new ≡ with_node self.old (rule.drop_out kept self.old.settings
             (in_service self.old.node.parts link) link why self.old.node) }
@@ -54,7 +54,7 @@ impl Exchange {
 
     /// A link is down, its timers don't run, and that is noted.
     fn fall(&mut self, link: LinkId, why: FailureReason)
-        requires { link < length self.old.node.parts.links }
+        requires { link < length self.old.settings.links }
         ensures { self.new ≡ with_node self.old (with_parts self.old.node (rule.fall link why self.old.node.parts)) }
     {
         self.links.fall(link);
@@ -64,7 +64,7 @@ impl Exchange {
 
     /// The changeover of a link begins: an order goes out where a link of its set is left.
     fn change_over(&mut self, link: LinkId)
-        requires { link < length self.old.node.parts.links }
+        requires { link < length self.old.settings.links }
         ensures { self.new ≡ with_node self.old (rule.change_over kept self.old.settings true link self.old.node) }
     {
         let left = self.has_other(link);
@@ -84,7 +84,7 @@ impl Exchange {
 
     /// Orders the peer to change over from a link, with the number of the last message that was accepted on it.
     fn order_about(&mut self, link: LinkId, number: Number24)
-        requires { link < length self.old.node.parts.links }
+        requires { link < length self.old.settings.links }
         ensures { self.new ≡ with_node self.old (made.send_routed kept self.old.settings
             (rule.order_about self.old.settings link number) self.old.node) }
     {
@@ -94,7 +94,7 @@ impl Exchange {
 
     /// Whether a link of the same set is in service.
     fn has_other(&self, link: LinkId) -> bool
-        requires { link < length self.now.node.parts.links }
+        requires { link < length self.now.settings.links }
         ensures { result ≡ rule.has_other self.now.settings link self.now.node.parts }
     {
         self.links.has_link(self.row_of(link).set())
@@ -102,7 +102,7 @@ impl Exchange {
 
     /// The signalling link code of a link.
     pub(super) fn code_of(&self, link: LinkId) -> Sls
-        requires { link < length self.now.node.parts.links }
+        requires { link < length self.now.settings.links }
         ensures { result ≡ (rule.entry_of self.now.settings link).slc }
     {
         let Some(code) = Sls::new(self.row_of(link).slc()) else {
@@ -113,7 +113,7 @@ impl Exchange {
 
     /// The point that a link leads to.
     pub(super) fn peer_of(&self, link: LinkId) -> PointCode
-        requires { link < length self.now.node.parts.links }
+        requires { link < length self.now.settings.links }
         ensures { result ≡ rule.peer_of self.now.settings link }
     {
         let set = self.row_of(link).set();
@@ -122,7 +122,7 @@ impl Exchange {
 
     /// The row of a link in the settings.
     fn row_of(&self, link: LinkId) -> &LinkRow
-        requires { link < length self.now.node.parts.links }
+        requires { link < length self.now.settings.links }
         ensures row { result.now ≡ rule.entry_of self.now.settings link }
         ensures set { (rule.entry_of self.now.settings link).set < length self.now.settings.sets }
     {

@@ -39,7 +39,7 @@ impl Exchange {
 
     /// A frame that can't be read: a wrong length fails the link, any other fault is noted.
     fn leave_aside(&mut self, link: LinkId, fault: FrameFault) -> Outcome
-        requires { link < length self.old.node.parts.links }
+        requires { link < length self.old.settings.links }
         ensures { Ends self.old result self.new (rule.leave_aside kept self.old.settings link fault self.old.node) }
     {
         if fault == FrameFault::Length {
@@ -52,7 +52,7 @@ impl Exchange {
 
     /// A frame by its kind.
     fn receive_frame(&mut self, link: LinkId, frame: Frame<'_>) -> Outcome
-        requires { link < length self.old.node.parts.links }
+        requires { link < length self.old.settings.links }
         ensures { Ends self.old result self.new
             (rule.receive_frame kept self.old.settings link (value_of frame.entry) self.old.node) }
     {
@@ -74,7 +74,7 @@ impl Exchange {
         bsn: Number24,
         message: Option<MsuRef<'_>>,
     ) -> Outcome
-        requires { link < length self.old.node.parts.links }
+        requires { link < length self.old.settings.links }
         ensures { Ends self.old result self.new
             (rule.take_in kept self.old.settings link (carrying fsn bsn message.entry) self.old.node) }
     {
@@ -100,7 +100,7 @@ impl Exchange {
         bsn: Number24,
         message: Option<MsuRef<'_>>,
     ) -> Outcome
-        requires { link < length self.old.node.parts.links }
+        requires { link < length self.old.settings.links }
         ensures { Ends self.old result self.new
             (rule.handle kept self.old.settings link (carrying fsn bsn message.entry) self.old.node) }
     {
@@ -120,7 +120,7 @@ impl Exchange {
     /// The message that User Data carries: it is to be acknowledged, and is delivered.
     #[inline(always)]
     fn carry(&mut self, link: LinkId, message: Option<MsuRef<'_>>) -> Outcome
-        requires { link < length self.old.node.parts.links }
+        requires { link < length self.old.settings.links }
         ensures { Ends self.old result self.new
             (rule.carry kept self.old.settings link (option_map lent message.entry)
             (with_parts self.old.node (owing link (option_map lent message.entry) self.old.node.parts))) }
@@ -136,7 +136,7 @@ impl Exchange {
 
     /// L7 after some messages were confirmed.
     fn time_confirming(&mut self, link: LinkId, confirmed: usize)
-        requires { link < length self.old.node.parts.links }
+        requires { link < length self.old.settings.links }
         ensures { self.new ≡ with_node self.old (with_timers self.old.node
             (timed_confirming self.old.settings link (link_at self.old.node.parts link).peer_busy confirmed
             (kept.outstanding self.old.node.queues link) self.old.node.parts.timers)) }

@@ -42,7 +42,7 @@ impl Exchange {
 
     /// What is read of the message at a place of a link's list, where there is one.
     pub(super) fn head_at(&self, link: LinkId, place: usize) -> Option<Head>
-        requires { link < length self.now.node.parts.links }
+        requires { link < length self.now.settings.links }
         ensures { result ≡ option_map head_of (slice_get (link_lane self.now.node.queues link) place) }
     {
         head_in(&self.lanes, lane_of(link), place)

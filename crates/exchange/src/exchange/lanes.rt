@@ -28,7 +28,7 @@ impl Exchange {
     /// Puts a message at the end of a link's list; refused where there is no room for it.
     #[inline(always)]
     pub(super) fn queue(&mut self, link: LinkId, message: MsuRef<'_>) -> Result<(), Cause>
-        requires link { link < length self.old.node.parts.links }
+        requires link { link < length self.old.settings.links }
         requires fits { length message.sif.now ≤ Limits.SIF_OCTETS }
         ensures refused { IfErr result (λ cause.
             no_room kept self.old.settings (lent message.entry) self.old.node.queues ≡ Some cause) }
@@ -65,7 +65,7 @@ impl Exchange {
         bsn: Number24,
         carries: bool,
     ) -> Result<usize, SeqFault>
-        requires { link < length self.old.node.parts.links }
+        requires { link < length self.old.settings.links }
         ensures answer { result ≡ kept.accept_answer self.old.node.queues link fsn bsn carries }
         ensures state { self.new ≡ with_node self.old (record self.old.node {
             queues = kept.accepted self.old.node.queues link fsn bsn carries;
@@ -83,7 +83,7 @@ impl Exchange {
 
     /// How many messages a link's list has.
     pub(super) fn count_on(&self, link: LinkId) -> usize
-        requires { link < length self.now.node.parts.links }
+        requires { link < length self.now.settings.links }
         ensures { result ≡ length (link_lane self.now.node.queues link) }
     {
         self.lanes.count(lane_of(link))
@@ -91,7 +91,7 @@ impl Exchange {
 
     /// Drops the messages of a link's list.
     pub(super) fn drop_all(&mut self, link: LinkId)
-        requires { link < length self.old.node.parts.links }
+        requires { link < length self.old.settings.links }
         ensures { self.new ≡
             with_node self.old (record self.old.node { queues = without_lane self.old.node.queues link }) }
     {

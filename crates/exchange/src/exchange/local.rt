@@ -16,7 +16,7 @@ use link_number::Number24;
 use mgmt_codec::{ANSWER_OCTETS, LinkTest, Management, MgmtFault, TestKind};
 use routing_label::Label;
 use settings_rows::LinkRow;
-use stp_types::{Cause, Limits, LinkId, MsuRef, Outcome, PointCode, SetId, Sls};
+use stp_types::{Cause, LinkId, MsuRef, Outcome, PointCode, SetId, Sls};
 
 /// The service indicator of tests (Q.704 §14.2.1).
 const TESTING: u8 = 1;
@@ -27,7 +27,7 @@ const SCCP: u8 = 3;
 impl Exchange {
     /// A message for this point, by the link that it came by.
     pub(super) fn hand_over(&mut self, link: LinkId, message: MsuRef<'_>) -> Outcome
-        requires link { link < length self.old.node.parts.links }
+        requires link { link < length self.old.settings.links }
         requires label { 4 ≤ length message.sif.now }
         ensures { Ends self.old result self.new
             (rule.hand_over kept self.old.settings link (lent message.entry) self.old.node) }
@@ -55,7 +55,7 @@ impl Exchange {
 
     /// A management or test message, by the link that it came by. Only an adjacent point is heard.
     fn manage(&mut self, link: LinkId, message: MsuRef<'_>) -> Outcome
-        requires link { link < length self.old.node.parts.links }
+        requires link { link < length self.old.settings.links }
         requires label { 4 ≤ length message.sif.now }
         ensures { Ends self.old result self.new
             (rule.manage kept self.old.settings link (lent message.entry) self.old.node) }
@@ -75,7 +75,7 @@ impl Exchange {
 
     /// A test message from an adjacent point.
     fn do_test(&mut self, link: LinkId, point: PointCode, sif: &[u8]) -> Outcome
-        requires { link < length self.old.node.parts.links }
+        requires { link < length self.old.settings.links }
         ensures { Ends self.old result self.new
             (rule.do_test kept self.old.settings (read_link_test sif.now) link point self.old.node) }
     {
@@ -91,7 +91,7 @@ impl Exchange {
 
     /// Answers a link test on the link that it came by (Q.707 §2.2).
     fn answer_test(&mut self, link: LinkId, point: PointCode, test: &LinkTest<'_>)
-        requires link { link < length self.old.node.parts.links }
+        requires link { link < length self.old.settings.links }
         requires pattern { length test.now.pattern.now ≤ 15 }
         ensures { self.new ≡ with_node self.old (send_on kept self.old.settings link
             (rule.test_answer self.old.settings point (test_value test.now)) self.old.node) }
@@ -144,7 +144,7 @@ impl Exchange {
 
     /// An order to change over from a link of the set to its sender.
     fn do_order(&mut self, link: Option<LinkId>, number: Option<Number24>) -> Outcome
-        requires { IfSome link (λ link. link < length self.old.node.parts.links) }
+        requires { IfSome link (λ link. link < length self.old.settings.links) }
         ensures { Ends self.old result self.new (rule.do_order kept self.old.settings link number self.old.node) }
     {
         match link {
@@ -155,7 +155,7 @@ impl Exchange {
 
     /// The answer to such an order.
     fn do_acknowledgement(&mut self, link: Option<LinkId>, number: Option<Number24>) -> Outcome
-        requires { IfSome link (λ link. link < length self.old.node.parts.links) }
+        requires { IfSome link (λ link. link < length self.old.settings.links) }
         ensures { Ends self.old result self.new
             (rule.do_acknowledgement kept self.old.settings link number self.old.node) }
     {
@@ -168,27 +168,22 @@ impl Exchange {
     /// The link of a code in the set that leads to a point.
     fn link_with_code(&self, point: PointCode, slc: Sls) -> Option<LinkId>
         ensures link { result ≡ rule.link_with_code self.now.settings point slc }
-        ensures fits { IfSome result (λ link. link < length self.now.node.parts.links) }
+        ensures fits { IfSome result (λ link. link < length self.now.settings.links) }
     {
-        match self.settings.set_to(point) {
-            Some(set) => link_in_set(self.settings.links(), slc, set),
-            None => None,
-        }
+        let set = self.settings.set_to(point)?;
+        let place = place_in_set(self.settings.links(), slc, set)?;
+        Some(LinkId::new(place as u8))
     }
 }
 
-/// The link of a code in a set.
-fn link_in_set(links: &[LinkRow], slc: Sls, set: SetId) -> Option<LinkId>
-    requires { length links.now ≤ Limits.LINKS }
-    ensures link { result ≡ position (λ l. nat_eq l.set set && nat_eq l.slc slc) links.now }
-    ensures fits { IfSome result (λ link. link < length links.now) }
+/// The place of the link of a code in a set.
+fn place_in_set(links: &[LinkRow], slc: Sls, set: SetId) -> Option<usize>
+    ensures place { result ≡ position (λ l. nat_eq l.set set && nat_eq l.slc slc) links.now }
+    ensures fits { IfSome result (λ place. place < length links.now) }
 {
-    for (index, row) in links.iter().enumerate() {
-        if row.set() == set && row.slc() == slc.number() {
-            return Some(LinkId::new(index as u8));
-        }
-    }
-    None
+    links
+        .iter()
+        .position(|row| row.set() == set && row.slc() == slc.number())
 }
 
 /// Why a management or test message that can't be read is refused.

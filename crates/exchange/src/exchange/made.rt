@@ -29,7 +29,7 @@ impl Exchange {
 
     /// A message made here for a point goes out on this link. Where it finds no room it is dropped, and that is noted.
     pub(super) fn send_on(&mut self, link: LinkId, point: PointCode, message: MsuRef<'_>)
-        requires link { link < length self.old.node.parts.links }
+        requires link { link < length self.old.settings.links }
         requires point { point ≡ dpc_of (lent message) }
         requires fits { length message.sif.now ≤ Limits.SIF_OCTETS }
         ensures { self.new ≡
@@ -80,7 +80,7 @@ impl Exchange {
         ensures { self.new ≡ with_node self.old (with_parts self.old.node
             (flagged (note (notices.Unsent cause point) self.old.node.parts))) }
     {
-        self.lost_any = true;
         self.note(Notice::Unsent(cause, point));
+        self.flag_loss();
     }
 }

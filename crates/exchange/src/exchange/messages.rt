@@ -14,7 +14,7 @@ use stp_types::{Cause, Limits, LinkId, MsuRef, Notice, Outcome};
 impl Exchange {
     /// A message in a frame, with the link that it came by. Where it is refused, that is noted.
     pub(super) fn deliver(&mut self, link: LinkId, message: MsuRef<'_>) -> Outcome
-        requires { link < length self.old.node.parts.links }
+        requires { link < length self.old.settings.links }
         ensures { Ends self.old result self.new
             (rule.deliver kept self.old.settings link (lent message.entry) self.old.node) }
     {
@@ -27,7 +27,7 @@ impl Exchange {
 
     /// A message in a frame goes to this point, to another, or nowhere.
     fn deliver_to(&mut self, link: LinkId, message: MsuRef<'_>) -> Outcome
-        requires { link < length self.old.node.parts.links }
+        requires { link < length self.old.settings.links }
         ensures { Ends self.old result self.new
             (rule.deliver_to kept self.old.settings (rule.whither_goes self.old.settings (lent message.entry)) link
             (lent message.entry) self.old.node) }

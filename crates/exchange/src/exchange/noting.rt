@@ -8,6 +8,13 @@ use super::Exchange;
 use stp_types::Notice;
 
 impl Exchange {
+    /// A message may have been lost from now on.
+    pub(super) fn flag_loss(&mut self)
+        ensures { self.new ≡ with_node self.old (with_parts self.old.node (rule.flagged self.old.node.parts)) }
+    {
+        self.lost_any = true;
+    }
+
     /// Keeps a notice. Of more than 64 the oldest is forgotten.
     pub(super) fn note(&mut self, notice: Notice)
         ensures { self.new ≡ with_node self.old (with_parts self.old.node (rule.note notice self.old.node.parts)) }

@@ -57,7 +57,7 @@ impl Exchange {
 
     /// Begins a new epoch of a link.
     fn open_link(&mut self, link: LinkId)
-        requires { link < length self.old.node.parts.links }
+        requires { link < length self.old.settings.links }
         ensures { self.new ≡ with_node self.old (rule.open_link kept self.old.settings link self.old.node) }
     {
         self.drop_all(link);
@@ -83,7 +83,7 @@ impl Exchange {
 
     /// A link that isn't down fails.
     fn bring_down(&mut self, link: LinkId, why: FailureReason)
-        requires { link < length self.old.node.parts.links }
+        requires { link < length self.old.settings.links }
         ensures { self.new ≡ with_node self.old (rule.bring_down kept self.old.settings link why self.old.node) }
     {
         if !self.links.state(link).is_down() {

@@ -85,7 +85,7 @@ impl Exchange {
         ensures { self.new ≡ with_node self.old (with_parts self.old.node
             (flagged (note (notices.Lost cause label.now.dpc label.now.sls) self.old.node.parts))) }
     {
-        self.lost_any = true;
         self.note(Notice::Lost(cause, label.dpc, label.sls));
+        self.flag_loss();
     }
 }

@@ -48,7 +48,7 @@ impl Exchange {
         status: LinkStatus,
         buffer: &mut [u8; BUFFER_OCTETS],
     ) -> usize
-        requires { link < length self.old.node.parts.links }
+        requires { link < length self.old.settings.links }
         ensures frame { Writes (frame_of self.old link (rule.SendsStatus status)) (Some result) buffer.old buffer.new }
         ensures state { self.new ≡
             with_node self.old (with_parts self.old.node (rule.told link self.old.node.parts)) }
@@ -64,7 +64,7 @@ impl Exchange {
 
     /// The next message goes out, else the acknowledgement that is owed.
     fn take_data(&mut self, link: LinkId, buffer: &mut [u8; BUFFER_OCTETS]) -> Option<usize>
-        requires { link < length self.old.node.parts.links }
+        requires { link < length self.old.settings.links }
         ensures frame { Writes (frame_of self.old link (data_out self.old link)) result buffer.old buffer.new }
         ensures state { self.new ≡ sent self.old link (data_out self.old link) }
         ensures fits { IfSome result (λ count. count ≤ BUFFER_OCTETS) }
@@ -77,7 +77,7 @@ impl Exchange {
 
     /// The next message goes out, where the window allows and the peer isn't busy.
     fn take_message(&mut self, link: LinkId, buffer: &mut [u8; BUFFER_OCTETS]) -> Option<usize>
-        requires { link < length self.old.node.parts.links }
+        requires { link < length self.old.settings.links }
         ensures frame { Writes (frame_of self.old link (message_out self.old link)) result buffer.old buffer.new }
         ensures state { self.new ≡ sent self.old link (message_out self.old link) }
         ensures fits { IfSome result (λ count. count ≤ BUFFER_OCTETS) }
@@ -104,7 +104,7 @@ impl Exchange {
         link: LinkId,
         buffer: &mut [u8; BUFFER_OCTETS],
     ) -> Option<usize>
-        requires { link < length self.old.node.parts.links }
+        requires { link < length self.old.settings.links }
         ensures frame { Writes (frame_of self.old link (owed_out self.old link)) result buffer.old buffer.new }
         ensures state { self.new ≡ sent self.old link (owed_out self.old link) }
         ensures fits { IfSome result (λ count. count ≤ BUFFER_OCTETS) }

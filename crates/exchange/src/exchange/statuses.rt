@@ -14,7 +14,7 @@ use stp_types::{FailureReason, LinkId, Outcome};
 impl Exchange {
     /// A status that the peer tells.
     pub(super) fn hear(&mut self, link: LinkId, status: LinkStatus) -> Outcome
-        requires { link < length self.old.node.parts.links }
+        requires { link < length self.old.settings.links }
         ensures { Ends self.old result self.new (rule.hear kept self.old.settings link status self.old.node) }
     {
         match self.links.on(link, Input::Status(status)) {
@@ -35,7 +35,7 @@ impl Exchange {
 
     /// A status of a peer in service.
     fn serve_status(&mut self, link: LinkId, status: LinkStatus)
-        requires { link < length self.old.node.parts.links }
+        requires { link < length self.old.settings.links }
         ensures { self.new ≡
             with_node self.old (rule.serve_status kept self.old.settings link status self.old.node) }
     {
@@ -48,7 +48,7 @@ impl Exchange {
 
     /// The peer takes no messages for now.
     fn become_busy(&mut self, link: LinkId)
-        requires { link < length self.old.node.parts.links }
+        requires { link < length self.old.settings.links }
         ensures { self.new ≡ with_node self.old
             (with_parts self.old.node (rule.become_busy self.old.settings link self.old.node.parts)) }
     {
@@ -62,7 +62,7 @@ impl Exchange {
 
     /// The peer takes messages again.
     fn end_busy(&mut self, link: LinkId)
-        requires { link < length self.old.node.parts.links }
+        requires { link < length self.old.settings.links }
         ensures { self.new ≡ with_node self.old (with_parts self.old.node (rule.end_busy self.old.settings link
             (kept.outstanding self.old.node.queues link) self.old.node.parts)) }
     {

@@ -22,7 +22,7 @@ impl Exchange {
     /// The changeover of a link holds each flow that goes by it, and each that has a user message there that isn't
     /// confirmed.
     pub(super) fn suspend(&mut self, link: LinkId)
-        requires { link < length self.old.node.parts.links }
+        requires { link < length self.old.settings.links }
         ensures { self.new ≡ with_node self.old (with_parts self.old.node (rule.suspended self.old.settings link
             (kept.unconfirmed self.old.node.queues link) self.old.node.parts)) }
     {
@@ -68,7 +68,7 @@ impl Exchange {
 
     /// Holds the flows of the user messages in the list of a link.
     fn hold_messages(&mut self, link: LinkId)
-        requires { link < length self.old.node.parts.links }
+        requires { link < length self.old.settings.links }
         ensures { self.new ≡ with_holds self.old (rule.with_messages self.old.settings link
             (kept.unconfirmed self.old.node.queues link) self.old.node.parts.holds) }
     {
@@ -79,7 +79,7 @@ impl Exchange {
 
     /// Holds the flow of the message at a place of a link's list, where it is a user message.
     fn hold_message(&mut self, link: LinkId, place: usize)
-        requires { link < length self.old.node.parts.links }
+        requires { link < length self.old.settings.links }
         ensures { self.new ≡ with_holds self.old (with_head self.old.settings link
             (slice_get (kept.unconfirmed self.old.node.queues link) place) self.old.node.parts.holds) }
     {

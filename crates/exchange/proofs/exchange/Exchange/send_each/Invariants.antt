@@ -1,0 +1,9 @@
+-- What is left to go out, and what has gone out, is all that goes out.
+use Rattle.std.proofs.Common.{◌-◌, length}
+use Rattle.exchange.specs.Queues.{link_lane, lane_of}
+use Rattle.exchange.specs.Draining.{anew}
+use Rattle.exchange.proofs.Draining.{Rest}
+use Rattle.exchange.proofs.exchange.Exchange.send_each.Given as goal
+
+abbrev pub invariant-loop : goal.invariant-loop
+invariant-loop l = Rest anew l.fn.self l.self (l.end - l.counter) (lane_of l.link) (length (link_lane l.fn.self.node.queues l.link))
