@@ -543,6 +543,7 @@ module _ {P Q : Type 0} (p : QueueKind P) (q : QueueKind Q) (h : P → Q) (IsFit
       record { same = ap (λ (ms : List Message). go_each q c ms (record { queues = q.without_held (h n.queues); parts = n.parts })) (k.held n.queues) ∙ s.same; fit = s.fit }
 
   pub done-kept : (what : Happening) (n : Node P) → IsFit n.queues → Keeps (done_by q c what (keep h n)) (done_by p c what n)
+  unfolding done_by
   done-kept what n f =
       let d : Keeps (apply q c what (keep h n)) (apply p c what n) = apply-kept what n f in
       behind_done (apply p c what n) _ d.same (release-kept (apply p c what n).left d.fit)

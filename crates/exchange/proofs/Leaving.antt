@@ -54,6 +54,7 @@ use Rattle.exchange.specs.Releasing.{go_on, go_by, go, go_each, release, settled
 use Rattle.exchange.specs.Failing.{standing_of}
 use Rattle.changeover.specs.Standing.{may_restart}
 use Rattle.exchange.proofs.Settling.{nothing_released}
+use Rattle.exchange.specs.Exchange.{done_by}
 use Rattle.exchange.specs.Laws.{accept_data, accept_frame, accept_text, refusals_leave, queued_in_service}
 use Rattle.exchange.specs.Stands.{Abstract, IsSound}
 
@@ -343,6 +344,7 @@ left-so : (a : Abstract) (d : Done WholeQueues) (cause : Cause) → IsSound a �
 left-so a d cause s f e = ap (λ (m : Node WholeQueues). with_node a m) (settled-left a.settings d a.node (f.left cause e) s.waiting)
 
 pub refused_leaves : refusals_leave
+unfolding done_by
 refused_leaves (CameUp link) a cause s e = left-so a _ cause s (associate-leaves a.settings link a.node) e
 refused_leaves (WentDown link) a cause s e = left-so a _ cause s (dissociate-leaves a.settings link a.node) e
 refused_leaves Ticked a cause s e = cc
@@ -362,6 +364,7 @@ served-so : (a : Abstract) (d : Done WholeQueues) (l : ℕ) → Leaves d a.node 
 served-so a d l f e = still a d l (f.served l e)
 
 pub queued_served : queued_in_service
+unfolding done_by
 queued_served (CameUp link) a l e = served-so a _ l (associate-leaves a.settings link a.node) e
 queued_served (WentDown link) a l e = served-so a _ l (dissociate-leaves a.settings link a.node) e
 queued_served Ticked a l e = cc

@@ -1,5 +1,5 @@
 -- An exchange that stood for an abstract state stands for the state after each event and each frame that goes out.
-use Rattle.std.proofs.Common.{◌≡◌, ℕ, suc, false, List, [], refl, ap, ◌∙◌, length, ◌≤◌, replicate}
+use Rattle.std.proofs.Common.{◌≡◌, ℕ, suc, true, false, List, [], refl, ap, ◌∙◌, length, ◌≤◌, replicate}
 use Rattle.settings_rows.specs.Configuration.{Configuration}
 use Rattle.signalling_types.specs.Message.{Message}
 use Rattle.signalling_types.specs.declared.limits.TheConstants.Limits.{WINDOW}
@@ -19,6 +19,7 @@ use Rattle.exchange.proofs.Keeping.{Keeps, done-kept, frame_taken-kept, after_ta
 use Rattle.exchange.proofs.KeptQueues.{keeps_whole}
 use Rattle.changeover.specs.Standing.{Standing, no_changeover}
 use Rattle.flow_hold.specs.Holds.{HoldTable, no_holds}
+use Rattle.exchange.specs.Holding.{all_wait}
 use Rattle.exchange.proofs.Settling.{release-waits, take-waits}
 use Rattle.exchange.proofs.Lists.{each-replicate, map-replicate}
 
@@ -27,13 +28,19 @@ applied : (what : Happening) (a : Abstract) → IsSound a →
     (done_by kept a.settings what (keep kept_queues_of a.node)) (done_by whole a.settings what a.node)
 applied what a s = done-kept whole kept kept_queues_of (AreQueues a.settings.window) a.settings (keeps_whole a.settings.window) what a.node s.queues
 
+-- after each event each message of Held waits
+done-waits : (what : Happening) (a : Abstract)
+    → all_wait a.settings (done_by whole a.settings what a.node).left.parts.holds (done_by whole a.settings what a.node).left.queues.held ≡ true
+unfolding done_by
+done-waits what a = release-waits a.settings (apply whole a.settings what a.node).left
+
 pub stands-outcome : (what : Happening) (k : Kept) (a : Abstract) → StandsFor k a → outcome_of kept what k ≡ outcome_of whole what a
 stands-outcome what k a s =
     ap (λ (x : Kept). outcome_of kept what x) s.kept ∙ ap (λ (d : Done KeptQueues). d.outcome) (applied what a s.sound).same
 
 pub stands-after : (what : Happening) (k : Kept) (a : Abstract) → StandsFor k a → StandsFor (after kept what k) (after whole what a)
 stands-after what k a s = record {
-  sound = record { queues = (applied what a s.sound).fit; waiting = release-waits a.settings (apply whole a.settings what a.node).left };
+  sound = record { queues = (applied what a s.sound).fit; waiting = done-waits what a };
   kept = ap (λ (x : Kept). after kept what x) s.kept ∙ ap (λ (d : Done KeptQueues). record { settings = a.settings; node = d.left }) (applied what a s.sound).same;
 }
 

@@ -25,7 +25,7 @@ apply q c (Activated link) node = activate q c link node
 apply q c (Deactivated link) node = deactivate q c link node
 
 -- then what is held no longer goes on
-abbrev pub done_by : {Q : Type 0} → QueueKind Q → Configuration → Happening → Node Q → Done Q
+unfoldable pub done_by : {Q : Type 0} → QueueKind Q → Configuration → Happening → Node Q → Done Q
 done_by q c what node = settled q c (apply q c what node)
 
 -- what becomes of an event

@@ -49,12 +49,15 @@ const INPUTS: &[u8] = b"123456789dt";
 /// The same for the timers of a link in service, about each input of `WAITS`. In a way, `m` is a message that is
 /// submitted; it goes out behind the statuses.
 ///
-/// InService with nothing sent; with a busy peer, and L6 runs out; with a message unconfirmed, and L7 runs out.
+/// InService with nothing sent; with a busy peer, and L6 runs out.
 const WAITING_ROWS: &str = "\
 u24p|++++
 u24p7|+++t
-u24pm|+ttt
 ";
+
+/// The same with a message unconfirmed, and L7 runs out, about the first two of `WAITS`: after more ticks its changeover
+/// has ended by T1, and left notices of its own.
+const UNCONFIRMED_ROW: &str = "u24pm|+t";
 
 /// Ticks, in the order of these rows: one less than a confirmation may take, as many as that, one less than a peer may
 /// be busy, and as many as that.
@@ -197,4 +200,5 @@ fn each_timer_in_service(rt: HostRuntime) {
     for row in WAITING_ROWS.lines() {
         expect_row(&rt, rt.alloc(), WAITS, row);
     }
+    expect_row(&rt, rt.alloc(), &WAITS[..2], UNCONFIRMED_ROW);
 }

@@ -23,7 +23,7 @@ const GOES: [u8; 24] = [
 const OTHER_VERSION: [u8; 8] = [0x02, 0x00, 0x0b, 0x02, 0x00, 0x00, 0x00, 0x08];
 
 /// Brings a link into service, and lets a message through; then an operator closes the link, its association
-/// goes, and he opens it again.
+/// goes, and he lets it open again, which it may once its changeover has ended by T1.
 fn made<T: Abort>(rt: &T, alloc: Global, exchange: &mut Exchange, message: Msu) -> Vec<Answer> {
     let link = LinkId::new(0);
     let proving = status_frame(2);
@@ -51,12 +51,17 @@ fn made<T: Abort>(rt: &T, alloc: Global, exchange: &mut Exchange, message: Msu) 
         Call::Step(Event::AssociationUp(link)),
         Call::Step(Event::Order(Order::Activate(link))),
         Call::Wants(link),
+        Call::Step(Event::Tick),
+        Call::Step(Event::Tick),
+        Call::Step(Event::Tick),
+        Call::Step(Event::Tick),
+        Call::Wants(link),
     ];
     exchange.run(alloc, &calls).expect(rt, "memory")
 }
 
 /// What is answered to them.
-const ANSWERS: [&str; 22] = [
+const ANSWERS: [&str; 27] = [
     "handled",
     "handled",
     "handled",
@@ -77,6 +82,11 @@ const ANSWERS: [&str; 22] = [
     "handled",
     "nothing",
     "refused",
+    "handled",
+    "nothing",
+    "handled",
+    "handled",
+    "handled",
     "handled",
     "open",
 ];
