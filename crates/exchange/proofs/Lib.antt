@@ -4,4 +4,5 @@ pub mod KeptQueues
 pub mod Standing
 pub mod Ticking
 pub mod Calls
+pub mod Showing
 pub mod Leaving

@@ -21,4 +21,5 @@ pub mod Stands
 pub mod Runs
 pub mod Room
 pub mod Taking
+pub mod Views
 pub mod Laws

@@ -20,6 +20,7 @@ mod noting;
 mod opening;
 mod runs;
 mod sending;
+mod showing;
 mod statuses;
 mod ticking;
 mod timing;

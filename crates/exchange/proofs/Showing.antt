@@ -1,0 +1,32 @@
+-- What an exchange shows of its links and routes is what the abstract state shows.
+use Rattle.std.proofs.Common.{◌≡◌, ◌∙◌, ℕ, Bool, true, false, List, length, map, get_or, [], refl, ap}
+use Rattle.std.specs.Prelude.{Option, Some, None, if◌then◌else◌}
+use Rattle.signalling_types.specs.Message.{Message}
+use Rattle.link_sequence.specs.Queue.{Queue}
+use Rattle.exchange.specs.declared.view.LinkView.{LinkView}
+use Rattle.exchange.specs.declared.view.RouteView.{RouteView}
+use Rattle.exchange.specs.State.{Node, keep}
+use Rattle.exchange.specs.Links.{is_link}
+use Rattle.exchange.specs.Stands.{Abstract, Kept, AreQueues, StandsFor, kept_of, kept_queues_of}
+use Rattle.exchange.specs.Views.{whole_shown, kept_shown, link_shown, link_view, route_view}
+use Rattle.exchange.proofs.KeptQueues.{lane_at-kept, keeps_whole}
+
+waiting-kept : (qs : List Queue) (l : ℕ) → kept_shown.waiting (kept_queues_of qs) l ≡ whole_shown.waiting qs l
+waiting-kept qs l = ap (λ (ms : List Message). length ms) (lane_at-kept qs l)
+
+link_shown-kept : (w : ℕ) (node : Node (List Queue)) (l : ℕ) → AreQueues w node.queues
+    → link_shown kept_shown (keep kept_queues_of node) l ≡ link_shown whole_shown node l
+link_shown-kept w node l s =
+    rw (waiting-kept node.queues l, (keeps_whole w).last_sent node.queues l s, (keeps_whole w).last_accepted node.queues l)
+
+either_view : (b : Bool) (v w : LinkView) → v ≡ w → (if b then Some v else None) ≡ (if b then Some w else None)
+either_view true v w e = ap (λ (x : LinkView). Some x) e
+either_view false v w e = refl
+
+pub stands-link : (l : ℕ) (k : Kept) (a : Abstract) → StandsFor k a → link_view kept_shown k l ≡ link_view whole_shown a l
+stands-link l k a s =
+    ap (λ (x : Kept). link_view kept_shown x l) s.kept
+    ∙ either_view (is_link a.node.parts l) _ _ (link_shown-kept a.settings.window a.node l s.sound.queues)
+
+pub stands-route : (d : ℕ) (k : Kept) (a : Abstract) → StandsFor k a → route_view k d ≡ route_view a d
+stands-route d k a s = ap (λ (x : Kept). route_view x d) s.kept
