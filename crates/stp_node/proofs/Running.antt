@@ -6,31 +6,34 @@ use Rattle.std.proofs.lemmas.List.{drop_all}
 use Rattle.std.proofs.lemmas.Bool.Decides.{nat_tests}
 use Rattle.std.specs.Io.KnownBytes.{Appends, Consumes, Keeps, IsAtEnd}
 use Rattle.exchange.specs.Stands.{Kept}
-use Rattle.exchange.specs.Queues.{KeptQueues, kept}
+use Rattle.exchange.specs.Queues.{KeptQueues}
+use Rattle.exchange.specs.Views.{kept_shown}
 use Rattle.stp_node.specs.Asking.{Reading, IsMalformed, parsed_line}
 use Rattle.stp_node.specs.Lines.{lines}
 use Rattle.stp_node.specs.Streams.{AppendsFirst}
 use Rattle.stp_node.specs.Runs.{Reached, silent, stopped, line_run, whole_line, open_run, onto, unless_ended, behind, lines_run, run_so_far, whole_run, Does, Runs}
-use Rattle.stp_node.specs.Steps.{LineSoFar, first_line, begun, rest_run, GoesOn, HasTaken}
+use Rattle.stp_node.specs.Steps.{LineSoFar, first_line, rest_run, GoesOn, HasTaken}
 use Rattle.stp_node.specs.Faults.{reads_failed, MakesReads}
 use Rattle.stp_node.specs.declared.script.TheConstants.{LINE_OCTETS, READS}
 use Rattle.stp_node.specs.declared.script.ScriptFault.{ScriptFault}
 use Rattle.stp_node.specs.declared.script.ScriptFault.TheVariants.{Read, Write, Line, TooManyReads, NoMemory}
-use Rattle.stp_node.proofs.Parting.{lines-nonfeed, begun-nothing, parted-some}
+use Rattle.console.specs.Words.{begun}
+use Rattle.console.proofs.Parting.{begun-nothing, parted-some}
+use Rattle.stp_node.proofs.Parting.{lines-nonfeed}
 
 -- ---- writes in a row
 
-appends-appends : (w0 w1 w2 : Option (List ℕ)) (xs ys : List ℕ) → Appends w0 w1 xs → Appends w1 w2 ys → Appends w0 w2 (xs ++ ys)
+pub appends-appends : (w0 w1 w2 : Option (List ℕ)) (xs ys : List ℕ) → Appends w0 w1 xs → Appends w1 w2 ys → Appends w0 w2 (xs ++ ys)
 appends-appends None w1 w2 xs ys h k = tt
 appends-appends (Some v0) None w2 xs ys h k = absurd h
 appends-appends (Some v0) (Some v1) None xs ys h k = absurd k
 appends-appends (Some v0) (Some v1) (Some v2) xs ys h k = k ∙ ap (λ (v : List ℕ). v ++ ys) h ∙ append_assoc v0 xs ys
 
-appends-first : (w0 w1 w2 : Option (List ℕ)) (xs ys : List ℕ) → Appends w0 w1 xs → AppendsFirst w1 w2 ys → AppendsFirst w0 w2 (xs ++ ys)
+pub appends-first : (w0 w1 w2 : Option (List ℕ)) (xs ys : List ℕ) → Appends w0 w1 xs → AppendsFirst w1 w2 ys → AppendsFirst w0 w2 (xs ++ ys)
 appends-first w0 w1 w2 xs ys h k =
     (length xs + k.0, rw (take-append-add xs ys k.0) (appends-appends w0 w1 w2 xs (take k.0 ys) h k.1))
 
-appends-nothing : (w : Option (List ℕ)) → Appends w w []
+pub appends-nothing : (w : Option (List ℕ)) → Appends w w []
 appends-nothing None = tt
 appends-nothing (Some written) = sym (append-nil written)
 
@@ -65,11 +68,11 @@ whole_line-short line h = if-false (nat_lt LINE_OCTETS (length line)) _ (parsed_
 
 -- one that is too long ends the script, whether its line feed is there or not
 stopped-long : (most number : ℕ) (line : List ℕ) (more : List (List ℕ)) (s : Kept) → LINE_OCTETS < length line → most ≤ LINE_OCTETS
-    → lines_run kept most number (line ∷ more) s ≡ stopped number s
+    → lines_run kept_shown most number (line ∷ more) s ≡ stopped number s
 stopped-long most number line [] s h k = if-true (nat_lt most (length line)) (stopped number s) (silent s) (test-true most (length line) (omega (arith, h, k)))
 stopped-long most number line (next ∷ more) s h k =
     let long : whole_line line ≡ IsMalformed = if-true (nat_lt LINE_OCTETS (length line)) _ (parsed_line line) (test-true LINE_OCTETS (length line) h) in
-    ap (λ (r : Reading). behind (line_run kept number r s) (λ (t : Kept). lines_run kept most (number + 1) (next ∷ more) t)) long
+    ap (λ (r : Reading). behind (line_run kept_shown number r s) (λ (t : Kept). lines_run kept_shown most (number + 1) (next ∷ more) t)) long
 
 -- ---- one octet
 
@@ -79,13 +82,13 @@ pub octet-kept : (octet : ℕ) (line : LineSoFar) (s : Kept) (w : Option (List �
 octet-kept octet line s w h = record {
   text = [];
   wrote = appends-nothing w;
-  rest = λ most more k. ap (λ (parts : List (List ℕ)). lines_run kept most line.number parts s) (lines-nonfeed line.octets octet more h);
+  rest = λ most more k. ap (λ (parts : List (List ℕ)). lines_run kept_shown most line.number parts s) (lines-nonfeed line.octets octet more h);
 }
 
 -- an front line with one octet more than a line may have
 long-first : (most number : ℕ) (front : List ℕ) (octet : ℕ) (parts : List (List ℕ)) (s : Kept) → 0 < length parts
     → LINE_OCTETS ≤ length front → most ≤ LINE_OCTETS
-    → lines_run kept most number (begun (front ++ octet ∷ []) parts) s ≡ stopped number s
+    → lines_run kept_shown most number (begun (front ++ octet ∷ []) parts) s ≡ stopped number s
 long-first most number front octet [] s some h k = absurd (omega (arith, some))
 long-first most number front octet (part ∷ parts) s some h k =
     let e = length-append (front ++ octet ∷ []) part in
@@ -95,7 +98,7 @@ long-first most number front octet (part ∷ parts) s some h k =
 long-run : (octet : ℕ) (line : LineSoFar) (s : Kept) (most : ℕ) (more : List ℕ) → (octet ≡ 10 → ⊥) → LINE_OCTETS ≤ length line.octets
     → most ≤ LINE_OCTETS → rest_run most line (octet ∷ more) s ≡ stopped line.number s
 long-run octet line s most more other long k =
-    ap (λ (parts : List (List ℕ)). lines_run kept most line.number parts s) (lines-nonfeed line.octets octet more other)
+    ap (λ (parts : List (List ℕ)). lines_run kept_shown most line.number parts s) (lines-nonfeed line.octets octet more other)
     ∙ long-first most line.number line.octets octet (lines more) s (parted-some 10 more) long k
 
 pub octet-too_many : (octet : ℕ) (line next : LineSoFar) (s : Kept) (result : Result Unit ScriptFault) (w0 w1 : Option (List ℕ))
@@ -124,23 +127,23 @@ octet-too_many octet line next s (Err NoMemory) w0 w1 other long h = absurd h
 
 -- a line feed ends the front line
 ended-first : (most number : ℕ) (line : List ℕ) (parts : List (List ℕ)) (s : Kept) → 0 < length parts
-    → lines_run kept most number (line ∷ parts) s ≡ behind (line_run kept number (whole_line line) s) (λ t. lines_run kept most (number + 1) (begun [] parts) t)
+    → lines_run kept_shown most number (line ∷ parts) s ≡ behind (line_run kept_shown number (whole_line line) s) (λ t. lines_run kept_shown most (number + 1) (begun [] parts) t)
 ended-first most number line [] s some = absurd (omega (arith, some))
 ended-first most number line (part ∷ parts) s some = refl
 
 line-ended : (line : LineSoFar) (s : Kept) (most : ℕ) (more : List ℕ) → length line.octets ≤ LINE_OCTETS
     → rest_run most line (10 ∷ more) s
-    ≡ behind (line_run kept line.number (parsed_line line.octets) s) (rest_run most (record { octets = []; number = line.number + 1 }) more)
+    ≡ behind (line_run kept_shown line.number (parsed_line line.octets) s) (rest_run most (record { octets = []; number = line.number + 1 }) more)
 line-ended line s most more short =
     ended-first most line.number (line.octets ++ []) (lines more) s (parted-some 10 more)
-    ∙ ap (λ (octets : List ℕ). behind (line_run kept line.number (whole_line octets) s) (rest_run most (record { octets = []; number = line.number + 1 }) more)) (append-nil line.octets)
-    ∙ ap (λ (r : Reading). behind (line_run kept line.number r s) (rest_run most (record { octets = []; number = line.number + 1 }) more)) (whole_line-short line.octets short)
+    ∙ ap (λ (octets : List ℕ). behind (line_run kept_shown line.number (whole_line octets) s) (rest_run most (record { octets = []; number = line.number + 1 }) more)) (append-nil line.octets)
+    ∙ ap (λ (r : Reading). behind (line_run kept_shown line.number r s) (rest_run most (record { octets = []; number = line.number + 1 }) more)) (whole_line-short line.octets short)
 
 feed-done : (line : LineSoFar) (s after : Kept) (x : Unit) (w0 w1 : Option (List ℕ)) → length line.octets ≤ LINE_OCTETS
-    → Does (line_run kept line.number (parsed_line line.octets) s) (Ok x) after w0 w1
+    → Does (line_run kept_shown line.number (parsed_line line.octets) s) (Ok x) after w0 w1
     → HasTaken (10 ∷ []) (Ok tt) line (record { octets = []; number = line.number + 1 }) s after w0 w1
 feed-done line s after x w0 w1 short h =
-    let r = line_run kept line.number (parsed_line line.octets) s in
+    let r = line_run kept_shown line.number (parsed_line line.octets) s in
     let next : LineSoFar = record { octets = []; number = line.number + 1 } in
     record {
       text = r.text;
@@ -160,10 +163,10 @@ behind-nothing r (Some number) next h e =
     let same = behind-ended r next number h in (ap (λ (x : Reached KeptQueues). x.state) same, ap (λ (x : Reached KeptQueues). x.text) same)
 
 feed-broken : (line next : LineSoFar) (s after : Kept) (fault : ScriptFault) (w0 w1 : Option (List ℕ)) → length line.octets ≤ LINE_OCTETS
-    → Does (line_run kept line.number (parsed_line line.octets) s) (Err fault) after w0 w1
+    → Does (line_run kept_shown line.number (parsed_line line.octets) s) (Err fault) after w0 w1
     → HasTaken (10 ∷ []) (Err fault) line next s after w0 w1
 feed-broken line next s after (Line number) w0 w1 short h =
-    let r = line_run kept line.number (parsed_line line.octets) s in
+    let r = line_run kept_shown line.number (parsed_line line.octets) s in
     record {
       text = r.text;
       wrote = h.2;
@@ -174,7 +177,7 @@ feed-broken line next s after (Line number) w0 w1 short h =
           ∙ ap (λ (f : Option ℕ). record { text = r.text; state = after; fault = f }) h.0;
     }
 feed-broken line next s after Write w0 w1 short h =
-    let r = line_run kept line.number (parsed_line line.octets) s in
+    let r = line_run kept_shown line.number (parsed_line line.octets) s in
     let run = line-ended line s LINE_OCTETS [] short in
     let same = behind-nothing r r.fault (rest_run LINE_OCTETS (record { octets = []; number = line.number + 1 }) []) refl (λ t. refl) in
     record {
@@ -190,21 +193,21 @@ feed-broken line next s after NoMemory w0 w1 short h = absurd h
 
 pub line-done : (octet : ℕ) (line : LineSoFar) (text : List ℕ) (s after : Kept) (x : Unit) (w0 w1 : Option (List ℕ)) → octet ≡ 10
     → length line.octets ≤ LINE_OCTETS → text ≡ line.octets
-    → Does (line_run kept line.number (parsed_line text) s) (Ok x) after w0 w1
+    → Does (line_run kept_shown line.number (parsed_line text) s) (Ok x) after w0 w1
     → HasTaken (octet ∷ []) (Ok tt) line (record { octets = []; number = line.number + 1 }) s after w0 w1
 line-done octet line text s after x w0 w1 feed short same h =
     subst (λ (n : ℕ). HasTaken (n ∷ []) (Ok tt) line (record { octets = []; number = line.number + 1 }) s after w0 w1) (sym feed)
     (feed-done line s after x w0 w1 short
-    (subst (λ (octets : List ℕ). Does (line_run kept line.number (parsed_line octets) s) (Ok x) after w0 w1) same h))
+    (subst (λ (octets : List ℕ). Does (line_run kept_shown line.number (parsed_line octets) s) (Ok x) after w0 w1) same h))
 
 pub line-broken : (octet : ℕ) (line next : LineSoFar) (text : List ℕ) (s after : Kept) (fault : ScriptFault) (w0 w1 : Option (List ℕ)) → octet ≡ 10
     → length line.octets ≤ LINE_OCTETS → text ≡ line.octets
-    → Does (line_run kept line.number (parsed_line text) s) (Err fault) after w0 w1
+    → Does (line_run kept_shown line.number (parsed_line text) s) (Err fault) after w0 w1
     → HasTaken (octet ∷ []) (Err fault) line next s after w0 w1
 line-broken octet line next text s after fault w0 w1 feed short same h =
     subst (λ (n : ℕ). HasTaken (n ∷ []) (Err fault) line next s after w0 w1) (sym feed)
     (feed-broken line next s after fault w0 w1 short
-    (subst (λ (octets : List ℕ). Does (line_run kept line.number (parsed_line octets) s) (Err fault) after w0 w1) same h))
+    (subst (λ (octets : List ℕ). Does (line_run kept_shown line.number (parsed_line octets) s) (Err fault) after w0 w1) same h))
 
 -- ---- octets behind octets
 
@@ -321,14 +324,14 @@ more-progress before s after left left_mid left_new w0 w1 w2 line next piece p c
 -- ---- how a run ends
 
 -- the run of a script is that of what is left of it before its first octet
-from-first : (most : ℕ) (octets : List ℕ) (s : Kept) → lines_run kept most 1 (lines octets) s ≡ rest_run most first_line (octets ++ []) s
+from-first : (most : ℕ) (octets : List ℕ) (s : Kept) → lines_run kept_shown most 1 (lines octets) s ≡ rest_run most first_line (octets ++ []) s
 from-first most octets s =
-    ap (λ (parts : List (List ℕ)). lines_run kept most 1 parts s) (sym (begun-nothing (lines octets)))
+    ap (λ (parts : List (List ℕ)). lines_run kept_shown most 1 parts s) (sym (begun-nothing (lines octets)))
     ∙ ap (λ (text : List ℕ). rest_run most first_line text s) (sym (append-nil octets))
 
 -- where the octets so far lead, with the open line at the end of what there is
 so-far : (before s : Kept) (left left_new w0 w1 : Option (List ℕ)) (line : LineSoFar) (most : ℕ) → most ≤ LINE_OCTETS
-    → (p : Progress before left left_new w0 w1 line s) → lines_run kept most 1 (lines p.octets) before ≡ onto p.taken.text (rest_run most line [] s)
+    → (p : Progress before left left_new w0 w1 line s) → lines_run kept_shown most 1 (lines p.octets) before ≡ onto p.taken.text (rest_run most line [] s)
 so-far before s left left_new w0 w1 line most m p = from-first most p.octets before ∙ p.taken.rest most [] m
 
 -- an open line that isn't too long prints nothing while more may come
@@ -338,20 +341,20 @@ open-line line s short =
     ∙ if-false (nat_lt LINE_OCTETS (length line.octets)) (stopped line.number s) (silent s) (test-false LINE_OCTETS (length line.octets) short)
 
 does-so-far : (before s : Kept) (left left_new w0 w1 : Option (List ℕ)) (line : LineSoFar) → length line.octets ≤ LINE_OCTETS
-    → (p : Progress before left left_new w0 w1 line s) → Does (run_so_far kept p.octets before) (Ok tt) s w0 w1
+    → (p : Progress before left left_new w0 w1 line s) → Does (run_so_far kept_shown p.octets before) (Ok tt) s w0 w1
 does-so-far before s left left_new w0 w1 line short p =
-    let same : run_so_far kept p.octets before ≡ onto p.taken.text (silent s) =
+    let same : run_so_far kept_shown p.octets before ≡ onto p.taken.text (silent s) =
     so-far before s left left_new w0 w1 line LINE_OCTETS (omega arith) p ∙ ap (λ (r : Reached KeptQueues). onto p.taken.text r) (open-line line s short) in
     subst (λ (r : Reached KeptQueues). Does r (Ok tt) s w0 w1) (sym same)
     (refl, refl, appends-appends w0 w1 w1 p.taken.text [] p.taken.wrote (appends-nothing w1))
 
 pub at-failed-read : (before s : Kept) (left left_mid left_new w0 w1 : Option (List ℕ)) (line : LineSoFar) → length line.octets ≤ LINE_OCTETS
-    → Progress before left left_mid w0 w1 line s → Keeps left_mid left_new → Runs kept (Err Read) before s left left_new w0 w1
+    → Progress before left left_mid w0 w1 line s → Keeps left_mid left_new → Runs kept_shown (Err Read) before s left left_new w0 w1
 at-failed-read before s left left_mid left_new w0 w1 line short p h =
     (p.octets, consumes-keeps left left_mid left_new p.octets p.consumed h, does-so-far before s left left_mid w0 w1 line short p)
 
 pub at-last-read : (before s : Kept) (left left_new w0 w1 : Option (List ℕ)) (line : LineSoFar) → length line.octets ≤ LINE_OCTETS
-    → Progress before left left_new w0 w1 line s → Runs kept (Err TooManyReads) before s left left_new w0 w1
+    → Progress before left left_new w0 w1 line s → Runs kept_shown (Err TooManyReads) before s left left_new w0 w1
 at-last-read before s left left_new w0 w1 line short p = (p.octets, p.consumed, does-so-far before s left left_new w0 w1 line short p)
 
 -- the end of the input
@@ -365,19 +368,19 @@ does-onto text r (Err TooManyReads) after w0 w1 w2 h k = absurd k
 does-onto text r (Err NoMemory) after w0 w1 w2 h k = absurd k
 
 runs-whole : (octets : List ℕ) (before s : Kept) (result : Result Unit ScriptFault) (left left_new w0 w1 : Option (List ℕ))
-    → Consumes left left_new octets → IsAtEnd left_new → Does (whole_run kept octets before) result s w0 w1 → Runs kept result before s left left_new w0 w1
+    → Consumes left left_new octets → IsAtEnd left_new → Does (whole_run kept_shown octets before) result s w0 w1 → Runs kept_shown result before s left left_new w0 w1
 runs-whole octets before s (Ok x) left left_new w0 w1 consumed done does = (octets, consumed, done, does)
 runs-whole octets before s (Err (Line number)) left left_new w0 w1 consumed done does =
-    (octets, consumed, whole_run kept octets before, inr (refl, done, refl), does)
+    (octets, consumed, whole_run kept_shown octets before, inr (refl, done, refl), does)
 runs-whole octets before s (Err Write) left left_new w0 w1 consumed done does =
-    (octets, [], rw (append-nil octets) consumed, whole_run kept octets before, inr (refl, done, refl), does)
+    (octets, [], rw (append-nil octets) consumed, whole_run kept_shown octets before, inr (refl, done, refl), does)
 runs-whole octets before s (Err Read) left left_new w0 w1 consumed done does = absurd does
 runs-whole octets before s (Err TooManyReads) left left_new w0 w1 consumed done does = absurd does
 runs-whole octets before s (Err NoMemory) left left_new w0 w1 consumed done does = absurd does
 
 pub at-end : (before s : Kept) (left left_mid left_new w0 w1 w2 : Option (List ℕ)) (line : LineSoFar) (result : Result Unit ScriptFault) (piece : List ℕ)
     → Progress before left left_mid w0 w1 line s → piece ≡ [] → Consumes left_mid left_new piece → IsAtEnd left_new
-    → Does (rest_run 0 line [] s) result s w1 w2 → Runs kept result before s left left_new w0 w2
+    → Does (rest_run 0 line [] s) result s w1 w2 → Runs kept_shown result before s left left_new w0 w2
 at-end before s left left_mid left_new w0 w1 w2 line result piece p e consumed done does =
     let all : p.octets ++ piece ≡ p.octets = rw e (append-nil p.octets) in
     runs-whole p.octets before s result left left_new w0 w2
@@ -387,22 +390,22 @@ at-end before s left left_mid left_new w0 w1 w2 line result piece p e consumed d
 
 -- a fault in a piece
 runs-broken : (octets : List ℕ) (before after : Kept) (fault : ScriptFault) (line next : LineSoFar) (left left_new w0 w1 : Option (List ℕ))
-    → Consumes left left_new octets → HasTaken octets (Err fault) first_line next before after w0 w1 → Runs kept (Err fault) before after left left_new w0 w1
+    → Consumes left left_new octets → HasTaken octets (Err fault) first_line next before after w0 w1 → Runs kept_shown (Err fault) before after left left_new w0 w1
 runs-broken octets before after (Line number) line next left left_new w0 w1 consumed h =
-    let same : run_so_far kept octets before ≡ record { text = h.text; state = after; fault = Some number } =
+    let same : run_so_far kept_shown octets before ≡ record { text = h.text; state = after; fault = Some number } =
     from-first LINE_OCTETS octets before ∙ h.rest LINE_OCTETS [] (omega arith) in (
       octets,
       consumed,
-      run_so_far kept octets before,
+      run_so_far kept_shown octets before,
       inl refl,
       subst (λ (r : Reached KeptQueues). Does r (Err (Line number)) after w0 w1) (sym same) (refl, refl, h.wrote),
     )
 runs-broken octets before after Write line next left left_new w0 w1 consumed h =
-    let same = ap (λ (parts : List (List ℕ)). lines_run kept LINE_OCTETS 1 parts before) (sym (begun-nothing (lines h.taken))) in (
+    let same = ap (λ (parts : List (List ℕ)). lines_run kept_shown LINE_OCTETS 1 parts before) (sym (begun-nothing (lines h.taken))) in (
       h.taken,
       h.more,
       subst (λ (xs : List ℕ). Consumes left left_new xs) h.are consumed,
-      run_so_far kept h.taken before,
+      run_so_far kept_shown h.taken before,
       inl refl,
       subst (λ (r : Reached KeptQueues). Does r (Err Write) after w0 w1) (sym same) (h.state, h.wrote),
     )
@@ -412,7 +415,7 @@ runs-broken octets before after NoMemory line next left left_new w0 w1 consumed 
 
 pub at-fault : (before s after : Kept) (left left_mid left_new w0 w1 w2 : Option (List ℕ)) (line next : LineSoFar) (fault : ScriptFault) (piece : List ℕ)
     → Progress before left left_mid w0 w1 line s → Consumes left_mid left_new piece → HasTaken piece (Err fault) line next s after w1 w2
-    → Runs kept (Err fault) before after left left_new w0 w2
+    → Runs kept_shown (Err fault) before after left left_new w0 w2
 at-fault before s after left left_mid left_new w0 w1 w2 line next fault piece p consumed taken =
     runs-broken (p.octets ++ piece) before after fault line next left left_new w0 w2
     (consumes-consumes left left_mid left_new p.octets piece p.consumed consumed)

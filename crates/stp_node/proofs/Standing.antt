@@ -5,13 +5,15 @@ use Rattle.std.specs.Io.KnownBytes.{Appends}
 use Rattle.link_sequence.specs.Queue.{Queue}
 use Rattle.exchange.specs.declared.event.Answer.{Answer}
 use Rattle.exchange.specs.Queues.{KeptQueues, kept, whole}
+use Rattle.exchange.specs.Views.{kept_shown, whole_shown}
 use Rattle.exchange.specs.Stands.{Abstract, Kept, StandsFor, kept_of}
 use Rattle.exchange.proofs.Calls.{stands-answer, stands-call}
 use Rattle.exchange.proofs.Standing.{stands-after}
 use Rattle.exchange.specs.Exchange.{after}
 use Rattle.exchange.specs.Happening.{Ticked}
 use Rattle.stp_node.specs.Asking.{Asked, Reading, Skips, IsMalformed, Asks}
-use Rattle.stp_node.specs.Doing.{Meaning, Calls, Passes, Refuses, meaning, answer_text, after_ticks, meaning_printed, meaning_done, printed, done}
+use Rattle.stp_node.specs.Doing.{Meaning, Calls, Passes, Shows, Refuses, meaning, answer_text, after_ticks, meaning_printed, meaning_done, printed, done}
+use Rattle.stp_node.proofs.Shown.{shown-stands}
 use Rattle.stp_node.specs.Streams.{AppendsFirst}
 use Rattle.stp_node.specs.Lines.{lines}
 use Rattle.stp_node.specs.Runs.{Reached, silent, stopped, line_run, whole_line, onto, unless_ended, behind, lines_run, run_so_far, whole_run, LeadsTo, Does, Runs}
@@ -21,32 +23,34 @@ use Rattle.stp_node.specs.declared.script.ScriptFault.TheVariants.{Read, Write, 
 
 -- ---- one line
 
-meaning-printed : (m : Meaning) (a : Abstract) → StandsFor (kept_of a) a → meaning_printed kept m (kept_of a) ≡ meaning_printed whole m a
+meaning-printed : (m : Meaning) (a : Abstract) → StandsFor (kept_of a) a → meaning_printed kept_shown m (kept_of a) ≡ meaning_printed whole_shown m a
 meaning-printed (Calls asking) a s = ap (λ (answer : Answer). answer_text a.settings asking answer) (stands-answer asking (kept_of a) a s)
 meaning-printed (Passes ticks) a s = refl
+meaning-printed (Shows what) a s = shown-stands what a s
 meaning-printed (Refuses cause) a s = refl
 
 ticks-stand : (ticks : ℕ) (k : Kept) (a : Abstract) → StandsFor k a → StandsFor (after_ticks kept ticks k) (after_ticks whole ticks a)
 ticks-stand zero k a s = s
 ticks-stand (suc more) k a s = ticks-stand more (after kept Ticked k) (after whole Ticked a) (stands-after Ticked k a s)
 
-meaning-stands : (m : Meaning) (k : Kept) (a : Abstract) → StandsFor k a → StandsFor (meaning_done kept m k) (meaning_done whole m a)
+meaning-stands : (m : Meaning) (k : Kept) (a : Abstract) → StandsFor k a → StandsFor (meaning_done kept_shown m k) (meaning_done whole_shown m a)
 meaning-stands (Calls asking) k a s = stands-call asking k a s
 meaning-stands (Passes ticks) k a s = ticks-stand ticks k a s
+meaning-stands (Shows what) k a s = s
 meaning-stands (Refuses cause) k a s = s
 
 stands-itself : (k : Kept) (a : Abstract) → StandsFor k a → StandsFor (kept_of a) a
 stands-itself k a s = record { sound = s.sound; kept = refl }
 
 -- a line prints the same,
-pub stands-printed : (asked : Asked) (k : Kept) (a : Abstract) → StandsFor k a → printed kept asked k ≡ printed whole asked a
+pub stands-printed : (asked : Asked) (k : Kept) (a : Abstract) → StandsFor k a → printed kept_shown asked k ≡ printed whole_shown asked a
 stands-printed asked k a s =
-    ap (λ (x : Kept). printed kept asked x) s.kept ∙ meaning-printed (meaning a.settings asked) a (stands-itself k a s)
+    ap (λ (x : Kept). printed kept_shown asked x) s.kept ∙ meaning-printed (meaning a.settings asked) a (stands-itself k a s)
 
 -- and what is kept after it stands for the state after it
-pub stands-done : (asked : Asked) (k : Kept) (a : Abstract) → StandsFor k a → StandsFor (done kept asked k) (done whole asked a)
+pub stands-done : (asked : Asked) (k : Kept) (a : Abstract) → StandsFor k a → StandsFor (done kept_shown asked k) (done whole_shown asked a)
 stands-done asked k a s =
-    subst (λ (x : Kept). StandsFor (done kept asked x) (done whole asked a)) (sym s.kept)
+    subst (λ (x : Kept). StandsFor (done kept_shown asked x) (done whole_shown asked a)) (sym s.kept)
     (meaning-stands (meaning a.settings asked) (kept_of a) a (stands-itself k a s))
 
 -- ---- lines in a row
@@ -63,7 +67,7 @@ same-silent k a s = record { text = refl; state = s; fault = refl }
 same-stopped : (number : ℕ) (k : Kept) (a : Abstract) → StandsFor k a → Same (stopped number k) (stopped number a)
 same-stopped number k a s = record { text = refl; state = s; fault = refl }
 
-same-line : (number : ℕ) (reading : Reading) (k : Kept) (a : Abstract) → StandsFor k a → Same (line_run kept number reading k) (line_run whole number reading a)
+same-line : (number : ℕ) (reading : Reading) (k : Kept) (a : Abstract) → StandsFor k a → Same (line_run kept_shown number reading k) (line_run whole_shown number reading a)
 same-line number Skips k a s = same-silent k a s
 same-line number IsMalformed k a s = same-stopped number k a s
 same-line number (Asks asked) k a s = record { text = stands-printed asked k a s; state = stands-done asked k a s; fault = refl }
@@ -93,12 +97,12 @@ same-behind r t next follow h k =
     subst (λ (f : Option ℕ). Same (unless_ended f r next) (behind t follow)) (sym h.fault) (same-unless t.fault r t next follow h k)
 
 same-lines : (most number : ℕ) (ls : List (List ℕ)) (k : Kept) (a : Abstract) → StandsFor k a
-    → Same (lines_run kept most number ls k) (lines_run whole most number ls a)
+    → Same (lines_run kept_shown most number ls k) (lines_run whole_shown most number ls a)
 same-lines most number [] k a s = same-silent k a s
 same-lines most number (line ∷ []) k a s = same-either (nat_lt most (length line)) number k a s
 same-lines most number (line ∷ next ∷ more) k a s =
-    same-behind (line_run kept number (whole_line line) k) (line_run whole number (whole_line line) a)
-    (λ t. lines_run kept most (number + 1) (next ∷ more) t) (λ t. lines_run whole most (number + 1) (next ∷ more) t)
+    same-behind (line_run kept_shown number (whole_line line) k) (line_run whole_shown number (whole_line line) a)
+    (λ t. lines_run kept_shown most (number + 1) (next ∷ more) t) (λ t. lines_run whole_shown most (number + 1) (next ∷ more) t)
     (same-line number (whole_line line) k a s) (same-lines most (number + 1) (next ∷ more))
 
 -- ---- a whole run
@@ -121,29 +125,29 @@ does-stands r t (Err NoMemory) k w0 w1 h d = absurd d
 -- what is kept leads to the same place as what it stands for
 record LeadsWhole (octets more : List ℕ) (left : Option (List ℕ)) (a : Abstract) (r : Reached KeptQueues) : Type 0 where
   pub reached : Reached (List Queue)
-  pub leads : LeadsTo whole octets more left a reached
+  pub leads : LeadsTo whole_shown octets more left a reached
   pub same : Same r reached
 
 leads-stands : (octets more : List ℕ) (left : Option (List ℕ)) (k : Kept) (a : Abstract) (r : Reached KeptQueues) → StandsFor k a
-    → LeadsTo kept octets more left k r → LeadsWhole octets more left a r
+    → LeadsTo kept_shown octets more left k r → LeadsWhole octets more left a r
 leads-stands octets more left k a r s (inl e) = record {
-  reached = run_so_far whole octets a;
+  reached = run_so_far whole_shown octets a;
   leads = inl refl;
-  same = subst (λ (x : Reached KeptQueues). Same x (run_so_far whole octets a)) (sym e) (same-lines LINE_OCTETS 1 (lines octets) k a s);
+  same = subst (λ (x : Reached KeptQueues). Same x (run_so_far whole_shown octets a)) (sym e) (same-lines LINE_OCTETS 1 (lines octets) k a s);
 }
 leads-stands octets more left k a r s (inr e) = record {
-  reached = whole_run whole octets a;
+  reached = whole_run whole_shown octets a;
   leads = inr (e.0, e.1, refl);
-  same = subst (λ (x : Reached KeptQueues). Same x (whole_run whole octets a)) (sym e.2) (same-lines 0 1 (lines octets) k a s);
+  same = subst (λ (x : Reached KeptQueues). Same x (whole_run whole_shown octets a)) (sym e.2) (same-lines 0 1 (lines octets) k a s);
 }
 
 -- a run on what an exchange keeps is one of the abstract exchange
 pub runs-stand : (result : Result Unit ScriptFault) (k j : Kept) (a : Abstract) (left left_new w0 w1 : Option (List ℕ)) → StandsFor k a
-    → Runs kept result k j left left_new w0 w1
-    → (b : Abstract) × StandsFor j b × Runs whole result a b left left_new w0 w1
+    → Runs kept_shown result k j left left_new w0 w1
+    → (b : Abstract) × StandsFor j b × Runs whole_shown result a b left left_new w0 w1
 runs-stand (Ok x) k j a left left_new w0 w1 s (octets, consumed, done, does) =
-    let t = whole_run whole octets a in
-    let d = does-stands (whole_run kept octets k) t (Ok x) j w0 w1 (same-lines 0 1 (lines octets) k a s) does in
+    let t = whole_run whole_shown octets a in
+    let d = does-stands (whole_run kept_shown octets k) t (Ok x) j w0 w1 (same-lines 0 1 (lines octets) k a s) does in
     (t.state, d.0, (octets, consumed, done, d.1))
 runs-stand (Err (Line number)) k j a left left_new w0 w1 s (octets, consumed, r, leads, does) =
     let to = leads-stands octets [] left_new k a r s leads in
@@ -154,11 +158,11 @@ runs-stand (Err Write) k j a left left_new w0 w1 s (octets, more, consumed, r, l
     let d = does-stands r to.reached (Err Write) j w0 w1 to.same does in
     (to.reached.state, d.0, (octets, more, consumed, to.reached, to.leads, d.1))
 runs-stand (Err Read) k j a left left_new w0 w1 s (octets, consumed, does) =
-    let t = run_so_far whole octets a in
-    let d = does-stands (run_so_far kept octets k) t (Ok tt) j w0 w1 (same-lines LINE_OCTETS 1 (lines octets) k a s) does in
+    let t = run_so_far whole_shown octets a in
+    let d = does-stands (run_so_far kept_shown octets k) t (Ok tt) j w0 w1 (same-lines LINE_OCTETS 1 (lines octets) k a s) does in
     (t.state, d.0, (octets, consumed, d.1))
 runs-stand (Err TooManyReads) k j a left left_new w0 w1 s (octets, consumed, does) =
-    let t = run_so_far whole octets a in
-    let d = does-stands (run_so_far kept octets k) t (Ok tt) j w0 w1 (same-lines LINE_OCTETS 1 (lines octets) k a s) does in
+    let t = run_so_far whole_shown octets a in
+    let d = does-stands (run_so_far kept_shown octets k) t (Ok tt) j w0 w1 (same-lines LINE_OCTETS 1 (lines octets) k a s) does in
     (t.state, d.0, (octets, consumed, d.1))
 runs-stand (Err NoMemory) k j a left left_new w0 w1 s h = absurd h

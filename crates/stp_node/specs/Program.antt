@@ -9,8 +9,8 @@ use Rattle.settings_rows.specs.declared.fault.DraftFault.{DraftFault}
 use Rattle.settings.specs.Faults.{fault_line, no_memory}
 use Rattle.settings.specs.declared.fault.SettingsFault.{SettingsFault}
 use Rattle.settings.specs.declared.fault.SettingsFault.TheVariants as settings_fault
-use Rattle.exchange.specs.Queues.{whole}
 use Rattle.exchange.specs.Stands.{Abstract, first_state}
+use Rattle.exchange.specs.Views.{whole_shown}
 use Rattle.stp_node.specs.BuiltIn.{IsBuiltIn, built_in_settings}
 use Rattle.stp_node.specs.Faults.{Counts}
 use Rattle.stp_node.specs.Folders.{FileRead, AreSettings, IsFault}
@@ -66,7 +66,7 @@ IsBuiltInFault why = (why ≡ no_memory)
 abbrev pub RunsScript : Configuration → Input → Input → Output → Output → Status → Type 0
 RunsScript settings input input_new output output_new ended =
     (script : Result Unit ScriptFault) × (after : Abstract)
-    × Runs whole script (first_state settings) after
+    × Runs whole_shown script (first_state settings) after
     input.remaining input_new.remaining output.written output_new.written
     × Counts script input input_new output output_new × (ended ≡ status_after script)
 

@@ -2,7 +2,8 @@
 use Rattle.std.specs.Prelude.{◌≡◌, ℕ, ◌+◌, if◌then◌else◌, nat_lt, List, [], ◌∷◌}
 use Rattle.std.specs.Prelude.{◌++◌, length, ◌⊎◌, Option, Some, None, Result, Ok, Err}
 use Rattle.std.specs.Io.KnownBytes.{Appends, Consumes, IsAtEnd}
-use Rattle.exchange.specs.State.{State, QueueKind}
+use Rattle.exchange.specs.State.{State}
+use Rattle.exchange.specs.Views.{ShownKind}
 use Rattle.stp_node.specs.Streams.{AppendsFirst}
 use Rattle.stp_node.specs.Lines.{lines}
 use Rattle.stp_node.specs.Texts.{line_fault}
@@ -31,7 +32,7 @@ abbrev pub whole_line : List ℕ → Reading
 whole_line line = if nat_lt LINE_OCTETS (length line) then IsMalformed else parsed_line line
 
 -- what such a line prints, and the state after it
-abbrev pub line_run : {Q : Type 0} → QueueKind Q → ℕ → Reading → State Q → Reached Q
+abbrev pub line_run : {Q : Type 0} → ShownKind Q → ℕ → Reading → State Q → Reached Q
 line_run q number Skips s = silent s
 line_run q number IsMalformed s = stopped number s
 line_run q number (Asks asked) s = record { text = printed q asked s; state = done q asked s; fault = None }
@@ -53,22 +54,22 @@ abbrev pub behind : {Q : Type 0} → Reached Q → (State Q → Reached Q) → R
 behind r next = unless_ended r.fault r next
 
 -- lines in a row from the one of this number on, of which the last has no line feed
-abbrev pub lines_run : {Q : Type 0} → QueueKind Q → (most : ℕ) → ℕ → List (List ℕ) → State Q → Reached Q
+abbrev pub lines_run : {Q : Type 0} → ShownKind Q → (most : ℕ) → ℕ → List (List ℕ) → State Q → Reached Q
 lines_run q most number [] s = silent s
 lines_run q most number (line ∷ []) s = open_run most number line s
 lines_run q most number (line ∷ next ∷ more) s =
     behind (line_run q number (whole_line line) s) (λ t. lines_run q most (number + 1) (next ∷ more) t)
 
 -- a script as far as it was read: what was read of its last line may be the beginning of one
-abbrev pub run_so_far : {Q : Type 0} → QueueKind Q → List ℕ → State Q → Reached Q
+abbrev pub run_so_far : {Q : Type 0} → ShownKind Q → List ℕ → State Q → Reached Q
 run_so_far q octets s = lines_run q LINE_OCTETS 1 (lines octets) s
 
 -- a whole script: behind its last line feed nothing stands
-abbrev pub whole_run : {Q : Type 0} → QueueKind Q → List ℕ → State Q → Reached Q
+abbrev pub whole_run : {Q : Type 0} → ShownKind Q → List ℕ → State Q → Reached Q
 whole_run q octets s = lines_run q 0 1 (lines octets) s
 
 -- where these octets lead, of a script of which so many more were read: its end counts where nothing is left to be read
-abbrev pub LeadsTo : {Q : Type 0} → QueueKind Q → (octets more : List ℕ) → (left : Option (List ℕ))
+abbrev pub LeadsTo : {Q : Type 0} → ShownKind Q → (octets more : List ℕ) → (left : Option (List ℕ))
     → State Q → Reached Q → Type 0
 LeadsTo q octets more left s r = (r ≡ run_so_far q octets s) ⊎ ((more ≡ []) × IsAtEnd left × (r ≡ whole_run q octets s))
 
@@ -85,7 +86,7 @@ Does r (Err TooManyReads) after written written_new = ⊥
 Does r (Err NoMemory) after written written_new = ⊥
 
 -- the whole lines of all that was read were done
-abbrev pub RunsSoFar : {Q : Type 0} → QueueKind Q → (before after : State Q)
+abbrev pub RunsSoFar : {Q : Type 0} → ShownKind Q → (before after : State Q)
     → (left left_new written written_new : Option (List ℕ)) → Type 0
 RunsSoFar q before after left left_new written written_new =
     (octets : List ℕ) × Consumes left left_new octets
@@ -96,7 +97,7 @@ RunsSoFar q before after left left_new written written_new =
 -- the midst of a line and nothing is left to be read; the lines before that one were done. On Write the first of these
 -- octets lead to the state, and what went out is the beginning of what they print. On Read and TooManyReads their whole
 -- lines were done.
-abbrev pub Runs : {Q : Type 0} → QueueKind Q → Result Unit ScriptFault → (before after : State Q)
+abbrev pub Runs : {Q : Type 0} → ShownKind Q → Result Unit ScriptFault → (before after : State Q)
     → (left left_new written written_new : Option (List ℕ)) → Type 0
 Runs q (Ok x) before after left left_new written written_new =
     (octets : List ℕ) × Consumes left left_new octets × IsAtEnd left_new

@@ -1,8 +1,10 @@
 -- How a script is gone through: the line that is open, and the octets that come behind.
 use Rattle.std.specs.Prelude.{◌≡◌, ℕ, ◌≤◌, List, [], ◌∷◌, ◌++◌, Option, Some, Result, Ok, Err}
 use Rattle.std.specs.Io.KnownBytes.{Appends}
-use Rattle.exchange.specs.Queues.{KeptQueues, kept}
+use Rattle.exchange.specs.Queues.{KeptQueues}
 use Rattle.exchange.specs.Stands.{Kept}
+use Rattle.exchange.specs.Views.{kept_shown}
+use Rattle.console.specs.Words.{begun}
 use Rattle.stp_node.specs.Lines.{lines}
 use Rattle.stp_node.specs.Streams.{AppendsFirst}
 use Rattle.stp_node.specs.Runs.{Reached, lines_run, onto}
@@ -19,14 +21,9 @@ pub record LineSoFar : Type 0 where
 abbrev pub first_line : LineSoFar
 first_line = record { octets = []; number = 1 }
 
--- an open line in front of the first of some lines
-abbrev pub begun : List ℕ → List (List ℕ) → List (List ℕ)
-begun front [] = []
-begun front (line ∷ more) = (front ++ line) ∷ more
-
 -- the open line, and the octets behind it
 abbrev pub rest_run : (most : ℕ) → LineSoFar → List ℕ → Kept → Reached KeptQueues
-rest_run most line octets s = lines_run kept most line.number (begun line.octets (lines octets)) s
+rest_run most line octets s = lines_run kept_shown most line.number (begun line.octets (lines octets)) s
 
 -- these octets were taken: what they print went out, and what comes behind is run from the next line and the next state
 -- on

@@ -1,7 +1,7 @@
 //! Running a script, octet by octet.
 
 ghost use Rattle.std.specs.Prelude.{◌≡◌, ◌+◌, ◌≤◌, ◌<◌, ◌^◌, [], ◌∷◌, length};
-ghost use Rattle.exchange.specs.Queues.{kept, whole};
+ghost use Rattle.exchange.specs.Views.{kept_shown, whole_shown};
 ghost use Rattle.exchange.specs.Stands.{Abstract, Kept, StandsFor};
 ghost use Rattle.stp_node.specs.Asking.{parsed_line};
 ghost use Rattle.stp_node.specs.Runs.{Does, Runs, line_run, stopped};
@@ -11,6 +11,7 @@ ghost use Rattle.stp_node.specs.Faults.{MakesReads, reads_failed, writes_failed}
 use crate::line::{Malformed, parse_line};
 use crate::perform::perform;
 use crate::script::{LINE_OCTETS, READS, ScriptFault};
+use crate::showing::print;
 use crate::sink::Sink;
 use crate::source::Source;
 use crate::text::line_fault;
@@ -61,11 +62,11 @@ pub fn run_script<R: Source, W: Sink>(
     // the lines.
     ensures run { (before : Abstract) → StandsFor exchange.old before
         → (after : Abstract) × StandsFor exchange.new after
-        × Runs whole result before after (R.input reader.old).remaining (R.input reader.new).remaining
+        × Runs whole_shown result before after (R.input reader.old).remaining (R.input reader.new).remaining
         (W.output writer.old).written (W.output writer.new).written }
 
     // The same on what is kept.
-    ensures kept_run { Runs kept result exchange.old exchange.new
+    ensures kept_run { Runs kept_shown result exchange.old exchange.new
         (R.input reader.old).remaining (R.input reader.new).remaining
         (W.output writer.old).written (W.output writer.new).written }
     ensures bounded { MakesReads result (R.input reader.old).reads (R.input reader.new).reads }
@@ -81,7 +82,7 @@ fn run_pieces<R: Source, W: Sink>(
     reader: &mut R,
     writer: &mut W,
 ) -> Result<(), ScriptFault>
-    ensures run { Runs kept result exchange.old exchange.new
+    ensures run { Runs kept_shown result exchange.old exchange.new
         (R.input reader.old).remaining (R.input reader.new).remaining
         (W.output writer.old).written (W.output writer.new).written }
     ensures bounded { MakesReads result (R.input reader.old).reads (R.input reader.new).reads }
@@ -181,13 +182,13 @@ fn do_line<W: Sink>(
     writer: &mut W,
 ) -> Result<(), ScriptFault>
     ensures writes { (W.output writer.new).failures ≡ writes_failed (W.output writer.old).failures result }
-    ensures run { Does (line_run kept number (parsed_line line.now) exchange.old) result exchange.new
+    ensures run { Does (line_run kept_shown number (parsed_line line.now) exchange.old) result exchange.new
         (W.output writer.old).written (W.output writer.new).written }
 {
     match parse_line(line) {
         Ok(Some(line)) => {
-            let text = perform(exchange, line);
-            writer.write(text.as_slice())?;
+            let reply = perform(exchange, line);
+            print(exchange, &reply, writer)?;
             Ok(())
         }
         Ok(None) => Ok(()),
