@@ -10,8 +10,8 @@ use crate::names::link_name;
 use arrayvec::ArrayString;
 use exchange::Exchange;
 use stp_types::{
-    Cause, ChangeoverTimer, FailureReason, FrameFault, LateTimer, Limits, LinkId, Notice, PointCode,
-    Settings, Sls,
+    Cause, ChangeoverTimer, FailureReason, FrameFault, LateTimer, Limits, LinkId, Notice,
+    PointCode, Settings, Sls,
 };
 
 /// Writes line `k`, from 0, of the text of the notices, the oldest that is kept first.

@@ -1,13 +1,12 @@
 -- What an exchange shows of its links and routes is what the abstract state shows.
-use Rattle.std.proofs.Common.{◌≡◌, ◌∙◌, ℕ, Bool, true, false, List, length, map, get_or, [], refl, ap}
-use Rattle.std.specs.Prelude.{Option, Some, None, if◌then◌else◌}
+use Rattle.std.proofs.Common.{◌≡◌, ◌∙◌, ℕ, Bool, true, false, List, length, refl, ap}
+use Rattle.std.specs.Prelude.{Some, None, if◌then◌else◌}
 use Rattle.signalling_types.specs.Message.{Message}
 use Rattle.link_sequence.specs.Queue.{Queue}
 use Rattle.exchange.specs.declared.view.LinkView.{LinkView}
-use Rattle.exchange.specs.declared.view.RouteView.{RouteView}
 use Rattle.exchange.specs.State.{Node, keep}
 use Rattle.exchange.specs.Links.{is_link}
-use Rattle.exchange.specs.Stands.{Abstract, Kept, AreQueues, StandsFor, kept_of, kept_queues_of}
+use Rattle.exchange.specs.Stands.{Abstract, Kept, AreQueues, StandsFor, kept_queues_of}
 use Rattle.exchange.specs.Views.{whole_shown, kept_shown, link_shown, link_view, route_view}
 use Rattle.exchange.proofs.KeptQueues.{lane_at-kept, keeps_whole}
 

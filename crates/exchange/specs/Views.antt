@@ -1,7 +1,6 @@
 -- What an exchange shows of its links and its routes.
 use Rattle.std.specs.Prelude.{ℕ, List, Option, Some, None, codes, length, slice_get, if◌then◌else◌}
 use Rattle.std.specs.Option.{option_map}
-use Rattle.settings_rows.specs.Configuration.{Configuration}
 use Rattle.cell_pool.specs.Lanes.{lane_at}
 use Rattle.link_alignment.specs.declared.alignment.Alignment.{Alignment}
 use Rattle.link_alignment.specs.declared.alignment.Alignment.TheVariants as alignment

@@ -1,10 +1,10 @@
 -- Lines in a row that are shown, and written.
-use Rattle.std.proofs.Common.{◌≡◌, ◌∙◌, ◌+◌, ◌<◌, ◌≤◌, ◌-◌, ℕ, zero, suc, Bool, true, false, List, [], ◌∷◌, ◌++◌, Option, Some, None, length, take, refl, sym, ap, subst, arith}
+use Rattle.std.proofs.Common.{◌≡◌, ◌∙◌, ◌+◌, ◌<◌, ◌-◌, ℕ, zero, suc, List, [], ◌∷◌, ◌++◌, Option, length, take, refl, sym, ap, subst, arith}
 use Rattle.std.specs.Option.{option_map, option_and_then}
 use Rattle.std.specs.Prelude.{slice_get, Result, Ok, Err, OnErr}
 use Rattle.std.specs.Io.KnownBytes.{Appends}
 use Rattle.exchange.specs.Stands.{Abstract, StandsFor, kept_of}
-use Rattle.exchange.specs.Views.{kept_shown, whole_shown, link_view}
+use Rattle.exchange.specs.Views.{kept_shown, whole_shown}
 use Rattle.exchange.specs.declared.view.LinkView.{LinkView}
 use Rattle.exchange.proofs.Showing.{stands-link}
 use Rattle.console.specs.Texts.{link_text}

@@ -1,5 +1,5 @@
 -- How a script is gone through: the line that is open, and the octets that come behind.
-use Rattle.std.specs.Prelude.{◌≡◌, ℕ, ◌≤◌, List, [], ◌∷◌, ◌++◌, Option, Some, Result, Ok, Err}
+use Rattle.std.specs.Prelude.{◌≡◌, ℕ, ◌≤◌, List, [], ◌++◌, Option, Some, Result, Ok, Err}
 use Rattle.std.specs.Io.KnownBytes.{Appends}
 use Rattle.exchange.specs.Queues.{KeptQueues}
 use Rattle.exchange.specs.Stands.{Kept}

@@ -17,11 +17,7 @@ use console::{LINE_OCTETS, show_links, show_notices, show_routes};
 use exchange::Exchange;
 
 /// Prints what became of a line. It takes no memory.
-pub fn print<W: Sink>(
-    exchange: &Exchange,
-    reply: &Reply,
-    writer: &mut W,
-) -> Result<(), WriteFailed>
+pub fn print<W: Sink>(exchange: &Exchange, reply: &Reply, writer: &mut W) -> Result<(), WriteFailed>
     ensures all { OnOk result (Appends (W.output writer.old).written (W.output writer.new).written
         (reply_text kept_shown reply.now exchange.now)) }
     ensures first { OnErr result (AppendsFirst (W.output writer.old).written (W.output writer.new).written
@@ -35,11 +31,7 @@ pub fn print<W: Sink>(
 }
 
 /// Prints the lines of a text.
-fn show_text<W: Sink>(
-    exchange: &Exchange,
-    what: Show,
-    writer: &mut W,
-) -> Result<(), WriteFailed>
+fn show_text<W: Sink>(exchange: &Exchange, what: Show, writer: &mut W) -> Result<(), WriteFailed>
     ensures all { OnOk result (Appends (W.output writer.old).written (W.output writer.new).written
         (shown_text kept_shown what exchange.now)) }
     ensures first { OnErr result (AppendsFirst (W.output writer.old).written (W.output writer.new).written
