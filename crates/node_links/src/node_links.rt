@@ -16,7 +16,8 @@ use std::marker::Model;
 
 /// The state of each link, and the routes, which always know which links are in service.
 ///
-/// All room is made by `new`. Each call but `new`, `link_of` and `route_of` costs the same however many links there are.
+/// All room is made by `new`. Each call but `new`, `link_of` and `route_of` costs the same however many links there
+/// are.
 #[derive(Drop)]
 pub struct NodeLinks {
     states: Vec<LinkState>,
