@@ -9,4 +9,5 @@ pub mod Concluding
 pub mod Standing
 pub mod Ticking
 pub mod Calls
+pub mod Showing
 pub mod Leaving

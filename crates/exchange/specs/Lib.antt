@@ -27,4 +27,5 @@ pub mod Room
 pub mod Taking
 pub mod Head
 pub mod Draining
+pub mod Views
 pub mod Laws

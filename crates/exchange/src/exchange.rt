@@ -24,6 +24,7 @@ mod opening;
 mod releasing;
 mod runs;
 mod sending;
+mod showing;
 mod statuses;
 mod suspending;
 mod ticking;

@@ -7,9 +7,12 @@ pub mod exchange;
 pub mod frame_text;
 pub mod laws;
 pub mod memory;
+pub mod view;
 
 pub use event::{Answer, Call, Event, Order, Wants};
 pub use exchange::Exchange;
 pub use frame_text::FrameText;
 pub use m2pa_codec::BUFFER_OCTETS;
 pub use memory::NoMemory;
+pub use route_table::RouteStatus;
+pub use view::{LinkStanding, LinkView, RouteView};

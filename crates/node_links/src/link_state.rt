@@ -52,6 +52,13 @@ impl LinkState {
         }
     }
 
+    /// Where it stands on its way into service.
+    pub fn alignment(&self) -> Alignment
+        ensures { result ≡ self.now.alignment }
+    {
+        self.alignment
+    }
+
     /// Whether it is down.
     pub fn is_down(&self) -> bool
         ensures { result ≡ is_down self.now.alignment }

@@ -4,13 +4,13 @@ ghost use Rattle.std.specs.Prelude.{◌≡◌, ◌<◌, ◌≤◌, false, drop, 
 ghost use Rattle.link_alignment.specs.Table.{action_at};
 ghost use Rattle.linkset.specs.Preference.{has_link};
 ghost use Rattle.route_table.specs.Facts.{set_at};
-ghost use Rattle.route_table.specs.Chosen.{chosen_link};
+ghost use Rattle.route_table.specs.Chosen.{chosen_link, chosen_route};
 ghost use Rattle.node_links.specs.LinkState.{acted, down_link, fallen, opened};
 ghost use Rattle.node_links.specs.Network.{facts_of, first_network, link_in, with_state};
 
 use crate::link_state::LinkState;
 use link_alignment::{Action, Input};
-use route_table::Routes;
+use route_table::{Route, Routes};
 use settings_rows::{DestinationRow, LinkRow};
 use signalling_types::{Limits, LinkId, SetId, Sls};
 use std::alloc::{AllocError, Global};
@@ -18,7 +18,8 @@ use std::marker::Model;
 
 /// The state of each link, and the routes, which always know which links are in service.
 ///
-/// All room is made by `new`. Each call but `new` and `link_of` costs the same however many links there are.
+/// All room is made by `new`. Each call but `new`, `link_of` and `route_of` costs the same however many links there
+/// are.
 #[derive(Drop)]
 pub struct NodeLinks {
     states: Vec<LinkState>,
@@ -86,6 +87,14 @@ impl NodeLinks {
         ensures { result ≡ has_link (facts_of self.now).in_service (set_at (facts_of self.now) set) }
     {
         self.routes.has_link(set)
+    }
+
+    /// The route that messages to a destination take, by the number of that destination. It is allowed or restricted;
+    /// `None` where no set leads there (Q.704 §4.2).
+    pub fn route_of(&self, destination: usize) -> Option<Route>
+        ensures { result ≡ chosen_route (facts_of self.now) destination }
+    {
+        self.routes.route_of(destination)
     }
 
     /// A link does what its alignment does about an input, and says what that is. Where the link is to fail, nothing

@@ -2,7 +2,7 @@
 
 ghost use Rattle.std.specs.Prelude.{◌≡◌, ◌==◌, ◌≤◌, length, map};
 ghost use Rattle.route_table.specs.Facts.{first_routes, first_route, told};
-ghost use Rattle.route_table.specs.Chosen.{status_number};
+ghost use Rattle.route_table.specs.Chosen.{status_name, status_number};
 
 use arrayvec::ArrayVec;
 use settings_rows::DestinationRow;
@@ -21,6 +21,17 @@ pub enum RouteStatus {
 }
 
 impl RouteStatus {
+    /// The status's name, as texts print it.
+    pub fn name(self) -> &'static str
+        ensures { result.now ≡ status_name self }
+    {
+        match self {
+            RouteStatus::Allowed => "allowed",
+            RouteStatus::Restricted => "restricted",
+            RouteStatus::Prohibited => "prohibited",
+        }
+    }
+
     /// Whether it is this status.
     pub(crate) fn is(self, other: RouteStatus) -> bool
         ensures { result ≡ (status_number self == status_number other) }

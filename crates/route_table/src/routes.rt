@@ -5,7 +5,8 @@ ghost use Rattle.std.specs.Option.{option_map};
 ghost use Rattle.linkset.specs.Preference.{first_in_service, has_link};
 ghost use Rattle.route_table.specs.Facts.{first_facts, first_sets, first_routes, set_at, routes_to};
 ghost use Rattle.route_table.specs.Facts.{with_link, with_status};
-ghost use Rattle.route_table.specs.Chosen.{chosen_set, chosen_link, first_set, is_open};
+ghost use Rattle.route_table.specs.Chosen.{chosen_route, chosen_set, chosen_link};
+ghost use Rattle.route_table.specs.Chosen.{open_route, first_set, is_open};
 
 use crate::route::{Route, RouteList, RouteStatus};
 use linkset::LinkSet;
@@ -85,6 +86,17 @@ impl Routes {
         }
     }
 
+    /// The route that messages to a destination take: by the set that `set_of` says, with the status of that set. It is
+    /// allowed or restricted.
+    pub fn route_of(&self, destination: usize) -> Option<Route>
+        ensures { result ≡ chosen_route self.now destination }
+    {
+        match self.open_route(destination, RouteStatus::Allowed) {
+            Some(route) => Some(route),
+            None => self.open_route(destination, RouteStatus::Restricted),
+        }
+    }
+
     /// The link of a flow: of the set of its destination, the first in service in the order in which the selection
     /// tries them (Q.704 §4.2).
     pub fn link_of(&self, destination: usize, sls: Sls) -> Option<LinkId>
@@ -130,9 +142,19 @@ impl Routes {
     fn first_set(&self, destination: usize, status: RouteStatus) -> Option<SetId>
         ensures { result ≡ first_set self.now destination status }
     {
+        match self.open_route(destination, status) {
+            Some(route) => Some(route.set),
+            None => None,
+        }
+    }
+
+    /// The first route to a destination with this status whose set has a link in service.
+    fn open_route(&self, destination: usize, status: RouteStatus) -> Option<Route>
+        ensures { result ≡ open_route self.now destination status }
+    {
         for route in self.routes_to(destination) {
             if route.status.is(status) && self.has_link(route.set) {
-                return Some(route.set);
+                return Some(*route);
             }
         }
         None

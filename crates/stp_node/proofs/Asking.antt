@@ -1,9 +1,9 @@
 -- What lines of three words and more ask for.
 use Rattle.std.proofs.Common.{◌≡◌, ℕ, List, [], ◌∷◌, Option, None, Some, refl, ◌<◌, length, arith}
-use Rattle.stp_node.specs.Lines.{words}
+use Rattle.console.specs.Words.{words}
 use Rattle.stp_node.specs.Asking.{asked_behind}
 use Rattle.stp_node.specs.declared.line.Command.{Command}
-use Rattle.stp_node.proofs.Parting.{parted-some}
+use Rattle.console.proofs.Parting.{parted-some}
 
 asked_behind-more : (command : Option Command) (first second third : List ℕ) (more : List (List ℕ)) → asked_behind command (first ∷ second ∷ third ∷ more) ≡ None
 asked_behind-more None first second third more = refl

@@ -3,6 +3,7 @@ pub mod BuiltIn
 pub mod Octets
 pub mod Parting
 pub mod Running
+pub mod Shown
 pub mod Standing
 pub mod Passing
 pub mod Written

@@ -11,26 +11,28 @@ use Rattle.stp_node.specs.Asking.{Reading, IsMalformed, parsed_line}
 use Rattle.stp_node.specs.Lines.{lines}
 use Rattle.stp_node.specs.Streams.{AppendsFirst}
 use Rattle.stp_node.specs.Runs.{Reached, silent, stopped, line_run, whole_line, open_run, onto, unless_ended, behind, lines_run, run_so_far, whole_run, Does, Runs}
-use Rattle.stp_node.specs.Steps.{LineSoFar, first_line, begun, rest_run, GoesOn, HasTaken}
+use Rattle.stp_node.specs.Steps.{LineSoFar, first_line, rest_run, GoesOn, HasTaken}
 use Rattle.stp_node.specs.Faults.{reads_failed, MakesReads}
 use Rattle.stp_node.specs.declared.script.TheConstants.{LINE_OCTETS, READS}
 use Rattle.stp_node.specs.declared.script.ScriptFault.{ScriptFault}
 use Rattle.stp_node.specs.declared.script.ScriptFault.TheVariants.{Read, Write, Line, TooManyReads, NoMemory}
-use Rattle.stp_node.proofs.Parting.{lines-nonfeed, begun-nothing, parted-some}
+use Rattle.console.specs.Words.{begun}
+use Rattle.console.proofs.Parting.{begun-nothing, parted-some}
+use Rattle.stp_node.proofs.Parting.{lines-nonfeed}
 
 -- ---- writes in a row
 
-appends-appends : (w0 w1 w2 : Option (List ℕ)) (xs ys : List ℕ) → Appends w0 w1 xs → Appends w1 w2 ys → Appends w0 w2 (xs ++ ys)
+pub appends-appends : (w0 w1 w2 : Option (List ℕ)) (xs ys : List ℕ) → Appends w0 w1 xs → Appends w1 w2 ys → Appends w0 w2 (xs ++ ys)
 appends-appends None w1 w2 xs ys h k = tt
 appends-appends (Some v0) None w2 xs ys h k = absurd h
 appends-appends (Some v0) (Some v1) None xs ys h k = absurd k
 appends-appends (Some v0) (Some v1) (Some v2) xs ys h k = k ∙ ap (λ (v : List ℕ). v ++ ys) h ∙ append_assoc v0 xs ys
 
-appends-first : (w0 w1 w2 : Option (List ℕ)) (xs ys : List ℕ) → Appends w0 w1 xs → AppendsFirst w1 w2 ys → AppendsFirst w0 w2 (xs ++ ys)
+pub appends-first : (w0 w1 w2 : Option (List ℕ)) (xs ys : List ℕ) → Appends w0 w1 xs → AppendsFirst w1 w2 ys → AppendsFirst w0 w2 (xs ++ ys)
 appends-first w0 w1 w2 xs ys h k =
     (length xs + k.0, rw (take-append-add xs ys k.0) (appends-appends w0 w1 w2 xs (take k.0 ys) h k.1))
 
-appends-nothing : (w : Option (List ℕ)) → Appends w w []
+pub appends-nothing : (w : Option (List ℕ)) → Appends w w []
 appends-nothing None = tt
 appends-nothing (Some written) = sym (append-nil written)
 

@@ -11,7 +11,8 @@ use Rattle.exchange.proofs.Standing.{stands-after}
 use Rattle.exchange.specs.Exchange.{after}
 use Rattle.exchange.specs.Happening.{Ticked}
 use Rattle.stp_node.specs.Asking.{Asked, Reading, Skips, IsMalformed, Asks}
-use Rattle.stp_node.specs.Doing.{Meaning, Calls, Passes, Refuses, meaning, answer_text, after_ticks, meaning_printed, meaning_done, printed, done}
+use Rattle.stp_node.specs.Doing.{Meaning, Calls, Passes, Shows, Refuses, meaning, answer_text, after_ticks, meaning_printed, meaning_done, printed, done}
+use Rattle.stp_node.proofs.Shown.{shown-stands}
 use Rattle.stp_node.specs.Streams.{AppendsFirst}
 use Rattle.stp_node.specs.Lines.{lines}
 use Rattle.stp_node.specs.Runs.{Reached, silent, stopped, line_run, whole_line, onto, unless_ended, behind, lines_run, run_so_far, whole_run, LeadsTo, Does, Runs}
@@ -24,6 +25,7 @@ use Rattle.stp_node.specs.declared.script.ScriptFault.TheVariants.{Read, Write, 
 meaning-printed : (m : Meaning) (a : Abstract) → StandsFor (kept_of a) a → meaning_printed kept m (kept_of a) ≡ meaning_printed whole m a
 meaning-printed (Calls asking) a s = ap (λ (answer : Answer). answer_text a.settings asking answer) (stands-answer asking (kept_of a) a s)
 meaning-printed (Passes ticks) a s = refl
+meaning-printed (Shows what) a s = shown-stands what a s
 meaning-printed (Refuses cause) a s = refl
 
 ticks-stand : (ticks : ℕ) (k : Kept) (a : Abstract) → StandsFor k a → StandsFor (after_ticks kept ticks k) (after_ticks whole ticks a)
@@ -33,6 +35,7 @@ ticks-stand (suc more) k a s = ticks-stand more (after kept Ticked k) (after who
 meaning-stands : (m : Meaning) (k : Kept) (a : Abstract) → StandsFor k a → StandsFor (meaning_done kept m k) (meaning_done whole m a)
 meaning-stands (Calls asking) k a s = stands-call asking k a s
 meaning-stands (Passes ticks) k a s = ticks-stand ticks k a s
+meaning-stands (Shows what) k a s = s
 meaning-stands (Refuses cause) k a s = s
 
 stands-itself : (k : Kept) (a : Abstract) → StandsFor k a → StandsFor (kept_of a) a

@@ -1,15 +1,18 @@
 -- What the lines of a script ask for.
-use Rattle.std.specs.Prelude.{ℕ, ◌==◌, ◌&&◌, Bool, not, nat_eq, if◌then◌else◌, List, []}
-use Rattle.std.specs.Prelude.{◌∷◌, length, codes, Option, None, Some, Result, Ok, Err, bytes_eq}
-use Rattle.std.specs.Borrow.{Bor}
+use Rattle.std.specs.Prelude.{ℕ, ◌==◌, ◌&&◌, if◌then◌else◌, List, [], ◌∷◌, codes}
+use Rattle.std.specs.Prelude.{Option, None, Some, Result, Ok, Err, bytes_eq}
 use Rattle.std.specs.Option.{option_map}
-use Rattle.stp_node.specs.Lines.{words, is_octets, octets_of}
+use Rattle.console.specs.Orders.{Instruction, instructed, instruction, is_some_word}
+use Rattle.console.specs.Words.{words}
+use Rattle.stp_node.specs.Lines.{is_octets, octets_of}
 use Rattle.stp_node.specs.Numbers.{ticks_written}
 use Rattle.stp_node.specs.declared.line.Command.{Command}
 use Rattle.stp_node.specs.declared.line.Command.TheVariants as command
 use Rattle.stp_node.specs.declared.line.Line.{Line}
 use Rattle.stp_node.specs.declared.line.Line.TheVariants as line
 use Rattle.stp_node.specs.declared.line.Malformed.{Malformed}
+use Rattle.stp_node.specs.declared.line.Show.{Show}
+use Rattle.stp_node.specs.declared.line.Show.TheVariants.{Links, Routes, Notices}
 
 -- what a line asks for; a link goes by a name, which no link need have
 pub data Asked : Type 0 where
@@ -20,10 +23,8 @@ pub data Asked : Type 0 where
   AskTake : (link : List ℕ) → Asked
   AskWants : (link : List ℕ) → Asked
   AskSubmit : (octets : List ℕ) → Asked
-
--- a word that is there
-abbrev pub is_some_word : List ℕ → Bool
-is_some_word word = not (nat_eq (length word) 0)
+  AskOrder : (order : Instruction) → Asked
+  AskShow : (what : Show) → Asked
 
 -- the command of a name
 abbrev pub command_named : List ℕ → Option Command
@@ -35,6 +36,15 @@ command_named word =
     else if bytes_eq word (codes "take") then Some command.Take
     else if bytes_eq word (codes "wants") then Some command.Wants
     else if bytes_eq word (codes "submit") then Some command.Submit
+    else if bytes_eq word (codes "show") then Some command.Show
+    else None
+
+-- what a word asks to be shown
+abbrev pub show_named : List ℕ → Option Show
+show_named word =
+    if bytes_eq word (codes "links") then Some Links
+    else if bytes_eq word (codes "routes") then Some Routes
+    else if bytes_eq word (codes "notices") then Some Notices
     else None
 
 -- a command with one word behind it
@@ -46,6 +56,7 @@ asked_with_one command.Tick word = option_map (λ ticks. AskTick ticks) (ticks_w
 asked_with_one command.Take word = if is_some_word word then Some (AskTake word) else None
 asked_with_one command.Wants word = if is_some_word word then Some (AskWants word) else None
 asked_with_one command.Submit word = if is_octets word then Some (AskSubmit (octets_of word)) else None
+asked_with_one command.Show word = option_map (λ what. AskShow what) (show_named word)
 
 -- a command with two words behind it
 abbrev pub asked_with_two : Command → List ℕ → List ℕ → Option Asked
@@ -57,6 +68,7 @@ asked_with_two command.Down first second = None
 asked_with_two command.Tick first second = None
 asked_with_two command.Wants first second = None
 asked_with_two command.Submit first second = None
+asked_with_two command.Show first second = None
 
 -- the words behind a command
 abbrev pub asked_behind : Option Command → List (List ℕ) → Option Asked
@@ -71,6 +83,14 @@ abbrev pub asked_by : List (List ℕ) → Option Asked
 asked_by [] = None
 asked_by (word ∷ behind) = asked_behind (command_named word) behind
 
+-- an order of the operator, or else what the words of a line ask for
+abbrev pub order_or : Option Instruction → Option Asked → Option Asked
+order_or (Some order) asked = Some (AskOrder order)
+order_or None asked = asked
+
+abbrev pub asked_words : List (List ℕ) → Option Asked
+asked_words ws = order_or (instructed ws) (asked_by ws)
+
 -- a line is skipped, malformed, or asks for something
 pub data Reading : Type 0 where
   Skips : Reading
@@ -84,12 +104,7 @@ asks_or_malformed (Some asked) = Asks asked
 -- a line without its end: an empty one, and one that begins with a number sign (35), is skipped
 abbrev pub parsed_line : List ℕ → Reading
 parsed_line [] = Skips
-parsed_line (octet ∷ rest) = if octet == 35 then Skips else asks_or_malformed (asked_by (words (octet ∷ rest)))
-
--- the words that are left behind one
-abbrev pub words_left : Option (Bor (List ℕ)) → List (List ℕ)
-words_left None = []
-words_left (Some rest) = words rest.now
+parsed_line (octet ∷ rest) = if octet == 35 then Skips else asks_or_malformed (asked_words (words (octet ∷ rest)))
 
 abbrev pub asked_line : Line → Asked
 asked_line (line.Up link) = AskUp link.now
@@ -99,6 +114,8 @@ asked_line (line.Down link) = AskDown link.now
 asked_line (line.Tick ticks) = AskTick ticks
 asked_line (line.Wants link) = AskWants link.now
 asked_line (line.Submit octets) = AskSubmit (octets_of octets.digits.now)
+asked_line (line.Order order) = AskOrder (instruction order)
+asked_line (line.Show what) = AskShow what
 
 abbrev pub asked_of : Option Line → Option Asked
 asked_of None = None

@@ -1,7 +1,6 @@
 -- What a line of a script prints, and the state after it, by the calls of an exchange.
 use Rattle.std.specs.Prelude.{ℕ, zero, suc, List, [], drop, length, nat_lt}
-use Rattle.std.specs.Prelude.{if◌then◌else◌, Option, Some, None, slice_get, slice_index, unwrap_or}
-use Rattle.std.specs.Option.{option_map}
+use Rattle.std.specs.Prelude.{if◌then◌else◌, Option, Some, None, slice_index}
 use Rattle.signalling_types.specs.Message.{Message}
 use Rattle.settings_rows.specs.Configuration.{Configuration}
 use Rattle.stp_types.specs.Readings.{link_place}
@@ -14,16 +13,24 @@ use Rattle.exchange.specs.declared.event.Answer.{Answer}
 use Rattle.exchange.specs.declared.event.Answer.TheVariants.{Stepped, Taken, Wanted}
 use Rattle.exchange.specs.State.{State, QueueKind}
 use Rattle.exchange.specs.Happening.{CameUp, WentDown, FrameCame, Ticked, Submitted}
-use Rattle.exchange.specs.Happening.{Asking, Happens, Takes, AsksWants}
+use Rattle.exchange.specs.Happening.{Asking, Happens, Takes, AsksWants, ordered}
+use Rattle.exchange.specs.declared.event.Order.{Order}
 use Rattle.exchange.specs.Exchange.{after}
 use Rattle.exchange.specs.Runs.{answer_to_call, after_call}
+use Rattle.console.specs.Names.{name_in}
+use Rattle.console.specs.Orders.{order_named}
 use Rattle.stp_node.specs.Asking.{Asked, AskUp, AskDown, AskFrame, AskTick, AskTake, AskWants, AskSubmit}
+use Rattle.stp_node.specs.Asking.{AskOrder, AskShow}
+use Rattle.stp_node.specs.Showing.{shown_text}
+use Rattle.stp_node.specs.declared.line.Show.{Show}
 use Rattle.stp_node.specs.Texts.{outcome_line, frame_line, none_line, wants_line}
 
--- what a line means at a node: a call of its exchange, ticks that pass, or a refusal before any call
+-- what a line means at a node: a call of its exchange, ticks that pass, a text that is shown, or a refusal before any
+-- call
 pub data Meaning : Type 0 where
   Calls : Asking → Meaning
   Passes : (ticks : ℕ) → Meaning
+  Shows : Show → Meaning
   Refuses : Cause → Meaning
 
 -- a call for the link of a name, where there is one
@@ -39,6 +46,11 @@ message_written octets = record { sio = slice_index octets 0; sif = drop 1 octet
 abbrev pub submission : Message → Meaning
 submission m = (if nat_lt SIF_OCTETS (length m.sif) then Refuses TooLong else Calls (Happens (Submitted m)))
 
+-- an order about a link, where there is one
+abbrev pub given : Option Order → Meaning
+given None = Refuses NoSuchName
+given (Some order) = Calls (Happens (ordered order))
+
 -- what a line means with these settings
 abbrev pub meaning : Configuration → Asked → Meaning
 meaning c (AskUp name) = at_link (link_place c name) (λ link. Happens (CameUp link))
@@ -48,10 +60,8 @@ meaning c (AskTick ticks) = Passes ticks
 meaning c (AskWants name) = at_link (link_place c name) (λ link. AsksWants link)
 meaning c (AskTake name) = at_link (link_place c name) (λ link. Takes link)
 meaning c (AskSubmit octets) = submission (message_written octets)
-
--- the name of a link; nothing where no link has this number
-abbrev pub name_in : Configuration → ℕ → List ℕ
-name_in c link = unwrap_or (option_map (λ row. row.name) (slice_get c.links link)) []
+meaning c (AskOrder order) = given (order_named c order)
+meaning c (AskShow what) = Shows what
 
 -- the name of the link that an outcome names, if any
 abbrev pub named_link : Configuration → Outcome → List ℕ
@@ -92,11 +102,13 @@ after_ticks q (suc more) s = after_ticks q more (after q Ticked s)
 abbrev pub meaning_printed : {Q : Type 0} → QueueKind Q → Meaning → State Q → List ℕ
 meaning_printed q (Calls asking) s = answer_text s.settings asking (answer_to_call q asking s)
 meaning_printed q (Passes ticks) s = report s.settings Handled
+meaning_printed q (Shows what) s = shown_text q what s
 meaning_printed q (Refuses cause) s = report s.settings (Refused cause)
 
 abbrev pub meaning_done : {Q : Type 0} → QueueKind Q → Meaning → State Q → State Q
 meaning_done q (Calls asking) s = after_call q asking s
 meaning_done q (Passes ticks) s = after_ticks q ticks s
+meaning_done q (Shows what) s = s
 meaning_done q (Refuses cause) s = s
 
 -- what is printed of a line, and the state after it

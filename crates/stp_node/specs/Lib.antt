@@ -3,6 +3,8 @@ pub mod Lines
 pub mod Numbers
 pub mod Asking
 pub mod Texts
+pub mod Showing
+pub mod Replies
 pub mod Doing
 pub mod Faults
 pub mod Steps

@@ -9,8 +9,8 @@ use Rattle.settings_rows.specs.declared.fault.DraftFault.{DraftFault}
 use Rattle.settings.specs.Faults.{fault_line, no_memory}
 use Rattle.settings.specs.declared.fault.SettingsFault.{SettingsFault}
 use Rattle.settings.specs.declared.fault.SettingsFault.TheVariants as settings_fault
-use Rattle.exchange.specs.Queues.{whole}
 use Rattle.exchange.specs.Stands.{Abstract, first_state}
+use Rattle.exchange.specs.Queues.{whole}
 use Rattle.stp_node.specs.BuiltIn.{IsBuiltIn, built_in_settings}
 use Rattle.stp_node.specs.Faults.{Counts}
 use Rattle.stp_node.specs.Folders.{FileRead, AreSettings, IsFault}

@@ -2,7 +2,7 @@
 use Rattle.std.specs.Prelude.{◌≡◌, ℕ, ◌+◌, if◌then◌else◌, nat_lt, List, [], ◌∷◌}
 use Rattle.std.specs.Prelude.{◌++◌, length, ◌⊎◌, Option, Some, None, Result, Ok, Err}
 use Rattle.std.specs.Io.KnownBytes.{Appends, Consumes, IsAtEnd}
-use Rattle.exchange.specs.State.{State, QueueKind}
+use Rattle.exchange.specs.State.{QueueKind, State}
 use Rattle.stp_node.specs.Streams.{AppendsFirst}
 use Rattle.stp_node.specs.Lines.{lines}
 use Rattle.stp_node.specs.Texts.{line_fault}

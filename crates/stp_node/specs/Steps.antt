@@ -1,8 +1,9 @@
 -- How a script is gone through: the line that is open, and the octets that come behind.
-use Rattle.std.specs.Prelude.{◌≡◌, ℕ, ◌≤◌, List, [], ◌∷◌, ◌++◌, Option, Some, Result, Ok, Err}
+use Rattle.std.specs.Prelude.{◌≡◌, ℕ, ◌≤◌, List, [], ◌++◌, Option, Some, Result, Ok, Err}
 use Rattle.std.specs.Io.KnownBytes.{Appends}
 use Rattle.exchange.specs.Queues.{KeptQueues, kept}
 use Rattle.exchange.specs.Stands.{Kept}
+use Rattle.console.specs.Words.{begun}
 use Rattle.stp_node.specs.Lines.{lines}
 use Rattle.stp_node.specs.Streams.{AppendsFirst}
 use Rattle.stp_node.specs.Runs.{Reached, lines_run, onto}
@@ -18,11 +19,6 @@ pub record LineSoFar : Type 0 where
 -- the line before the first octet of a script
 abbrev pub first_line : LineSoFar
 first_line = record { octets = []; number = 1 }
-
--- an open line in front of the first of some lines
-abbrev pub begun : List ℕ → List (List ℕ) → List (List ℕ)
-begun front [] = []
-begun front (line ∷ more) = (front ++ line) ∷ more
 
 -- the open line, and the octets behind it
 abbrev pub rest_run : (most : ℕ) → LineSoFar → List ℕ → Kept → Reached KeptQueues

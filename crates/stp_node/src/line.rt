@@ -1,15 +1,14 @@
 //! The lines of a script.
 
-ghost use Rattle.std.specs.Prelude.{◌≡◌, ◌∷◌, length};
-ghost use Rattle.stp_node.specs.Lines.{words};
-ghost use Rattle.stp_node.specs.Asking.{parsed_line, asked_by, asked_with_one, asked_with_two};
-ghost use Rattle.stp_node.specs.Asking.{command_named, asked_of, reading_of, words_left};
+ghost use Rattle.std.specs.Prelude.{◌≡◌};
+ghost use Rattle.console.specs.Words.{words};
+ghost use Rattle.stp_node.specs.Asking.{parsed_line, asked_by, asked_words, asked_with_one, asked_with_two};
+ghost use Rattle.stp_node.specs.Asking.{command_named, show_named, asked_of, reading_of};
 
 use crate::hex_octets::HexOctets;
 use crate::ticks::read_ticks;
-
-/// What parts the words of a line.
-const SPACE: u8 = b' ';
+use console::words::cut;
+use console::{OrderText, read_order};
 
 /// What a line begins with that is skipped.
 const REMARK: u8 = b'#';
@@ -28,6 +27,18 @@ enum Command {
     Take,
     Wants,
     Submit,
+    Show,
+}
+
+/// What a line of a script shows.
+#[derive(Clone, Copy, PartialEq, Eq)]
+pub enum Show {
+    /// The links.
+    Links,
+    /// The routes.
+    Routes,
+    /// The notices.
+    Notices,
 }
 
 /// What a line of a script asks for.
@@ -70,6 +81,16 @@ pub enum Line<'a> {
         /// The service information octet, and the signalling information field behind it.
         octets: HexOctets<'a>,
     },
+    /// `activate LINK` or `deactivate LINK`: an order of the operator.
+    Order {
+        /// The order.
+        order: OrderText<'a>,
+    },
+    /// `show links`, `show routes` or `show notices`: a text of the console.
+    Show {
+        /// Which.
+        what: Show,
+    },
 }
 
 /// What a line without its end asks for: nothing where it is empty or begins with `#`.
@@ -79,9 +100,19 @@ pub fn parse_line(line: &[u8]) -> Result<Option<Line<'_>>, Malformed>
     if line.is_empty() || line[0] == REMARK {
         return Ok(None);
     }
-    match asked(line) {
+    match asked_or_ordered(line) {
         Some(line) => Ok(Some(line)),
         None => Err(Malformed),
+    }
+}
+
+/// The order that a line gives, or else what its words ask for.
+fn asked_or_ordered(line: &[u8]) -> Option<Line<'_>>
+    ensures { asked_of result ≡ asked_words (words line.now) }
+{
+    match read_order(line) {
+        Some(order) => Some(Line::Order { order }),
+        None => asked(line),
     }
 }
 
@@ -118,6 +149,10 @@ fn asked_with_one(command: Command, word: &[u8]) -> Option<Line<'_>>
         Command::Submit => {
             let octets = HexOctets::read(word)?;
             Some(Line::Submit { octets })
+        }
+        Command::Show => {
+            let what = show_named(word)?;
+            Some(Line::Show { what })
         }
         _ => None,
     }
@@ -157,20 +192,24 @@ fn command_named(word: &[u8]) -> Option<Command>
         Some(Command::Wants)
     } else if word == b"submit".as_slice() {
         Some(Command::Submit)
+    } else if word == b"show".as_slice() {
+        Some(Command::Show)
     } else {
         None
     }
 }
 
-/// The first word, and what stands behind the space after it, where there is one.
-#[tactic(auto, using(crate::proofs::Parting::word_steps))]
-fn cut(text: &[u8]) -> (&[u8], Option<&[u8]>)
-    ensures { words text.now ≡ result.0.now ∷ words_left result.1 }
+/// The text of this name.
+fn show_named(word: &[u8]) -> Option<Show>
+    ensures { result ≡ show_named word.now }
 {
-    for (at, octet) in text.iter().enumerate() {
-        if *octet == SPACE {
-            return (&text[..at], Some(&text[at + 1..]));
-        }
+    if word == b"links".as_slice() {
+        Some(Show::Links)
+    } else if word == b"routes".as_slice() {
+        Some(Show::Routes)
+    } else if word == b"notices".as_slice() {
+        Some(Show::Notices)
+    } else {
+        None
     }
-    (text, None)
 }

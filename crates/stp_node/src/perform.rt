@@ -2,20 +2,32 @@
 
 ghost use Rattle.std.specs.Prelude.{◌≡◌, ◌≤◌, length};
 ghost use Rattle.exchange.specs.Queues.{kept};
+ghost use Rattle.console.specs.Names.{name_in};
 ghost use Rattle.stp_node.specs.Asking.{AskTake, AskWants, asked_line};
-ghost use Rattle.stp_node.specs.Doing.{name_in, report, printed, done, after_ticks};
+ghost use Rattle.stp_node.specs.Doing.{report, printed, done, after_ticks};
+ghost use Rattle.stp_node.specs.Replies.{reply_text};
 
-use crate::line::Line;
+use crate::line::{Line, Show};
 use crate::text::{Text, frame_line, none_line, outcome_line, wants_line};
+use console::link_name;
 use exchange::{BUFFER_OCTETS, Event, Exchange};
 use stp_types::{Cause, Limits, LinkId, Msu, Outcome};
+
+/// What is printed of a line that was done.
+#[derive(Drop)]
+pub enum Reply {
+    /// This line.
+    Line(Text),
+    /// The lines of a text of the console.
+    Lines(Show),
+}
 
 /// Does what a line asks for, and gives what is printed of it.
 ///
 /// A link of no name of the settings is refused NoSuchName, and a message with too long a signalling
 /// information field TooLong; neither reaches the exchange.
-pub fn perform(exchange: &mut Exchange, line: Line<'_>) -> Text
-    ensures text { result ≡ printed kept (asked_line line.entry) exchange.old }
+pub fn perform(exchange: &mut Exchange, line: Line<'_>) -> Reply
+    ensures text { reply_text kept result exchange.new ≡ printed kept (asked_line line.entry) exchange.old }
     ensures state { exchange.new ≡ done kept (asked_line line.entry) exchange.old }
 {
     let mut buffer = [0; Limits::FRAME_OCTETS];
@@ -43,10 +55,15 @@ pub fn perform(exchange: &mut Exchange, line: Line<'_>) -> Text
                 Err(cause) => Outcome::Refused(cause),
             }
         }
-        Line::Take { link } => return take(exchange, link),
-        Line::Wants { link } => return wants(exchange, link),
+        Line::Order { order } => match order.named(exchange.settings()) {
+            Some(order) => exchange.step(&Event::Order(order)),
+            None => Outcome::Refused(Cause::NoSuchName),
+        },
+        Line::Take { link } => return Reply::Line(take(exchange, link)),
+        Line::Wants { link } => return Reply::Line(wants(exchange, link)),
+        Line::Show { what } => return Reply::Lines(what),
     };
-    report(exchange, outcome)
+    Reply::Line(report(exchange, outcome))
 }
 
 /// Lets so many ticks pass.
@@ -80,7 +97,7 @@ fn take(exchange: &mut Exchange, name: &[u8]) -> Text
     };
     let mut buffer = [0; BUFFER_OCTETS];
     match exchange.take(link, &mut buffer) {
-        Some(count) => frame_line(name_in(exchange, link), &buffer[..count]),
+        Some(count) => frame_line(name_of(exchange, link), &buffer[..count]),
         None => none_line(),
     }
 }
@@ -90,18 +107,15 @@ fn report(exchange: &Exchange, outcome: Outcome) -> Text
     ensures { result ≡ report exchange.now.settings outcome }
 {
     match outcome {
-        Outcome::Queued(link) => outcome_line(outcome, name_in(exchange, link)),
+        Outcome::Queued(link) => outcome_line(outcome, name_of(exchange, link)),
         _ => outcome_line(outcome, b""),
     }
 }
 
-/// The name of a link, or nothing where no link has this number.
-fn name_in(exchange: &Exchange, link: LinkId) -> &[u8]
+/// The name of a link; nothing where no link has this number.
+fn name_of(exchange: &Exchange, link: LinkId) -> &[u8]
     ensures name { result.now ≡ name_in exchange.now.settings link }
     ensures fits { length result.now ≤ Limits.NAME_OCTETS }
 {
-    match exchange.settings().link_name(link) {
-        Some(name) => name.as_bytes(),
-        None => b"",
-    }
+    link_name(exchange.settings(), link).as_bytes()
 }

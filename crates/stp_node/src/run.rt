@@ -11,6 +11,7 @@ ghost use Rattle.stp_node.specs.Faults.{MakesReads, reads_failed, writes_failed}
 use crate::line::{Malformed, parse_line};
 use crate::perform::perform;
 use crate::script::{LINE_OCTETS, READS, ScriptFault};
+use crate::showing::print;
 use crate::sink::Sink;
 use crate::source::Source;
 use crate::text::line_fault;
@@ -186,8 +187,8 @@ fn do_line<W: Sink>(
 {
     match parse_line(line) {
         Ok(Some(line)) => {
-            let text = perform(exchange, line);
-            writer.write(text.as_slice())?;
+            let reply = perform(exchange, line);
+            print(exchange, &reply, writer)?;
             Ok(())
         }
         Ok(None) => Ok(()),

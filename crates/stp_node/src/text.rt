@@ -1,10 +1,11 @@
 //! What a script prints, a line at a time.
 
-ghost use Rattle.std.specs.Prelude.{◌≡◌, ◌+◌, ◌*◌, ◌≤◌, ◌<◌, ◌^◌, ◌++◌, [], length, decimal};
+ghost use Rattle.std.specs.Prelude.{◌≡◌, ◌+◌, ◌*◌, ◌≤◌, ◌<◌, ◌^◌, ◌++◌, [], length, codes, decimal};
 ghost use Rattle.hex.specs.Hex.{encode_lower};
 ghost use Rattle.stp_node.specs.Texts.{outcome_line, frame_line, none_line, wants_line, line_fault};
 
 use arrayvec::ArrayVec;
+use console::LINE_OCTETS;
 use exchange::{BUFFER_OCTETS, Wants};
 use itoa::Buffer;
 use std::marker::Model;
@@ -113,6 +114,17 @@ pub fn frame_line(name: &[u8], octets: &[u8]) -> Text
     text.push(name);
     text.push(b" ");
     text.push_hex(octets);
+    text.push(b"\n");
+    text
+}
+
+/// A line of the console, with its line feed.
+pub fn console_line(line: &str) -> Text
+    requires { length line.now ≤ LINE_OCTETS }
+    ensures { result ≡ line.now ++ codes "\n" }
+{
+    let mut text = Text::new();
+    text.push(line.as_bytes());
     text.push(b"\n");
     text
 }

@@ -35,8 +35,13 @@ const ROWS: &str = "\
     ;down e0 e0\n|fault 1\n|1\
     ;wants\n|fault 1\n|1\
     ;wants e0 e0\n|fault 1\n|1\
-    ;activate e0\n|fault 1\n|1\
-    ;show links\n|fault 1\n|1\
+    ;activate\n|fault 1\n|1\
+    ;activate \n|fault 1\n|1\
+    ;activate e0 e0\n|fault 1\n|1\
+    ;deactivate  e0\n|fault 1\n|1\
+    ;show\n|fault 1\n|1\
+    ;show links \n|fault 1\n|1\
+    ;show titles\n|fault 1\n|1\
     ;title remove 0 1 4 49\n|fault 1\n|1\
     ;take\n|fault 1\n|1\
     ;take e0 1\n|fault 1\n|1\
@@ -77,6 +82,10 @@ const ROWS: &str = "\
     ;submit 852c4100\n|refused 2 NoLabel\n|\
     ;submit 852C410050AABB\n|refused 4 NoRoute\n|\
     ;down e0\n|ignored\n|\
+    ;activate e\n|refused 22 NoSuchName\n|\
+    ;deactivate e0\nup e0\nactivate e0\nup e0\n|handled\nrefused 17 LinkNotReady\nhandled\nhandled\n|\
+    ;show routes\n|route 2 none prohibited\nroute 300 none prohibited\n|\
+    ;show notices\n||\
     ;up e0\nwants e0\ndown e0\nwants e0\n|handled\nnothing\nhandled\nopen\n|\
     ;up e0\nframe e0 01000b0200000015\nwants e0\n|handled\nhandled\nclose\n|\
     ;wants e\n|refused 22 NoSuchName\n|\

@@ -1,0 +1,106 @@
+-- What the console shows, a line at a time, without the line feeds.
+use Rattle.std.specs.Prelude.{◌≡◌, ℕ, Bool, true, false, ◌++◌, List, codes, decimal, slice_get}
+use Rattle.std.specs.Prelude.{Option, Some, None}
+use Rattle.std.specs.Option.{option_map, option_and_then}
+use Rattle.settings_rows.specs.Configuration.{Configuration}
+use Rattle.signalling_types.specs.Causes.{cause_number, cause_name}
+use Rattle.signalling_types.specs.Notices.{frame_fault_number, frame_fault_name, failure_name}
+use Rattle.signalling_types.specs.declared.cause.Cause.{Cause}
+use Rattle.signalling_types.specs.declared.notice.Notice.{Notice}
+use Rattle.signalling_types.specs.declared.notice.Notice.TheVariants.{Refused, Frame, Failed, Lost, Unsent, Expired}
+use Rattle.signalling_types.specs.declared.notice.Notice.TheVariants.{Late}
+use Rattle.signalling_types.specs.declared.notice.ChangeoverTimer.{ChangeoverTimer}
+use Rattle.signalling_types.specs.declared.notice.ChangeoverTimer.TheVariants.{T1, T2}
+use Rattle.signalling_types.specs.declared.notice.FailureReason.{FailureReason}
+use Rattle.signalling_types.specs.declared.notice.FrameFault.{FrameFault}
+use Rattle.signalling_types.specs.declared.notice.LateTimer.TheVariants.{T3, T4}
+use Rattle.route_table.specs.Chosen.{status_name}
+use Rattle.exchange.specs.declared.view.LinkView.{LinkView}
+use Rattle.exchange.specs.declared.view.RouteView.{RouteView}
+use Rattle.exchange.specs.State.{QueueKind, State}
+use Rattle.exchange.specs.Views.{link_view, route_view, standing_name}
+use Rattle.console.specs.Names.{name_in, set_name_in}
+
+-- a line that is shown, where there is one; else nothing is written
+abbrev pub Shows : Option (List ℕ) → Bool → (text text_new : List ℕ) → Type 0
+Shows (Some line) shown text text_new = (shown ≡ true) × (text_new ≡ line)
+Shows None shown text text_new = (shown ≡ false) × (text_new ≡ text)
+
+-- ---- links
+
+abbrev pub link_text : (name : List ℕ) → LinkView → List ℕ
+link_text name v =
+    codes "link " ++ name ++ codes " " ++ standing_name v.standing ++ codes " waiting " ++ decimal v.waiting
+    ++ codes " fsn " ++ decimal v.last_sent ++ codes " bsn " ++ decimal v.last_accepted
+
+-- the line of link k
+abbrev pub link_line : {Q : Type 0} → QueueKind Q → State Q → ℕ → Option (List ℕ)
+link_line q s k =
+    option_and_then (λ row. option_map (λ v. link_text row.name v) (link_view q s k)) (slice_get s.settings.links k)
+
+-- ---- routes
+
+-- the set that messages take
+abbrev pub set_text : Configuration → Option ℕ → List ℕ
+set_text c (Some set) = set_name_in c set
+set_text c None = codes "none"
+
+abbrev pub route_text : Configuration → RouteView → List ℕ
+route_text c v =
+    codes "route " ++ decimal v.point ++ codes " " ++ set_text c v.set ++ codes " " ++ status_name v.status
+
+-- the line of destination k
+abbrev pub route_line : {Q : Type 0} → State Q → ℕ → Option (List ℕ)
+route_line s k = option_map (λ v. route_text s.settings v) (route_view s k)
+
+-- ---- notices
+
+abbrev pub cause_text : Cause → List ℕ
+cause_text cause = decimal (cause_number cause) ++ codes " " ++ cause_name cause
+
+-- a message in a frame of this link was refused
+abbrev pub refused_text : (name : List ℕ) → Cause → List ℕ
+refused_text name cause = codes "refused " ++ cause_text cause ++ codes " " ++ name
+
+-- a frame of this link was left aside
+abbrev pub frame_text : (name : List ℕ) → FrameFault → List ℕ
+frame_text name fault =
+    codes "frame " ++ decimal (frame_fault_number fault) ++ codes " " ++ frame_fault_name fault ++ codes " " ++ name
+
+-- this link failed
+abbrev pub failed_text : (name : List ℕ) → FailureReason → List ℕ
+failed_text name reason = codes "failed " ++ name ++ codes " " ++ failure_name reason
+
+-- a message was lost
+abbrev pub lost_text : Cause → (point sls : ℕ) → List ℕ
+lost_text cause point sls = codes "lost " ++ cause_text cause ++ codes " " ++ decimal point ++ codes " " ++ decimal sls
+
+-- a management message could not go out
+abbrev pub unsent_text : Cause → (point : ℕ) → List ℕ
+unsent_text cause point = codes "unsent " ++ cause_text cause ++ codes " " ++ decimal point
+
+-- a changeover of this link ended by its timer
+abbrev pub expired_text : (name : List ℕ) → ChangeoverTimer → List ℕ
+expired_text name T1 = codes "expired T1 " ++ name
+expired_text name T2 = codes "expired T2 " ++ name
+
+-- a changeback ended by its timer: T3 of this link, or T4 of this code
+abbrev pub late_link_text : (name : List ℕ) → List ℕ
+late_link_text name = codes "late T3 " ++ name
+
+abbrev pub late_code_text : (code : ℕ) → List ℕ
+late_code_text code = codes "late T4 " ++ decimal code
+
+abbrev pub notice_text : Configuration → Notice → List ℕ
+notice_text c (Refused cause link) = refused_text (name_in c link) cause
+notice_text c (Frame fault link) = frame_text (name_in c link) fault
+notice_text c (Failed link reason) = failed_text (name_in c link) reason
+notice_text c (Lost cause point sls) = lost_text cause point sls
+notice_text c (Unsent cause point) = unsent_text cause point
+notice_text c (Expired timer link) = expired_text (name_in c link) timer
+notice_text c (Late T3 link) = late_link_text (name_in c link)
+notice_text c (Late T4 code) = late_code_text code
+
+-- the line of notice k, the oldest first
+abbrev pub notice_line : {Q : Type 0} → State Q → ℕ → Option (List ℕ)
+notice_line s k = option_map (λ notice. notice_text s.settings notice) (slice_get s.node.parts.notices k)

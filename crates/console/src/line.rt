@@ -1,0 +1,33 @@
+//! The words of a line, one behind another.
+
+ghost use Rattle.std.specs.Prelude.{◌≡◌, ◌+◌, ◌≤◌, ◌++◌, length, decimal};
+ghost use Rattle.console.specs.Texts.{cause_text};
+
+use arrayvec::ArrayString;
+use itoa::Buffer;
+use stp_types::Cause;
+
+/// Octets of a line, at most.
+pub const LINE_OCTETS: usize = 128;
+
+/// Puts a word and a number in decimal digits behind what is there.
+pub(crate) fn push_number(line: &mut ArrayString<LINE_OCTETS>, word: &str, number: u64)
+    requires { length line.old.bytes + length word.now + 20 ≤ LINE_OCTETS }
+    ensures text { line.new.bytes ≡ line.old.bytes ++ word.now ++ decimal number }
+    ensures short { length line.new.bytes ≤ length line.old.bytes + length word.now + 20 }
+{
+    let mut buffer = Buffer::new();
+    line.push_str(word);
+    line.push_str(buffer.format(number));
+}
+
+/// Puts a word and a cause, by number and by name, behind what is there.
+pub(crate) fn push_cause(line: &mut ArrayString<LINE_OCTETS>, word: &str, cause: Cause)
+    requires { length line.old.bytes + length word.now + 40 ≤ LINE_OCTETS }
+    ensures text { line.new.bytes ≡ line.old.bytes ++ word.now ++ cause_text cause }
+    ensures short { length line.new.bytes ≤ length line.old.bytes + length word.now + 40 }
+{
+    push_number(line, word, u64::from(cause.number()));
+    line.push_str(" ");
+    line.push_str(cause.name());
+}

@@ -1,0 +1,49 @@
+//! The text of the links.
+
+ghost use Rattle.std.specs.Prelude.{◌≡◌, ◌≤◌, length};
+ghost use Rattle.exchange.specs.Stands.{Abstract, StandsFor};
+ghost use Rattle.exchange.specs.Queues.{kept, whole};
+ghost use Rattle.console.specs.Texts.{Shows, link_line, link_text};
+
+use crate::line::{LINE_OCTETS, push_number};
+use arrayvec::ArrayString;
+use exchange::{Exchange, LinkView};
+use stp_types::{Limits, LinkId};
+
+/// Writes line `k`, from 0, of the text of the links: `link NAME STATE waiting Q fsn F bsn B`, one line for each link
+/// in the order of the settings. Q counts the messages that aren't confirmed, F and B are the numbers of the last
+/// message that was sent and of the last that was accepted.
+///
+/// False past the last line, and then nothing is written.
+pub fn show_links(exchange: &Exchange, k: usize, out: &mut ArrayString<LINE_OCTETS>) -> bool
+    // For every abstract state that the exchange stands for, the line is that of the abstract state.
+    ensures line { (a : Abstract) → StandsFor exchange.now a →
+        Shows (link_line whole a k) result out.old.bytes out.new.bytes }
+
+    // The same on what is kept.
+    ensures kept_line { Shows (link_line kept exchange.now k) result out.old.bytes out.new.bytes }
+{
+    let Some(row) = exchange.settings().links().get(k) else {
+        return false;
+    };
+    let Some(view) = exchange.link(LinkId::new(k as u8)) else {
+        return false;
+    };
+    write_link(row.name(), view, out);
+    true
+}
+
+/// The line of a link of this name.
+fn write_link(name: &str, view: LinkView, out: &mut ArrayString<LINE_OCTETS>)
+    requires { length name.now ≤ Limits.NAME_OCTETS }
+    ensures { out.new.bytes ≡ link_text name.now view }
+{
+    out.clear();
+    out.push_str("link ");
+    out.push_str(name);
+    out.push_str(" ");
+    out.push_str(view.standing.name());
+    push_number(out, " waiting ", view.waiting as u64);
+    push_number(out, " fsn ", u64::from(view.last_sent.value()));
+    push_number(out, " bsn ", u64::from(view.last_accepted.value()));
+}

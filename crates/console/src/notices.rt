@@ -1,0 +1,139 @@
+//! The text of the notices.
+
+ghost use Rattle.std.specs.Prelude.{◌≡◌, ◌≤◌, length};
+ghost use Rattle.exchange.specs.Stands.{Abstract, StandsFor};
+ghost use Rattle.console.specs.Texts.{Shows, notice_line, notice_text, refused_text, frame_text, failed_text};
+ghost use Rattle.console.specs.Texts.{lost_text, unsent_text, expired_text, late_link_text, late_code_text};
+
+use crate::line::{LINE_OCTETS, push_cause, push_number};
+use crate::names::link_name;
+use arrayvec::ArrayString;
+use exchange::Exchange;
+use stp_types::{
+    Cause, ChangeoverTimer, FailureReason, FrameFault, LateTimer, Limits, LinkId, Notice,
+    PointCode, Settings, Sls,
+};
+
+/// Writes line `k`, from 0, of the text of the notices, the oldest that is kept first.
+///
+/// False past the last line, and then nothing is written.
+pub fn show_notices(exchange: &Exchange, k: usize, out: &mut ArrayString<LINE_OCTETS>) -> bool
+    // For every abstract state that the exchange stands for, the line is that of the abstract state.
+    ensures line { (a : Abstract) → StandsFor exchange.now a →
+        Shows (notice_line a k) result out.old.bytes out.new.bytes }
+
+    // The same on what is kept.
+    ensures kept_line { Shows (notice_line exchange.now k) result out.old.bytes out.new.bytes }
+{
+    match exchange.notices().get(k) {
+        Some(notice) => {
+            write_notice(exchange.settings(), notice, out);
+            true
+        }
+        None => false,
+    }
+}
+
+/// The line of a notice.
+fn write_notice(settings: &Settings, notice: &Notice, out: &mut ArrayString<LINE_OCTETS>)
+    ensures { out.new.bytes ≡ notice_text settings.now notice.now }
+{
+    match notice {
+        Notice::Refused(cause, link) => write_refused(link_name(settings, *link), *cause, out),
+        Notice::Frame(fault, link) => write_frame(link_name(settings, *link), *fault, out),
+        Notice::Failed(link, reason) => write_failed(link_name(settings, *link), *reason, out),
+        Notice::Lost(cause, point, sls) => write_lost(*cause, *point, *sls, out),
+        Notice::Unsent(cause, point) => write_unsent(*cause, *point, out),
+        Notice::Expired(timer, link) => write_expired(link_name(settings, *link), *timer, out),
+        Notice::Late(LateTimer::T3, number) => {
+            write_late_link(link_name(settings, LinkId::new(*number)), out);
+        }
+        Notice::Late(LateTimer::T4, code) => write_late_code(*code, out),
+    }
+}
+
+/// A message in a frame of the link of this name was refused.
+fn write_refused(name: &str, cause: Cause, out: &mut ArrayString<LINE_OCTETS>)
+    requires { length name.now ≤ Limits.NAME_OCTETS }
+    ensures { out.new.bytes ≡ refused_text name.now cause }
+{
+    out.clear();
+    push_cause(out, "refused ", cause);
+    out.push_str(" ");
+    out.push_str(name);
+}
+
+/// A frame of the link of this name was left aside.
+fn write_frame(name: &str, fault: FrameFault, out: &mut ArrayString<LINE_OCTETS>)
+    requires { length name.now ≤ Limits.NAME_OCTETS }
+    ensures { out.new.bytes ≡ frame_text name.now fault }
+{
+    out.clear();
+    push_number(out, "frame ", u64::from(fault.number()));
+    out.push_str(" ");
+    out.push_str(fault.name());
+    out.push_str(" ");
+    out.push_str(name);
+}
+
+/// The link of this name failed.
+fn write_failed(name: &str, reason: FailureReason, out: &mut ArrayString<LINE_OCTETS>)
+    requires { length name.now ≤ Limits.NAME_OCTETS }
+    ensures { out.new.bytes ≡ failed_text name.now reason }
+{
+    out.clear();
+    out.push_str("failed ");
+    out.push_str(name);
+    out.push_str(" ");
+    out.push_str(reason.name());
+}
+
+/// A message to this point with this signalling link selection was lost.
+fn write_lost(cause: Cause, point: PointCode, sls: Sls, out: &mut ArrayString<LINE_OCTETS>)
+    ensures { out.new.bytes ≡ lost_text cause point sls }
+{
+    out.clear();
+    push_cause(out, "lost ", cause);
+    push_number(out, " ", u64::from(point.code()));
+    push_number(out, " ", u64::from(sls.number()));
+}
+
+/// A management message to this point could not go out.
+fn write_unsent(cause: Cause, point: PointCode, out: &mut ArrayString<LINE_OCTETS>)
+    ensures { out.new.bytes ≡ unsent_text cause point }
+{
+    out.clear();
+    push_cause(out, "unsent ", cause);
+    push_number(out, " ", u64::from(point.code()));
+}
+
+/// A changeover of the link of this name ended by its timer.
+fn write_expired(name: &str, timer: ChangeoverTimer, out: &mut ArrayString<LINE_OCTETS>)
+    requires { length name.now ≤ Limits.NAME_OCTETS }
+    ensures { out.new.bytes ≡ expired_text name.now timer }
+{
+    out.clear();
+    out.push_str(match timer {
+        ChangeoverTimer::T1 => "expired T1 ",
+        ChangeoverTimer::T2 => "expired T2 ",
+    });
+    out.push_str(name);
+}
+
+/// T3 of the link of this name ran out.
+fn write_late_link(name: &str, out: &mut ArrayString<LINE_OCTETS>)
+    requires { length name.now ≤ Limits.NAME_OCTETS }
+    ensures { out.new.bytes ≡ late_link_text name.now }
+{
+    out.clear();
+    out.push_str("late T3 ");
+    out.push_str(name);
+}
+
+/// T4 of this code ran out.
+fn write_late_code(code: u8, out: &mut ArrayString<LINE_OCTETS>)
+    ensures { out.new.bytes ≡ late_code_text code }
+{
+    out.clear();
+    push_number(out, "late T4 ", u64::from(code));
+}

@@ -1,0 +1,46 @@
+//! The text of the routes.
+
+ghost use Rattle.std.specs.Prelude.{◌≡◌};
+ghost use Rattle.exchange.specs.Stands.{Abstract, StandsFor};
+ghost use Rattle.console.specs.Texts.{Shows, route_line, route_text, set_text};
+
+use crate::line::{LINE_OCTETS, push_number};
+use crate::names::set_name;
+use arrayvec::ArrayString;
+use exchange::{Exchange, RouteView};
+use stp_types::Settings;
+
+/// Writes line `k`, from 0, of the text of the routes: `route POINT SET STATUS`, one line for each destination in the
+/// order of the settings. SET is the name of the set that messages take and STATUS `allowed` or `restricted`, or they
+/// are `none` and `prohibited`.
+///
+/// False past the last line, and then nothing is written.
+pub fn show_routes(exchange: &Exchange, k: usize, out: &mut ArrayString<LINE_OCTETS>) -> bool
+    // For every abstract state that the exchange stands for, the line is that of the abstract state.
+    ensures line { (a : Abstract) → StandsFor exchange.now a →
+        Shows (route_line a k) result out.old.bytes out.new.bytes }
+
+    // The same on what is kept.
+    ensures kept_line { Shows (route_line exchange.now k) result out.old.bytes out.new.bytes }
+{
+    let Some(view) = exchange.route(k) else {
+        return false;
+    };
+    write_route(exchange.settings(), view, out);
+    true
+}
+
+/// The line of a destination.
+fn write_route(settings: &Settings, view: RouteView, out: &mut ArrayString<LINE_OCTETS>)
+    ensures { out.new.bytes ≡ route_text settings.now view }
+{
+    out.clear();
+    push_number(out, "route ", u64::from(view.point.code()));
+    out.push_str(" ");
+    match view.set {
+        Some(set) => out.push_str(set_name(settings, set)),
+        None => out.push_str("none"),
+    }
+    out.push_str(" ");
+    out.push_str(view.status.name());
+}

@@ -1,0 +1,20 @@
+//! The words of a line.
+
+ghost use Rattle.std.specs.Prelude.{◌≡◌, ◌∷◌};
+ghost use Rattle.console.specs.Words.{words, words_left};
+
+/// What parts the words of a line.
+const SPACE: u8 = b' ';
+
+/// The first word, and what stands behind the space after it, where there is one.
+#[tactic(auto, using(crate::proofs::Parting::word_steps))]
+pub fn cut(text: &[u8]) -> (&[u8], Option<&[u8]>)
+    ensures { words text.now ≡ result.0.now ∷ words_left result.1 }
+{
+    for (at, octet) in text.iter().enumerate() {
+        if *octet == SPACE {
+            return (&text[..at], Some(&text[at + 1..]));
+        }
+    }
+    (text, None)
+}

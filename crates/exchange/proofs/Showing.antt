@@ -1,0 +1,28 @@
+-- What an exchange shows of its links and routes is what the abstract state shows.
+use Rattle.std.proofs.Common.{◌≡◌, ◌∙◌, ℕ, Bool, true, false, List, length, refl, ap}
+use Rattle.std.specs.Prelude.{Some, None, if◌then◌else◌}
+use Rattle.exchange.specs.declared.view.LinkView.{LinkView}
+use Rattle.exchange.specs.State.{Node, keep}
+use Rattle.exchange.specs.Links.{is_link}
+use Rattle.exchange.specs.Stands.{Abstract, Kept, AreQueues, StandsFor, kept_queues_of}
+use Rattle.exchange.specs.Queues.{WholeQueues, kept, whole}
+use Rattle.exchange.specs.Views.{link_shown, link_view, route_view}
+use Rattle.exchange.proofs.KeptQueues.{keeps_whole}
+
+link_shown-kept : (w : ℕ) (node : Node WholeQueues) (l : ℕ) → AreQueues w node.queues
+    → link_shown kept (keep kept_queues_of node) l ≡ link_shown whole node l
+link_shown-kept w node l s =
+    let k = keeps_whole w in
+    rw (k.unconfirmed node.queues l, k.last_sent node.queues l s, k.last_accepted node.queues l)
+
+either_view : (b : Bool) (v w : LinkView) → v ≡ w → (if b then Some v else None) ≡ (if b then Some w else None)
+either_view true v w e = ap (λ (x : LinkView). Some x) e
+either_view false v w e = refl
+
+pub stands-link : (l : ℕ) (k : Kept) (a : Abstract) → StandsFor k a → link_view kept k l ≡ link_view whole a l
+stands-link l k a s =
+    ap (λ (x : Kept). link_view kept x l) s.kept
+    ∙ either_view (is_link a.node.parts l) _ _ (link_shown-kept a.settings.window a.node l s.sound.queues)
+
+pub stands-route : (d : ℕ) (k : Kept) (a : Abstract) → StandsFor k a → route_view k d ≡ route_view a d
+stands-route d k a s = ap (λ (x : Kept). route_view x d) s.kept

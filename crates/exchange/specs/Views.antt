@@ -1,0 +1,54 @@
+-- What an exchange shows of its links and its routes.
+use Rattle.std.specs.Prelude.{ℕ, List, Option, Some, None, codes, length, slice_get, if◌then◌else◌}
+use Rattle.std.specs.Option.{option_map}
+use Rattle.link_alignment.specs.declared.alignment.Alignment.{Alignment}
+use Rattle.link_alignment.specs.declared.alignment.Alignment.TheVariants as alignment
+use Rattle.route_table.specs.declared.route.Route.{Route}
+use Rattle.route_table.specs.declared.route.RouteStatus.TheVariants.{Prohibited}
+use Rattle.route_table.specs.Chosen.{chosen_route}
+use Rattle.exchange.specs.declared.view.LinkStanding.{LinkStanding}
+use Rattle.exchange.specs.declared.view.LinkStanding.TheVariants as standing
+use Rattle.exchange.specs.declared.view.LinkView.{LinkView}
+use Rattle.exchange.specs.declared.view.RouteView.{RouteView}
+use Rattle.exchange.specs.State.{QueueKind, Node, State}
+use Rattle.exchange.specs.Links.{is_link, link_at}
+use Rattle.exchange.specs.Routing.{facts}
+
+-- where a link stands; what it remembers in Proving isn't shown
+abbrev pub standing_of : Alignment → LinkStanding
+standing_of alignment.Down = standing.Down
+standing_of alignment.NotAligned = standing.NotAligned
+standing_of alignment.Aligned = standing.Aligned
+standing_of (alignment.Proving ready) = standing.Proving
+standing_of alignment.AlignedReady = standing.AlignedReady
+standing_of alignment.InService = standing.InService
+
+abbrev pub standing_name : LinkStanding → List ℕ
+standing_name standing.Down = codes "Down"
+standing_name standing.NotAligned = codes "NotAligned"
+standing_name standing.Aligned = codes "Aligned"
+standing_name standing.Proving = codes "Proving"
+standing_name standing.AlignedReady = codes "AlignedReady"
+standing_name standing.InService = codes "InService"
+
+-- a link as it is shown
+abbrev pub link_shown : {Q : Type 0} → QueueKind Q → Node Q → ℕ → LinkView
+link_shown q node link = record {
+  standing = standing_of (link_at node.parts link).alignment;
+  waiting = length (q.unconfirmed node.queues link);
+  last_sent = q.last_sent node.queues link;
+  last_accepted = q.last_accepted node.queues link;
+}
+
+abbrev pub link_view : {Q : Type 0} → QueueKind Q → State Q → ℕ → Option LinkView
+link_view q s link = if is_link s.node.parts link then Some (link_shown q s.node link) else None
+
+-- a destination as it is shown, with the route that messages take to it, if any
+abbrev pub route_shown : ℕ → Option Route → RouteView
+route_shown point (Some route) = record { point = point; set = Some route.set; status = route.status }
+route_shown point None = record { point = point; set = None; status = Prohibited }
+
+abbrev pub route_view : {Q : Type 0} → State Q → ℕ → Option RouteView
+route_view s destination =
+    option_map (λ row. route_shown row.point (chosen_route (facts s.settings s.node.parts) destination))
+    (slice_get s.settings.destinations destination)

@@ -1,0 +1,100 @@
+//! What an exchange shows of its links and its routes.
+
+ghost use Rattle.std.specs.Prelude.{◌≡◌};
+ghost use Rattle.exchange.specs.Views.{standing_name, standing_of, route_shown};
+
+use link_alignment::Alignment;
+use link_number::Number24;
+use route_table::{Route, RouteStatus};
+use stp_types::{PointCode, SetId};
+
+/// Where a link stands on its way into service (Q.703 §7, RFC 4165 §4.1.3), without what it remembers there.
+#[derive(Clone, Copy, PartialEq, Eq)]
+pub enum LinkStanding {
+    /// The link is out of use.
+    Down,
+    /// An association is there, and the peer isn't aligned yet.
+    NotAligned,
+    /// The peer is aligned too, and will be proved.
+    Aligned,
+    /// The link is proved.
+    Proving,
+    /// The link is proved, and the peer isn't ready yet.
+    AlignedReady,
+    /// The link carries messages.
+    InService,
+}
+
+impl LinkStanding {
+    /// Where a link of this alignment stands.
+    pub(crate) fn of(alignment: Alignment) -> LinkStanding
+        ensures { result ≡ standing_of alignment }
+    {
+        match alignment {
+            Alignment::Down => LinkStanding::Down,
+            Alignment::NotAligned => LinkStanding::NotAligned,
+            Alignment::Aligned => LinkStanding::Aligned,
+            Alignment::Proving { .. } => LinkStanding::Proving,
+            Alignment::AlignedReady => LinkStanding::AlignedReady,
+            Alignment::InService => LinkStanding::InService,
+        }
+    }
+
+    /// The standing's name, as texts print it.
+    pub fn name(self) -> &'static str
+        ensures { result.now ≡ standing_name self }
+    {
+        match self {
+            LinkStanding::Down => "Down",
+            LinkStanding::NotAligned => "NotAligned",
+            LinkStanding::Aligned => "Aligned",
+            LinkStanding::Proving => "Proving",
+            LinkStanding::AlignedReady => "AlignedReady",
+            LinkStanding::InService => "InService",
+        }
+    }
+}
+
+/// A link as it is shown.
+#[derive(Clone, Copy, PartialEq, Eq)]
+pub struct LinkView {
+    /// Where it stands on its way into service.
+    pub standing: LinkStanding,
+    /// How many messages of its queue aren't confirmed, sent or not.
+    pub waiting: usize,
+    /// The number of the last message that was sent; 16,777,215 before the first.
+    pub last_sent: Number24,
+    /// The number of the last message that was accepted; 16,777,215 before the first.
+    pub last_accepted: Number24,
+}
+
+/// A destination as it is shown, with the route that messages take to it (Q.704 §3.4).
+#[derive(Clone, Copy, PartialEq, Eq)]
+pub struct RouteView {
+    /// Its point code.
+    pub point: PointCode,
+    /// The set that messages take; `None` where no set leads there.
+    pub set: Option<SetId>,
+    /// Allowed or restricted, as that set is; Prohibited where no set leads there.
+    pub status: RouteStatus,
+}
+
+impl RouteView {
+    /// A destination with the route that messages take to it, if any.
+    pub(crate) fn of(point: PointCode, route: Option<Route>) -> RouteView
+        ensures { result ≡ route_shown point route }
+    {
+        match route {
+            Some(route) => RouteView {
+                point,
+                set: Some(route.set),
+                status: route.status,
+            },
+            None => RouteView {
+                point,
+                set: None,
+                status: RouteStatus::Prohibited,
+            },
+        }
+    }
+}
