@@ -11,3 +11,4 @@ pub mod Ticking
 pub mod Calls
 pub mod Showing
 pub mod Leaving
+pub mod Releasing

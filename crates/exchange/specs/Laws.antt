@@ -1,6 +1,6 @@
 -- What the abstract exchange does whatever the event: laws.
 use Rattle.settings_rows.specs.Configuration.{Configuration}
-use Rattle.std.specs.Prelude.{◌≡◌, ℕ, true, List, Option, Some, None, Result, Ok, Err, if◌then◌else◌}
+use Rattle.std.specs.Prelude.{◌≡◌, ◌≢◌, ◌<◌, ◌&&◌, ◌++◌, ℕ, Bool, true, not, length, filter, List, Option, Some, None, Result, Ok, Err, if◌then◌else◌}
 use Rattle.signalling_types.specs.declared.cause.Cause.{Cause}
 use Rattle.signalling_types.specs.declared.notice.Notice.TheVariants as notices
 use Rattle.signalling_types.specs.declared.notice.FrameFault.{FrameFault}
@@ -12,13 +12,19 @@ use Rattle.link_alignment.specs.declared.action.Action.TheVariants as act
 use Rattle.link_alignment.specs.declared.action.Input.TheVariants.{UserData}
 use Rattle.link_alignment.specs.Table.{action_at}
 use Rattle.link_sequence.specs.Queue.{count_confirmed}
-use Rattle.exchange.specs.State.{Node, with_node, with_parts}
+use Rattle.exchange.specs.State.{Parts, Node, with_node, with_parts}
 use Rattle.exchange.specs.Links.{is_link, link_at, in_service}
 use Rattle.exchange.specs.Noting.{note}
 use Rattle.exchange.specs.Statuses.{step_on}
 use Rattle.exchange.specs.Frames.{Carrying, numbers, accept, data_of}
 use Rattle.exchange.specs.Happening.{Happening, CameUp, WentDown, FrameCame, Ticked, Submitted, Activated, Deactivated}
-use Rattle.exchange.specs.Queues.{WholeQueues, whole}
+use Rattle.signalling_types.specs.Message.{Message, flow_of}
+use Rattle.changeover.specs.Completion.{moved}
+use Rattle.changeover.specs.Failure.{goes_by}
+use Rattle.exchange.specs.Routing.{link_of}
+use Rattle.exchange.specs.Holding.{waits}
+use Rattle.exchange.specs.Releasing.{release}
+use Rattle.exchange.specs.Queues.{WholeQueues, queue_at, whole}
 use Rattle.exchange.specs.Exchange.{outcome_of, after, frame_to_take, taken}
 use Rattle.exchange.specs.Stands.{Abstract, IsSound}
 
@@ -70,3 +76,28 @@ nothing_taken_leaves = (a : Abstract) (link : ℕ) → frame_to_take whole a lin
 abbrev pub queued_in_service : Type 0
 queued_in_service = (what : Happening) (a : Abstract) (link : ℕ) → outcome_of whole what a ≡ Queued link →
     in_service (after whole what a).node.parts link ≡ true
+
+-- ---- changeovers
+
+-- a completion touches the queue of no other link, and in Held each flow has its messages that move before those that
+-- were held
+abbrev pub completion_leaves_others : Type 0
+completion_leaves_others =
+    (qs : WholeQueues) (link : ℕ) (number : Option ℕ) →
+    ((other : ℕ) → other ≢ link → queue_at (whole.completed qs link number) other ≡ queue_at qs other)
+    × ((of_flow : Message → Bool) → filter of_flow (whole.completed qs link number).held
+    ≡ filter of_flow (moved (queue_at qs link) number) ++ filter of_flow qs.held)
+
+-- whether a release sends a message to this link
+abbrev pub goes_on_by : Configuration → Parts → ℕ → Message → Bool
+goes_on_by c p link m = not (waits c p.holds m) && goes_by (link_of c p (flow_of m)) link
+
+-- a release leaves in Held what waits, and puts what goes to a link behind what stands there, each in the order of Held;
+-- so each flow keeps its order
+abbrev pub release_keeps_order : Type 0
+release_keeps_order =
+    (c : Configuration) (node : Node WholeQueues) →
+    ((release whole c node).queues.held ≡ filter (waits c node.parts.holds) node.queues.held)
+    × ((link : ℕ) → link < length node.queues.links →
+    (queue_at (release whole c node).queues link).all
+    ≡ (queue_at node.queues link).all ++ filter (goes_on_by c node.parts link) node.queues.held)

@@ -1,6 +1,7 @@
 //! Laws of the abstract exchange.
 
 ghost use Rattle.exchange.specs.Laws.{refusals_leave, nothing_taken_leaves, queued_in_service};
+ghost use Rattle.exchange.specs.Laws.{completion_leaves_others, release_keeps_order};
 
 /// A refused event changes nothing but the notices; only where a message in a frame is refused, what
 /// accepting that frame did stands.
@@ -16,4 +17,16 @@ pub fn taking_nothing_changes_nothing()
 /// A message is queued only on a link in service.
 pub fn only_links_in_service_are_given_messages()
     ensures { queued_in_service }
+{}
+
+/// A completed changeover touches the queue of no other link. In Held the messages that it moves stand before those that
+/// were held, and each flow keeps its order.
+pub fn completion_leaves_other_links()
+    ensures { completion_leaves_others }
+{}
+
+/// A release leaves in Held what waits, and puts the other messages behind those of their links, each in the order of
+/// Held: each flow keeps its order.
+pub fn release_keeps_the_order_of_each_flow()
+    ensures { release_keeps_order }
 {}
