@@ -1,5 +1,5 @@
--- How a changeover goes on and ends: by an order or an answer of the peer, or by a timer (Q.704 §5.4 to §5.7, with the
--- numbers of Q.2210).
+-- How a changeover goes on and ends: by an order or an answer of the peer, or by a timer (Q.704 §5.4 to §5.7, with
+-- the numbers of Q.2210).
 use Rattle.std.specs.Prelude.{ℕ, Bool, true, false, List, [], ◌∷◌, Option, Some, None, if◌then◌else◌}
 use Rattle.settings_rows.specs.Configuration.{Configuration}
 use Rattle.signalling_types.specs.Message.{Message, flow_of}

@@ -1,6 +1,7 @@
 -- What the abstract exchange does whatever the event: laws.
 use Rattle.settings_rows.specs.Configuration.{Configuration}
-use Rattle.std.specs.Prelude.{◌≡◌, ◌≢◌, ◌<◌, ◌&&◌, ◌++◌, ℕ, Bool, true, not, length, filter, List, Option, Some, None, Result, Ok, Err, if◌then◌else◌}
+use Rattle.std.specs.Prelude.{◌≡◌, ◌≢◌, ◌<◌, ◌&&◌, ◌++◌, ℕ, Bool, true, not, length, filter, List, Option, Some, None}
+use Rattle.std.specs.Prelude.{Result, Ok, Err, if◌then◌else◌}
 use Rattle.signalling_types.specs.declared.cause.Cause.{Cause}
 use Rattle.signalling_types.specs.declared.notice.Notice.TheVariants as notices
 use Rattle.signalling_types.specs.declared.notice.FrameFault.{FrameFault}
@@ -65,7 +66,8 @@ after_refusal (FrameCame link text) cause a =
     else a
 
 abbrev pub refusals_leave : Type 0
-refusals_leave = (what : Happening) (a : Abstract) (cause : Cause) → IsSound a → outcome_of whole what a ≡ Refused cause →
+refusals_leave =
+    (what : Happening) (a : Abstract) (cause : Cause) → IsSound a → outcome_of whole what a ≡ Refused cause →
     after whole what a ≡ after_refusal what cause a
 
 -- a take that gives nothing changes nothing
@@ -79,8 +81,8 @@ queued_in_service = (what : Happening) (a : Abstract) (link : ℕ) → outcome_o
 
 -- ---- changeovers
 
--- a completion touches the queue of no other link, and in Held each flow has its messages that move before those that
--- were held
+-- a completion touches the queue of no other link, and in Held each flow has its messages that move before those
+-- that were held
 abbrev pub completion_leaves_others : Type 0
 completion_leaves_others =
     (qs : WholeQueues) (link : ℕ) (number : Option ℕ) →

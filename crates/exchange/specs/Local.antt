@@ -1,5 +1,6 @@
 -- A message for this point, by its service indicator (Q.704 §14.2.1).
-use Rattle.std.specs.Prelude.{ℕ, Bool, ◌&&◌, nat_eq, is_some, position, if◌then◌else◌, Option, Some, None, Result, Ok, Err}
+use Rattle.std.specs.Prelude.{ℕ, Bool, ◌&&◌, nat_eq, is_some, position, if◌then◌else◌, Option, Some, None}
+use Rattle.std.specs.Prelude.{Result, Ok, Err}
 use Rattle.std.specs.Option.{option_and_then}
 use Rattle.std.specs.List.{list_any}
 use Rattle.signalling_types.specs.Message.{Message, service_indicator, opc_of, is_management}

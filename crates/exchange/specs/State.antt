@@ -27,8 +27,8 @@ pub record Parts : Type 0 where
   -- whether a message may have been lost since the node was booted
   pub lost_any : Bool
 
--- What a completion finds on a link, by the number that its peer gave: whether that names a count, the user messages that
--- are named as lost, and the management messages that are queued anew.
+-- What a completion finds on a link, by the number that its peer gave: whether that names a count, the user messages
+-- that are named as lost, and the management messages that are queued anew.
 pub record Found : Type 0 where
   pub is_reasonable : Bool
   pub lost : List Message

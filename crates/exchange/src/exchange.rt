@@ -119,7 +119,8 @@ impl Exchange {
     /// Hands an event to its handler; then what is held no longer goes on.
     #[inline(always)]
     fn apply(&mut self, event: &Event<'_>) -> Outcome
-        ensures { Ends self.old result self.new (rule.done_by kept self.old.settings (happened event.now) self.old.node) }
+        ensures { Ends self.old result self.new
+            (rule.done_by kept self.old.settings (happened event.now) self.old.node) }
     {
         let outcome = self.handle_event(event);
         self.settle();

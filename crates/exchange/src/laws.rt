@@ -19,8 +19,8 @@ pub fn only_links_in_service_are_given_messages()
     ensures { queued_in_service }
 {}
 
-/// A completed changeover touches the queue of no other link. In Held the messages that it moves stand before those that
-/// were held, and each flow keeps its order.
+/// A completed changeover touches the queue of no other link. In Held the messages that it moves stand before those
+/// that were held, and each flow keeps its order.
 pub fn completion_leaves_other_links()
     ensures { completion_leaves_others }
 {}

@@ -132,7 +132,9 @@ impl Exchange {
         ensures { self.new ≡ with_node self.old (with_parts self.old.node
             (draining.lose_one (slice_get (link_lane self.old.node.queues link) place) self.old.node.parts)) }
     {
-        if let Some(head) = self.head_at(link, place) && !head.is_management {
+        if let Some(head) = self.head_at(link, place)
+            && !head.is_management
+        {
             self.lose(Cause::LostUnconfirmed, &head.label);
         }
     }
@@ -151,7 +153,7 @@ impl Exchange {
     fn splice(&mut self, link: LinkId, number: Option<Number24>)
         requires { link < length self.old.settings.links }
         ensures state { self.new ≡ with_node self.old (record self.old.node {
-            queues = draining.spliced_queues self.old.node.queues link number;
+          queues = draining.spliced_queues self.old.node.queues link number;
         }) }
         ensures anew { link_lane self.new.node.queues link
             ≡ (kept.found self.old.node.queues link number).queued_anew }

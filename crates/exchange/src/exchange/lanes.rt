@@ -68,7 +68,7 @@ impl Exchange {
         requires { link < length self.old.settings.links }
         ensures answer { result ≡ kept.accept_answer self.old.node.queues link fsn bsn carries }
         ensures state { self.new ≡ with_node self.old (record self.old.node {
-            queues = kept.accepted self.old.node.queues link fsn bsn carries;
+          queues = kept.accepted self.old.node.queues link fsn bsn carries;
         }) }
     {
         self.sequences[link.index()].accept(&mut self.lanes, lane_of(link), fsn, bsn, carries)

@@ -16,8 +16,8 @@ use stp_types::{Cause, FailureReason, LinkId, Outcome};
 impl Exchange {
     /// What a link asks of its caller; Nothing where the link isn't there.
     ///
-    /// Open where it is down without an association, the operator lets it open, its changeover is complete and no answer
-    /// to its changeover order is awaited; Close where it is down with an association.
+    /// Open where it is down without an association, the operator lets it open, its changeover is complete and no
+    /// answer to its changeover order is awaited; Close where it is down with an association.
     pub fn wants(&self, link: LinkId) -> Wants
         ensures wants { (a : Abstract) → StandsFor self.now a → result ≡ wants_of a link }
         ensures kept_wants { result ≡ wants_of self.now link }

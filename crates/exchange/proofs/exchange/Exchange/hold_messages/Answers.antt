@@ -13,7 +13,7 @@ use Rattle.exchange.proofs.exchange.Exchange.hold_messages.Goals as goal
 pub loop-place-preserved : goal.loop-place-preserved
 loop-place-preserved c =
     let did = c.hold_message.ensures
-        ∙ ap (λ (s : State KeptQueues). with_holds s (with_head s.settings c.args.link (slice_get (link_lane s.node.queues c.args.link) c.loop-place.place) c.loop-place.self.node.parts.holds)) c.loop-place.invariant.same in
+    ∙ ap (λ (s : State KeptQueues). with_holds s (with_head s.settings c.args.link (slice_get (link_lane s.node.queues c.args.link) c.loop-place.place) c.loop-place.self.node.parts.holds)) c.loop-place.invariant.same in
     let holds = ap (λ (s : State KeptQueues). s.node.parts.holds) did in
     record {
       same = did ∙ ap (λ (t : HoldTable). with_holds c.args.self.now t) (sym holds);

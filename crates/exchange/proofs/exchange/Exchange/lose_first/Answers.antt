@@ -11,7 +11,7 @@ use Rattle.exchange.proofs.exchange.Exchange.lose_first.Goals as goal
 pub loop-place-preserved : goal.loop-place-preserved
 loop-place-preserved c =
     let did = c.lose_at.ensures
-        ∙ ap (λ (s : State KeptQueues). with_node s (with_parts s.node (lose_one (slice_get (link_lane s.node.queues c.args.link) c.loop-place.place) c.loop-place.self.node.parts))) c.loop-place.invariant.same in
+    ∙ ap (λ (s : State KeptQueues). with_node s (with_parts s.node (lose_one (slice_get (link_lane s.node.queues c.args.link) c.loop-place.place) c.loop-place.self.node.parts))) c.loop-place.invariant.same in
     let parts = ap (λ (s : State KeptQueues). s.node.parts) did in
     record {
       same = did ∙ ap (λ (p : Parts). with_node c.args.self.now (with_parts c.args.self.now.node p)) (sym parts);
