@@ -50,6 +50,39 @@ const WITHOUT_NUMBER: &str = "\
 frame e0 01000b010000001700ffffff0000000000800180001012
 ";
 
+/// The second link fails. Point 2 orders it over with the same number, and with others before and after its answer,
+/// whose number isn't that either: what is over by then isn't completed again.
+const OVER_ALREADY: &str = "\
+down e1
+frame e0 01000b010000001a00ffffff0000000000800180001031ffffff
+frame e0 01000b010000001a00ffffff0000000100800180001031000000
+frame e0 01000b010000001a00ffffff0000000200800180001041070000
+frame e0 01000b010000001a00ffffff0000000300800180001031070000
+";
+
+/// The same without an answer, which T2 awaits for six ticks. The message moved, but point 2 is silent.
+const NO_ANSWER: &str = "\
+down e1
+frame e0 01000b010000001a00ffffff0000000000800180001031ffffff
+tick 6
+";
+
+/// What is printed of three lines that are handled.
+const THREE_HANDLED: &str = "\
+handled
+handled
+handled
+";
+
+/// What is printed of five.
+const FIVE_HANDLED: &str = "\
+handled
+handled
+handled
+handled
+handled
+";
+
 /// The second link of the node.
 fn second_link<T: Abort>(rt: &T, alloc: Global) -> LinkDraft {
     LinkDraft {
@@ -87,19 +120,29 @@ fn expect_run<T: Abort>(
     assert_eq!(rt; exchange.lost_any(), lost, "after {script}");
 }
 
-/// Compares whether messages may be lost after an order of point 2, which is handled.
-fn expect_lost<T: Abort>(rt: &T, alloc: Global, order: &str, lost: bool) {
+/// Compares whether messages may be lost after this, which is handled.
+fn expect_lost<T: Abort>(rt: &T, alloc: Global, script: &str, printed: &str, lost: bool) {
     let mut exchange = booted_with_two(rt, alloc);
     expect_run(rt, alloc, &mut exchange, SENT, SENT_PRINTS, false);
-    expect_run(rt, alloc, &mut exchange, order, "handled\n", lost);
+    expect_run(rt, alloc, &mut exchange, script, printed, lost);
 }
 
 #[test]
 fn nothing_lost_by_a_number(rt: HostRuntime) {
-    expect_lost(&rt, rt.alloc(), BY_NUMBER, false);
+    expect_lost(&rt, rt.alloc(), BY_NUMBER, "handled\n", false);
 }
 
 #[test]
 fn lost_without_a_number(rt: HostRuntime) {
-    expect_lost(&rt, rt.alloc(), WITHOUT_NUMBER, true);
+    expect_lost(&rt, rt.alloc(), WITHOUT_NUMBER, "handled\n", true);
+}
+
+#[test]
+fn nothing_lost_by_what_is_over(rt: HostRuntime) {
+    expect_lost(&rt, rt.alloc(), OVER_ALREADY, FIVE_HANDLED, false);
+}
+
+#[test]
+fn lost_without_an_answer(rt: HostRuntime) {
+    expect_lost(&rt, rt.alloc(), NO_ANSWER, THREE_HANDLED, true);
 }
