@@ -146,6 +146,7 @@ impl Peer {
     }
 
     /// A user part of the exchange hands over a message.
+    #[inline(always)]
     pub(crate) fn submit(&mut self, message: MsuRef<'_>)
         requires { length message.sif.now ≤ Limits.SIF_OCTETS }
     {
