@@ -1,13 +1,11 @@
 //! The changeover of a link with many messages on it.
 
-ghost use Rattle.std.specs.Prelude.{◌≤◌, length};
-
 use crate::draft::{INTERNATIONAL, WINDOW, adjacent, own};
 use crate::incoming::Incoming;
 use crate::peer::Peer;
 use link_number::Number24;
 use mgmt_codec::{MANAGEMENT_OCTETS, Management};
-use stp_types::{Limits, MsuRef, Sls};
+use stp_types::Sls;
 
 /// How far the link's way is followed.
 #[derive(Clone, Copy)]
@@ -20,14 +18,12 @@ pub(crate) enum Stage {
     Completion,
 }
 
-/// Messages stand on a link, and a window of them is sent. Where the stage says so the link fails then, and its
-/// changeover ends. Each link of the set is in service before.
-pub(crate) fn change_over(peer: &mut Peer, stage: Stage, message: MsuRef<'_>, count: u32)
-    requires { length message.sif.now ≤ Limits.SIF_OCTETS }
-{
+/// Messages come by the first link of a set, and stand on the last one; a window of them is sent. Where the stage says
+/// so that link fails then, and its changeover ends. Each link of the set is in service before.
+pub(crate) fn change_over(peer: &mut Peer, stage: Stage, mut message: Incoming, count: u32) {
     peer.open_others();
     for _ in 0..count {
-        peer.submit(message);
+        peer.send_by_first(&mut message);
     }
     for _ in 0..WINDOW {
         peer.take();

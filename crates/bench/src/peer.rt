@@ -25,6 +25,8 @@ pub(crate) struct Peer {
     taken: Number24,
     /// The number of the next message that it sends.
     next: Number24,
+    /// The number of the next message that it sends on the first link, where that is another one.
+    next_by_first: Number24,
     /// Its frame without a message.
     empty: Incoming,
     /// The message that a user part of the exchange handed over last.
@@ -57,6 +59,7 @@ impl Peer {
             link,
             taken: Number24::zero().previous(),
             next: Number24::zero(),
+            next_by_first: Number24::zero(),
             empty: Incoming::empty(),
             submitted,
             buffer: [0; BUFFER_OCTETS],
@@ -119,9 +122,10 @@ impl Peer {
         self.exchange.step(&Event::AssociationDown(self.link));
     }
 
-    /// Sends the first message on the first link, where nothing was taken.
+    /// Sends a message on the first link, where nothing was taken.
     pub(crate) fn send_by_first(&mut self, message: &mut Incoming) {
-        let octets = message.numbered(Number24::zero().previous(), Number24::zero());
+        let octets = message.numbered(Number24::zero().previous(), self.next_by_first);
+        self.next_by_first = next(self.next_by_first);
         self.exchange.step(&Event::Frame(LinkId::new(0), octets));
     }
 
@@ -146,7 +150,6 @@ impl Peer {
     }
 
     /// A user part of the exchange hands over a message.
-    #[inline(always)]
     pub(crate) fn submit(&mut self, message: MsuRef<'_>)
         requires { length message.sif.now ≤ Limits.SIF_OCTETS }
     {

@@ -42,7 +42,7 @@ pub(crate) fn carry(peer: &mut Peer, arguments: &Arguments)
         Kind::Local => local(peer, sif, arguments.count),
         Kind::Acknowledgement => acknowledge(peer, arguments.count),
         Kind::Standing(stage) => {
-            let message = MsuRef { sio: SIO, sif };
+            let message = Incoming::with_message(SIO, sif);
             change_over(peer, stage, message, arguments.count);
         }
     }
