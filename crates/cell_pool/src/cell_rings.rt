@@ -72,6 +72,7 @@ impl CellRings {
     }
 
     /// Puts a free number at the end of a ring.
+    #[inline(always)]
     pub(crate) fn claim(&mut self, ring: usize) -> CellNumber
         requires ring { ring < length self.old.rings }
         requires room { sum_by length self.old.rings < self.old.total }
@@ -103,6 +104,7 @@ impl CellRings {
     }
 
     /// Moves the first number of a ring, where there is one, to the end of a ring, also of its own.
+    #[inline(never)]
     pub(crate) fn move_first(&mut self, from: usize, to: usize)
         requires from { from < length self.old.rings }
         requires to { to < length self.old.rings }

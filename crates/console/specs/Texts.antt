@@ -79,7 +79,7 @@ lost_text cause point sls = codes "lost " ++ cause_text cause ++ codes " " ++ de
 abbrev pub unsent_text : Cause → (point : ℕ) → List ℕ
 unsent_text cause point = codes "unsent " ++ cause_text cause ++ codes " " ++ decimal point
 
--- a changeover of this link ended by its timer
+-- T1 or T2 of this link's changeover ran out
 abbrev pub expired_text : (name : List ℕ) → ChangeoverTimer → List ℕ
 expired_text name T1 = codes "expired T1 " ++ name
 expired_text name T2 = codes "expired T2 " ++ name

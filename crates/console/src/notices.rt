@@ -107,7 +107,7 @@ fn write_unsent(cause: Cause, point: PointCode, out: &mut ArrayString<LINE_OCTET
     push_number(out, " ", u64::from(point.code()));
 }
 
-/// A changeover of the link of this name ended by its timer.
+/// T1 or T2 of the changeover of the link of this name ran out.
 fn write_expired(name: &str, timer: ChangeoverTimer, out: &mut ArrayString<LINE_OCTETS>)
     requires { length name.now ≤ Limits.NAME_OCTETS }
     ensures { out.new.bytes ≡ expired_text name.now timer }

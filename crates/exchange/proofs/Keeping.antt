@@ -50,9 +50,9 @@ use Rattle.exchange.specs.Suspending.{suspended}
 use Rattle.exchange.specs.Local.{is_user, is_adjacent, link_with_code, test_answer, local, do_order, do_acknowledgement, do_read, do_kind, do_test, manage, hand_over}
 use Rattle.exchange.specs.Messages.{whither_goes, deliver_to, deliver, submit_to}
 use Rattle.exchange.specs.Opening.{may_open, begun, open_link, associate, bring_down, part, dissociate, allowed, allow, activate, deactivate, without_association}
-use Rattle.exchange.specs.Failing.{fall, order_about, standing_of, with_changeover, has_other, changing, drop_out, begin, change_over, fail, follow, fail_by_peer}
-use Rattle.exchange.specs.ChangingOver.{concluded, answer_about, expired, heard, send_each, conclude, complete_if, heed, complete_by_order, tell, order, acknowledge, expire}
-use Rattle.exchange.specs.Releasing.{go_on, go_by, go, go_each, release, settled}
+use Rattle.exchange.specs.Failing.{fall, order_about, changeover_of, with_changeover, has_other, changing, drop_out, begin, change_over, fail, follow, fail_by_peer}
+use Rattle.exchange.specs.ChangingOver.{concluded, answer_about, with_expiry, heard, send_each, conclude, complete_if, heed, complete_by_order, tell, order, acknowledge, expire}
+use Rattle.exchange.specs.Releasing.{go_on, go_by, go, go_each, release, released}
 use Rattle.exchange.specs.Statuses.{step_on, end_busy, serve_status, step_by_status, act_by_status, hear, act_by_timer, run_out}
 use Rattle.exchange.specs.Ticking.{with_timers, run_timer, run_due, run_next, run_times, tick}
 use Rattle.exchange.specs.Frames.{Carrying, carries, owing, timed_parts, numbers, accept, carry, handle_by, handle, act_by_data, take_in, receive_frame, leave_aside, read, receive}
@@ -134,9 +134,9 @@ module _ {P Q : Type 0} (p : QueueKind P) (q : QueueKind Q) (h : P → Q) (IsFit
 
   -- a release behind a rule
   behind_done : (s : Done P) (t : Done Q) → t ≡ record { outcome = s.outcome; left = keep h s.left }
-      → KeepsNode (release q c (keep h s.left)) (release p c s.left) → Keeps (settled q c t) (settled p c s)
+      → KeepsNode (release q c (keep h s.left)) (release p c s.left) → Keeps (released q c t) (released p c s)
   behind_done s t e r = record {
-    same = ap (λ (d : Done Q). settled q c d) e ∙ ap (λ (n : Node Q). record { outcome = s.outcome; left = n }) r.same;
+    same = ap (λ (d : Done Q). released q c d) e ∙ ap (λ (n : Node Q). record { outcome = s.outcome; left = n }) r.same;
     fit = r.fit;
   }
 
@@ -264,7 +264,7 @@ module _ {P Q : Type 0} (p : QueueKind P) (q : QueueKind Q) (h : P → Q) (IsFit
   complete_by_order-kept : (l : ℕ) (number : Option ℕ) (n : Node P) → IsFit n.queues
       → KeepsNode (complete_by_order q c l number (keep h n)) (complete_by_order p c l number n)
   complete_by_order-kept l number n f =
-      complete_if-kept (standing_of n.parts l).incomplete l number (with_parts n (with_changeover l (completed (standing_of n.parts l)) n.parts)) f
+      complete_if-kept (changeover_of n.parts l).incomplete l number (with_parts n (with_changeover l (completed (changeover_of n.parts l)) n.parts)) f
 
   order-kept : (l : ℕ) (number : Option ℕ) (n : Node P) → IsFit n.queues → Keeps (order q c l number (keep h n)) (order p c l number n)
   order-kept l number n f =
@@ -277,15 +277,15 @@ module _ {P Q : Type 0} (p : QueueKind P) (q : QueueKind Q) (h : P → Q) (IsFit
 
   acknowledge-kept : (l : ℕ) (number : Option ℕ) (n : Node P) → IsFit n.queues → Keeps (acknowledge q c l number (keep h n)) (acknowledge p c l number n)
   acknowledge-kept l number n f =
-      let one : Node P = complete_if p c (standing_of n.parts l).incomplete l number (with_parts n (heard l n.parts)) in
-      either (standing_of n.parts l).awaited _ _ (answer Handled one) (answer Ignored n)
-      (answered _ _ _ (complete_if-kept (standing_of n.parts l).incomplete l number (with_parts n (heard l n.parts)) f)) (parted _ n.parts n.queues f)
+      let one : Node P = complete_if p c (changeover_of n.parts l).incomplete l number (with_parts n (heard l n.parts)) in
+      either (changeover_of n.parts l).awaited _ _ (answer Handled one) (answer Ignored n)
+      (answered _ _ _ (complete_if-kept (changeover_of n.parts l).incomplete l number (with_parts n (heard l n.parts)) f)) (parted _ n.parts n.queues f)
 
   expire-kept : (t : ChangeoverTimer) (l : ℕ) (n : Node P) → IsFit n.queues → KeepsNode (expire q c t l (keep h n)) (expire p c t l n)
   expire-kept t l n f =
-      let one : Node P = complete_if p c (standing_of n.parts l).incomplete l None (with_parts n (expired t l n.parts)) in
+      let one : Node P = complete_if p c (changeover_of n.parts l).incomplete l None (with_parts n (with_expiry t l n.parts)) in
       either_node (is_link n.parts l) _ _ one n
-      (complete_if-kept (standing_of n.parts l).incomplete l None (with_parts n (expired t l n.parts)) f) (record { same = refl; fit = f })
+      (complete_if-kept (changeover_of n.parts l).incomplete l None (with_parts n (with_expiry t l n.parts)) f) (record { same = refl; fit = f })
 
   -- ---- messages for this point
 
@@ -349,10 +349,10 @@ module _ {P Q : Type 0} (p : QueueKind P) (q : QueueKind Q) (h : P → Q) (IsFit
   associate-kept : (l : ℕ) (n : Node P) → IsFit n.queues → Keeps (associate q c l (keep h n)) (associate p c l n)
   associate-kept l n f =
       let opened : Done P = answer Handled (open_link p c l n) in
-      let restarted : Done P = if may_restart (standing_of n.parts l) then opened else refuse causes.ChangeoverPending n in
+      let restarted : Done P = if may_restart (changeover_of n.parts l) then opened else refuse causes.ChangeoverPending n in
       either (is_link n.parts l) _ _ (if may_open (link_at n.parts l) then restarted else refuse causes.LinkNotReady n) (refuse causes.NoSuchName n)
       (either (may_open (link_at n.parts l)) _ _ restarted (refuse causes.LinkNotReady n)
-      (either (may_restart (standing_of n.parts l)) _ _ opened (refuse causes.ChangeoverPending n)
+      (either (may_restart (changeover_of n.parts l)) _ _ opened (refuse causes.ChangeoverPending n)
       (answered _ _ _ (changed _ _ (begun c l n.parts) (k.started n.queues l f))) (parted _ n.parts n.queues f))
       (parted _ n.parts n.queues f))
       (parted _ n.parts n.queues f)

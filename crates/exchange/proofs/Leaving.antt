@@ -50,8 +50,8 @@ use Rattle.exchange.specs.Happening.{CameUp, WentDown, FrameCame, Ticked, Submit
 use Rattle.exchange.specs.Queues.{WholeQueues, whole}
 use Rattle.exchange.specs.Holding.{waits, all_wait}
 use Rattle.exchange.specs.ChangingOver.{order, acknowledge, complete_if, heard, heed, complete_by_order, tell}
-use Rattle.exchange.specs.Releasing.{go_on, go_by, go, go_each, release, settled}
-use Rattle.exchange.specs.Failing.{standing_of}
+use Rattle.exchange.specs.Releasing.{go_on, go_by, go, go_each, release, released}
+use Rattle.exchange.specs.Failing.{changeover_of}
 use Rattle.changeover.specs.Standing.{may_restart}
 use Rattle.exchange.proofs.Settling.{nothing_released}
 use Rattle.exchange.specs.Exchange.{done_by}
@@ -137,8 +137,8 @@ module _ (c : Configuration) where
 
   acknowledge-leaves : (link : ℕ) (number : Option ℕ) (n : Node WholeQueues) → Leaves (acknowledge whole c link number n) n
   acknowledge-leaves link number n =
-      let done : Node WholeQueues = complete_if whole c (standing_of n.parts link).incomplete link number (with_parts n (heard link n.parts)) in
-      either (standing_of n.parts link).awaited (answer Handled done) (answer Ignored n) n (handled n done) (ignored n n)
+      let done : Node WholeQueues = complete_if whole c (changeover_of n.parts link).incomplete link number (with_parts n (heard link n.parts)) in
+      either (changeover_of n.parts link).awaited (answer Handled done) (answer Ignored n) n (handled n done) (ignored n n)
 
   do_acknowledgement-leaves : (link : Option ℕ) (number : Option ℕ) (n : Node WholeQueues) → Leaves (do_acknowledgement whole c link number n) n
   do_acknowledgement-leaves (Some link) number n = acknowledge-leaves link number n
@@ -269,8 +269,8 @@ release-serves : (c : Configuration) (n : Node WholeQueues) (l : ℕ) → in_ser
 release-serves c n l = go_each-serves c n.queues.held (record n { queues = whole.without_held n.queues }) l
 
 -- where each message of Held waits, a refusal leaves what it left before the release
-settled-left : (c : Configuration) (d : Done WholeQueues) (n : Node WholeQueues) → d.left ≡ n → all_wait c n.parts.holds n.queues.held ≡ true → (settled whole c d).left ≡ n
-settled-left c d n e w = ap (λ (m : Node WholeQueues). release whole c m) e ∙ nothing_released c n w
+released-left : (c : Configuration) (d : Done WholeQueues) (n : Node WholeQueues) → d.left ≡ n → all_wait c n.parts.holds n.queues.held ≡ true → (released whole c d).left ≡ n
+released-left c d n e w = ap (λ (m : Node WholeQueues). release whole c m) e ∙ nothing_released c n w
 
 -- accepting a frame changes neither Held nor the holds
 accept-waits : (c : Configuration) (link : ℕ) (d : Carrying) (m : Option Message) (confirmed : ℕ) (n : Node WholeQueues) → d.message ≡ m
@@ -299,10 +299,10 @@ accept_text-waits link (Err fault) a w = w
 received_left : (t : Bool) (d : Done WholeQueues) (n : Node WholeQueues) (link : ℕ) (a : Abstract) (cause : Cause) → Notes a.settings d n link
     → all_wait a.settings n.parts.holds n.queues.held ≡ true → all_wait a.settings a.node.parts.holds a.node.queues.held ≡ true
     → (if t then d else refuse causes.NoSuchName a.node).outcome ≡ Refused cause
-    → with_node a (settled whole a.settings (if t then d else refuse causes.NoSuchName a.node)).left
+    → with_node a (released whole a.settings (if t then d else refuse causes.NoSuchName a.node)).left
     ≡ (if t then with_node a (with_parts n (note (notices.Refused cause link) n.parts)) else a)
 received_left true d n link a cause f w v e =
-    ap (λ (m : Node WholeQueues). with_node a m) (settled-left a.settings d (with_parts n (note (notices.Refused cause link) n.parts)) (f.left cause e) w)
+    ap (λ (m : Node WholeQueues). with_node a m) (released-left a.settings d (with_parts n (note (notices.Refused cause link) n.parts)) (f.left cause e) w)
 received_left false d n link a cause f w v e = ap (λ (m : Node WholeQueues). with_node a m) (nothing_released a.settings a.node v)
 
 received_served : (t : Bool) (d : Done WholeQueues) (n : Node WholeQueues) (link : ℕ) (a : Abstract) (l : ℕ) → Notes a.settings d n link
@@ -317,10 +317,10 @@ module _ (c : Configuration) where
   associate-leaves : (link : ℕ) (n : Node WholeQueues) → Leaves (associate whole c link n) n
   associate-leaves link n =
       let opened : Done WholeQueues = answer Handled (open_link whole c link n) in
-      let restarted : Done WholeQueues = if may_restart (standing_of n.parts link) then opened else refuse causes.ChangeoverPending n in
+      let restarted : Done WholeQueues = if may_restart (changeover_of n.parts link) then opened else refuse causes.ChangeoverPending n in
       either (is_link n.parts link) (if may_open (link_at n.parts link) then restarted else refuse causes.LinkNotReady n) (refuse causes.NoSuchName n) n
       (either (may_open (link_at n.parts link)) restarted (refuse causes.LinkNotReady n) n
-      (either (may_restart (standing_of n.parts link)) opened (refuse causes.ChangeoverPending n) n (handled n _) (refused _ n)) (refused _ n))
+      (either (may_restart (changeover_of n.parts link)) opened (refuse causes.ChangeoverPending n) n (handled n _) (refused _ n)) (refused _ n))
       (refused _ n)
 
   dissociate-leaves : (link : ℕ) (n : Node WholeQueues) → Leaves (dissociate whole c link n) n
@@ -340,8 +340,8 @@ module _ (c : Configuration) where
 -- ---- the laws
 
 -- what a refusal leaves, with the release behind it
-left-so : (a : Abstract) (d : Done WholeQueues) (cause : Cause) → IsSound a → Leaves d a.node → d.outcome ≡ Refused cause → with_node a (settled whole a.settings d).left ≡ a
-left-so a d cause s f e = ap (λ (m : Node WholeQueues). with_node a m) (settled-left a.settings d a.node (f.left cause e) s.waiting)
+left-so : (a : Abstract) (d : Done WholeQueues) (cause : Cause) → IsSound a → Leaves d a.node → d.outcome ≡ Refused cause → with_node a (released whole a.settings d).left ≡ a
+left-so a d cause s f e = ap (λ (m : Node WholeQueues). with_node a m) (released-left a.settings d a.node (f.left cause e) s.waiting)
 
 pub refused_leaves : refusals_leave
 unfolding done_by
@@ -357,10 +357,10 @@ refused_leaves (FrameCame link text) a cause s e =
     (accept_text-waits link (read_frame text) a s.waiting) s.waiting e
 
 -- a link that a rule leaves in service is so after the release
-still : (a : Abstract) (d : Done WholeQueues) (l : ℕ) → in_service d.left.parts l ≡ true → in_service (settled whole a.settings d).left.parts l ≡ true
+still : (a : Abstract) (d : Done WholeQueues) (l : ℕ) → in_service d.left.parts l ≡ true → in_service (released whole a.settings d).left.parts l ≡ true
 still a d l e = release-serves a.settings d.left l ∙ e
 
-served-so : (a : Abstract) (d : Done WholeQueues) (l : ℕ) → Leaves d a.node → d.outcome ≡ Queued l → in_service (settled whole a.settings d).left.parts l ≡ true
+served-so : (a : Abstract) (d : Done WholeQueues) (l : ℕ) → Leaves d a.node → d.outcome ≡ Queued l → in_service (released whole a.settings d).left.parts l ≡ true
 served-so a d l f e = still a d l (f.served l e)
 
 pub queued_served : queued_in_service

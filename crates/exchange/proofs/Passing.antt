@@ -14,7 +14,7 @@ use Rattle.changeover.specs.Completion.{users_of}
 use Rattle.changeover.specs.Kept.{kept_doubted, kept_accepted_count, kept_in_doubt, kept_queued_anew}
 use Rattle.exchange.specs.Noting.{flagged}
 use Rattle.exchange.specs.Queues.{KeptQueues, kept, counts_at, link_lane}
-use Rattle.exchange.specs.ChangingOver.{lose, lose_each, doubted}
+use Rattle.exchange.specs.ChangingOver.{lose, lose_each, with_losses}
 use Rattle.exchange.specs.Draining.{lose_one, lose_users, lose_first}
 
 abbrev get_some : Option ℕ → ℕ
@@ -65,16 +65,16 @@ lose_users-each : (ms : List Message) (p : Parts) → lose_users ms p ≡ lose_e
 lose_users-each [] p = refl
 lose_users-each (m ∷ ms) p = lose_users-each ms (lose_one (Some m) p) ∙ users-lost (is_management m) m ms p refl
 
-doubted-by : (o : Option ℕ) (k : Counts) (lane : List Message) (anew : List Message) (count : ℕ) (p : Parts) → kept_doubted k o ≡ Some count
-    → flagged (lose_first count lane p) ≡ doubted (record { is_reasonable = is_some o; lost = users_of (kept_in_doubt k lane o); queued_anew = anew }) p
-doubted-by (Some n) k lane anew count p e = absurd cc
-doubted-by None k lane anew count p e =
+with_losses-by : (o : Option ℕ) (k : Counts) (lane : List Message) (anew : List Message) (count : ℕ) (p : Parts) → kept_doubted k o ≡ Some count
+    → flagged (lose_first count lane p) ≡ with_losses (record { is_reasonable = is_some o; lost = users_of (kept_in_doubt k lane o); queued_anew = anew }) p
+with_losses-by (Some n) k lane anew count p e = absurd cc
+with_losses-by None k lane anew count p e =
     let many : k.outstanding ≡ count = ap (λ (o : Option ℕ). get_some o) e in
     ap (λ (n : ℕ). flagged (lose_first n lane p)) (sym many)
     ∙ ap (λ (x : Parts). flagged x) (lose_users-each (take k.outstanding lane) p)
 
 pub doubtful : (k : KeptQueues) (link : ℕ) (number : Option ℕ) (count : ℕ) (p : Parts)
     → kept_doubted (counts_at k.counts link) (kept_accepted_count (counts_at k.counts link) number) ≡ Some count
-    → flagged (lose_first count (link_lane k link) p) ≡ doubted (kept.found k link number) p
+    → flagged (lose_first count (link_lane k link) p) ≡ with_losses (kept.found k link number) p
 doubtful k link number count p e =
-    doubted-by (kept_accepted_count (counts_at k.counts link) number) (counts_at k.counts link) (link_lane k link) (kept_queued_anew (counts_at k.counts link) (link_lane k link) number) count p e
+    with_losses-by (kept_accepted_count (counts_at k.counts link) number) (counts_at k.counts link) (link_lane k link) (kept_queued_anew (counts_at k.counts link) (link_lane k link) number) count p e

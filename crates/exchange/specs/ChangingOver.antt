@@ -20,7 +20,7 @@ use Rattle.exchange.specs.State.{QueueKind, Parts, Node, Done, Found, with_parts
 use Rattle.exchange.specs.Links.{is_link, down}
 use Rattle.exchange.specs.Noting.{note, flagged}
 use Rattle.exchange.specs.Made.{management_to, send_routed, send_anew}
-use Rattle.exchange.specs.Failing.{entry_of, peer_of, standing_of, with_changeover, fail_by_peer}
+use Rattle.exchange.specs.Failing.{entry_of, peer_of, changeover_of, with_changeover, fail_by_peer}
 
 -- a user message is lost: that is noted
 abbrev pub lose : Cause → Message → Parts → Parts
@@ -39,13 +39,13 @@ judged false p = flagged p
 abbrev pub lifted_parts : ℕ → Parts → Parts
 lifted_parts link p = record p { holds = lifted p.holds (Changeover link); timers = clear_timer (T1 link) p.timers }
 
--- what is lost is noted
-abbrev pub doubted : Found → Parts → Parts
-doubted found p = judged found.is_reasonable (lose_each found.lost p)
+-- what a completion loses is noted
+abbrev pub with_losses : Found → Parts → Parts
+with_losses found p = judged found.is_reasonable (lose_each found.lost p)
 
 -- the parts when a completion has found this
 abbrev pub concluded : ℕ → Found → Parts → Parts
-concluded link found p = lifted_parts link (doubted found p)
+concluded link found p = lifted_parts link (with_losses found p)
 
 -- the answer about a link, with the number of the last message that was accepted on it
 abbrev pub answer_about : Configuration → ℕ → ℕ → Message
@@ -58,16 +58,16 @@ flagged_by timer.T1 p = p
 flagged_by timer.T2 p = flagged p
 
 -- a timer of the changeover ran out: that is noted
-abbrev pub expired : ChangeoverTimer → ℕ → Parts → Parts
-expired which link p =
+abbrev pub with_expiry : ChangeoverTimer → ℕ → Parts → Parts
+with_expiry which link p =
     flagged_by which
-    (with_changeover link (standing.expired which (standing_of p link)) (note (notices.Expired which link) p))
+    (with_changeover link (standing.expired which (changeover_of p link)) (note (notices.Expired which link) p))
 
 -- the answer came: T2 stops
 abbrev pub heard : ℕ → Parts → Parts
 heard link p =
     record p {
-      changeovers = (with_changeover link (answered (standing_of p link)) p).changeovers;
+      changeovers = (with_changeover link (answered (changeover_of p link)) p).changeovers;
       timers = clear_timer (T2 link) p.timers;
     }
 
@@ -95,8 +95,8 @@ module _ {Q : Type 0} (q : QueueKind Q) (c : Configuration) where
   -- the changeover of a link is completed, by the number in the peer's order
   abbrev pub complete_by_order : ℕ → Option ℕ → Node Q → Node Q
   complete_by_order link number node =
-      complete_if (standing_of node.parts link).incomplete link number
-      (with_parts node (with_changeover link (completed (standing_of node.parts link)) node.parts))
+      complete_if (changeover_of node.parts link).incomplete link number
+      (with_parts node (with_changeover link (completed (changeover_of node.parts link)) node.parts))
 
   -- the peer is told what was accepted on the link
   abbrev pub tell : ℕ → Node Q → Node Q
@@ -109,8 +109,8 @@ module _ {Q : Type 0} (q : QueueKind Q) (c : Configuration) where
   -- the peer answers an order
   abbrev pub acknowledge : ℕ → Option ℕ → Node Q → Done Q
   acknowledge link number node =
-      if (standing_of node.parts link).awaited
-      then answer Handled (complete_if (standing_of node.parts link).incomplete link number
+      if (changeover_of node.parts link).awaited
+      then answer Handled (complete_if (changeover_of node.parts link).incomplete link number
       (with_parts node (heard link node.parts)))
       else answer Ignored node
 
@@ -118,6 +118,6 @@ module _ {Q : Type 0} (q : QueueKind Q) (c : Configuration) where
   abbrev pub expire : ChangeoverTimer → ℕ → Node Q → Node Q
   expire timer link node =
       if is_link node.parts link
-      then complete_if (standing_of node.parts link).incomplete link None
-      (with_parts node (expired timer link node.parts))
+      then complete_if (changeover_of node.parts link).incomplete link None
+      (with_parts node (with_expiry timer link node.parts))
       else node

@@ -11,7 +11,7 @@ use Rattle.exchange.specs.Opening.{associate, dissociate, activate, deactivate, 
 use Rattle.exchange.specs.Ticking.{tick}
 use Rattle.exchange.specs.Frames.{receive}
 use Rattle.exchange.specs.Messages.{submit}
-use Rattle.exchange.specs.Releasing.{settled}
+use Rattle.exchange.specs.Releasing.{released}
 use Rattle.exchange.specs.Sending.{frame_taken, after_take}
 
 -- each event has its rule
@@ -26,7 +26,7 @@ apply q c (Deactivated link) node = deactivate q c link node
 
 -- then what is held no longer goes on
 unfoldable pub done_by : {Q : Type 0} → QueueKind Q → Configuration → Happening → Node Q → Done Q
-done_by q c what node = settled q c (apply q c what node)
+done_by q c what node = released q c (apply q c what node)
 
 -- what becomes of an event
 abbrev pub outcome_of : {Q : Type 0} → QueueKind Q → Happening → State Q → Outcome

@@ -36,8 +36,8 @@ abbrev pub order_about : Configuration → ℕ → ℕ → Message
 order_about c link number = management_to c (peer_of c link) (ExtendedChangeoverOrder (entry_of c link).slc number)
 
 -- how far the changeover of a link is
-abbrev pub standing_of : Parts → ℕ → Standing
-standing_of p link = standing_at p.changeovers link
+abbrev pub changeover_of : Parts → ℕ → Standing
+changeover_of p link = standing_at p.changeovers link
 
 abbrev pub with_changeover : ℕ → Standing → Parts → Parts
 with_changeover link standing p = record p { changeovers = with_standing p.changeovers link standing }
@@ -56,7 +56,7 @@ timed_changeover c ordered link r =
 -- its changeover isn't complete, and where an order goes out, the answer is awaited
 abbrev pub changing : Configuration → (ordered : Bool) → ℕ → Parts → Parts
 changing c ordered link p = record p {
-  changeovers = with_standing p.changeovers link (failed ordered (standing_of p link));
+  changeovers = with_standing p.changeovers link (failed ordered (changeover_of p link));
   timers = timed_changeover c ordered link p.timers;
 }
 
@@ -87,7 +87,7 @@ module _ {Q : Type 0} (q : QueueKind Q) (c : Configuration) where
   -- its changeover isn't complete, and no order goes out
   abbrev pub follow : (served : Bool) → ℕ → Node Q → Node Q
   follow true link node =
-      with_parts node (with_changeover link (begun_by_peer (standing_of node.parts link)) node.parts)
+      with_parts node (with_changeover link (begun_by_peer (changeover_of node.parts link)) node.parts)
   follow false link node = node
 
   -- a link fails since its peer tells so

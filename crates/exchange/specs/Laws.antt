@@ -81,8 +81,8 @@ queued_in_service = (what : Happening) (a : Abstract) (link : ℕ) → outcome_o
 
 -- ---- changeovers
 
--- a completion touches the queue of no other link, and in Held each flow has its messages that move before those
--- that were held
+-- the move of a completion touches the queue of no other link, and in Held each flow has its messages that move before
+-- those that were held
 abbrev pub completion_leaves_others : Type 0
 completion_leaves_others =
     (qs : WholeQueues) (link : ℕ) (number : Option ℕ) →
@@ -94,8 +94,8 @@ completion_leaves_others =
 abbrev pub goes_on_by : Configuration → Parts → ℕ → Message → Bool
 goes_on_by c p link m = not (waits c p.holds m) && goes_by (link_of c p (flow_of m)) link
 
--- a release leaves in Held what waits, and puts what goes to a link behind what stands there, each in the order of Held;
--- so each flow keeps its order
+-- a release leaves in Held what waits, and puts what goes to a link behind what stands there, each in the order of
+-- Held; so each flow keeps its order
 abbrev pub release_keeps_order : Type 0
 release_keeps_order =
     (c : Configuration) (node : Node WholeQueues) →

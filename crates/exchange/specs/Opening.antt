@@ -15,7 +15,7 @@ use Rattle.node_links.specs.LinkState.{is_down, opened}
 use Rattle.exchange.specs.Links.{is_link, link_at, links_with, with_link, down}
 use Rattle.exchange.specs.Timing.{timed}
 use Rattle.changeover.specs.Standing.{may_restart}
-use Rattle.exchange.specs.Failing.{standing_of, fail}
+use Rattle.exchange.specs.Failing.{changeover_of, fail}
 
 -- a link opens where it has no association yet, and the operator lets it
 abbrev pub may_open : Link → Bool
@@ -32,7 +32,7 @@ wanted_by restarts l = if is_down l.alignment then wanted_down restarts l else N
 
 abbrev pub wanted : Parts → ℕ → Wants
 wanted p link =
-    if is_link p link then wanted_by (may_restart (standing_of p link)) (link_at p link) else Nothing
+    if is_link p link then wanted_by (may_restart (changeover_of p link)) (link_at p link) else Nothing
 
 -- a link whose association is gone
 abbrev pub without_association : ℕ → Parts → Parts
@@ -58,7 +58,7 @@ module _ {Q : Type 0} (q : QueueKind Q) (c : Configuration) where
   associate link node =
       if is_link node.parts link
       then (if may_open (link_at node.parts link)
-      then (if may_restart (standing_of node.parts link)
+      then (if may_restart (changeover_of node.parts link)
       then answer Handled (open_link link node)
       else refuse ChangeoverPending node)
       else refuse LinkNotReady node)

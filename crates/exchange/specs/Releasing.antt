@@ -33,5 +33,5 @@ module _ {Q : Type 0} (q : QueueKind Q) (c : Configuration) where
       go_each (q.held node.queues) (record node { queues = q.without_held node.queues })
 
   -- the end of each event
-  abbrev pub settled : Done Q → Done Q
-  settled d = record d { left = release d.left }
+  abbrev pub released : Done Q → Done Q
+  released d = record d { left = release d.left }

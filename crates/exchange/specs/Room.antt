@@ -26,8 +26,8 @@ kept_in e = record {
 }
 
 -- Held and each link have their list, each link its numbers, its state and its changeover, and links and sets are those
--- of the settings; the pool and the notices have the room that they are to have; unless a release is due, each message of
--- Held waits
+-- of the settings; the pool and the notices have the room that they are to have; unless a release is due, each message
+-- of Held waits
 pub record HasRoom (e : Inside) : Type 0 where
   pub lanes : length e.lanes.lists ≡ length e.links.links + 1
   pub sequences : vec_len e.sequences ≡ length e.links.links

@@ -19,8 +19,9 @@ pub fn only_links_in_service_are_given_messages()
     ensures { queued_in_service }
 {}
 
-/// A completed changeover touches the queue of no other link. In Held the messages that it moves stand before those
-/// that were held, and each flow keeps its order.
+/// The move of a completed changeover touches the queue of no other link; only the management messages that are queued
+/// anew come behind it. In Held the messages that it moves stand before those that were held, and each flow keeps its
+/// order.
 pub fn completion_leaves_other_links()
     ensures { completion_leaves_others }
 {}

@@ -5,6 +5,7 @@ mod calls;
 mod checked_settings;
 mod lines;
 mod long_lines;
+mod lost;
 mod program;
 mod statuses;
 mod streams;

@@ -105,6 +105,7 @@ impl Msu {
     }
 
     /// Becomes a copy of a lent message, in place.
+    #[inline(always)]
     pub fn refill(&mut self, message: MsuRef<'_>)
         requires { length message.sif.now ≤ Limits.SIF_OCTETS }
         ensures { self.new ≡ lent message.entry }

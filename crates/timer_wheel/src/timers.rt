@@ -58,6 +58,7 @@ impl Timers {
     /// starts anew, and forgets its old moment. A name of a link, set or destination that the node doesn't have is
     /// left aside.
     #[tactic(auto, unfolding(crate::specs::Timers::set_timer))]
+    #[inline(always)]
     pub fn set(&mut self, name: TimerName, ticks: u16)
         ensures { self.new ≡ set_timer name ticks self.old }
     {

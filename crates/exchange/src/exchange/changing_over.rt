@@ -98,7 +98,7 @@ impl Exchange {
     fn lose_doubtful(&mut self, link: LinkId, number: &Option<Number24>)
         requires { link < length self.old.settings.links }
         ensures { self.new ≡ with_node self.old (with_parts self.old.node
-            (rule.doubted (kept.found self.old.node.queues link number.now) self.old.node.parts)) }
+            (rule.with_losses (kept.found self.old.node.queues link number.now) self.old.node.parts)) }
     {
         if let Some(count) = self.in_doubt(link, number) {
             self.lose_first(link, count);

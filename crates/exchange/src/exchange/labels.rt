@@ -17,11 +17,14 @@ use stp_types::{LinkId, Msu};
 /// What is read of a message that stands in a list: its label, and whether it is a management message.
 #[derive(Clone, Copy)]
 pub(super) struct Head {
+    /// Where it goes, where it comes from, and how it chooses its link.
     pub(super) label: Label,
+    /// Whether it is a management or test message.
     pub(super) is_management: bool,
 }
 
 impl Head {
+    /// What is read of this message.
     fn of(message: &Msu) -> Head
         ensures { result ≡ head_of message.now }
     {

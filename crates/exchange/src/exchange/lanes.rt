@@ -42,6 +42,7 @@ impl Exchange {
     }
 
     /// Puts a message whose flow has a hold at the end of Held; refused where there is no room for it.
+    #[inline(never)]
     pub(super) fn hold(&mut self, message: MsuRef<'_>) -> Result<(), Cause>
         requires fits { length message.sif.now ≤ Limits.SIF_OCTETS }
         requires waits { holding.waits self.old.settings self.old.node.parts.holds (lent message) ≡ true }

@@ -2,7 +2,7 @@
 use Rattle.std.proofs.Common.{◌≡◌, ◌<◌, length, ap, sym, subst, ◌∙◌}
 use Rattle.exchange.specs.State.{State, Found, with_node, with_parts}
 use Rattle.exchange.specs.Queues.{KeptQueues, kept, lane_of, link_lane}
-use Rattle.exchange.specs.ChangingOver.{lifted_parts, doubted}
+use Rattle.exchange.specs.ChangingOver.{lifted_parts, with_losses}
 use Rattle.exchange.specs.Draining.{spliced_queues}
 use Rattle.exchange.proofs.Concluding.{completed-lists, concluding}
 use Rattle.exchange.proofs.exchange.Exchange.conclude.Goals as goal
@@ -14,8 +14,8 @@ returns c =
     let lifts : State KeptQueues → State KeptQueues = λ s. with_node s (with_parts s.node (lifted_parts c.args.link s.node.parts)) in
     let splices : State KeptQueues → State KeptQueues =
     λ s. with_node s (record { queues = spliced_queues s.node.queues c.args.link c.args.number; parts = s.node.parts }) in
-    let lifted : c.lift.new.self ≡ lifts (with_node s0 (with_parts s0.node (doubted found s0.node.parts))) = c.lift.ensures ∙ ap lifts c.lose_doubtful.ensures in
-    let done : c.splice.new.self ≡ splices (lifts (with_node s0 (with_parts s0.node (doubted found s0.node.parts)))) = c.splice.ensures.state ∙ ap splices lifted in
+    let lifted : c.lift.new.self ≡ lifts (with_node s0 (with_parts s0.node (with_losses found s0.node.parts))) = c.lift.ensures ∙ ap lifts c.lose_doubtful.ensures in
+    let done : c.splice.new.self ≡ splices (lifts (with_node s0 (with_parts s0.node (with_losses found s0.node.parts)))) = c.splice.ensures.state ∙ ap splices lifted in
     let queues : c.lift.new.self.node.queues ≡ s0.node.queues = ap (λ (s : State KeptQueues). s.node.queues) lifted in
     let spliced : spliced_queues s0.node.queues c.args.link c.args.number ≡ c.splice.new.self.node.queues = sym (ap (λ (s : State KeptQueues). s.node.queues) done) in
     c.send_each.ensures
