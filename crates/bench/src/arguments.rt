@@ -2,6 +2,7 @@
 
 ghost use Rattle.std.specs.Prelude.{◌≤◌, IfSome};
 
+use crate::changeover::Stage;
 use stp_types::Limits;
 
 /// Octets of a routing label, which each message has (Q.704 §2.2).
@@ -23,6 +24,8 @@ pub(crate) enum Kind {
     Local,
     /// There is none: an empty frame comes.
     Acknowledgement,
+    /// It stands on a link, which may fail then and be changed over.
+    Standing(Stage),
 }
 
 /// What the words behind the program's name ask for.
@@ -31,7 +34,8 @@ pub(crate) struct Arguments {
     pub kind: Kind,
     pub octets: usize,
     pub destinations: usize,
-    /// Links in the settings. One of them carries the messages; the others are down.
+    /// Links in the settings. One of them carries the messages; the others are down, but for those of its set before a
+    /// changeover.
     pub links: usize,
     pub count: u32,
 }
@@ -86,6 +90,9 @@ fn kind_of(name: &str) -> Option<Kind> {
         "submit" => Some(Kind::Submit),
         "local" => Some(Kind::Local),
         "acknowledgement" => Some(Kind::Acknowledgement),
+        "queue" => Some(Kind::Standing(Stage::Queue)),
+        "failure" => Some(Kind::Standing(Stage::Failure)),
+        "changeover" => Some(Kind::Standing(Stage::Completion)),
         _ => None,
     }
 }

@@ -4,13 +4,23 @@ ghost use Rattle.std.specs.Prelude.{◌≤◌};
 
 use crate::arguments::sets_of;
 use std::alloc::{AllocError, Global};
-use stp_types::{DestinationDraft, Draft, Limits, LinkDraft, SetDraft, TimersDraft};
+use stp_types::{DestinationDraft, Draft, Limits, LinkDraft, PointCode, SetDraft, TimersDraft};
 
 /// The node's own point.
 pub(crate) const OWN: u16 = 1;
 
 /// The point at the other end of the first links; further destinations have the numbers after it.
 pub(crate) const ADJACENT: u16 = 2;
+
+/// The node's own point.
+pub(crate) fn own() -> PointCode {
+    PointCode::new(OWN).unwrap()
+}
+
+/// The point at the other end of the first links.
+pub(crate) fn adjacent() -> PointCode {
+    PointCode::new(ADJACENT).unwrap()
+}
 
 /// The network indicator of the international network (Q.704 §14.2.2).
 pub(crate) const INTERNATIONAL: u8 = 2;
@@ -36,7 +46,7 @@ pub(crate) fn draft_with(
         own: OWN as i64,
         network: INTERNATIONAL as i64,
         window: WINDOW as i64,
-        pool: 1000,
+        pool: Limits::POOL as i64,
         users: vec![in alloc; ISUP as i64]?,
         subsystems: Vec::new(alloc),
         timers: timers(),

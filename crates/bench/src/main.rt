@@ -8,6 +8,7 @@
 ghost use Rattle.std.specs.Prelude.{◌≤◌};
 
 mod arguments;
+mod changeover;
 mod draft;
 mod incoming;
 mod peer;
@@ -63,7 +64,8 @@ fn report(rt: &HostRuntime, total: Option<Total>) -> io::Result<ExitCode> {
 /// Says which words are asked for.
 fn refuse(rt: &HostRuntime) -> io::Result<ExitCode> {
     println!(rt;
-        "usage: bench forward|burst|submit|local|acknowledgement OCTETS DESTINATIONS LINKS COUNT"
+        "usage: bench KIND OCTETS DESTINATIONS LINKS COUNT; a KIND is forward, burst, submit, local, acknowledgement, \
+queue, failure or changeover"
     )?;
     Ok(ExitCode::from(1))
 }

@@ -8,10 +8,13 @@ use exchange::{BUFFER_OCTETS, Event, Exchange};
 use link_number::{Number24, next};
 use m2pa_codec::{Frame, LinkStatus, encode};
 use std::alloc::Global;
-use stp_types::{Limits, LinkId, Msu, MsuRef, Settings};
+use stp_types::{Limits, LinkId, Msu, MsuRef, Settings, Sls};
 
 /// What a link tells on its way into service: Alignment, Proving Normal, Ready.
 const STATUSES: usize = 3;
+
+/// How many selections a flow can have (Q.704 §2.2.4).
+const SELECTIONS: u8 = 16;
 
 /// The exchange, and the peer at the other end of its link.
 #[derive(Drop)]
@@ -22,6 +25,8 @@ pub(crate) struct Peer {
     taken: Number24,
     /// The number of the next message that it sends.
     next: Number24,
+    /// The number of the next message that it sends on the first link, where that is another one.
+    next_by_first: Number24,
     /// Its frame without a message.
     empty: Incoming,
     /// The message that a user part of the exchange handed over last.
@@ -46,13 +51,15 @@ impl Peer {
         requires destinations { destinations ≤ Limits.DESTINATIONS }
         requires links { links ≤ Limits.LINKS }
     {
+        let link = last_of_first_set(links);
         let submitted = Msu::new(0, &[]).ok()?;
         let exchange = exchange_with(alloc, destinations, links)?;
         let mut peer = Peer {
             exchange,
-            link: last_of_first_set(links),
+            link,
             taken: Number24::zero().previous(),
             next: Number24::zero(),
+            next_by_first: Number24::zero(),
             empty: Incoming::empty(),
             submitted,
             buffer: [0; BUFFER_OCTETS],
@@ -61,35 +68,71 @@ impl Peer {
                 checksum: 0,
             },
         };
-        peer.open();
+        peer.open(link);
         Some(peer)
     }
 
-    /// Brings the link into service.
-    fn open(&mut self) {
-        self.exchange.step(&Event::AssociationUp(self.link));
-        self.tell(LinkStatus::ProvingNormal);
-        self.tell(LinkStatus::Ready);
+    /// Brings a link into service, before its first message.
+    fn open(&mut self, link: LinkId) {
+        self.exchange.step(&Event::AssociationUp(link));
+        self.tell(link, LinkStatus::ProvingNormal);
+        self.tell(link, LinkStatus::Ready);
         let ticks = self.exchange.settings().timers().l4;
         for _ in 0..ticks {
             self.exchange.step(&Event::Tick);
         }
-        self.take_statuses();
+        self.take_statuses(link);
     }
 
-    /// Sends a link status.
-    fn tell(&mut self, status: LinkStatus) {
-        let bsn = self.taken;
-        let fsn = self.next.previous();
-        let count = encode(&Frame::Status { bsn, fsn, status }, &mut self.buffer);
+    /// Sends a link status, before the first message.
+    fn tell(&mut self, link: LinkId, status: LinkStatus) {
+        let none = Number24::zero().previous();
+        let told = Frame::Status {
+            bsn: none,
+            fsn: none,
+            status,
+        };
+        let count = encode(&told, &mut self.buffer);
         self.exchange
-            .step(&Event::Frame(self.link, &self.buffer[..count]));
+            .step(&Event::Frame(link, &self.buffer[..count]));
     }
 
-    /// Takes what the link tells on its way into service; it doesn't count.
-    fn take_statuses(&mut self) {
+    /// Takes what a link tells on its way into service; it doesn't count.
+    fn take_statuses(&mut self, link: LinkId) {
         for _ in 0..STATUSES {
-            self.exchange.take(self.link, &mut self.buffer);
+            self.exchange.take(link, &mut self.buffer);
+        }
+    }
+
+    /// Brings the links of the set before the one that carries the messages into service.
+    pub(crate) fn open_others(&mut self) {
+        for number in 0..self.link.index() {
+            self.open(LinkId::new(number as u8));
+        }
+    }
+
+    /// The selection whose flows try the link that carries the messages first, where it is the last one of its set.
+    /// That is its signalling link code, too.
+    pub(crate) fn selection(&self) -> Sls {
+        Sls::new(self.link.index() as u8 % SELECTIONS).unwrap()
+    }
+
+    /// The association of the link that carries the messages goes down.
+    pub(crate) fn break_off(&mut self) {
+        self.exchange.step(&Event::AssociationDown(self.link));
+    }
+
+    /// Sends a message on the first link, where nothing was taken.
+    pub(crate) fn send_by_first(&mut self, message: &mut Incoming) {
+        let octets = message.numbered(Number24::zero().previous(), self.next_by_first);
+        self.next_by_first = next(self.next_by_first);
+        self.exchange.step(&Event::Frame(LinkId::new(0), octets));
+    }
+
+    /// Takes a frame from each link of the set before the one that carries the messages, and counts it in.
+    pub(crate) fn take_from_others(&mut self) {
+        for number in 0..self.link.index() {
+            self.take_from(LinkId::new(number as u8));
         }
     }
 
@@ -122,7 +165,13 @@ impl Peer {
 
     /// Takes the next frame, where there is one, and counts it in.
     pub(crate) fn take_frame(&mut self) {
-        if let Some(count) = self.exchange.take(self.link, &mut self.buffer) {
+        self.take_from(self.link);
+    }
+
+    /// Takes the next frame of a link, where there is one, and counts it in.
+    #[inline(always)]
+    fn take_from(&mut self, link: LinkId) {
+        if let Some(count) = self.exchange.take(link, &mut self.buffer) {
             let sum = sum_of(&self.buffer[..count]);
             self.total = Total {
                 frames: self.total.frames.wrapping_add(1),

@@ -3,6 +3,7 @@
 ghost use Rattle.std.specs.Prelude.{◌^◌, ◌<◌, ◌≤◌, length};
 
 use crate::arguments::{Arguments, Kind, LABEL_OCTETS};
+use crate::changeover::change_over;
 use crate::draft::{ADJACENT, INTERNATIONAL, ISUP, OWN, WINDOW};
 use crate::incoming::Incoming;
 use crate::peer::Peer;
@@ -28,7 +29,11 @@ pub(crate) fn carry(peer: &mut Peer, arguments: &Arguments)
         Kind::Local => OWN,
         _ => last,
     };
-    let field = longest_field(ADJACENT, to);
+    let selection = match arguments.kind {
+        Kind::Standing(_) => peer.selection(),
+        _ => Sls::new(0).unwrap(),
+    };
+    let field = longest_field(ADJACENT, to, selection);
     let sif = &field[..arguments.octets];
     match arguments.kind {
         Kind::Forward => forward(peer, sif, arguments.count),
@@ -36,6 +41,10 @@ pub(crate) fn carry(peer: &mut Peer, arguments: &Arguments)
         Kind::Submit => submit(peer, sif, arguments.count),
         Kind::Local => local(peer, sif, arguments.count),
         Kind::Acknowledgement => acknowledge(peer, arguments.count),
+        Kind::Standing(stage) => {
+            let message = Incoming::with_message(SIO, sif);
+            change_over(peer, stage, message, arguments.count);
+        }
     }
 }
 
@@ -97,14 +106,14 @@ fn acknowledge(peer: &mut Peer, count: u32) {
 }
 
 /// The longest signalling information field: a label from one point to another, and octets behind it.
-fn longest_field(from: u16, to: u16) -> [u8; Limits::SIF_OCTETS]
+fn longest_field(from: u16, to: u16, sls: Sls) -> [u8; Limits::SIF_OCTETS]
     requires from { from < 2 ^ 14 }
     requires to { to < 2 ^ 14 }
 {
     let label = Label {
         opc: PointCode::new(from).unwrap(),
         dpc: PointCode::new(to).unwrap(),
-        sls: Sls::new(0).unwrap(),
+        sls,
     };
     let mut octets = [FILLING; Limits::SIF_OCTETS];
     octets[..LABEL_OCTETS].copy_from_slice(&label.write());

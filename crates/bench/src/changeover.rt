@@ -1,0 +1,56 @@
+//! The changeover of a link with many messages on it.
+
+use crate::draft::{INTERNATIONAL, WINDOW, adjacent, own};
+use crate::incoming::Incoming;
+use crate::peer::Peer;
+use link_number::Number24;
+use mgmt_codec::{MANAGEMENT_OCTETS, Management};
+use stp_types::Sls;
+
+/// How far the link's way is followed.
+#[derive(Clone, Copy)]
+pub(crate) enum Stage {
+    /// Messages stand on the link.
+    Queue,
+    /// Then its association goes down.
+    Failure,
+    /// Then the peer tells what it accepted, and the messages go on by the other links of the set.
+    Completion,
+}
+
+/// Messages come by the first link of a set, and stand on the last one; a window of them is sent. Where the stage says
+/// so that link fails then, and its changeover ends. Each link of the set is in service before.
+pub(crate) fn change_over(peer: &mut Peer, stage: Stage, mut message: Incoming, count: u32) {
+    peer.open_others();
+    for _ in 0..count {
+        peer.send_by_first(&mut message);
+    }
+    for _ in 0..WINDOW {
+        peer.take();
+    }
+    match stage {
+        Stage::Queue => {}
+        Stage::Failure => peer.break_off(),
+        Stage::Completion => {
+            peer.break_off();
+            complete(peer);
+        }
+    }
+    peer.take_from_others();
+}
+
+/// The peer tells that it accepted half a window of messages.
+fn complete(peer: &mut Peer) {
+    if let Some(number) = Number24::new(WINDOW as u32 / 2 - 1) {
+        let mut answer = answer_about(peer.selection(), number);
+        peer.send_by_first(&mut answer);
+    }
+}
+
+/// The peer's answer to a changeover order about the link of a code (Q.2210 §9.8).
+fn answer_about(code: Sls, number: Number24) -> Incoming {
+    let mut octets = [0; MANAGEMENT_OCTETS];
+    let answer = Management::ExtendedChangeoverAcknowledgement(code, number);
+    let count = answer.write(own(), adjacent(), &mut octets);
+    Incoming::with_message(INTERNATIONAL << 6, &octets[..count])
+}
