@@ -2,7 +2,6 @@
 use Rattle.std.proofs.Common.{◌≡◌, ℕ, zero, suc, ◌+◌, List, [], ◌∷◌, Option, None, Some, Result, Ok, Err, refl, sym, ◌∙◌, ap, subst, inl, inr, ◌++◌, Bool, true, false, nat_lt, length}
 use Rattle.std.specs.Prelude.{if◌then◌else◌}
 use Rattle.std.specs.Io.KnownBytes.{Appends}
-
 use Rattle.exchange.specs.declared.event.Answer.{Answer}
 use Rattle.exchange.specs.Queues.{WholeQueues, KeptQueues, kept, whole}
 use Rattle.exchange.specs.Stands.{Abstract, Kept, StandsFor, kept_of}
