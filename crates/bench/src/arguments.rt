@@ -2,7 +2,7 @@
 
 ghost use Rattle.std.specs.Prelude.{◌≤◌, IfSome};
 
-use crate::changeover::Stage;
+use crate::failure::Stage;
 use stp_types::Limits;
 
 /// Octets of a routing label, which each message has (Q.704 §2.2).

@@ -8,8 +8,8 @@
 ghost use Rattle.std.specs.Prelude.{◌≤◌};
 
 mod arguments;
-mod changeover;
 mod draft;
+mod failure;
 mod incoming;
 mod peer;
 mod traffic;

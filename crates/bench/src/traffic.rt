@@ -3,8 +3,8 @@
 ghost use Rattle.std.specs.Prelude.{◌^◌, ◌<◌, ◌≤◌, length};
 
 use crate::arguments::{Arguments, Kind, LABEL_OCTETS};
-use crate::changeover::change_over;
 use crate::draft::{ADJACENT, INTERNATIONAL, ISUP, OWN, WINDOW};
+use crate::failure::change_over;
 use crate::incoming::Incoming;
 use crate::peer::Peer;
 use routing_label::Label;
