@@ -1,7 +1,7 @@
 -- What is kept of the node that a rule leaves is what the rule leaves of what was kept, and it stays sound. Each rule once, over any two
 -- kinds of queues P and Q of which h keeps one as the other.
 use Rattle.std.proofs.Common.{◌≡◌, ℕ, zero, suc, Bool, true, false, List, [], ◌∷◌, Option, Some, None, Result, Ok, Err, refl, ap, ◌∙◌}
-use Rattle.std.specs.Prelude.{if◌then◌else◌, nat_eq}
+use Rattle.std.specs.Prelude.{if◌then◌else◌, nat_eq, length, slice_set}
 use Rattle.signalling_types.specs.Message.{Message, dpc_of, opc_of, flow_of, is_management, service_indicator}
 use Rattle.settings_rows.specs.Configuration.{Configuration}
 use Rattle.signalling_types.specs.declared.cause.Cause.{Cause}
@@ -30,7 +30,7 @@ use Rattle.mgmt_codec.specs.declared.fault.MgmtFault.{MgmtFault}
 use Rattle.mgmt_codec.specs.declared.link_test.TestKind.{TestKind}
 use Rattle.mgmt_codec.specs.declared.link_test.TestKind.TheVariants.{Test, Acknowledgement}
 use Rattle.mgmt_codec.specs.declared.management.Management.{Management}
-use Rattle.mgmt_codec.specs.declared.management.Management.TheVariants.{TrafficRestartAllowed, ExtendedChangeoverOrder, ExtendedChangeoverAcknowledgement, EmergencyChangeoverOrder, EmergencyChangeoverAcknowledgement}
+use Rattle.mgmt_codec.specs.declared.management.Management.TheVariants.{TrafficRestartAllowed, ChangebackDeclaration, ChangebackAcknowledgement, ExtendedChangeoverOrder, ExtendedChangeoverAcknowledgement, EmergencyChangeoverOrder, EmergencyChangeoverAcknowledgement}
 use Rattle.mgmt_codec.specs.LinkTests.{LinkTestValue, read_link_test}
 use Rattle.mgmt_codec.specs.Management.{read_management}
 use Rattle.routing_label.specs.declared.discrimination.Discrimination.{Discrimination}
@@ -39,11 +39,16 @@ use Rattle.link_sequence.specs.declared.fault.SeqFault.{SeqFault}
 use Rattle.signalling_types.specs.declared.notice.ChangeoverTimer.{ChangeoverTimer}
 use Rattle.signalling_types.specs.declared.notice.ChangeoverTimer.TheVariants as changeover
 use Rattle.changeover.specs.Standing.{completed, may_restart}
+use Rattle.stp_types.specs.Readings.{set_place}
+use Rattle.route_table.specs.Facts.{Facts}
+use Rattle.flow_hold.specs.declared.procedure.Procedure.{Procedure}
+use Rattle.changeback.specs.Codes.{free_code, is_outstanding}
+use Rattle.changeback.specs.Return.{FlowChange, returned, gives_up, held_by}
 use Rattle.exchange.specs.State.{Parts, Node, Done, Found, QueueKind, keep, with_parts, answer, refuse}
 use Rattle.exchange.specs.Links.{is_link, link_at, down, in_service}
 use Rattle.exchange.specs.Holding.{waits}
 use Rattle.exchange.specs.Noting.{note_refusal}
-use Rattle.exchange.specs.Routing.{link_of}
+use Rattle.exchange.specs.Routing.{facts, link_of}
 use Rattle.exchange.specs.Arrival.{is_destination, no_room, offer, transfer}
 use Rattle.exchange.specs.Made.{send, send_on, send_routed, send_anew}
 use Rattle.exchange.specs.Suspending.{suspended}
@@ -53,7 +58,8 @@ use Rattle.exchange.specs.Opening.{may_open, begun, open_link, associate, bring_
 use Rattle.exchange.specs.Failing.{fall, order_about, changeover_of, with_changeover, has_other, changing, drop_out, begin, change_over, fail, follow, fail_by_peer}
 use Rattle.exchange.specs.ChangingOver.{concluded, answer_about, with_expiry, heard, send_each, conclude, complete_if, heed, complete_by_order, tell, order, acknowledge, expire}
 use Rattle.exchange.specs.Releasing.{go_on, go_by, go, go_each, release, released}
-use Rattle.exchange.specs.Statuses.{step_on, end_busy, serve_status, step_by_status, act_by_status, hear, act_by_timer, run_out}
+use Rattle.exchange.specs.ChangingBack.{set_of, declaration, acknowledgement, awaiting, freed, if_room, procedure_by, usable, code_for, declare_by, holder, declare, declare_each, holders, take_over, end_hold}
+use Rattle.exchange.specs.Statuses.{enters, return_if, advance, step_on, end_busy, serve_status, step_by_status, act_by_status, hear, act_by_timer, run_out}
 use Rattle.exchange.specs.Ticking.{with_timers, run_timer, run_due, run_next, run_times, tick}
 use Rattle.exchange.specs.Frames.{Carrying, carries, owing, timed_parts, numbers, accept, carry, handle_by, handle, act_by_data, take_in, receive_frame, leave_aside, read, receive}
 use Rattle.exchange.specs.Sending.{Outgoing, SendsStatus, SendsMessage, Acknowledges, SendsNothing, carried, goes_out, after_sending, frame_taken, after_take}
@@ -287,6 +293,77 @@ module _ {P Q : Type 0} (p : QueueKind P) (q : QueueKind Q) (h : P → Q) (IsFit
       either_node (is_link n.parts l) _ _ one n
       (complete_if-kept (changeover_of n.parts l).incomplete l None (with_parts n (with_expiry t l n.parts)) f) (record { same = refl; fit = f })
 
+  -- ---- a link returns
+
+  usable-kept : (l : ℕ) (code : Option ℕ) (n : Node P) → usable q c l code (keep h n) ≡ usable p c l code n
+  usable-kept l (Some code) n = ap (λ (r : Option Cause). if_room r code) (no_room-kept (declaration c l code) n.queues)
+  usable-kept l None n = refl
+
+  code_for-kept : (l other : ℕ) (n : Node P) → code_for q c l other (keep h n) ≡ code_for p c l other n
+  code_for-kept l other n =
+      ap (λ (code : Option ℕ). if nat_eq (set_of c other) (set_of c l) then code else None) (usable-kept l (free_code n.parts.codes (set_of c l)) n)
+
+  declare_by-kept : (code : Option ℕ) (l other : ℕ) (n : Node P) → IsFit n.queues → KeepsNode (declare_by q c code l other (keep h n)) (declare_by p c code l other n)
+  declare_by-kept (Some code) l other n f =
+      changed _ _ (awaiting c (set_of c l) code n.parts) (k.appended n.queues other (declaration c l code) f)
+  declare_by-kept None l other n f = record { same = refl; fit = f }
+
+  declare-kept : (l : ℕ) (loses : ℕ → Bool) (other : ℕ) (n : Node P) → IsFit n.queues → KeepsNode (declare q c l loses other (keep h n)) (declare p c l loses other n)
+  declare-kept l loses other n f =
+      let one : Node P = declare_by p c (code_for p c l other n) l other n in
+      let e : KeepsNode (declare_by q c (code_for p c l other n) l other (keep h n)) one = declare_by-kept (code_for p c l other n) l other n f in
+      either_node (loses other) _ _ one n
+      (record { same = ap (λ (code : Option ℕ). declare_by q c code l other (keep h n)) (code_for-kept l other n) ∙ e.same; fit = e.fit })
+      (record { same = refl; fit = f })
+
+  declare_each-kept : (l : ℕ) (loses : ℕ → Bool) (many : ℕ) (n : Node P) → IsFit n.queues
+      → KeepsNode (declare_each q c l loses many (keep h n)) (declare_each p c l loses many n)
+  unfolding declare_each
+  declare_each-kept l loses zero n f = record { same = refl; fit = f }
+  declare_each-kept l loses (suc other) n f =
+      let one : Node P = declare_each p c l loses other n in
+      let e : KeepsNode (declare_each q c l loses other (keep h n)) one = declare_each-kept l loses other n f in
+      behind_node (λ (z : Node Q). declare q c l loses other z) (declare p c l loses other one) _ one e.same (declare-kept l loses other one e.fit)
+
+  holder-kept : (l : ℕ) (loses : ℕ → Bool) (other : ℕ) (n : Node P) → holder q c l loses other (keep h n) ≡ holder p c l loses other n
+  holder-kept l loses other n =
+      ap (λ (code : Option ℕ). if loses other then Some (procedure_by c l code) else None) (code_for-kept l other n)
+
+  holders-kept : (l : ℕ) (loses : ℕ → Bool) (many : ℕ) (n : Node P) → IsFit n.queues → holders q c l loses many (keep h n) ≡ holders p c l loses many n
+  unfolding holders
+  holders-kept l loses zero n f = refl
+  holders-kept l loses (suc other) n f =
+      let one : Node P = declare_each p c l loses other n in
+      let e : KeepsNode (declare_each q c l loses other (keep h n)) one = declare_each-kept l loses other n f in
+      ap (λ (hs : List (Option Procedure)). slice_set hs other (holder q c l loses other (declare_each q c l loses other (keep h n)))) (holders-kept l loses other n f)
+      ∙ ap (λ (z : Node Q). slice_set (holders p c l loses other n) other (holder q c l loses other z)) e.same
+      ∙ ap (λ (x : Option Procedure). slice_set (holders p c l loses other n) other x) (holder-kept l loses other one)
+
+  take_over-kept : (l : ℕ) (changes : List FlowChange) (n : Node P) → IsFit n.queues → KeepsNode (take_over q c l changes (keep h n)) (take_over p c l changes n)
+  take_over-kept l changes n f =
+      let loses : (ℕ → Bool) = gives_up changes in
+      let one : Node P = declare_each p c l loses (length c.links) n in
+      let e : KeepsNode (declare_each q c l loses (length c.links) (keep h n)) one = declare_each-kept l loses (length c.links) n f in
+      record {
+        same = ap (λ (z : Node Q). with_parts z (record z.parts { holds = held_by (holders q c l loses (length c.links) (keep h n)) changes z.parts.holds })) e.same
+            ∙ ap (λ (hs : List (Option Procedure)). with_parts (keep h one) (record one.parts { holds = held_by hs changes one.parts.holds }))
+            (holders-kept l loses (length c.links) n f);
+        fit = e.fit;
+      }
+
+  return_if-kept : (b : Bool) (l : ℕ) (before : Facts) (n : Node P) → IsFit n.queues → KeepsNode (return_if q c b l before (keep h n)) (return_if p c b l before n)
+  return_if-kept true l before n f = take_over-kept l (returned l before (facts c n.parts)) n f
+  return_if-kept false l before n f = record { same = refl; fit = f }
+
+  advance-kept : (l : ℕ) (step : Transition) (n : Node P) → IsFit n.queues → KeepsNode (advance q c l step (keep h n)) (advance p c l step n)
+  advance-kept l step n f = return_if-kept (enters l step n.parts) l (facts c n.parts) (with_parts n (step_on c l step n.parts)) f
+
+  end_hold-kept : (set : Option ℕ) (code : ℕ) (n : Node P) → IsFit n.queues → Keeps (end_hold q c set code (keep h n)) (end_hold p c set code n)
+  end_hold-kept (Some set) code n f =
+      either (is_outstanding n.parts.codes set code) _ _ (answer Handled (with_parts n (freed set code n.parts))) (answer Ignored n)
+      (parted _ (freed set code n.parts) n.queues f) (parted _ n.parts n.queues f)
+  end_hold-kept None code n f = parted _ n.parts n.queues f
+
   -- ---- messages for this point
 
   do_kind-kept : (t : TestKind) (l z : ℕ) (v : LinkTestValue) (n : Node P) → IsFit n.queues → Keeps (do_kind q c t l z v (keep h n)) (do_kind p c t l z v n)
@@ -313,6 +390,8 @@ module _ {P Q : Type 0} (p : QueueKind P) (q : QueueKind Q) (h : P → Q) (IsFit
   do_read-kept (Ok (ExtendedChangeoverAcknowledgement slc number)) z n f = do_acknowledgement-kept (link_with_code c z slc) (Some number) n f
   do_read-kept (Ok (EmergencyChangeoverOrder slc)) z n f = do_order-kept (link_with_code c z slc) None n f
   do_read-kept (Ok (EmergencyChangeoverAcknowledgement slc)) z n f = do_acknowledgement-kept (link_with_code c z slc) None n f
+  do_read-kept (Ok (ChangebackDeclaration slc code)) z n f = answered _ _ _ (send_routed-kept (acknowledgement c z slc code) n f)
+  do_read-kept (Ok (ChangebackAcknowledgement slc code)) z n f = end_hold-kept (set_place c z) code n f
 
   manage-kept : (l : ℕ) (m : Message) (n : Node P) → IsFit n.queues → Keeps (manage q c l m (keep h n)) (manage p c l m n)
   manage-kept l m n f =
@@ -394,8 +473,10 @@ module _ {P Q : Type 0} (p : QueueKind P) (q : QueueKind Q) (h : P → Q) (IsFit
   step_by_status-kept : (l : ℕ) (status : LinkStatus) (step : Transition) (n : Node P) → IsFit n.queues
       → KeepsNode (step_by_status q c l status step (keep h n)) (step_by_status p c l status step n)
   step_by_status-kept l status step n f =
-      let next : Node P = with_parts n (step_on c l step n.parts) in
-      either_node step.serve _ _ (serve_status p c l status next) next (serve_status-kept l status next f) (record { same = refl; fit = f })
+      let next : Node P = advance p c l step n in
+      let e : KeepsNode (advance q c l step (keep h n)) next = advance-kept l step n f in
+      either_node step.serve _ _ (serve_status p c l status next) next
+      (behind_node (λ (z : Node Q). serve_status q c l status z) (serve_status p c l status next) _ next e.same (serve_status-kept l status next e.fit)) e
 
   act_by_status-kept : (a : Action) (l : ℕ) (status : LinkStatus) (n : Node P) → IsFit n.queues → Keeps (act_by_status q c a l status (keep h n)) (act_by_status p c a l status n)
   act_by_status-kept act.Ignored l status n f = parted _ n.parts n.queues f
@@ -408,7 +489,7 @@ module _ {P Q : Type 0} (p : QueueKind P) (q : QueueKind Q) (h : P → Q) (IsFit
   act_by_timer-kept : (a : Action) (l : ℕ) (n : Node P) → IsFit n.queues → KeepsNode (act_by_timer q c a l (keep h n)) (act_by_timer p c a l n)
   act_by_timer-kept act.Ignored l n f = record { same = refl; fit = f }
   act_by_timer-kept act.Fail l n f = fail-kept l _ n f
-  act_by_timer-kept (act.Go step) l n f = record { same = refl; fit = f }
+  act_by_timer-kept (act.Go step) l n f = advance-kept l step n f
 
   run_out-kept : (l : ℕ) (t : LinkTimer) (n : Node P) → IsFit n.queues → KeepsNode (run_out q c l t (keep h n)) (run_out p c l t n)
   run_out-kept l t n f = act_by_timer-kept (action_at (link_at n.parts l).alignment (Expiry t)) l n f
@@ -481,7 +562,10 @@ module _ {P Q : Type 0} (p : QueueKind P) (q : QueueKind Q) (h : P → Q) (IsFit
   act_by_data-kept : (a : Action) (l : ℕ) (d : Carrying) (n : Node P) → IsFit n.queues → Keeps (act_by_data q c a l d (keep h n)) (act_by_data p c a l d n)
   act_by_data-kept act.Ignored l d n f = parted _ n.parts n.queues f
   act_by_data-kept act.Fail l d n f = answered _ _ _ (fail-kept l _ n f)
-  act_by_data-kept (act.Go step) l d n f = handle-kept l d (with_parts n (step_on c l step n.parts)) f
+  act_by_data-kept (act.Go step) l d n f =
+      let next : Node P = advance p c l step n in
+      let e : KeepsNode (advance q c l step (keep h n)) next = advance-kept l step n f in
+      behind (λ (z : Node Q). handle q c l d z) (handle p c l d next) _ next e.same (handle-kept l d next e.fit)
 
   take_in-kept : (l : ℕ) (d : Carrying) (n : Node P) → IsFit n.queues → Keeps (take_in q c l d (keep h n)) (take_in p c l d n)
   take_in-kept l d n f = act_by_data-kept (action_at (link_at n.parts l).alignment UserData) l d n f

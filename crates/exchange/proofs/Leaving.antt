@@ -14,7 +14,7 @@ use Rattle.signalling_types.specs.declared.notice.FrameFault.{FrameFault}
 use Rattle.signalling_types.specs.declared.notice.FrameFault.TheVariants as faults
 use Rattle.m2pa_codec.specs.Frames.{FrameValue, EmptyFrame, MessageFrame, StatusFrame}
 use Rattle.m2pa_codec.specs.Reading.{read_frame}
-use Rattle.stp_types.specs.Readings.{destination_place}
+use Rattle.stp_types.specs.Readings.{destination_place, set_place}
 use Rattle.route_table.specs.Chosen.{chosen_link}
 use Rattle.node_links.proofs.Chosen.{chosen_serving}
 use Rattle.exchange.specs.Routing.{facts}
@@ -22,7 +22,7 @@ use Rattle.mgmt_codec.specs.declared.fault.MgmtFault.{MgmtFault}
 use Rattle.mgmt_codec.specs.declared.link_test.TestKind.{TestKind}
 use Rattle.mgmt_codec.specs.declared.link_test.TestKind.TheVariants.{Test, Acknowledgement}
 use Rattle.mgmt_codec.specs.declared.management.Management.{Management}
-use Rattle.mgmt_codec.specs.declared.management.Management.TheVariants.{TrafficRestartAllowed, ExtendedChangeoverOrder, ExtendedChangeoverAcknowledgement, EmergencyChangeoverOrder, EmergencyChangeoverAcknowledgement}
+use Rattle.mgmt_codec.specs.declared.management.Management.TheVariants.{TrafficRestartAllowed, ChangebackDeclaration, ChangebackAcknowledgement, ExtendedChangeoverOrder, ExtendedChangeoverAcknowledgement, EmergencyChangeoverOrder, EmergencyChangeoverAcknowledgement}
 use Rattle.mgmt_codec.specs.LinkTests.{LinkTestValue, read_link_test}
 use Rattle.mgmt_codec.specs.Management.{read_management}
 use Rattle.routing_label.specs.declared.discrimination.Discrimination.{Discrimination}
@@ -40,7 +40,9 @@ use Rattle.exchange.specs.Links.{is_link, link_at, down, in_service}
 use Rattle.exchange.specs.Noting.{note, note_outcome, note_refusal}
 use Rattle.exchange.specs.Routing.{network_of, link_of}
 use Rattle.exchange.specs.Arrival.{is_destination, no_room, offer, transfer}
-use Rattle.exchange.specs.Made.{send_on}
+use Rattle.exchange.specs.Made.{send_on, send_routed}
+use Rattle.exchange.specs.ChangingBack.{acknowledgement, freed, end_hold}
+use Rattle.changeback.specs.Codes.{is_outstanding}
 use Rattle.exchange.specs.Local.{is_user, is_adjacent, cause_of, test_answer, link_with_code, local, do_order, do_acknowledgement, do_read, do_kind, do_test, manage, hand_over}
 use Rattle.exchange.specs.Messages.{whither_goes, deliver_to, submit_to}
 use Rattle.exchange.specs.Opening.{may_open, open_link, associate, bring_down, part, dissociate, allow, activate, deactivate}
@@ -144,6 +146,12 @@ module _ (c : Configuration) where
   do_acknowledgement-leaves (Some link) number n = acknowledge-leaves link number n
   do_acknowledgement-leaves None number n = refused causes.BadManagement n
 
+  end_hold-leaves : (set : Option ℕ) (code : ℕ) (n : Node WholeQueues) → Leaves (end_hold whole c set code n) n
+  end_hold-leaves (Some set) code n =
+      either (is_outstanding n.parts.codes set code) (answer Handled (with_parts n (freed set code n.parts))) (answer Ignored n) n
+      (handled n (with_parts n (freed set code n.parts))) (ignored n n)
+  end_hold-leaves None code n = ignored n n
+
   do_read-leaves : (r : Result Management MgmtFault) (z : ℕ) (n : Node WholeQueues) → Leaves (do_read whole c r z n) n
   do_read-leaves (Err fault) z n = refused (cause_of fault) n
   do_read-leaves (Ok TrafficRestartAllowed) z n = ignored n n
@@ -151,6 +159,8 @@ module _ (c : Configuration) where
   do_read-leaves (Ok (ExtendedChangeoverAcknowledgement slc number)) z n = do_acknowledgement-leaves (link_with_code c z slc) (Some number) n
   do_read-leaves (Ok (EmergencyChangeoverOrder slc)) z n = do_order-leaves (link_with_code c z slc) None n
   do_read-leaves (Ok (EmergencyChangeoverAcknowledgement slc)) z n = do_acknowledgement-leaves (link_with_code c z slc) None n
+  do_read-leaves (Ok (ChangebackDeclaration slc code)) z n = handled n (send_routed whole c (acknowledgement c z slc code) n)
+  do_read-leaves (Ok (ChangebackAcknowledgement slc code)) z n = end_hold-leaves (set_place c z) code n
 
   manage-leaves : (link : ℕ) (m : Message) (n : Node WholeQueues) → Leaves (manage whole c link m n) n
   manage-leaves link m n =

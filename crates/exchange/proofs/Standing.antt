@@ -18,6 +18,7 @@ use Rattle.exchange.specs.Stands.{Abstract, Kept, AreQueues, IsSound, StandsFor,
 use Rattle.exchange.proofs.Keeping.{Keeps, done-kept, frame_taken-kept, after_take-kept}
 use Rattle.exchange.proofs.KeptQueues.{keeps_whole}
 use Rattle.changeover.specs.Standing.{Standing, no_changeover}
+use Rattle.changeback.specs.Codes.{Codes, no_codes}
 use Rattle.flow_hold.specs.Holds.{HoldTable, no_holds}
 use Rattle.exchange.specs.Holding.{all_wait}
 use Rattle.exchange.proofs.Settling.{release-waits, take-waits}
@@ -72,10 +73,10 @@ stands-first c k h e = record {
 }
 
 -- the parts that boot makes
-pub first-kept : (c : Configuration) (n : ℕ) (lanes : List (List Message)) (counts : List Counts) (network : Network) (changeovers : List Standing) (holds : HoldTable)
+pub first-kept : (c : Configuration) (n : ℕ) (lanes : List (List Message)) (counts : List Counts) (network : Network) (changeovers : List Standing) (codes : Codes) (holds : HoldTable)
     (timers : Running) (notices : List Notice)
     → n ≡ length c.links → lanes ≡ replicate (suc n) [] → counts ≡ replicate n kept_first → network ≡ first_network_of c → changeovers ≡ replicate n no_changeover
-    → holds ≡ no_holds n (length c.sets) (length c.destinations) → timers ≡ none_running (counts_in c) → notices ≡ []
+    → codes ≡ no_codes (length c.sets) → holds ≡ no_holds n (length c.sets) (length c.destinations) → timers ≡ none_running (counts_in c) → notices ≡ []
     → record {
       settings = c;
       node = record {
@@ -84,12 +85,14 @@ pub first-kept : (c : Configuration) (n : ℕ) (lanes : List (List Message)) (co
           links = network.links;
           routes = network.routes;
           changeovers = changeovers;
+          codes = codes;
           holds = holds;
           timers = timers;
           notices = notices;
           lost_any = false;
+          late_any = false;
         };
       };
     } ≡ kept_of (first_state c)
-first-kept c n lanes counts network changeovers holds timers notices e l k d x y t o =
-    rw (l, k, d, x, y, t, o, e, map-replicate unconfirmed (length c.links) first_queue, map-replicate counts_of (length c.links) first_queue)
+first-kept c n lanes counts network changeovers codes holds timers notices e l k d x b y t o =
+    rw (l, k, d, x, b, y, t, o, e, map-replicate unconfirmed (length c.links) first_queue, map-replicate counts_of (length c.links) first_queue)

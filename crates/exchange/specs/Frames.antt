@@ -21,7 +21,7 @@ use Rattle.exchange.specs.Timing.{timed_confirming}
 use Rattle.exchange.specs.Noting.{note}
 use Rattle.exchange.specs.Messages.{deliver}
 use Rattle.exchange.specs.Failing.{fail}
-use Rattle.exchange.specs.Statuses.{step_on, hear}
+use Rattle.exchange.specs.Statuses.{advance, hear}
 
 -- User Data: its numbers, and the message that it carries, if it carries one
 pub record Carrying : Type 0 where
@@ -81,7 +81,7 @@ module _ {Q : Type 0} (q : QueueKind Q) (c : Configuration) where
   abbrev pub act_by_data : Action → ℕ → Carrying → Node Q → Done Q
   act_by_data act.Ignored link d node = answer Ignored node
   act_by_data act.Fail link d node = answer Handled (fail q c link reasons.Sequence node)
-  act_by_data (act.Go step) link d node = handle link d (with_parts node (step_on c link step node.parts))
+  act_by_data (act.Go step) link d node = handle link d (advance q c link step node)
 
   abbrev pub take_in : ℕ → Carrying → Node Q → Done Q
   take_in link d node = act_by_data (action_at (link_at node.parts link).alignment UserData) link d node

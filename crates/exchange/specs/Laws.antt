@@ -16,7 +16,7 @@ use Rattle.link_sequence.specs.Queue.{count_confirmed}
 use Rattle.exchange.specs.State.{Parts, Node, with_node, with_parts}
 use Rattle.exchange.specs.Links.{is_link, link_at, in_service}
 use Rattle.exchange.specs.Noting.{note}
-use Rattle.exchange.specs.Statuses.{step_on}
+use Rattle.exchange.specs.Statuses.{advance}
 use Rattle.exchange.specs.Frames.{Carrying, numbers, accept, data_of}
 use Rattle.exchange.specs.Happening.{Happening, CameUp, WentDown, FrameCame, Ticked, Submitted, Activated, Deactivated}
 use Rattle.signalling_types.specs.Message.{Message, flow_of}
@@ -38,7 +38,7 @@ abbrev pub accept_data : Action → ℕ → Carrying → Configuration → Node 
 accept_data act.Ignored link d c node = node
 accept_data act.Fail link d c node = node
 accept_data (act.Go step) link d c node =
-    accepted_here link d c (with_parts node (step_on c link step node.parts))
+    accepted_here link d c (advance whole c link step node)
 
 abbrev pub accept_frame : Option Carrying → ℕ → Configuration → Node WholeQueues → Node WholeQueues
 accept_frame None link c node = node

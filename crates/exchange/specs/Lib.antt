@@ -9,6 +9,7 @@ pub mod Made
 pub mod Suspending
 pub mod Failing
 pub mod ChangingOver
+pub mod ChangingBack
 pub mod Releasing
 pub mod Local
 pub mod Messages

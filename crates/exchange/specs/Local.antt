@@ -20,11 +20,14 @@ use Rattle.mgmt_codec.specs.declared.management.Management.TheVariants.{Extended
 use Rattle.mgmt_codec.specs.declared.management.Management.TheVariants.{ExtendedChangeoverAcknowledgement}
 use Rattle.mgmt_codec.specs.declared.management.Management.TheVariants.{EmergencyChangeoverOrder}
 use Rattle.mgmt_codec.specs.declared.management.Management.TheVariants.{EmergencyChangeoverAcknowledgement}
+use Rattle.mgmt_codec.specs.declared.management.Management.TheVariants.{ChangebackDeclaration}
+use Rattle.mgmt_codec.specs.declared.management.Management.TheVariants.{ChangebackAcknowledgement}
 use Rattle.mgmt_codec.specs.LinkTests.{LinkTestValue, read_link_test, spelled, answer_to}
 use Rattle.mgmt_codec.specs.Management.{read_management}
 use Rattle.exchange.specs.State.{QueueKind, Node, Done, answer, refuse}
 use Rattle.exchange.specs.Made.{own_sio, send_on}
 use Rattle.exchange.specs.ChangingOver.{order, acknowledge}
+use Rattle.exchange.specs.ChangingBack.{confirm, end_hold}
 
 -- the service indicators of tests and of SCCP; that of management is 0
 abbrev pub testing : ℕ
@@ -95,6 +98,8 @@ module _ {Q : Type 0} (q : QueueKind Q) (c : Configuration) where
       do_acknowledgement (link_with_code c point slc) (Some number) node
   do_management (EmergencyChangeoverAcknowledgement slc) point node =
       do_acknowledgement (link_with_code c point slc) None node
+  do_management (ChangebackDeclaration slc code) point node = confirm q c point slc code node
+  do_management (ChangebackAcknowledgement slc code) point node = end_hold q c (set_place c point) code node
 
   abbrev pub do_read : Result Management MgmtFault → ℕ → Node Q → Done Q
   do_read (Err fault) point node = refuse (cause_of fault) node

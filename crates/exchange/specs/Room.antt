@@ -17,10 +17,12 @@ kept_in e = record {
       links = e.links.links;
       routes = e.links.routes;
       changeovers = e.changeovers;
+      codes = e.changeback;
       holds = e.holds;
       timers = e.timers;
       notices = e.notices.items;
       lost_any = e.lost_any;
+      late_any = e.late_any;
     };
   };
 }

@@ -9,6 +9,7 @@ use Rattle.exchange.specs.State.{Parts, State, keep}
 use Rattle.route_table.specs.Facts.{first_routes}
 use Rattle.node_links.specs.LinkState.{down_link}
 use Rattle.changeover.specs.Standing.{no_changeover}
+use Rattle.changeback.specs.Codes.{no_codes}
 use Rattle.flow_hold.specs.Holds.{no_holds}
 use Rattle.exchange.specs.Queues.{WholeQueues, KeptQueues, queue_at}
 use Rattle.exchange.specs.Holding.{all_wait}
@@ -44,16 +45,19 @@ pub record StandsFor (k : Kept) (a : Abstract) : Type 0 where
 abbrev pub counts_in : Configuration → NodeCounts
 counts_in c = record { links = length c.links; sets = length c.sets; destinations = length c.destinations }
 
--- every link is down, every route is allowed, nothing is held, no timer runs, and nothing was noted
+-- every link is down, every route is allowed, no code waits for its answer, nothing is held, no timer runs, and nothing
+-- was noted
 abbrev pub first_parts : Configuration → Parts
 first_parts c = record {
   links = replicate (length c.links) down_link;
   routes = map first_routes c.destinations;
   changeovers = replicate (length c.links) no_changeover;
+  codes = no_codes (length c.sets);
   holds = no_holds (length c.links) (length c.sets) (length c.destinations);
   timers = none_running (counts_in c);
   notices = [];
   lost_any = false;
+  late_any = false;
 }
 
 -- the state that boot gives: nothing stands in any queue

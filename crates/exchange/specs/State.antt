@@ -12,6 +12,7 @@ use Rattle.timer_wheel.specs.Timers.{Running}
 use Rattle.route_table.specs.declared.route.Route.{Route}
 use Rattle.node_links.specs.Link.{Link}
 use Rattle.changeover.specs.Standing.{Standing}
+use Rattle.changeback.specs.Codes.{Codes}
 use Rattle.flow_hold.specs.Holds.{HoldTable}
 
 -- All that isn't a queue.
@@ -21,11 +22,15 @@ pub record Parts : Type 0 where
   pub routes : List (List Route)
   -- of each link, how far its changeover is
   pub changeovers : List Standing
+  -- of each set, which changeback codes wait for their answer
+  pub codes : Codes
   pub holds : HoldTable
   pub timers : Running
   pub notices : List Notice
   -- whether a message may have been lost since the node was booted
   pub lost_any : Bool
+  -- whether messages of a flow may have gone out of order since the node was booted
+  pub late_any : Bool
 
 -- What a completion finds on a link, by the number that its peer gave: whether that names a count, the user messages
 -- that are named as lost, and the management messages that are queued anew.

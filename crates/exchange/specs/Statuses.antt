@@ -1,5 +1,5 @@
 -- Link Status, and the timers of a link that run out, by the table of the alignment.
-use Rattle.std.specs.Prelude.{ℕ, true, false, if◌then◌else◌}
+use Rattle.std.specs.Prelude.{ℕ, Bool, true, false, not, ◌&&◌, if◌then◌else◌}
 use Rattle.settings_rows.specs.Configuration.{Configuration}
 use Rattle.signalling_types.specs.declared.notice.FailureReason.TheVariants as reasons
 use Rattle.signalling_types.specs.declared.outcome.Outcome.TheVariants.{Handled, Ignored}
@@ -12,10 +12,13 @@ use Rattle.link_alignment.specs.declared.action.LinkTimer.{LinkTimer}
 use Rattle.link_alignment.specs.declared.action.Transition.{Transition}
 use Rattle.link_alignment.specs.Table.{action_at}
 use Rattle.exchange.specs.State.{QueueKind, Parts, Node, Done, with_parts, answer}
-use Rattle.node_links.specs.LinkState.{stepped}
-use Rattle.exchange.specs.Links.{link_at, links_with}
+use Rattle.node_links.specs.LinkState.{stepped, is_in_service}
+use Rattle.route_table.specs.Facts.{Facts}
+use Rattle.exchange.specs.Links.{link_at, links_with, in_service}
+use Rattle.exchange.specs.Routing.{facts}
 use Rattle.exchange.specs.Timing.{timed, timed_busy, timed_busy_ended}
 use Rattle.exchange.specs.Failing.{fail}
+use Rattle.exchange.specs.ChangingBack.{take_back}
 
 -- a link takes a step of its alignment
 abbrev pub step_on : Configuration → ℕ → Transition → Parts → Parts
@@ -41,7 +44,28 @@ end_busy c link outstanding p =
     }
     else p
 
+-- whether a link enters service by a step
+abbrev pub enters : ℕ → Transition → Parts → Bool
+enters link step p = is_in_service step.state && not (in_service p link)
+
 module _ {Q : Type 0} (q : QueueKind Q) (c : Configuration) where
+  -- a link that entered service takes its flows back, by what was known of routes before
+  abbrev pub return_if : (entered : Bool) → ℕ → (before : Facts) → Node Q → Node Q
+  return_if true link before node = take_back q c link before node
+  return_if false link before node = node
+
+  -- a link takes a step of its alignment
+  abbrev pub advance : ℕ → Transition → Node Q → Node Q
+  advance link step node =
+      return_if (enters link step node.parts) link (facts c node.parts)
+      (with_parts node (step_on c link step node.parts))
+
+  -- what a link's alignment does about an input; where the link is to fail, nothing changes here
+  abbrev pub acted : Action → ℕ → Node Q → Node Q
+  acted act.Ignored link node = node
+  acted act.Fail link node = node
+  acted (act.Go step) link node = advance link step node
+
   -- a status of a peer in service
   abbrev pub serve_status : ℕ → LinkStatus → Node Q → Node Q
   serve_status link says.Busy node = with_parts node (become_busy c link node.parts)
@@ -52,7 +76,7 @@ module _ {Q : Type 0} (q : QueueKind Q) (c : Configuration) where
   -- a link takes a step about a status
   abbrev pub step_by_status : ℕ → LinkStatus → Transition → Node Q → Node Q
   step_by_status link status step node =
-      let next : Node Q = with_parts node (step_on c link step node.parts) in
+      let next : Node Q = advance link step node in
       if step.serve then serve_status link status next else next
 
   -- what a link does about a status
@@ -69,7 +93,7 @@ module _ {Q : Type 0} (q : QueueKind Q) (c : Configuration) where
   abbrev pub act_by_timer : Action → ℕ → Node Q → Node Q
   act_by_timer act.Ignored link node = node
   act_by_timer act.Fail link node = fail q c link reasons.Timer node
-  act_by_timer (act.Go step) link node = with_parts node (step_on c link step node.parts)
+  act_by_timer (act.Go step) link node = advance link step node
 
   abbrev pub run_out : ℕ → LinkTimer → Node Q → Node Q
   run_out link timer node =

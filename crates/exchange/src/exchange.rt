@@ -11,6 +11,7 @@ ghost use Rattle.exchange.specs.Stands.{Abstract, StandsFor};
 
 mod arrival;
 mod boot;
+mod changing_back;
 mod changing_over;
 mod failing;
 mod frames;
@@ -33,6 +34,7 @@ mod views;
 
 use crate::event::{Event, Order};
 use cell_pool::RingLanes;
+use changeback::Changeback;
 use changeover::Changeover;
 use circular_buffer::HeapCircularBuffer;
 use flow_hold::Holds;
@@ -54,10 +56,12 @@ pub struct Exchange {
     sequences: Vec<Sequence>,
     links: NodeLinks,
     changeovers: Changeover,
+    changeback: Changeback,
     holds: Holds,
     timers: Timers,
     notices: HeapCircularBuffer<Notice>,
     lost_any: bool,
+    late_any: bool,
     // whether a hold changed since the messages of Held were last gone through
     release_due: bool,
 }

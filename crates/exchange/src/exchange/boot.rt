@@ -9,6 +9,7 @@ ghost use Rattle.exchange.specs.Routing.{first_network_of};
 use super::Exchange;
 use crate::memory::NoMemory;
 use cell_pool::RingLanes;
+use changeback::Changeback;
 use changeover::Changeover;
 use circular_buffer::HeapCircularBuffer;
 use flow_hold::Holds;
@@ -34,6 +35,7 @@ impl Exchange {
         let sequences = first_sequences(alloc, count)?;
         let links = node_links(alloc, &settings)?;
         let changeovers = Changeover::new(alloc, count)?;
+        let changeback = Changeback::new(alloc, settings.sets().len())?;
         let holds = no_holds(alloc, &settings)?;
         let timers = Timers::new(alloc, counts_in(&settings))?;
         let notices = HeapCircularBuffer::with_capacity(alloc, Limits::NOTICES)?;
@@ -43,10 +45,12 @@ impl Exchange {
             sequences,
             links,
             changeovers,
+            changeback,
             holds,
             timers,
             notices,
             lost_any: false,
+            late_any: false,
             release_due: false,
         })
     }

@@ -121,7 +121,7 @@ impl Exchange {
     }
 
     /// The row of a link in the settings.
-    fn row_of(&self, link: LinkId) -> &LinkRow
+    pub(super) fn row_of(&self, link: LinkId) -> &LinkRow
         requires { link < length self.now.settings.links }
         ensures row { result.now ≡ rule.entry_of self.now.settings link }
         ensures set { (rule.entry_of self.now.settings link).set < length self.now.settings.sets }

@@ -78,16 +78,13 @@ impl Exchange {
         ensures { Ends self.old result self.new
             (rule.take_in kept self.old.settings link (carrying fsn bsn message.entry) self.old.node) }
     {
-        match self.links.on(link, Input::UserData) {
+        match self.act(link, Input::UserData) {
             Action::Ignored => Outcome::Ignored,
             Action::Fail => {
                 self.fail(link, FailureReason::Sequence);
                 Outcome::Handled
             }
-            Action::Go(step) => {
-                self.time(link, &step);
-                self.handle(link, fsn, bsn, message)
-            }
+            Action::Go(_) => self.handle(link, fsn, bsn, message),
         }
     }
 

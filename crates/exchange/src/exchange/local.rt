@@ -139,6 +139,10 @@ impl Exchange {
                 let link = self.link_with_code(point, slc);
                 self.do_acknowledgement(link, None)
             }
+            Management::ChangebackDeclaration(slc, code) => self.confirm(point, slc, code),
+            Management::ChangebackAcknowledgement(_, code) => {
+                self.end_hold(self.settings.set_to(point), code)
+            }
         }
     }
 

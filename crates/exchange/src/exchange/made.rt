@@ -1,12 +1,13 @@
 //! Management that this node makes, or that a link left over when it failed.
 
-ghost use Rattle.std.specs.Prelude.{◌≡◌, ◌<◌, ◌≤◌, length};
+ghost use Rattle.std.specs.Prelude.{◌≡◌, ◌<◌, ◌≤◌, Some, None, length, IfErr, OnOk, is_ok, if◌then◌else◌};
 ghost use Rattle.signalling_types.specs.Lent.{lent};
 ghost use Rattle.signalling_types.specs.Message.{dpc_of};
 ghost use Rattle.exchange.specs.State.{with_node, with_parts};
 ghost use Rattle.exchange.specs.Queues.{kept};
 ghost use Rattle.exchange.specs.Noting.{note, flagged};
 ghost use Rattle.signalling_types.specs.declared.notice.Notice.TheVariants as notices;
+ghost use Rattle.exchange.specs.Arrival.{no_room, queue_on};
 ghost use Rattle.exchange.specs.Made as rule;
 
 use super::Exchange;
@@ -52,6 +53,35 @@ impl Exchange {
             sio,
             sif: &octets[..count],
         });
+    }
+
+    /// Puts a management message made here for a point at the end of a link's queue; refused where it finds no room.
+    pub(super) fn queue_management(
+        &mut self,
+        link: LinkId,
+        point: PointCode,
+        message: &Management,
+    ) -> Result<(), Cause>
+        requires { link < length self.old.settings.links }
+        ensures refused { IfErr result (λ cause. no_room kept self.old.settings
+            (rule.management_to self.old.settings point message.now) self.old.node.queues ≡ Some cause) }
+        ensures taken { OnOk result (no_room kept self.old.settings
+            (rule.management_to self.old.settings point message.now) self.old.node.queues ≡ None) }
+        ensures state { self.new ≡ (if is_ok result
+            then with_node self.old (queue_on kept self.old.settings link
+            (rule.management_to self.old.settings point message.now) self.old.node)
+            else self.old) }
+    {
+        let mut octets = [0; MANAGEMENT_OCTETS];
+        let count = message.write(point, self.settings.own(), &mut octets);
+        let sio = self.own_sio(MANAGEMENT);
+        self.queue(
+            link,
+            MsuRef {
+                sio,
+                sif: &octets[..count],
+            },
+        )
     }
 
     /// A message made here goes out on the link of its flow. Where it finds no room or no link it is dropped, and that

@@ -4,6 +4,8 @@ ghost use Rattle.std.specs.Prelude.{◌≡◌, ◌<◌, length};
 ghost use Rattle.exchange.specs.State.{with_node, with_parts};
 ghost use Rattle.exchange.specs.Queues.{kept};
 ghost use Rattle.exchange.specs.Exchange.{Ends};
+ghost use Rattle.exchange.specs.Links.{link_at};
+ghost use Rattle.link_alignment.specs.Table.{action_at};
 ghost use Rattle.exchange.specs.Statuses as rule;
 
 use super::Exchange;
@@ -12,19 +14,38 @@ use m2pa_codec::LinkStatus;
 use stp_types::{FailureReason, LinkId, Outcome};
 
 impl Exchange {
+    /// A link does what its alignment does about an input, and says what that is. Where it enters service, it takes its
+    /// flows back; where it is to fail, nothing changes here.
+    #[inline(always)]
+    pub(super) fn act(&mut self, link: LinkId, input: Input) -> Action
+        requires { link < length self.old.settings.links }
+        ensures action { result ≡ action_at (link_at self.old.node.parts link).alignment input }
+        ensures state { self.new ≡
+            with_node self.old (rule.acted kept self.old.settings result link self.old.node) }
+    {
+        let served = self.links.state(link).is_in_service();
+        let action = self.links.on(link, input);
+        if let Action::Go(step) = action {
+            self.time(link, &step);
+            if !served && self.links.state(link).is_in_service() {
+                self.take_back(link);
+            }
+        }
+        action
+    }
+
     /// A status that the peer tells.
     pub(super) fn hear(&mut self, link: LinkId, status: LinkStatus) -> Outcome
         requires { link < length self.old.settings.links }
         ensures { Ends self.old result self.new (rule.hear kept self.old.settings link status self.old.node) }
     {
-        match self.links.on(link, Input::Status(status)) {
+        match self.act(link, Input::Status(status)) {
             Action::Ignored => Outcome::Ignored,
             Action::Fail => {
                 self.fail(link, FailureReason::Status);
                 Outcome::Handled
             }
             Action::Go(step) => {
-                self.time(link, &step);
                 if step.serve {
                     self.serve_status(link, status);
                 }
@@ -83,10 +104,8 @@ impl Exchange {
         if !self.links.has(link) {
             return;
         }
-        match self.links.on(link, Input::Expiry(timer)) {
-            Action::Ignored => {}
-            Action::Fail => self.fail(link, FailureReason::Timer),
-            Action::Go(step) => self.time(link, &step),
+        if let Action::Fail = self.act(link, Input::Expiry(timer)) {
+            self.fail(link, FailureReason::Timer);
         }
     }
 }

@@ -39,7 +39,7 @@ impl Exchange {
         }
     }
 
-    /// Runs a timer. Those of changeback, rerouting and route management aren't set yet.
+    /// Runs a timer. Those of rerouting and route management aren't set yet.
     fn run_timer(&mut self, name: TimerName)
         ensures { self.new ≡ with_node self.old (rule.run_timer kept self.old.settings name self.old.node) }
     {
@@ -52,6 +52,8 @@ impl Exchange {
             TimerName::L7(link) => self.run_out(link, LinkTimer::L7),
             TimerName::T1(link) => self.expire(ChangeoverTimer::T1, link),
             TimerName::T2(link) => self.expire(ChangeoverTimer::T2, link),
+            TimerName::T3(link) => self.expire_time(link),
+            TimerName::T4(set, code) => self.expire_code(set, code),
             _ => {}
         }
     }

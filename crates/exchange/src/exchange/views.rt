@@ -25,6 +25,15 @@ impl Exchange {
         self.lost_any
     }
 
+    /// Whether messages of a flow may have gone out of order since `boot`: T3 or T4 ran out, so that what a changeback
+    /// held went on before the answer came. It never falls back to false.
+    pub fn late_any(&self) -> bool
+        ensures late { (a : Abstract) → StandsFor self.now a → result ≡ a.node.parts.late_any }
+        ensures kept_late { result ≡ self.now.node.parts.late_any }
+    {
+        self.late_any
+    }
+
     /// The last 64 notices, the oldest first.
     pub fn notices(&self) -> &HeapCircularBuffer<Notice>
         ensures notices { (a : Abstract) → StandsFor self.now a → result.now.items ≡ a.node.parts.notices }

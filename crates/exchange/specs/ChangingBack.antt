@@ -1,0 +1,142 @@
+-- A link returns to service, and takes its flows back from the links that carried them meanwhile (Q.704 §6).
+use Rattle.std.specs.Prelude.{ℕ, zero, suc, Bool, true, false, nat_eq, List, length, replicate, Option, Some, None}
+use Rattle.std.specs.Prelude.{if◌then◌else◌, slice_set}
+use Rattle.settings_rows.specs.Configuration.{Configuration}
+use Rattle.signalling_types.specs.Message.{Message}
+use Rattle.signalling_types.specs.declared.cause.Cause.{Cause}
+use Rattle.signalling_types.specs.declared.limits.TheConstants.Limits.{LINKS}
+use Rattle.signalling_types.specs.declared.outcome.Outcome.TheVariants.{Handled, Ignored}
+use Rattle.signalling_types.specs.declared.notice.Notice.{Notice}
+use Rattle.signalling_types.specs.declared.notice.Notice.TheVariants as notices
+use Rattle.signalling_types.specs.declared.notice.LateTimer.TheVariants as late_timer
+use Rattle.mgmt_codec.specs.declared.management.Management.TheVariants.{ChangebackDeclaration}
+use Rattle.mgmt_codec.specs.declared.management.Management.TheVariants.{ChangebackAcknowledgement}
+use Rattle.timer_wheel.specs.declared.name.TimerName.TheVariants.{T3, T4}
+use Rattle.timer_wheel.specs.Timers.{set_timer, clear_timer}
+use Rattle.route_table.specs.Facts.{Facts}
+use Rattle.flow_hold.specs.declared.procedure.Procedure.{Procedure}
+use Rattle.flow_hold.specs.declared.procedure.Procedure.TheVariants.{Code, Time}
+use Rattle.flow_hold.specs.Holds.{lifted}
+use Rattle.changeback.specs.Codes.{free_code, is_outstanding, with_code}
+use Rattle.changeback.specs.Return.{FlowChange, returned, gives_up, held_by}
+use Rattle.exchange.specs.State.{QueueKind, Parts, Node, Done, with_parts, answer}
+use Rattle.exchange.specs.Noting.{note}
+use Rattle.exchange.specs.Routing.{facts}
+use Rattle.exchange.specs.Arrival.{no_room, queue_on}
+use Rattle.exchange.specs.Made.{management_to, send_routed}
+use Rattle.exchange.specs.Failing.{entry_of, peer_of}
+
+-- the set of a link
+abbrev pub set_of : Configuration → ℕ → ℕ
+set_of c link = (entry_of c link).set
+
+-- the declaration that a link is back, and what answers one
+abbrev pub declaration : Configuration → (link code : ℕ) → Message
+declaration c link code = management_to c (peer_of c link) (ChangebackDeclaration (entry_of c link).slc code)
+
+abbrev pub acknowledgement : Configuration → (point slc code : ℕ) → Message
+acknowledgement c point slc code = management_to c point (ChangebackAcknowledgement slc code)
+
+-- a code waits for its answer, and T4 runs
+abbrev pub awaiting : Configuration → (set code : ℕ) → Parts → Parts
+awaiting c set code p =
+    record p { codes = with_code p.codes set code true; timers = set_timer (T4 set code) c.timers.t4 p.timers }
+
+-- T3 runs, anew where it runs already
+abbrev pub waiting : Configuration → (link : ℕ) → Parts → Parts
+waiting c link p = record p { timers = set_timer (T3 link) c.timers.t3 p.timers }
+
+-- the answer came: the code is free, T4 stops, and the code holds nothing any more
+abbrev pub freed : (set code : ℕ) → Parts → Parts
+freed set code p = record p {
+  codes = with_code p.codes set code false;
+  holds = lifted p.holds (Code set code);
+  timers = clear_timer (T4 set code) p.timers;
+}
+
+-- a hold ended by its timer: that is noted, and messages may go out of order
+abbrev pub late : Notice → Procedure → Parts → Parts
+late notice procedure p = record (note notice p) { holds = lifted p.holds procedure; late_any = true }
+
+abbrev pub late_time : (link : ℕ) → Parts → Parts
+late_time link p = late (notices.Late late_timer.T3 link) (Time link) p
+
+-- the code still waits for its answer
+abbrev pub late_code : (set code : ℕ) → Parts → Parts
+late_code set code p = late (notices.Late late_timer.T4 code) (Code set code) p
+
+-- a code whose declaration finds room
+abbrev pub if_room : Option Cause → (code : ℕ) → Option ℕ
+if_room None code = Some code
+if_room (Some cause) code = None
+
+-- flows that a link takes over are held by a code where there is one, else by time
+abbrev pub procedure_by : Configuration → (link : ℕ) → Option ℕ → Procedure
+procedure_by c link (Some code) = Code (set_of c link) code
+procedure_by c link None = Time link
+
+module _ {Q : Type 0} (q : QueueKind Q) (c : Configuration) where
+  -- a code by which flows can be held
+  abbrev pub usable : (link : ℕ) → Option ℕ → Node Q → Option ℕ
+  usable link (Some code) node = if_room (no_room q c (declaration c link code) node.queues) code
+  usable link None node = None
+
+  -- that for the flows that a link takes over from another: the least that is free, where both are of one set
+  abbrev pub code_for : (link other : ℕ) → Node Q → Option ℕ
+  code_for link other node =
+      if nat_eq (set_of c other) (set_of c link)
+      then usable link (free_code node.parts.codes (set_of c link)) node
+      else None
+
+  -- with a code, the declaration goes out on the other link itself
+  abbrev pub declared : Option ℕ → (link other : ℕ) → Node Q → Node Q
+  declared (Some code) link other node =
+      queue_on q c other (declaration c link code) (with_parts node (awaiting c (set_of c link) code node.parts))
+  declared None link other node = node
+
+  -- without one T3 runs
+  abbrev pub declare_by : Option ℕ → (link other : ℕ) → Node Q → Node Q
+  declare_by (Some code) link other node = declared (Some code) link other node
+  declare_by None link other node = with_parts node (waiting c link node.parts)
+
+  -- a link takes over flows from those others that lose some
+  module _ (link : ℕ) (loses : ℕ → Bool) where
+    -- what holds the flows that come from another link, if any come
+    abbrev pub holder : (other : ℕ) → Node Q → Option Procedure
+    holder other node = if loses other then Some (procedure_by c link (code_for link other node)) else None
+
+    abbrev pub declare : (other : ℕ) → Node Q → Node Q
+    declare other node = if loses other then declare_by (code_for link other node) link other node else node
+
+    -- the first so many links, in order
+    unfoldable pub declare_each : ℕ → Node Q → Node Q
+    declare_each zero node = node
+    declare_each (suc other) node = declare other (declare_each other node)
+
+    unfoldable pub holders : ℕ → Node Q → List (Option Procedure)
+    holders zero node = replicate LINKS None
+    holders (suc other) node = slice_set (holders other node) other (holder other (declare_each other node))
+
+  -- each flow that comes from another link is held by the procedure of that link
+  abbrev pub take_over : (link : ℕ) → List FlowChange → Node Q → Node Q
+  take_over link changes node =
+      let declared : Node Q = declare_each link (gives_up changes) (length c.links) node in
+      with_parts declared (record declared.parts {
+        holds = held_by (holders link (gives_up changes) (length c.links) node) changes declared.parts.holds;
+      })
+
+  -- a link takes back the flows that went by other links before
+  abbrev pub take_back : (link : ℕ) → (before : Facts) → Node Q → Node Q
+  take_back link before node = take_over link (returned link before (facts c node.parts)) node
+
+  -- a declaration is answered
+  abbrev pub confirm : (point slc code : ℕ) → Node Q → Done Q
+  confirm point slc code node = answer Handled (send_routed q c (acknowledgement c point slc code) node)
+
+  -- an answer from the point of a set
+  abbrev pub end_hold : Option ℕ → (code : ℕ) → Node Q → Done Q
+  end_hold (Some set) code node =
+      if is_outstanding node.parts.codes set code
+      then answer Handled (with_parts node (freed set code node.parts))
+      else answer Ignored node
+  end_hold None code node = answer Ignored node

@@ -1,0 +1,188 @@
+//! A link returns to service and takes its flows back, and what ends that.
+
+ghost use Rattle.std.specs.Prelude.{◌≡◌, ◌<◌, None, Some, false, true, length, replicate, slice_index_or};
+ghost use Rattle.std.specs.Prelude.{IfErr, OnOk, is_ok, if◌then◌else◌};
+ghost use Rattle.route_table.specs.Facts.{with_link};
+ghost use Rattle.exchange.specs.State.{with_node, with_parts};
+ghost use Rattle.exchange.specs.Links.{in_service};
+ghost use Rattle.exchange.specs.Queues.{kept};
+ghost use Rattle.exchange.specs.Routing.{facts};
+ghost use Rattle.exchange.specs.Arrival.{no_room, queue_on};
+ghost use Rattle.exchange.specs.Exchange.{Ends};
+ghost use Rattle.exchange.specs.ChangingBack as rule;
+
+use super::Exchange;
+use changeback::{hold_changes, losing};
+use flow_hold::Procedure;
+use mgmt_codec::Management;
+use stp_types::{Cause, LateTimer, Limits, LinkId, Notice, Outcome, PointCode, SetId, Sls};
+use timer_wheel::TimerName;
+
+impl Exchange {
+    /// A link that entered service takes back the flows that went by other links before. Their messages are held until
+    /// those links have sent what they have.
+    pub(super) fn take_back(&mut self, link: LinkId)
+        requires link { link < length self.old.settings.links }
+        requires serves { in_service self.old.node.parts link ≡ true }
+        ensures { self.new ≡ with_node self.old (rule.take_back kept self.old.settings link
+            (with_link link false (facts self.old.settings self.old.node.parts)) self.old.node) }
+    {
+        let loses = losing(&mut self.links, link);
+        let holders = self.declare_each(link, &loses);
+        self.release_due = true;
+        hold_changes(&mut self.links, link, &holders, &mut self.holds);
+    }
+
+    /// For each other link that loses flows to a link, in order: says by which procedure those are held.
+    fn declare_each(
+        &mut self,
+        link: LinkId,
+        loses: &[bool; Limits::LINKS],
+    ) -> [Option<Procedure>; Limits::LINKS]
+        requires { link < length self.old.settings.links }
+        ensures holders { result ≡ rule.holders kept self.old.settings link (λ other. slice_index_or loses.now other false)
+            (length self.old.settings.links) self.old.node }
+        ensures state { self.new ≡ with_node self.old (rule.declare_each kept self.old.settings link
+            (λ other. slice_index_or loses.now other false) (length self.old.settings.links) self.old.node) }
+    {
+        let mut holders = [None; Limits::LINKS];
+        for other in 0..self.settings.link_count() {
+            holders[other] = self.declare_if(loses[other], link, LinkId::new(other as u8));
+        }
+        holders
+    }
+
+    /// The procedure that holds the flows which a link takes over from another, if it takes any.
+    fn declare_if(&mut self, loses: bool, link: LinkId, other: LinkId) -> Option<Procedure>
+        requires link { link < length self.old.settings.links }
+        requires other { other < length self.old.settings.links }
+        ensures holder { result ≡
+            rule.holder kept self.old.settings link (λ any. loses) other self.old.node }
+        ensures state { self.new ≡
+            with_node self.old (rule.declare kept self.old.settings link (λ any. loses) other self.old.node) }
+    {
+        if loses {
+            Some(self.declare(link, other))
+        } else {
+            None
+        }
+    }
+
+    /// Says by which procedure the flows that a link takes over from another are held: by a code, with which a
+    /// declaration goes out on the other link, or else by time.
+    fn declare(&mut self, link: LinkId, other: LinkId) -> Procedure
+        requires link { link < length self.old.settings.links }
+        requires other { other < length self.old.settings.links }
+        ensures procedure { result ≡ rule.procedure_by self.old.settings link
+            (rule.code_for kept self.old.settings link other self.old.node) }
+        ensures state { self.new ≡ with_node self.old (rule.declare_by kept self.old.settings
+            (rule.code_for kept self.old.settings link other self.old.node) link other self.old.node) }
+    {
+        match self.declare_by_code(link, other) {
+            Some(code) => Procedure::Code(self.set_of(link), code),
+            None => {
+                self.timers
+                    .set(TimerName::T3(link), self.settings.timers().t3);
+                Procedure::Time(link)
+            }
+        }
+    }
+
+    /// Sends the declaration that a link is back on another link of its set, where a code is free and the declaration
+    /// finds room. The code then waits for its answer.
+    fn declare_by_code(&mut self, link: LinkId, other: LinkId) -> Option<u8>
+        requires link { link < length self.old.settings.links }
+        requires other { other < length self.old.settings.links }
+        ensures code { result ≡ rule.code_for kept self.old.settings link other self.old.node }
+        ensures state { self.new ≡
+            with_node self.old (rule.declared kept self.old.settings result link other self.old.node) }
+    {
+        let set = self.set_of(link);
+        if self.set_of(other) != set {
+            return None;
+        }
+        let code = self.changeback.free_code(set)?;
+        if self.send_declaration(link, other, code).is_err() {
+            return None;
+        }
+        self.changeback.declared(set, code);
+        self.timers
+            .set(TimerName::T4(set, code), self.settings.timers().t4);
+        Some(code)
+    }
+
+    /// Puts the declaration that a link is back at the end of the queue of another; refused where it finds no room.
+    fn send_declaration(&mut self, link: LinkId, other: LinkId, code: u8) -> Result<(), Cause>
+        requires link { link < length self.old.settings.links }
+        requires other { other < length self.old.settings.links }
+        ensures refused { IfErr result (λ cause. no_room kept self.old.settings
+            (rule.declaration self.old.settings link code) self.old.node.queues ≡ Some cause) }
+        ensures taken { OnOk result (no_room kept self.old.settings
+            (rule.declaration self.old.settings link code) self.old.node.queues ≡ None) }
+        ensures state { self.new ≡ (if is_ok result
+            then with_node self.old (queue_on kept self.old.settings other
+            (rule.declaration self.old.settings link code) self.old.node)
+            else self.old) }
+    {
+        let declaration = Management::ChangebackDeclaration(self.code_of(link), code);
+        self.queue_management(other, self.peer_of(link), &declaration)
+    }
+
+    /// Answers a declaration, whatever link it is about.
+    pub(super) fn confirm(&mut self, point: PointCode, slc: Sls, code: u8) -> Outcome
+        ensures { Ends self.old result self.new
+            (rule.confirm kept self.old.settings point slc code self.old.node) }
+    {
+        let answer = Management::ChangebackAcknowledgement(slc, code);
+        self.tell(point, &answer);
+        Outcome::Handled
+    }
+
+    /// An answer from the point of a set: what its code holds is held no longer. Ignored where the code waits for none.
+    pub(super) fn end_hold(&mut self, set: Option<SetId>, code: u8) -> Outcome
+        ensures { Ends self.old result self.new
+            (rule.end_hold kept self.old.settings set code self.old.node) }
+    {
+        let Some(set) = set else {
+            return Outcome::Ignored;
+        };
+        if !self.changeback.answer(set, code, &mut self.holds) {
+            return Outcome::Ignored;
+        }
+        self.release_due = true;
+        self.timers.clear(TimerName::T4(set, code));
+        Outcome::Handled
+    }
+
+    /// T3 of a link ran out: what it holds by time is held no longer.
+    pub(super) fn expire_time(&mut self, link: LinkId)
+        ensures { self.new ≡ with_node self.old
+            (with_parts self.old.node (rule.late_time link self.old.node.parts)) }
+    {
+        self.release_due = true;
+        self.late_any = true;
+        self.changeback
+            .expired(Procedure::Time(link), &mut self.holds);
+        self.note(Notice::Late(LateTimer::T3, link.index() as u8));
+    }
+
+    /// T4 of a code ran out: what it holds is held no longer. The code still waits for its answer.
+    pub(super) fn expire_code(&mut self, set: SetId, code: u8)
+        ensures { self.new ≡ with_node self.old
+            (with_parts self.old.node (rule.late_code set code self.old.node.parts)) }
+    {
+        self.release_due = true;
+        self.late_any = true;
+        self.changeback
+            .expired(Procedure::Code(set, code), &mut self.holds);
+        self.note(Notice::Late(LateTimer::T4, code));
+    }
+
+    /// The set of a link.
+    fn set_of(&self, link: LinkId) -> SetId
+        requires { link < length self.now.settings.links }
+        ensures { result ≡ rule.set_of self.now.settings link }
+    {
+        self.row_of(link).set()
+    }
+}
