@@ -118,7 +118,7 @@ found-first test m rows false e any rest =
     let found : FoundAt test rows = rest any in
     (suc found.0, omega (arith, found.1), found.2)
 
-pub found : (test : Marks → Bool) (rows : List Marks) → list_any test rows ≡ true → FoundAt test rows
+found : (test : Marks → Bool) (rows : List Marks) → list_any test rows ≡ true → FoundAt test rows
 found test [] e = absurd cc
 found test (m ∷ rows) e = found-first test m rows (test m) refl e (found test rows)
 

@@ -1,18 +1,16 @@
 -- Each change keeps the places of the marks, so that the row of a procedure has the flows that it may hold.
-use Rattle.std.proofs.Common.{◌≡◌, ℕ, ◌+◌, ◌-◌, ◌*◌, ◌<◌, ◌≤◌, Bool, true, false, ◌&&◌, List, [], length, map, get_or, replicate, refl, ap, sym, ◌∙◌, arith, nat_lt, nat_eq, Option, Some, None}
+use Rattle.std.proofs.Common.{◌≡◌, ℕ, ◌+◌, ◌-◌, ◌*◌, ◌<◌, ◌≤◌, Bool, true, false, List, [], length, map, get_or, replicate, refl, ap, sym, ◌∙◌, arith, nat_lt, Option, Some, None}
 use Rattle.std.specs.Prelude.{if◌then◌else◌}
-use Rattle.std.specs.List.{range_with_len}
 use Rattle.std.proofs.Math.ListN.{set}
-use Rattle.std.proofs.lemmas.Bool.{and_parts, and_from, ltb-true}
+use Rattle.std.proofs.lemmas.Bool.{and_parts, ltb-true}
 use Rattle.std.proofs.lemmas.Bool.Decides.{nat_tests}
-use Rattle.std.proofs.lemmas.Grind.{common_steps}
 use Rattle.std.proofs.lemmas.List.{get_or-map, set-get_or, length-set, length-map, map-set, length-replicate}
 use Rattle.std.proofs.lemmas.List.FromFn.{length-map-range_with_len, get_or-map-range_with_len}
 use Rattle.flow_hold.specs.declared.procedure.Procedure.{Procedure}
 use Rattle.flow_hold.specs.declared.procedure.Procedure.TheVariants.{Changeover, Code, Time, Reroute}
 use Rattle.flow_hold.specs.Rows.{Marks, marks_at, place_of_flow}
 use Rattle.flow_hold.specs.Holds.{HoldTable, no_holds, first_row, place_of, flow_of, with_mark_at, with_row_hold, with_row_lifted}
-use Rattle.flow_hold.specs.Pairs.{HasPlaces, shape_of, may_hold, places_at_first, hold_keeps_places, lift_keeps_places}
+use Rattle.flow_hold.specs.Pairs.{HasPlaces, shape_of, may_hold, places_are_rows, places_at_first, hold_keeps_places, lift_keeps_places}
 
 -- ---- they stay
 
@@ -63,6 +61,9 @@ count-first t = length-map-range_with_len (first_row (shared_rows t) t.destinati
 
 count : (t : HoldTable) → HasPlaces t → length t.rows ≡ shared_rows t + t.destinations
 count t h = sym (length-map t.rows shape_of) ∙ ap (length {A = ℕ × ℕ}) h.rows ∙ length-map (rows_at_first t) shape_of ∙ count-first t
+
+pub has_rows : places_are_rows
+has_rows t h = record { rows = count t h }
 
 shape-at : (t : HoldTable) (row : ℕ) → HasPlaces t → row < shared_rows t + t.destinations →
     shape_of (marks_at t.rows row) ≡ shape_of (first_row (shared_rows t) t.destinations row)

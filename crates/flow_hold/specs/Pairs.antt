@@ -37,6 +37,9 @@ shape_of row = (row.first, length row.marks)
 pub record HasPlaces (t : HoldTable) : Type 0 where
   pub rows : map shape_of t.rows ≡ map shape_of (no_holds t.links t.sets t.destinations).rows
 
+abbrev pub places_are_rows : Type 0
+places_are_rows = (t : HoldTable) → HasPlaces t → HasRows t
+
 abbrev pub places_at_first : Type 0
 places_at_first = (links sets destinations : ℕ) → HasPlaces (no_holds links sets destinations)
 

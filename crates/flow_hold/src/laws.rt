@@ -1,8 +1,9 @@
 //! What holds of holds.
 
 ghost use Rattle.flow_hold.specs.Pairs.{lift_leaves_others, lift_ends_its_own, held_by_a_procedure};
-ghost use Rattle.flow_hold.specs.Pairs.{places_at_first, hold_keeps_places, lift_keeps_places, hold_adds_its_pair};
-ghost use Rattle.flow_hold.specs.Pairs.{hold_holds_its_flow, hold_keeps_flows_held, hold_leaves_others};
+ghost use Rattle.flow_hold.specs.Pairs.{places_are_rows, places_at_first, hold_keeps_places, lift_keeps_places};
+ghost use Rattle.flow_hold.specs.Pairs.{hold_adds_its_pair, hold_leaves_others, hold_holds_its_flow};
+ghost use Rattle.flow_hold.specs.Pairs.{hold_keeps_flows_held};
 
 /// A procedure that is lifted holds nothing, and what others hold stays.
 pub fn lift_takes_its_own_pairs_alone()
@@ -17,6 +18,7 @@ pub fn flow_is_held_by_a_procedure()
 
 /// Each procedure has marks for the flows that it may hold, whatever is held and lifted.
 pub fn holds_keep_their_places()
+    ensures rows { places_are_rows }
     ensures first { places_at_first }
     ensures hold { hold_keeps_places }
     ensures lift { lift_keeps_places }
