@@ -46,7 +46,7 @@ use Rattle.changeback.specs.Codes.{is_outstanding}
 use Rattle.exchange.specs.Local.{is_user, is_adjacent, cause_of, test_answer, link_with_code, local, do_order, do_acknowledgement, do_read, do_kind, do_test, manage, hand_over}
 use Rattle.exchange.specs.Messages.{whither_goes, deliver_to, submit_to}
 use Rattle.exchange.specs.Opening.{may_open, open_link, associate, bring_down, part, dissociate, allow, activate, deactivate}
-use Rattle.exchange.specs.Statuses.{step_on, act_by_status}
+use Rattle.exchange.specs.Statuses.{advance, act_by_status}
 use Rattle.exchange.specs.Frames.{Carrying, data_of, numbers, accept, carry, handle_by, act_by_data, receive_frame, leave_aside, read}
 use Rattle.exchange.specs.Happening.{CameUp, WentDown, FrameCame, Ticked, Submitted, Activated, Deactivated}
 use Rattle.exchange.specs.Queues.{WholeQueues, whole}
@@ -56,6 +56,7 @@ use Rattle.exchange.specs.Releasing.{go_on, go_by, go, go_each, release, release
 use Rattle.exchange.specs.Failing.{changeover_of}
 use Rattle.changeover.specs.Standing.{may_restart}
 use Rattle.exchange.proofs.Settling.{nothing_released}
+use Rattle.exchange.proofs.Returning.{advance-waits}
 use Rattle.exchange.specs.Exchange.{done_by}
 use Rattle.exchange.specs.Laws.{accept_data, accept_frame, accept_text, refusals_leave, queued_in_service}
 use Rattle.exchange.specs.Stands.{Abstract, IsSound}
@@ -230,7 +231,7 @@ module _ (c : Configuration) where
   act_by_data-notes act.Ignored link d n = ignored_frame n n link
   act_by_data-notes act.Fail link d n = handled_frame _ n link
   act_by_data-notes (act.Go step) link d n =
-      let next : Node WholeQueues = with_parts n (step_on c link step n.parts) in
+      let next : Node WholeQueues = advance whole c link step n in
       handle_by-notes (numbers whole c link d next) link d next
 
   act_by_status-notes : (a : Action) (link : ℕ) (status : LinkStatus) (n : Node WholeQueues) → Notes (act_by_status whole c a link status n) n link
@@ -282,7 +283,7 @@ release-serves c n l = go_each-serves c n.queues.held (record n { queues = whole
 released-left : (c : Configuration) (d : Done WholeQueues) (n : Node WholeQueues) → d.left ≡ n → all_wait c n.parts.holds n.queues.held ≡ true → (released whole c d).left ≡ n
 released-left c d n e w = ap (λ (m : Node WholeQueues). release whole c m) e ∙ nothing_released c n w
 
--- accepting a frame changes neither Held nor the holds
+-- accepting a frame leaves Held as it is, and what waits there still waits
 accept-waits : (c : Configuration) (link : ℕ) (d : Carrying) (m : Option Message) (confirmed : ℕ) (n : Node WholeQueues) → d.message ≡ m
     → all_wait c n.parts.holds n.queues.held ≡ true → all_wait c (accept whole c link d confirmed n).parts.holds (accept whole c link d confirmed n).queues.held ≡ true
 accept-waits c link d None confirmed n e w = rw e w
@@ -293,8 +294,8 @@ accept_data-waits : (c : Configuration) (a : Action) (link : ℕ) (d : Carrying)
 accept_data-waits c act.Ignored link d n w = w
 accept_data-waits c act.Fail link d n w = w
 accept_data-waits c (act.Go step) link d n w =
-    let next : Node WholeQueues = with_parts n (step_on c link step n.parts) in
-    accept-waits c link d d.message (count_confirmed (numbers whole c link d next)) next refl w
+    let next : Node WholeQueues = advance whole c link step n in
+    accept-waits c link d d.message (count_confirmed (numbers whole c link d next)) next refl (advance-waits c link step n w)
 
 accept_frame-waits : (c : Configuration) (carried : Option Carrying) (link : ℕ) (n : Node WholeQueues) → all_wait c n.parts.holds n.queues.held ≡ true
     → all_wait c (accept_frame carried link c n).parts.holds (accept_frame carried link c n).queues.held ≡ true

@@ -12,3 +12,4 @@ pub mod Calls
 pub mod Showing
 pub mod Leaving
 pub mod Releasing
+pub mod Returning
