@@ -1,13 +1,23 @@
 //! What holds of the link that a flow takes.
 
-ghost use Rattle.std.specs.Prelude.{ℕ, ◌≡◌, true, Some};
+ghost use Rattle.std.specs.Prelude.{ℕ, ◌≡◌, false, true, Some};
+ghost use Rattle.route_table.specs.Facts.{with_link};
 ghost use Rattle.route_table.specs.Chosen.{chosen_link};
+ghost use Rattle.node_links.specs.Link.{Link};
 ghost use Rattle.node_links.specs.LinkState.{is_in_service};
-ghost use Rattle.node_links.specs.Network.{Network, facts_of, link_in};
+ghost use Rattle.node_links.specs.Network.{Network, facts_of, link_in, with_state};
 
 /// The law that the link of a flow is in service. The call does nothing.
 pub fn the_link_of_a_flow_is_in_service()
     ensures { (n : Network) (destination selection link : ℕ)
         → chosen_link (facts_of n) destination selection ≡ Some link
         → is_in_service (link_in n.links link).alignment ≡ true }
+{}
+
+/// The law that a link out of service may change as it likes: with that link taken out, the routing facts are what they
+/// were. The call does nothing.
+pub fn a_link_out_of_service_as_before()
+    ensures { (n : Network) (link : ℕ) (state : Link)
+        → is_in_service (link_in n.links link).alignment ≡ false
+        → with_link link false (facts_of (with_state n link state)) ≡ facts_of n }
 {}

@@ -1,12 +1,13 @@
 //! The links of a node, and the routes that they open.
 
-ghost use Rattle.std.specs.Prelude.{◌≡◌, ◌<◌, ◌≤◌, false, drop, length, replicate, nat_lt, IfOk, IfSome};
+ghost use Rattle.std.specs.Prelude.{◌≡◌, ◌<◌, ◌≤◌, false, true, drop, length, replicate, nat_lt, IfOk, IfSome};
 ghost use Rattle.link_alignment.specs.Table.{action_at};
 ghost use Rattle.linkset.specs.Preference.{has_link};
-ghost use Rattle.route_table.specs.Facts.{set_at};
+ghost use Rattle.route_table.specs.Facts.{set_at, with_link};
 ghost use Rattle.route_table.specs.Chosen.{chosen_link, chosen_route};
-ghost use Rattle.node_links.specs.LinkState.{acted, down_link, fallen, opened};
+ghost use Rattle.node_links.specs.LinkState.{acted, down_link, fallen, is_in_service, opened};
 ghost use Rattle.node_links.specs.Network.{facts_of, first_network, link_in, with_state};
+ghost use Rattle.node_links.specs.Origin.{origin};
 
 use crate::link_state::LinkState;
 use link_alignment::{Action, Input};
@@ -18,8 +19,8 @@ use std::marker::Model;
 
 /// The state of each link, and the routes, which always know which links are in service.
 ///
-/// All room is made by `new`. Each call but `new`, `link_of` and `route_of` costs the same however many links there
-/// are.
+/// All room is made by `new`. Each call but `new`, `link_of`, `origin` and `route_of` costs the same however many links
+/// there are.
 #[derive(Drop)]
 pub struct NodeLinks {
     states: Vec<LinkState>,
@@ -80,6 +81,47 @@ impl NodeLinks {
         ensures fits { IfSome result (λ link. link < length self.now.links) }
     {
         self.routes.link_of(destination, sls)
+    }
+
+    /// How many destinations there are.
+    pub fn destinations(&self) -> usize
+        ensures { result ≡ length self.now.routes }
+    {
+        self.routes.destinations()
+    }
+
+    /// The link that a flow, which goes by this link, would take if this link were out of service (Q.704 §6.2). `None`
+    /// where it doesn't go by this link, or would have no other. The link is in service; nothing changes in the end. It
+    /// costs two calls of `link_of`.
+    pub fn origin(&mut self, link: LinkId, destination: usize, sls: Sls) -> Option<LinkId>
+        requires there { link < length self.old.links }
+        requires serves { is_in_service (link_in self.old.links link).alignment ≡ true }
+        ensures origin { result ≡ origin link
+            (chosen_link (with_link link false (facts_of self.old)) destination sls)
+            (chosen_link (facts_of self.old) destination sls) }
+        ensures links { self.new ≡ self.old }
+        ensures fits { IfSome result (λ from. from < length self.old.links) }
+    {
+        if self.link_of(destination, sls) != Some(link) {
+            return None;
+        }
+        match self.link_without(link, destination, sls) {
+            Some(from) if from != link => Some(from),
+            _ => None,
+        }
+    }
+
+    /// The link that a flow would take if a link in service weren't.
+    fn link_without(&mut self, link: LinkId, destination: usize, sls: Sls) -> Option<LinkId>
+        requires { is_in_service (link_in self.old.links link).alignment ≡ true }
+        ensures link { result ≡ chosen_link (with_link link false (facts_of self.old)) destination sls }
+        ensures links { self.new ≡ self.old }
+        ensures fits { IfSome result (λ from. from < length self.old.links) }
+    {
+        self.routes.set_link(link, false);
+        let other = self.routes.link_of(destination, sls);
+        self.routes.set_link(link, true);
+        other
     }
 
     /// Whether some link of a set is in service; a set that isn't there has none.

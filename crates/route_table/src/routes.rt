@@ -118,6 +118,13 @@ impl Routes {
         }
     }
 
+    /// How many destinations there are.
+    pub fn destinations(&self) -> usize
+        ensures { result ≡ length self.now.routes }
+    {
+        self.destinations.len()
+    }
+
     /// Whether some link of a set is in service; a set that isn't there has none.
     pub fn has_link(&self, set: SetId) -> bool
         ensures { result ≡ has_link self.now.in_service (set_at self.now set) }

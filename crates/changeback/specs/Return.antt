@@ -1,0 +1,58 @@
+-- The flows that a link takes over when it enters service (Q.704 §6.2), and what holds them (Q.704 §6.3, §6.4).
+use Rattle.std.specs.Prelude.{ℕ, zero, suc, Bool, List, [], ◌∷◌, ◌++◌, length, nat_eq, slice_index_or}
+use Rattle.std.specs.Prelude.{Option, Some, None}
+use Rattle.std.specs.List.{list_any}
+use Rattle.route_table.specs.Facts.{Facts}
+use Rattle.route_table.specs.Chosen.{chosen_link}
+use Rattle.flow_hold.specs.declared.procedure.Procedure.{Procedure}
+use Rattle.flow_hold.specs.Holds.{HoldTable, with_hold}
+use Rattle.node_links.specs.Origin.{origin}
+
+-- a flow that changes its link: its destination, its selection, and the link that it comes from
+pub record FlowChange : Type 0 where
+  pub destination : ℕ
+  pub sls : ℕ
+  pub from : ℕ
+
+-- how many selections a flow can have
+abbrev pub selections : ℕ
+selections = 16
+
+-- the change of a flow that comes from this link, if it comes from one
+abbrev pub change_from : (destination sls : ℕ) → Option ℕ → List FlowChange
+change_from destination sls (Some from) = record { destination = destination; sls = sls; from = from } ∷ []
+change_from destination sls None = []
+
+module _ (to : ℕ) (before after : Facts) where
+  -- the link that a flow comes from which a link takes over
+  abbrev pub origin_of : (destination sls : ℕ) → Option ℕ
+  origin_of destination sls = origin to (chosen_link before destination sls) (chosen_link after destination sls)
+
+  -- the flows of the first so many selections to a destination that it takes over, in order
+  unfoldable pub changes_of : (destination count : ℕ) → List FlowChange
+  changes_of destination zero = []
+  changes_of destination (suc count) =
+      changes_of destination count ++ change_from destination count (origin_of destination count)
+
+  -- and those to the first so many destinations
+  unfoldable pub changes : (count : ℕ) → List FlowChange
+  changes zero = []
+  changes (suc count) = changes count ++ changes_of count selections
+
+  -- all flows that it takes over
+  abbrev pub returned : List FlowChange
+  returned = changes (length after.routes)
+
+-- whether some flow comes from a link
+abbrev pub gives_up : List FlowChange → (other : ℕ) → Bool
+gives_up cs other = list_any (λ c. nat_eq c.from other) cs
+
+-- a flow is held where its former link has a holder
+abbrev pub with_change : HoldTable → FlowChange → Option Procedure → HoldTable
+with_change t c (Some procedure) = with_hold t procedure c.destination c.sls
+with_change t c None = t
+
+-- each flow is held by the holder of its former link, if it has one
+abbrev pub held_by : (holders : List (Option Procedure)) → List FlowChange → HoldTable → HoldTable
+held_by holders [] t = t
+held_by holders (c ∷ cs) t = held_by holders cs (with_change t c (slice_index_or holders c.from None))

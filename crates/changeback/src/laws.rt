@@ -1,0 +1,13 @@
+//! What holds of the flows that a link takes over.
+
+ghost use Rattle.changeback.specs.Laws.{each_is_moved, each_moved_is_found};
+
+/// Each flow that a link takes over went by the link that it comes from, and goes by the new one now.
+pub fn flows_taken_over_are_moved()
+    ensures { each_is_moved }
+{}
+
+/// Each flow that goes by the link now, and went by another before, is taken over.
+pub fn moved_flows_are_taken_over()
+    ensures { each_moved_is_found }
+{}

@@ -1,0 +1,56 @@
+//! The flows that a link takes over when it enters service.
+
+ghost use Rattle.std.specs.Prelude.{◌≡◌, ℕ, ◌<◌, ◌≤◌, ◌||◌, false, true, length, slice_index_or, IfSome};
+ghost use Rattle.route_table.specs.Facts.{with_link};
+ghost use Rattle.flow_hold.specs.Holds.{HoldTable};
+ghost use Rattle.node_links.specs.LinkState.{is_in_service};
+ghost use Rattle.node_links.specs.Network.{facts_of, link_in};
+ghost use Rattle.changeback.specs.Return.{selections, origin_of, change_from, changes_of, changes, returned};
+ghost use Rattle.changeback.specs.Return.{gives_up, held_by};
+
+use flow_hold::{Holds, Procedure};
+use node_links::NodeLinks;
+use signalling_types::{Limits, LinkId, SetId, Sls};
+
+/// How many selections a flow can have (Q.704 §2.2.4).
+const SELECTIONS: u8 = 16;
+
+/// Which links lose flows to a link in service, as against its being out of service (Q.704 §6.2). Nothing else changes.
+///
+/// It walks each flow of the node once, by two calls of `NodeLinks::link_of`.
+pub fn losing(links: &mut NodeLinks, link: LinkId) -> [bool; Limits::LINKS]
+    requires few { length links.old.links ≤ Limits.LINKS }
+    requires there { link < length links.old.links }
+    requires serves { is_in_service (link_in links.old.links link).alignment ≡ true }
+    ensures losing { (other : ℕ) → slice_index_or result other false
+        ≡ gives_up (returned link (with_link link false (facts_of links.old)) (facts_of links.old)) other }
+    ensures links { links.new ≡ links.old }
+{
+    let mut losing = [false; Limits::LINKS];
+    for destination in 0..links.destinations() {
+        mark_losing(links, link, destination, &mut losing);
+    }
+    losing
+}
+
+/// Holds each flow that a link in service takes over, as against its being out of service, by the procedure that is
+/// given for the link that it comes from (Q.704 §6.3, §6.4). A flow whose former link has none given is left aside.
+///
+/// It walks each flow of the node once, by two calls of `NodeLinks::link_of`.
+pub fn hold_changes(
+    links: &mut NodeLinks,
+    link: LinkId,
+    holders: &[Option<Procedure>; Limits::LINKS],
+    holds: &mut Holds,
+)
+    requires few { length links.old.links ≤ Limits.LINKS }
+    requires there { link < length links.old.links }
+    requires serves { is_in_service (link_in links.old.links link).alignment ≡ true }
+    ensures holds { holds.new ≡ held_by holders.now
+        (returned link (with_link link false (facts_of links.old)) (facts_of links.old)) holds.old }
+    ensures links { links.new ≡ links.old }
+{
+    for destination in 0..links.destinations() {
+        hold_changes_to(links, link, destination, holders, holds);
+    }
+}
