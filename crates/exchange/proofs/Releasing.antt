@@ -16,7 +16,7 @@ use Rattle.exchange.specs.Queues.{WholeQueues, queue_at, whole}
 use Rattle.exchange.specs.Routing.{link_of}
 use Rattle.exchange.specs.Holding.{waits}
 use Rattle.exchange.specs.Releasing.{go_on, go_by, go, go_each, release}
-use Rattle.exchange.specs.Laws.{goes_on_by, completion_leaves_others, release_keeps_order}
+use Rattle.exchange.specs.Laws.{goes_on_by, completion_leaves_others, release_keeps_order, moved_before_held}
 
 -- ---- a completion
 
@@ -116,3 +116,31 @@ order_kept c n = (
   go_each-held c n.queues.held (record n { queues = whole.without_held n.queues }),
   λ link h. go_each-all c n.queues.held (record n { queues = whole.without_held n.queues }) link h,
 )
+
+-- ---- a completion, then a release
+
+-- a test that each message passes which passes another
+kept_out : (a : Bool) (m : Message) (xs : List Message) → (a ≡ true → false ≡ true) → xs ≡ (if a then m ∷ xs else xs)
+kept_out true m xs f = absurd (f refl)
+kept_out false m xs f = refl
+
+through : (f : Message → Bool) (b : Bool) (m : Message) (xs : List Message) → (f m ≡ true → b ≡ true)
+    → filter f (if b then m ∷ xs else xs) ≡ (if f m then m ∷ filter f xs else filter f xs)
+through f true m xs h = refl
+through f false m xs h = kept_out (f m) m (filter f xs) h
+
+all-through : (f g : Message → Bool) (ms : List Message) → ((m : Message) → f m ≡ true → g m ≡ true) → filter f (filter g ms) ≡ filter f ms
+all-through f g [] h = refl
+all-through f g (m ∷ ms) h =
+    through f (g m) m (filter g ms) (h m)
+    ∙ ap (λ (xs : List Message). if f m then m ∷ xs else xs) (all-through f g ms h)
+
+pub moved_first : moved_before_held
+moved_first c p qs failed link number of_flow apart there h =
+    let n : Node WholeQueues = record { queues = whole.completed qs failed number; parts = p } in
+    let other : queue_at n.queues link ≡ queue_at qs link = (others_left qs failed number).0 link apart in
+    ap (filter of_flow) ((order_kept c n).1 link (omega (arith, there, length-set qs.links failed (emptied (queue_at qs failed)))))
+    ∙ filter-append of_flow (queue_at n.queues link).all (filter (goes_on_by c p link) n.queues.held)
+    ∙ ap (λ (q : Queue). filter of_flow q.all ++ filter of_flow (filter (goes_on_by c p link) n.queues.held)) other
+    ∙ ap (λ (xs : List Message). filter of_flow (queue_at qs link).all ++ xs)
+    (all-through of_flow (goes_on_by c p link) n.queues.held h ∙ (others_left qs failed number).1 of_flow)

@@ -10,7 +10,7 @@ use Rattle.route_table.specs.Facts.{Facts}
 use Rattle.flow_hold.specs.declared.procedure.Procedure.{Procedure}
 use Rattle.flow_hold.specs.Holds.{HoldTable, is_held, with_hold}
 use Rattle.flow_hold.proofs.Holding.{keeps_flows_held}
-use Rattle.changeback.specs.Return.{FlowChange, returned, gives_up, held_by, with_holder}
+use Rattle.changeback.specs.Return.{FlowChange, returned, gives_up, held_by, with_change}
 use Rattle.exchange.specs.State.{Node, with_parts}
 use Rattle.exchange.specs.Queues.{WholeQueues, whole}
 use Rattle.exchange.specs.Routing.{facts}
@@ -24,16 +24,16 @@ use Rattle.exchange.specs.Statuses.{enters, return_if, advance, step_on}
 record HoldsMore (t u : HoldTable) : Type 0 where
   pub flows : (destination sls : ℕ) → is_held t destination sls ≡ true → is_held u destination sls ≡ true
 
-with_holder-more : (holder : Option Procedure) (change : FlowChange) (t u : HoldTable) → HoldsMore t u → HoldsMore t (with_holder holder change u)
-with_holder-more None change t u m = m
-with_holder-more (Some procedure) change t u m = record {
+with_change-more : (holder : Option Procedure) (change : FlowChange) (t u : HoldTable) → HoldsMore t u → HoldsMore t (with_change u change holder)
+with_change-more None change t u m = m
+with_change-more (Some procedure) change t u m = record {
   flows = λ destination sls e. keeps_flows_held u procedure change.destination change.sls destination sls (m.flows destination sls e);
 }
 
 held_by-more : (hs : List (Option Procedure)) (changes : List FlowChange) (t u : HoldTable) → HoldsMore t u → HoldsMore t (held_by hs changes u)
 held_by-more hs [] t u m = m
 held_by-more hs (change ∷ changes) t u m =
-    held_by-more hs changes t (with_holder (slice_index_or hs change.from None) change u) (with_holder-more (slice_index_or hs change.from None) change t u m)
+    held_by-more hs changes t (with_change u change (slice_index_or hs change.from None)) (with_change-more (slice_index_or hs change.from None) change t u m)
 
 held_at-more : (place : Option ℕ) (sls : ℕ) (t u : HoldTable) → HoldsMore t u → is_held_at t place sls ≡ true → is_held_at u place sls ≡ true
 held_at-more (Some place) sls t u m e = m.flows place sls e

@@ -103,3 +103,15 @@ release_keeps_order =
     × ((link : ℕ) → link < length node.queues.links →
     (queue_at (release whole c node).queues link).all
     ≡ (queue_at node.queues link).all ++ filter (goes_on_by c node.parts link) node.queues.held)
+
+-- a changeover that meets a changeback: when messages of a flow go on by a link, those that a completion moves stand
+-- before those that were held
+abbrev pub moved_before_held : Type 0
+moved_before_held =
+    (c : Configuration) (p : Parts) (qs : WholeQueues) (failed link : ℕ) (number : Option ℕ)
+    (of_flow : Message → Bool) → link ≢ failed → link < length qs.links →
+    ((m : Message) → of_flow m ≡ true → goes_on_by c p link m ≡ true) →
+    filter of_flow
+    (queue_at (release whole c (record { queues = whole.completed qs failed number; parts = p })).queues link).all
+    ≡ filter of_flow (queue_at qs link).all
+    ++ (filter of_flow (moved (queue_at qs failed) number) ++ filter of_flow qs.held)

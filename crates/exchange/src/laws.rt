@@ -1,7 +1,7 @@
 //! Laws of the abstract exchange.
 
 ghost use Rattle.exchange.specs.Laws.{refusals_leave, nothing_taken_leaves, queued_in_service};
-ghost use Rattle.exchange.specs.Laws.{completion_leaves_others, release_keeps_order};
+ghost use Rattle.exchange.specs.Laws.{completion_leaves_others, release_keeps_order, moved_before_held};
 
 /// A refused event changes nothing but the notices; only where a message in a frame is refused, what
 /// accepting that frame did stands.
@@ -30,4 +30,10 @@ pub fn completion_leaves_other_links()
 /// Held: each flow keeps its order.
 pub fn release_keeps_the_order_of_each_flow()
     ensures { release_keeps_order }
+{}
+
+/// Where a changeover meets a changeback, each flow keeps its order: of its messages that go on by a link, those that
+/// the changeover moves stand before those that were held.
+pub fn moved_messages_go_before_held_ones()
+    ensures { moved_before_held }
 {}
