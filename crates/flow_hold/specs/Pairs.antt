@@ -53,7 +53,7 @@ lift_keeps_places = (t : HoldTable) (procedure : Procedure) → HasPlaces t → 
 
 -- ---- a hold
 
--- whether a procedure is there and may hold flows of a destination: a rerouting only those of its own
+-- whether a procedure is there and may hold flows of a destination that is there: a rerouting only those of its own
 abbrev pub may_hold : HoldTable → Procedure → (destination : ℕ) → Bool
 may_hold t (Changeover link) destination = nat_lt link t.links
 may_hold t (Time link) destination = nat_lt link t.links
