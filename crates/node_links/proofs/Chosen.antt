@@ -1,9 +1,9 @@
 -- The link that a flow takes is there, and in service.
 use Rattle.std.proofs.Common.{◌≡◌, ◌<◌, ℕ, zero, suc, Bool, true, false, List, [], ◌∷◌, length, ap, sym, ◌∙◌, subst, arith}
-use Rattle.std.specs.Prelude.{Option, Some, None, IfSome, slice_index_or}
+use Rattle.std.specs.Prelude.{Option, Some, None, IfSome, slice_index_or, slice_set}
 use Rattle.std.proofs.Math.ListN.{get_or-map}
-use Rattle.std.proofs.lemmas.List.{length-map}
-use Rattle.route_table.specs.Facts.{Facts}
+use Rattle.std.proofs.lemmas.List.{length-map, length-set}
+use Rattle.route_table.specs.Facts.{Facts, with_link}
 use Rattle.route_table.specs.Chosen.{chosen_link}
 use Rattle.route_table.proofs.InService.{chosen_serves}
 use Rattle.node_links.specs.Link.{Link}
@@ -34,3 +34,14 @@ pub answer_is_there : (n : Network) (destination selection : ℕ) (answer : Opti
     → IfSome answer (λ link. link < length n.links)
 answer_is_there n destination selection None e = tt
 answer_is_there n destination selection (Some link) e = chosen_is_there n destination selection link (sym e)
+
+-- and of an answer with a link taken out
+length-serving_without : (n : Network) (without : ℕ) → length (slice_set (serving n.links) without false) ≡ length n.links
+length-serving_without n without = length-set (serving n.links) without false ∙ length-map n.links (λ (l : Link). is_in_service l.alignment)
+
+pub other_is_there : (n : Network) (without destination selection : ℕ) (answer : Option ℕ)
+    → answer ≡ chosen_link (with_link without false (facts_of n)) destination selection → IfSome answer (λ link. link < length n.links)
+other_is_there n without destination selection None e = tt
+other_is_there n without destination selection (Some link) e =
+    subst (λ m. link < m) (length-serving_without n without)
+    (within (slice_set (serving n.links) without false) link (chosen_serves (with_link without false (facts_of n)) destination selection link (sym e)))

@@ -1,10 +1,11 @@
 -- Which links are in service, as one of them changes.
-use Rattle.std.proofs.Common.{◌≡◌, ◌∷◌, ℕ, Bool, false, List, replicate, zero, suc, refl, ap, sym, ◌∙◌}
+use Rattle.std.proofs.Common.{◌≡◌, ◌∷◌, ℕ, Bool, false, true, List, replicate, zero, suc, refl, ap, sym, ◌∙◌}
 use Rattle.std.specs.Prelude.{slice_index_or, slice_set}
-use Rattle.std.proofs.lemmas.List.{map-set, set-get_or}
+use Rattle.std.proofs.Math.ListN.{get_or-map}
+use Rattle.std.proofs.lemmas.List.{map-set, set-get_or, set-set}
 use Rattle.node_links.specs.Link.{Link}
 use Rattle.node_links.specs.LinkState.{down_link, is_in_service}
-use Rattle.node_links.specs.Network.{serving}
+use Rattle.node_links.specs.Network.{serving, link_in}
 
 -- one link changes
 pub serving_set : (links : List Link) (link : ℕ) (state : Link)
@@ -19,6 +20,23 @@ serving_alike links link old state e =
     ∙ ap (λ (b : Bool). slice_set (serving links) link b) e
     ∙ sym (serving_set links link (slice_index_or links link old))
     ∙ ap serving (set-get_or links link old)
+
+-- a link that wasn't in service changes: taken out again, it leaves the others as they were
+pub serving_without : (links : List Link) (link : ℕ) (state : Link) → is_in_service (link_in links link).alignment ≡ false
+    → slice_set (serving (slice_set links link state)) link false ≡ serving links
+serving_without links link state e =
+    ap (λ (bs : List Bool). slice_set bs link false) (serving_set links link state)
+    ∙ set-set (serving links) link (is_in_service state.alignment) false
+    ∙ sym (ap (λ (b : Bool). slice_set (serving links) link b) (get_or-map (λ (l : Link). is_in_service l.alignment) links link down_link ∙ e))
+    ∙ set-get_or (serving links) link false
+
+-- a link in service is taken out, and put back
+pub serving_again : (links : List Link) (link : ℕ) → is_in_service (link_in links link).alignment ≡ true
+    → slice_set (slice_set (serving links) link false) link true ≡ serving links
+serving_again links link e =
+    set-set (serving links) link false true
+    ∙ sym (ap (λ (b : Bool). slice_set (serving links) link b) (get_or-map (λ (l : Link). is_in_service l.alignment) links link down_link ∙ e))
+    ∙ set-get_or (serving links) link false
 
 -- no link that is down carries messages
 pub serving_none : (n : ℕ) → serving (replicate n down_link) ≡ replicate n false
