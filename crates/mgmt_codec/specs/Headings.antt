@@ -5,6 +5,8 @@ use Rattle.mgmt_codec.specs.declared.link_test.TestKind.TheVariants.{Test, Ackno
 use Rattle.mgmt_codec.specs.declared.management.Management.{Management}
 use Rattle.mgmt_codec.specs.declared.management.Management.TheVariants.{ExtendedChangeoverOrder}
 use Rattle.mgmt_codec.specs.declared.management.Management.TheVariants.{ExtendedChangeoverAcknowledgement}
+use Rattle.mgmt_codec.specs.declared.management.Management.TheVariants.{ChangebackDeclaration}
+use Rattle.mgmt_codec.specs.declared.management.Management.TheVariants.{ChangebackAcknowledgement}
 use Rattle.mgmt_codec.specs.declared.management.Management.TheVariants.{EmergencyChangeoverOrder}
 use Rattle.mgmt_codec.specs.declared.management.Management.TheVariants.{EmergencyChangeoverAcknowledgement}
 use Rattle.mgmt_codec.specs.declared.management.Management.TheVariants.{TrafficRestartAllowed}
@@ -29,6 +31,8 @@ kind_of octet =
 abbrev pub management_heading : Management → ℕ
 management_heading (ExtendedChangeoverOrder slc number) = heading 1 3
 management_heading (ExtendedChangeoverAcknowledgement slc number) = heading 1 4
+management_heading (ChangebackDeclaration slc code) = heading 1 5
+management_heading (ChangebackAcknowledgement slc code) = heading 1 6
 management_heading (EmergencyChangeoverOrder slc) = heading 2 1
 management_heading (EmergencyChangeoverAcknowledgement slc) = heading 2 2
 management_heading TrafficRestartAllowed = heading 7 1

@@ -2,8 +2,8 @@
 
 ghost use Rattle.std.specs.Prelude.{◌≡◌, ◌≤◌, Ok, length, take};
 ghost use Rattle.mgmt_codec.specs.Headings.{management_heading};
-ghost use Rattle.mgmt_codec.specs.Management.{code_of, last_accepted_of, message_of, number_in};
-ghost use Rattle.mgmt_codec.specs.Management.{read_management, management_octets};
+ghost use Rattle.mgmt_codec.specs.Management.{changeback_code_in, link_code_of, message_of, number_in};
+ghost use Rattle.mgmt_codec.specs.Management.{read_management, management_octets, number_octets};
 
 use crate::fault::MgmtFault;
 use crate::writing::write_at;
@@ -18,6 +18,10 @@ pub const MANAGEMENT_OCTETS: usize = 8;
 const EXTENDED_CHANGEOVER_ORDER: u8 = 0x31;
 
 const EXTENDED_CHANGEOVER_ACKNOWLEDGEMENT: u8 = 0x41;
+
+const CHANGEBACK_DECLARATION: u8 = 0x51;
+
+const CHANGEBACK_ACKNOWLEDGEMENT: u8 = 0x61;
 
 const EMERGENCY_CHANGEOVER_ORDER: u8 = 0x12;
 
@@ -34,6 +38,11 @@ pub enum Management {
     ExtendedChangeoverOrder(Sls, Number24),
     /// XCA: answers XCO or ECO, with the number of the last message that the sender accepted on the link (Q.2210 §9.8).
     ExtendedChangeoverAcknowledgement(Sls, Number24),
+    /// CBD: the flows that return to the link of this code go by it once this message is answered. The changeback code
+    /// tells its answer from others (Q.704 §6.3, §15.5).
+    ChangebackDeclaration(Sls, u8),
+    /// CBA: answers CBD, with its link code and its changeback code (Q.704 §6.3, §15.5).
+    ChangebackAcknowledgement(Sls, u8),
     /// ECO: the link of this code has failed, and the sender can't tell what it accepted (Q.704 §5.6).
     EmergencyChangeoverOrder(Sls),
     /// ECA: answers XCO or ECO; the sender can't tell what it accepted (Q.704 §5.6).
@@ -46,8 +55,8 @@ impl Management {
     /// The message of a signalling information field.
     ///
     /// Short where there is no heading behind the label; else NotInProfile where the heading is one that the node
-    /// leaves out; else Short where the message has a number and fewer than three octets stand there. Octets behind the
-    /// fields of a message are ignored.
+    /// leaves out; else Short where too few octets stand behind it: a number has three, a changeback code one. Octets
+    /// behind the fields of a message are ignored.
     pub fn read(sif: &[u8]) -> Result<Management, MgmtFault>
         ensures { result ≡ read_management sif.now }
     {
@@ -71,6 +80,12 @@ impl Management {
             EXTENDED_CHANGEOVER_ACKNOWLEDGEMENT => {
                 Ok(Management::ExtendedChangeoverAcknowledgement(slc, number_in(fields)?))
             }
+            CHANGEBACK_DECLARATION => {
+                Ok(Management::ChangebackDeclaration(slc, changeback_code_in(fields)?))
+            }
+            CHANGEBACK_ACKNOWLEDGEMENT => {
+                Ok(Management::ChangebackAcknowledgement(slc, changeback_code_in(fields)?))
+            }
             EMERGENCY_CHANGEOVER_ORDER => Ok(Management::EmergencyChangeoverOrder(slc)),
             EMERGENCY_CHANGEOVER_ACKNOWLEDGEMENT => {
                 Ok(Management::EmergencyChangeoverAcknowledgement(slc))
@@ -90,16 +105,20 @@ impl Management {
         let label = Label {
             dpc,
             opc,
-            sls: self.code(),
+            sls: self.link_code(),
         };
         let at = write_at(out, 0, &label.write());
         let at = write_at(out, at, &[self.heading()]);
-        match self.last_accepted() {
-            Some(number) => {
-                let [high, middle, low] = number.to_be_bytes();
-                write_at(out, at, &[low, middle, high])
+        match self {
+            Management::ExtendedChangeoverOrder(_, number)
+            | Management::ExtendedChangeoverAcknowledgement(_, number) => {
+                write_at(out, at, &low_first(*number))
             }
-            None => at,
+            Management::ChangebackDeclaration(_, code)
+            | Management::ChangebackAcknowledgement(_, code) => write_at(out, at, &[*code]),
+            Management::EmergencyChangeoverOrder(_)
+            | Management::EmergencyChangeoverAcknowledgement(_)
+            | Management::TrafficRestartAllowed => at,
         }
     }
 
@@ -112,6 +131,8 @@ impl Management {
             Management::ExtendedChangeoverAcknowledgement(_, _) => {
                 EXTENDED_CHANGEOVER_ACKNOWLEDGEMENT
             }
+            Management::ChangebackDeclaration(_, _) => CHANGEBACK_DECLARATION,
+            Management::ChangebackAcknowledgement(_, _) => CHANGEBACK_ACKNOWLEDGEMENT,
             Management::EmergencyChangeoverOrder(_) => EMERGENCY_CHANGEOVER_ORDER,
             Management::EmergencyChangeoverAcknowledgement(_) => {
                 EMERGENCY_CHANGEOVER_ACKNOWLEDGEMENT
@@ -121,32 +142,23 @@ impl Management {
     }
 
     /// What stands in the label's place of the selection: the link code of a message that has one, else 0.
-    fn code(&self) -> Sls
-        ensures { result ≡ code_of self.now }
+    fn link_code(&self) -> Sls
+        ensures { result ≡ link_code_of self.now }
     {
         match self {
-            Management::ExtendedChangeoverOrder(slc, _) => *slc,
-            Management::ExtendedChangeoverAcknowledgement(slc, _) => *slc,
-            Management::EmergencyChangeoverOrder(slc) => *slc,
-            Management::EmergencyChangeoverAcknowledgement(slc) => *slc,
-            Management::TrafficRestartAllowed => no_code(),
-        }
-    }
-
-    /// The number of the last message that the sender accepted, in a message that tells it.
-    fn last_accepted(&self) -> Option<Number24>
-        ensures { result ≡ last_accepted_of self.now }
-    {
-        match self {
-            Management::ExtendedChangeoverOrder(_, number) => Some(*number),
-            Management::ExtendedChangeoverAcknowledgement(_, number) => Some(*number),
-            _ => None,
+            Management::ExtendedChangeoverOrder(slc, _)
+            | Management::ExtendedChangeoverAcknowledgement(slc, _)
+            | Management::ChangebackDeclaration(slc, _)
+            | Management::ChangebackAcknowledgement(slc, _)
+            | Management::EmergencyChangeoverOrder(slc)
+            | Management::EmergencyChangeoverAcknowledgement(slc) => *slc,
+            Management::TrafficRestartAllowed => no_link_code(),
         }
     }
 }
 
 /// What stands in the place of a link code in a message that has none.
-fn no_code() -> Sls
+fn no_link_code() -> Sls
     ensures { result ≡ 0 }
 {
     let Some(code) = Sls::new(0) else {
@@ -163,4 +175,23 @@ fn number_in(fields: &[u8]) -> Result<Number24, MgmtFault>
         return Err(MgmtFault::Short);
     };
     Ok(Number24::from_be_bytes([high, middle, low]))
+}
+
+/// The three octets of a number, low octet first.
+fn low_first(number: Number24) -> [u8; 3]
+    ensures octets { result ≡ number_octets number }
+    ensures read_back { number_in result ≡ Ok number }
+{
+    let [high, middle, low] = number.to_be_bytes();
+    [low, middle, high]
+}
+
+/// The changeback code in front of the fields.
+fn changeback_code_in(fields: &[u8]) -> Result<u8, MgmtFault>
+    ensures { result ≡ changeback_code_in fields.now }
+{
+    let [code, ..] = *fields else {
+        return Err(MgmtFault::Short);
+    };
+    Ok(code)
 }

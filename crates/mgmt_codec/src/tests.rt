@@ -53,6 +53,22 @@ fn changeover_messages(rt: HostRuntime) {
     );
 }
 
+/// The changeback code of a field that is read as CBA.
+fn acknowledged_code(sif: &[u8]) -> Option<u8> {
+    match Management::read(sif) {
+        Ok(Management::ChangebackAcknowledgement(_, code)) => Some(code),
+        _ => None,
+    }
+}
+
+#[test]
+fn changeback_messages(rt: HostRuntime) {
+    assert!(rt; is_written(&[0x02, 0x40, 0x00, 0x10, 0x51, 0x00]));
+    assert!(rt; is_written(&[0x02, 0x40, 0x00, 0x10, 0x61, 0x09]));
+    assert!(rt; Management::read(&[0x02, 0x40, 0x00, 0x10, 0x51]) == Err(MgmtFault::Short));
+    assert!(rt; acknowledged_code(&[0x02, 0x40, 0x00, 0x10, 0x61, 0x09, 0x07]) == Some(9));
+}
+
 /// The fault of a link test behind a label, by number; 0 where it has none.
 fn test_fault(octets: &[u8]) -> u8 {
     match LinkTest::read(octets) {
