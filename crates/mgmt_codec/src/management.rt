@@ -1,8 +1,8 @@
 //! Management messages.
 
-ghost use Rattle.std.specs.Prelude.{◌≡◌, ◌+◌, ◌≤◌, ◌++◌, Ok, length, take};
+ghost use Rattle.std.specs.Prelude.{◌≡◌, ◌≤◌, Ok, length, take};
 ghost use Rattle.mgmt_codec.specs.Headings.{management_heading};
-ghost use Rattle.mgmt_codec.specs.Management.{changeback_code_in, field_octets, link_code_of, message_of, number_in};
+ghost use Rattle.mgmt_codec.specs.Management.{changeback_code_in, link_code_of, message_of, number_in};
 ghost use Rattle.mgmt_codec.specs.Management.{read_management, management_octets, number_octets};
 
 use crate::fault::MgmtFault;
