@@ -5,8 +5,8 @@ ghost use Rattle.route_table.specs.Facts.{with_link};
 ghost use Rattle.flow_hold.specs.Holds.{HoldTable};
 ghost use Rattle.node_links.specs.LinkState.{is_in_service};
 ghost use Rattle.node_links.specs.Network.{facts_of, link_in};
-ghost use Rattle.changeback.specs.Return.{selections, origin_of, change_from, changes_of, changes, returned};
-ghost use Rattle.changeback.specs.Return.{gives_up, held_by};
+ghost use Rattle.changeback.specs.Return.{selections, origin_of, change_from, changes_of, returned};
+ghost use Rattle.changeback.specs.Return.{comes_from, gives_up, held_by};
 
 use flow_hold::{Holds, Procedure};
 use node_links::NodeLinks;
@@ -52,5 +52,106 @@ pub fn hold_changes(
 {
     for destination in 0..links.destinations() {
         hold_changes_to(links, link, destination, holders, holds);
+    }
+}
+
+/// Marks the links that lose flows to one destination.
+fn mark_losing(
+    links: &mut NodeLinks,
+    link: LinkId,
+    destination: usize,
+    losing: &mut [bool; Limits::LINKS],
+)
+    requires few { length links.old.links ≤ Limits.LINKS }
+    requires there { link < length links.old.links }
+    requires serves { is_in_service (link_in links.old.links link).alignment ≡ true }
+    ensures losing { (other : ℕ) → slice_index_or losing.new other false
+        ≡ (slice_index_or losing.old other false || gives_up (changes_of link
+            (with_link link false (facts_of links.old)) (facts_of links.old) destination selections) other) }
+    ensures links { links.new ≡ links.old }
+{
+    for selection in 0..SELECTIONS {
+        let from = former_link(links, link, destination, selection);
+        mark(losing, from);
+    }
+}
+
+/// Marks a link.
+fn mark(losing: &mut [bool; Limits::LINKS], from: Option<LinkId>)
+    requires { IfSome from (λ from. from < Limits.LINKS) }
+    ensures { (other : ℕ) → slice_index_or losing.new other false
+        ≡ (slice_index_or losing.old other false || comes_from from other) }
+{
+    if let Some(from) = from {
+        losing[from.index()] = true;
+    }
+}
+
+/// The link that a flow comes from which the link in service takes over.
+fn former_link(
+    links: &mut NodeLinks,
+    link: LinkId,
+    destination: usize,
+    selection: u8,
+) -> Option<LinkId>
+    requires few { length links.old.links ≤ Limits.LINKS }
+    requires there { link < length links.old.links }
+    requires serves { is_in_service (link_in links.old.links link).alignment ≡ true }
+    requires selection { selection < selections }
+    ensures from { result ≡ origin_of link (with_link link false (facts_of links.old)) (facts_of links.old)
+        destination selection }
+    ensures links { links.new ≡ links.old }
+    ensures fits { IfSome result (λ from. from < Limits.LINKS) }
+{
+    let Some(sls) = Sls::new(selection) else {
+        unreachable!()
+    };
+    links.origin(link, destination, sls)
+}
+
+/// Holds the flows to one destination.
+fn hold_changes_to(
+    links: &mut NodeLinks,
+    link: LinkId,
+    destination: usize,
+    holders: &[Option<Procedure>; Limits::LINKS],
+    holds: &mut Holds,
+)
+    requires few { length links.old.links ≤ Limits.LINKS }
+    requires there { link < length links.old.links }
+    requires serves { is_in_service (link_in links.old.links link).alignment ≡ true }
+    ensures holds { holds.new ≡ held_by holders.now (changes_of link
+        (with_link link false (facts_of links.old)) (facts_of links.old) destination selections) holds.old }
+    ensures links { links.new ≡ links.old }
+{
+    for selection in 0..SELECTIONS {
+        hold_change(links, link, destination, selection, holders, holds);
+    }
+}
+
+/// Holds one flow, where the link in service takes it over.
+fn hold_change(
+    links: &mut NodeLinks,
+    link: LinkId,
+    destination: usize,
+    selection: u8,
+    holders: &[Option<Procedure>; Limits::LINKS],
+    holds: &mut Holds,
+)
+    requires few { length links.old.links ≤ Limits.LINKS }
+    requires there { link < length links.old.links }
+    requires serves { is_in_service (link_in links.old.links link).alignment ≡ true }
+    requires selection { selection < selections }
+    ensures holds { holds.new ≡ held_by holders.now (change_from destination selection (origin_of link
+        (with_link link false (facts_of links.old)) (facts_of links.old) destination selection)) holds.old }
+    ensures links { links.new ≡ links.old }
+{
+    let Some(sls) = Sls::new(selection) else {
+        unreachable!()
+    };
+    if let Some(from) = links.origin(link, destination, sls) {
+        if let Some(procedure) = holders[from.index()] {
+            holds.hold(procedure, destination, sls);
+        }
     }
 }
