@@ -1,5 +1,5 @@
 -- The flows that a link takes over when it enters service (Q.704 §6.2), and what holds them (Q.704 §6.3, §6.4).
-use Rattle.std.specs.Prelude.{ℕ, zero, suc, Bool, List, [], ◌∷◌, ◌++◌, length, nat_eq, slice_index_or}
+use Rattle.std.specs.Prelude.{ℕ, zero, suc, Bool, List, [], ◌∷◌, ◌++◌, false, length, nat_eq, slice_index_or}
 use Rattle.std.specs.Prelude.{Option, Some, None}
 use Rattle.std.specs.List.{list_any}
 use Rattle.route_table.specs.Facts.{Facts}
@@ -42,6 +42,11 @@ module _ (to : ℕ) (before after : Facts) where
   -- all flows that it takes over
   abbrev pub returned : List FlowChange
   returned = changes (length after.routes)
+
+-- whether this is the link that a flow comes from, if it comes from one
+abbrev pub comes_from : Option ℕ → (other : ℕ) → Bool
+comes_from (Some from) other = nat_eq from other
+comes_from None other = false
 
 -- whether some flow comes from a link
 abbrev pub gives_up : List FlowChange → (other : ℕ) → Bool

@@ -109,7 +109,7 @@ fn free_sets(alloc: Global, sets: usize) -> Result<Vec<SetCodes>, AllocError>
     ensures { IfOk result (λ made. made.items ≡ no_codes sets) }
 {
     let mut made = Vec::with_capacity(alloc, sets)?;
-    for _set in 0..sets {
+    for set in 0..sets {
         made.push_reserved(SetCodes::new());
     }
     Ok(made)

@@ -1,15 +1,16 @@
 //! The flows that a link takes over when it enters service.
 
-ghost use Rattle.std.specs.Prelude.{◌≡◌, ℕ, ◌<◌, ◌≤◌, ◌||◌, false, true, length, slice_index_or};
+ghost use Rattle.std.specs.Prelude.{◌≡◌, ℕ, ◌<◌, ◌≤◌, ◌||◌, false, true, length, slice_index_or, IfSome};
 ghost use Rattle.route_table.specs.Facts.{with_link};
+ghost use Rattle.flow_hold.specs.Holds.{HoldTable};
 ghost use Rattle.node_links.specs.LinkState.{is_in_service};
 ghost use Rattle.node_links.specs.Network.{facts_of, link_in};
 ghost use Rattle.changeback.specs.Return.{selections, origin_of, change_from, changes_of, returned};
-ghost use Rattle.changeback.specs.Return.{gives_up, held_by};
+ghost use Rattle.changeback.specs.Return.{comes_from, gives_up, held_by};
 
 use flow_hold::{Holds, Procedure};
 use node_links::NodeLinks;
-use signalling_types::{Limits, LinkId, Sls};
+use signalling_types::{Limits, LinkId, SetId, Sls};
 
 /// How many selections a flow can have (Q.704 §2.2.4).
 const SELECTIONS: u8 = 16;
@@ -66,40 +67,49 @@ fn mark_losing(
     requires serves { is_in_service (link_in links.old.links link).alignment ≡ true }
     ensures losing { (other : ℕ) → slice_index_or losing.new other false
         ≡ (slice_index_or losing.old other false || gives_up (changes_of link
-        (with_link link false (facts_of links.old)) (facts_of links.old) destination selections) other) }
+            (with_link link false (facts_of links.old)) (facts_of links.old) destination selections) other) }
     ensures links { links.new ≡ links.old }
 {
     for selection in 0..SELECTIONS {
-        mark_origin(links, link, destination, selection, losing);
+        let from = former_link(links, link, destination, selection);
+        mark(losing, from);
     }
 }
 
-/// Marks the link that loses one flow, if one does.
-fn mark_origin(
-    links: &mut NodeLinks,
-    link: LinkId,
-    destination: usize,
-    selection: u8,
-    losing: &mut [bool; Limits::LINKS],
-)
-    requires few { length links.old.links ≤ Limits.LINKS }
-    requires there { link < length links.old.links }
-    requires serves { is_in_service (link_in links.old.links link).alignment ≡ true }
-    requires selection { selection < selections }
-    ensures losing { (other : ℕ) → slice_index_or losing.new other false
-        ≡ (slice_index_or losing.old other false || gives_up (change_from destination selection (origin_of link
-        (with_link link false (facts_of links.old)) (facts_of links.old) destination selection)) other) }
-    ensures links { links.new ≡ links.old }
+/// Marks a link.
+fn mark(losing: &mut [bool; Limits::LINKS], from: Option<LinkId>)
+    requires { IfSome from (λ from. from < Limits.LINKS) }
+    ensures { (other : ℕ) → slice_index_or losing.new other false
+        ≡ (slice_index_or losing.old other false || comes_from from other) }
 {
-    let Some(sls) = Sls::new(selection) else {
-        unreachable!()
-    };
-    if let Some(from) = links.origin(link, destination, sls) {
+    if let Some(from) = from {
         losing[from.index()] = true;
     }
 }
 
-/// Holds the flows to one destination that a link takes over.
+/// The link that a flow comes from which the link in service takes over.
+fn former_link(
+    links: &mut NodeLinks,
+    link: LinkId,
+    destination: usize,
+    selection: u8,
+) -> Option<LinkId>
+    requires few { length links.old.links ≤ Limits.LINKS }
+    requires there { link < length links.old.links }
+    requires serves { is_in_service (link_in links.old.links link).alignment ≡ true }
+    requires selection { selection < selections }
+    ensures from { result ≡ origin_of link (with_link link false (facts_of links.old)) (facts_of links.old)
+        destination selection }
+    ensures links { links.new ≡ links.old }
+    ensures fits { IfSome result (λ from. from < Limits.LINKS) }
+{
+    let Some(sls) = Sls::new(selection) else {
+        unreachable!()
+    };
+    links.origin(link, destination, sls)
+}
+
+/// Holds the flows to one destination.
 fn hold_changes_to(
     links: &mut NodeLinks,
     link: LinkId,
@@ -119,7 +129,7 @@ fn hold_changes_to(
     }
 }
 
-/// Holds one flow, where a link takes it over and its former link has a holder.
+/// Holds one flow, where the link in service takes it over.
 fn hold_change(
     links: &mut NodeLinks,
     link: LinkId,
@@ -139,9 +149,9 @@ fn hold_change(
     let Some(sls) = Sls::new(selection) else {
         unreachable!()
     };
-    if let Some(from) = links.origin(link, destination, sls)
-        && let Some(procedure) = holders[from.index()]
-    {
-        holds.hold(procedure, destination, sls);
+    if let Some(from) = links.origin(link, destination, sls) {
+        if let Some(procedure) = holders[from.index()] {
+            holds.hold(procedure, destination, sls);
+        }
     }
 }

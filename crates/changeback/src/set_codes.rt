@@ -61,8 +61,9 @@ impl SetCodes {
     pub(crate) fn put(&mut self, code: u8, outstanding: bool)
         ensures { self.new ≡ slice_set self.old code outstanding }
     {
-        if let Some(mark) = self.outstanding.get_mut(usize::from(code)) {
-            *mark = outstanding;
+        let code = usize::from(code);
+        if code < Limits::CHANGEBACK_CODES {
+            self.outstanding[code] = outstanding;
         }
     }
 }

@@ -1,0 +1,19 @@
+-- The first code that is free.
+use Rattle.std.proofs.Common.{◌≡◌, ℕ, ◌<◌, ◌≤◌, Bool, true, false, not, cond, List, length, get_or, nat_lt, ap, ◌∙◌, arith}
+use Rattle.std.specs.Prelude.{Option, Some, None}
+use Rattle.std.specs.List.{position, position_or_len}
+use Rattle.std.proofs.lemmas.Bool.Decides.{nat_tests}
+use Rattle.std.proofs.lemmas.List.Sums.{position_or_len_is}
+
+placed : (p : Bool → Bool) (xs : List Bool) (i : ℕ) (b : Bool) → position_or_len p xs ≡ i → nat_lt i (length xs) ≡ b → position p xs ≡ cond b (Some i) None
+placed p xs i b e t =
+    ap (λ (n : ℕ). cond {A = Option ℕ} (nat_lt n (length xs)) (Some n) None) e
+    ∙ ap (λ (b : Bool). cond {A = Option ℕ} b (Some i) None) t
+
+pub found : (xs : List Bool) (i : ℕ) → ((k : ℕ) → k < i → not (get_or xs k false) ≡ false) → i < length xs → get_or xs i false ≡ false → position not xs ≡ Some i
+found xs i before l here =
+    placed not xs i true (position_or_len_is not xs i false (omega (arith, l)) before (λ _. ap not here)) (grind (arith, nat_tests, l))
+
+pub not_found : (xs : List Bool) (i : ℕ) → ((k : ℕ) → k < i → not (get_or xs k false) ≡ false) → i ≡ length xs → position not xs ≡ None
+not_found xs i before e =
+    placed not xs i false (position_or_len_is not xs i false (omega (arith, e)) before (λ l. absurd (omega (arith, e, l)))) (grind (arith, nat_tests, e))

@@ -1,0 +1,7 @@
+-- As many sets as the loop has gone round.
+use Rattle.std.proofs.Common.{◌≡◌}
+use Rattle.changeback.specs.Codes.{no_codes}
+use Rattle.changeback.proofs.changeback.free_sets.Given as goal
+
+abbrev pub invariant-loop-set : goal.invariant-loop-set
+invariant-loop-set l = l.made.items ≡ no_codes l.set

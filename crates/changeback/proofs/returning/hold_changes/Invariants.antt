@@ -1,0 +1,12 @@
+-- The flows to as many destinations are held as the loop has gone round.
+use Rattle.std.proofs.Common.{◌≡◌, ℕ, ◌||◌, false, slice_index_or}
+use Rattle.route_table.specs.Facts.{with_link}
+use Rattle.node_links.specs.Network.{facts_of}
+use Rattle.changeback.specs.Return.{changes, held_by}
+use Rattle.changeback.proofs.returning.hold_changes.Given as goal
+
+abbrev pub invariant-loop-destination : goal.invariant-loop-destination
+invariant-loop-destination l = record {
+  links : l.links ≡ l.fn.links;
+  holds : l.holds ≡ held_by l.holders (changes l.link (with_link l.link false (facts_of l.fn.links)) (facts_of l.fn.links) l.destination) l.fn.holds;
+}
