@@ -1,7 +1,8 @@
 -- A link that returns changes no link, leaves Held as it is, and holds flows beside those that were held: what waited still waits.
-use Rattle.std.proofs.Common.{◌≡◌, ℕ, zero, suc, Bool, true, false, ◌&&◌, not, List, [], ◌∷◌, length, Option, Some, None, refl, ap, sym, ◌∙◌}
-use Rattle.std.specs.Prelude.{if◌then◌else◌, slice_index_or}
+use Rattle.std.proofs.Common.{◌≡◌, ℕ, zero, suc, ◌+◌, arith, replicate, Bool, true, false, ◌&&◌, not, List, [], ◌∷◌, length, Option, Some, None, refl, ap, sym, ◌∙◌}
+use Rattle.std.specs.Prelude.{if◌then◌else◌, slice_index_or, slice_set}
 use Rattle.std.specs.List.{list_all}
+use Rattle.signalling_types.specs.declared.limits.TheConstants.Limits.{LINKS}
 use Rattle.signalling_types.specs.Message.{Message, flow_of, is_management}
 use Rattle.settings_rows.specs.Configuration.{Configuration}
 use Rattle.stp_types.specs.Readings.{destination_place}
@@ -11,11 +12,11 @@ use Rattle.flow_hold.specs.declared.procedure.Procedure.{Procedure}
 use Rattle.flow_hold.specs.Holds.{HoldTable, is_held, with_hold}
 use Rattle.flow_hold.proofs.Holding.{keeps_flows_held}
 use Rattle.changeback.specs.Return.{FlowChange, returned, gives_up, held_by, with_change}
-use Rattle.exchange.specs.State.{Node, with_parts}
+use Rattle.exchange.specs.State.{QueueKind, Node, with_parts}
 use Rattle.exchange.specs.Queues.{WholeQueues, whole}
 use Rattle.exchange.specs.Routing.{facts}
 use Rattle.exchange.specs.Holding.{is_held_at, is_flow_held, waits, all_wait}
-use Rattle.exchange.specs.ChangingBack.{code_for, declare_by, declare, declare_each, holders, take_over}
+use Rattle.exchange.specs.ChangingBack.{code_for, declare_by, holder, declare, declare_each, holders, take_over}
 use Rattle.exchange.specs.Statuses.{enters, return_if, advance, step_on}
 
 -- ---- holds are added
@@ -110,3 +111,26 @@ module _ (c : Configuration) where
   pub advance-waits : (link : ℕ) (step : Transition) (n : Node WholeQueues) → all_wait c n.parts.holds n.queues.held ≡ true
       → all_wait c (advance whole c link step n).parts.holds (advance whole c link step n).queues.held ≡ true
   advance-waits link step n w = return_if-waits (enters link step n.parts) link (facts c n.parts) (with_parts n (step_on c link step n.parts)) w
+
+-- ---- one more link declares
+
+module _ {Q : Type 0} (q : QueueKind Q) (c : Configuration) (link : ℕ) (loses : ℕ → Bool) where
+  one-more : (n : ℕ) → suc n ≡ n + 1
+  one-more n = omega arith
+
+  pub none_declared : (node : Node Q) → node ≡ declare_each q c link loses 0 node
+  unfolding declare_each
+  none_declared node = refl
+
+  pub more_declared : (other : ℕ) (node : Node Q) → declare q c link loses other (declare_each q c link loses other node) ≡ declare_each q c link loses (other + 1) node
+  unfolding declare_each
+  more_declared other node = ap (λ (n : ℕ). declare_each q c link loses n node) (one-more other)
+
+  pub no_holders : (node : Node Q) → replicate LINKS None ≡ holders q c link loses 0 node
+  unfolding holders
+  no_holders node = refl
+
+  pub more_holders : (other : ℕ) (node : Node Q)
+      → slice_set (holders q c link loses other node) other (holder q c link loses other (declare_each q c link loses other node)) ≡ holders q c link loses (other + 1) node
+  unfolding holders
+  more_holders other node = ap (λ (n : ℕ). holders q c link loses n node) (one-more other)

@@ -1,6 +1,7 @@
 //! The exchange before its first event.
 
 ghost use Rattle.std.specs.Prelude.{◌≡◌, ◌≤◌, length, replicate, IfOk};
+ghost use Rattle.changeback.specs.Codes.{no_codes};
 ghost use Rattle.flow_hold.specs.Holds.{no_holds};
 ghost use Rattle.link_sequence.specs.Counts.{kept_first};
 ghost use Rattle.exchange.specs.Stands.{StandsFor, kept_of, first_state, counts_in};
@@ -35,7 +36,7 @@ impl Exchange {
         let sequences = first_sequences(alloc, count)?;
         let links = node_links(alloc, &settings)?;
         let changeovers = Changeover::new(alloc, count)?;
-        let changeback = Changeback::new(alloc, settings.sets().len())?;
+        let changeback = no_changebacks(alloc, &settings)?;
         let holds = no_holds(alloc, &settings)?;
         let timers = Timers::new(alloc, counts_in(&settings))?;
         let notices = HeapCircularBuffer::with_capacity(alloc, Limits::NOTICES)?;
@@ -73,6 +74,14 @@ fn node_links(alloc: Global, settings: &Settings) -> Result<NodeLinks, AllocErro
 {
     let sets = settings.sets().len();
     NodeLinks::new(alloc, sets, settings.links(), settings.destinations())
+}
+
+/// No code that waits for its answer, for the sets of these settings.
+fn no_changebacks(alloc: Global, settings: &Settings) -> Result<Changeback, AllocError>
+    ensures { IfOk result (λ changeback. changeback ≡ no_codes (length settings.now.sets)) }
+{
+    let sets = settings.sets().len();
+    Changeback::new(alloc, sets)
 }
 
 /// No holds, for the links, sets and destinations of these settings.

@@ -141,7 +141,8 @@ impl Exchange {
             }
             Management::ChangebackDeclaration(slc, code) => self.confirm(point, slc, code),
             Management::ChangebackAcknowledgement(_, code) => {
-                self.end_hold(self.settings.set_to(point), code)
+                let set = self.settings.set_to(point);
+                self.end_hold(set, code)
             }
         }
     }

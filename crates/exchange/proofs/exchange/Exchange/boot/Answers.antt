@@ -11,7 +11,7 @@ one_more n = omega arith
 
 pub returns-clause-exact : goal.returns-clause-exact
 returns-clause-exact c =
-    first-kept c.args.settings c.link_count-count.result _ _ _ _ _ _ _ c.link_count-count.ensures.value (ap (λ (x : Stored). x.lists) c.in_ok-lanes.ensures ∙ ap (λ (n : ℕ). replicate n []) (one_more c.link_count-count.result)) c.in_ok-sequences.ensures c.in_ok-links.ensures c.in_ok-changeovers.ensures
+    first-kept c.args.settings c.link_count-count.result _ _ _ _ _ _ _ _ c.link_count-count.ensures.value (ap (λ (x : Stored). x.lists) c.in_ok-lanes.ensures ∙ ap (λ (n : ℕ). replicate n []) (one_more c.link_count-count.result)) c.in_ok-sequences.ensures c.in_ok-links.ensures c.in_ok-changeovers.ensures c.in_ok-changeback.ensures
     (c.in_ok-holds.ensures ∙ ap (λ (n : ℕ). no_holds n (length c.args.settings.sets) (length c.args.settings.destinations)) (sym c.link_count-count.ensures.value))
     (c.in_ok-timers.ensures ∙ ap none_running c.counts_in.ensures) (ap (λ x. x.items) c.in_ok-notices.ensures)
 
