@@ -1,5 +1,5 @@
 -- The flows that a link takes over are those that are moved to it.
-use Rattle.std.proofs.Common.{◌≡◌, ◌≢◌, ℕ, zero, suc, ◌<◌, ◌≤◌, Bool, true, false, ◌&&◌, not, List, [], ◌∷◌, ◌++◌, length, get_or, refl, ap, sym, ◌∙◌, subst, arith, nat_eq, nat_lt, ◌-◌}
+use Rattle.std.proofs.Common.{◌≡◌, ◌≢◌, ℕ, zero, suc, ◌<◌, ◌≤◌, Bool, true, false, ◌&&◌, not, List, [], ◌∷◌, ◌++◌, length, get_or, refl, ap, sym, ◌∙◌, subst, arith, nat_eq, nat_lt, ◌-◌, inl, inr}
 use Rattle.std.specs.Prelude.{if◌then◌else◌, Option, Some, None, Contains}
 use Rattle.std.proofs.lemmas.Bool.Decides.{nat_tests}
 use Rattle.std.proofs.lemmas.List.Elements.{Contains-get_or, Contains-append_left, Contains-append_right, Contains-append_cases}
@@ -47,7 +47,7 @@ module _ (to : ℕ) (before after : Facts) where
   unfolding changes_of
   moved-to destination zero there few c h = absurd (none c h)
   moved-to destination (suc count) there few c h =
-      elim Contains-append_cases (changes_of to before after destination count) _ c h [
+      elim (Contains-append_cases (changes_of to before after destination count) _ c h) [
         inl earlier ↦ moved-to destination count there (omega (arith, few)) c earlier
       | inr last ↦ flow-moved destination count _ _ there (omega (arith, few)) refl refl c last
       ]
@@ -56,7 +56,7 @@ module _ (to : ℕ) (before after : Facts) where
   unfolding changes
   moved-all zero few c h = absurd (none c h)
   moved-all (suc count) few c h =
-      elim Contains-append_cases (changes to before after count) _ c h [
+      elim (Contains-append_cases (changes to before after count) _ c h) [
         inl earlier ↦ moved-all count (omega (arith, few)) c earlier
       | inr last ↦ moved-to count selections (omega (arith, few)) (omega arith) c last
       ]
