@@ -1,3 +1,5 @@
 pub mod Counting
 pub mod Clearing
 pub mod Pairing
+pub mod Placing
+pub mod Holding

@@ -24,7 +24,7 @@ procedure_at t row =
     else if nat_lt row (2 * t.links + 16 * t.sets) then Code ((row - 2 * t.links) / 16) ((row - 2 * t.links) % 16)
     else Reroute (row - (2 * t.links + 16 * t.sets))
 
-named : (t : HoldTable) (procedure : Procedure) (row : ℕ) → place_of t procedure ≡ Some row → procedure_at t row ≡ procedure
+pub named : (t : HoldTable) (procedure : Procedure) (row : ℕ) → place_of t procedure ≡ Some row → procedure_at t row ≡ procedure
 named t (Changeover link) row e = grind (arith, common_steps, nat_tests)
 named t (Time link) row e = grind (arith, common_steps, nat_tests)
 named t (Code set code) row e = grind (arith, common_steps, nat_tests)
@@ -35,7 +35,7 @@ placed t row h = grind (arith, common_steps, nat_tests)
 
 -- ---- a lift
 
-same-places : (t u : HoldTable) (procedure : Procedure) → u.links ≡ t.links → u.sets ≡ t.sets → u.destinations ≡ t.destinations → place_of u procedure ≡ place_of t procedure
+pub same-places : (t u : HoldTable) (procedure : Procedure) → u.links ≡ t.links → u.sets ≡ t.sets → u.destinations ≡ t.destinations → place_of u procedure ≡ place_of t procedure
 same-places t u (Changeover link) l s d = rw l refl
 same-places t u (Time link) l s d = rw l refl
 same-places t u (Code set code) l s d = rw (l, s) refl
@@ -138,7 +138,7 @@ some-pair t (Some flow) h e =
     let at : FoundAt (has_mark flow) t.rows = found (has_mark flow) t.rows e in
     (procedure_at t at.0, ap (λ (o : Option ℕ). row_has t o (Some flow)) (placed t at.0 (omega (arith, at.1, h.rows))) ∙ at.2)
 
-some-mark : (t : HoldTable) (row flow : Option ℕ) → row_has t row flow ≡ true → any_has t flow ≡ true
+pub some-mark : (t : HoldTable) (row flow : Option ℕ) → row_has t row flow ≡ true → any_has t flow ≡ true
 some-mark t None flow e = absurd cc
 some-mark t (Some row) None e = absurd cc
 some-mark t (Some row) (Some flow) e = list_any_at (has_mark flow) t.rows row (record { first = 0; marks = [] }) (inside-case t.rows row flow (nat_lt row (length t.rows)) refl e) e
