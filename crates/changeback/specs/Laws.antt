@@ -28,7 +28,8 @@ each_moved_is_found =
 -- a flow is held whose former link has a holder that is there
 abbrev pub each_change_is_held : Type 0
 each_change_is_held =
-    (holders : List (Option Procedure)) (cs : List FlowChange) (t : HoldTable) (c : FlowChange) (procedure : Procedure) →
+    (holders : List (Option Procedure)) (cs : List FlowChange) (t : HoldTable) →
+    (c : FlowChange) (procedure : Procedure) →
     Contains cs c → slice_index_or holders c.from None ≡ Some procedure → HasPlaces t →
     may_hold t procedure c.destination ≡ true → c.destination < t.destinations → c.sls < selections →
     is_held (held_by holders cs t) c.destination c.sls ≡ true
