@@ -1,5 +1,6 @@
-//! What holds of the flows that a link takes over.
+//! What holds of the flows that a link takes over, and of codes.
 
+ghost use Rattle.changeback.specs.Codes.{awaited_codes_are_not_free};
 ghost use Rattle.changeback.specs.Laws.{each_is_moved, each_moved_is_found, each_change_is_held};
 ghost use Rattle.changeback.specs.Laws.{held_flows_stay_held};
 
@@ -17,4 +18,9 @@ pub fn moved_flows_are_taken_over()
 pub fn changes_are_held()
     ensures own { each_change_is_held }
     ensures others { held_flows_stay_held }
+{}
+
+/// No code is free that awaits its acknowledgement.
+pub fn awaited_codes_are_kept()
+    ensures { awaited_codes_are_not_free }
 {}
