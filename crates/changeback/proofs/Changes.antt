@@ -1,7 +1,6 @@
 -- One more flow, and one more destination.
 use Rattle.std.proofs.Common.{◌≡◌, ℕ, zero, suc, ◌+◌, replicate, Bool, true, false, ◌||◌, List, [], ◌∷◌, ◌++◌, refl, ap, sym, ◌∙◌, add-one, nat_eq, slice_index_or}
 use Rattle.std.specs.Prelude.{Option, Some, None}
-use Rattle.std.specs.List.{list_any}
 use Rattle.route_table.specs.Facts.{Facts, with_link}
 use Rattle.node_links.specs.Network.{Network, facts_of}
 use Rattle.flow_hold.specs.declared.procedure.Procedure.{Procedure}

@@ -1,3 +1,4 @@
 pub mod Changes
+pub mod Held
 pub mod Moved
 pub mod Places

@@ -1,5 +1,5 @@
 -- The flows that a link takes over are those that are moved to it.
-use Rattle.std.proofs.Common.{◌≡◌, ◌≢◌, ℕ, zero, suc, ◌<◌, ◌≤◌, Bool, true, false, ◌&&◌, not, List, [], ◌∷◌, ◌++◌, length, get_or, refl, ap, sym, ◌∙◌, subst, arith, nat_eq, nat_lt, ◌-◌}
+use Rattle.std.proofs.Common.{◌≡◌, ◌≢◌, ℕ, zero, suc, ◌<◌, ◌≤◌, Bool, true, false, ◌&&◌, not, [], ◌∷◌, length, refl, ap, sym, ◌∙◌, subst, arith, nat_eq, nat_lt, ◌-◌, inl, inr}
 use Rattle.std.specs.Prelude.{if◌then◌else◌, Option, Some, None, Contains}
 use Rattle.std.proofs.lemmas.Bool.Decides.{nat_tests}
 use Rattle.std.proofs.lemmas.List.Elements.{Contains-get_or, Contains-append_left, Contains-append_right, Contains-append_cases}
@@ -47,18 +47,18 @@ module _ (to : ℕ) (before after : Facts) where
   unfolding changes_of
   moved-to destination zero there few c h = absurd (none c h)
   moved-to destination (suc count) there few c h =
-      elim Contains-append_cases (changes_of to before after destination count) _ c h [
-        inl earlier ↦ moved-to destination count there (omega (arith, few)) c earlier
-      | inr last ↦ flow-moved destination count _ _ there (omega (arith, few)) refl refl c last
+      elim (Contains-append_cases (changes_of to before after destination count) _ c h) [
+        | inl earlier ↦ moved-to destination count there (omega (arith, few)) c earlier
+        | inr last ↦ flow-moved destination count _ _ there (omega (arith, few)) refl refl c last
       ]
 
   moved-all : (count : ℕ) → count ≤ length after.routes → (c : FlowChange) → Contains (changes to before after count) c → IsMoved to before after c
   unfolding changes
   moved-all zero few c h = absurd (none c h)
   moved-all (suc count) few c h =
-      elim Contains-append_cases (changes to before after count) _ c h [
-        inl earlier ↦ moved-all count (omega (arith, few)) c earlier
-      | inr last ↦ moved-to count selections (omega (arith, few)) (omega arith) c last
+      elim (Contains-append_cases (changes to before after count) _ c h) [
+        | inl earlier ↦ moved-all count (omega (arith, few)) c earlier
+        | inr last ↦ moved-to count selections (omega (arith, few)) (omega arith) c last
       ]
 
   -- ---- each flow that is moved is taken over
@@ -68,7 +68,7 @@ module _ (to : ℕ) (before after : Facts) where
       let test : (nat_eq to to && not (nat_eq c.from to)) ≡ true = grind (arith, nat_tests, other) in
       subst (λ (o : Option ℕ). Contains (change_from c.destination c.sls o) c)
       (sym (ap (λ (b : Option ℕ). origin to b a) was ∙ ap (λ (a : Option ℕ). origin to (Some c.from) a) is
-          ∙ ap (λ (t : Bool). if t then Some c.from else None) test))
+      ∙ ap (λ (t : Bool). if t then Some c.from else None) test))
       (0, omega arith, refl)
 
   found-to : (c : FlowChange) → IsMoved to before after c → (count : ℕ) (earlier : Bool) → c.sls < count → nat_lt c.sls (count - 1) ≡ earlier → Contains (changes_of to before after c.destination count) c

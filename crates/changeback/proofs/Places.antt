@@ -1,9 +1,11 @@
 -- The first code that is free.
-use Rattle.std.proofs.Common.{◌≡◌, ℕ, ◌<◌, ◌≤◌, Bool, true, false, not, cond, List, length, get_or, nat_lt, ap, ◌∙◌, arith}
+use Rattle.std.proofs.Common.{◌≡◌, ℕ, ◌<◌, Bool, true, false, not, cond, List, length, get_or, nat_lt, ap, sym, ◌∙◌, arith}
 use Rattle.std.specs.Prelude.{Option, Some, None}
 use Rattle.std.specs.List.{position, position_or_len}
 use Rattle.std.proofs.lemmas.Bool.Decides.{nat_tests}
 use Rattle.std.proofs.lemmas.List.Sums.{position_or_len_is}
+use Rattle.std.proofs.lemmas.List.Quantifiers.{position-Some}
+use Rattle.changeback.specs.Codes.{codes_of, awaited_codes_are_not_free}
 
 placed : (p : Bool → Bool) (xs : List Bool) (i : ℕ) (b : Bool) → position_or_len p xs ≡ i → nat_lt i (length xs) ≡ b → position p xs ≡ cond b (Some i) None
 placed p xs i b e t =
@@ -17,3 +19,12 @@ found xs i before l here =
 pub not_found : (xs : List Bool) (i : ℕ) → ((k : ℕ) → k < i → not (get_or xs k false) ≡ false) → i ≡ length xs → position not xs ≡ None
 not_found xs i before e =
     placed not xs i false (position_or_len_is not xs i false (omega (arith, e)) before (λ l. absurd (omega (arith, e, l)))) (grind (arith, nat_tests, e))
+
+-- what is found isn't awaited
+apart : false ≡ true → ⊥
+apart e = absurd cc
+
+pub not_awaited : awaited_codes_are_not_free
+not_awaited t set code awaited free =
+    let at : not (get_or (codes_of t set) code false) ≡ true = (position-Some not (codes_of t set) code false free).1 in
+    apart (sym (ap not awaited) ∙ at)

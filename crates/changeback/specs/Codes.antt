@@ -1,5 +1,6 @@
 -- The changeback codes of the adjacent points (Q.704 §6.3, §15.5).
-use Rattle.std.specs.Prelude.{ℕ, Bool, false, not, List, [], Option, position, replicate, slice_index_or, slice_set}
+use Rattle.std.specs.Prelude.{◌≡◌, ◌≢◌, ℕ, Bool, true, false, not, List, [], Option, Some}
+use Rattle.std.specs.Prelude.{position, replicate, slice_index_or, slice_set}
 use Rattle.signalling_types.specs.declared.limits.TheConstants.Limits.{CHANGEBACK_CODES}
 
 -- of each set, of each code, whether its acknowledgement is awaited
@@ -25,3 +26,8 @@ is_outstanding t set code = slice_index_or (codes_of t set) code false
 -- one code awaits its acknowledgement from now on, or not; one that isn't there is left aside
 abbrev pub with_code : Codes → (set code : ℕ) → Bool → Codes
 with_code t set code outstanding = slice_set t set (slice_set (codes_of t set) code outstanding)
+
+-- no code is used that awaits its acknowledgement
+abbrev pub awaited_codes_are_not_free : Type 0
+awaited_codes_are_not_free =
+    (t : Codes) (set code : ℕ) → is_outstanding t set code ≡ true → free_code t set ≢ Some code

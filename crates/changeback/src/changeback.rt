@@ -4,11 +4,11 @@ ghost use Rattle.std.specs.Prelude.{◌≡◌, ◌<◌, false, true, replicate, 
 ghost use Rattle.signalling_types.specs.declared.limits.TheConstants.Limits.{CHANGEBACK_CODES};
 ghost use Rattle.flow_hold.specs.declared.procedure.Procedure.TheVariants.{Code};
 ghost use Rattle.flow_hold.specs.Holds.{lifted};
-ghost use Rattle.changeback.specs.Codes.{no_codes, codes_of, free_code, is_outstanding, with_code};
+ghost use Rattle.changeback.specs.Codes.{no_codes, free_code, is_outstanding, with_code};
 
 use crate::set_codes::SetCodes;
 use flow_hold::{Holds, Procedure};
-use signalling_types::{LinkId, SetId};
+use signalling_types::SetId;
 use std::alloc::{AllocError, Global};
 use std::marker::Model;
 
@@ -52,8 +52,8 @@ impl Changeback {
         }
     }
 
-    /// A changeback was declared by a code: its acknowledgement is awaited from now on. A set or a code that isn't there
-    /// is left aside.
+    /// A changeback was declared by a code: its acknowledgement is awaited from now on. A set or a code that isn't
+    /// there is left aside.
     pub fn declared(&mut self, set: SetId, code: u8)
         ensures { self.new ≡ with_code self.old set code true }
     {

@@ -67,7 +67,7 @@ fn mark_losing(
     requires serves { is_in_service (link_in links.old.links link).alignment ≡ true }
     ensures losing { (other : ℕ) → slice_index_or losing.new other false
         ≡ (slice_index_or losing.old other false || gives_up (changes_of link
-            (with_link link false (facts_of links.old)) (facts_of links.old) destination selections) other) }
+        (with_link link false (facts_of links.old)) (facts_of links.old) destination selections) other) }
     ensures links { links.new ≡ links.old }
 {
     for selection in 0..SELECTIONS {
