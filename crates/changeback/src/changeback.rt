@@ -64,16 +64,17 @@ impl Changeback {
     /// nothing any more; else nothing changes (Q.704 §6.3).
     pub fn answer(&mut self, set: SetId, code: u8, holds: &mut Holds) -> bool
         ensures awaited { result ≡ is_outstanding self.old set code }
-        ensures codes { self.new ≡ with_code self.old set code false }
+        ensures codes { self.new
+            ≡ (if is_outstanding self.old set code then with_code self.old set code false else self.old) }
         ensures holds { holds.new
             ≡ (if is_outstanding self.old set code then lifted holds.old (Code set code) else holds.old) }
     {
-        let awaited = self.is_outstanding(set, code);
-        self.put(set, code, false);
-        if awaited {
-            holds.lift(Procedure::Code(set, code));
+        if !self.is_outstanding(set, code) {
+            return false;
         }
-        awaited
+        self.put(set, code, false);
+        holds.lift(Procedure::Code(set, code));
+        true
     }
 
     /// The timer of a procedure ran out, T3 or T4: it holds nothing any more (Q.704 §6.3, §6.4). Its code, if it has
