@@ -120,8 +120,11 @@ order_kept c n = (
 -- ---- a completion, then a release
 
 -- a test that each message passes which passes another
+never : (m : Message) (xs : List Message) → false ≡ true → xs ≡ m ∷ xs
+never m xs e = absurd cc
+
 kept_out : (a : Bool) (m : Message) (xs : List Message) → (a ≡ true → false ≡ true) → xs ≡ (if a then m ∷ xs else xs)
-kept_out true m xs f = absurd (f refl)
+kept_out true m xs f = never m xs (f refl)
 kept_out false m xs f = refl
 
 through : (f : Message → Bool) (b : Bool) (m : Message) (xs : List Message) → (f m ≡ true → b ≡ true)

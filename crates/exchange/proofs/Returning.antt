@@ -1,23 +1,33 @@
 -- A link that returns changes no link, leaves Held as it is, and holds flows beside those that were held: what waited still waits.
-use Rattle.std.proofs.Common.{◌≡◌, ℕ, zero, suc, ◌+◌, arith, replicate, Bool, true, false, ◌&&◌, not, List, [], ◌∷◌, length, Option, Some, None, refl, ap, sym, ◌∙◌}
+use Rattle.std.proofs.Common.{◌≡◌, ◌<◌, ◌≤◌, ℕ, zero, suc, ◌+◌, arith, replicate, Bool, true, false, ◌&&◌, not, List, [], ◌∷◌, length, Option, Some, None, refl, ap, sym, ◌∙◌}
 use Rattle.std.specs.Prelude.{if◌then◌else◌, slice_index_or, slice_set}
-use Rattle.std.specs.List.{list_all}
+use Rattle.std.proofs.Math.ListN.{set}
+use Rattle.std.proofs.Math.Logic.{⊎_elim}
+use Rattle.std.proofs.lemmas.Bool.{cases_lt}
+use Rattle.std.proofs.lemmas.List.{get_or-set_same, get_or_past, length-set}
 use Rattle.signalling_types.specs.declared.limits.TheConstants.Limits.{LINKS}
 use Rattle.signalling_types.specs.Message.{Message, flow_of, is_management}
 use Rattle.settings_rows.specs.Configuration.{Configuration}
 use Rattle.stp_types.specs.Readings.{destination_place}
+use Rattle.link_alignment.specs.declared.action.Action.{Action}
+use Rattle.link_alignment.specs.declared.action.Action.TheVariants as act
 use Rattle.link_alignment.specs.declared.action.Transition.{Transition}
-use Rattle.route_table.specs.Facts.{Facts}
+use Rattle.route_table.specs.Facts.{Facts, with_link}
+use Rattle.node_links.specs.Link.{Link}
+use Rattle.node_links.specs.LinkState.{is_in_service, stepped, down_link}
+use Rattle.node_links.proofs.Serving.{serving_without}
 use Rattle.flow_hold.specs.declared.procedure.Procedure.{Procedure}
 use Rattle.flow_hold.specs.Holds.{HoldTable, is_held, with_hold}
 use Rattle.flow_hold.proofs.Holding.{keeps_flows_held}
 use Rattle.changeback.specs.Return.{FlowChange, returned, gives_up, held_by, with_change}
-use Rattle.exchange.specs.State.{QueueKind, Node, with_parts}
-use Rattle.exchange.specs.Queues.{WholeQueues, whole}
-use Rattle.exchange.specs.Routing.{facts}
+use Rattle.exchange.specs.State.{QueueKind, Parts, Node, State, with_node, with_parts}
+use Rattle.exchange.specs.Queues.{WholeQueues, KeptQueues, whole, kept}
+use Rattle.exchange.specs.Links.{link_at, in_service}
+use Rattle.exchange.specs.Head.{with_holds}
+use Rattle.exchange.specs.Routing.{sets_in, facts}
 use Rattle.exchange.specs.Holding.{is_held_at, is_flow_held, waits, all_wait}
-use Rattle.exchange.specs.ChangingBack.{code_for, declare_by, holder, declare, declare_each, holders, take_over}
-use Rattle.exchange.specs.Statuses.{enters, return_if, advance, step_on}
+use Rattle.exchange.specs.ChangingBack.{code_for, declare_by, holder, declare, declare_each, holders, take_over, take_back}
+use Rattle.exchange.specs.Statuses.{enters, return_if, advance, acted, stepped_by, step_on}
 
 -- ---- holds are added
 
@@ -134,3 +144,119 @@ module _ {Q : Type 0} (q : QueueKind Q) (c : Configuration) (link : ℕ) (loses 
       → slice_set (holders q c link loses other node) other (holder q c link loses other (declare_each q c link loses other node)) ≡ holders q c link loses (other + 1) node
   unfolding holders
   more_holders other node = ap (λ (n : ℕ). holders q c link loses n node) (one-more other)
+
+-- ---- a link takes its flows back
+
+-- declarations change neither links nor routes
+record KeepsLinks {Q : Type 0} (n m : Node Q) : Type 0 where
+  pub links : n.parts.links ≡ m.parts.links
+  pub routes : n.parts.routes ≡ m.parts.routes
+
+module _ {Q : Type 0} (q : QueueKind Q) (c : Configuration) where
+  declare_by-links : (code : Option ℕ) (link other : ℕ) (n m : Node Q) → KeepsLinks n m → KeepsLinks (declare_by q c code link other n) m
+  declare_by-links (Some code) link other n m a = record { links = a.links; routes = a.routes }
+  declare_by-links None link other n m a = record { links = a.links; routes = a.routes }
+
+  either-links : (b : Bool) (n o m : Node Q) → KeepsLinks n m → KeepsLinks o m → KeepsLinks (if b then n else o) m
+  either-links true n o m e f = e
+  either-links false n o m e f = f
+
+  declare_each-links : (link : ℕ) (loses : ℕ → Bool) (many : ℕ) (n : Node Q) → KeepsLinks (declare_each q c link loses many n) n
+  unfolding declare_each
+  declare_each-links link loses zero n = record { links = refl; routes = refl }
+  declare_each-links link loses (suc other) n =
+      let one : Node Q = declare_each q c link loses other n in
+      let e : KeepsLinks one n = declare_each-links link loses other n in
+      either-links (loses other) (declare_by q c (code_for q c link other one) link other one) one n
+      (declare_by-links (code_for q c link other one) link other one n e) e
+
+facts-alike : (c : Configuration) (n m : Node KeptQueues) → KeepsLinks n m → facts c n.parts ≡ facts c m.parts
+facts-alike c n m a = rw (a.links, a.routes) refl
+
+pub serves-alike : (c : Configuration) (link other : ℕ) (loses : ℕ → Bool) (many : ℕ) (n : Node KeptQueues)
+    → in_service (declare_each kept c link loses many n).parts other ≡ in_service n.parts other
+serves-alike c link other loses many n = rw ((declare_each-links kept c link loses many n).links) refl
+
+abbrev known : State KeptQueues → Facts
+known s = facts s.settings s.node.parts
+
+-- the flows that a link takes over, by what is known of routes, are held
+abbrev held_back : ℕ → List (Option Procedure) → Facts → State KeptQueues → State KeptQueues
+held_back link hs f s = with_holds s (held_by hs (returned link (with_link link false f) f) s.node.parts.holds)
+
+abbrev declared_in : ℕ → (ℕ → Bool) → State KeptQueues → State KeptQueues
+declared_in link loses s = with_node s (declare_each kept s.settings link loses (length s.settings.links) s.node)
+
+abbrev holders_in : ℕ → (ℕ → Bool) → State KeptQueues → List (Option Procedure)
+holders_in link loses s = holders kept s.settings link loses (length s.settings.links) s.node
+
+pub taken_back : (s0 s1 s2 s3 : State KeptQueues) (link : ℕ) (loses : ℕ → Bool) (hs : List (Option Procedure))
+    → s1 ≡ s0
+    → ((other : ℕ) → loses other ≡ gives_up (returned link (with_link link false (known s0)) (known s0)) other)
+    → hs ≡ holders_in link loses s1 → s2 ≡ declared_in link loses s1 → s3 ≡ held_back link hs (known s2) s2
+    → s3 ≡ with_node s0 (take_back kept s0.settings link (with_link link false (known s0)) s0.node)
+taken_back s0 s1 s2 s3 link loses hs e l h d t =
+    let same : (loses ≡ gives_up (returned link (with_link link false (known s0)) (known s0))) = λ i. λ other. l other i in
+    let before : known s2 ≡ known s0 =
+    ap known d
+    ∙ facts-alike s1.settings (declare_each kept s1.settings link loses (length s1.settings.links) s1.node) s1.node
+    (declare_each-links kept s1.settings link loses (length s1.settings.links) s1.node)
+    ∙ ap known e in
+    t
+    ∙ ap (λ (f : Facts). held_back link hs f s2) before
+    ∙ ap (λ (x : List (Option Procedure)). held_back link x (known s0) s2) h
+    ∙ ap (λ (s : State KeptQueues). held_back link (holders_in link loses s1) (known s0) s) d
+    ∙ ap (λ (s : State KeptQueues). held_back link (holders_in link loses s) (known s0) (declared_in link loses s)) e
+    ∙ ap (λ (f : ℕ → Bool). held_back link (holders_in link f s0) (known s0) (declared_in link f s0)) same
+
+-- ---- a link enters service
+
+-- what was known of routes before, once the link that entered is taken out again
+pub known_before : (c : Configuration) (link : ℕ) (step : Transition) (p : Parts) → in_service p link ≡ false
+    → with_link link false (facts c (step_on c link step p)) ≡ facts c p
+known_before c link step p e =
+    ap (λ (serving : List Bool). record { sets = sets_in c; in_service = serving; routes = p.routes })
+    (serving_without p.links link (stepped step (link_at p link)) e)
+
+absent : (b : Bool) → false ≡ true → b ≡ true
+absent b e = absurd cc
+
+-- a link that is in service after a step was led there
+led_there : (c : Configuration) (link : ℕ) (step : Transition) (p : Parts) → in_service (step_on c link step p) link ≡ true → is_in_service step.state ≡ true
+led_there c link step p e =
+    ⊎_elim
+    (λ (h : link < length p.links).
+    sym (ap (λ (l : Link). is_in_service l.alignment) (get_or-set_same p.links link (stepped step (link_at p link)) down_link h)) ∙ e)
+    (λ (h : length p.links ≤ link).
+    absent (is_in_service step.state)
+    (sym (ap (λ (l : Link). is_in_service l.alignment)
+    (get_or_past (set p.links link (stepped step (link_at p link))) link down_link (omega (arith, h, length-set p.links link (stepped step (link_at p link)))))) ∙ e))
+    (cases_lt link (length p.links))
+
+enters_so : (b d : Bool) → b ≡ true → d ≡ false → (b && not d) ≡ true
+enters_so true false e f = refl
+enters_so true true e f = sym f
+enters_so false d e f = e
+
+absurd_state : false ≡ true → (u s : State KeptQueues) → u ≡ s
+absurd_state e u s = absurd cc
+
+-- it entered service
+pub entered_service : (a : Action) (s t u : State KeptQueues) (link : ℕ) → t ≡ with_node s (stepped_by s.settings a link s.node)
+    → in_service s.node.parts link ≡ false → in_service t.node.parts link ≡ true
+    → u ≡ with_node t (take_back kept t.settings link (with_link link false (known t)) t.node)
+    → u ≡ with_node s (acted kept s.settings a link s.node)
+entered_service act.Ignored s t u link e b i f =
+    absurd_state (sym b ∙ sym (ap (λ (x : State KeptQueues). in_service x.node.parts link) e) ∙ i) u s
+entered_service act.Fail s t u link e b i f =
+    absurd_state (sym b ∙ sym (ap (λ (x : State KeptQueues). in_service x.node.parts link) e) ∙ i) u s
+entered_service (act.Go step) s t u link e b i f =
+    let next : Node KeptQueues = with_parts s.node (step_on s.settings link step s.node.parts) in
+    let led : is_in_service step.state ≡ true =
+    led_there s.settings link step s.node.parts (sym (ap (λ (x : State KeptQueues). in_service x.node.parts link) e) ∙ i) in
+    f
+    ∙ ap (λ (x : State KeptQueues). with_node x (take_back kept x.settings link (with_link link false (known x)) x.node)) e
+    ∙ ap (λ (k : Facts). with_node s (take_back kept s.settings link k next)) (known_before s.settings link step s.node.parts b)
+    ∙ ap (λ (x : Bool). with_node s (return_if kept s.settings x link (facts s.settings s.node.parts) next))
+    (sym (enters_so (is_in_service step.state) (in_service s.node.parts link) led b))
+

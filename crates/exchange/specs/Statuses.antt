@@ -48,6 +48,12 @@ end_busy c link outstanding p =
 abbrev pub enters : ℕ → Transition → Parts → Bool
 enters link step p = is_in_service step.state && not (in_service p link)
 
+-- what a link's alignment does about an input, before a return is looked at
+abbrev pub stepped_by : {Q : Type 0} → Configuration → Action → ℕ → Node Q → Node Q
+stepped_by c act.Ignored link node = node
+stepped_by c act.Fail link node = node
+stepped_by c (act.Go step) link node = with_parts node (step_on c link step node.parts)
+
 module _ {Q : Type 0} (q : QueueKind Q) (c : Configuration) where
   -- a link that entered service takes its flows back, by what was known of routes before
   abbrev pub return_if : (entered : Bool) → ℕ → (before : Facts) → Node Q → Node Q

@@ -1,13 +1,16 @@
 //! A link returns to service and takes its flows back, and what ends that.
 
-ghost use Rattle.std.specs.Prelude.{◌≡◌, ◌<◌, None, Some, false, true, length, replicate, slice_index_or};
+ghost use Rattle.std.specs.Prelude.{◌≡◌, ◌<◌, ℕ, None, Some, false, true, length, replicate, slice_index_or};
 ghost use Rattle.std.specs.Prelude.{IfErr, OnOk, is_ok, if◌then◌else◌};
 ghost use Rattle.route_table.specs.Facts.{with_link};
+ghost use Rattle.changeback.specs.Return.{returned, gives_up, held_by};
 ghost use Rattle.exchange.specs.State.{with_node, with_parts};
+ghost use Rattle.exchange.specs.Head.{with_holds};
 ghost use Rattle.exchange.specs.Links.{in_service};
 ghost use Rattle.exchange.specs.Queues.{kept};
 ghost use Rattle.exchange.specs.Routing.{facts};
 ghost use Rattle.exchange.specs.Arrival.{no_room, queue_on};
+ghost use Rattle.signalling_types.specs.declared.limits.TheConstants.Limits.{LINKS};
 ghost use Rattle.exchange.specs.Exchange.{Ends};
 ghost use Rattle.exchange.specs.ChangingBack as rule;
 
@@ -27,10 +30,35 @@ impl Exchange {
         ensures { self.new ≡ with_node self.old (rule.take_back kept self.old.settings link
             (with_link link false (facts self.old.settings self.old.node.parts)) self.old.node) }
     {
-        let loses = losing(&mut self.links, link);
+        let loses = self.losing(link);
         let holders = self.declare_each(link, &loses);
+        self.hold_changes(link, &holders);
+    }
+
+    /// Which other links lose flows to a link that entered service.
+    fn losing(&mut self, link: LinkId) -> [bool; Limits::LINKS]
+        requires link { link < length self.old.settings.links }
+        requires serves { in_service self.old.node.parts link ≡ true }
+        ensures losing { (other : ℕ) → slice_index_or result other false ≡ gives_up (returned link
+            (with_link link false (facts self.old.settings self.old.node.parts))
+            (facts self.old.settings self.old.node.parts)) other }
+        ensures state { self.new ≡ self.old }
+    {
+        prove!(self.settings.link_count() <= Limits::LINKS);
+        losing(&mut self.links, link)
+    }
+
+    /// Holds each flow that a link takes over by the procedure that is given for the link which it comes from.
+    fn hold_changes(&mut self, link: LinkId, holders: &[Option<Procedure>; Limits::LINKS])
+        requires link { link < length self.old.settings.links }
+        requires serves { in_service self.old.node.parts link ≡ true }
+        ensures { self.new ≡ with_holds self.old (held_by holders.now (returned link
+            (with_link link false (facts self.old.settings self.old.node.parts))
+            (facts self.old.settings self.old.node.parts)) self.old.node.parts.holds) }
+    {
+        prove!(self.settings.link_count() <= Limits::LINKS);
         self.release_due = true;
-        hold_changes(&mut self.links, link, &holders, &mut self.holds);
+        hold_changes(&mut self.links, link, holders, &mut self.holds);
     }
 
     /// For each other link that loses flows to a link, in order: says by which procedure those are held.
@@ -45,27 +73,32 @@ impl Exchange {
         ensures state { self.new ≡ with_node self.old (rule.declare_each kept self.old.settings link
             (λ other. slice_index_or loses.now other false) (length self.old.settings.links) self.old.node) }
     {
-        let mut holders = [None; Limits::LINKS];
+        let mut holders = no_holders();
         for other in 0..self.settings.link_count() {
-            holders[other] = self.declare_if(loses[other], link, LinkId::new(other as u8));
+            holders[other] = self.declare_if(link, loses, other);
         }
         holders
     }
 
     /// The procedure that holds the flows which a link takes over from another, if it takes any.
-    fn declare_if(&mut self, loses: bool, link: LinkId, other: LinkId) -> Option<Procedure>
+    fn declare_if(
+        &mut self,
+        link: LinkId,
+        loses: &[bool; Limits::LINKS],
+        other: usize,
+    ) -> Option<Procedure>
         requires link { link < length self.old.settings.links }
         requires other { other < length self.old.settings.links }
-        ensures holder { result ≡
-            rule.holder kept self.old.settings link (λ any. loses) other self.old.node }
-        ensures state { self.new ≡
-            with_node self.old (rule.declare kept self.old.settings link (λ any. loses) other self.old.node) }
+        ensures holder { result ≡ rule.holder kept self.old.settings link (λ any. slice_index_or loses.now any false)
+            other self.old.node }
+        ensures state { self.new ≡ with_node self.old (rule.declare kept self.old.settings link
+            (λ any. slice_index_or loses.now any false) other self.old.node) }
     {
-        if loses {
-            Some(self.declare(link, other))
-        } else {
-            None
+        prove!(self.settings.link_count() <= Limits::LINKS);
+        if !loses[other] {
+            return None;
         }
+        Some(self.declare(link, LinkId::new(other as u8)))
     }
 
     /// Says by which procedure the flows that a link takes over from another are held: by a code, with which a
@@ -159,11 +192,8 @@ impl Exchange {
         ensures { self.new ≡ with_node self.old
             (with_parts self.old.node (rule.late_time link self.old.node.parts)) }
     {
-        self.release_due = true;
-        self.late_any = true;
-        self.changeback
-            .expired(Procedure::Time(link), &mut self.holds);
-        self.note(Notice::Late(LateTimer::T3, link.index() as u8));
+        let notice = Notice::Late(LateTimer::T3, link.index() as u8);
+        self.end_late(Procedure::Time(link), notice);
     }
 
     /// T4 of a code ran out: what it holds is held no longer. The code still waits for its answer.
@@ -171,11 +201,19 @@ impl Exchange {
         ensures { self.new ≡ with_node self.old
             (with_parts self.old.node (rule.late_code set code self.old.node.parts)) }
     {
+        let notice = Notice::Late(LateTimer::T4, code);
+        self.end_late(Procedure::Code(set, code), notice);
+    }
+
+    /// A hold ended by its timer: that is noted, and messages may go out of order from now on.
+    fn end_late(&mut self, procedure: Procedure, notice: Notice)
+        ensures { self.new ≡ with_node self.old
+            (with_parts self.old.node (rule.late notice procedure self.old.node.parts)) }
+    {
         self.release_due = true;
         self.late_any = true;
-        self.changeback
-            .expired(Procedure::Code(set, code), &mut self.holds);
-        self.note(Notice::Late(LateTimer::T4, code));
+        self.changeback.expired(procedure, &mut self.holds);
+        self.note(notice);
     }
 
     /// The set of a link.
@@ -185,4 +223,11 @@ impl Exchange {
     {
         self.row_of(link).set()
     }
+}
+
+/// No procedure for any link.
+fn no_holders() -> [Option<Procedure>; Limits::LINKS]
+    ensures { result ≡ replicate LINKS None }
+{
+    [None; Limits::LINKS]
 }

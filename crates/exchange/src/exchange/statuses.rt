@@ -4,7 +4,7 @@ ghost use Rattle.std.specs.Prelude.{◌≡◌, ◌<◌, length};
 ghost use Rattle.exchange.specs.State.{with_node, with_parts};
 ghost use Rattle.exchange.specs.Queues.{kept};
 ghost use Rattle.exchange.specs.Exchange.{Ends};
-ghost use Rattle.exchange.specs.Links.{link_at};
+ghost use Rattle.exchange.specs.Links.{link_at, in_service};
 ghost use Rattle.link_alignment.specs.Table.{action_at};
 ghost use Rattle.exchange.specs.Statuses as rule;
 
@@ -23,13 +23,34 @@ impl Exchange {
         ensures state { self.new ≡
             with_node self.old (rule.acted kept self.old.settings result link self.old.node) }
     {
-        let served = self.links.state(link).is_in_service();
+        let served = self.serves(link);
+        let action = self.take_step(link, input);
+        if !served && self.serves(link) {
+            self.take_back(link);
+        }
+        action
+    }
+
+    /// Whether a link is in service.
+    #[inline(always)]
+    fn serves(&self, link: LinkId) -> bool
+        requires { link < length self.now.settings.links }
+        ensures { result ≡ in_service self.now.node.parts link }
+    {
+        self.links.state(link).is_in_service()
+    }
+
+    /// A link does what its alignment does about an input, and its timers follow.
+    #[inline(always)]
+    fn take_step(&mut self, link: LinkId, input: Input) -> Action
+        requires { link < length self.old.settings.links }
+        ensures action { result ≡ action_at (link_at self.old.node.parts link).alignment input }
+        ensures state { self.new ≡
+            with_node self.old (rule.stepped_by self.old.settings result link self.old.node) }
+    {
         let action = self.links.on(link, input);
         if let Action::Go(step) = action {
             self.time(link, &step);
-            if !served && self.links.state(link).is_in_service() {
-                self.take_back(link);
-            }
         }
         action
     }

@@ -1,0 +1,30 @@
+-- One more link is looked at.
+use Rattle.std.proofs.Common.{ap, ◌∙◌, Bool, false, List, Option, ℕ, slice_index_or, slice_set}
+use Rattle.flow_hold.specs.declared.procedure.Procedure.{Procedure}
+use Rattle.exchange.specs.State.{State, Node, with_node}
+use Rattle.exchange.specs.Queues.{KeptQueues, kept}
+use Rattle.exchange.specs.ChangingBack.{holder, holders, declare, declare_each}
+use Rattle.exchange.proofs.Returning.{none_declared, more_declared, no_holders, more_holders}
+use Rattle.exchange.proofs.exchange.Exchange.declare_each.Goals as goal
+
+pub loop-other-init : goal.loop-other-init
+loop-other-init c =
+    let loses : (ℕ → Bool) = λ o. slice_index_or c.args.loses.now o false in
+    record {
+      holders = c.no_holders-holders.ensures ∙ no_holders kept c.args.self.now.settings c.args.link loses c.args.self.now.node;
+      state = ap (λ (n : Node KeptQueues). with_node c.args.self.now n) (none_declared kept c.args.self.now.settings c.args.link loses c.args.self.now.node);
+    }
+
+pub loop-other-preserved : goal.loop-other-preserved
+loop-other-preserved c =
+    let loses : (ℕ → Bool) = λ o. slice_index_or c.args.loses.now o false in
+    record {
+      holders = ap (λ (hs : List (Option Procedure)). slice_set hs c.loop-other.other c.declare_if.result) c.loop-other.invariant.holders
+          ∙ ap (λ (x : Option Procedure). slice_set (holders kept c.args.self.now.settings c.args.link loses c.loop-other.other c.args.self.now.node) c.loop-other.other x)
+          (c.declare_if.ensures.holder
+          ∙ ap (λ (s : State KeptQueues). holder kept s.settings c.args.link loses c.loop-other.other s.node) c.loop-other.invariant.state)
+          ∙ more_holders kept c.args.self.now.settings c.args.link loses c.loop-other.other c.args.self.now.node;
+      state = c.declare_if.ensures.state
+          ∙ ap (λ (s : State KeptQueues). with_node s (declare kept s.settings c.args.link loses c.loop-other.other s.node)) c.loop-other.invariant.state
+          ∙ ap (λ (n : Node KeptQueues). with_node c.args.self.now n) (more_declared kept c.args.self.now.settings c.args.link loses c.loop-other.other c.args.self.now.node);
+    }
