@@ -9,6 +9,9 @@ use Rattle.mgmt_codec.specs.declared.management.Management.TheVariants.{Changeba
 use Rattle.mgmt_codec.specs.declared.management.Management.TheVariants.{ChangebackAcknowledgement}
 use Rattle.mgmt_codec.specs.declared.management.Management.TheVariants.{EmergencyChangeoverOrder}
 use Rattle.mgmt_codec.specs.declared.management.Management.TheVariants.{EmergencyChangeoverAcknowledgement}
+use Rattle.mgmt_codec.specs.declared.management.Management.TheVariants.{TransferProhibited, TransferRestricted}
+use Rattle.mgmt_codec.specs.declared.management.Management.TheVariants.{TransferAllowed}
+use Rattle.mgmt_codec.specs.declared.management.Management.TheVariants.{RouteSetTestProhibited, RouteSetTestRestricted}
 use Rattle.mgmt_codec.specs.declared.management.Management.TheVariants.{TrafficRestartAllowed}
 
 -- the group H0 in the low half, the message H1 in the high half
@@ -35,4 +38,9 @@ management_heading (ChangebackDeclaration slc code) = heading 1 5
 management_heading (ChangebackAcknowledgement slc code) = heading 1 6
 management_heading (EmergencyChangeoverOrder slc) = heading 2 1
 management_heading (EmergencyChangeoverAcknowledgement slc) = heading 2 2
+management_heading (TransferProhibited point) = heading 4 1
+management_heading (TransferRestricted point) = heading 4 3
+management_heading (TransferAllowed point) = heading 4 5
+management_heading (RouteSetTestProhibited point) = heading 5 1
+management_heading (RouteSetTestRestricted point) = heading 5 2
 management_heading TrafficRestartAllowed = heading 7 1

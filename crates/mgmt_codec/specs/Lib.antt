@@ -1,4 +1,5 @@
 pub mod Faults
+pub mod Fields
 pub mod Headings
 pub mod LinkTests
 pub mod Values

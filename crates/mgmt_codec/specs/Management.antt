@@ -1,7 +1,5 @@
 -- Management messages: messages of service indicator 0 (Q.704 §15, Q.2210 §10).
-use Rattle.std.specs.Prelude.{ℕ, ◌/◌, ◌%◌, ◌^◌, ◌==◌, if◌then◌else◌, List, [], ◌∷◌, ◌++◌, drop}
-use Rattle.std.specs.Prelude.{Result, Ok, Err}
-use Rattle.link_number.specs.Numbers.{number_of}
+use Rattle.std.specs.Prelude.{ℕ, ◌==◌, if◌then◌else◌, List, [], ◌∷◌, ◌++◌, drop, Result, Ok, Err}
 use Rattle.routing_label.specs.Label.{label_at, label_octets}
 use Rattle.mgmt_codec.specs.declared.fault.MgmtFault.{MgmtFault}
 use Rattle.mgmt_codec.specs.declared.fault.MgmtFault.TheVariants.{Short, NotInProfile}
@@ -12,36 +10,33 @@ use Rattle.mgmt_codec.specs.declared.management.Management.TheVariants.{Changeba
 use Rattle.mgmt_codec.specs.declared.management.Management.TheVariants.{ChangebackAcknowledgement}
 use Rattle.mgmt_codec.specs.declared.management.Management.TheVariants.{EmergencyChangeoverOrder}
 use Rattle.mgmt_codec.specs.declared.management.Management.TheVariants.{EmergencyChangeoverAcknowledgement}
+use Rattle.mgmt_codec.specs.declared.management.Management.TheVariants.{TransferProhibited, TransferRestricted}
+use Rattle.mgmt_codec.specs.declared.management.Management.TheVariants.{TransferAllowed}
+use Rattle.mgmt_codec.specs.declared.management.Management.TheVariants.{RouteSetTestProhibited, RouteSetTestRestricted}
 use Rattle.mgmt_codec.specs.declared.management.Management.TheVariants.{TrafficRestartAllowed}
+use Rattle.mgmt_codec.specs.Fields.{number_in, number_octets, changeback_code_in, point_in, point_octets}
 use Rattle.mgmt_codec.specs.Headings.{heading, management_heading}
 
--- a number of 24 bits in front of the fields, low octet first
-abbrev pub number_in : List ℕ → Result ℕ MgmtFault
-number_in [] = Err Short
-number_in (low ∷ []) = Err Short
-number_in (low ∷ middle ∷ []) = Err Short
-number_in (low ∷ middle ∷ high ∷ rest) = Ok (number_of (high ∷ middle ∷ low ∷ []))
-
--- a changeback code in front of the fields: one octet
-abbrev pub changeback_code_in : List ℕ → Result ℕ MgmtFault
-changeback_code_in [] = Err Short
-changeback_code_in (code ∷ rest) = Ok code
-
--- a message with such a number, or with such a code
-abbrev pub numbered : (ℕ → Management) → Result ℕ MgmtFault → Result Management MgmtFault
-numbered message (Ok number) = Ok (message number)
-numbered message (Err fault) = Err fault
+-- a message of what is read of its fields
+abbrev pub with_field : (ℕ → Management) → Result ℕ MgmtFault → Result Management MgmtFault
+with_field message (Ok field) = Ok (message field)
+with_field message (Err fault) = Err fault
 
 -- the message of a heading, of the link code in the label, and of the fields behind the heading; what stands behind the
 -- fields is ignored
 abbrev pub message_of : (octet slc : ℕ) (fields : List ℕ) → Result Management MgmtFault
 message_of octet slc fields =
-    if octet == heading 1 3 then numbered (ExtendedChangeoverOrder slc) (number_in fields)
-    else if octet == heading 1 4 then numbered (ExtendedChangeoverAcknowledgement slc) (number_in fields)
-    else if octet == heading 1 5 then numbered (ChangebackDeclaration slc) (changeback_code_in fields)
-    else if octet == heading 1 6 then numbered (ChangebackAcknowledgement slc) (changeback_code_in fields)
+    if octet == heading 1 3 then with_field (ExtendedChangeoverOrder slc) (number_in fields)
+    else if octet == heading 1 4 then with_field (ExtendedChangeoverAcknowledgement slc) (number_in fields)
+    else if octet == heading 1 5 then with_field (ChangebackDeclaration slc) (changeback_code_in fields)
+    else if octet == heading 1 6 then with_field (ChangebackAcknowledgement slc) (changeback_code_in fields)
     else if octet == heading 2 1 then Ok (EmergencyChangeoverOrder slc)
     else if octet == heading 2 2 then Ok (EmergencyChangeoverAcknowledgement slc)
+    else if octet == heading 4 1 then with_field TransferProhibited (point_in fields)
+    else if octet == heading 4 3 then with_field TransferRestricted (point_in fields)
+    else if octet == heading 4 5 then with_field TransferAllowed (point_in fields)
+    else if octet == heading 5 1 then with_field RouteSetTestProhibited (point_in fields)
+    else if octet == heading 5 2 then with_field RouteSetTestRestricted (point_in fields)
     else if octet == heading 7 1 then Ok TrafficRestartAllowed
     else Err NotInProfile
 
@@ -62,13 +57,15 @@ link_code_of (ChangebackDeclaration slc code) = slc
 link_code_of (ChangebackAcknowledgement slc code) = slc
 link_code_of (EmergencyChangeoverOrder slc) = slc
 link_code_of (EmergencyChangeoverAcknowledgement slc) = slc
+link_code_of (TransferProhibited point) = 0
+link_code_of (TransferRestricted point) = 0
+link_code_of (TransferAllowed point) = 0
+link_code_of (RouteSetTestProhibited point) = 0
+link_code_of (RouteSetTestRestricted point) = 0
 link_code_of TrafficRestartAllowed = 0
 
--- a number of 24 bits, low octet first
-abbrev pub number_octets : ℕ → List ℕ
-number_octets number = number % 2 ^ 8 ∷ number / 2 ^ 8 % 2 ^ 8 ∷ number / 2 ^ 16 % 2 ^ 8 ∷ []
-
--- the fields of a message: the number of the last message that its sender accepted, a changeback code, or nothing
+-- the fields of a message: the number of the last message that its sender accepted, a changeback code, the code of the
+-- point that it is about, or nothing
 abbrev pub field_octets : Management → List ℕ
 field_octets (ExtendedChangeoverOrder slc number) = number_octets number
 field_octets (ExtendedChangeoverAcknowledgement slc number) = number_octets number
@@ -76,6 +73,11 @@ field_octets (ChangebackDeclaration slc code) = code ∷ []
 field_octets (ChangebackAcknowledgement slc code) = code ∷ []
 field_octets (EmergencyChangeoverOrder slc) = []
 field_octets (EmergencyChangeoverAcknowledgement slc) = []
+field_octets (TransferProhibited point) = point_octets point
+field_octets (TransferRestricted point) = point_octets point
+field_octets (TransferAllowed point) = point_octets point
+field_octets (RouteSetTestProhibited point) = point_octets point
+field_octets (RouteSetTestRestricted point) = point_octets point
 field_octets TrafficRestartAllowed = []
 
 -- the one text that is written of a message from one point to another

@@ -2,6 +2,7 @@
 #![tactic(auto)]
 
 pub mod fault;
+mod fields;
 pub mod link_test;
 pub mod management;
 mod writing;

@@ -2,10 +2,10 @@
 
 ghost use Rattle.std.specs.Prelude.{◌≡◌, ◌≤◌, Ok, length, take};
 ghost use Rattle.mgmt_codec.specs.Headings.{management_heading};
-ghost use Rattle.mgmt_codec.specs.Management.{changeback_code_in, link_code_of, message_of, number_in};
-ghost use Rattle.mgmt_codec.specs.Management.{read_management, management_octets, number_octets};
+ghost use Rattle.mgmt_codec.specs.Management.{link_code_of, management_octets, message_of, read_management};
 
 use crate::fault::MgmtFault;
+use crate::fields::{changeback_code_in, number_in, number_octets, point_in, point_octets};
 use crate::writing::write_at;
 use link_number::Number24;
 use routing_label::Label;
@@ -27,10 +27,20 @@ const EMERGENCY_CHANGEOVER_ORDER: u8 = 0x12;
 
 const EMERGENCY_CHANGEOVER_ACKNOWLEDGEMENT: u8 = 0x22;
 
+const TRANSFER_PROHIBITED: u8 = 0x14;
+
+const TRANSFER_RESTRICTED: u8 = 0x34;
+
+const TRANSFER_ALLOWED: u8 = 0x54;
+
+const ROUTE_SET_TEST_PROHIBITED: u8 = 0x15;
+
+const ROUTE_SET_TEST_RESTRICTED: u8 = 0x25;
+
 const TRAFFIC_RESTART_ALLOWED: u8 = 0x17;
 
 /// A management message: a message of service indicator 0 (Q.704 §15). A signalling link code names a link of the set
-/// between the two points.
+/// between the two points; a point code names the destination that the message is about.
 #[derive(Clone, Copy, Debug, PartialEq, Eq)]
 pub enum Management {
     /// XCO: the link of this code has failed, and this is the number of the last message that the sender accepted on it
@@ -47,6 +57,16 @@ pub enum Management {
     EmergencyChangeoverOrder(Sls),
     /// ECA: answers XCO or ECO; the sender can't tell what it accepted (Q.704 §5.6).
     EmergencyChangeoverAcknowledgement(Sls),
+    /// TFP: the receiver is to send nothing more for this point by way of the sender (Q.704 §13.2, §15.7).
+    TransferProhibited(PointCode),
+    /// TFR: the receiver is to send for this point by another way, where it has one (Q.704 §13.4, §15.9).
+    TransferRestricted(PointCode),
+    /// TFA: the receiver may send for this point by way of the sender again (Q.704 §13.3, §15.8).
+    TransferAllowed(PointCode),
+    /// RST: asks whether this point is still prohibited by way of the receiver (Q.704 §13.5, §15.10).
+    RouteSetTestProhibited(PointCode),
+    /// RSR: asks whether this point is still restricted by way of the receiver (Q.704 §13.5, §15.10).
+    RouteSetTestRestricted(PointCode),
     /// TRA: the adjacent point has restarted (Q.704 §9).
     TrafficRestartAllowed,
 }
@@ -55,8 +75,9 @@ impl Management {
     /// The message of a signalling information field.
     ///
     /// Short where there is no heading behind the label; else NotInProfile where the heading is one that the node
-    /// leaves out; else Short where too few octets stand behind it: a number has three, a changeback code one. Octets
-    /// behind the fields of a message are ignored.
+    /// leaves out; else Short where too few octets stand behind it: a number has three, a point code two, a changeback
+    /// code one. Octets behind the fields of a message are ignored, and so are the two top bits of a point code and the
+    /// label's selection in a message without a link code.
     pub fn read(sif: &[u8]) -> Result<Management, MgmtFault>
         ensures { result ≡ read_management sif.now }
     {
@@ -90,6 +111,11 @@ impl Management {
             EMERGENCY_CHANGEOVER_ACKNOWLEDGEMENT => {
                 Ok(Management::EmergencyChangeoverAcknowledgement(slc))
             }
+            TRANSFER_PROHIBITED => Ok(Management::TransferProhibited(point_in(fields)?)),
+            TRANSFER_RESTRICTED => Ok(Management::TransferRestricted(point_in(fields)?)),
+            TRANSFER_ALLOWED => Ok(Management::TransferAllowed(point_in(fields)?)),
+            ROUTE_SET_TEST_PROHIBITED => Ok(Management::RouteSetTestProhibited(point_in(fields)?)),
+            ROUTE_SET_TEST_RESTRICTED => Ok(Management::RouteSetTestRestricted(point_in(fields)?)),
             TRAFFIC_RESTART_ALLOWED => Ok(Management::TrafficRestartAllowed),
             _ => Err(MgmtFault::NotInProfile),
         }
@@ -112,10 +138,15 @@ impl Management {
         match self {
             Management::ExtendedChangeoverOrder(_, number)
             | Management::ExtendedChangeoverAcknowledgement(_, number) => {
-                write_at(out, at, &low_first(*number))
+                write_at(out, at, &number_octets(*number))
             }
             Management::ChangebackDeclaration(_, code)
             | Management::ChangebackAcknowledgement(_, code) => write_at(out, at, &[*code]),
+            Management::TransferProhibited(point)
+            | Management::TransferRestricted(point)
+            | Management::TransferAllowed(point)
+            | Management::RouteSetTestProhibited(point)
+            | Management::RouteSetTestRestricted(point) => write_at(out, at, &point_octets(*point)),
             Management::EmergencyChangeoverOrder(_)
             | Management::EmergencyChangeoverAcknowledgement(_)
             | Management::TrafficRestartAllowed => at,
@@ -137,6 +168,11 @@ impl Management {
             Management::EmergencyChangeoverAcknowledgement(_) => {
                 EMERGENCY_CHANGEOVER_ACKNOWLEDGEMENT
             }
+            Management::TransferProhibited(_) => TRANSFER_PROHIBITED,
+            Management::TransferRestricted(_) => TRANSFER_RESTRICTED,
+            Management::TransferAllowed(_) => TRANSFER_ALLOWED,
+            Management::RouteSetTestProhibited(_) => ROUTE_SET_TEST_PROHIBITED,
+            Management::RouteSetTestRestricted(_) => ROUTE_SET_TEST_RESTRICTED,
             Management::TrafficRestartAllowed => TRAFFIC_RESTART_ALLOWED,
         }
     }
@@ -152,7 +188,12 @@ impl Management {
             | Management::ChangebackAcknowledgement(slc, _)
             | Management::EmergencyChangeoverOrder(slc)
             | Management::EmergencyChangeoverAcknowledgement(slc) => *slc,
-            Management::TrafficRestartAllowed => no_link_code(),
+            Management::TransferProhibited(_)
+            | Management::TransferRestricted(_)
+            | Management::TransferAllowed(_)
+            | Management::RouteSetTestProhibited(_)
+            | Management::RouteSetTestRestricted(_)
+            | Management::TrafficRestartAllowed => no_link_code(),
         }
     }
 }
@@ -165,33 +206,4 @@ fn no_link_code() -> Sls
         unreachable!()
     };
     code
-}
-
-/// The number in front of the fields, low octet first.
-fn number_in(fields: &[u8]) -> Result<Number24, MgmtFault>
-    ensures { result ≡ number_in fields.now }
-{
-    let [low, middle, high, ..] = *fields else {
-        return Err(MgmtFault::Short);
-    };
-    Ok(Number24::from_be_bytes([high, middle, low]))
-}
-
-/// The three octets of a number, low octet first.
-fn low_first(number: Number24) -> [u8; 3]
-    ensures octets { result ≡ number_octets number }
-    ensures read_back { number_in result ≡ Ok number }
-{
-    let [high, middle, low] = number.to_be_bytes();
-    [low, middle, high]
-}
-
-/// The changeback code in front of the fields.
-fn changeback_code_in(fields: &[u8]) -> Result<u8, MgmtFault>
-    ensures { result ≡ changeback_code_in fields.now }
-{
-    let [code, ..] = *fields else {
-        return Err(MgmtFault::Short);
-    };
-    Ok(code)
 }

@@ -1,4 +1,5 @@
 use super::*;
+use routing_label::Label;
 use signalling_types::PointCode;
 use std::test::*;
 
@@ -27,18 +28,15 @@ fn answer_to_a_link_test(rt: HostRuntime) {
     assert!(rt; is_answered(&sif, &want));
 }
 
-/// Whether the message of this field is read, and written the same from point 1 to point 2.
+/// Whether the message of this field is read, and written the same between the same points.
 fn is_written(sif: &[u8]) -> bool {
-    let (Some(here), Some(there)) = (PointCode::new(1), PointCode::new(2)) else {
-        return false;
-    };
     let mut out = [0; MANAGEMENT_OCTETS];
-    match Management::read(sif) {
-        Ok(message) => {
-            let count = message.write(there, here, &mut out);
+    match (Label::read(sif), Management::read(sif)) {
+        (Some(label), Ok(message)) => {
+            let count = message.write(label.dpc, label.opc, &mut out);
             &out[..count] == sif
         }
-        Err(_) => false,
+        _ => false,
     }
 }
 
@@ -69,6 +67,25 @@ fn changeback_messages(rt: HostRuntime) {
     assert!(rt; acknowledged_code(&[0x02, 0x40, 0x00, 0x10, 0x61, 0x09, 0x07]) == Some(9));
 }
 
+/// Whether this field is read as TFP about the point of this number.
+fn is_prohibition(sif: &[u8], number: u16) -> bool {
+    match PointCode::new(number) {
+        Some(point) => Management::read(sif) == Ok(Management::TransferProhibited(point)),
+        None => false,
+    }
+}
+
+#[test]
+fn route_messages(rt: HostRuntime) {
+    assert!(rt; is_written(&[0x02, 0x40, 0x00, 0x00, 0x14, 0x2c, 0x01]));
+    assert!(rt; is_written(&[0x01, 0xc0, 0x00, 0x00, 0x34, 0x2c, 0x01]));
+    assert!(rt; is_written(&[0x01, 0xc0, 0x00, 0x00, 0x54, 0x2c, 0x01]));
+    assert!(rt; is_written(&[0x03, 0x40, 0x00, 0x00, 0x15, 0x2c, 0x01]));
+    assert!(rt; is_written(&[0x03, 0x40, 0x00, 0x00, 0x25, 0x2c, 0x01]));
+    assert!(rt; is_prohibition(&[0x02, 0x40, 0x00, 0x50, 0x14, 0x2c, 0xc1], 300));
+    assert!(rt; Management::read(&[0x02, 0x40, 0x00, 0x00, 0x14, 0x2c]) == Err(MgmtFault::Short));
+}
+
 /// The fault of a link test behind a label, by number; 0 where it has none.
 fn test_fault(octets: &[u8]) -> u8 {
     match LinkTest::read(octets) {
@@ -88,9 +105,6 @@ fn faults(rt: HostRuntime) {
     assert!(rt;
         Management::read(&[0x01, 0x80, 0x00, 0x00, 0x17]) == Ok(Management::TrafficRestartAllowed)
     );
-    assert!(rt;
-        Management::read(&[0x01, 0x80, 0x00, 0x00, 0x14, 0x2c, 0x01])
-            == Err(MgmtFault::NotInProfile)
-    );
+    assert!(rt; Management::read(&[0x01, 0x80, 0x00, 0x00, 0x16]) == Err(MgmtFault::NotInProfile));
     assert!(rt; Management::read(&[0x01, 0x80, 0x00, 0x00]) == Err(MgmtFault::Short));
 }
