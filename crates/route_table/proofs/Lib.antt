@@ -1,2 +1,4 @@
 pub mod Facts
 pub mod InService
+pub mod Telling
+pub mod Resetting
