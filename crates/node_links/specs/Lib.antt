@@ -3,3 +3,4 @@ pub mod LinkState
 pub mod LinkRoom
 pub mod Network
 pub mod NetworkRoom
+pub mod Statuses
