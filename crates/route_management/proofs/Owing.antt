@@ -1,14 +1,13 @@
 -- What is owed, as something is told.
-use Rattle.std.proofs.Common.{◌≡◌, ℕ, Bool, true, false, ◌&&◌, not, map, refl, ap, ◌∙◌}
+use Rattle.std.proofs.Common.{◌≡◌, Bool, true, false, ◌&&◌, not, map, refl, ap, ◌∙◌}
 use Rattle.std.specs.Prelude.{Option, Some, None, slice_set, if◌then◌else◌}
 use Rattle.std.specs.Option.{option_map}
 use Rattle.route_table.specs.declared.route.RouteStatus.{RouteStatus}
 use Rattle.route_table.specs.declared.route.RouteStatus.TheVariants.{Allowed, Restricted, Prohibited}
-use Rattle.route_table.specs.Facts.{Facts}
 use Rattle.route_table.proofs.Telling.{other_route}
 use Rattle.route_table.proofs.Resetting.{reset_route}
-use Rattle.route_management.specs.Told.{ToldTable, is_adjacent, row_of, told_at, with_told}
-use Rattle.route_management.specs.Owed.{is_same, said_by, should, is_reachable, is_unlike, owed_at}
+use Rattle.route_management.specs.Told.{is_adjacent, row_of, told_at}
+use Rattle.route_management.specs.Owed.{is_same, said_by, should, is_reachable, is_unlike}
 use Rattle.route_management.specs.Laws.{told_is_kept, told_once, leaves_other_points, leaves_other_destinations}
 use Rattle.route_management.specs.Laws.{reset_is_kept, reset_leaves_others, status_leaves_other_destinations}
 use Rattle.route_management.specs.Laws.{reset_leaves_what_is_to_be_told}

@@ -1,5 +1,5 @@
 -- What a message of route management from an adjacent point asks (Q.704 §13.2 to §13.5).
-use Rattle.std.specs.Prelude.{ℕ, Bool, ◌||◌, Option, Some, None, if◌then◌else◌}
+use Rattle.std.specs.Prelude.{ℕ, ◌||◌, Option, Some, None, if◌then◌else◌}
 use Rattle.route_table.specs.declared.route.RouteStatus.{RouteStatus}
 use Rattle.route_table.specs.declared.route.RouteStatus.TheVariants.{Prohibited, Restricted}
 use Rattle.route_table.specs.Facts.{Facts}
