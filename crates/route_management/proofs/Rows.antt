@@ -3,7 +3,7 @@ use Rattle.std.proofs.Common.{◌≡◌, ◌≢◌, ◌<◌, ◌+◌, ℕ, zero,
 use Rattle.std.specs.Prelude.{slice_get, slice_index_or, slice_set}
 use Rattle.std.specs.Option.{option_map}
 use Rattle.std.proofs.lemmas.Grind.{common_steps}
-use Rattle.std.proofs.lemmas.List.{get_or-set_other}
+use Rattle.std.proofs.lemmas.List.{get_or-set_other, length-set}
 use Rattle.std.proofs.lemmas.List.Edits.{map_over_more}
 
 get_back : {A : Type 0} (xs : List A) (i : ℕ) (x : A) → slice_get (slice_set xs i x) i ≡ option_map (λ old. x) (slice_get xs i)
@@ -60,3 +60,12 @@ pub alike_over_more : {A : Type 0} (y : A) (xs ys : List A) (i : ℕ) → i < le
     → slice_set ys i y ≡ map (λ old. y) (take (i + 1) xs) ++ drop (i + 1) xs
 alike_over_more y xs ys i l e =
     map_over_more (λ old. y) xs ys i (slice_index_or ys i y) l e (grind (arith, common_steps, l, e))
+
+-- rows stay as long as they are
+pub rows_as_long : {A : Type 0} (rows : List (List A)) (row other i : ℕ) (x : A)
+    → length (slice_index_or (slice_set rows row (slice_set (slice_index_or rows row []) i x)) other []) ≡ length (slice_index_or rows other [])
+rows_as_long [] row other i x = refl
+rows_as_long (r ∷ rs) zero zero i x = length-set r i x
+rows_as_long (r ∷ rs) zero (suc other) i x = refl
+rows_as_long (r ∷ rs) (suc row) zero i x = refl
+rows_as_long (r ∷ rs) (suc row) (suc other) i x = rows_as_long rs row other i x

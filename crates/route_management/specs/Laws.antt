@@ -1,12 +1,13 @@
 -- What holds of what is told and owed.
-use Rattle.std.specs.Prelude.{◌≡◌, ◌≢◌, ℕ, false, None}
+use Rattle.std.specs.Prelude.{◌≡◌, ◌≢◌, ℕ, false, Some, None, []}
+use Rattle.std.specs.List.{All}
 use Rattle.std.specs.Option.{option_map}
 use Rattle.route_table.specs.declared.route.RouteStatus.{RouteStatus}
 use Rattle.route_table.specs.declared.route.RouteStatus.TheVariants.{Allowed}
 use Rattle.route_table.specs.Facts.{Facts, with_status}
 use Rattle.route_table.specs.Statuses.{with_statuses_reset}
 use Rattle.route_management.specs.Told.{ToldTable, told_at, with_told, with_told_reset}
-use Rattle.route_management.specs.Owed.{is_reachable, owed_at, should}
+use Rattle.route_management.specs.Owed.{is_reachable, owed_at, owed, all_told, should}
 
 -- what is told is what was told, where both are there
 abbrev pub told_is_kept : Type 0
@@ -55,3 +56,15 @@ abbrev pub reset_leaves_what_is_to_be_told : Type 0
 reset_leaves_what_is_to_be_told =
     (f : Facts) (reset set destination : ℕ) → is_reachable f reset ≡ false →
     should (with_statuses_reset reset f) set destination ≡ should f set destination
+
+-- ---- all that is owed
+
+-- only what is owed is listed
+abbrev pub listed_is_owed : Type 0
+listed_is_owed =
+    (f : Facts) (t : ToldTable) →
+    All (λ o. owed_at f t o.set o.destination ≡ Some o.status) (owed f t)
+
+-- and all of it: once all that is listed is told, nothing is owed
+abbrev pub told_all_owes_nothing : Type 0
+told_all_owes_nothing = (f : Facts) (t : ToldTable) → owed f (all_told (owed f t) t) ≡ []

@@ -1,5 +1,6 @@
 -- What adjacent points are to be told, and which of it they weren't told yet (Q.704 §13.2 to §13.4).
-use Rattle.std.specs.Prelude.{ℕ, Bool, ◌&&◌, ◌==◌, false, not, List, Option, Some, None, length, if◌then◌else◌, nat_eq}
+use Rattle.std.specs.Prelude.{ℕ, Bool, ◌&&◌, ◌==◌, false, not, List, [], ◌∷◌, Option, Some, None, length, nat_eq}
+use Rattle.std.specs.Prelude.{if◌then◌else◌}
 use Rattle.std.specs.List.{range_with_len, filter_map, flat_map}
 use Rattle.std.specs.Option.{option_map}
 use Rattle.linkset.specs.Preference.{has_link}
@@ -8,7 +9,7 @@ use Rattle.route_table.specs.declared.route.RouteStatus.{RouteStatus}
 use Rattle.route_table.specs.declared.route.RouteStatus.TheVariants.{Prohibited}
 use Rattle.route_table.specs.Facts.{Facts, set_at}
 use Rattle.route_table.specs.Chosen.{chosen_route, status_number}
-use Rattle.route_management.specs.Told.{ToldTable, is_adjacent, row_of, told_at}
+use Rattle.route_management.specs.Told.{ToldTable, is_adjacent, row_of, told_at, with_told}
 
 -- whether two statuses are the same
 abbrev pub is_same : RouteStatus → RouteStatus → Bool
@@ -60,3 +61,8 @@ owed_to f t set = filter_map (owed_about f t set) (range_with_len 0 (length (row
 -- what is owed, by set and then by destination
 abbrev pub owed : Facts → ToldTable → List Owed
 owed f t = flat_map (owed_to f t) (range_with_len 0 (length t.rows))
+
+-- what was told once all of these are told, one after the other
+abbrev pub all_told : List Owed → ToldTable → ToldTable
+all_told [] t = t
+all_told (o ∷ os) t = all_told os (with_told o.set o.destination o.status t)

@@ -2,3 +2,4 @@ pub mod Facts
 pub mod InService
 pub mod Telling
 pub mod Resetting
+pub mod Opening

@@ -3,8 +3,9 @@
 ghost use Rattle.std.specs.Prelude.{ℕ, ◌≡◌, ◌≢◌, true, false, Some};
 ghost use Rattle.std.specs.Option.{option_map};
 ghost use Rattle.linkset.specs.Preference.{has_link, is_in_service};
+ghost use Rattle.route_table.specs.declared.route.Route.{Route};
 ghost use Rattle.route_table.specs.declared.route.RouteStatus.{RouteStatus};
-ghost use Rattle.route_table.specs.declared.route.RouteStatus.TheVariants.{Allowed};
+ghost use Rattle.route_table.specs.declared.route.RouteStatus.TheVariants.{Allowed, Prohibited};
 ghost use Rattle.route_table.specs.Facts.{Facts, set_at, with_status};
 ghost use Rattle.route_table.specs.Chosen.{chosen_link, chosen_route};
 ghost use Rattle.route_table.specs.Statuses.{status_of, with_statuses_reset};
@@ -13,6 +14,12 @@ ghost use Rattle.route_table.specs.Statuses.{status_of, with_statuses_reset};
 pub fn chosen_link_serves()
     ensures { (f : Facts) (destination selection link : ℕ)
         → chosen_link f destination selection ≡ Some link → is_in_service f.in_service link ≡ true }
+{}
+
+/// The route that messages to a destination take isn't prohibited: it is allowed or restricted.
+pub fn chosen_route_isnt_prohibited()
+    ensures { (f : Facts) (destination : ℕ) (route : Route)
+        → chosen_route f destination ≡ Some route → route.status ≢ Prohibited }
 {}
 
 /// A status of one destination changes neither the route nor the links of another.
