@@ -13,7 +13,8 @@ use Rattle.route_management.specs.Owed.{is_reachable, owed_at, owed, all_told, s
 abbrev pub told_is_kept : Type 0
 told_is_kept =
     (t : ToldTable) (set destination : ℕ) (status : RouteStatus) →
-    told_at (with_told set destination status t) set destination ≡ option_map (λ old. status) (told_at t set destination)
+    told_at (with_told set destination status t) set destination
+    ≡ option_map (λ old. status) (told_at t set destination)
 
 -- once the adjacent point of a set is told of a destination, it is owed no word of it
 abbrev pub told_once : Type 0

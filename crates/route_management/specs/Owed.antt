@@ -52,7 +52,8 @@ pub record Owed : Type 0 where
 
 abbrev pub owed_about : Facts → ToldTable → (set destination : ℕ) → Option Owed
 owed_about f t set destination =
-    option_map (λ status. record { set = set; destination = destination; status = status }) (owed_at f t set destination)
+    option_map (λ status. record { set = set; destination = destination; status = status })
+    (owed_at f t set destination)
 
 -- what is owed to the adjacent point of a set, by destination
 abbrev pub owed_to : Facts → ToldTable → ℕ → List Owed
