@@ -30,7 +30,7 @@ use Rattle.mgmt_codec.specs.declared.fault.MgmtFault.{MgmtFault}
 use Rattle.mgmt_codec.specs.declared.link_test.TestKind.{TestKind}
 use Rattle.mgmt_codec.specs.declared.link_test.TestKind.TheVariants.{Test, Acknowledgement}
 use Rattle.mgmt_codec.specs.declared.management.Management.{Management}
-use Rattle.mgmt_codec.specs.declared.management.Management.TheVariants.{TrafficRestartAllowed, ChangebackDeclaration, ChangebackAcknowledgement, ExtendedChangeoverOrder, ExtendedChangeoverAcknowledgement, EmergencyChangeoverOrder, EmergencyChangeoverAcknowledgement}
+use Rattle.mgmt_codec.specs.declared.management.Management.TheVariants.{TrafficRestartAllowed, TransferProhibited, TransferRestricted, TransferAllowed, RouteSetTestProhibited, RouteSetTestRestricted, ChangebackDeclaration, ChangebackAcknowledgement, ExtendedChangeoverOrder, ExtendedChangeoverAcknowledgement, EmergencyChangeoverOrder, EmergencyChangeoverAcknowledgement}
 use Rattle.mgmt_codec.specs.LinkTests.{LinkTestValue, read_link_test}
 use Rattle.mgmt_codec.specs.Management.{read_management}
 use Rattle.routing_label.specs.declared.discrimination.Discrimination.{Discrimination}
@@ -392,6 +392,11 @@ module _ {P Q : Type 0} (p : QueueKind P) (q : QueueKind Q) (h : P → Q) (IsFit
   do_read-kept (Ok (EmergencyChangeoverAcknowledgement slc)) z n f = do_acknowledgement-kept (link_with_code c z slc) None n f
   do_read-kept (Ok (ChangebackDeclaration slc code)) z n f = answered _ _ _ (send_routed-kept (acknowledgement c z slc code) n f)
   do_read-kept (Ok (ChangebackAcknowledgement slc code)) z n f = end_hold-kept (set_place c z) code n f
+  do_read-kept (Ok (TransferProhibited about)) z n f = parted _ n.parts n.queues f
+  do_read-kept (Ok (TransferRestricted about)) z n f = parted _ n.parts n.queues f
+  do_read-kept (Ok (TransferAllowed about)) z n f = parted _ n.parts n.queues f
+  do_read-kept (Ok (RouteSetTestProhibited about)) z n f = parted _ n.parts n.queues f
+  do_read-kept (Ok (RouteSetTestRestricted about)) z n f = parted _ n.parts n.queues f
 
   manage-kept : (l : ℕ) (m : Message) (n : Node P) → IsFit n.queues → Keeps (manage q c l m (keep h n)) (manage p c l m n)
   manage-kept l m n f =

@@ -22,7 +22,7 @@ use Rattle.mgmt_codec.specs.declared.fault.MgmtFault.{MgmtFault}
 use Rattle.mgmt_codec.specs.declared.link_test.TestKind.{TestKind}
 use Rattle.mgmt_codec.specs.declared.link_test.TestKind.TheVariants.{Test, Acknowledgement}
 use Rattle.mgmt_codec.specs.declared.management.Management.{Management}
-use Rattle.mgmt_codec.specs.declared.management.Management.TheVariants.{TrafficRestartAllowed, ChangebackDeclaration, ChangebackAcknowledgement, ExtendedChangeoverOrder, ExtendedChangeoverAcknowledgement, EmergencyChangeoverOrder, EmergencyChangeoverAcknowledgement}
+use Rattle.mgmt_codec.specs.declared.management.Management.TheVariants.{TrafficRestartAllowed, TransferProhibited, TransferRestricted, TransferAllowed, RouteSetTestProhibited, RouteSetTestRestricted, ChangebackDeclaration, ChangebackAcknowledgement, ExtendedChangeoverOrder, ExtendedChangeoverAcknowledgement, EmergencyChangeoverOrder, EmergencyChangeoverAcknowledgement}
 use Rattle.mgmt_codec.specs.LinkTests.{LinkTestValue, read_link_test}
 use Rattle.mgmt_codec.specs.Management.{read_management}
 use Rattle.routing_label.specs.declared.discrimination.Discrimination.{Discrimination}
@@ -162,6 +162,11 @@ module _ (c : Configuration) where
   do_read-leaves (Ok (EmergencyChangeoverAcknowledgement slc)) z n = do_acknowledgement-leaves (link_with_code c z slc) None n
   do_read-leaves (Ok (ChangebackDeclaration slc code)) z n = handled n (send_routed whole c (acknowledgement c z slc code) n)
   do_read-leaves (Ok (ChangebackAcknowledgement slc code)) z n = end_hold-leaves (set_place c z) code n
+  do_read-leaves (Ok (TransferProhibited about)) z n = refused causes.NotInProfile n
+  do_read-leaves (Ok (TransferRestricted about)) z n = refused causes.NotInProfile n
+  do_read-leaves (Ok (TransferAllowed about)) z n = refused causes.NotInProfile n
+  do_read-leaves (Ok (RouteSetTestProhibited about)) z n = refused causes.NotInProfile n
+  do_read-leaves (Ok (RouteSetTestRestricted about)) z n = refused causes.NotInProfile n
 
   manage-leaves : (link : ℕ) (m : Message) (n : Node WholeQueues) → Leaves (manage whole c link m n) n
   manage-leaves link m n =

@@ -22,6 +22,10 @@ use Rattle.mgmt_codec.specs.declared.management.Management.TheVariants.{Emergenc
 use Rattle.mgmt_codec.specs.declared.management.Management.TheVariants.{EmergencyChangeoverAcknowledgement}
 use Rattle.mgmt_codec.specs.declared.management.Management.TheVariants.{ChangebackDeclaration}
 use Rattle.mgmt_codec.specs.declared.management.Management.TheVariants.{ChangebackAcknowledgement}
+use Rattle.mgmt_codec.specs.declared.management.Management.TheVariants.{TransferProhibited, TransferRestricted}
+use Rattle.mgmt_codec.specs.declared.management.Management.TheVariants.{TransferAllowed}
+use Rattle.mgmt_codec.specs.declared.management.Management.TheVariants.{RouteSetTestProhibited}
+use Rattle.mgmt_codec.specs.declared.management.Management.TheVariants.{RouteSetTestRestricted}
 use Rattle.mgmt_codec.specs.LinkTests.{LinkTestValue, read_link_test, spelled, answer_to}
 use Rattle.mgmt_codec.specs.Management.{read_management}
 use Rattle.exchange.specs.State.{QueueKind, Node, Done, answer, refuse}
@@ -87,7 +91,8 @@ module _ {Q : Type 0} (q : QueueKind Q) (c : Configuration) where
   do_acknowledgement (Some link) number node = acknowledge q c link number node
   do_acknowledgement None number node = refuse BadManagement node
 
-  -- a management message from a point; that it has restarted asks nothing of this node
+  -- a management message from a point; that it has restarted asks nothing of this node. Those about routes have no rule
+  -- yet
   abbrev pub do_management : Management → ℕ → Node Q → Done Q
   do_management TrafficRestartAllowed point node = answer Ignored node
   do_management (ExtendedChangeoverOrder slc number) point node =
@@ -100,6 +105,11 @@ module _ {Q : Type 0} (q : QueueKind Q) (c : Configuration) where
       do_acknowledgement (link_with_code c point slc) None node
   do_management (ChangebackDeclaration slc code) point node = confirm q c point slc code node
   do_management (ChangebackAcknowledgement slc code) point node = end_hold q c (set_place c point) code node
+  do_management (TransferProhibited about) point node = refuse NotInProfile node
+  do_management (TransferRestricted about) point node = refuse NotInProfile node
+  do_management (TransferAllowed about) point node = refuse NotInProfile node
+  do_management (RouteSetTestProhibited about) point node = refuse NotInProfile node
+  do_management (RouteSetTestRestricted about) point node = refuse NotInProfile node
 
   abbrev pub do_read : Result Management MgmtFault → ℕ → Node Q → Done Q
   do_read (Err fault) point node = refuse (cause_of fault) node

@@ -4,3 +4,4 @@ pub mod LinkRoom
 pub mod Network
 pub mod NetworkRoom
 pub mod Origin
+pub mod Statuses

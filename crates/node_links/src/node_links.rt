@@ -9,6 +9,8 @@ ghost use Rattle.node_links.specs.LinkState.{acted, down_link, fallen, is_in_ser
 ghost use Rattle.node_links.specs.Network.{facts_of, first_network, link_in, with_state};
 ghost use Rattle.node_links.specs.Origin.{origin};
 
+mod statuses;
+
 use crate::link_state::LinkState;
 use link_alignment::{Action, Input};
 use route_table::{Route, Routes};
@@ -19,8 +21,8 @@ use std::marker::Model;
 
 /// The state of each link, and the routes, which always know which links are in service.
 ///
-/// All room is made by `new`. Each call but `new`, `link_of`, `origin` and `route_of` costs the same however many links
-/// there are.
+/// All room is made by `new`. Each call but `new`, `link_of`, `origin`, `route_of` and those on statuses costs the same
+/// however many links there are.
 #[derive(Drop)]
 pub struct NodeLinks {
     states: Vec<LinkState>,

@@ -1,2 +1,5 @@
 pub mod Facts
 pub mod InService
+pub mod Telling
+pub mod Resetting
+pub mod Opening

@@ -1,3 +1,4 @@
 pub mod Facts
 pub mod Chosen
 pub mod Room
+pub mod Statuses

@@ -1,12 +1,50 @@
-//! What holds of the link that a flow takes.
+//! What holds of the link that a flow takes, and of the statuses of routes.
 
-ghost use Rattle.std.specs.Prelude.{ℕ, ◌≡◌, true, Some};
-ghost use Rattle.linkset.specs.Preference.{is_in_service};
-ghost use Rattle.route_table.specs.Facts.{Facts};
-ghost use Rattle.route_table.specs.Chosen.{chosen_link};
+ghost use Rattle.std.specs.Prelude.{ℕ, ◌≡◌, ◌≢◌, true, false, Some};
+ghost use Rattle.std.specs.Option.{option_map};
+ghost use Rattle.linkset.specs.Preference.{has_link, is_in_service};
+ghost use Rattle.route_table.specs.declared.route.Route.{Route};
+ghost use Rattle.route_table.specs.declared.route.RouteStatus.{RouteStatus};
+ghost use Rattle.route_table.specs.declared.route.RouteStatus.TheVariants.{Allowed, Prohibited};
+ghost use Rattle.route_table.specs.Facts.{Facts, set_at, with_status};
+ghost use Rattle.route_table.specs.Chosen.{chosen_link, chosen_route};
+ghost use Rattle.route_table.specs.Statuses.{status_of, with_statuses_reset};
 
 /// The link of a flow is in service.
 pub fn chosen_link_serves()
     ensures { (f : Facts) (destination selection link : ℕ)
         → chosen_link f destination selection ≡ Some link → is_in_service f.in_service link ≡ true }
+{}
+
+/// The route that messages to a destination take isn't prohibited: it is allowed or restricted.
+pub fn chosen_route_isnt_prohibited()
+    ensures { (f : Facts) (destination : ℕ) (route : Route)
+        → chosen_route f destination ≡ Some route → route.status ≢ Prohibited }
+{}
+
+/// A status of one destination changes neither the route nor the links of another.
+pub fn another_destination_is_left()
+    ensures route { (f : Facts) (destination other set : ℕ) (status : RouteStatus) → destination ≢ other
+        → chosen_route (with_status destination set status f) other ≡ chosen_route f other }
+    ensures link { (f : Facts) (destination other set selection : ℕ) (status : RouteStatus) → destination ≢ other
+        → chosen_link (with_status destination set status f) other selection ≡ chosen_link f other selection }
+{}
+
+/// While no link of a set is in service, its statuses don't matter: as they become allowed, each destination keeps its
+/// route, and each flow its link.
+pub fn reset_out_of_service_moves_nothing()
+    ensures route { (f : Facts) (set destination : ℕ) → has_link f.in_service (set_at f set) ≡ false
+        → chosen_route (with_statuses_reset set f) destination ≡ chosen_route f destination }
+    ensures link { (f : Facts) (set destination selection : ℕ) → has_link f.in_service (set_at f set) ≡ false
+        → chosen_link (with_statuses_reset set f) destination selection ≡ chosen_link f destination selection }
+{}
+
+/// A status that a route gets is the one that is read; there are no more routes than before.
+pub fn told_status_is_read()
+    ensures told { (f : Facts) (destination set : ℕ) (status : RouteStatus)
+        → status_of (with_status destination set status f) destination set
+        ≡ option_map (λ old. status) (status_of f destination set) }
+    ensures reset { (f : Facts) (destination set : ℕ)
+        → status_of (with_statuses_reset set f) destination set
+        ≡ option_map (λ old. Allowed) (status_of f destination set) }
 {}

@@ -33,7 +33,7 @@ impl RouteStatus {
     }
 
     /// Whether it is this status.
-    pub(crate) fn is(self, other: RouteStatus) -> bool
+    pub fn is(self, other: RouteStatus) -> bool
         ensures { result ≡ (status_number self == status_number other) }
     {
         self as u8 == other as u8

@@ -8,6 +8,8 @@ ghost use Rattle.route_table.specs.Facts.{with_link, with_status};
 ghost use Rattle.route_table.specs.Chosen.{chosen_route, chosen_set, chosen_link};
 ghost use Rattle.route_table.specs.Chosen.{open_route, first_set, is_open};
 
+mod statuses;
+
 use crate::route::{Route, RouteList, RouteStatus};
 use linkset::LinkSet;
 use settings_rows::{DestinationRow, LinkRow};

@@ -77,3 +77,22 @@ fn allowed_then_restricted(rt: HostRuntime) -> Result<(), Fail> {
     assert!(rt; choose(two_sets(rt.alloc())?));
     Ok(())
 }
+
+/// Whether statuses are read as they were told, until those of a set are reset.
+fn tell_and_reset(mut routes: Routes) -> bool {
+    let (east, west) = (SetId::new(0), SetId::new(1));
+    let allowed = routes.status_of(0, east) == Some(RouteStatus::Allowed);
+    routes.set_status(0, east, RouteStatus::Prohibited);
+    routes.set_status(0, west, RouteStatus::Restricted);
+    let told = routes.status_of(0, east) == Some(RouteStatus::Prohibited);
+    routes.reset_statuses(east);
+    let reset = routes.status_of(0, east) == Some(RouteStatus::Allowed);
+    let left = routes.status_of(0, west) == Some(RouteStatus::Restricted);
+    allowed && told && reset && left && routes.status_of(1, east).is_none()
+}
+
+#[test]
+fn told_then_reset(rt: HostRuntime) -> Result<(), Fail> {
+    assert!(rt; tell_and_reset(two_sets(rt.alloc())?));
+    Ok(())
+}

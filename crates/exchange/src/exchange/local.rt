@@ -116,7 +116,8 @@ impl Exchange {
         }
     }
 
-    /// Does what a management message from an adjacent point asks; that it has restarted asks nothing.
+    /// Does what a management message from an adjacent point asks; that it has restarted asks nothing. Those about
+    /// routes have no rule yet.
     fn heed(&mut self, point: PointCode, message: Management) -> Outcome
         ensures { Ends self.old result self.new
             (rule.do_management kept self.old.settings message point self.old.node) }
@@ -144,6 +145,11 @@ impl Exchange {
                 let set = self.settings.set_to(point);
                 self.end_hold(set, code)
             }
+            Management::TransferProhibited(_)
+            | Management::TransferRestricted(_)
+            | Management::TransferAllowed(_)
+            | Management::RouteSetTestProhibited(_)
+            | Management::RouteSetTestRestricted(_) => Outcome::Refused(Cause::NotInProfile),
         }
     }
 

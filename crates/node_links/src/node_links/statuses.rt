@@ -1,0 +1,37 @@
+//! The statuses of a node's routes.
+
+ghost use Rattle.std.specs.Prelude.{◌≡◌};
+ghost use Rattle.route_table.specs.Statuses.{status_of};
+ghost use Rattle.node_links.specs.Network.{facts_of};
+ghost use Rattle.node_links.specs.Statuses.{with_status, with_statuses_reset};
+
+use super::NodeLinks;
+use route_table::RouteStatus;
+use signalling_types::SetId;
+
+impl NodeLinks {
+    /// The status of the route to a destination, by its number, over a set. `None` where no such route is there. It
+    /// takes a step for each set that leads to the destination.
+    pub fn status_of(&self, destination: usize, set: SetId) -> Option<RouteStatus>
+        ensures { result ≡ status_of (facts_of self.now) destination set }
+    {
+        self.routes.status_of(destination, set)
+    }
+
+    /// The route to a destination, by its number, over a set gets a status; a route that isn't there is left aside.
+    /// Links, and all other routes, stay as they are (Q.704 §13). It takes a step for each set that leads to the
+    /// destination.
+    pub fn set_status(&mut self, destination: usize, set: SetId, status: RouteStatus)
+        ensures { self.new ≡ with_status destination set status self.old }
+    {
+        self.routes.set_status(destination, set, status);
+    }
+
+    /// All routes over a set are allowed again. Links, and the routes over other sets, stay as they are (Q.704 §13). It
+    /// takes a step for each route of the node.
+    pub fn reset_statuses(&mut self, set: SetId)
+        ensures { self.new ≡ with_statuses_reset set self.old }
+    {
+        self.routes.reset_statuses(set);
+    }
+}

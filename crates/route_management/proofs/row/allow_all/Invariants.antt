@@ -1,0 +1,7 @@
+use Rattle.std.proofs.Common.{◌≡◌, ◌++◌, map, take, drop}
+use Rattle.route_table.specs.declared.route.RouteStatus.TheVariants.{Allowed}
+use Rattle.route_management.proofs.row.allow_all.Given as goal
+
+abbrev pub invariant-loop-status : goal.invariant-loop-status
+invariant-loop-status l =
+    l.statuses ≡ map (λ old. Allowed) (take l.status-index l.fn.statuses) ++ drop l.status-index l.fn.statuses

@@ -1,0 +1,69 @@
+-- What adjacent points are to be told, and which of it they weren't told yet (Q.704 §13.2 to §13.4).
+use Rattle.std.specs.Prelude.{ℕ, Bool, ◌&&◌, ◌==◌, false, not, List, [], ◌∷◌, Option, Some, None, length, nat_eq}
+use Rattle.std.specs.Prelude.{if◌then◌else◌}
+use Rattle.std.specs.List.{range_with_len, filter_map, flat_map}
+use Rattle.std.specs.Option.{option_map}
+use Rattle.linkset.specs.Preference.{has_link}
+use Rattle.route_table.specs.declared.route.Route.{Route}
+use Rattle.route_table.specs.declared.route.RouteStatus.{RouteStatus}
+use Rattle.route_table.specs.declared.route.RouteStatus.TheVariants.{Prohibited}
+use Rattle.route_table.specs.Facts.{Facts, set_at}
+use Rattle.route_table.specs.Chosen.{chosen_route, status_number}
+use Rattle.route_management.specs.Told.{ToldTable, is_adjacent, row_of, told_at, with_told}
+
+-- whether two statuses are the same
+abbrev pub is_same : RouteStatus → RouteStatus → Bool
+is_same a b = status_number a == status_number b
+
+-- what the adjacent point of a set is to be told of a destination, by the route that messages take there: not to send
+-- them where there is no route, or where they would come back; else that route's status, allowed or restricted
+abbrev pub said_by : ℕ → Option Route → RouteStatus
+said_by set None = Prohibited
+said_by set (Some route) = if nat_eq route.set set then Prohibited else route.status
+
+abbrev pub should : Facts → (set destination : ℕ) → RouteStatus
+should f set destination = said_by set (chosen_route f destination)
+
+-- an adjacent point is reached while its own set has a link in service
+abbrev pub is_reachable : Facts → ℕ → Bool
+is_reachable f set = has_link f.in_service (set_at f set)
+
+-- whether what was told is something else
+abbrev pub is_unlike : Option RouteStatus → RouteStatus → Bool
+is_unlike None status = false
+is_unlike (Some told) status = not (is_same told status)
+
+-- whether the adjacent point of a set is owed word of a destination
+abbrev pub is_owed : Facts → ToldTable → (set destination : ℕ) → Bool
+is_owed f t set destination =
+    is_reachable f set && (not (is_adjacent t set destination)
+    && is_unlike (told_at t set destination) (should f set destination))
+
+-- and which status
+abbrev pub owed_at : Facts → ToldTable → (set destination : ℕ) → Option RouteStatus
+owed_at f t set destination = if is_owed f t set destination then Some (should f set destination) else None
+
+-- ---- all that is owed
+
+pub record Owed : Type 0 where
+  pub set : ℕ
+  pub destination : ℕ
+  pub status : RouteStatus
+
+abbrev pub owed_about : Facts → ToldTable → (set destination : ℕ) → Option Owed
+owed_about f t set destination =
+    option_map (λ status. record { set = set; destination = destination; status = status })
+    (owed_at f t set destination)
+
+-- what is owed to the adjacent point of a set, by destination
+abbrev pub owed_to : Facts → ToldTable → ℕ → List Owed
+owed_to f t set = filter_map (owed_about f t set) (range_with_len 0 (length (row_of t set)))
+
+-- what is owed, by set and then by destination
+abbrev pub owed : Facts → ToldTable → List Owed
+owed f t = flat_map (owed_to f t) (range_with_len 0 (length t.rows))
+
+-- what was told once all of these are told, one after the other
+abbrev pub all_told : List Owed → ToldTable → ToldTable
+all_told [] t = t
+all_told (o ∷ os) t = all_told os (with_told o.set o.destination o.status t)

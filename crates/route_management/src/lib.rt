@@ -1,0 +1,13 @@
+//! Route management: what adjacent points are told of destinations, and what is made of what they tell (Q.704 §13).
+#![tactic(auto)]
+
+pub mod heard;
+pub mod laws;
+mod row;
+pub mod told;
+
+pub use heard::{Heard, RouteTest};
+pub use told::{Told, should};
+
+#[cfg(test)]
+mod tests;

@@ -1,0 +1,204 @@
+//! What adjacent points are told of destinations.
+
+ghost use Rattle.std.specs.Prelude.{◌≡◌, Some, None, length, map, position, replicate, nat_eq, IfOk, slice_index_or};
+ghost use Rattle.route_table.specs.declared.route.RouteStatus.TheVariants as status;
+ghost use Rattle.node_links.specs.Network.{facts_of};
+ghost use Rattle.route_management.specs.Told.{first_told, adjacent_of, is_adjacent, told_at, with_told};
+ghost use Rattle.route_management.specs.Told.{with_told_reset};
+ghost use Rattle.route_management.specs.Owed.{said_by, should, owed_at};
+ghost use Rattle.route_management.specs.Hearing.{heard, answer};
+
+use crate::heard::{Heard, RouteTest, heard_of};
+use crate::row::Row;
+use node_links::NodeLinks;
+use route_table::{Route, RouteStatus};
+use settings_rows::{DestinationRow, SetRow};
+use signalling_types::SetId;
+use std::alloc::{AllocError, Global};
+use std::marker::Model;
+
+/// What the adjacent point of each set was told of each destination. A destination goes by its number in the order of
+/// the settings.
+///
+/// All room is made by `new`. `tell` and `is_adjacent` take a fixed number of steps, `reset` takes one for each
+/// destination, and each other call what `NodeLinks` takes for the route to one destination, or for its status.
+#[derive(Drop)]
+pub struct Told {
+    adjacents: Vec<Option<usize>>,
+    rows: Vec<Row>,
+}
+
+impl Model for Told {
+    ghost use Rattle.route_management.specs.Told.{ToldTable};
+
+    ghost Value = { ToldTable };
+
+    ghost use Rattle.route_management.specs.Room.{told_in};
+
+    ghost view = { told_in };
+}
+
+impl Told {
+    /// What is told at first, to the adjacent points of these sets: that all of these destinations are allowed. The
+    /// error means that memory ran out.
+    ///
+    /// It takes an octet for each set and destination, and a step for each, too. That is 32 KB at the limits of a node.
+    pub fn new(
+        alloc: Global,
+        sets: &[SetRow],
+        destinations: &[DestinationRow],
+    ) -> Result<Told, AllocError>
+        ensures { IfOk result (λ told. told ≡ first_told sets.now destinations.now) }
+    {
+        Ok(Told {
+            adjacents: adjacents(alloc, sets, destinations)?,
+            rows: first_rows(alloc, sets.len(), destinations.len())?,
+        })
+    }
+
+    /// Whether a destination is the adjacent point of a set itself.
+    pub fn is_adjacent(&self, set: SetId, destination: usize) -> bool
+        ensures { result ≡ is_adjacent self.now set destination }
+    {
+        match self.adjacents.get(set.index()) {
+            Some(Some(adjacent)) => *adjacent == destination,
+            _ => false,
+        }
+    }
+
+    /// The status that the adjacent point of a set is owed of a destination: what it is to be told, where it was told
+    /// something else. `None` where it was told just that, where no link of the set is in service, where it is that
+    /// destination itself, and where one of the two isn't there (Q.704 §13.2 to §13.4).
+    pub fn owed(&self, links: &NodeLinks, set: SetId, destination: usize) -> Option<RouteStatus>
+        ensures { result ≡ owed_at (facts_of links.now) self.now set destination }
+    {
+        if !links.has_link(set) || self.is_adjacent(set, destination) {
+            return None;
+        }
+        let status = should(links, set, destination);
+        match self.told(set, destination) {
+            Some(told) if !told.is(status) => Some(status),
+            _ => None,
+        }
+    }
+
+    /// What the adjacent point of a set was told of a destination; `None` where one of the two isn't there.
+    pub fn told(&self, set: SetId, destination: usize) -> Option<RouteStatus>
+        ensures { result ≡ told_at self.now set destination }
+    {
+        match self.rows.get(set.index()) {
+            Some(row) => row.status(destination),
+            None => None,
+        }
+    }
+
+    /// The adjacent point of a set is told of a destination. What isn't there is left aside, and all else that was told
+    /// stays.
+    pub fn tell(&mut self, set: SetId, destination: usize, status: RouteStatus)
+        ensures { self.new ≡ with_told set destination status self.old }
+    {
+        if let Some(row) = self.rows.get_mut(set.index()) {
+            row.tell(destination, status);
+        }
+    }
+
+    /// The adjacent point of a set takes all destinations for allowed, as the first link of the set enters service. A
+    /// set that isn't there is left aside, and what the others were told stays.
+    pub fn reset(&mut self, set: SetId)
+        ensures { self.new ≡ with_told_reset set self.old }
+    {
+        if let Some(row) = self.rows.get_mut(set.index()) {
+            row.reset();
+        }
+    }
+
+    /// What comes of a transfer-prohibited, -restricted or -allowed message from the adjacent point of a set, by the
+    /// status that it gives a destination. Where that is `Changed`, the caller sets the status on the links (Q.704
+    /// §13.2 to §13.4).
+    pub fn received(
+        &self,
+        links: &NodeLinks,
+        set: SetId,
+        destination: usize,
+        status: RouteStatus,
+    ) -> Heard
+        ensures { result ≡ heard (facts_of links.now) self.now set destination status }
+    {
+        if self.is_adjacent(set, destination) {
+            return Heard::Ignored;
+        }
+        heard_of(links.status_of(destination, set), status)
+    }
+
+    /// The status that answers a signalling-route-set-test message from the adjacent point of a set about a
+    /// destination: what that point is to be told. `None` where that is what the message asks about, and where the
+    /// destination is that point itself (Q.704 §13.5).
+    pub fn answer_to_test(
+        &self,
+        links: &NodeLinks,
+        set: SetId,
+        destination: usize,
+        test: RouteTest,
+    ) -> Option<RouteStatus>
+        ensures { result ≡ answer (facts_of links.now) self.now set destination test }
+    {
+        let status = should(links, set, destination);
+        if self.is_adjacent(set, destination) || status.is(test.tested()) {
+            None
+        } else {
+            Some(status)
+        }
+    }
+}
+
+/// What the adjacent point of a set is to be told of a destination: prohibited where no route leads there, or where
+/// messages go by that very set; else the status of their route (Q.704 §13.2 to §13.4).
+pub fn should(links: &NodeLinks, set: SetId, destination: usize) -> RouteStatus
+    ensures { result ≡ should (facts_of links.now) set destination }
+{
+    said_by(set, links.route_of(destination))
+}
+
+/// The same, by the route that messages take there.
+fn said_by(set: SetId, route: Option<Route>) -> RouteStatus
+    ensures { result ≡ said_by set route }
+{
+    match route {
+        Some(route) if route.set.index() != set.index() => route.status,
+        _ => RouteStatus::Prohibited,
+    }
+}
+
+/// Of each set, the number of the destination that its links lead to.
+fn adjacents(
+    alloc: Global,
+    sets: &[SetRow],
+    destinations: &[DestinationRow],
+) -> Result<Vec<Option<usize>>, AllocError>
+    ensures { IfOk result (λ made. made.items ≡ map (adjacent_of destinations.now) sets.now) }
+{
+    let mut made = Vec::with_capacity(alloc, sets.len())?;
+    for set in sets {
+        made.push_reserved(adjacent_of(set, destinations));
+    }
+    Ok(made)
+}
+
+/// The number of the destination that the links of a set lead to.
+fn adjacent_of(set: &SetRow, destinations: &[DestinationRow]) -> Option<usize>
+    ensures { result ≡ adjacent_of destinations.now set.now }
+{
+    let adjacent = set.adjacent();
+    destinations.iter().position(|destination| adjacent.code() == destination.point().code())
+}
+
+/// So many rows of so many destinations, all of them allowed.
+fn first_rows(alloc: Global, sets: usize, destinations: usize) -> Result<Vec<Row>, AllocError>
+    ensures { IfOk result (λ rows. rows.items ≡ replicate sets (replicate destinations status.Allowed)) }
+{
+    let mut rows = Vec::with_capacity(alloc, sets)?;
+    for index in 0..sets {
+        rows.push_reserved(Row::new(alloc, destinations)?);
+    }
+    Ok(rows)
+}
