@@ -259,4 +259,3 @@ entered_service (act.Go step) s t u link e b i f =
     ∙ ap (λ (k : Facts). with_node s (take_back kept s.settings link k next)) (known_before s.settings link step s.node.parts b)
     ∙ ap (λ (x : Bool). with_node s (return_if kept s.settings x link (facts s.settings s.node.parts) next))
     (sym (enters_so (is_in_service step.state) (in_service s.node.parts link) led b))
-
