@@ -1,30 +1,27 @@
 -- A flow whose link changed by a return is held, and what was held stays held.
-use Rattle.std.proofs.Common.{◌≡◌, ◌≢◌, ◌<◌, ◌≤◌, ℕ, zero, suc, Bool, true, false, ◌&&◌, ◌||◌, not, List, [], ◌∷◌, length, nat_eq, nat_lt, refl, ap, sym, ◌∙◌, subst, arith, replicate}
-use Rattle.std.specs.Prelude.{Option, Some, None, Contains, position, slice_index_or, slice_set, if◌then◌else◌, map}
+use Rattle.std.proofs.Common.{◌≡◌, ◌≢◌, ◌<◌, ◌≤◌, ℕ, zero, suc, Bool, true, false, ◌||◌, not, List, [], ◌∷◌, length, nat_eq, refl, ap, sym, ◌∙◌, subst, arith, replicate}
+use Rattle.std.specs.Prelude.{Option, Some, None, Contains, slice_index_or, slice_set, if◌then◌else◌}
 use Rattle.std.proofs.Math.Logic.{⊎_elim}
 use Rattle.std.proofs.lemmas.Bool.{cases_lt, cases_eq, eq-eqb}
 use Rattle.std.proofs.lemmas.Bool.Decides.{nat_tests}
-use Rattle.std.proofs.lemmas.List.{get_or_past, get_or-set_same, get_or-set_other, get_or-replicate, length-set, length-replicate, length-map}
+use Rattle.std.proofs.lemmas.List.{get_or_past, get_or-set_same, get_or-set_other, length-set, length-replicate, length-map}
 use Rattle.std.proofs.lemmas.List.Quantifiers.{position-Some}
 use Rattle.signalling_types.specs.declared.cause.Cause.{Cause}
 use Rattle.signalling_types.specs.declared.limits.TheConstants.Limits.{LINKS, CHANGEBACK_CODES}
 use Rattle.settings_rows.specs.Configuration.{Configuration}
 use Rattle.route_table.specs.Facts.{first_routes}
-use Rattle.route_table.specs.Chosen.{chosen_link}
 use Rattle.flow_hold.specs.declared.procedure.Procedure.{Procedure}
 use Rattle.flow_hold.specs.Holds.{HoldTable, is_held, place_of, flow_of, with_mark_at, with_row_hold, with_row_lifted}
 use Rattle.flow_hold.specs.Rows.{marks_at, place_of_flow}
 use Rattle.flow_hold.specs.Pairs.{HasPlaces, may_hold}
 use Rattle.flow_hold.proofs.Placing.{no_holds-places, with_hold-places, lifted-places}
 use Rattle.changeback.specs.Codes.{Codes, codes_of, free_code, with_code}
-use Rattle.changeback.specs.Return.{FlowChange, returned, gives_up, held_by}
-use Rattle.changeback.specs.Laws.{IsMoved}
+use Rattle.changeback.specs.Return.{FlowChange, returned, gives_up}
 use Rattle.changeback.proofs.Held.{change_held, stay_held}
 use Rattle.changeback.proofs.Moved.{each_found}
 use Rattle.exchange.specs.State.{QueueKind, Parts, Node}
 use Rattle.exchange.specs.Queues.{WholeQueues, whole}
 use Rattle.exchange.specs.Routing.{facts}
-use Rattle.exchange.specs.Stands.{first_parts}
 use Rattle.exchange.specs.ChangingBack.{set_of, if_room, procedure_by, usable, code_for, declare_by, holder, declare_each, holders}
 use Rattle.exchange.specs.Laws.{HasPlacesFor, changed_flows_are_held, returns_keep_holds, places_at_first, hold_keeps_places, lift_keeps_places, code_keeps_places}
 use Rattle.exchange.proofs.Belonging.{IsListed, chosen_listed, chosen_there}

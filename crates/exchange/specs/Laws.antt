@@ -1,6 +1,6 @@
 -- What the abstract exchange does whatever the event: laws.
 use Rattle.settings_rows.specs.Configuration.{Configuration}
-use Rattle.std.specs.Prelude.{◌≡◌, ◌≢◌, ◌<◌, ◌≤◌, ◌&&◌, ◌++◌, ℕ, Bool, true, not, length, filter, List, Option, Some, None}
+use Rattle.std.specs.Prelude.{◌≡◌, ◌≢◌, ◌<◌, ◌≤◌, ◌&&◌, ◌++◌, ℕ, Bool, true, not, length, filter, Option, Some, None}
 use Rattle.std.specs.Prelude.{Result, Ok, Err, if◌then◌else◌}
 use Rattle.signalling_types.specs.declared.cause.Cause.{Cause}
 use Rattle.signalling_types.specs.declared.limits.TheConstants.Limits.{LINKS, CHANGEBACK_CODES}
