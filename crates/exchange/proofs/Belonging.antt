@@ -99,7 +99,7 @@ set-of links (suc sets) set l h =
 -- ---- the link of a flow
 
 -- a list has a link of this number
-record HasNumber (links : List SetLink) (link : ℕ) : Type 0 where
+pub record HasNumber (links : List SetLink) (link : ℕ) : Type 0 where
   pub member : SetLink
   pub stands : Contains links member
   pub number : member.link ≡ link
@@ -115,7 +115,7 @@ found : (p : SetLink → Bool) (xs : List SetLink) (link : ℕ) → option_map (
 found p [] link e = absurd cc
 found p (x ∷ xs) link e = found-by (p x) x xs (find p xs) link (found p xs link) e
 
-first-of : (sls : ℕ) (serving : List Bool) (links : List SetLink) (link : ℕ) → first_in_service sls serving links ≡ Some link → HasNumber links link
+pub first-of : (sls : ℕ) (serving : List Bool) (links : List SetLink) (link : ℕ) → first_in_service sls serving links ≡ Some link → HasNumber links link
 first-of sls serving links link e =
     let one : HasNumber (preference sls links) link = found (λ l. is_in_service serving l.link) (preference sls links) link e in
     record {

@@ -15,3 +15,4 @@ pub mod Releasing
 pub mod Returning
 pub mod Belonging
 pub mod TakenBack
+pub mod Attracted

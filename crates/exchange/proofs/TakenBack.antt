@@ -61,25 +61,29 @@ length-codes t set code other b =
 -- ---- what holds a flow is there
 
 module _ {Q : Type 0} (q : QueueKind Q) (c : Configuration) where
-  -- a node with as many codes of each set as another, and with its holds
-  record IsAlike (n m : Node Q) : Type 0 where
+  -- a node with as many codes of each set as another, and with its holds, links and routes
+  pub record IsAlike (n m : Node Q) : Type 0 where
     pub holds : n.parts.holds ≡ m.parts.holds
+    pub links : n.parts.links ≡ m.parts.links
+    pub routes : n.parts.routes ≡ m.parts.routes
     pub codes : (set : ℕ) → length (codes_of n.parts.codes set) ≡ length (codes_of m.parts.codes set)
 
   declare_by-alike : (code : Option ℕ) (link other : ℕ) (n m : Node Q) → IsAlike n m → IsAlike (declare_by q c code link other n) m
   declare_by-alike (Some code) link other n m a = record {
     holds = a.holds;
+    links = a.links;
+    routes = a.routes;
     codes = λ set. length-codes n.parts.codes (set_of c link) code set true ∙ a.codes set;
   }
-  declare_by-alike None link other n m a = record { holds = a.holds; codes = a.codes }
+  declare_by-alike None link other n m a = record { holds = a.holds; links = a.links; routes = a.routes; codes = a.codes }
 
   either-alike : (b : Bool) (n o m : Node Q) → IsAlike n m → IsAlike o m → IsAlike (if b then n else o) m
   either-alike true n o m e f = e
   either-alike false n o m e f = f
 
-  declare_each-alike : (link : ℕ) (loses : ℕ → Bool) (many : ℕ) (n : Node Q) → IsAlike (declare_each q c link loses many n) n
+  pub declare_each-alike : (link : ℕ) (loses : ℕ → Bool) (many : ℕ) (n : Node Q) → IsAlike (declare_each q c link loses many n) n
   unfolding declare_each
-  declare_each-alike link loses zero n = record { holds = refl; codes = λ set. refl }
+  declare_each-alike link loses zero n = record { holds = refl; links = refl; routes = refl; codes = λ set. refl }
   declare_each-alike link loses (suc other) n =
       let one : Node Q = declare_each q c link loses other n in
       let e : IsAlike one n = declare_each-alike link loses other n in

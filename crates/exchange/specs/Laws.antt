@@ -12,12 +12,13 @@ use Rattle.m2pa_codec.specs.Reading.{read_frame}
 use Rattle.link_alignment.specs.declared.action.Action.{Action}
 use Rattle.link_alignment.specs.declared.action.Action.TheVariants as act
 use Rattle.link_alignment.specs.declared.action.Input.TheVariants.{UserData}
+use Rattle.link_alignment.specs.declared.action.Transition.{Transition}
 use Rattle.link_alignment.specs.Table.{action_at}
 use Rattle.link_sequence.specs.Queue.{count_confirmed}
 use Rattle.exchange.specs.State.{Parts, Node, with_node, with_parts}
 use Rattle.exchange.specs.Links.{is_link, link_at, in_service}
 use Rattle.exchange.specs.Noting.{note}
-use Rattle.exchange.specs.Statuses.{advance}
+use Rattle.exchange.specs.Statuses.{enters, advance}
 use Rattle.exchange.specs.Frames.{Carrying, numbers, accept, data_of}
 use Rattle.exchange.specs.Happening.{Happening, CameUp, WentDown, FrameCame, Ticked, Submitted, Activated, Deactivated}
 use Rattle.signalling_types.specs.Message.{Message, flow_of}
@@ -137,7 +138,16 @@ pub record HasPlacesFor (c : Configuration) (p : Parts) : Type 0 where
   pub routes : length p.routes ≡ length c.destinations
   pub codes : (set : ℕ) → length (codes_of p.codes set) ≤ CHANGEBACK_CODES
 
--- a flow that went by another link before, and goes by the link that returned now, is held
+-- when a link enters service, a flow whose link changed from one link to another is held
+abbrev pub entries_hold_changed_flows : Type 0
+entries_hold_changed_flows =
+    (c : Configuration) (link : ℕ) (step : Transition) (node : Node WholeQueues) (destination sls from to : ℕ) →
+    HasPlacesFor c node.parts → sls < selections → enters link step node.parts ≡ true →
+    chosen_link (facts c node.parts) destination sls ≡ Some from →
+    chosen_link (facts c (advance whole c link step node).parts) destination sls ≡ Some to → from ≢ to →
+    is_held (advance whole c link step node).parts.holds destination sls ≡ true
+
+-- and of any two states: a flow that went by another link before, and goes by the link that returned now, is held
 abbrev pub changed_flows_are_held : Type 0
 changed_flows_are_held =
     (c : Configuration) (link : ℕ) (before : Parts) (node : Node WholeQueues) (destination sls from : ℕ) →

@@ -2,7 +2,7 @@
 
 ghost use Rattle.exchange.specs.Laws.{refusals_leave, nothing_taken_leaves, queued_in_service};
 ghost use Rattle.exchange.specs.Laws.{completion_leaves_others, release_keeps_order, moved_before_held};
-ghost use Rattle.exchange.specs.Laws.{changed_flows_are_held, returns_keep_holds};
+ghost use Rattle.exchange.specs.Laws.{entries_hold_changed_flows, changed_flows_are_held, returns_keep_holds};
 ghost use Rattle.exchange.specs.Laws.{places_at_first, hold_keeps_places, lift_keeps_places, code_keeps_places};
 
 /// A refused event changes nothing but the notices; only where a message in a frame is refused, what
@@ -40,9 +40,10 @@ pub fn moved_messages_go_before_held_ones()
     ensures { moved_before_held }
 {}
 
-/// A flow that went by another link before, and goes by a link that returned to service now, is held; and what was held
-/// stays held. It takes a node that has a place for each link, set and destination of its settings.
+/// When a link enters service, each flow whose link changed from one link to another is held; and what was held stays
+/// held. So it is of every node that has a place for each link, set and destination of its settings.
 pub fn flows_that_change_their_link_are_held()
+    ensures entered { entries_hold_changed_flows }
     ensures changed { changed_flows_are_held }
     ensures others { returns_keep_holds }
 {}
