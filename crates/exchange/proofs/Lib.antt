@@ -13,3 +13,6 @@ pub mod Showing
 pub mod Leaving
 pub mod Releasing
 pub mod Returning
+pub mod Belonging
+pub mod TakenBack
+pub mod Attracted

@@ -1,8 +1,9 @@
 -- What the abstract exchange does whatever the event: laws.
 use Rattle.settings_rows.specs.Configuration.{Configuration}
-use Rattle.std.specs.Prelude.{◌≡◌, ◌≢◌, ◌<◌, ◌&&◌, ◌++◌, ℕ, Bool, true, not, length, filter, List, Option, Some, None}
+use Rattle.std.specs.Prelude.{◌≡◌, ◌≢◌, ◌<◌, ◌≤◌, ◌&&◌, ◌++◌, ℕ, Bool, true, not, length, filter, Option, Some, None}
 use Rattle.std.specs.Prelude.{Result, Ok, Err, if◌then◌else◌}
 use Rattle.signalling_types.specs.declared.cause.Cause.{Cause}
+use Rattle.signalling_types.specs.declared.limits.TheConstants.Limits.{LINKS, CHANGEBACK_CODES}
 use Rattle.signalling_types.specs.declared.notice.Notice.TheVariants as notices
 use Rattle.signalling_types.specs.declared.notice.FrameFault.{FrameFault}
 use Rattle.signalling_types.specs.declared.outcome.Outcome.TheVariants.{Queued, Refused}
@@ -11,23 +12,32 @@ use Rattle.m2pa_codec.specs.Reading.{read_frame}
 use Rattle.link_alignment.specs.declared.action.Action.{Action}
 use Rattle.link_alignment.specs.declared.action.Action.TheVariants as act
 use Rattle.link_alignment.specs.declared.action.Input.TheVariants.{UserData}
+use Rattle.link_alignment.specs.declared.action.Transition.{Transition}
 use Rattle.link_alignment.specs.Table.{action_at}
 use Rattle.link_sequence.specs.Queue.{count_confirmed}
 use Rattle.exchange.specs.State.{Parts, Node, with_node, with_parts}
 use Rattle.exchange.specs.Links.{is_link, link_at, in_service}
 use Rattle.exchange.specs.Noting.{note}
-use Rattle.exchange.specs.Statuses.{advance}
+use Rattle.exchange.specs.Statuses.{enters, advance}
 use Rattle.exchange.specs.Frames.{Carrying, numbers, accept, data_of}
 use Rattle.exchange.specs.Happening.{Happening, CameUp, WentDown, FrameCame, Ticked, Submitted, Activated, Deactivated}
 use Rattle.signalling_types.specs.Message.{Message, flow_of}
 use Rattle.changeover.specs.Completion.{moved}
 use Rattle.changeover.specs.Failure.{goes_by}
-use Rattle.exchange.specs.Routing.{link_of}
+use Rattle.route_table.specs.Facts.{Facts}
+use Rattle.route_table.specs.Chosen.{chosen_link}
+use Rattle.flow_hold.specs.declared.procedure.Procedure.{Procedure}
+use Rattle.flow_hold.specs.Holds.{is_held, with_hold, lifted}
+use Rattle.flow_hold.specs.Pairs.{HasPlaces}
+use Rattle.changeback.specs.Codes.{codes_of, with_code}
+use Rattle.changeback.specs.Return.{selections}
+use Rattle.exchange.specs.Routing.{facts, link_of}
+use Rattle.exchange.specs.ChangingBack.{take_back}
 use Rattle.exchange.specs.Holding.{waits}
 use Rattle.exchange.specs.Releasing.{release}
 use Rattle.exchange.specs.Queues.{WholeQueues, queue_at, whole}
 use Rattle.exchange.specs.Exchange.{outcome_of, after, frame_to_take, taken}
-use Rattle.exchange.specs.Stands.{Abstract, IsSound}
+use Rattle.exchange.specs.Stands.{Abstract, IsSound, first_parts}
 
 -- the node after User Data was accepted on a link in service
 abbrev pub accepted_here : ℕ → Carrying → Configuration → Node WholeQueues → Node WholeQueues
@@ -115,3 +125,59 @@ moved_before_held =
     (queue_at (release whole c (record { queues = whole.completed qs failed number; parts = p })).queues link).all
     ≡ filter of_flow (queue_at qs link).all
     ++ (filter of_flow (moved (queue_at qs failed) number) ++ filter of_flow qs.held)
+
+-- ---- returns to service
+
+-- there is a place for each link, set and destination of the settings
+pub record HasPlacesFor (c : Configuration) (p : Parts) : Type 0 where
+  pub few_links : length c.links ≤ LINKS
+  pub holds : HasPlaces p.holds
+  pub links : p.holds.links ≡ length c.links
+  pub sets : p.holds.sets ≡ length c.sets
+  pub destinations : p.holds.destinations ≡ length c.destinations
+  pub routes : length p.routes ≡ length c.destinations
+  pub codes : (set : ℕ) → length (codes_of p.codes set) ≤ CHANGEBACK_CODES
+
+-- when a link enters service, a flow whose link changed from one link to another is held
+abbrev pub entries_hold_changed_flows : Type 0
+entries_hold_changed_flows =
+    (c : Configuration) (link : ℕ) (step : Transition) (node : Node WholeQueues) (destination sls from to : ℕ) →
+    HasPlacesFor c node.parts → sls < selections → enters link step node.parts ≡ true →
+    chosen_link (facts c node.parts) destination sls ≡ Some from →
+    chosen_link (facts c (advance whole c link step node).parts) destination sls ≡ Some to → from ≢ to →
+    is_held (advance whole c link step node).parts.holds destination sls ≡ true
+
+-- and of any two states: a flow that went by another link before, and goes by the link that returned now, is held
+abbrev pub changed_flows_are_held : Type 0
+changed_flows_are_held =
+    (c : Configuration) (link : ℕ) (before : Parts) (node : Node WholeQueues) (destination sls from : ℕ) →
+    HasPlacesFor c node.parts → sls < selections → from ≢ link →
+    chosen_link (facts c before) destination sls ≡ Some from →
+    chosen_link (facts c node.parts) destination sls ≡ Some link →
+    is_held (take_back whole c link (facts c before) node).parts.holds destination sls ≡ true
+
+-- and what was held stays held
+abbrev pub returns_keep_holds : Type 0
+returns_keep_holds =
+    (c : Configuration) (link : ℕ) (before : Facts) (node : Node WholeQueues) (destination sls : ℕ) →
+    is_held node.parts.holds destination sls ≡ true →
+    is_held (take_back whole c link before node).parts.holds destination sls ≡ true
+
+-- the places are there from the boot on, and stay
+abbrev pub places_at_first : Type 0
+places_at_first = (c : Configuration) → length c.links ≤ LINKS → HasPlacesFor c (first_parts c)
+
+abbrev pub hold_keeps_places : Type 0
+hold_keeps_places =
+    (c : Configuration) (p : Parts) (procedure : Procedure) (destination sls : ℕ) → HasPlacesFor c p →
+    HasPlacesFor c (record p { holds = with_hold p.holds procedure destination sls })
+
+abbrev pub lift_keeps_places : Type 0
+lift_keeps_places =
+    (c : Configuration) (p : Parts) (procedure : Procedure) → HasPlacesFor c p →
+    HasPlacesFor c (record p { holds = lifted p.holds procedure })
+
+abbrev pub code_keeps_places : Type 0
+code_keeps_places =
+    (c : Configuration) (p : Parts) (set code : ℕ) (outstanding : Bool) → HasPlacesFor c p →
+    HasPlacesFor c (record p { codes = with_code p.codes set code outstanding })

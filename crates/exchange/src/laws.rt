@@ -2,6 +2,8 @@
 
 ghost use Rattle.exchange.specs.Laws.{refusals_leave, nothing_taken_leaves, queued_in_service};
 ghost use Rattle.exchange.specs.Laws.{completion_leaves_others, release_keeps_order, moved_before_held};
+ghost use Rattle.exchange.specs.Laws.{entries_hold_changed_flows, changed_flows_are_held, returns_keep_holds};
+ghost use Rattle.exchange.specs.Laws.{places_at_first, hold_keeps_places, lift_keeps_places, code_keeps_places};
 
 /// A refused event changes nothing but the notices; only where a message in a frame is refused, what
 /// accepting that frame did stands.
@@ -36,4 +38,21 @@ pub fn release_keeps_the_order_of_each_flow()
 /// the changeover moves stand before those that were held.
 pub fn moved_messages_go_before_held_ones()
     ensures { moved_before_held }
+{}
+
+/// When a link enters service, each flow whose link changed from one link to another is held; and what was held stays
+/// held. So it is of every node that has a place for each link, set and destination of its settings.
+pub fn flows_that_change_their_link_are_held()
+    ensures entered { entries_hold_changed_flows }
+    ensures changed { changed_flows_are_held }
+    ensures others { returns_keep_holds }
+{}
+
+/// A node that was just booted has those places, and it keeps them whatever is held and lifted, and whatever code is
+/// used.
+pub fn nodes_have_their_places()
+    ensures first { places_at_first }
+    ensures hold { hold_keeps_places }
+    ensures lift { lift_keeps_places }
+    ensures code { code_keeps_places }
 {}

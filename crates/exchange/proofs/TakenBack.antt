@@ -1,0 +1,255 @@
+-- A flow whose link changed by a return is held, and what was held stays held.
+use Rattle.std.proofs.Common.{◌≡◌, ◌≢◌, ◌<◌, ◌≤◌, ℕ, zero, suc, Bool, true, false, ◌||◌, not, List, [], ◌∷◌, length, nat_eq, refl, ap, sym, ◌∙◌, subst, arith, replicate}
+use Rattle.std.specs.Prelude.{Option, Some, None, Contains, slice_index_or, slice_set, if◌then◌else◌}
+use Rattle.std.proofs.Math.Logic.{⊎_elim}
+use Rattle.std.proofs.lemmas.Bool.{cases_lt, cases_eq, eq-eqb}
+use Rattle.std.proofs.lemmas.Bool.Decides.{nat_tests}
+use Rattle.std.proofs.lemmas.List.{get_or_past, get_or-set_same, get_or-set_other, length-set, length-replicate, length-map}
+use Rattle.std.proofs.lemmas.List.Quantifiers.{position-Some}
+use Rattle.signalling_types.specs.declared.cause.Cause.{Cause}
+use Rattle.signalling_types.specs.declared.limits.TheConstants.Limits.{LINKS, CHANGEBACK_CODES}
+use Rattle.settings_rows.specs.Configuration.{Configuration}
+use Rattle.route_table.specs.Facts.{first_routes}
+use Rattle.flow_hold.specs.declared.procedure.Procedure.{Procedure}
+use Rattle.flow_hold.specs.Holds.{HoldTable, is_held, place_of, flow_of, with_mark_at, with_row_hold, with_row_lifted}
+use Rattle.flow_hold.specs.Rows.{marks_at, place_of_flow}
+use Rattle.flow_hold.specs.Pairs.{HasPlaces, may_hold}
+use Rattle.flow_hold.proofs.Placing.{no_holds-places, with_hold-places, lifted-places}
+use Rattle.changeback.specs.Codes.{Codes, codes_of, free_code, with_code}
+use Rattle.changeback.specs.Return.{FlowChange, returned, gives_up}
+use Rattle.changeback.proofs.Held.{change_held, stay_held}
+use Rattle.changeback.proofs.Moved.{each_found}
+use Rattle.exchange.specs.State.{QueueKind, Parts, Node}
+use Rattle.exchange.specs.Queues.{WholeQueues, whole}
+use Rattle.exchange.specs.Routing.{facts}
+use Rattle.exchange.specs.ChangingBack.{set_of, if_room, procedure_by, usable, code_for, declare_by, holder, declare_each, holders}
+use Rattle.exchange.specs.Laws.{HasPlacesFor, changed_flows_are_held, returns_keep_holds, places_at_first, hold_keeps_places, lift_keeps_places, code_keeps_places}
+use Rattle.exchange.proofs.Belonging.{IsListed, chosen_listed, chosen_there}
+
+-- ---- the codes of a set are below their count
+
+record IsBelow (limit : ℕ) (o : Option ℕ) : Type 0 where
+  pub below : (code : ℕ) → o ≡ Some code → code < limit
+
+none-below : (limit : ℕ) → IsBelow limit None
+none-below limit = record { below = λ code e. absurd cc }
+
+free-below : (t : Codes) (set : ℕ) → IsBelow (length (codes_of t set)) (free_code t set)
+free-below t set = record { below = λ code e. (position-Some not (codes_of t set) code false e).0 }
+
+room-below : (limit : ℕ) (cause : Option Cause) (code : ℕ) → IsBelow limit (Some code) → IsBelow limit (if_room cause code)
+room-below limit None code h = h
+room-below limit (Some cause) code h = none-below limit
+
+either-below : (limit : ℕ) (b : Bool) (m n : Option ℕ) → IsBelow limit m → IsBelow limit n → IsBelow limit (if b then m else n)
+either-below limit true m n h k = h
+either-below limit false m n h k = k
+
+length-codes : (t : Codes) (set code other : ℕ) (b : Bool) → length (codes_of (with_code t set code b) other) ≡ length (codes_of t other)
+length-codes t set code other b =
+    let changed : List Bool = slice_set (codes_of t set) code b in
+    ⊎_elim
+    (λ (e : other ≡ set). subst (λ (s : ℕ). length (codes_of (with_code t set code b) s) ≡ length (codes_of t s)) (sym e)
+    (⊎_elim
+    (λ (h : set < length t). ap length (get_or-set_same t set changed [] h) ∙ length-set (codes_of t set) code b)
+    (λ (h : length t ≤ set).
+    ap length (get_or_past (slice_set t set changed) set [] (omega (arith, h, length-set t set changed))) ∙ sym (ap length (get_or_past t set [] h)))
+    (cases_lt set (length t))))
+    (λ (d : other ≢ set). ap length (get_or-set_other t set other changed [] d))
+    (cases_eq other set)
+
+-- ---- what holds a flow is there
+
+module _ {Q : Type 0} (q : QueueKind Q) (c : Configuration) where
+  -- a node with as many codes of each set as another, and with its holds, links and routes
+  pub record IsAlike (n m : Node Q) : Type 0 where
+    pub holds : n.parts.holds ≡ m.parts.holds
+    pub links : n.parts.links ≡ m.parts.links
+    pub routes : n.parts.routes ≡ m.parts.routes
+    pub codes : (set : ℕ) → length (codes_of n.parts.codes set) ≡ length (codes_of m.parts.codes set)
+
+  declare_by-alike : (code : Option ℕ) (link other : ℕ) (n m : Node Q) → IsAlike n m → IsAlike (declare_by q c code link other n) m
+  declare_by-alike (Some code) link other n m a = record {
+    holds = a.holds;
+    links = a.links;
+    routes = a.routes;
+    codes = λ set. length-codes n.parts.codes (set_of c link) code set true ∙ a.codes set;
+  }
+  declare_by-alike None link other n m a = record { holds = a.holds; links = a.links; routes = a.routes; codes = a.codes }
+
+  either-alike : (b : Bool) (n o m : Node Q) → IsAlike n m → IsAlike o m → IsAlike (if b then n else o) m
+  either-alike true n o m e f = e
+  either-alike false n o m e f = f
+
+  pub declare_each-alike : (link : ℕ) (loses : ℕ → Bool) (many : ℕ) (n : Node Q) → IsAlike (declare_each q c link loses many n) n
+  unfolding declare_each
+  declare_each-alike link loses zero n = record { holds = refl; links = refl; routes = refl; codes = λ set. refl }
+  declare_each-alike link loses (suc other) n =
+      let one : Node Q = declare_each q c link loses other n in
+      let e : IsAlike one n = declare_each-alike link loses other n in
+      either-alike (loses other) (declare_by q c (code_for q c link other one) link other one) one n
+      (declare_by-alike (code_for q c link other one) link other one n e) e
+
+  usable-below : (limit link : ℕ) (o : Option ℕ) (n : Node Q) → IsBelow limit o → IsBelow limit (usable q c link o n)
+  usable-below limit link (Some code) n h = room-below limit _ code h
+  usable-below limit link None n h = h
+
+  code-below : (link other : ℕ) (n : Node Q) → IsBelow (length (codes_of n.parts.codes (set_of c link))) (code_for q c link other n)
+  code-below link other n =
+      let limit : ℕ = length (codes_of n.parts.codes (set_of c link)) in
+      either-below limit (nat_eq (set_of c other) (set_of c link)) (usable q c link (free_code n.parts.codes (set_of c link)) n) None
+      (usable-below limit link (free_code n.parts.codes (set_of c link)) n (free-below n.parts.codes (set_of c link))) (none-below limit)
+
+  procedure-there : (t : HoldTable) (link destination : ℕ) (o : Option ℕ) → link < t.links → set_of c link < t.sets → IsBelow 16 o
+      → may_hold t (procedure_by c link o) destination ≡ true
+  procedure-there t link destination (Some code) l s h =
+      let few : code < 16 = h.below code refl in
+      grind (arith, nat_tests, s, few)
+  procedure-there t link destination None l s h = grind (arith, nat_tests, l)
+
+  -- ---- each link that loses flows has its holder
+
+  module _ (link : ℕ) (loses : ℕ → Bool) where
+    length-holders : (many : ℕ) (n : Node Q) → length (holders q c link loses many n) ≡ LINKS
+    unfolding holders
+    length-holders zero n = length-replicate {A = Option Procedure} LINKS None
+    length-holders (suc other) n =
+        length-set (holders q c link loses other n) other (holder q c link loses other (declare_each q c link loses other n)) ∙ length-holders other n
+
+    holder-at : (other many : ℕ) (n : Node Q) → other < many → many ≤ LINKS
+        → slice_index_or (holders q c link loses many n) other None ≡ holder q c link loses other (declare_each q c link loses other n)
+    unfolding holders
+    holder-at other zero n l few = absurd (omega (arith, l))
+    holder-at other (suc last) n l few =
+        let before : List (Option Procedure) = holders q c link loses last n in
+        ⊎_elim
+        (λ (e : other ≡ last). subst (λ (i : ℕ). slice_index_or (slice_set before last (holder q c link loses last (declare_each q c link loses last n))) i None
+        ≡ holder q c link loses i (declare_each q c link loses i n)) (sym e)
+        (get_or-set_same before last (holder q c link loses last (declare_each q c link loses last n)) None (omega (arith, few, length-holders last n))))
+        (λ (d : other ≢ last).
+        get_or-set_other before last other (holder q c link loses last (declare_each q c link loses last n)) None d
+        ∙ holder-at other last n (omega (arith, l, d)) (omega (arith, few)))
+        (cases_eq other last)
+
+-- ---- a flow that changed its link
+
+or-true : (b : Bool) → (b || true) ≡ true
+or-true true = refl
+or-true false = refl
+
+given_up : (cs : List FlowChange) (c : FlowChange) → Contains cs c → gives_up cs c.from ≡ true
+given_up [] c (k, l, e) = absurd (omega (arith, l))
+given_up (x ∷ cs) c (zero, l, e) =
+    ap (λ (x : FlowChange). nat_eq x.from c.from || gives_up cs c.from) e
+    ∙ ap (λ (b : Bool). b || gives_up cs c.from) (eq-eqb c.from c.from refl)
+given_up (x ∷ cs) c (suc k, l, e) =
+    ap (λ (b : Bool). nat_eq x.from c.from || b) (given_up cs c (k, omega (arith, l), e)) ∙ or-true (nat_eq x.from c.from)
+
+pub taken_flows_held : changed_flows_are_held
+taken_flows_held c link before node destination sls from fits few other was is =
+    let p : Parts = node.parts in
+    let change : FlowChange = record { destination = destination; sls = sls; from = from } in
+    let changes : List FlowChange = returned link (facts c before) (facts c p) in
+    let loses : ℕ → Bool = gives_up changes in
+    let here : destination < length p.routes = chosen_there (facts c p) destination sls link is in
+    let old : IsListed c from = chosen_listed c before destination sls from was in
+    let new : IsListed c link = chosen_listed c p destination sls link is in
+    let stands : Contains changes change =
+    each_found link (facts c before) (facts c p) change (record { there = here; selection = few; was = was; is = is; other = other }) in
+    let last : Node WholeQueues = declare_each whole c link loses (length c.links) node in
+    let then_on : Node WholeQueues = declare_each whole c link loses from node in
+    let same : IsAlike whole c last node = declare_each-alike whole c link loses (length c.links) node in
+    let codes : IsAlike whole c then_on node = declare_each-alike whole c link loses from node in
+    let code : Option ℕ = code_for whole c link from then_on in
+    let below : IsBelow 16 code = record {
+      below = λ n e. omega (arith, (code-below whole c link from then_on).below n e, codes.codes (set_of c link), fits.codes (set_of c link));
+    } in
+    let holds_it : slice_index_or (holders whole c link loses (length c.links) node) from None ≡ Some (procedure_by c link code) =
+    holder-at whole c link loses from (length c.links) node old.there fits.few_links
+    ∙ ap (λ (b : Bool). if b then Some (procedure_by c link code) else None) (given_up changes change stands) in
+    change_held (holders whole c link loses (length c.links) node) changes last.parts.holds change (procedure_by c link code) stands holds_it
+    (subst HasPlaces (sym same.holds) fits.holds)
+    (ap (λ (t : HoldTable). may_hold t (procedure_by c link code) destination) same.holds
+    ∙ procedure-there whole c p.holds link destination code (omega (arith, new.there, fits.links)) (omega (arith, new.set, fits.sets)) below)
+    (subst (λ (t : HoldTable). destination < t.destinations) (sym same.holds) (omega (arith, here, fits.routes, fits.destinations)))
+    few
+
+-- ---- what was held
+
+pub taken_holds_stay : returns_keep_holds
+taken_holds_stay c link before node destination sls e =
+    let changes : List FlowChange = returned link before (facts c node.parts) in
+    let same : IsAlike whole c (declare_each whole c link (gives_up changes) (length c.links) node) node =
+    declare_each-alike whole c link (gives_up changes) (length c.links) node in
+    stay_held (holders whole c link (gives_up changes) (length c.links) node) changes _ destination sls
+    (ap (λ (t : HoldTable). is_held t destination sls) same.holds ∙ e)
+
+-- ---- at first
+
+codes-first : (sets set : ℕ) → length (codes_of (replicate sets (replicate CHANGEBACK_CODES false)) set) ≤ CHANGEBACK_CODES
+codes-first zero set = omega arith
+codes-first (suc sets) zero = omega (arith, length-replicate CHANGEBACK_CODES false)
+codes-first (suc sets) (suc set) = codes-first sets set
+
+pub places_first : places_at_first
+places_first c few = record {
+  few_links = few;
+  holds = no_holds-places (length c.links) (length c.sets) (length c.destinations);
+  links = refl;
+  sets = refl;
+  destinations = refl;
+  routes = length-map c.destinations first_routes;
+  codes = codes-first (length c.sets);
+}
+
+-- ---- and after each change
+
+-- a table that has the places, and as many links, sets and destinations as another
+record IsTableLike (t u : HoldTable) : Type 0 where
+  pub places : HasPlaces t
+  pub links : t.links ≡ u.links
+  pub sets : t.sets ≡ u.sets
+  pub destinations : t.destinations ≡ u.destinations
+
+mark-like : (t : HoldTable) (row : ℕ) (place : Option ℕ) → HasPlaces (with_mark_at t row place) → IsTableLike (with_mark_at t row place) t
+mark-like t row (Some place) h = record { places = h; links = refl; sets = refl; destinations = refl }
+mark-like t row None h = record { places = h; links = refl; sets = refl; destinations = refl }
+
+hold-like : (t : HoldTable) (row flow : Option ℕ) → HasPlaces (with_row_hold t row flow) → IsTableLike (with_row_hold t row flow) t
+hold-like t (Some row) (Some flow) h = mark-like t row (place_of_flow (marks_at t.rows row) flow) h
+hold-like t (Some row) None h = record { places = h; links = refl; sets = refl; destinations = refl }
+hold-like t None flow h = record { places = h; links = refl; sets = refl; destinations = refl }
+
+lift-like : (t : HoldTable) (row : Option ℕ) → HasPlaces (with_row_lifted t row) → IsTableLike (with_row_lifted t row) t
+lift-like t (Some row) h = record { places = h; links = refl; sets = refl; destinations = refl }
+lift-like t None h = record { places = h; links = refl; sets = refl; destinations = refl }
+
+with_table : (c : Configuration) (p : Parts) (t : HoldTable) → HasPlacesFor c p → IsTableLike t p.holds → HasPlacesFor c (record p { holds = t })
+with_table c p t h like = record {
+  few_links = h.few_links;
+  holds = like.places;
+  links = like.links ∙ h.links;
+  sets = like.sets ∙ h.sets;
+  destinations = like.destinations ∙ h.destinations;
+  routes = h.routes;
+  codes = h.codes;
+}
+
+pub places_held : hold_keeps_places
+places_held c p procedure destination sls h =
+    with_table c p _ h
+    (hold-like p.holds (place_of p.holds procedure) (flow_of p.holds destination sls) (with_hold-places p.holds procedure destination sls h.holds))
+
+pub places_lifted : lift_keeps_places
+places_lifted c p procedure h = with_table c p _ h (lift-like p.holds (place_of p.holds procedure) (lifted-places p.holds procedure h.holds))
+
+pub places_coded : code_keeps_places
+places_coded c p set code outstanding h = record {
+  few_links = h.few_links;
+  holds = h.holds;
+  links = h.links;
+  sets = h.sets;
+  destinations = h.destinations;
+  routes = h.routes;
+  codes = λ other. omega (arith, length-codes p.codes set code other outstanding, h.codes other);
+}
