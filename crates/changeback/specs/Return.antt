@@ -24,7 +24,7 @@ change_from destination sls (Some from) = record { destination = destination; sl
 change_from destination sls None = []
 
 module _ (to : ℕ) (before after : Facts) where
-  -- the link that a flow comes from which a link takes over
+  -- the link from which a link takes a flow over
   abbrev pub origin_of : (destination sls : ℕ) → Option ℕ
   origin_of destination sls = origin to (chosen_link before destination sls) (chosen_link after destination sls)
 

@@ -41,7 +41,7 @@ impl Changeback {
     }
 
     /// The least code of an adjacent point that is free, 0 to 15. `None` where all await their acknowledgement, or no
-    /// such set is there. A code whose timer ran out isn't free (Q.704 §6.4).
+    /// such set is there. A code whose timer ran out isn't free (own).
     pub fn free_code(&self, set: SetId) -> Option<u8>
         ensures code { result ≡ free_code self.now set }
         ensures fits { IfSome result (λ code. code < CHANGEBACK_CODES) }

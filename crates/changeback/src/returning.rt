@@ -15,9 +15,10 @@ use signalling_types::{Limits, LinkId, SetId, Sls};
 /// How many selections a flow can have (Q.704 §2.2.4).
 const SELECTIONS: u8 = 16;
 
-/// Which links lose flows to a link in service, as against its being out of service (Q.704 §6.2). Nothing else changes.
+/// Which links lose flows to a link in service, compared with when it is out of service (Q.704 §6.2). Nothing
+/// else changes.
 ///
-/// It walks each flow of the node once, by two calls of `NodeLinks::link_of`.
+/// It walks each flow of the node once, by at most two calls of `NodeLinks::link_of`.
 pub fn losing(links: &mut NodeLinks, link: LinkId) -> [bool; Limits::LINKS]
     requires few { length links.old.links ≤ Limits.LINKS }
     requires there { link < length links.old.links }
@@ -33,10 +34,10 @@ pub fn losing(links: &mut NodeLinks, link: LinkId) -> [bool; Limits::LINKS]
     losing
 }
 
-/// Holds each flow that a link in service takes over, as against its being out of service, by the procedure that is
+/// Holds each flow that a link in service takes over, compared with when it is out of service, by the procedure that is
 /// given for the link that it comes from (Q.704 §6.3, §6.4). A flow whose former link has none given is left aside.
 ///
-/// It walks each flow of the node once, by two calls of `NodeLinks::link_of`.
+/// It walks each flow of the node once, by at most two calls of `NodeLinks::link_of`.
 pub fn hold_changes(
     links: &mut NodeLinks,
     link: LinkId,

@@ -58,7 +58,7 @@ use Rattle.exchange.specs.Opening.{may_open, begun, open_link, associate, bring_
 use Rattle.exchange.specs.Failing.{fall, order_about, changeover_of, with_changeover, has_other, changing, drop_out, begin, change_over, fail, follow, fail_by_peer}
 use Rattle.exchange.specs.ChangingOver.{concluded, answer_about, with_expiry, heard, send_each, conclude, complete_if, heed, complete_by_order, tell, order, acknowledge, expire}
 use Rattle.exchange.specs.Releasing.{go_on, go_by, go, go_each, release, released}
-use Rattle.exchange.specs.ChangingBack.{set_of, declaration, acknowledgement, awaiting, freed, if_room, procedure_by, usable, code_for, declare_by, holder, declare, declare_each, holders, take_over, end_hold}
+use Rattle.exchange.specs.ChangingBack.{set_of, declaration, acknowledgement, code_in_use, freed, if_room, procedure_by, usable, code_for, declare_by, holder, declare, declare_each, holders, take_over, end_hold}
 use Rattle.exchange.specs.Statuses.{enters, return_if, advance, step_on, end_busy, serve_status, step_by_status, act_by_status, hear, act_by_timer, run_out}
 use Rattle.exchange.specs.Ticking.{with_timers, run_timer, run_due, run_next, run_times, tick}
 use Rattle.exchange.specs.Frames.{Carrying, carries, owing, timed_parts, numbers, accept, carry, handle_by, handle, act_by_data, take_in, receive_frame, leave_aside, read, receive}
@@ -305,7 +305,7 @@ module _ {P Q : Type 0} (p : QueueKind P) (q : QueueKind Q) (h : P → Q) (IsFit
 
   declare_by-kept : (code : Option ℕ) (l other : ℕ) (n : Node P) → IsFit n.queues → KeepsNode (declare_by q c code l other (keep h n)) (declare_by p c code l other n)
   declare_by-kept (Some code) l other n f =
-      changed _ _ (awaiting c (set_of c l) code n.parts) (k.appended n.queues other (declaration c l code) f)
+      changed _ _ (code_in_use c (set_of c l) code n.parts) (k.appended n.queues other (declaration c l code) f)
   declare_by-kept None l other n f = record { same = refl; fit = f }
 
   declare-kept : (l : ℕ) (loses : ℕ → Bool) (other : ℕ) (n : Node P) → IsFit n.queues → KeepsNode (declare q c l loses other (keep h n)) (declare p c l loses other n)

@@ -38,13 +38,13 @@ abbrev pub acknowledgement : Configuration → (point slc code : ℕ) → Messag
 acknowledgement c point slc code = management_to c point (ChangebackAcknowledgement slc code)
 
 -- a code waits for its answer, and T4 runs
-abbrev pub awaiting : Configuration → (set code : ℕ) → Parts → Parts
-awaiting c set code p =
+abbrev pub code_in_use : Configuration → (set code : ℕ) → Parts → Parts
+code_in_use c set code p =
     record p { codes = with_code p.codes set code true; timers = set_timer (T4 set code) c.timers.t4 p.timers }
 
 -- T3 runs, anew where it runs already
-abbrev pub waiting : Configuration → (link : ℕ) → Parts → Parts
-waiting c link p = record p { timers = set_timer (T3 link) c.timers.t3 p.timers }
+abbrev pub time_in_use : Configuration → (link : ℕ) → Parts → Parts
+time_in_use c link p = record p { timers = set_timer (T3 link) c.timers.t3 p.timers }
 
 -- the answer came: the code is free, T4 stops, and the code holds nothing any more
 abbrev pub freed : (set code : ℕ) → Parts → Parts
@@ -58,10 +58,11 @@ freed set code p = record p {
 abbrev pub late : Notice → Procedure → Parts → Parts
 late notice procedure p = record (note notice p) { holds = lifted p.holds procedure; late_any = true }
 
+-- T3 of a link ran out
 abbrev pub late_time : (link : ℕ) → Parts → Parts
 late_time link p = late (notices.Late late_timer.T3 link) (Time link) p
 
--- the code still waits for its answer
+-- T4 of a code ran out; the code still waits for its answer
 abbrev pub late_code : (set code : ℕ) → Parts → Parts
 late_code set code p = late (notices.Late late_timer.T4 code) (Code set code) p
 
@@ -76,28 +77,29 @@ procedure_by c link (Some code) = Code (set_of c link) code
 procedure_by c link None = Time link
 
 module _ {Q : Type 0} (q : QueueKind Q) (c : Configuration) where
-  -- a code by which flows can be held
+  -- a code by which flows can be held: one that is free, whose declaration finds room
   abbrev pub usable : (link : ℕ) → Option ℕ → Node Q → Option ℕ
   usable link (Some code) node = if_room (no_room q c (declaration c link code) node.queues) code
   usable link None node = None
 
-  -- that for the flows that a link takes over from another: the least that is free, where both are of one set
+  -- the code by which the flows are held that a link takes over from another: the least that is free, where both links
+  -- are of one set
   abbrev pub code_for : (link other : ℕ) → Node Q → Option ℕ
   code_for link other node =
       if nat_eq (set_of c other) (set_of c link)
       then usable link (free_code node.parts.codes (set_of c link)) node
       else None
 
-  -- with a code, the declaration goes out on the other link itself
+  -- a declaration with a code goes out on the other link itself
   abbrev pub declared : Option ℕ → (link other : ℕ) → Node Q → Node Q
   declared (Some code) link other node =
-      queue_on q c other (declaration c link code) (with_parts node (awaiting c (set_of c link) code node.parts))
+      queue_on q c other (declaration c link code) (with_parts node (code_in_use c (set_of c link) code node.parts))
   declared None link other node = node
 
-  -- without one T3 runs
+  -- flows are to be held: by a code, whose declaration goes out, or without one by time, and T3 runs
   abbrev pub declare_by : Option ℕ → (link other : ℕ) → Node Q → Node Q
   declare_by (Some code) link other node = declared (Some code) link other node
-  declare_by None link other node = with_parts node (waiting c link node.parts)
+  declare_by None link other node = with_parts node (time_in_use c link node.parts)
 
   -- a link takes over flows from those others that lose some
   module _ (link : ℕ) (loses : ℕ → Bool) where
@@ -105,6 +107,7 @@ module _ {Q : Type 0} (q : QueueKind Q) (c : Configuration) where
     abbrev pub holder : (other : ℕ) → Node Q → Option Procedure
     holder other node = if loses other then Some (procedure_by c link (code_for link other node)) else None
 
+    -- and what begins that hold
     abbrev pub declare : (other : ℕ) → Node Q → Node Q
     declare other node = if loses other then declare_by (code_for link other node) link other node else node
 
@@ -113,6 +116,7 @@ module _ {Q : Type 0} (q : QueueKind Q) (c : Configuration) where
     declare_each zero node = node
     declare_each (suc other) node = declare other (declare_each other node)
 
+    -- of each of the first so many links, what holds the flows that come from it
     unfoldable pub holders : ℕ → Node Q → List (Option Procedure)
     holders zero node = replicate LINKS None
     holders (suc other) node = slice_set (holders other node) other (holder other (declare_each other node))
@@ -120,9 +124,9 @@ module _ {Q : Type 0} (q : QueueKind Q) (c : Configuration) where
   -- each flow that comes from another link is held by the procedure of that link
   abbrev pub take_over : (link : ℕ) → List FlowChange → Node Q → Node Q
   take_over link changes node =
-      let declared : Node Q = declare_each link (gives_up changes) (length c.links) node in
-      with_parts declared (record declared.parts {
-        holds = held_by (holders link (gives_up changes) (length c.links) node) changes declared.parts.holds;
+      let begun : Node Q = declare_each link (gives_up changes) (length c.links) node in
+      with_parts begun (record begun.parts {
+        holds = held_by (holders link (gives_up changes) (length c.links) node) changes begun.parts.holds;
       })
 
   -- a link takes back the flows that went by other links before

@@ -91,8 +91,8 @@ module _ {Q : Type 0} (q : QueueKind Q) (c : Configuration) where
   do_acknowledgement (Some link) number node = acknowledge q c link number node
   do_acknowledgement None number node = refuse BadManagement node
 
-  -- a management message from a point; that it has restarted asks nothing of this node. Those about routes have no rule
-  -- yet
+  -- a management message from a point; that it has restarted asks nothing of this node, and those about routes are
+  -- refused
   abbrev pub do_management : Management → ℕ → Node Q → Done Q
   do_management TrafficRestartAllowed point node = answer Ignored node
   do_management (ExtendedChangeoverOrder slc number) point node =

@@ -7,7 +7,8 @@ use Rattle.node_links.specs.Network.{Network, facts_of}
 
 -- the route to a destination by a set gets a status, if there is one
 abbrev pub with_status : (destination set : ℕ) → RouteStatus → Network → Network
-with_status destination set status n = record n { routes = (facts.with_status destination set status (facts_of n)).routes }
+with_status destination set status n =
+    record n { routes = (facts.with_status destination set status (facts_of n)).routes }
 
 -- all routes by a set are allowed
 abbrev pub with_statuses_reset : ℕ → Network → Network

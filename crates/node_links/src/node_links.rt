@@ -94,7 +94,7 @@ impl NodeLinks {
 
     /// The link that a flow, which goes by this link, would take if this link were out of service (Q.704 §6.2). `None`
     /// where it doesn't go by this link, or would have no other. The link is in service; nothing changes in the end. It
-    /// costs two calls of `link_of`.
+    /// costs at most two calls of `link_of`.
     pub fn origin(&mut self, link: LinkId, destination: usize, sls: Sls) -> Option<LinkId>
         requires there { link < length self.old.links }
         requires serves { is_in_service (link_in self.old.links link).alignment ≡ true }

@@ -22,8 +22,8 @@ use stp_types::{Cause, LateTimer, Limits, LinkId, Notice, Outcome, PointCode, Se
 use timer_wheel::TimerName;
 
 impl Exchange {
-    /// A link that entered service takes back the flows that went by other links before. Their messages are held until
-    /// those links have sent what they have.
+    /// A link that entered service takes back the flows that went by other links before. Those flows are held until the
+    /// declaration is acknowledged or a timer runs out (Q.704 §6.3, §6.4).
     pub(super) fn take_back(&mut self, link: LinkId)
         requires link { link < length self.old.settings.links }
         requires serves { in_service self.old.node.parts link ≡ true }
@@ -61,15 +61,16 @@ impl Exchange {
         hold_changes(&mut self.links, link, holders, &mut self.holds);
     }
 
-    /// For each other link that loses flows to a link, in order: says by which procedure those are held.
+    /// For each other link that loses flows to a link, in order: begins the hold of those flows, as `declare` does, and
+    /// says by which procedure they are to be held.
     fn declare_each(
         &mut self,
         link: LinkId,
         loses: &[bool; Limits::LINKS],
     ) -> [Option<Procedure>; Limits::LINKS]
         requires { link < length self.old.settings.links }
-        ensures holders { result ≡ rule.holders kept self.old.settings link (λ other. slice_index_or loses.now other false)
-            (length self.old.settings.links) self.old.node }
+        ensures holders { result ≡ rule.holders kept self.old.settings link
+            (λ other. slice_index_or loses.now other false) (length self.old.settings.links) self.old.node }
         ensures state { self.new ≡ with_node self.old (rule.declare_each kept self.old.settings link
             (λ other. slice_index_or loses.now other false) (length self.old.settings.links) self.old.node) }
     {
@@ -80,7 +81,8 @@ impl Exchange {
         holders
     }
 
-    /// The procedure that holds the flows which a link takes over from another, if it takes any.
+    /// Begins the hold of the flows that a link takes over from another, if it takes any, and says by which procedure
+    /// they are to be held.
     fn declare_if(
         &mut self,
         link: LinkId,
@@ -101,8 +103,8 @@ impl Exchange {
         Some(self.declare(link, LinkId::new(other as u8)))
     }
 
-    /// Says by which procedure the flows that a link takes over from another are held: by a code, with which a
-    /// declaration goes out on the other link, or else by time.
+    /// Begins the hold of the flows that a link takes over from another, and says by which procedure they are to be held:
+    /// by a code, with which a declaration goes out on the other link and T4 starts; or else by time, and T3 starts anew.
     fn declare(&mut self, link: LinkId, other: LinkId) -> Procedure
         requires link { link < length self.old.settings.links }
         requires other { other < length self.old.settings.links }
@@ -122,7 +124,7 @@ impl Exchange {
     }
 
     /// Sends the declaration that a link is back on another link of its set, where a code is free and the declaration
-    /// finds room. The code then waits for its answer.
+    /// finds room. The code then waits for its answer, and T4 starts. Else nothing changes.
     fn declare_by_code(&mut self, link: LinkId, other: LinkId) -> Option<u8>
         requires link { link < length self.old.settings.links }
         requires other { other < length self.old.settings.links }
@@ -171,7 +173,8 @@ impl Exchange {
         Outcome::Handled
     }
 
-    /// An answer from the point of a set: what its code holds is held no longer. Ignored where the code waits for none.
+    /// An answer from the point of a set: what its code holds is held no longer, T4 stops, and the code is free. Ignored,
+    /// and nothing changes, where the code waits for none.
     pub(super) fn end_hold(&mut self, set: Option<SetId>, code: u8) -> Outcome
         ensures { Ends self.old result self.new
             (rule.end_hold kept self.old.settings set code self.old.node) }

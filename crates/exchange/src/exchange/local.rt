@@ -117,7 +117,7 @@ impl Exchange {
     }
 
     /// Does what a management message from an adjacent point asks; that it has restarted asks nothing. Those about
-    /// routes have no rule yet.
+    /// routes are refused NotInProfile.
     fn heed(&mut self, point: PointCode, message: Management) -> Outcome
         ensures { Ends self.old result self.new
             (rule.do_management kept self.old.settings message point self.old.node) }
