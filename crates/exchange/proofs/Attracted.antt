@@ -1,7 +1,6 @@
 -- A link that returns to service takes over flows itself, and no flow goes to any other link then: each that changed its link is held.
 use Rattle.std.proofs.Common.{◌≡◌, ◌≢◌, ◌<◌, ◌≤◌, ◌⊎◌, ℕ, zero, suc, Bool, true, false, ◌&&◌, ◌||◌, cond, List, [], ◌∷◌, length, not, refl, ap, sym, ◌∙◌, arith, inl, inr}
-use Rattle.std.specs.Prelude.{Option, Some, None, Contains, find, slice_index_or, slice_set, ◌==◌}
-use Rattle.std.specs.List.{list_any}
+use Rattle.std.specs.Prelude.{Option, Some, None, Contains, find, slice_set, ◌==◌}
 use Rattle.std.specs.Option.{option_map, option_or, option_and_then}
 use Rattle.std.proofs.Math.Logic.{⊎_elim}
 use Rattle.std.proofs.lemmas.Bool.{cases_lt, cases_eq}
