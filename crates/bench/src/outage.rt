@@ -1,14 +1,12 @@
 //! A link that fails and returns, again and again, while the others of its set carry its flows.
 
-ghost use Rattle.std.specs.Prelude.{◌≤◌, length};
-
 use crate::draft::{INTERNATIONAL, adjacent, own};
 use crate::failure::answer_about;
 use crate::incoming::Incoming;
 use crate::peer::Peer;
 use link_number::{Number24, next};
 use mgmt_codec::{MANAGEMENT_OCTETS, Management};
-use stp_types::{Limits, LinkId, MsuRef, Sls};
+use stp_types::{Limits, LinkId, Sls};
 
 /// The peer's end of a link, in an epoch of that link.
 #[derive(Clone, Copy)]
@@ -37,10 +35,15 @@ impl End {
         taken
     }
 
-    /// Sends a message that confirms all that was taken, and takes what acknowledges it.
+    /// Sends a message that confirms all that was taken.
     fn send(&mut self, peer: &mut Peer, link: LinkId, message: &mut Incoming) {
         peer.send_by(link, message, self.taken, self.next);
         self.next = next(self.next);
+    }
+
+    /// Sends an answer, and takes what acknowledges it.
+    fn answer(&mut self, peer: &mut Peer, link: LinkId, message: &mut Incoming) {
+        self.send(peer, link, message);
         peer.take_by(link);
     }
 }
@@ -50,9 +53,7 @@ type Ends = [End; Limits::LINKS_PER_SET];
 
 /// The last link of the first set fails and returns so many times, and the others of its set carry its flows meanwhile.
 /// Each order and each declaration is answered. Each time a message of the link is held until the last answer came.
-pub(crate) fn come_and_go(peer: &mut Peer, message: MsuRef<'_>, count: u32)
-    requires { length message.sif.now ≤ Limits.SIF_OCTETS }
-{
+pub(crate) fn come_and_go(peer: &mut Peer, mut message: Incoming, count: u32) {
     let mut ends = [End::first(); Limits::LINKS_PER_SET];
     for number in 0..peer.link().index() {
         let link = LinkId::new(number as u8);
@@ -61,8 +62,7 @@ pub(crate) fn come_and_go(peer: &mut Peer, message: MsuRef<'_>, count: u32)
     }
     for _ in 0..count {
         fail(peer, &mut ends);
-        let MsuRef { sio, sif } = message;
-        come_back(peer, &mut ends, MsuRef { sio, sif });
+        come_back(peer, &mut ends, &mut message);
     }
 }
 
@@ -73,16 +73,15 @@ fn fail(peer: &mut Peer, ends: &mut Ends) {
     let first = LinkId::new(0);
     ends[0].take(peer, first);
     let mut answer = answer_about(peer.selection(), number);
-    ends[0].send(peer, first, &mut answer);
+    ends[0].answer(peer, first, &mut answer);
 }
 
-/// The link returns, and each declaration is answered. A message of the link that comes before goes out behind it.
-fn come_back(peer: &mut Peer, ends: &mut Ends, message: MsuRef<'_>)
-    requires { length message.sif.now ≤ Limits.SIF_OCTETS }
-{
+/// The link returns, and each declaration is answered. A message of the link comes by the first link before, and goes
+/// out behind the last answer.
+fn come_back(peer: &mut Peer, ends: &mut Ends, message: &mut Incoming) {
     let link = peer.link();
     peer.open(link);
-    peer.submit(message);
+    ends[0].send(peer, LinkId::new(0), message);
     answer_each(peer, ends, link);
     let mut end = End::first();
     end.take(peer, link);
@@ -106,7 +105,7 @@ fn answer_on(peer: &mut Peer, link: LinkId, end: &mut End, code: u8) -> bool {
     let declared = end.take(peer, link);
     if declared {
         let mut answer = answer_to(peer.selection(), code);
-        end.send(peer, link, &mut answer);
+        end.answer(peer, link, &mut answer);
     }
     declared
 }

@@ -46,7 +46,10 @@ pub(crate) fn carry(peer: &mut Peer, arguments: &Arguments)
             let message = Incoming::with_message(SIO, sif);
             change_over(peer, stage, message, arguments.count);
         }
-        Kind::Return => come_and_go(peer, MsuRef { sio: SIO, sif }, arguments.count),
+        Kind::Return => {
+            let message = Incoming::with_message(SIO, sif);
+            come_and_go(peer, message, arguments.count);
+        }
     }
 }
 
