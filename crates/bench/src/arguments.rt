@@ -26,6 +26,8 @@ pub(crate) enum Kind {
     Acknowledgement,
     /// It stands on a link, which may fail then and be changed over.
     Standing(Stage),
+    /// It is held, since the link that it takes comes back; that link fails and returns for each.
+    Return,
 }
 
 /// What the words behind the program's name ask for.
@@ -35,7 +37,7 @@ pub(crate) struct Arguments {
     pub octets: usize,
     pub destinations: usize,
     /// Links in the settings. One of them carries the messages; the others are down, but for those of its set before a
-    /// changeover.
+    /// changeover or a return.
     pub links: usize,
     pub count: u32,
 }
@@ -93,6 +95,7 @@ fn kind_of(name: &str) -> Option<Kind> {
         "queue" => Some(Kind::Standing(Stage::Queue)),
         "failure" => Some(Kind::Standing(Stage::Failure)),
         "changeover" => Some(Kind::Standing(Stage::Completion)),
+        "return" => Some(Kind::Return),
         _ => None,
     }
 }

@@ -48,7 +48,7 @@ fn complete(peer: &mut Peer) {
 }
 
 /// The peer's answer to a changeover order about the link of a code (Q.2210 §9.8).
-fn answer_about(code: Sls, number: Number24) -> Incoming {
+pub(crate) fn answer_about(code: Sls, number: Number24) -> Incoming {
     let mut octets = [0; MANAGEMENT_OCTETS];
     let answer = Management::ExtendedChangeoverAcknowledgement(code, number);
     let count = answer.write(own(), adjacent(), &mut octets);

@@ -11,6 +11,7 @@ mod arguments;
 mod draft;
 mod failure;
 mod incoming;
+mod outage;
 mod peer;
 mod traffic;
 
@@ -65,7 +66,7 @@ fn report(rt: &HostRuntime, total: Option<Total>) -> io::Result<ExitCode> {
 fn refuse(rt: &HostRuntime) -> io::Result<ExitCode> {
     println!(rt;
         "usage: bench KIND OCTETS DESTINATIONS LINKS COUNT; a KIND is forward, burst, submit, local, acknowledgement, \
-queue, failure or changeover"
+queue, failure, changeover or return"
     )?;
     Ok(ExitCode::from(1))
 }

@@ -73,7 +73,7 @@ impl Peer {
     }
 
     /// Brings a link into service, before its first message.
-    fn open(&mut self, link: LinkId) {
+    pub(crate) fn open(&mut self, link: LinkId) {
         self.exchange.step(&Event::AssociationUp(link));
         self.tell(link, LinkStatus::ProvingNormal);
         self.tell(link, LinkStatus::Ready);
@@ -104,6 +104,11 @@ impl Peer {
         }
     }
 
+    /// The link that carries the messages.
+    pub(crate) fn link(&self) -> LinkId {
+        self.link
+    }
+
     /// Brings the links of the set before the one that carries the messages into service.
     pub(crate) fn open_others(&mut self) {
         for number in 0..self.link.index() {
@@ -127,6 +132,25 @@ impl Peer {
         let octets = message.numbered(Number24::zero().previous(), self.next_by_first);
         self.next_by_first = next(self.next_by_first);
         self.exchange.step(&Event::Frame(LinkId::new(0), octets));
+    }
+
+    /// Sends a message on a link with these numbers.
+    pub(crate) fn send_by(
+        &mut self,
+        link: LinkId,
+        message: &mut Incoming,
+        bsn: Number24,
+        fsn: Number24,
+    ) {
+        let octets = message.numbered(bsn, fsn);
+        self.exchange.step(&Event::Frame(link, octets));
+    }
+
+    /// Takes the next frame of a link, counts it in, and says whether there was one.
+    pub(crate) fn take_by(&mut self, link: LinkId) -> bool {
+        let frames = self.total.frames;
+        self.take_from(link);
+        self.total.frames != frames
     }
 
     /// Takes a frame from each link of the set before the one that carries the messages, and counts it in.

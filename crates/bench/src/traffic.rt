@@ -6,6 +6,7 @@ use crate::arguments::{Arguments, Kind, LABEL_OCTETS};
 use crate::draft::{ADJACENT, INTERNATIONAL, ISUP, OWN, WINDOW};
 use crate::failure::change_over;
 use crate::incoming::Incoming;
+use crate::outage::come_and_go;
 use crate::peer::Peer;
 use routing_label::Label;
 use stp_types::{Limits, MsuRef, PointCode, Sls};
@@ -30,7 +31,7 @@ pub(crate) fn carry(peer: &mut Peer, arguments: &Arguments)
         _ => last,
     };
     let selection = match arguments.kind {
-        Kind::Standing(_) => peer.selection(),
+        Kind::Standing(_) | Kind::Return => peer.selection(),
         _ => Sls::new(0).unwrap(),
     };
     let field = longest_field(ADJACENT, to, selection);
@@ -44,6 +45,10 @@ pub(crate) fn carry(peer: &mut Peer, arguments: &Arguments)
         Kind::Standing(stage) => {
             let message = Incoming::with_message(SIO, sif);
             change_over(peer, stage, message, arguments.count);
+        }
+        Kind::Return => {
+            let message = Incoming::with_message(SIO, sif);
+            come_and_go(peer, message, arguments.count);
         }
     }
 }
