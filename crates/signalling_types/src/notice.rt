@@ -85,12 +85,12 @@ pub enum ChangeoverTimer {
     T2,
 }
 
-/// The timers that end a changeback or a rerouting (Q.704 §16.8).
+/// The timers that end a changeback (Q.704 §16.8).
 #[derive(Clone, Copy, PartialEq, Eq)]
 pub enum LateTimer {
-    /// The hold of messages that come to a link.
+    /// Flows that a link took over were held by time.
     T3,
-    /// The wait for the answer to a changeback declaration.
+    /// The answer to a changeback declaration didn't come.
     T4,
 }
 
