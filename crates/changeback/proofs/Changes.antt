@@ -40,7 +40,7 @@ gives_up-append [] ys other = refl
 gives_up-append (x ∷ xs) ys other =
     ap (λ (b : Bool). nat_eq x.from other || b) (gives_up-append xs ys other) ∙ or-assoc (nat_eq x.from other) (gives_up xs other) (gives_up ys other)
 
-gives_up-one : (destination sls : ℕ) (from : Option ℕ) (other : ℕ) → gives_up (change_from destination sls from) other ≡ comes_from from other
+pub gives_up-one : (destination sls : ℕ) (from : Option ℕ) (other : ℕ) → gives_up (change_from destination sls from) other ≡ comes_from from other
 gives_up-one destination sls (Some from) other = or-false (nat_eq from other)
 gives_up-one destination sls None other = refl
 

@@ -6,6 +6,7 @@ pub mod changeback;
 pub mod laws;
 pub mod returning;
 mod set_codes;
+mod set_pairs;
 
 pub use changeback::Changeback;
 pub use returning::{hold_changes, losing};

@@ -7,7 +7,9 @@ ghost use Rattle.node_links.specs.LinkState.{is_in_service};
 ghost use Rattle.node_links.specs.Network.{facts_of, link_in};
 ghost use Rattle.changeback.specs.Return.{selections, origin_of, change_from, changes_of, returned};
 ghost use Rattle.changeback.specs.Return.{comes_from, gives_up, held_by};
+ghost use Rattle.changeback.specs.Seen.{IsSeen};
 
+use crate::set_pairs::SetPairs;
 use flow_hold::{Holds, Procedure};
 use node_links::NodeLinks;
 use signalling_types::{Limits, LinkId, SetId, Sls};
@@ -18,7 +20,8 @@ const SELECTIONS: u8 = 16;
 /// Which links lose flows to a link in service, compared with when it is out of service (Q.704 §6.2). Nothing
 /// else changes.
 ///
-/// It walks each flow of the node once, by at most two calls of `NodeLinks::link_of`.
+/// It looks at the sets of each destination, and at 16 flows for each pair of sets by which destinations went before and
+/// go now.
 pub fn losing(links: &mut NodeLinks, link: LinkId) -> [bool; Limits::LINKS]
     requires few { length links.old.links ≤ Limits.LINKS }
     requires there { link < length links.old.links }
@@ -28,8 +31,9 @@ pub fn losing(links: &mut NodeLinks, link: LinkId) -> [bool; Limits::LINKS]
     ensures links { links.new ≡ links.old }
 {
     let mut losing = [false; Limits::LINKS];
+    let mut seen = SetPairs::new();
     for destination in 0..links.destinations() {
-        mark_losing(links, link, destination, &mut losing);
+        look_at(links, link, destination, &mut seen, &mut losing);
     }
     losing
 }
@@ -54,6 +58,38 @@ pub fn hold_changes(
     for destination in 0..links.destinations() {
         hold_changes_to(links, link, destination, holders, holds);
     }
+}
+
+/// Marks the links that lose flows to one destination, unless flows to another went by the same set and go by the same
+/// set now: those lose the same links.
+fn look_at(
+    links: &mut NodeLinks,
+    link: LinkId,
+    destination: usize,
+    seen: &mut SetPairs,
+    losing: &mut [bool; Limits::LINKS],
+)
+    requires few { length links.old.links ≤ Limits.LINKS }
+    requires there { link < length links.old.links }
+    requires serves { is_in_service (link_in links.old.links link).alignment ≡ true }
+    requires seen { IsSeen links.old link seen.old losing.old }
+    ensures losing { (other : ℕ) → slice_index_or losing.new other false
+        ≡ (slice_index_or losing.old other false || gives_up (changes_of link
+        (with_link link false (facts_of links.old)) (facts_of links.old) destination selections) other) }
+    ensures seen { IsSeen links.new link seen.new losing.new }
+    ensures links { links.new ≡ links.old }
+{
+    let Some(before) = links.set_without(link, destination) else {
+        return;
+    };
+    let Some(after) = links.set_of(destination) else {
+        return;
+    };
+    if seen.has(before, after) {
+        return;
+    }
+    seen.add(before, after);
+    mark_losing(links, link, destination, losing);
 }
 
 /// Marks the links that lose flows to one destination.

@@ -4,7 +4,7 @@ ghost use Rattle.std.specs.Prelude.{◌≡◌, ◌<◌, ◌≤◌, false, true, 
 ghost use Rattle.link_alignment.specs.Table.{action_at};
 ghost use Rattle.linkset.specs.Preference.{has_link};
 ghost use Rattle.route_table.specs.Facts.{set_at, with_link};
-ghost use Rattle.route_table.specs.Chosen.{chosen_link, chosen_route};
+ghost use Rattle.route_table.specs.Chosen.{chosen_link, chosen_route, chosen_set};
 ghost use Rattle.node_links.specs.LinkState.{acted, down_link, fallen, is_in_service, opened};
 ghost use Rattle.node_links.specs.Network.{facts_of, first_network, link_in, with_state};
 ghost use Rattle.node_links.specs.Origin.{origin};
@@ -111,6 +111,26 @@ impl NodeLinks {
             Some(from) if from != link => Some(from),
             _ => None,
         }
+    }
+
+    /// The set that messages to a destination take, by the number of that destination (Q.704 §4.2). `None` where no set
+    /// leads there.
+    pub fn set_of(&self, destination: usize) -> Option<SetId>
+        ensures { result ≡ chosen_set (facts_of self.now) destination }
+    {
+        self.routes.set_of(destination)
+    }
+
+    /// The set that messages to a destination would take if a link in service weren't. Nothing changes in the end.
+    pub fn set_without(&mut self, link: LinkId, destination: usize) -> Option<SetId>
+        requires { is_in_service (link_in self.old.links link).alignment ≡ true }
+        ensures set { result ≡ chosen_set (with_link link false (facts_of self.old)) destination }
+        ensures links { self.new ≡ self.old }
+    {
+        self.routes.set_link(link, false);
+        let set = self.routes.set_of(destination);
+        self.routes.set_link(link, true);
+        set
     }
 
     /// The link that a flow would take if a link in service weren't.

@@ -1,0 +1,41 @@
+-- Pairs of link sets that were looked at: the sets by which flows to a destination went before, and go now.
+use Rattle.std.specs.Prelude.{◌≡◌, ℕ, ◌+◌, ◌*◌, ◌&&◌, Bool, true, false, List, Some, length, replicate, nat_lt}
+use Rattle.std.specs.Prelude.{if◌then◌else◌, slice_index_or, slice_set}
+use Rattle.signalling_types.specs.declared.limits.TheConstants.Limits.{SETS}
+use Rattle.route_table.specs.Facts.{with_link}
+use Rattle.route_table.specs.Chosen.{chosen_set}
+use Rattle.node_links.specs.Network.{Network, facts_of}
+use Rattle.changeback.specs.Return.{selections, changes_of, gives_up}
+use Rattle.changeback.specs.declared.set_pairs.SetPairs.TheInside.{Inside}
+
+-- the number of a pair
+abbrev pub number_of_pair : (first second : ℕ) → ℕ
+number_of_pair first second = SETS * first + second
+
+abbrev pub no_pairs : List Bool
+no_pairs = replicate (SETS * SETS) false
+
+-- whether a pair was looked at
+abbrev pub has_pair : List Bool → (first second : ℕ) → Bool
+has_pair seen first second = nat_lt second SETS && slice_index_or seen (number_of_pair first second) false
+
+-- one pair more
+abbrev pub with_pair : List Bool → (first second : ℕ) → List Bool
+with_pair seen first second =
+    if nat_lt second SETS then slice_set seen (number_of_pair first second) true else seen
+
+-- each link is marked that loses flows to a destination of such a pair
+pub record IsSeen (n : Network) (link : ℕ) (seen losing : List Bool) : Type 0 where
+  pub marked : (first second destination other : ℕ) → has_pair seen first second ≡ true →
+      chosen_set (with_link link false (facts_of n)) destination ≡ Some first →
+      chosen_set (facts_of n) destination ≡ Some second →
+      gives_up (changes_of link (with_link link false (facts_of n)) (facts_of n) destination selections) other ≡ true →
+      slice_index_or losing other false ≡ true
+
+-- how the pairs are kept
+abbrev pub pairs_in : Inside → List Bool
+pairs_in s = s.seen
+
+-- there is a mark for each pair
+pub record HasPairs (s : Inside) : Type 0 where
+  pub pairs : length s.seen ≡ SETS * SETS
