@@ -1,6 +1,7 @@
 //! The links of a node, and the routes that they open.
 
 ghost use Rattle.std.specs.Prelude.{◌≡◌, ◌<◌, ◌≤◌, false, true, drop, length, replicate, nat_lt, IfOk, IfSome};
+ghost use Rattle.std.specs.Option.{option_map};
 ghost use Rattle.link_alignment.specs.Table.{action_at};
 ghost use Rattle.linkset.specs.Preference.{has_link};
 ghost use Rattle.route_table.specs.Facts.{set_at, with_link};
@@ -118,7 +119,7 @@ impl NodeLinks {
     pub fn set_of(&self, destination: usize) -> Option<SetId>
         ensures { result ≡ chosen_set (facts_of self.now) destination }
     {
-        self.routes.set_of(destination)
+        set_by(self.routes.route_of(destination))
     }
 
     /// The set that messages to a destination would take if a link in service weren't. Nothing changes in the end.
@@ -128,9 +129,9 @@ impl NodeLinks {
         ensures links { self.new ≡ self.old }
     {
         self.routes.set_link(link, false);
-        let set = self.routes.set_of(destination);
+        let route = self.routes.route_of(destination);
         self.routes.set_link(link, true);
-        set
+        set_by(route)
     }
 
     /// The link that a flow would take if a link in service weren't.
@@ -247,4 +248,14 @@ fn down_links(alloc: Global, count: usize) -> Result<Vec<LinkState>, AllocError>
         links.push_reserved(LinkState::new());
     }
     Ok(links)
+}
+
+/// The set that a route goes by, if there is one.
+fn set_by(route: Option<Route>) -> Option<SetId>
+    ensures { result ≡ option_map (λ route. route.set) route }
+{
+    match route {
+        Some(route) => Some(route.set),
+        None => None,
+    }
 }

@@ -1,10 +1,13 @@
 -- The routes know which links are in service, and the link that was taken out is put back.
 use Rattle.std.proofs.Common.{ap, ◌∙◌, false, true, Bool, List, slice_set}
+use Rattle.std.specs.Prelude.{Option}
+use Rattle.std.specs.Option.{option_map}
+use Rattle.route_table.specs.declared.route.Route.{Route}
 use Rattle.route_table.specs.Facts.{Facts, with_link}
 use Rattle.route_table.specs.Chosen.{chosen_set}
 use Rattle.node_links.specs.LinkState.{is_in_service}
 use Rattle.node_links.specs.Network.{Network, facts_of, link_in}
-use Rattle.node_links.proofs.Chosen.{facts_kept}
+use Rattle.node_links.proofs.Chosen.{facts_kept, set_of_route}
 use Rattle.node_links.proofs.Serving.{serving_again}
 use Rattle.node_links.proofs.node_links.NodeLinks.set_without.Goals as goal
 
@@ -20,5 +23,7 @@ invariant_of-self c = record {
 
 pub returns-clause-set : goal.returns-clause-set
 returns-clause-set c =
-    c.set_of-set.ensures ∙ ap (λ (f : Facts). chosen_set f c.args.destination)
+    c.set_by.ensures ∙ ap (λ (o : Option Route). option_map (λ (route : Route). route.set) o) c.route_of-route.ensures
+    ∙ set_of_route _ c.args.destination
+    ∙ ap (λ (f : Facts). chosen_set f c.args.destination)
     (c.set_link.ensures ∙ ap (with_link c.args.link false) (facts_kept c.self.inside.routes c.self.inside.states.items c.self.invariant.serving ∙ ap facts_of c.self.view_is))
