@@ -20,8 +20,8 @@ const SELECTIONS: u8 = 16;
 /// Which links lose flows to a link in service, compared with when it is out of service (Q.704 §6.2). Nothing
 /// else changes.
 ///
-/// It looks at the sets of each destination, and at 16 flows for each pair of sets by which destinations went before and
-/// go now.
+/// It looks at the sets of each destination, and at 16 flows for each pair of sets by which destinations went before
+/// and go now.
 pub fn losing(links: &mut NodeLinks, link: LinkId) -> [bool; Limits::LINKS]
     requires few { length links.old.links ≤ Limits.LINKS }
     requires there { link < length links.old.links }

@@ -103,8 +103,9 @@ impl Exchange {
         Some(self.declare(link, LinkId::new(other as u8)))
     }
 
-    /// Begins the hold of the flows that a link takes over from another, and says by which procedure they are to be held:
-    /// by a code, with which a declaration goes out on the other link and T4 starts; or else by time, and T3 starts anew.
+    /// Begins the hold of the flows that a link takes over from another, and says by which procedure they are to be
+    /// held: by a code, with which a declaration goes out on the other link and T4 starts; or else by time, and T3
+    /// starts anew.
     fn declare(&mut self, link: LinkId, other: LinkId) -> Procedure
         requires link { link < length self.old.settings.links }
         requires other { other < length self.old.settings.links }
@@ -173,8 +174,8 @@ impl Exchange {
         Outcome::Handled
     }
 
-    /// An answer from the point of a set: what its code holds is held no longer, T4 stops, and the code is free. Ignored,
-    /// and nothing changes, where the code waits for none.
+    /// An answer from the point of a set: what its code holds is held no longer, T4 stops, and the code is free.
+    /// Ignored, and nothing changes, where the code waits for none.
     pub(super) fn end_hold(&mut self, set: Option<SetId>, code: u8) -> Outcome
         ensures { Ends self.old result self.new
             (rule.end_hold kept self.old.settings set code self.old.node) }
