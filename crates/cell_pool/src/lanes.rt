@@ -6,7 +6,7 @@ ghost use Rattle.std.specs.Option.{option_copied};
 ghost use Rattle.signalling_types.specs.Message.{Message};
 ghost use Rattle.signalling_types.specs.Lent.{lent};
 ghost use Rattle.signalling_types.specs.declared.limits.TheConstants.Limits;
-ghost use Rattle.cell_pool.specs.Lanes.{lane_at, push_refusal, pushed, dropped};
+ghost use Rattle.cell_pool.specs.Lanes.{lane_at, managements, push_refusal, pushed, dropped};
 ghost use Rattle.cell_pool.specs.Moves.{first_behind, all_behind, all_before, picked_behind, picked_before};
 
 use crate::pick::Pick;
@@ -24,6 +24,10 @@ pub trait Lanes {
     /// How many lists there are.
     fn lanes(&self) -> usize
         ensures { result ≡ length (lists self.now) };
+
+    /// How many management messages stand in all lists together.
+    fn managements(&self) -> usize
+        ensures { result ≡ managements (lists self.now) };
 
     /// Why this message would be refused now: PoolFull for a user message, ManagementFull for a
     /// management message, exactly where as many of its kind stand as may.

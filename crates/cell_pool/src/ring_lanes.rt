@@ -124,6 +124,10 @@ impl Lanes for RingLanes {
         self.lists.lists()
     }
 
+    fn managements(&self) -> usize {
+        self.managements
+    }
+
     fn refusal(&self, message: MsuRef<'_>) -> Option<Cause> {
         if message.is_management() {
             (self.managements >= Limits::MANAGEMENT_MESSAGES).then_some(Cause::ManagementFull)
