@@ -26,7 +26,7 @@ only-rows-at : (t : HoldTable) (row : ℕ) (place : Option ℕ) → with_mark_at
 only-rows-at t row (Some place) = refl
 only-rows-at t row None = refl
 
-only-rows : (t : HoldTable) (row flow : Option ℕ) → with_row_hold t row flow ≡ record t { rows = (with_row_hold t row flow).rows }
+pub only-rows : (t : HoldTable) (row flow : Option ℕ) → with_row_hold t row flow ≡ record t { rows = (with_row_hold t row flow).rows }
 only-rows t (Some row) (Some flow) = only-rows-at t row (place_of_flow (marks_at t.rows row) flow)
 only-rows t (Some row) None = refl
 only-rows t None flow = refl

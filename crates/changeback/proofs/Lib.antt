@@ -1,5 +1,8 @@
+pub mod Alike
 pub mod Changes
 pub mod Held
 pub mod Moved
 pub mod Places
+pub mod Rerouted
 pub mod Sets
+pub mod ToAnother

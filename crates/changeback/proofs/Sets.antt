@@ -1,5 +1,5 @@
 -- Destinations that go by the same sets lose the same links.
-use Rattle.std.proofs.Common.{◌≡◌, ◌≢◌, ◌⊎◌, ◌<◌, ◌≤◌, ℕ, zero, suc, ◌+◌, ◌*◌, Bool, true, false, ◌||◌, List, [], length, replicate, Option, Some, None, refl, ap, sym, ◌∙◌, subst, arith}
+use Rattle.std.proofs.Common.{◌≡◌, ◌≢◌, ◌⊎◌, ◌<◌, ℕ, zero, suc, ◌*◌, Bool, true, false, ◌||◌, List, replicate, Option, Some, None, refl, ap, sym, ◌∙◌, arith}
 use Rattle.std.specs.Prelude.{◌&&◌, nat_lt, if◌then◌else◌, slice_index_or, slice_set}
 use Rattle.std.specs.Option.{option_and_then}
 use Rattle.std.proofs.Math.ListN.{set}
@@ -12,7 +12,7 @@ use Rattle.route_table.specs.Facts.{Facts, set_at, with_link}
 use Rattle.route_table.specs.Chosen.{chosen_set}
 use Rattle.node_links.specs.Network.{Network, facts_of}
 use Rattle.node_links.specs.Origin.{origin}
-use Rattle.changeback.specs.Return.{FlowChange, selections, change_from, origin_of, changes_of, comes_from, gives_up}
+use Rattle.changeback.specs.Return.{selections, change_from, origin_of, changes_of, comes_from, gives_up}
 use Rattle.changeback.specs.Seen.{number_of_pair, no_pairs, has_pair, with_pair, IsSeen}
 use Rattle.changeback.proofs.Changes.{gives_up-append, gives_up-one}
 

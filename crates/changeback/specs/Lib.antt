@@ -1,5 +1,6 @@
 pub mod Codes
 pub mod Inside
 pub mod Return
+pub mod Rerouting
 pub mod Laws
 pub mod Seen

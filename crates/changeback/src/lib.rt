@@ -1,15 +1,21 @@
-//! Changeback: which flows a link takes over when it enters service, what holds them until their old link is done, and
-//! the codes of the declarations (Q.704 §6).
+//! Changeback and controlled rerouting: which flows change their link when a link enters service, or when a route gets
+//! a status, and what holds them until their old link is done; and the codes of the declarations of a changeback
+//! (Q.704 §6, §8).
 #![tactic(auto)]
 
 pub mod changeback;
 pub mod laws;
+pub mod rerouting;
 pub mod returning;
 mod set_codes;
 mod set_pairs;
 
 pub use changeback::Changeback;
+pub use rerouting::reroute;
 pub use returning::{hold_changes, losing};
+
+/// How many selections a flow can have (Q.704 §2.2.4).
+const SELECTIONS: u8 = 16;
 
 #[cfg(test)]
 mod tests;

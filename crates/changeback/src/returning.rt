@@ -9,13 +9,11 @@ ghost use Rattle.changeback.specs.Return.{selections, origin_of, change_from, ch
 ghost use Rattle.changeback.specs.Return.{comes_from, gives_up, held_by};
 ghost use Rattle.changeback.specs.Seen.{IsSeen};
 
+use crate::SELECTIONS;
 use crate::set_pairs::SetPairs;
 use flow_hold::{Holds, Procedure};
 use node_links::NodeLinks;
 use signalling_types::{Limits, LinkId, SetId, Sls};
-
-/// How many selections a flow can have (Q.704 §2.2.4).
-const SELECTIONS: u8 = 16;
 
 /// Which links lose flows to a link in service, compared with when it is out of service (Q.704 §6.2). Nothing
 /// else changes.
