@@ -5,7 +5,7 @@ use Rattle.std.proofs.Math.ListN.{get_or-map}
 use Rattle.std.proofs.lemmas.List.{map-set, set-get_or, set-set}
 use Rattle.node_links.specs.Link.{Link}
 use Rattle.node_links.specs.LinkState.{down_link, is_in_service}
-use Rattle.node_links.specs.Network.{serving, link_in}
+use Rattle.node_links.specs.Network.{Network, serving, facts_of, link_in, with_state}
 
 -- one link changes
 pub serving_set : (links : List Link) (link : ℕ) (state : Link)
@@ -20,6 +20,12 @@ serving_alike links link old state e =
     ∙ ap (λ (b : Bool). slice_set (serving links) link b) e
     ∙ sym (serving_set links link (slice_index_or links link old))
     ∙ ap serving (set-get_or links link old)
+
+-- so the routing facts are what they were
+pub facts_alike : (n : Network) (link : ℕ) (state : Link) → is_in_service state.alignment ≡ is_in_service (link_in n.links link).alignment
+    → facts_of (with_state n link state) ≡ facts_of n
+facts_alike n link state e =
+    ap (λ (bs : List Bool). record { sets = n.sets; in_service = bs; routes = n.routes }) (serving_alike n.links link down_link state e)
 
 -- a link that wasn't in service changes: taken out again, it leaves the others as they were
 pub serving_without : (links : List Link) (link : ℕ) (state : Link) → is_in_service (link_in links link).alignment ≡ false

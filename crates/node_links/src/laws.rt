@@ -1,4 +1,4 @@
-//! What holds of the link that a flow takes.
+//! What holds of the link that a flow takes, and of links that change.
 
 ghost use Rattle.std.specs.Prelude.{ℕ, ◌≡◌, false, true, Some};
 ghost use Rattle.route_table.specs.Facts.{with_link};
@@ -20,4 +20,11 @@ pub fn a_link_out_of_service_as_before()
     ensures { (n : Network) (link : ℕ) (state : Link)
         → is_in_service (link_in n.links link).alignment ≡ false
         → with_link link false (facts_of (with_state n link state)) ≡ facts_of n }
+{}
+
+/// The law that a link which stays in service, or out of it, changes no route. The call does nothing.
+pub fn a_link_that_stays_changes_no_route()
+    ensures { (n : Network) (link : ℕ) (state : Link)
+        → is_in_service state.alignment ≡ is_in_service (link_in n.links link).alignment
+        → facts_of (with_state n link state) ≡ facts_of n }
 {}

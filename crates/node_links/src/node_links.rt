@@ -154,6 +154,19 @@ impl NodeLinks {
         self.routes.has_link(set)
     }
 
+    /// Whether some link of a set would be in service if a link in service weren't. Nothing changes in the end.
+    pub fn has_link_without(&mut self, link: LinkId, set: SetId) -> bool
+        requires { is_in_service (link_in self.old.links link).alignment ≡ true }
+        ensures has { result ≡ has_link (with_link link false (facts_of self.old)).in_service
+            (set_at (facts_of self.old) set) }
+        ensures links { self.new ≡ self.old }
+    {
+        self.routes.set_link(link, false);
+        let others = self.routes.has_link(set);
+        self.routes.set_link(link, true);
+        others
+    }
+
     /// The route that messages to a destination take, by the number of that destination. It is allowed or restricted;
     /// `None` where no set leads there (Q.704 §4.2).
     pub fn route_of(&self, destination: usize) -> Option<Route>
