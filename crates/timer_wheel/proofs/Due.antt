@@ -1,9 +1,11 @@
 -- How many timers are due: no more when one is set or stopped.
 use Rattle.std.proofs.Common.{◌≡◌, ℕ, ◌+◌, ◌≤◌, Bool, true, false, cond, List, [], ◌∷◌, ◌++◌, refl, ap, arith, max}
 use Rattle.timer_wheel.specs.declared.name.TimerName.{TimerName}
+use Rattle.timer_wheel.specs.declared.name.RouteTimer.{RouteTimer}
 use Rattle.timer_wheel.specs.declared.named.Timer.{Timer}
+use Rattle.std.specs.Prelude.{filter}
 use Rattle.timer_wheel.specs.Names.{is_before, has_name}
-use Rattle.timer_wheel.specs.Named.{before, after, cleared, started, is_due, count_named, Named, set_named, clear_named}
+use Rattle.timer_wheel.specs.Named.{before, after, cleared, started, is_due, count_named, Named, set_named, clear_named, clear_set_named}
 use Rattle.timer_wheel.proofs.Order.{before-asym}
 
 -- what one timer adds
@@ -52,6 +54,22 @@ cleared-parts name ts = count_named-append (before name ts) (after name ts)
 
 pub clear-due : (name : TimerName) (r : Named) → count_named (clear_named name r).timers ≤ count_named r.timers
 clear-due name r = omega (arith, cleared-parts name r.timers, parts-le name r.timers)
+
+-- a filter makes none due
+once : (b : Bool) (n : ℕ) → cond b n 0 ≤ n
+once true n = omega arith
+once false n = omega arith
+
+filter-due : (p : Timer → Bool) (ts : List Timer) → count_named (filter p ts) ≤ count_named ts
+filter-due p [] = let goal : 0 ≤ 0 = omega arith in goal
+filter-due p (t ∷ ts) =
+    let rest = filter-due p ts in
+    let here = kept (p t) t (filter p ts) in
+    let goal : count_named (filter p (t ∷ ts)) ≤ one t + count_named ts = omega (arith, rest, here, once (p t) (one t)) in
+    goal
+
+pub clear_set-due : (timer : RouteTimer) (set : ℕ) (r : Named) → count_named (clear_set_named timer set r).timers ≤ count_named r.timers
+clear_set-due timer set r = filter-due _ r.timers
 
 -- a timer that is set has a tick left
 not_due : (name : TimerName) (ticks : ℕ) → one (record { name = name; left = max 1 ticks }) ≡ 0

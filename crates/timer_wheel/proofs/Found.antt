@@ -1,14 +1,16 @@
 -- What is left to the timers of a list.
-use Rattle.std.proofs.Common.{◌≡◌, ◌≢◌, ℕ, ◌+◌, ◌-◌, ◌==◌, Bool, true, false, cond, List, [], ◌∷◌, ◌++◌, map, refl, sym, ap, subst, ◌∙◌, arith}
+use Rattle.std.proofs.Common.{◌≡◌, ◌≢◌, ℕ, ◌+◌, ◌-◌, ◌==◌, ◌||◌, Bool, true, false, not, cond, List, [], ◌∷◌, ◌++◌, map, refl, sym, ap, subst, ◌∙◌, arith}
 use Rattle.std.proofs.lemmas.Bool.{false≢true}
 use Rattle.std.proofs.lemmas.Bool.Decides.{nat_tests}
-use Rattle.std.specs.Prelude.{filter, find, Option, Some, None}
+use Rattle.std.specs.Prelude.{filter, find, is_some, Option, Some, None}
+use Rattle.std.specs.List.{list_any}
 use Rattle.std.specs.Option.{option_map, option_or}
 use Rattle.timer_wheel.specs.declared.name.TimerName.{TimerName}
+use Rattle.timer_wheel.specs.declared.name.RouteTimer.{RouteTimer}
 use Rattle.timer_wheel.specs.declared.named.Timer.{Timer}
 use Rattle.timer_wheel.specs.declared.name.NodeCounts.{NodeCounts}
-use Rattle.timer_wheel.specs.Names.{is_before, has_name}
-use Rattle.timer_wheel.specs.Named.{before, after, cleared, started, lowered, is_due, first_named, count_named}
+use Rattle.timer_wheel.specs.Names.{is_before, has_name, is_of_set}
+use Rattle.timer_wheel.specs.Named.{before, after, cleared, set_cleared, started, lowered, is_due, first_named, count_named}
 use Rattle.timer_wheel.specs.Kept.{AreAfter, DoRise, AreNamed}
 use Rattle.timer_wheel.specs.Lists.{without_due}
 use Rattle.timer_wheel.specs.Lookup.{is_same, named_left}
@@ -27,6 +29,16 @@ here name t ts e = ap (λ b. cond b (Some t.left) (named_left name ts)) e
 
 pub past : (name : TimerName) (t : Timer) (ts : List Timer) → is_same t.name name ≡ false → named_left name (t ∷ ts) ≡ named_left name ts
 past name t ts e = ap (λ b. cond b (Some t.left) (named_left name ts)) e
+
+-- whether a name is one of a list's
+pub any-left : (name : TimerName) (ts : List Timer) → list_any (λ t. is_same t.name name) ts ≡ is_some (named_left name ts)
+any-left name [] = refl
+any-left name (t ∷ ts) =
+    let rest = any-left name ts in
+    elim (is_same t.name name) as (λ b. (b || list_any (λ t. is_same t.name name) ts) ≡ is_some (cond b (Some t.left) (named_left name ts))) [
+      | true ↦ refl
+      | false ↦ rest
+    ]
 
 -- ---- parts of a list
 
@@ -106,6 +118,16 @@ left-cleared name ts =
 
 pub left-cleared_other : (name other : TimerName) (ts : List Timer) → name ≢ other → named_left other (cleared name ts) ≡ named_left other ts
 left-cleared_other name other ts h = left-append other (before name ts) (after name ts) ∙ left-parts name other ts h
+
+-- timers of one name are of the same set
+of_set : (timer : RouteTimer) (set : ℕ) (name : TimerName) (b : Bool) → is_of_set timer set name ≡ b → (t : Timer) → is_same t.name name ≡ true → not (is_of_set timer set t.name) ≡ not b
+of_set timer set name b h t e = ap not (ap (is_of_set timer set) (same_is t.name name e) ∙ h)
+
+pub left-set_cleared : (timer : RouteTimer) (set : ℕ) (name : TimerName) (ts : List Timer) → is_of_set timer set name ≡ true → named_left name (set_cleared timer set ts) ≡ None
+left-set_cleared timer set name ts h = left-lost name _ (of_set timer set name true h) ts
+
+pub left-set_cleared_other : (timer : RouteTimer) (set : ℕ) (name : TimerName) (ts : List Timer) → is_of_set timer set name ≡ false → named_left name (set_cleared timer set ts) ≡ named_left name ts
+left-set_cleared_other timer set name ts h = left-kept name _ (of_set timer set name false h) ts
 
 pub left-started : (t : Timer) (ts : List Timer) → named_left t.name (started t ts) ≡ Some t.left
 left-started t ts =

@@ -1,12 +1,16 @@
 -- The table and the list together are a finite map.
-use Rattle.std.proofs.Common.{◌≡◌, ◌≢◌, ℕ, nat_lt, Bool, true, false, cond, refl, sym, ap, ◌∙◌}
+use Rattle.std.proofs.Common.{◌≡◌, ◌≢◌, ℕ, nat_lt, ◌==◌, Bool, true, false, cond, refl, sym, ap, ◌∙◌, arith}
+use Rattle.std.proofs.lemmas.Bool.Decides.{nat_tests}
 use Rattle.std.specs.Prelude.{Option, Some, None, max}
 use Rattle.timer_wheel.specs.declared.name.TimerName.{TimerName}
+use Rattle.timer_wheel.specs.declared.name.TimerName.TheVariants as name
+use Rattle.timer_wheel.specs.declared.name.RouteTimer.{RouteTimer}
+use Rattle.timer_wheel.specs.declared.name.RouteTimer.TheVariants as route
 use Rattle.timer_wheel.specs.declared.name.LinkPlace.{LinkPlace}
 use Rattle.timer_wheel.specs.declared.name.NodeCounts.{NodeCounts}
-use Rattle.timer_wheel.specs.Names.{has_name, place_of, name_of_kind}
+use Rattle.timer_wheel.specs.Names.{has_name, is_of_set, place_of, name_of_kind}
 use Rattle.timer_wheel.specs.Named.{Named, set_named, started}
-use Rattle.timer_wheel.specs.Timers.{Running, none_running, set_at, set_timer, clear_at, clear_timer, ticked}
+use Rattle.timer_wheel.specs.Timers.{Running, none_running, set_at, set_timer, clear_at, clear_timer, clear_set, ticked}
 use Rattle.timer_wheel.specs.Lookup.{link_left, left_at, left_to, named_left, counts_of, IsWhole}
 use Rattle.timer_wheel.specs.Table.{one_less}
 use Rattle.timer_wheel.proofs.Places.{IsAt, is_at, IsOfLink, IsOther}
@@ -82,6 +86,28 @@ left-clear_other name other r h = at (place_of name) (place_of other) (is_at nam
     at (Some p) None a b = refl
     at None (Some q) a b = refl
     at None None a b = list.left-cleared_other name other r.others.timers h
+
+-- ---- stopping the timers of a set
+
+same_set : (set : ℕ) → (set == set) ≡ true
+same_set set = grind (arith, nat_tests)
+
+pub left-clear_t8 : (set destination : ℕ) (r : Running) → left_to (name.T8 set destination) (clear_set route.T8 set r) ≡ None
+unfolding left_to clear_set
+left-clear_t8 set destination r = list.left-set_cleared route.T8 set (name.T8 set destination) r.others.timers (same_set set)
+
+pub left-clear_t10 : (set destination : ℕ) (r : Running) → left_to (name.T10 set destination) (clear_set route.T10 set r) ≡ None
+unfolding left_to clear_set
+left-clear_t10 set destination r = list.left-set_cleared route.T10 set (name.T10 set destination) r.others.timers (same_set set)
+
+pub left-clear_set_other : (timer : RouteTimer) (set : ℕ) (other : TimerName) (r : Running) → is_of_set timer set other ≡ false
+    → left_to other (clear_set timer set r) ≡ left_to other r
+unfolding left_to clear_set
+left-clear_set_other timer set other r h = at (place_of other)
+  where
+    at : (o : Option LinkPlace) → left_at o other (clear_set timer set r) ≡ left_at o other r
+    at (Some p) = refl
+    at None = list.left-set_cleared_other timer set other r.others.timers h
 
 -- ---- at first, and by a tick
 

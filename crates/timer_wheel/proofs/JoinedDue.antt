@@ -5,16 +5,17 @@ use Rattle.std.proofs.lemmas.Bool.Decides.{nat_tests}
 use Rattle.std.specs.Prelude.{Option, Some, None, max}
 use Rattle.std.specs.Option.{option_map_or}
 use Rattle.timer_wheel.specs.declared.name.TimerName.{TimerName}
+use Rattle.timer_wheel.specs.declared.name.RouteTimer.{RouteTimer}
 use Rattle.timer_wheel.specs.declared.name.Key.{Key}
 use Rattle.timer_wheel.specs.declared.name.LinkPlace.{LinkPlace}
 use Rattle.timer_wheel.specs.Names.{key, key_of, is_key_before, is_before, place_of, link_place, name_of_kind, name_at}
 use Rattle.timer_wheel.specs.Named.{Named, after_named, clear_named, first_named, count_named}
 use Rattle.timer_wheel.specs.Table.{Table, place_in, due_place, with_left, with_link_left}
-use Rattle.timer_wheel.specs.Timers.{Running, clear_at, clear_timer, set_at, set_timer, due_by, due_name, after_due_by, after_due, due_count}
+use Rattle.timer_wheel.specs.Timers.{Running, clear_at, clear_timer, clear_set, set_at, set_timer, due_by, due_name, after_due_by, after_due, due_count}
 use Rattle.timer_wheel.specs.Lookup.{link_left, left_at, left_to, IsWhole}
 use Rattle.timer_wheel.proofs.Places.{IsAt, is_at, IsOfLink, IsOther, placed, has_row, HasRow, later_place, row_of, column_of}
 use Rattle.timer_wheel.proofs.Rising.{left_after, left-without_due}
-use Rattle.timer_wheel.proofs.Due.{set-due, clear-due}
+use Rattle.timer_wheel.proofs.Due.{set-due, clear-due, clear_set-due}
 use Rattle.timer_wheel.proofs.Found as list
 use Rattle.timer_wheel.proofs.InTable as table
 
@@ -223,3 +224,7 @@ count-clear name r = at (place_of name)
     at : (o : Option LinkPlace) → due_count (clear_at o name r) ≤ due_count r
     at (Some p) = omega (arith, table.count-put_le p.kind p.link None r.links refl)
     at None = omega (arith, clear-due name r.others)
+
+pub count-clear_set : (timer : RouteTimer) (set : ℕ) (r : Running) → due_count (clear_set timer set r) ≤ due_count r
+unfolding clear_set
+count-clear_set timer set r = omega (arith, clear_set-due timer set r.others)

@@ -115,7 +115,7 @@ stops_at name (t ∷ ts) r =
 
 -- ---- names keep rising
 
-rise-filter : (p : Timer → Bool) (ts : List Timer) → DoRise ts → DoRise (filter p ts)
+pub rise-filter : (p : Timer → Bool) (ts : List Timer) → DoRise ts → DoRise (filter p ts)
 rise-filter p [] r = tt
 rise-filter p (t ∷ ts) r =
     let rest = rise-filter p ts r.1 in

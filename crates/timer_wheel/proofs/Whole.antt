@@ -3,15 +3,17 @@ use Rattle.std.proofs.Common.{◌≡◌, ℕ, ◌*◌, true, false, cond, refl, 
 use Rattle.std.proofs.lemmas.List.{length-replicate, length-map}
 use Rattle.std.specs.Prelude.{Option, Some, None, max}
 use Rattle.timer_wheel.specs.declared.name.TimerName.{TimerName}
+use Rattle.timer_wheel.specs.declared.name.RouteTimer.{RouteTimer}
 use Rattle.timer_wheel.specs.declared.name.LinkPlace.{LinkPlace}
 use Rattle.timer_wheel.specs.declared.name.NodeCounts.{NodeCounts}
 use Rattle.timer_wheel.specs.declared.named.Timer.{Timer}
 use Rattle.timer_wheel.specs.Names.{has_name, place_of}
 use Rattle.timer_wheel.specs.Named.{started}
 use Rattle.timer_wheel.specs.Table.{one_less}
-use Rattle.timer_wheel.specs.Timers.{Running, none_running, set_at, set_timer, clear_at, clear_timer, ticked, due_name, after_due}
+use Rattle.timer_wheel.specs.Timers.{Running, none_running, set_at, set_timer, clear_at, clear_timer, clear_set, ticked, due_name, after_due}
 use Rattle.timer_wheel.specs.Lookup.{counts_of, IsWhole}
-use Rattle.timer_wheel.proofs.Rising.{rise-started, rise-cleared, rise-lowered, named-started, named-cleared, named-lowered}
+use Rattle.timer_wheel.proofs.Elements.{all-filter}
+use Rattle.timer_wheel.proofs.Rising.{rise-filter, rise-started, rise-cleared, rise-lowered, named-started, named-cleared, named-lowered}
 use Rattle.timer_wheel.proofs.InTable.{places-put, links-put}
 use Rattle.timer_wheel.proofs.JoinedDue.{after-clear, after-none}
 
@@ -70,6 +72,18 @@ stays-clear name r = at (place_of name)
         no_links = w.no_links;
       };
     }
+
+pub stays-clear_set : (timer : RouteTimer) (set : ℕ) (r : Running) → Stays r (clear_set timer set r)
+unfolding clear_set
+stays-clear_set timer set r = record {
+  counts = refl;
+  whole = λ w. record {
+    places = w.places;
+    rise = rise-filter _ r.others.timers w.rise;
+    named = all-filter _ _ r.others.timers w.named;
+    no_links = w.no_links;
+  };
+}
 
 pub stays-ticked : (r : Running) → Stays r (ticked r)
 stays-ticked r = record {

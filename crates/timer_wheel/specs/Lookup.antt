@@ -1,6 +1,6 @@
 -- The timers that run as a finite map: what is left to each name.
 use Rattle.std.specs.Prelude.{ℕ, ◌≡◌, ◌*◌, ◌==◌, ◌&&◌, Bool, nat_lt, if◌then◌else◌, List, [], ◌∷◌, length, get_or}
-use Rattle.std.specs.Prelude.{Option, None, Some}
+use Rattle.std.specs.Prelude.{Option, None, Some, is_some}
 use Rattle.timer_wheel.specs.declared.name.TimerName.{TimerName}
 use Rattle.timer_wheel.specs.declared.name.Key.{Key}
 use Rattle.timer_wheel.specs.declared.name.LinkPlace.{LinkPlace}
@@ -34,6 +34,10 @@ left_at None name r = named_left name r.others.timers
 -- the ticks that are left to a timer: 0 where it is due, none where it doesn't run
 unfoldable pub left_to : TimerName → Running → Option ℕ
 left_to name r = left_at (place_of name) name r
+
+-- whether a timer runs, also where it is due and not handed out yet
+abbrev pub is_running : TimerName → Running → Bool
+is_running name r = is_some (left_to name r)
 
 -- how many links, sets and destinations the node has
 abbrev pub counts_of : Running → NodeCounts

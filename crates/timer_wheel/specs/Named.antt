@@ -1,11 +1,12 @@
 -- The timers that run: a finite map from names to the ticks that are left, as the list of its entries in name order.
-use Rattle.std.specs.Prelude.{ℕ, ◌+◌, ◌-◌, ◌==◌, max, Bool, if◌then◌else◌}
+use Rattle.std.specs.Prelude.{ℕ, ◌+◌, ◌-◌, ◌==◌, max, Bool, not, if◌then◌else◌}
 use Rattle.std.specs.Prelude.{List, [], ◌∷◌, ◌++◌, map, filter, find, Option}
 use Rattle.std.specs.Option.{option_map, option_map_or}
 use Rattle.timer_wheel.specs.declared.name.TimerName.{TimerName}
+use Rattle.timer_wheel.specs.declared.name.RouteTimer.{RouteTimer}
 use Rattle.timer_wheel.specs.declared.name.NodeCounts.{NodeCounts}
 use Rattle.timer_wheel.specs.declared.named.Timer.{Timer}
-use Rattle.timer_wheel.specs.Names.{is_before, has_name}
+use Rattle.timer_wheel.specs.Names.{is_before, has_name, is_of_set}
 
 -- the timers whose names come before a name
 abbrev pub before : TimerName → List Timer → List Timer
@@ -18,6 +19,10 @@ after name timers = filter (λ t. is_before name t.name) timers
 -- no timer of this name runs
 abbrev pub cleared : TimerName → List Timer → List Timer
 cleared name timers = before name timers ++ after name timers
+
+-- this timer of this set runs for no destination
+abbrev pub set_cleared : RouteTimer → ℕ → List Timer → List Timer
+set_cleared timer set timers = filter (λ t. not (is_of_set timer set t.name)) timers
 
 -- the timer of this name runs, and forgets what it was set to before
 abbrev pub started : Timer → List Timer → List Timer
@@ -52,6 +57,10 @@ set_named name ticks r =
 -- a timer is stopped
 abbrev pub clear_named : TimerName → Named → Named
 clear_named name r = record r { timers = cleared name r.timers }
+
+-- a timer of a set is stopped, for every destination
+abbrev pub clear_set_named : RouteTimer → ℕ → Named → Named
+clear_set_named timer set r = record r { timers = set_cleared timer set r.timers }
 
 -- a tick lowers all timers
 abbrev pub ticked_named : Named → Named

@@ -1,7 +1,10 @@
 -- The names of timers: their order, and which of them a node has.
-use Rattle.std.specs.Prelude.{ℕ, ◌+◌, ◌*◌, ◌/◌, ◌%◌, Option, None, Some, if◌then◌else◌, Bool, ◌&&◌, ◌||◌, nat_lt, ◌==◌}
+use Rattle.std.specs.Prelude.{ℕ, ◌+◌, ◌*◌, ◌/◌, ◌%◌, ◌==◌, nat_lt, Bool, false, ◌&&◌, ◌||◌, if◌then◌else◌}
+use Rattle.std.specs.Prelude.{Option, None, Some}
 use Rattle.timer_wheel.specs.declared.name.TimerName.{TimerName}
 use Rattle.timer_wheel.specs.declared.name.TimerName.TheVariants.{L1, L2, L3, L4, L6, L7, T1, T2, T3, T4, T6, T8, T10}
+use Rattle.timer_wheel.specs.declared.name.RouteTimer.{RouteTimer}
+use Rattle.timer_wheel.specs.declared.name.RouteTimer.TheVariants as route
 use Rattle.timer_wheel.specs.declared.name.Key.{Key}
 use Rattle.timer_wheel.specs.declared.name.LinkPlace.{LinkPlace}
 use Rattle.timer_wheel.specs.declared.name.NodeCounts.{NodeCounts}
@@ -57,6 +60,12 @@ has_name n (T10 set destination) = nat_lt set n.sets && nat_lt destination n.des
 -- destination
 abbrev pub count_of : NodeCounts → ℕ
 count_of n = 9 * n.links + 16 * n.sets + n.destinations + 2 * (n.sets * n.destinations)
+
+-- whether a name is this timer of this set, for whatever destination
+abbrev pub is_of_set : RouteTimer → ℕ → TimerName → Bool
+is_of_set route.T8 set (T8 s destination) = s == set
+is_of_set route.T10 set (T10 s destination) = s == set
+is_of_set timer set name = false
 
 -- ---- the timers of links, by their places
 

@@ -2,11 +2,13 @@
 -- others.
 use Rattle.std.specs.Prelude.{ℕ, ◌+◌, ◌*◌, [], replicate, Option, Some, None, max}
 use Rattle.timer_wheel.specs.declared.name.TimerName.{TimerName}
+use Rattle.timer_wheel.specs.declared.name.RouteTimer.{RouteTimer}
 use Rattle.timer_wheel.specs.declared.name.NodeCounts.{NodeCounts}
 use Rattle.timer_wheel.specs.declared.name.LinkPlace.{LinkPlace}
 use Rattle.timer_wheel.specs.Names.{place_of, name_at}
 use Rattle.timer_wheel.specs.Table.{Table, with_link_left, with_left, ticked_table, due_place, count_places}
-use Rattle.timer_wheel.specs.Named.{Named, set_named, clear_named, ticked_named, first_named, after_named, count_named}
+use Rattle.timer_wheel.specs.Named.{Named, set_named, clear_named, clear_set_named, ticked_named, first_named}
+use Rattle.timer_wheel.specs.Named.{after_named, count_named}
 
 pub record Running : Type 0 where
   pub links : Table
@@ -35,6 +37,10 @@ clear_at None name r = record r { others = clear_named name r.others }
 
 unfoldable pub clear_timer : TimerName → Running → Running
 clear_timer name r = clear_at (place_of name) name r
+
+-- a timer of a set is stopped, for every destination; none of these is of a link
+unfoldable pub clear_set : RouteTimer → ℕ → Running → Running
+clear_set timer set r = record r { others = clear_set_named timer set r.others }
 
 -- a tick lowers all timers
 abbrev pub ticked : Running → Running

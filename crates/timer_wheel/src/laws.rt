@@ -5,10 +5,13 @@
 
 ghost use Rattle.std.specs.Prelude.{◌≡◌, ◌≢◌, ◌+◌, ◌≤◌, ℕ, true, false, max, Some, None};
 ghost use Rattle.timer_wheel.specs.declared.name.TimerName.{TimerName};
+ghost use Rattle.timer_wheel.specs.declared.name.TimerName.TheVariants as name;
+ghost use Rattle.timer_wheel.specs.declared.name.RouteTimer.{RouteTimer};
+ghost use Rattle.timer_wheel.specs.declared.name.RouteTimer.TheVariants as route;
 ghost use Rattle.timer_wheel.specs.declared.name.NodeCounts.{NodeCounts};
-ghost use Rattle.timer_wheel.specs.Names.{key_of, has_name, is_before};
+ghost use Rattle.timer_wheel.specs.Names.{key_of, has_name, is_of_set, is_before};
 ghost use Rattle.timer_wheel.specs.Table.{one_less};
-ghost use Rattle.timer_wheel.specs.Timers.{Running, none_running, set_timer, clear_timer, ticked};
+ghost use Rattle.timer_wheel.specs.Timers.{Running, none_running, set_timer, clear_timer, clear_set, ticked};
 ghost use Rattle.timer_wheel.specs.Timers.{due_name, after_due, due_count};
 ghost use Rattle.timer_wheel.specs.Lookup.{left_to, counts_of, IsWhole};
 
@@ -44,6 +47,16 @@ pub fn clearing_changes_one_timer()
         → left_to other (clear_timer name r) ≡ left_to other r }
 {}
 
+/// A timer of a set that is stopped runs for no destination, and no other timer changes.
+pub fn clearing_a_set_changes_its_timers()
+    ensures t8 { (set destination : ℕ) (r : Running)
+        → left_to (name.T8 set destination) (clear_set route.T8 set r) ≡ None }
+    ensures t10 { (set destination : ℕ) (r : Running)
+        → left_to (name.T10 set destination) (clear_set route.T10 set r) ≡ None }
+    ensures others { (timer : RouteTimer) (set : ℕ) (other : TimerName) (r : Running)
+        → is_of_set timer set other ≡ false → left_to other (clear_set timer set r) ≡ left_to other r }
+{}
+
 /// A tick lowers each timer by one.
 pub fn a_tick_lowers_each_timer()
     ensures { (name : TimerName) (r : Running) → left_to name (ticked r) ≡ one_less (left_to name r) }
@@ -73,6 +86,8 @@ pub fn what_is_due_runs_out()
     ensures none { (r : Running) → due_name r ≡ None → due_count r ≡ 0 }
     ensures set { (name : TimerName) (ticks : ℕ) (r : Running) → due_count (set_timer name ticks r) ≤ due_count r }
     ensures cleared { (name : TimerName) (r : Running) → due_count (clear_timer name r) ≤ due_count r }
+    ensures set_cleared { (timer : RouteTimer) (set : ℕ) (r : Running)
+        → due_count (clear_set timer set r) ≤ due_count r }
 {}
 
 /// No call changes what names there are.
@@ -80,6 +95,8 @@ pub fn names_stay()
     ensures set { (name : TimerName) (ticks : ℕ) (r : Running)
         → counts_of (set_timer name ticks r) ≡ counts_of r }
     ensures cleared { (name : TimerName) (r : Running) → counts_of (clear_timer name r) ≡ counts_of r }
+    ensures set_cleared { (timer : RouteTimer) (set : ℕ) (r : Running)
+        → counts_of (clear_set timer set r) ≡ counts_of r }
     ensures ticked { (r : Running) → counts_of (ticked r) ≡ counts_of r }
     ensures taken { (r : Running) → IsWhole r → counts_of (after_due r) ≡ counts_of r }
 {}
@@ -88,6 +105,8 @@ pub fn names_stay()
 pub fn timers_stay_whole()
     ensures set { (name : TimerName) (ticks : ℕ) (r : Running) → IsWhole r → IsWhole (set_timer name ticks r) }
     ensures cleared { (name : TimerName) (r : Running) → IsWhole r → IsWhole (clear_timer name r) }
+    ensures set_cleared { (timer : RouteTimer) (set : ℕ) (r : Running)
+        → IsWhole r → IsWhole (clear_set timer set r) }
     ensures ticked { (r : Running) → IsWhole r → IsWhole (ticked r) }
     ensures taken { (r : Running) → IsWhole r → IsWhole (after_due r) }
 {}

@@ -8,7 +8,7 @@ pub mod named;
 pub mod table;
 pub mod timers;
 
-pub use name::{NodeCounts, TimerName};
+pub use name::{NodeCounts, RouteTimer, TimerName};
 pub use named::{NamedTimers, Timer};
 pub use table::LinkTimers;
 pub use timers::Timers;

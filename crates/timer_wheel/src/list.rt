@@ -1,12 +1,15 @@
 //! A list of timers in name order.
 
 ghost use Rattle.std.specs.Prelude.{◌≡◌, ◌<◌, ◌≤◌, filter, length, map, position, vec_capacity, vec_len};
-ghost use Rattle.timer_wheel.specs.Named.{before, cleared, started, lowered, is_due, first_named};
+ghost use Rattle.std.specs.List.{list_any};
+ghost use Rattle.timer_wheel.specs.Named.{before, cleared, set_cleared, started, lowered, is_due, first_named};
 ghost use Rattle.timer_wheel.specs.Kept.{DoRise};
 ghost use Rattle.timer_wheel.specs.Lists.{without_due, is_found};
+ghost use Rattle.timer_wheel.specs.Lookup.{is_same};
 
-use crate::name::TimerName;
+use crate::name::{RouteTimer, TimerName};
 use crate::named::Timer;
+use signalling_types::SetId;
 
 /// Starts a timer in its place, in place of one of its name, where there is room.
 #[tactic(auto, using(crate::proofs::Rising::restart_steps))]
@@ -43,6 +46,21 @@ pub(crate) fn stop(timers: &mut Vec<Timer>, name: &TimerName)
     if stands_at(timers, at, name) {
         timers.remove(at);
     }
+}
+
+/// Takes out this timer of the set, for every destination.
+pub(crate) fn stop_set(timers: &mut Vec<Timer>, timer: RouteTimer, set: SetId)
+    ensures timers { timers.new.items ≡ set_cleared timer set timers.old.items }
+    ensures room { vec_capacity timers.new ≡ vec_capacity timers.old }
+{
+    timers.retain(|running| !running.name.is_of_set(timer, set));
+}
+
+/// Whether a timer of this name stands in the list.
+pub(crate) fn has(timers: &[Timer], name: &TimerName) -> bool
+    ensures { result ≡ list_any (λ t. is_same t.name name.now) timers.now }
+{
+    timers.iter().any(|timer| timer.name == *name)
 }
 
 /// Takes one tick from each timer.

@@ -1,7 +1,7 @@
 //! The names of timers, and their order.
 
 ghost use Rattle.std.specs.Prelude.{◌≡◌, ◌≤◌};
-ghost use Rattle.timer_wheel.specs.Names.{key_of, is_before, has_name, count_of, place_of};
+ghost use Rattle.timer_wheel.specs.Names.{key_of, is_before, has_name, is_of_set, count_of, place_of};
 
 use signalling_types::{LinkId, SetId};
 
@@ -38,6 +38,15 @@ pub enum TimerName {
     T10(SetId, u16),
 }
 
+/// A timer that a set has for each destination (Q.704 §16.8).
+#[derive(Clone, Copy, PartialEq, Eq)]
+pub enum RouteTimer {
+    /// Transfer prohibited inhibition: such a message about the destination was just sent to the set's adjacent point.
+    T8,
+    /// Signalling route set test: the set's adjacent point will be asked about its route to the destination again.
+    T10,
+}
+
 impl TimerName {
     /// Whether this name comes before the other.
     pub fn is_before(&self, other: &TimerName) -> bool
@@ -47,6 +56,18 @@ impl TimerName {
         one.kind < other.kind
             || one.kind == other.kind
                 && (one.row < other.row || one.row == other.row && one.column < other.column)
+    }
+
+    /// Whether this is the timer of the set, for whatever destination.
+    pub fn is_of_set(&self, timer: RouteTimer, set: SetId) -> bool
+        ensures { result ≡ is_of_set timer set self.now }
+    {
+        match (timer, *self) {
+            (RouteTimer::T8, TimerName::T8(of, _)) | (RouteTimer::T10, TimerName::T10(of, _)) => {
+                of == set
+            }
+            _ => false,
+        }
     }
 
     /// The kind and the link of a timer of a link; none for the others.

@@ -1,12 +1,15 @@
 //! The timers that aren't of a link, in a list.
 
-ghost use Rattle.std.specs.Prelude.{◌≡◌, ◌≤◌, [], IfOk};
+ghost use Rattle.std.specs.Prelude.{◌≡◌, ◌≤◌, [], IfOk, is_some};
 ghost use Rattle.timer_wheel.specs.Kept.{DoRise, AreNamed};
-ghost use Rattle.timer_wheel.specs.Named.{set_named, clear_named, ticked_named, first_named, count_named, after_named};
+ghost use Rattle.timer_wheel.specs.Named.{set_named, clear_named, clear_set_named, ticked_named};
+ghost use Rattle.timer_wheel.specs.Named.{first_named, count_named, after_named};
+ghost use Rattle.timer_wheel.specs.Lookup.{named_left};
 
-use crate::list::{count_named, lower, restart, stop, take_due};
-use crate::name::{NodeCounts, TimerName};
+use crate::list::{count_named, has, lower, restart, stop, stop_set, take_due};
+use crate::name::{NodeCounts, RouteTimer, TimerName};
 use crate::timers::at_least_one;
+use signalling_types::SetId;
 use std::alloc::{AllocError, Global};
 use std::marker::Model;
 
@@ -77,6 +80,20 @@ impl NamedTimers {
         ensures { self.new ≡ clear_named name self.old }
     {
         stop(&mut self.running, &name);
+    }
+
+    /// Stops a timer of a set, for every destination.
+    pub fn clear_set(&mut self, timer: RouteTimer, set: SetId)
+        ensures { self.new ≡ clear_set_named timer set self.old }
+    {
+        stop_set(&mut self.running, timer, set);
+    }
+
+    /// Whether a timer runs.
+    pub fn is_running(&self, name: &TimerName) -> bool
+        ensures { result ≡ is_some (named_left name.now self.now.timers) }
+    {
+        has(&self.running, name)
     }
 
     /// Lets one tick pass: each timer has one tick less, and is due where none is left. Take what is due before the

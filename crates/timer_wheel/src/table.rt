@@ -1,10 +1,12 @@
 //! The timers of links, in a table with a place for each.
 
-ghost use Rattle.std.specs.Prelude.{◌≡◌, ◌*◌, ◌<◌, ◌≤◌, IfOk, IfSome, None, length, filter, map, position, replicate};
+ghost use Rattle.std.specs.Prelude.{◌≡◌, ◌*◌, ◌<◌, ◌≤◌, IfOk, IfSome, None};
+ghost use Rattle.std.specs.Prelude.{get_or, is_some, length, filter, map, position, replicate};
 ghost use Rattle.std.specs.Option.{option_map, option_map_or};
 ghost use Rattle.timer_wheel.specs.Names.{name_at};
 ghost use Rattle.timer_wheel.specs.Table.{with_left, with_link_left, ticked_table, due_place, count_places};
 ghost use Rattle.timer_wheel.specs.Table.{one_less, is_place_due};
+ghost use Rattle.timer_wheel.specs.Lookup.{link_left};
 
 use crate::name::TimerName;
 use signalling_types::LinkId;
@@ -72,6 +74,21 @@ impl LinkTimers {
         if place < self.left.len() {
             self.left[place] = left;
         }
+    }
+
+    /// Whether the timer of a kind and a link runs. None of a link that isn't there does.
+    pub fn is_running(&self, kind: u8, link: usize) -> bool
+        ensures { result ≡ is_some (link_left kind link self.now) }
+    {
+        let links = usize::from(self.links);
+        link < links && self.runs_at(usize::from(kind) * links + link)
+    }
+
+    /// Whether the timer at a place runs. None at a place that isn't there does.
+    fn runs_at(&self, place: usize) -> bool
+        ensures { result ≡ is_some (get_or self.now.left place None) }
+    {
+        matches!(self.left.get(place), Some(Some(_)))
     }
 
     /// Takes one tick from each timer.

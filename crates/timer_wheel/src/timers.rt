@@ -1,13 +1,14 @@
 //! The timers of a node.
 
 ghost use Rattle.std.specs.Prelude.{◌≡◌, IfOk, max};
-ghost use Rattle.timer_wheel.specs.Timers.{none_running, set_timer, clear_timer, ticked};
+ghost use Rattle.timer_wheel.specs.Timers.{none_running, set_timer, clear_timer, clear_set, ticked};
 ghost use Rattle.timer_wheel.specs.Timers.{due_name, due_count, after_due};
-ghost use Rattle.timer_wheel.specs.Lookup.{IsWhole};
+ghost use Rattle.timer_wheel.specs.Lookup.{IsWhole, is_running};
 
-use crate::name::{NodeCounts, TimerName};
+use crate::name::{NodeCounts, RouteTimer, TimerName};
 use crate::named::NamedTimers;
 use crate::table::LinkTimers;
+use signalling_types::SetId;
 use std::alloc::{AllocError, Global};
 use std::marker::Model;
 
@@ -78,6 +79,29 @@ impl Timers {
         match name.place() {
             Some(place) => self.links.put(place.kind, place.link, None),
             None => self.others.clear(name),
+        }
+    }
+
+    /// Stops a timer of a set, for every destination for which it runs.
+    ///
+    /// This costs one pass over the timers that run and aren't of a link.
+    #[tactic(auto, unfolding(crate::specs::Timers::clear_set))]
+    pub fn clear_set(&mut self, timer: RouteTimer, set: SetId)
+        ensures { self.new ≡ clear_set timer set self.old }
+    {
+        self.others.clear_set(timer, set);
+    }
+
+    /// Whether a timer runs, also where it is due and not handed out yet.
+    ///
+    /// For a timer of a link this is one read; for another it costs a pass over those that run and aren't of a link.
+    #[tactic(auto, unfolding(crate::specs::Lookup::left_to))]
+    pub fn is_running(&self, name: TimerName) -> bool
+        ensures { result ≡ is_running name self.now }
+    {
+        match name.place() {
+            Some(place) => self.links.is_running(place.kind, place.link),
+            None => self.others.is_running(&name),
         }
     }
 

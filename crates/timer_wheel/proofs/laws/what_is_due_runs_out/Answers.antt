@@ -1,4 +1,4 @@
-use Rattle.timer_wheel.proofs.JoinedDue.{count-after, count-none, count-set, count-clear}
+use Rattle.timer_wheel.proofs.JoinedDue.{count-after, count-none, count-set, count-clear, count-clear_set}
 use Rattle.timer_wheel.proofs.laws.what_is_due_runs_out.Goals as goal
 
 pub returns-clause-taken : goal.returns-clause-taken
@@ -12,3 +12,6 @@ returns-clause-set c = count-set
 
 pub returns-clause-cleared : goal.returns-clause-cleared
 returns-clause-cleared c = count-clear
+
+pub returns-clause-set_cleared : goal.returns-clause-set_cleared
+returns-clause-set_cleared c = count-clear_set
