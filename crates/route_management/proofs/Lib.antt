@@ -1,3 +1,6 @@
 pub mod Rows
 pub mod Owing
 pub mod Listing
+pub mod Walking
+pub mod Settled
+pub mod Shape

@@ -71,7 +71,7 @@ hit f t o s d due e k =
     ∙ ap (λ (z : RouteStatus). owed_at f (with_told o.set o.destination z t) o.set o.destination) due
     ∙ once f t o.set o.destination
 
-still : (f : Facts) (t : ToldTable) (o : Owed) (s d : ℕ) → IsDue f o → owed_at f t s d ≡ None
+pub still : (f : Facts) (t : ToldTable) (o : Owed) (s d : ℕ) → IsDue f o → owed_at f t s d ≡ None
     → owed_at f (with_told o.set o.destination o.status t) s d ≡ None
 still f t o s d due e =
     elim (eqb_tells o.set s) [
@@ -129,7 +129,7 @@ behind : (p : Owed → Bool) (o : Option Owed) (os : List Owed) → list_any p o
 behind p None os e = e
 behind p (Some x) os e = there (p x) _ e
 
-listed_of_point : (f : Facts) (t : ToldTable) (set d : ℕ) (status : RouteStatus) (ds : List ℕ) → owed_at f t set d ≡ Some status
+pub listed_of_point : (f : Facts) (t : ToldTable) (set d : ℕ) (status : RouteStatus) (ds : List ℕ) → owed_at f t set d ≡ Some status
     → has d ds ≡ true → list_any (is_about set d) (filter_map (owed_about f t set) ds) ≡ true
 listed_of_point f t set d status [] e m = absurd cc
 listed_of_point f t set d status (x ∷ xs) e m =
@@ -142,7 +142,7 @@ listed_of_point f t set d status (x ∷ xs) e m =
       | false ↦ λ apart k. behind (is_about set d) (owed_about f t set x) _ (listed_of_point f t set d status xs e k)
     ] refl m
 
-listed_of_points : (f : Facts) (t : ToldTable) (set d : ℕ) (sets : List ℕ) → has set sets ≡ true
+pub listed_of_points : (f : Facts) (t : ToldTable) (set d : ℕ) (sets : List ℕ) → has set sets ≡ true
     → list_any (is_about set d) (owed_to f t set) ≡ true → list_any (is_about set d) (flat_map (owed_to f t) sets) ≡ true
 listed_of_points f t set d [] m e = absurd cc
 listed_of_points f t set d (x ∷ xs) m e =
@@ -155,7 +155,7 @@ listed_of_points f t set d (x ∷ xs) m e =
       | false ↦ λ apart k. there (list_any (is_about set d) (owed_to f t x)) _ (listed_of_points f t set d xs k e)
     ] refl m)
 
-in_range : (a n i : ℕ) → a ≤ i → i < a + n → has i (range_with_len a n) ≡ true
+pub in_range : (a n i : ℕ) → a ≤ i → i < a + n → has i (range_with_len a n) ≡ true
 in_range a zero i l u = absurd (omega (arith, l, u))
 in_range a (suc n) i l u =
     elim (eqb_tells a i) [
@@ -165,7 +165,7 @@ in_range a (suc n) i l u =
 
 -- ---- nothing is left
 
-none_of_point : (f : Facts) (t : ToldTable) (set a n : ℕ) → ((d : ℕ) → a ≤ d → d < a + n → owed_at f t set d ≡ None)
+pub none_of_point : (f : Facts) (t : ToldTable) (set a n : ℕ) → ((d : ℕ) → a ≤ d → d < a + n → owed_at f t set d ≡ None)
     → filter_map (owed_about f t set) (range_with_len a n) ≡ []
 none_of_point f t set a zero h = refl
 none_of_point f t set a (suc n) h =
@@ -174,18 +174,18 @@ none_of_point f t set a (suc n) h =
     (h a (omega arith) (omega arith))
     ∙ none_of_point f t set (a + 1) n (λ d l u. h d (omega (arith, l)) (omega (arith, u)))
 
-none_of_points : (f : Facts) (t : ToldTable) (a n : ℕ) → ((s : ℕ) → a ≤ s → s < a + n → owed_to f t s ≡ [])
+pub none_of_points : (f : Facts) (t : ToldTable) (a n : ℕ) → ((s : ℕ) → a ≤ s → s < a + n → owed_to f t s ≡ [])
     → flat_map (owed_to f t) (range_with_len a n) ≡ []
 none_of_points f t a zero h = refl
 none_of_points f t a (suc n) h =
     ap (λ (os : List Owed). os ++ flat_map (owed_to f t) (range_with_len (a + 1) n)) (h a (omega arith) (omega arith))
     ∙ none_of_points f t (a + 1) n (λ s l u. h s (omega (arith, l)) (omega (arith, u)))
 
-as_many : (os : List Owed) (t : ToldTable) → length (all_told os t).rows ≡ length t.rows
+pub as_many : (os : List Owed) (t : ToldTable) → length (all_told os t).rows ≡ length t.rows
 as_many [] t = refl
 as_many (o ∷ os) t = as_many os (with_told o.set o.destination o.status t) ∙ length-set t.rows o.set (slice_set (row_of t o.set) o.destination o.status)
 
-as_long : (os : List Owed) (t : ToldTable) (s : ℕ) → length (row_of (all_told os t) s) ≡ length (row_of t s)
+pub as_long : (os : List Owed) (t : ToldTable) (s : ℕ) → length (row_of (all_told os t) s) ≡ length (row_of t s)
 as_long [] t s = refl
 as_long (o ∷ os) t s = as_long os (with_told o.set o.destination o.status t) s ∙ rows_as_long t.rows o.set s o.destination o.status
 

@@ -26,7 +26,7 @@ alike : (s : RouteStatus) (o : Option RouteStatus) → is_unlike (option_map (λ
 alike s None = refl
 alike s (Some old) = ap not (same_again s)
 
-none_owed : (reachable adjacent unlike : Bool) (s : RouteStatus) → unlike ≡ false
+pub none_owed : (reachable adjacent unlike : Bool) (s : RouteStatus) → unlike ≡ false
     → (if reachable && (not adjacent && unlike) then Some s else None) ≡ None
 none_owed false adjacent unlike s e = refl
 none_owed true true unlike s e = refl

@@ -55,13 +55,25 @@ owed_about f t set destination =
     option_map (λ status. record { set = set; destination = destination; status = status })
     (owed_at f t set destination)
 
--- what is owed to the adjacent point of a set, by destination
+-- what is owed to the adjacent point of a set of so many destinations, from one on
+abbrev pub owed_from : Facts → ToldTable → (set from count : ℕ) → List Owed
+owed_from f t set from count = filter_map (owed_about f t set) (range_with_len from count)
+
+-- what is owed to it of all destinations, in order
 abbrev pub owed_to : Facts → ToldTable → ℕ → List Owed
-owed_to f t set = filter_map (owed_about f t set) (range_with_len 0 (length (row_of t set)))
+owed_to f t set = owed_from f t set 0 (length (row_of t set))
+
+-- what is owed to the adjacent points of so many sets, from one on
+abbrev pub owed_by_sets : Facts → ToldTable → (from count : ℕ) → List Owed
+owed_by_sets f t from count = flat_map (owed_to f t) (range_with_len from count)
 
 -- what is owed, by set and then by destination
 abbrev pub owed : Facts → ToldTable → List Owed
-owed f t = flat_map (owed_to f t) (range_with_len 0 (length t.rows))
+owed f t = owed_by_sets f t 0 (length t.rows)
+
+-- whether no point is owed a word
+unfoldable pub owes_nothing : Facts → ToldTable → Bool
+owes_nothing f t = length (owed f t) == 0
 
 -- what was told once all of these are told, one after the other
 abbrev pub all_told : List Owed → ToldTable → ToldTable

@@ -27,6 +27,10 @@ row_of t set = slice_index_or t.rows set []
 abbrev pub told_at : ToldTable → (set destination : ℕ) → Option RouteStatus
 told_at t set destination = slice_get (row_of t set) destination
 
+-- of each set, of how many destinations its point is told
+abbrev pub shape_of : ToldTable → List ℕ
+shape_of t = map length t.rows
+
 -- ---- how they begin
 
 -- the number of the destination that the links of a set lead to
