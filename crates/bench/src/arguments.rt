@@ -2,6 +2,7 @@
 
 ghost use Rattle.std.specs.Prelude.{◌≤◌, IfSome};
 
+use crate::draft::Sets;
 use crate::failure::Stage;
 use stp_types::Limits;
 
@@ -28,6 +29,22 @@ pub(crate) enum Kind {
     Standing(Stage),
     /// It is held, since the link that it takes comes back; that link fails and returns for each.
     Return,
+    /// There is none: a tick of the clock passes.
+    Tick,
+    /// There is none: the route to the last destination by its set is prohibited, and then allowed.
+    Status,
+    /// There is none: the only link of the first set fails and returns.
+    Entry,
+}
+
+impl Kind {
+    /// How the links make sets: one each, where it counts how many adjacent points are told.
+    pub(crate) fn sets(self) -> Sets {
+        match self {
+            Kind::Tick | Kind::Status | Kind::Entry => Sets::Single,
+            _ => Sets::Full,
+        }
+    }
 }
 
 /// What the words behind the program's name ask for.
@@ -37,14 +54,14 @@ pub(crate) struct Arguments {
     pub octets: usize,
     pub destinations: usize,
     /// Links in the settings. One of them carries the messages; the others are down, but for those of its set before a
-    /// changeover or a return.
+    /// changeover or a return, and where each is a set of its own.
     pub links: usize,
     pub count: u32,
 }
 
 impl Arguments {
-    /// Reads the five words. None where one of them is missing, unknown or out of range, or where each destination is
-    /// the adjacent point of a link set.
+    /// Reads the five words. None where one of them is missing, unknown or out of range, where each destination is the
+    /// adjacent point of a link set, or where there are too many sets.
     pub(crate) fn read(words: &[String]) -> Option<Arguments>
         ensures octets { IfSome result (λ arguments. arguments.octets ≤ Limits.SIF_OCTETS) }
         ensures label { IfSome result (λ arguments. LABEL_OCTETS ≤ arguments.octets) }
@@ -63,7 +80,8 @@ impl Arguments {
         )?;
         let links = within(links.as_str(), 1, Limits::LINKS)?;
         let count = count.as_str().parse::<u32>().ok()?;
-        if destinations <= sets_of(links) {
+        let sets = kind.sets().count(links);
+        if destinations <= sets || sets > Limits::SETS {
             return None;
         }
         Some(Arguments {
@@ -74,14 +92,6 @@ impl Arguments {
             count,
         })
     }
-}
-
-/// How many link sets so many links make, with as many links in each as may be.
-pub(crate) fn sets_of(links: usize) -> usize
-    requires { links ≤ Limits.LINKS }
-    ensures { result ≤ Limits.LINKS }
-{
-    links.div_ceil(Limits::LINKS_PER_SET)
 }
 
 /// The kind of this name.
@@ -96,6 +106,9 @@ fn kind_of(name: &str) -> Option<Kind> {
         "failure" => Some(Kind::Standing(Stage::Failure)),
         "changeover" => Some(Kind::Standing(Stage::Completion)),
         "return" => Some(Kind::Return),
+        "tick" => Some(Kind::Tick),
+        "status" => Some(Kind::Status),
+        "entry" => Some(Kind::Entry),
         _ => None,
     }
 }

@@ -2,9 +2,10 @@
 
 ghost use Rattle.std.specs.Prelude.{◌≤◌};
 
-use crate::arguments::sets_of;
 use std::alloc::{AllocError, Global};
-use stp_types::{DestinationDraft, Draft, Limits, LinkDraft, PointCode, SetDraft, TimersDraft};
+use stp_types::{
+    DestinationDraft, Draft, Limits, LinkDraft, LinkId, PointCode, SetDraft, TimersDraft,
+};
 
 /// The node's own point.
 pub(crate) const OWN: u16 = 1;
@@ -31,17 +32,56 @@ pub(crate) const WINDOW: usize = 128;
 /// The service indicator of the ISDN user part (Q.704 §14.2.1).
 pub(crate) const ISUP: u8 = 5;
 
+/// How links make link sets.
+#[derive(Clone, Copy)]
+pub(crate) enum Sets {
+    /// As many links in each set as may be.
+    Full,
+    /// One link in each set.
+    Single,
+}
+
+impl Sets {
+    /// How many sets so many links make.
+    pub(crate) fn count(self, links: usize) -> usize
+        requires { links ≤ Limits.LINKS }
+        ensures { result ≤ Limits.LINKS }
+    {
+        match self {
+            Sets::Full => links.div_ceil(Limits::LINKS_PER_SET),
+            Sets::Single => links,
+        }
+    }
+
+    /// The set that a link is in.
+    fn set_of(self, link: usize) -> usize {
+        match self {
+            Sets::Full => link / Limits::LINKS_PER_SET,
+            Sets::Single => link,
+        }
+    }
+
+    /// The last link of the first set, where there are so many links.
+    pub(crate) fn last_of_first(self, links: usize) -> LinkId {
+        match self {
+            Sets::Full => LinkId::new((links.clamp(1, Limits::LINKS_PER_SET) - 1) as u8),
+            Sets::Single => LinkId::new(0),
+        }
+    }
+}
+
 /// The settings of a node with so many links, and so many destinations. The adjacent point of each link set is a
 /// destination; the others lie behind the first set.
 pub(crate) fn draft_with(
     alloc: Global,
     destinations: usize,
     links: usize,
+    sets: Sets,
 ) -> Result<Draft, AllocError>
     requires destinations { destinations ≤ Limits.DESTINATIONS }
     requires links { links ≤ Limits.LINKS }
 {
-    let sets = sets_of(links);
+    let set_count = sets.count(links);
     Ok(Draft {
         own: OWN as i64,
         network: INTERNATIONAL as i64,
@@ -50,9 +90,9 @@ pub(crate) fn draft_with(
         users: vec![in alloc; ISUP as i64]?,
         subsystems: Vec::new(alloc),
         timers: timers(),
-        sets: set_drafts(alloc, sets)?,
-        links: link_drafts(alloc, links)?,
-        destinations: destination_drafts(alloc, destinations, sets)?,
+        sets: set_drafts(alloc, set_count)?,
+        links: link_drafts(alloc, links, sets)?,
+        destinations: destination_drafts(alloc, destinations, set_count)?,
         titles: Vec::new(alloc),
     })
 }
@@ -98,13 +138,13 @@ fn set_drafts(alloc: Global, count: usize) -> Result<Vec<SetDraft>, AllocError>
     Ok(sets)
 }
 
-/// So many links, of which each set has as many as it may have.
-fn link_drafts(alloc: Global, count: usize) -> Result<Vec<LinkDraft>, AllocError> {
+/// So many links, in their sets.
+fn link_drafts(alloc: Global, count: usize, sets: Sets) -> Result<Vec<LinkDraft>, AllocError> {
     let mut links = Vec::new(alloc);
     for link in 0..count {
         links.push(LinkDraft {
             name: format!(in alloc; "l{link}")?,
-            set: set_name(alloc, link / Limits::LINKS_PER_SET)?,
+            set: set_name(alloc, sets.set_of(link))?,
             slc: (link % Limits::LINKS_PER_SET) as i64,
         })?;
     }

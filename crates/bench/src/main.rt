@@ -9,10 +9,12 @@ ghost use Rattle.std.specs.Prelude.{◌≤◌};
 
 mod arguments;
 mod draft;
+mod end;
 mod failure;
 mod incoming;
 mod outage;
 mod peer;
+mod routes;
 mod traffic;
 
 use arguments::Arguments;
@@ -43,7 +45,8 @@ fn total_of(alloc: Global, arguments: &Arguments) -> Option<Total>
     requires destinations { arguments.now.destinations ≤ Limits.DESTINATIONS }
     requires links { arguments.now.links ≤ Limits.LINKS }
 {
-    let mut peer = Peer::of_exchange_with(alloc, arguments.destinations, arguments.links)?;
+    let sets = arguments.kind.sets();
+    let mut peer = Peer::of_exchange_with(alloc, arguments.destinations, arguments.links, sets)?;
     carry(&mut peer, arguments);
     Some(peer.total())
 }
@@ -66,7 +69,7 @@ fn report(rt: &HostRuntime, total: Option<Total>) -> io::Result<ExitCode> {
 fn refuse(rt: &HostRuntime) -> io::Result<ExitCode> {
     println!(rt;
         "usage: bench KIND OCTETS DESTINATIONS LINKS COUNT; a KIND is forward, burst, submit, local, acknowledgement, \
-queue, failure, changeover or return"
+queue, failure, changeover, return, tick, status or entry"
     )?;
     Ok(ExitCode::from(1))
 }

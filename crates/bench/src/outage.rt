@@ -1,60 +1,22 @@
 //! A link that fails and returns, again and again, while the others of its set carry its flows.
 
 use crate::draft::{INTERNATIONAL, adjacent, own};
+use crate::end::End;
 use crate::failure::answer_about;
 use crate::incoming::Incoming;
 use crate::peer::Peer;
-use link_number::{Number24, next};
 use mgmt_codec::{MANAGEMENT_OCTETS, Management};
 use stp_types::{Limits, LinkId, Sls};
-
-/// The peer's end of a link, in an epoch of that link.
-#[derive(Clone, Copy)]
-struct End {
-    /// The number of the last message that the peer took.
-    taken: Number24,
-    /// The number of the next message that it sends.
-    next: Number24,
-}
-
-impl End {
-    /// Nothing was taken, and nothing sent.
-    fn first() -> End {
-        End {
-            taken: Number24::zero().previous(),
-            next: Number24::zero(),
-        }
-    }
-
-    /// Takes the next message of a link, and says whether there was one.
-    fn take(&mut self, peer: &mut Peer, link: LinkId) -> bool {
-        let taken = peer.take_by(link);
-        if taken {
-            self.taken = next(self.taken);
-        }
-        taken
-    }
-
-    /// Sends a message that confirms all that was taken.
-    fn send(&mut self, peer: &mut Peer, link: LinkId, message: &mut Incoming) {
-        peer.send_by(link, message, self.taken, self.next);
-        self.next = next(self.next);
-    }
-
-    /// Sends an answer, and takes what acknowledges it.
-    fn answer(&mut self, peer: &mut Peer, link: LinkId, message: &mut Incoming) {
-        self.send(peer, link, message);
-        peer.take_by(link);
-    }
-}
 
 /// The peer's ends of the links of a set, by their numbers.
 type Ends = [End; Limits::LINKS_PER_SET];
 
 /// The last link of the first set fails and returns so many times, and the others of its set carry its flows meanwhile.
-/// Each order and each declaration is answered. Each time a message of the link is held until the last answer came.
+/// Each order and each declaration is answered. Each time a message of the link is held until the last answer came. It
+/// is taken and confirmed, with whatever else the return of the link brings: all of that belongs to the round.
 pub(crate) fn come_and_go(peer: &mut Peer, mut message: Incoming, count: u32) {
     let mut ends = [End::first(); Limits::LINKS_PER_SET];
+    ends[peer.link().index() % Limits::LINKS_PER_SET] = peer.end();
     for number in 0..peer.link().index() {
         let link = LinkId::new(number as u8);
         peer.open(link);
@@ -84,30 +46,29 @@ fn come_back(peer: &mut Peer, ends: &mut Ends, message: &mut Incoming) {
     ends[0].send(peer, LinkId::new(0), message);
     answer_each(peer, ends, link);
     let mut end = End::first();
-    end.take(peer, link);
+    end.settle(peer, link);
     ends[link.index() % Limits::LINKS_PER_SET] = end;
 }
 
-/// Answers the declarations of the return of a link, of which one at most stands on each other link of the set. Their
-/// codes are those from 0 on, in the order of the links.
+/// Answers the declarations of the return of a link, of which one at most stands on each other link of the set.
 fn answer_each(peer: &mut Peer, ends: &mut Ends, returned: LinkId) {
-    let mut code = 0u8;
     for number in 0..Limits::LINKS_PER_SET {
         let link = LinkId::new(number as u8);
-        if link != returned && answer_on(peer, link, &mut ends[number], code) {
-            code = code.wrapping_add(1);
+        if link != returned {
+            answer_on(peer, link, &mut ends[number]);
         }
     }
 }
 
-/// Answers the declaration that stands on a link with a code, and says whether there was one.
-fn answer_on(peer: &mut Peer, link: LinkId, end: &mut End, code: u8) -> bool {
-    let declared = end.take(peer, link);
-    if declared {
+/// Takes the next message of a link, and answers it where it is a declaration.
+fn answer_on(peer: &mut Peer, link: LinkId, end: &mut End) {
+    if !end.take(peer, link) {
+        return;
+    }
+    if let Some(code) = peer.declared() {
         let mut answer = answer_to(peer.selection(), code);
         end.answer(peer, link, &mut answer);
     }
-    declared
 }
 
 /// The peer's answer to a declaration (Q.704 §15.5).

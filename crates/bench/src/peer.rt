@@ -2,7 +2,8 @@
 
 ghost use Rattle.std.specs.Prelude.{◌≤◌, length};
 
-use crate::draft::draft_with;
+use crate::draft::{Sets, draft_with};
+use crate::end::End;
 use crate::incoming::Incoming;
 use exchange::{BUFFER_OCTETS, Event, Exchange};
 use link_number::{Number24, next};
@@ -13,6 +14,21 @@ use stp_types::{Limits, LinkId, Msu, MsuRef, Settings, Sls};
 /// What a link tells on its way into service: Alignment, Proving Normal, Ready.
 const STATUSES: usize = 3;
 
+/// Where the last octet of a frame's length stands (RFC 4165 §2.1).
+const LENGTH_AT: usize = 7;
+
+/// Where the heading of a management message stands in its frame, behind the label (Q.704 §15.1).
+const HEADING_AT: usize = 22;
+
+/// The heading of a changeback declaration (Q.704 §15.5).
+const DECLARATION: u8 = 0x51;
+
+/// Where its changeback code stands, at the end of its frame.
+const CODE_AT: usize = 23;
+
+/// Octets of its frame.
+const DECLARATION_OCTETS: u8 = 24;
+
 /// How many selections a flow can have (Q.704 §2.2.4).
 const SELECTIONS: u8 = 16;
 
@@ -21,10 +37,8 @@ const SELECTIONS: u8 = 16;
 pub(crate) struct Peer {
     exchange: Exchange,
     link: LinkId,
-    /// The number of the last message that the peer took.
-    taken: Number24,
-    /// The number of the next message that it sends.
-    next: Number24,
+    /// The peer's end of that link.
+    end: End,
     /// The number of the next message that it sends on the first link, where that is another one.
     next_by_first: Number24,
     /// Its frame without a message.
@@ -46,19 +60,24 @@ pub(crate) struct Total {
 
 impl Peer {
     /// The peer of an exchange with so many destinations and links. The last link of the first set is in service and
-    /// carries all messages, so that the others of its set are looked at in vain. None where memory ran out.
-    pub(crate) fn of_exchange_with(alloc: Global, destinations: usize, links: usize) -> Option<Peer>
+    /// carries all messages, so that the others of its set are looked at in vain. All that is owed was told and
+    /// confirmed. None where memory ran out.
+    pub(crate) fn of_exchange_with(
+        alloc: Global,
+        destinations: usize,
+        links: usize,
+        sets: Sets,
+    ) -> Option<Peer>
         requires destinations { destinations ≤ Limits.DESTINATIONS }
         requires links { links ≤ Limits.LINKS }
     {
-        let link = last_of_first_set(links);
+        let link = sets.last_of_first(links);
         let submitted = Msu::new(0, &[]).ok()?;
-        let exchange = exchange_with(alloc, destinations, links)?;
+        let exchange = exchange_with(alloc, destinations, links, sets)?;
         let mut peer = Peer {
             exchange,
             link,
-            taken: Number24::zero().previous(),
-            next: Number24::zero(),
+            end: End::first(),
             next_by_first: Number24::zero(),
             empty: Incoming::empty(),
             submitted,
@@ -69,7 +88,17 @@ impl Peer {
             },
         };
         peer.open(link);
+        peer.settle();
         Some(peer)
+    }
+
+    /// Takes and confirms what the adjacent point is told of destinations as the link is in service. It doesn't count.
+    fn settle(&mut self) {
+        let total = self.total;
+        let mut end = self.end;
+        end.settle(self, self.link);
+        self.end = end;
+        self.total = total;
     }
 
     /// Brings a link into service, before its first message.
@@ -102,6 +131,11 @@ impl Peer {
         for _ in 0..STATUSES {
             self.exchange.take(link, &mut self.buffer);
         }
+    }
+
+    /// The peer's end of the link that carries the messages.
+    pub(crate) fn end(&self) -> End {
+        self.end
     }
 
     /// The link that carries the messages.
@@ -153,6 +187,13 @@ impl Peer {
         self.total.frames != frames
     }
 
+    /// The changeback code of the frame that was taken last, where that is a declaration.
+    pub(crate) fn declared(&self) -> Option<u8> {
+        let fits = self.buffer[LENGTH_AT] == DECLARATION_OCTETS;
+        let declares = fits && self.buffer[HEADING_AT] == DECLARATION;
+        declares.then_some(self.buffer[CODE_AT])
+    }
+
     /// Takes a frame from each link of the set before the one that carries the messages, and counts it in.
     pub(crate) fn take_from_others(&mut self) {
         for number in 0..self.link.index() {
@@ -162,15 +203,23 @@ impl Peer {
 
     /// Sends a message in a frame that confirms all that was taken.
     pub(crate) fn send(&mut self, message: &mut Incoming) {
-        let octets = message.numbered(self.taken, self.next);
-        self.next = next(self.next);
+        let octets = message.numbered(self.end.taken, self.end.next);
+        self.end.next = next(self.end.next);
         self.exchange.step(&Event::Frame(self.link, octets));
     }
 
     /// Confirms all that was taken by an empty frame.
     pub(crate) fn confirm(&mut self) {
-        let octets = self.empty.numbered(self.taken, self.next.previous());
+        let octets = self
+            .empty
+            .numbered(self.end.taken, self.end.next.previous());
         self.exchange.step(&Event::Frame(self.link, octets));
+    }
+
+    /// Sends an empty frame on a link with these numbers.
+    pub(crate) fn confirm_by(&mut self, link: LinkId, bsn: Number24, fsn: Number24) {
+        let octets = self.empty.numbered(bsn, fsn);
+        self.exchange.step(&Event::Frame(link, octets));
     }
 
     /// A user part of the exchange hands over a message.
@@ -183,7 +232,7 @@ impl Peer {
 
     /// Takes the next message.
     pub(crate) fn take(&mut self) {
-        self.taken = next(self.taken);
+        self.end.taken = next(self.end.taken);
         self.take_frame();
     }
 
@@ -204,24 +253,36 @@ impl Peer {
         }
     }
 
+    /// Time passes until T1 ends, after which a link that failed as the last one of its set may open again.
+    pub(crate) fn outlast_t1(&mut self) {
+        let ticks = self.exchange.settings().timers().t1;
+        for _ in 0..ticks {
+            self.tick();
+        }
+    }
+
+    /// One tick of the clock passes.
+    pub(crate) fn tick(&mut self) {
+        self.exchange.step(&Event::Tick);
+    }
+
+    /// The peer took so much; what it took besides doesn't count.
+    pub(crate) fn set_total(&mut self, total: Total) {
+        self.total = total;
+    }
+
     /// What the peer took.
     pub(crate) fn total(&self) -> Total {
         self.total
     }
 }
 
-/// The last link of the first set, where a node has so many links.
-fn last_of_first_set(links: usize) -> LinkId {
-    let last = links.clamp(1, Limits::LINKS_PER_SET) - 1;
-    LinkId::new(last as u8)
-}
-
 /// The exchange with so many destinations and links, before its first event. None where memory ran out.
-fn exchange_with(alloc: Global, destinations: usize, links: usize) -> Option<Exchange>
+fn exchange_with(alloc: Global, destinations: usize, links: usize, sets: Sets) -> Option<Exchange>
     requires destinations { destinations ≤ Limits.DESTINATIONS }
     requires links { links ≤ Limits.LINKS }
 {
-    let draft = draft_with(alloc, destinations, links).ok()?;
+    let draft = draft_with(alloc, destinations, links, sets).ok()?;
     let settings = Settings::check(alloc, draft).ok()?;
     Exchange::boot(alloc, settings).ok()
 }

@@ -8,6 +8,7 @@ use crate::failure::change_over;
 use crate::incoming::Incoming;
 use crate::outage::come_and_go;
 use crate::peer::Peer;
+use crate::routes::{change_status, enter, tick};
 use routing_label::Label;
 use stp_types::{Limits, MsuRef, PointCode, Sls};
 
@@ -24,6 +25,7 @@ const FILLING: u8 = 0xaa;
 pub(crate) fn carry(peer: &mut Peer, arguments: &Arguments)
     requires octets { arguments.now.octets ≤ Limits.SIF_OCTETS }
     requires destinations { arguments.now.destinations ≤ Limits.DESTINATIONS }
+    requires links { arguments.now.links ≤ Limits.LINKS }
 {
     let last = OWN + arguments.destinations as u16;
     let to = match arguments.kind {
@@ -50,6 +52,12 @@ pub(crate) fn carry(peer: &mut Peer, arguments: &Arguments)
             let message = Incoming::with_message(SIO, sif);
             come_and_go(peer, message, arguments.count);
         }
+        Kind::Tick => tick(peer, arguments.links, arguments.count),
+        Kind::Status => {
+            let about = PointCode::new(last).unwrap();
+            change_status(peer, about, arguments.links, arguments.count);
+        }
+        Kind::Entry => enter(peer, arguments.links, arguments.count),
     }
 }
 

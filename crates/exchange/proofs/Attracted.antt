@@ -1,18 +1,18 @@
 -- A link that returns to service takes over flows itself, and no flow goes to any other link then: each that changed its link is held.
 use Rattle.std.proofs.Common.{◌≡◌, ◌≢◌, ◌<◌, ◌≤◌, ◌⊎◌, ℕ, zero, suc, Bool, true, false, ◌&&◌, ◌||◌, cond, List, [], ◌∷◌, length, not, refl, ap, sym, ◌∙◌, arith, inl, inr}
-use Rattle.std.specs.Prelude.{Option, Some, None, Contains, find, slice_set, ◌==◌}
+use Rattle.std.specs.Prelude.{Option, Some, None, Contains, find, map, slice_set, ◌==◌}
 use Rattle.std.specs.Option.{option_map, option_or, option_and_then}
 use Rattle.std.proofs.Math.Logic.{⊎_elim}
 use Rattle.std.proofs.lemmas.Bool.{cases_lt, cases_eq}
 use Rattle.std.proofs.lemmas.Option.{same_Some}
-use Rattle.std.proofs.lemmas.List.{get_or_past, get_or-set_same, get_or-set_other, length-set}
+use Rattle.std.proofs.lemmas.List.{get_or_past, get_or-set_same, get_or-set_other, length-set, length-map}
 use Rattle.linkset.specs.declared.link_set.SetLink.{SetLink}
 use Rattle.linkset.specs.Preference.{is_in_service, has_link, preference, first_in_service}
 use Rattle.linkset.proofs.InService.{first_serves}
 use Rattle.route_table.specs.declared.route.Route.{Route}
 use Rattle.route_table.specs.declared.route.RouteStatus.{RouteStatus}
 use Rattle.route_table.specs.declared.route.RouteStatus.TheVariants.{Allowed, Restricted}
-use Rattle.route_table.specs.Facts.{Facts, set_at, routes_to, with_link}
+use Rattle.route_table.specs.Facts.{Facts, set_at, routes_to, with_link, told}
 use Rattle.route_table.specs.Chosen.{status_number, is_open, chosen_link}
 use Rattle.settings_rows.specs.Configuration.{Configuration}
 use Rattle.link_alignment.specs.declared.action.Transition.{Transition}
@@ -24,9 +24,11 @@ use Rattle.exchange.specs.Links.{in_service}
 use Rattle.exchange.specs.Queues.{WholeQueues, whole}
 use Rattle.exchange.specs.Routing.{facts}
 use Rattle.exchange.specs.ChangingBack.{declare_each, take_back}
-use Rattle.exchange.specs.Statuses.{step_on, return_if, advance}
+use Rattle.exchange.specs.Points.{set_of}
+use Rattle.exchange.specs.Failing as failing
+use Rattle.exchange.specs.Statuses.{enters, begun_anew_if, step_on, return_if, advance}
 use Rattle.exchange.specs.Laws.{HasPlacesFor, entries_hold_changed_flows}
-use Rattle.exchange.proofs.Returning.{known_before}
+use Rattle.exchange.proofs.Returning.{known_links}
 use Rattle.exchange.proofs.TakenBack.{IsAlike, declare_each-alike, taken_flows_held}
 use Rattle.exchange.proofs.Belonging.{HasNumber, first-of}
 
@@ -225,8 +227,17 @@ was-out true false e = refl
 was-out true true e = absurd cc
 was-out false b e = absurd cc
 
-stepped-places : (c : Configuration) (link : ℕ) (step : Transition) (p : Parts) → HasPlacesFor c p → HasPlacesFor c (step_on c link step p)
-stepped-places c link step p h = record {
+stepped-places : (c : Configuration) (link : ℕ) (step : Transition) (p : Parts) (first : Bool) → HasPlacesFor c p → HasPlacesFor c (begun_anew_if first c link (step_on c link step p))
+stepped-places c link step p true h = record {
+  few_links = h.few_links;
+  holds = h.holds;
+  links = h.links;
+  sets = h.sets;
+  destinations = h.destinations;
+  routes = length-map p.routes (map (told (set_of c link) Allowed)) ∙ h.routes;
+  codes = h.codes;
+}
+stepped-places c link step p false h = record {
   few_links = h.few_links;
   holds = h.holds;
   links = h.links;
@@ -239,15 +250,17 @@ stepped-places c link step p h = record {
 pub entered_flows_held : entries_hold_changed_flows
 entered_flows_held c link step node destination sls from to fits few entered was is other =
     let before : Facts = facts c node.parts in
-    let next : Node WholeQueues = with_parts node (step_on c link step node.parts) in
+    let first : Bool = enters link step node.parts && not (failing.has_other c link node.parts) in
+    let next : Node WholeQueues = with_parts node (begun_anew_if first c link (step_on c link step node.parts)) in
     let back : advance whole c link step node ≡ take_back whole c link before next =
     ap (λ (b : Bool). return_if whole c b link before next) entered in
     let now : chosen_link (facts c next.parts) destination sls ≡ Some to =
     ap (λ (f : Facts). chosen_link f destination sls) (sym (ap (λ (n : Node WholeQueues). facts c n.parts) back ∙ taken-alike c link before next)) ∙ is in
-    let known : with_link link false (facts c next.parts) ≡ before =
-    known_before c link step node.parts (was-out (state.is_in_service step.state) (in_service node.parts link) entered) in
+    let known : chosen_link (with_link link false (facts c next.parts)) destination sls ≡ chosen_link before destination sls =
+    known_links c link step node.parts first (was-out (state.is_in_service step.state) (in_service node.parts link) entered)
+    (was-out (enters link step node.parts) (failing.has_other c link node.parts)) destination sls in
     let here : to ≡ link =
-    changed-to (facts c next.parts) link destination sls from to (ap (λ (f : Facts). chosen_link f destination sls) known ∙ was) now other in
+    changed-to (facts c next.parts) link destination sls from to (known ∙ was) now other in
     ap (λ (n : Node WholeQueues). is_held n.parts.holds destination sls) back
-    ∙ taken_flows_held c link node.parts next destination sls from (stepped-places c link step node.parts fits) few
+    ∙ taken_flows_held c link node.parts next destination sls from (stepped-places c link step node.parts first fits) few
     (λ same. other (same ∙ sym here)) was (now ∙ ap Some here)

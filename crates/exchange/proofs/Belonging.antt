@@ -20,7 +20,7 @@ use Rattle.route_table.specs.Facts.{Facts, first_sets, set_at}
 use Rattle.route_table.specs.Chosen.{is_open, chosen_set, chosen_link}
 use Rattle.exchange.specs.State.{Parts}
 use Rattle.exchange.specs.Routing.{facts}
-use Rattle.exchange.specs.ChangingBack.{set_of}
+use Rattle.exchange.specs.Points.{set_of}
 
 -- ---- the links of a set
 

@@ -1,14 +1,14 @@
 -- What a completion leaves, once the management messages that it left have gone out anew.
-use Rattle.std.proofs.Common.{◌≡◌, ◌≢◌, ◌<◌, ℕ, suc, not, List, [], ◌++◌, drop, length, ap, sym, ◌∙◌, arith, Option}
+use Rattle.std.proofs.Common.{◌≡◌, ◌≢◌, ◌<◌, ℕ, not, List, [], ◌++◌, drop, length, ap, sym, ◌∙◌, arith, Option}
 use Rattle.std.specs.Prelude.{filter}
 use Rattle.std.proofs.Math.ListN.{set}
-use Rattle.std.proofs.lemmas.List.{set-set, get_or-set_same, get_or-set_other, length-set}
+use Rattle.std.proofs.lemmas.List.{set-set, get_or-set_same, get_or-set_other}
 use Rattle.signalling_types.specs.Message.{Message, is_management}
 use Rattle.cell_pool.specs.Lanes.{lane_at, dropped}
 use Rattle.cell_pool.proofs.Moving.{before-kept}
 use Rattle.link_sequence.specs.Counts.{Counts, kept_emptied}
 use Rattle.changeover.specs.Completion.{users_of}
-use Rattle.changeover.specs.Kept.{kept_accepted_count, kept_done_with, kept_moved}
+use Rattle.changeover.specs.Kept.{kept_accepted_count, kept_done_with}
 use Rattle.changeover.specs.Lanes.{spliced}
 use Rattle.changeover.proofs.Finishing.{behind-done}
 use Rattle.exchange.specs.State.{State, Node, Found, with_node}

@@ -3,13 +3,13 @@ use Rattle.std.proofs.Common.{◌≡◌, ◌≢◌, ◌⊎◌, ℕ, zero, suc, �
 use Rattle.std.proofs.Math.ListN.{set}
 use Rattle.std.proofs.Math.Logic.{⊎_elim}
 use Rattle.std.proofs.lemmas.Bool.{cases_eq}
-use Rattle.std.proofs.lemmas.List.{set-set, set_comm, set-get_or, get_or-set_same, get_or-set_other, drop-append-le, take-append-le, take_all, drop_all, drop-drop, length-set, length-append}
+use Rattle.std.proofs.lemmas.List.{set-set, set_comm, set-get_or, get_or-set_same, get_or-set_other, drop-append-le, take-append-le, take_all, drop_all, length-set, length-append}
 use Rattle.signalling_types.specs.Message.{Message, flow_of}
 use Rattle.settings_rows.specs.Configuration.{Configuration}
 use Rattle.cell_pool.specs.Lanes.{lane_at, pushed, dropped}
 use Rattle.cell_pool.specs.Moves.{first_behind}
 use Rattle.exchange.specs.State.{Parts, Node, State, with_node}
-use Rattle.exchange.specs.Queues.{KeptQueues, kept, held_lane, lane_of}
+use Rattle.exchange.specs.Queues.{KeptQueues, kept, held_lane}
 use Rattle.exchange.specs.Routing.{link_of}
 use Rattle.exchange.specs.Holding.{waits}
 use Rattle.signalling_types.specs.declared.cause.Cause.TheVariants.{NoRoute}

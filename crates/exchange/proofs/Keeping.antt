@@ -1,7 +1,7 @@
 -- What is kept of the node that a rule leaves is what the rule leaves of what was kept, and it stays sound. Each rule once, over any two
 -- kinds of queues P and Q of which h keeps one as the other.
 use Rattle.std.proofs.Common.{◌≡◌, ℕ, zero, suc, Bool, true, false, List, [], ◌∷◌, Option, Some, None, Result, Ok, Err, refl, ap, ◌∙◌}
-use Rattle.std.specs.Prelude.{if◌then◌else◌, nat_eq, length, slice_set}
+use Rattle.std.specs.Prelude.{if◌then◌else◌, nat_eq, nat_lt, length, slice_set, ◌&&◌, not}
 use Rattle.signalling_types.specs.Message.{Message, dpc_of, opc_of, flow_of, is_management, service_indicator}
 use Rattle.settings_rows.specs.Configuration.{Configuration}
 use Rattle.signalling_types.specs.declared.cause.Cause.{Cause}
@@ -39,7 +39,17 @@ use Rattle.link_sequence.specs.declared.fault.SeqFault.{SeqFault}
 use Rattle.signalling_types.specs.declared.notice.ChangeoverTimer.{ChangeoverTimer}
 use Rattle.signalling_types.specs.declared.notice.ChangeoverTimer.TheVariants as changeover
 use Rattle.changeover.specs.Standing.{completed, may_restart}
-use Rattle.stp_types.specs.Readings.{set_place}
+use Rattle.stp_types.specs.Readings.{set_place, destination_place}
+use Rattle.route_table.specs.declared.route.RouteStatus.{RouteStatus}
+use Rattle.route_table.specs.declared.route.RouteStatus.TheVariants.{Allowed, Restricted, Prohibited}
+use Rattle.route_table.specs.Statuses.{status_of}
+use Rattle.route_management.specs.declared.heard.Heard.{Heard}
+use Rattle.route_management.specs.declared.heard.Heard.TheVariants as hears
+use Rattle.route_management.specs.declared.heard.RouteTest.{RouteTest}
+use Rattle.route_management.specs.declared.heard.RouteTest.TheVariants as tests
+use Rattle.route_management.specs.Told as told
+use Rattle.route_management.specs.Owed.{Owed, owed}
+use Rattle.route_management.specs.Hearing as hearing
 use Rattle.route_table.specs.Facts.{Facts}
 use Rattle.flow_hold.specs.declared.procedure.Procedure.{Procedure}
 use Rattle.changeback.specs.Codes.{free_code, is_outstanding}
@@ -49,22 +59,27 @@ use Rattle.exchange.specs.Links.{is_link, link_at, down, in_service}
 use Rattle.exchange.specs.Holding.{waits}
 use Rattle.exchange.specs.Noting.{note_refusal}
 use Rattle.exchange.specs.Routing.{facts, link_of}
-use Rattle.exchange.specs.Arrival.{is_destination, no_room, offer, transfer}
+use Rattle.exchange.specs.Points.{set_of}
+use Rattle.exchange.specs.Queueing.{no_room}
+use Rattle.exchange.specs.Arrival.{is_destination, offer, transfer}
+use Rattle.exchange.specs.Telling as telling
+use Rattle.exchange.specs.Telling.{told_below, route_message, told_parts, answered_parts, inhibited, is_inhibited, may_tell, tell_if, tell_each, tell_owed, prohibit, prohibit_if, answer_no_route, answer_with, test_by, be_tested}
+use Rattle.exchange.specs.Rerouting.{with_status_heard, with_next_test, prohibited_test, restricted_test, heed_status, hear_status, ask_by, ask_again}
 use Rattle.exchange.specs.Made.{send, send_on, send_routed, send_anew}
 use Rattle.exchange.specs.Suspending.{suspended}
 use Rattle.exchange.specs.Local.{is_user, is_adjacent, link_with_code, test_answer, local, do_order, do_acknowledgement, do_read, do_kind, do_test, manage, hand_over}
 use Rattle.exchange.specs.Messages.{whither_goes, deliver_to, deliver, submit_to}
 use Rattle.exchange.specs.Opening.{may_open, begun, open_link, associate, bring_down, part, dissociate, allowed, allow, activate, deactivate, without_association}
-use Rattle.exchange.specs.Failing.{fall, order_about, changeover_of, with_changeover, has_other, changing, drop_out, begin, change_over, fail, follow, fail_by_peer}
+use Rattle.exchange.specs.Failing.{fall, quietened, order_about, changeover_of, with_changeover, has_other, changing, drop_out, begin, change_over, fail, follow, fail_by_peer}
 use Rattle.exchange.specs.ChangingOver.{concluded, answer_about, with_expiry, heard, send_each, conclude, complete_if, heed, complete_by_order, tell, order, acknowledge, expire}
-use Rattle.exchange.specs.Releasing.{go_on, go_by, go, go_each, release, released}
-use Rattle.exchange.specs.ChangingBack.{set_of, declaration, acknowledgement, code_in_use, freed, if_room, procedure_by, usable, code_for, declare_by, holder, declare, declare_each, holders, take_over, end_hold}
-use Rattle.exchange.specs.Statuses.{enters, return_if, advance, step_on, end_busy, serve_status, step_by_status, act_by_status, hear, act_by_timer, run_out}
+use Rattle.exchange.specs.Releasing.{go_on, go_by, go, go_each, release}
+use Rattle.exchange.specs.ChangingBack.{declaration, acknowledgement, code_in_use, freed, if_room, procedure_by, usable, code_for, declare_by, holder, declare, declare_each, holders, take_over, end_hold}
+use Rattle.exchange.specs.Statuses.{enters, moved_on, return_if, advance, end_busy, serve_status, step_by_status, act_by_status, hear, act_by_timer, run_out}
 use Rattle.exchange.specs.Ticking.{with_timers, run_timer, run_due, run_next, run_times, tick}
 use Rattle.exchange.specs.Frames.{Carrying, carries, owing, timed_parts, numbers, accept, carry, handle_by, handle, act_by_data, take_in, receive_frame, leave_aside, read, receive}
 use Rattle.exchange.specs.Sending.{Outgoing, SendsStatus, SendsMessage, Acknowledges, SendsNothing, carried, goes_out, after_sending, frame_taken, after_take}
 use Rattle.exchange.specs.Happening.{Happening, CameUp, WentDown, FrameCame, Ticked, Submitted, Activated, Deactivated}
-use Rattle.exchange.specs.Exchange.{apply, done_by}
+use Rattle.exchange.specs.Exchange.{apply, settled, done_by}
 
 -- y is what h keeps of x, and x is sound
 pub record IsKept {P Q : Type 0} (h : P → Q) (IsFit : P → Type 0) (y : Q) (x : P) : Type 0 where
@@ -138,11 +153,11 @@ module _ {P Q : Type 0} (p : QueueKind P) (q : QueueKind Q) (h : P → Q) (IsFit
   behind : (f : Node Q → Done Q) (s : Done P) (n : Node Q) (m : Node P) → n ≡ keep h m → Keeps (f (keep h m)) s → Keeps (f n) s
   behind f s n m e r = record { same = ap f e ∙ r.same; fit = r.fit }
 
-  -- a release behind a rule
+  -- the end of an event behind a rule
   behind_done : (s : Done P) (t : Done Q) → t ≡ record { outcome = s.outcome; left = keep h s.left }
-      → KeepsNode (release q c (keep h s.left)) (release p c s.left) → Keeps (released q c t) (released p c s)
+      → KeepsNode (tell_owed q c (release q c (keep h s.left))) (tell_owed p c (release p c s.left)) → Keeps (settled q c t) (settled p c s)
   behind_done s t e r = record {
-    same = ap (λ (d : Done Q). released q c d) e ∙ ap (λ (n : Node Q). record { outcome = s.outcome; left = n }) r.same;
+    same = ap (λ (d : Done Q). settled q c d) e ∙ ap (λ (n : Node Q). record { outcome = s.outcome; left = n }) r.same;
     fit = r.fit;
   }
 
@@ -156,24 +171,6 @@ module _ {P Q : Type 0} (p : QueueKind P) (q : QueueKind Q) (h : P → Q) (IsFit
       either (nat_eq (service_indicator m) 3) _ _ (refuse causes.NotInProfile n) (if is_user c (service_indicator m) then answer Local n else refuse causes.NoUserPart n)
       (parted _ n.parts n.queues f)
       (either (is_user c (service_indicator m)) _ _ (answer Local n) (refuse causes.NoUserPart n) (parted _ n.parts n.queues f) (parted _ n.parts n.queues f))
-
-  offer-kept : (room : Option Cause) (waiting : Bool) (link : Option ℕ) (m : Message) (n : Node P) → IsFit n.queues
-      → Keeps (offer q c room waiting link m (keep h n)) (offer p c room waiting link m n)
-  offer-kept (Some cause) waiting link m n f = parted _ n.parts n.queues f
-  offer-kept None true link m n f = answered _ _ _ (changed _ _ n.parts (k.holding n.queues m f))
-  offer-kept None false None m n f = parted _ n.parts n.queues f
-  offer-kept None false (Some link) m n f = answered _ _ _ (changed _ _ n.parts (k.appended n.queues link m f))
-
-  transfer-kept : (m : Message) (n : Node P) → IsFit n.queues → Keeps (transfer q c m (keep h n)) (transfer p c m n)
-  transfer-kept m n f =
-      let held : Bool = waits c n.parts.holds m in
-      let link : Option ℕ = link_of c n.parts (flow_of m) in
-      let e : offer q c (no_room q c m (h n.queues)) held link m (keep h n) ≡ offer q c (no_room p c m n.queues) held link m (keep h n) =
-      ap (λ (r : Option Cause). offer q c r held link m (keep h n)) (no_room-kept m n.queues) in
-      let o : Keeps (offer q c (no_room p c m n.queues) held link m (keep h n)) (offer p c (no_room p c m n.queues) held link m n) =
-      offer-kept (no_room p c m n.queues) held link m n f in
-      either (is_destination c (dpc_of m)) _ _ (offer p c (no_room p c m n.queues) held link m n) (refuse causes.UnknownDestination n)
-      (record { same = e ∙ o.same; fit = o.fit }) (parted _ n.parts n.queues f)
 
   -- ---- management made here
 
@@ -201,6 +198,104 @@ module _ {P Q : Type 0} (p : QueueKind P) (q : QueueKind Q) (h : P → Q) (IsFit
       behind_node (λ (z : Node Q). send_each q c ms z) (send_each p c ms (send_anew p c m n)) _ (send_anew p c m n) e.same
       (send_each-kept ms (send_anew p c m n) e.fit)
 
+  -- ---- what adjacent points are told
+
+  may_tell-kept : (n : Node P) → may_tell q c (keep h n) ≡ may_tell p c n
+  may_tell-kept n = ap (λ (many : ℕ). nat_lt many told_below) (k.managements n.queues)
+
+  -- a test that both kinds answer alike, between nodes
+  alike_node : (b d : Bool) (t u : Node Q) (s v : Node P) → b ≡ d → KeepsNode t s → KeepsNode u v → KeepsNode (if b then t else u) (if d then s else v)
+  alike_node b d t u s v g e f =
+      let r : KeepsNode (if d then t else u) (if d then s else v) = either_node d t u s v e f in
+      record { same = ap (λ (x : Bool). if x then t else u) g ∙ r.same; fit = r.fit }
+
+  tell-kept : (o : Owed) (n : Node P) → IsFit n.queues → KeepsNode (telling.tell q c o (keep h n)) (telling.tell p c o n)
+  tell-kept o n f = send_routed-kept (route_message c o.set o.destination o.status) (with_parts n (told_parts c o n.parts)) f
+
+  tell_if-kept : (o : Owed) (n : Node P) → IsFit n.queues → KeepsNode (tell_if q c o (keep h n)) (tell_if p c o n)
+  tell_if-kept o n f =
+      alike_node (may_tell q c (keep h n)) (may_tell p c n) _ _ (telling.tell p c o n) n (may_tell-kept n) (tell-kept o n f) (record { same = refl; fit = f })
+
+  tell_each-kept : (os : List Owed) (n : Node P) → IsFit n.queues → KeepsNode (tell_each q c os (keep h n)) (tell_each p c os n)
+  tell_each-kept [] n f = record { same = refl; fit = f }
+  tell_each-kept (o ∷ os) n f =
+      let e : KeepsNode (tell_if q c o (keep h n)) (tell_if p c o n) = tell_if-kept o n f in
+      behind_node (λ (z : Node Q). tell_each q c os z) (tell_each p c os (tell_if p c o n)) _ (tell_if p c o n) e.same (tell_each-kept os (tell_if p c o n) e.fit)
+
+  tell_owed-kept : (n : Node P) → IsFit n.queues → KeepsNode (tell_owed q c (keep h n)) (tell_owed p c n)
+  unfolding tell_owed
+  tell_owed-kept n f = tell_each-kept (owed (facts c n.parts) n.parts.told) n f
+
+  prohibit_if-kept : (s d : ℕ) (n : Node P) → IsFit n.queues → KeepsNode (prohibit_if q c s d (keep h n)) (prohibit_if p c s d n)
+  prohibit_if-kept s d n f =
+      alike_node (may_tell q c (keep h n) && not (is_inhibited s d n.parts)) (may_tell p c n && not (is_inhibited s d n.parts)) _ _ (prohibit p c s d n) n
+      (ap (λ (b : Bool). b && not (is_inhibited s d n.parts)) (may_tell-kept n))
+      (send_routed-kept (route_message c s d Prohibited) (with_parts n (inhibited c s d n.parts)) f) (record { same = refl; fit = f })
+
+  answer_no_route-kept : (link place : Option ℕ) (n : Node P) → IsFit n.queues → KeepsNode (answer_no_route q c link place (keep h n)) (answer_no_route p c link place n)
+  answer_no_route-kept (Some l) (Some d) n f = prohibit_if-kept (set_of c l) d n f
+  answer_no_route-kept (Some l) None n f = record { same = refl; fit = f }
+  answer_no_route-kept None place n f = record { same = refl; fit = f }
+
+  answer_with-kept : (status : Option RouteStatus) (s d : ℕ) (n : Node P) → IsFit n.queues → KeepsNode (answer_with q c status s d (keep h n)) (answer_with p c status s d n)
+  answer_with-kept (Some status) s d n f = send_routed-kept (route_message c s d status) (with_parts n (answered_parts s d status n.parts)) f
+  answer_with-kept None s d n f = record { same = refl; fit = f }
+
+  test_by-kept : (test : RouteTest) (s d : ℕ) (n : Node P) → IsFit n.queues → Keeps (test_by q c test s d (keep h n)) (test_by p c test s d n)
+  test_by-kept test s d n f =
+      let status : Option RouteStatus = hearing.answer (facts c n.parts) n.parts.told s d test in
+      either (told.is_adjacent n.parts.told s d) _ _ (answer Ignored n) (answer Handled (answer_with p c status s d n))
+      (parted _ n.parts n.queues f) (answered _ _ _ (answer_with-kept status s d n f))
+
+  be_tested-kept : (test : RouteTest) (set place : Option ℕ) (n : Node P) → IsFit n.queues → Keeps (be_tested q c test set place (keep h n)) (be_tested p c test set place n)
+  be_tested-kept test (Some s) (Some d) n f = test_by-kept test s d n f
+  be_tested-kept test None (Some d) n f = parted _ n.parts n.queues f
+  be_tested-kept test set None n f = parted _ n.parts n.queues f
+
+  -- ---- what they say
+
+  heed_status-kept : (x : Heard) (s d : ℕ) (status : RouteStatus) (n : Node P) → IsFit n.queues → Keeps (heed_status q c x s d status (keep h n)) (heed_status p c x s d status n)
+  heed_status-kept hears.Ignored s d status n f = parted _ n.parts n.queues f
+  heed_status-kept hears.Unchanged s d status n f = parted _ n.parts n.queues f
+  heed_status-kept hears.Changed s d status n f = parted _ (with_status_heard c s d status n.parts) n.queues f
+
+  hear_status-kept : (status : RouteStatus) (set place : Option ℕ) (n : Node P) → IsFit n.queues
+      → Keeps (hear_status q c status set place (keep h n)) (hear_status p c status set place n)
+  hear_status-kept status (Some s) (Some d) n f = heed_status-kept (hearing.heard (facts c n.parts) n.parts.told s d status) s d status n f
+  hear_status-kept status None (Some d) n f = parted _ n.parts n.queues f
+  hear_status-kept status set None n f = parted _ n.parts n.queues f
+
+  ask_by-kept : (status : Option RouteStatus) (s d : ℕ) (n : Node P) → IsFit n.queues → KeepsNode (ask_by q c status s d (keep h n)) (ask_by p c status s d n)
+  ask_by-kept (Some Prohibited) s d n f = send_routed-kept (prohibited_test p c s d) (with_parts n (with_next_test p c s d n.parts)) f
+  ask_by-kept (Some Restricted) s d n f = send_routed-kept (restricted_test p c s d) (with_parts n (with_next_test p c s d n.parts)) f
+  ask_by-kept (Some Allowed) s d n f = record { same = refl; fit = f }
+  ask_by-kept None s d n f = record { same = refl; fit = f }
+
+  ask_again-kept : (s d : ℕ) (n : Node P) → IsFit n.queues → KeepsNode (ask_again q c s d (keep h n)) (ask_again p c s d n)
+  ask_again-kept s d n f =
+      let status : Option RouteStatus = status_of (facts c n.parts) d s in
+      either_node (nat_lt s (length c.sets) && nat_lt d (length c.destinations)) _ _ (ask_by p c status s d n) n (ask_by-kept status s d n f) (record { same = refl; fit = f })
+
+  -- ---- messages for other points
+
+  offer-kept : (room : Option Cause) (waiting : Bool) (link from : Option ℕ) (m : Message) (n : Node P) → IsFit n.queues
+      → Keeps (offer q c room waiting link from m (keep h n)) (offer p c room waiting link from m n)
+  offer-kept (Some cause) waiting link from m n f = parted _ n.parts n.queues f
+  offer-kept None true link from m n f = answered _ _ _ (changed _ _ n.parts (k.holding n.queues m f))
+  offer-kept None false None from m n f = answered _ _ _ (answer_no_route-kept from (destination_place c (dpc_of m)) n f)
+  offer-kept None false (Some link) from m n f = answered _ _ _ (changed _ _ n.parts (k.appended n.queues link m f))
+
+  transfer-kept : (from : Option ℕ) (m : Message) (n : Node P) → IsFit n.queues → Keeps (transfer q c from m (keep h n)) (transfer p c from m n)
+  transfer-kept from m n f =
+      let held : Bool = waits c n.parts.holds m in
+      let link : Option ℕ = link_of c n.parts (flow_of m) in
+      let e : offer q c (no_room q c m (h n.queues)) held link from m (keep h n) ≡ offer q c (no_room p c m n.queues) held link from m (keep h n) =
+      ap (λ (r : Option Cause). offer q c r held link from m (keep h n)) (no_room-kept m n.queues) in
+      let o : Keeps (offer q c (no_room p c m n.queues) held link from m (keep h n)) (offer p c (no_room p c m n.queues) held link from m n) =
+      offer-kept (no_room p c m n.queues) held link from m n f in
+      either (is_destination c (dpc_of m)) _ _ (offer p c (no_room p c m n.queues) held link from m n) (refuse causes.UnknownDestination n)
+      (record { same = e ∙ o.same; fit = o.fit }) (parted _ n.parts n.queues f)
+
   -- ---- a link fails
 
   -- a message about a link, with the number of the last one that was accepted there
@@ -213,7 +308,7 @@ module _ {P Q : Type 0} (p : QueueKind P) (q : QueueKind Q) (h : P → Q) (IsFit
 
   drop_out-kept : (b : Bool) (l : ℕ) (why : FailureReason) (n : Node P) → IsFit n.queues → KeepsNode (drop_out q c b l why (keep h n)) (drop_out p c b l why n)
   drop_out-kept true l why n f = record {
-    same = ap (λ (ms : List Message). with_parts (keep h n) (fall l why (suspended c l ms n.parts))) (k.unconfirmed n.queues l);
+    same = ap (λ (ms : List Message). with_parts (keep h n) (quietened c l (fall l why (suspended c l ms n.parts)))) (k.unconfirmed n.queues l);
     fit = f;
   }
   drop_out-kept false l why n f = record { same = refl; fit = f }
@@ -356,7 +451,7 @@ module _ {P Q : Type 0} (p : QueueKind P) (q : QueueKind Q) (h : P → Q) (IsFit
   return_if-kept false l before n f = record { same = refl; fit = f }
 
   advance-kept : (l : ℕ) (step : Transition) (n : Node P) → IsFit n.queues → KeepsNode (advance q c l step (keep h n)) (advance p c l step n)
-  advance-kept l step n f = return_if-kept (enters l step n.parts) l (facts c n.parts) (with_parts n (step_on c l step n.parts)) f
+  advance-kept l step n f = return_if-kept (enters l step n.parts) l (facts c n.parts) (with_parts n (moved_on c l step n.parts)) f
 
   end_hold-kept : (set : Option ℕ) (code : ℕ) (n : Node P) → IsFit n.queues → Keeps (end_hold q c set code (keep h n)) (end_hold p c set code n)
   end_hold-kept (Some set) code n f =
@@ -392,11 +487,11 @@ module _ {P Q : Type 0} (p : QueueKind P) (q : QueueKind Q) (h : P → Q) (IsFit
   do_read-kept (Ok (EmergencyChangeoverAcknowledgement slc)) z n f = do_acknowledgement-kept (link_with_code c z slc) None n f
   do_read-kept (Ok (ChangebackDeclaration slc code)) z n f = answered _ _ _ (send_routed-kept (acknowledgement c z slc code) n f)
   do_read-kept (Ok (ChangebackAcknowledgement slc code)) z n f = end_hold-kept (set_place c z) code n f
-  do_read-kept (Ok (TransferProhibited about)) z n f = parted _ n.parts n.queues f
-  do_read-kept (Ok (TransferRestricted about)) z n f = parted _ n.parts n.queues f
-  do_read-kept (Ok (TransferAllowed about)) z n f = parted _ n.parts n.queues f
-  do_read-kept (Ok (RouteSetTestProhibited about)) z n f = parted _ n.parts n.queues f
-  do_read-kept (Ok (RouteSetTestRestricted about)) z n f = parted _ n.parts n.queues f
+  do_read-kept (Ok (TransferProhibited about)) z n f = hear_status-kept Prohibited (set_place c z) (destination_place c about) n f
+  do_read-kept (Ok (TransferRestricted about)) z n f = hear_status-kept Restricted (set_place c z) (destination_place c about) n f
+  do_read-kept (Ok (TransferAllowed about)) z n f = hear_status-kept Allowed (set_place c z) (destination_place c about) n f
+  do_read-kept (Ok (RouteSetTestProhibited about)) z n f = be_tested-kept tests.Prohibited (set_place c z) (destination_place c about) n f
+  do_read-kept (Ok (RouteSetTestRestricted about)) z n f = be_tested-kept tests.Restricted (set_place c z) (destination_place c about) n f
 
   manage-kept : (l : ℕ) (m : Message) (n : Node P) → IsFit n.queues → Keeps (manage q c l m (keep h n)) (manage p c l m n)
   manage-kept l m n f =
@@ -413,7 +508,7 @@ module _ {P Q : Type 0} (p : QueueKind P) (q : QueueKind Q) (h : P → Q) (IsFit
   deliver_to-kept : (d : Discrimination) (l : ℕ) (m : Message) (n : Node P) → IsFit n.queues → Keeps (deliver_to q c d l m (keep h n)) (deliver_to p c d l m n)
   deliver_to-kept (whither.Refused cause) l m n f = parted _ n.parts n.queues f
   deliver_to-kept whither.Here l m n f = hand_over-kept l m n f
-  deliver_to-kept whither.Transfer l m n f = transfer-kept m n f
+  deliver_to-kept whither.Transfer l m n f = transfer-kept (Some l) m n f
 
   noted-kept : (l : ℕ) (t : Done Q) (s : Done P) → Keeps t s → Keeps (note_refusal l t) (note_refusal l s)
   noted-kept l t s e = record { same = ap (λ (d : Done Q). note_refusal l d) e.same; fit = e.fit }
@@ -426,7 +521,7 @@ module _ {P Q : Type 0} (p : QueueKind P) (q : QueueKind Q) (h : P → Q) (IsFit
   submit_to-kept whither.Here m n f =
       either (is_management m) _ _ (refuse causes.NotInProfile n) (local c m n) (parted _ n.parts n.queues f) (local-kept m n f)
   submit_to-kept whither.Transfer m n f =
-      either (is_management m) _ _ (refuse causes.NotInProfile n) (transfer p c m n) (parted _ n.parts n.queues f) (transfer-kept m n f)
+      either (is_management m) _ _ (refuse causes.NotInProfile n) (transfer p c None m n) (parted _ n.parts n.queues f) (transfer-kept None m n f)
 
   -- ---- links
 
@@ -512,7 +607,7 @@ module _ {P Q : Type 0} (p : QueueKind P) (q : QueueKind Q) (h : P → Q) (IsFit
   run_timer-kept (name.T4 s code) n f = record { same = refl; fit = f }
   run_timer-kept (name.T6 d) n f = record { same = refl; fit = f }
   run_timer-kept (name.T8 s d) n f = record { same = refl; fit = f }
-  run_timer-kept (name.T10 s d) n f = record { same = refl; fit = f }
+  run_timer-kept (name.T10 s d) n f = ask_again-kept s d n f
 
   run_due-kept : (due : Option TimerName) (n : Node P) → IsFit n.queues → KeepsNode (run_due q c due (keep h n)) (run_due p c due n)
   run_due-kept None n f = record { same = refl; fit = f }
@@ -635,7 +730,9 @@ module _ {P Q : Type 0} (p : QueueKind P) (q : QueueKind Q) (h : P → Q) (IsFit
   unfolding done_by
   done-kept what n f =
       let d : Keeps (apply q c what (keep h n)) (apply p c what n) = apply-kept what n f in
-      behind_done (apply p c what n) _ d.same (release-kept (apply p c what n).left d.fit)
+      let one : Node P = release p c (apply p c what n).left in
+      let e : KeepsNode (release q c (keep h (apply p c what n).left)) one = release-kept (apply p c what n).left d.fit in
+      behind_done (apply p c what n) _ d.same (behind_node (λ (z : Node Q). tell_owed q c z) (tell_owed p c one) _ one e.same (tell_owed-kept one e.fit))
 
   goes_out-kept : (l : ℕ) (n : Node P) → IsFit n.queues → goes_out q c l (keep h n) ≡ goes_out p c l n
   goes_out-kept l n f = rw (k.to_send n.queues l f)

@@ -2,6 +2,8 @@ pub mod Lists
 pub mod Keeping
 pub mod KeptQueues
 pub mod Settling
+pub mod Telling
+pub mod Rooms
 pub mod Draining
 pub mod Suspending
 pub mod Passing

@@ -1,7 +1,6 @@
 -- A release keeps the order of Held, and a completion touches no other link.
 use Rattle.std.proofs.Common.{◌≡◌, ◌≢◌, ◌⊎◌, ◌<◌, ◌&&◌, ◌++◌, ℕ, Bool, true, false, not, List, [], ◌∷◌, length, refl, ap, sym, subst, ◌∙◌, arith, Option, Some, None, nat_eq}
 use Rattle.std.specs.Prelude.{filter, if◌then◌else◌}
-use Rattle.std.proofs.Math.ListN.{set}
 use Rattle.std.proofs.Math.Logic.{⊎_elim}
 use Rattle.std.proofs.lemmas.Bool.{cases_eq, eq-eqb, ne_eqb}
 use Rattle.std.proofs.lemmas.List.{append-nil, append_assoc, get_or-set_same, get_or-set_other, length-set}
@@ -11,11 +10,11 @@ use Rattle.settings_rows.specs.Configuration.{Configuration}
 use Rattle.link_sequence.specs.Queue.{Queue, first_queue, appended, emptied}
 use Rattle.changeover.specs.Completion.{moved}
 use Rattle.changeover.specs.Failure.{goes_by}
-use Rattle.exchange.specs.State.{Parts, Node}
+use Rattle.exchange.specs.State.{Node}
 use Rattle.exchange.specs.Queues.{WholeQueues, queue_at, whole}
 use Rattle.exchange.specs.Routing.{link_of}
 use Rattle.exchange.specs.Holding.{waits}
-use Rattle.exchange.specs.Releasing.{go_on, go_by, go, go_each, release}
+use Rattle.exchange.specs.Releasing.{go_on, go_by, go, go_each}
 use Rattle.exchange.specs.Laws.{goes_on_by, completion_leaves_others, release_keeps_order, moved_before_held}
 
 -- ---- a completion

@@ -13,13 +13,17 @@ use Rattle.link_alignment.specs.declared.action.Action.{Action}
 use Rattle.link_alignment.specs.declared.action.Action.TheVariants as act
 use Rattle.link_alignment.specs.declared.action.Transition.{Transition}
 use Rattle.route_table.specs.Facts.{Facts, with_link}
+use Rattle.route_table.specs.Statuses.{with_statuses_reset}
+use Rattle.route_table.specs.Chosen.{chosen_link}
+use Rattle.route_table.proofs.Resetting.{reset_link}
 use Rattle.node_links.specs.Link.{Link}
 use Rattle.node_links.specs.LinkState.{is_in_service, stepped, down_link}
 use Rattle.node_links.proofs.Serving.{serving_without}
 use Rattle.flow_hold.specs.declared.procedure.Procedure.{Procedure}
-use Rattle.flow_hold.specs.Holds.{HoldTable, is_held, with_hold}
+use Rattle.flow_hold.specs.Holds.{HoldTable, is_held}
 use Rattle.flow_hold.proofs.Holding.{keeps_flows_held}
 use Rattle.changeback.specs.Return.{FlowChange, returned, gives_up, held_by, with_change}
+use Rattle.changeback.proofs.Alike.{returned_alike}
 use Rattle.exchange.specs.State.{QueueKind, Parts, Node, State, with_node, with_parts}
 use Rattle.exchange.specs.Queues.{WholeQueues, KeptQueues, whole, kept}
 use Rattle.exchange.specs.Links.{link_at, in_service}
@@ -27,7 +31,10 @@ use Rattle.exchange.specs.Head.{with_holds}
 use Rattle.exchange.specs.Routing.{sets_in, facts}
 use Rattle.exchange.specs.Holding.{is_held_at, is_flow_held, waits, all_wait}
 use Rattle.exchange.specs.ChangingBack.{code_for, declare_by, holder, declare, declare_each, holders, take_over, take_back}
-use Rattle.exchange.specs.Statuses.{enters, return_if, advance, acted, stepped_by, step_on}
+use Rattle.exchange.specs.Points.{set_of}
+use Rattle.exchange.specs.Failing.{has_other}
+use Rattle.exchange.specs.Statuses.{enters, begun_anew_if, moved_on, return_if, advance, acted, stepped_by, step_on}
+use Rattle.exchange.specs.Entering.{is_first_in, entered}
 
 -- ---- holds are added
 
@@ -117,10 +124,17 @@ module _ (c : Configuration) where
   return_if-waits true link before n w = take_over-waits link (returned link before (facts c n.parts)) n w
   return_if-waits false link before n w = w
 
+  -- nor does it change when all that is known over a set begins anew
+  anew-waits : (b : Bool) (link : ℕ) (p : Parts) (ms : List Message) → all_wait c p.holds ms ≡ true → all_wait c (begun_anew_if b c link p).holds ms ≡ true
+  anew-waits true link p ms w = w
+  anew-waits false link p ms w = w
+
   -- what waited still waits when a link takes a step of its alignment
   pub advance-waits : (link : ℕ) (step : Transition) (n : Node WholeQueues) → all_wait c n.parts.holds n.queues.held ≡ true
       → all_wait c (advance whole c link step n).parts.holds (advance whole c link step n).queues.held ≡ true
-  advance-waits link step n w = return_if-waits (enters link step n.parts) link (facts c n.parts) (with_parts n (step_on c link step n.parts)) w
+  advance-waits link step n w =
+      return_if-waits (enters link step n.parts) link (facts c n.parts) (with_parts n (moved_on c link step n.parts))
+      (anew-waits (enters link step n.parts && not (has_other c link n.parts)) link (step_on c link step n.parts) n.queues.held w)
 
 -- ---- one more link declares
 
@@ -241,21 +255,47 @@ enters_so false d e f = e
 absurd_state : false ≡ true → (u s : State KeptQueues) → u ≡ s
 absurd_state e u s = absurd cc
 
+not_other : (a b : Bool) → (a && not b) ≡ true → b ≡ false
+not_other true false e = refl
+not_other true true e = absurd cc
+not_other false b e = absurd cc
+
+-- once the link that entered is taken out again, each flow takes the link that it took before, also where all that is known over its
+-- set began anew: then that set had no link
+pub known_links : (c : Configuration) (link : ℕ) (step : Transition) (p : Parts) (first : Bool) → in_service p link ≡ false
+    → (first ≡ true → has_other c link p ≡ false) → (destination sls : ℕ)
+    → chosen_link (with_link link false (facts c (begun_anew_if first c link (step_on c link step p)))) destination sls ≡ chosen_link (facts c p) destination sls
+known_links c link step p true e h destination sls =
+    ap (λ (f : Facts). chosen_link (with_statuses_reset (set_of c link) f) destination sls) (known_before c link step p e)
+    ∙ reset_link (facts c p) (set_of c link) destination sls (h refl)
+known_links c link step p false e h destination sls = ap (λ (f : Facts). chosen_link f destination sls) (known_before c link step p e)
+
+not_first : (b : Bool) → not b ≡ true → b ≡ false
+not_first true e = absurd cc
+not_first false e = refl
+
 -- it entered service
 pub entered_service : (a : Action) (s t u : State KeptQueues) (link : ℕ) → t ≡ with_node s (stepped_by s.settings a link s.node)
     → in_service s.node.parts link ≡ false → in_service t.node.parts link ≡ true
-    → u ≡ with_node t (take_back kept t.settings link (with_link link false (known t)) t.node)
+    → u ≡ with_node t (entered kept t.settings link t.node)
     → u ≡ with_node s (acted kept s.settings a link s.node)
 entered_service act.Ignored s t u link e b i f =
     absurd_state (sym b ∙ sym (ap (λ (x : State KeptQueues). in_service x.node.parts link) e) ∙ i) u s
 entered_service act.Fail s t u link e b i f =
     absurd_state (sym b ∙ sym (ap (λ (x : State KeptQueues). in_service x.node.parts link) e) ∙ i) u s
 entered_service (act.Go step) s t u link e b i f =
-    let next : Node KeptQueues = with_parts s.node (step_on s.settings link step s.node.parts) in
+    let c : Configuration = s.settings in
+    let p : Parts = s.node.parts in
+    let first : Bool = not (has_other c link p) in
     let led : is_in_service step.state ≡ true =
-    led_there s.settings link step s.node.parts (sym (ap (λ (x : State KeptQueues). in_service x.node.parts link) e) ∙ i) in
+    led_there c link step p (sym (ap (λ (x : State KeptQueues). in_service x.node.parts link) e) ∙ i) in
+    let anew : Bool → Parts = λ x. begun_anew_if x c link (step_on c link step p) in
+    let known_then : Facts = with_link link false (facts c (anew first)) in
     f
-    ∙ ap (λ (x : State KeptQueues). with_node x (take_back kept x.settings link (with_link link false (known x)) x.node)) e
-    ∙ ap (λ (k : Facts). with_node s (take_back kept s.settings link k next)) (known_before s.settings link step s.node.parts b)
-    ∙ ap (λ (x : Bool). with_node s (return_if kept s.settings x link (facts s.settings s.node.parts) next))
-    (sym (enters_so (is_in_service step.state) (in_service s.node.parts link) led b))
+    ∙ ap (λ (x : State KeptQueues). with_node x (entered kept x.settings link x.node)) e
+    ∙ ap (λ (k : Facts). with_node s (take_back kept c link (with_link link false (facts c (anew (is_first_in k (set_of c link))))) (with_parts s.node (anew (is_first_in k (set_of c link))))))
+    (known_before c link step p b)
+    ∙ ap (λ (changes : List FlowChange). with_node s (take_over kept c link changes (with_parts s.node (anew first))))
+    (returned_alike link known_then (facts c p) (facts c (anew first)) (known_links c link step p first b (not_first (has_other c link p))))
+    ∙ ap (λ (x : Bool). with_node s (return_if kept c x link (facts c p) (with_parts s.node (anew (x && first)))))
+    (sym (enters_so (is_in_service step.state) (in_service p link) led b))

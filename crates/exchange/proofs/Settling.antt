@@ -1,20 +1,26 @@
--- What a release leaves: each message of Held waits, and where each did before, nothing changed.
-use Rattle.std.proofs.Common.{◌≡◌, ℕ, Bool, true, false, ◌&&◌, List, [], ◌∷◌, ◌++◌, Option, Some, None, refl, ap, sym, ◌∙◌}
-use Rattle.std.specs.Prelude.{◌||◌}
-use Rattle.std.specs.List.{list_all}
+-- What a release leaves: each message of Held waits, and where each did before, nothing changed. What is told leaves that so.
+use Rattle.std.proofs.Common.{◌≡◌, ℕ, Bool, true, false, ◌&&◌, not, List, [], ◌∷◌, ◌++◌, Option, Some, None, refl, ap, sym, ◌∙◌}
+use Rattle.std.specs.Prelude.{◌||◌, if◌then◌else◌}
 use Rattle.std.proofs.Math.ListN.{set}
 use Rattle.cell_pool.specs.Lanes.{lane_at, pushed}
 use Rattle.std.proofs.lemmas.List.{append-nil, append_assoc}
 use Rattle.std.proofs.lemmas.List.Folds.{list_all-append}
 use Rattle.signalling_types.specs.Message.{Message, flow_of}
+use Rattle.signalling_types.specs.declared.cause.Cause.{Cause}
 use Rattle.settings_rows.specs.Configuration.{Configuration}
+use Rattle.route_table.specs.declared.route.RouteStatus.TheVariants.{Prohibited}
+use Rattle.route_management.specs.Owed.{Owed, owed}
 use Rattle.flow_hold.specs.Holds.{HoldTable}
-use Rattle.exchange.specs.State.{Parts, Node}
+use Rattle.exchange.specs.State.{Node, with_parts}
 use Rattle.exchange.specs.Queues.{WholeQueues, KeptQueues, kept, whole, lane_of, held_lane}
-use Rattle.exchange.specs.Routing.{link_of}
+use Rattle.exchange.specs.Routing.{facts, link_of}
 use Rattle.exchange.specs.Holding.{waits, all_wait}
 use Rattle.exchange.specs.Releasing.{go_on, go_by, go, go_each, release}
 use Rattle.exchange.specs.Sending.{Outgoing, SendsStatus, SendsMessage, Acknowledges, SendsNothing, goes_out, after_sending, after_take}
+use Rattle.exchange.specs.Points.{set_of}
+use Rattle.exchange.specs.Queueing.{no_room}
+use Rattle.exchange.specs.Made.{send, send_routed}
+use Rattle.exchange.specs.Telling.{route_message, told_parts, inhibited, is_inhibited, may_tell, tell, tell_if, tell_each, tell_owed, prohibit, prohibit_if, answer_no_route}
 
 -- all messages of Held wait for holds that stay as they are
 record Waits (c : Configuration) (holds : HoldTable) (n : Node WholeQueues) : Type 0 where
@@ -160,3 +166,55 @@ nothing_released_kept c n e = stay-by c n.queues.lanes n refl e
 pub or-true : (b d : Bool) → b ≡ false → (b || d) ≡ true → d ≡ true
 or-true true d e f = absurd cc
 or-true false d e f = f
+
+-- ---- what is told leaves Held and the holds as they are
+
+module _ (c : Configuration) (holds : HoldTable) where
+  send-waits : (room : Option Cause) (link : Option ℕ) (m : Message) (n : Node WholeQueues) → Waits c holds n → Waits c holds (send whole c room link m n)
+  send-waits (Some cause) link m n w = record { same = w.same; all = w.all }
+  send-waits None None m n w = record { same = w.same; all = w.all }
+  send-waits None (Some l) m n w = record { same = w.same; all = w.all }
+
+  send_routed-waits : (m : Message) (n : Node WholeQueues) → Waits c holds n → Waits c holds (send_routed whole c m n)
+  send_routed-waits m n w = send-waits (no_room whole c m n.queues) (link_of c n.parts (flow_of m)) m n w
+
+  either-waits : (b : Bool) (n o : Node WholeQueues) → Waits c holds n → Waits c holds o → Waits c holds (if b then n else o)
+  either-waits true n o v w = v
+  either-waits false n o v w = w
+
+  tell-waits : (o : Owed) (n : Node WholeQueues) → Waits c holds n → Waits c holds (tell whole c o n)
+  tell-waits o n w =
+      send_routed-waits (route_message c o.set o.destination o.status) (with_parts n (told_parts c o n.parts)) (record { same = w.same; all = w.all })
+
+  tell_each-waits : (os : List Owed) (n : Node WholeQueues) → Waits c holds n → Waits c holds (tell_each whole c os n)
+  tell_each-waits [] n w = w
+  tell_each-waits (o ∷ os) n w =
+      tell_each-waits os (tell_if whole c o n) (either-waits (may_tell whole c n) (tell whole c o n) n (tell-waits o n w) w)
+
+  prohibit_if-waits : (place destination : ℕ) (n : Node WholeQueues) → Waits c holds n → Waits c holds (prohibit_if whole c place destination n)
+  prohibit_if-waits place destination n w =
+      either-waits (may_tell whole c n && not (is_inhibited place destination n.parts)) (prohibit whole c place destination n) n
+      (send_routed-waits (route_message c place destination Prohibited) (with_parts n (inhibited c place destination n.parts))
+      (record { same = w.same; all = w.all })) w
+
+  turned_away-waits : (link destination : Option ℕ) (n : Node WholeQueues) → Waits c holds n → Waits c holds (answer_no_route whole c link destination n)
+  turned_away-waits (Some link) (Some destination) n w = prohibit_if-waits (set_of c link) destination n w
+  turned_away-waits (Some link) None n w = w
+  turned_away-waits None destination n w = w
+
+-- each message of Held waits, by the holds that the node has
+waits-by : (c : Configuration) (holds : HoldTable) (n : Node WholeQueues) → Waits c holds n → all_wait c n.parts.holds n.queues.held ≡ true
+waits-by c holds n w = ap (λ (t : HoldTable). all_wait c t n.queues.held) w.same ∙ w.all
+
+pub tell_owed-waits : (c : Configuration) (n : Node WholeQueues) → all_wait c n.parts.holds n.queues.held ≡ true
+    → all_wait c (tell_owed whole c n).parts.holds (tell_owed whole c n).queues.held ≡ true
+unfolding tell_owed
+tell_owed-waits c n e =
+    let os : List Owed = owed (facts c n.parts) n.parts.told in
+    waits-by c n.parts.holds (tell_each whole c os n) (tell_each-waits c n.parts.holds os n (record { same = refl; all = e }))
+
+pub answer_no_route-waits : (c : Configuration) (link destination : Option ℕ) (n : Node WholeQueues) → all_wait c n.parts.holds n.queues.held ≡ true
+    → all_wait c (answer_no_route whole c link destination n).parts.holds (answer_no_route whole c link destination n).queues.held ≡ true
+answer_no_route-waits c link destination n e =
+    waits-by c n.parts.holds (answer_no_route whole c link destination n)
+    (turned_away-waits c n.parts.holds link destination n (record { same = refl; all = e }))

@@ -1,6 +1,6 @@
 -- A flow whose link changed by a return is held, and what was held stays held.
 use Rattle.std.proofs.Common.{◌≡◌, ◌≢◌, ◌<◌, ◌≤◌, ℕ, zero, suc, Bool, true, false, ◌||◌, not, List, [], ◌∷◌, length, nat_eq, refl, ap, sym, ◌∙◌, subst, arith, replicate}
-use Rattle.std.specs.Prelude.{Option, Some, None, Contains, slice_index_or, slice_set, if◌then◌else◌}
+use Rattle.std.specs.Prelude.{Option, Some, None, Contains, map, slice_index_or, slice_set, if◌then◌else◌}
 use Rattle.std.proofs.Math.Logic.{⊎_elim}
 use Rattle.std.proofs.lemmas.Bool.{cases_lt, cases_eq, eq-eqb}
 use Rattle.std.proofs.lemmas.Bool.Decides.{nat_tests}
@@ -9,7 +9,8 @@ use Rattle.std.proofs.lemmas.List.Quantifiers.{position-Some}
 use Rattle.signalling_types.specs.declared.cause.Cause.{Cause}
 use Rattle.signalling_types.specs.declared.limits.TheConstants.Limits.{LINKS, CHANGEBACK_CODES}
 use Rattle.settings_rows.specs.Configuration.{Configuration}
-use Rattle.route_table.specs.Facts.{first_routes}
+use Rattle.route_table.specs.declared.route.RouteStatus.TheVariants.{Allowed}
+use Rattle.route_table.specs.Facts.{first_routes, told}
 use Rattle.flow_hold.specs.declared.procedure.Procedure.{Procedure}
 use Rattle.flow_hold.specs.Holds.{HoldTable, is_held, place_of, flow_of, with_mark_at, with_row_hold, with_row_lifted}
 use Rattle.flow_hold.specs.Rows.{marks_at, place_of_flow}
@@ -22,8 +23,9 @@ use Rattle.changeback.proofs.Moved.{each_found}
 use Rattle.exchange.specs.State.{QueueKind, Parts, Node}
 use Rattle.exchange.specs.Queues.{WholeQueues, whole}
 use Rattle.exchange.specs.Routing.{facts}
-use Rattle.exchange.specs.ChangingBack.{set_of, if_room, procedure_by, usable, code_for, declare_by, holder, declare_each, holders}
-use Rattle.exchange.specs.Laws.{HasPlacesFor, changed_flows_are_held, returns_keep_holds, places_at_first, hold_keeps_places, lift_keeps_places, code_keeps_places}
+use Rattle.exchange.specs.Points.{set_of}
+use Rattle.exchange.specs.ChangingBack.{if_room, procedure_by, usable, code_for, declare_by, holder, declare_each, holders}
+use Rattle.exchange.specs.Laws.{HasPlacesFor, changed_flows_are_held, returns_keep_holds, places_at_first, hold_keeps_places, lift_keeps_places, code_keeps_places, status_keeps_places, reset_keeps_places}
 use Rattle.exchange.proofs.Belonging.{IsListed, chosen_listed, chosen_there}
 
 -- ---- the codes of a set are below their count
@@ -252,4 +254,26 @@ places_coded c p set code outstanding h = record {
   destinations = h.destinations;
   routes = h.routes;
   codes = λ other. omega (arith, length-codes p.codes set code other outstanding, h.codes other);
+}
+
+pub places_with_status : status_keeps_places
+places_with_status c p set destination status h = record {
+  few_links = h.few_links;
+  holds = h.holds;
+  links = h.links;
+  sets = h.sets;
+  destinations = h.destinations;
+  routes = length-set p.routes destination (map (told set status) (slice_index_or p.routes destination [])) ∙ h.routes;
+  codes = h.codes;
+}
+
+pub places_reset : reset_keeps_places
+places_reset c p set h = record {
+  few_links = h.few_links;
+  holds = h.holds;
+  links = h.links;
+  sets = h.sets;
+  destinations = h.destinations;
+  routes = length-map p.routes (map (told set Allowed)) ∙ h.routes;
+  codes = h.codes;
 }

@@ -22,13 +22,9 @@ use Rattle.changeback.specs.Return.{FlowChange, returned, gives_up, held_by}
 use Rattle.exchange.specs.State.{QueueKind, Parts, Node, Done, with_parts, answer}
 use Rattle.exchange.specs.Noting.{note}
 use Rattle.exchange.specs.Routing.{facts}
-use Rattle.exchange.specs.Arrival.{no_room, queue_on}
+use Rattle.exchange.specs.Queueing.{no_room, queue_on}
 use Rattle.exchange.specs.Made.{management_to, send_routed}
-use Rattle.exchange.specs.Failing.{entry_of, peer_of}
-
--- the set of a link
-abbrev pub set_of : Configuration → ℕ → ℕ
-set_of c link = (entry_of c link).set
+use Rattle.exchange.specs.Points.{entry_of, set_of, peer_of}
 
 -- the declaration that a link is back, and what answers one
 abbrev pub declaration : Configuration → (link code : ℕ) → Message

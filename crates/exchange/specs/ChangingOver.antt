@@ -1,6 +1,6 @@
 -- How a changeover goes on and ends: by an order or an answer of the peer, or by a timer (Q.704 §5.4 to §5.7, with
 -- the numbers of Q.2210).
-use Rattle.std.specs.Prelude.{ℕ, Bool, true, false, List, [], ◌∷◌, Option, Some, None, if◌then◌else◌}
+use Rattle.std.specs.Prelude.{ℕ, Bool, true, false, List, [], ◌∷◌, Option, None, if◌then◌else◌}
 use Rattle.settings_rows.specs.Configuration.{Configuration}
 use Rattle.signalling_types.specs.Message.{Message, flow_of}
 use Rattle.signalling_types.specs.declared.cause.Cause.{Cause}
@@ -20,7 +20,8 @@ use Rattle.exchange.specs.State.{QueueKind, Parts, Node, Done, Found, with_parts
 use Rattle.exchange.specs.Links.{is_link, down}
 use Rattle.exchange.specs.Noting.{note, flagged}
 use Rattle.exchange.specs.Made.{management_to, send_routed, send_anew}
-use Rattle.exchange.specs.Failing.{entry_of, peer_of, changeover_of, with_changeover, fail_by_peer}
+use Rattle.exchange.specs.Points.{entry_of, peer_of}
+use Rattle.exchange.specs.Failing.{changeover_of, with_changeover, fail_by_peer}
 
 -- a user message is lost: that is noted
 abbrev pub lose : Cause → Message → Parts → Parts

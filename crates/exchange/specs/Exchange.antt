@@ -11,7 +11,8 @@ use Rattle.exchange.specs.Opening.{associate, dissociate, activate, deactivate, 
 use Rattle.exchange.specs.Ticking.{tick}
 use Rattle.exchange.specs.Frames.{receive}
 use Rattle.exchange.specs.Messages.{submit}
-use Rattle.exchange.specs.Releasing.{released}
+use Rattle.exchange.specs.Releasing.{release}
+use Rattle.exchange.specs.Telling.{tell_owed}
 use Rattle.exchange.specs.Sending.{frame_taken, after_take}
 
 -- each event has its rule
@@ -24,9 +25,12 @@ apply q c (Submitted message) node = submit q c message node
 apply q c (Activated link) node = activate q c link node
 apply q c (Deactivated link) node = deactivate q c link node
 
--- then what is held no longer goes on
+-- then what is held no longer goes on, and adjacent points are told what they are owed
+abbrev pub settled : {Q : Type 0} → QueueKind Q → Configuration → Done Q → Done Q
+settled q c d = record d { left = tell_owed q c (release q c d.left) }
+
 unfoldable pub done_by : {Q : Type 0} → QueueKind Q → Configuration → Happening → Node Q → Done Q
-done_by q c what node = released q c (apply q c what node)
+done_by q c what node = settled q c (apply q c what node)
 
 -- what becomes of an event
 abbrev pub outcome_of : {Q : Type 0} → QueueKind Q → Happening → State Q → Outcome

@@ -1,6 +1,6 @@
 -- The failure of a link, and the changeover that it begins (Q.704 §5.2, §5.3).
-use Rattle.std.specs.Prelude.{ℕ, Bool, true, false, [], slice_index_or, if◌then◌else◌}
-use Rattle.settings_rows.specs.Configuration.{Configuration, LinkEntry, SetEntry}
+use Rattle.std.specs.Prelude.{ℕ, Bool, true, false, if◌then◌else◌}
+use Rattle.settings_rows.specs.Configuration.{Configuration}
 use Rattle.signalling_types.specs.Message.{Message}
 use Rattle.signalling_types.specs.declared.notice.FailureReason.{FailureReason}
 use Rattle.signalling_types.specs.declared.notice.FailureReason.TheVariants as reasons
@@ -19,17 +19,12 @@ use Rattle.exchange.specs.Noting.{note}
 use Rattle.exchange.specs.Routing.{facts}
 use Rattle.exchange.specs.Made.{management_to, send_routed}
 use Rattle.exchange.specs.Suspending.{suspended}
-
--- the row of a link in the settings, and the point that the links of its set lead to
-abbrev pub entry_of : Configuration → ℕ → LinkEntry
-entry_of c link = slice_index_or c.links link (record { name = []; set = 0; slc = 0 })
-
-abbrev pub peer_of : Configuration → ℕ → ℕ
-peer_of c link = (slice_index_or c.sets (entry_of c link).set (record { name = []; adjacent = 0 })).adjacent
+use Rattle.exchange.specs.Points.{entry_of, set_of, peer_of}
+use Rattle.exchange.specs.Rerouting.{without_tests}
 
 -- whether a link of the same set is in service
 abbrev pub has_other : Configuration → ℕ → Parts → Bool
-has_other c link p = has_link (facts c p).in_service (set_at (facts c p) (entry_of c link).set)
+has_other c link p = has_link (facts c p).in_service (set_at (facts c p) (set_of c link))
 
 -- the order to change over from a link, with the number of the last message that was accepted on it
 abbrev pub order_about : Configuration → ℕ → ℕ → Message
@@ -48,6 +43,10 @@ fall link why p =
     note (notices.Failed link why)
     (record p { links = links_with p link (fallen (link_at p link)); timers = without_timers link p.timers })
 
+-- where it was the last of its set, its point is tested about no route any more
+abbrev pub quietened : Configuration → ℕ → Parts → Parts
+quietened c link p = if has_other c link p then p else without_tests (set_of c link) p
+
 -- T2 runs where an order goes out, else T1
 abbrev pub timed_changeover : Configuration → (ordered : Bool) → ℕ → Running → Running
 timed_changeover c ordered link r =
@@ -64,7 +63,8 @@ module _ {Q : Type 0} (q : QueueKind Q) (c : Configuration) where
   -- a link goes down. In service, the flows that its changeover is to hold are held first: until then it is their link
   abbrev pub drop_out : (serving : Bool) → ℕ → FailureReason → Node Q → Node Q
   drop_out true link why node =
-      with_parts node (fall link why (suspended c link (q.unconfirmed node.queues link) node.parts))
+      with_parts node
+      (quietened c link (fall link why (suspended c link (q.unconfirmed node.queues link) node.parts)))
   drop_out false link why node = with_parts node (fall link why node.parts)
 
   -- where a link of its set is left, an order goes out

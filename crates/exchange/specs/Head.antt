@@ -1,5 +1,5 @@
 -- What is read of a message that stands in a list, and what is done by it.
-use Rattle.std.specs.Prelude.{ℕ, Bool, true, false, not, ◌&&◌, Option, Some, None, if◌then◌else◌}
+use Rattle.std.specs.Prelude.{ℕ, Bool, not, ◌&&◌, Option, Some, None, if◌then◌else◌}
 use Rattle.signalling_types.specs.Message.{Message, is_management}
 use Rattle.settings_rows.specs.Configuration.{Configuration}
 use Rattle.stp_types.specs.Readings.{destination_place}

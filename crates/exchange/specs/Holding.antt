@@ -1,11 +1,11 @@
 -- Flows that are held, and the messages of Held (Q.704 §5.4).
-use Rattle.std.specs.Prelude.{ℕ, Bool, true, false, ◌&&◌, not, Option, Some, None, List}
+use Rattle.std.specs.Prelude.{ℕ, Bool, false, ◌&&◌, not, Option, Some, None, List}
 use Rattle.std.specs.List.{list_all}
 use Rattle.signalling_types.specs.Message.{Message, flow_of, is_management}
 use Rattle.settings_rows.specs.Configuration.{Configuration}
 use Rattle.stp_types.specs.Readings.{destination_place}
 use Rattle.flow_hold.specs.Holds.{HoldTable, is_held}
-use Rattle.exchange.specs.State.{QueueKind, Parts, Node}
+use Rattle.exchange.specs.State.{QueueKind, Node}
 
 -- whether a flow to a destination, by its place in the settings, has a hold
 abbrev pub is_held_at : HoldTable → Option ℕ → (sls : ℕ) → Bool

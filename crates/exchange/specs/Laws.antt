@@ -3,6 +3,7 @@ use Rattle.settings_rows.specs.Configuration.{Configuration}
 use Rattle.std.specs.Prelude.{◌≡◌, ◌≢◌, ◌<◌, ◌≤◌, ◌&&◌, ◌++◌, ℕ, Bool, true, not, length, filter}
 use Rattle.std.specs.Prelude.{Option, Some, None, Result, Ok, Err, if◌then◌else◌}
 use Rattle.signalling_types.specs.declared.cause.Cause.{Cause}
+use Rattle.signalling_types.specs.declared.cause.Cause.TheVariants.{NoRoute}
 use Rattle.signalling_types.specs.declared.limits.TheConstants.Limits.{LINKS, CHANGEBACK_CODES}
 use Rattle.signalling_types.specs.declared.notice.Notice.TheVariants as notices
 use Rattle.signalling_types.specs.declared.notice.FrameFault.{FrameFault}
@@ -21,9 +22,12 @@ use Rattle.exchange.specs.Noting.{note}
 use Rattle.exchange.specs.Statuses.{enters, advance}
 use Rattle.exchange.specs.Frames.{Carrying, numbers, accept, data_of}
 use Rattle.exchange.specs.Happening.{Happening, CameUp, WentDown, FrameCame, Ticked, Submitted, Activated, Deactivated}
-use Rattle.signalling_types.specs.Message.{Message, flow_of}
+use Rattle.std.specs.Option.{option_and_then}
+use Rattle.signalling_types.specs.Message.{Message, dpc_of, flow_of}
+use Rattle.stp_types.specs.Readings.{destination_place}
 use Rattle.changeover.specs.Completion.{moved}
 use Rattle.changeover.specs.Failure.{goes_by}
+use Rattle.route_table.specs.declared.route.RouteStatus.{RouteStatus}
 use Rattle.route_table.specs.Facts.{Facts}
 use Rattle.route_table.specs.Chosen.{chosen_link}
 use Rattle.flow_hold.specs.declared.procedure.Procedure.{Procedure}
@@ -35,9 +39,11 @@ use Rattle.exchange.specs.Routing.{facts, link_of}
 use Rattle.exchange.specs.ChangingBack.{take_back}
 use Rattle.exchange.specs.Holding.{waits}
 use Rattle.exchange.specs.Releasing.{release}
+use Rattle.exchange.specs.Rerouting.{forced, with_set_reset}
+use Rattle.exchange.specs.Telling.{is_all_told, answer_no_route, tell_owed}
 use Rattle.exchange.specs.Queues.{WholeQueues, queue_at, whole}
 use Rattle.exchange.specs.Exchange.{outcome_of, after, frame_to_take, taken}
-use Rattle.exchange.specs.Stands.{Abstract, IsSound, first_parts}
+use Rattle.exchange.specs.Stands.{Abstract, IsSound, first_parts, first_state}
 
 -- the node after User Data was accepted on a link in service
 abbrev pub accepted_here : ℕ → Carrying → Configuration → Node WholeQueues → Node WholeQueues
@@ -60,8 +66,23 @@ abbrev pub accept_text : ℕ → Result FrameValue FrameFault → Abstract → N
 accept_text link (Ok frame) a = accept_frame (data_of frame) link a.settings a.node
 accept_text link (Err fault) a = a.node
 
--- the state after a refused event: a message in a frame leaves what accepting its frame did, and a notice; any other
--- event changes nothing
+-- the message that a frame of this text carries
+abbrev pub carried_message : Result FrameValue FrameFault → Option Message
+carried_message (Ok frame) = option_and_then (λ d. d.message) (data_of frame)
+carried_message (Err fault) = None
+
+-- one that found no route is answered
+abbrev pub answered_no_route : Cause → ℕ → Option Message → Configuration → Node WholeQueues → Node WholeQueues
+answered_no_route NoRoute link (Some m) c node =
+    answer_no_route whole c (Some link) (destination_place c (dpc_of m)) node
+answered_no_route cause link m c node = node
+
+-- and the refusal is noted
+abbrev pub noted : Cause → ℕ → Node WholeQueues → Node WholeQueues
+noted cause link node = with_parts node (note (notices.Refused cause link) node.parts)
+
+-- the state after a refused event: a message in a frame leaves what accepting its frame did, what answered it, a
+-- notice, and what then found room to be told; any other event changes nothing
 abbrev pub after_refusal : Happening → Cause → Abstract → Abstract
 after_refusal (CameUp link) cause a = a
 after_refusal (WentDown link) cause a = a
@@ -71,14 +92,29 @@ after_refusal (Activated link) cause a = a
 after_refusal (Deactivated link) cause a = a
 after_refusal (FrameCame link text) cause a =
     let node : Node WholeQueues = accept_text link (read_frame text) a in
+    let answered : Node WholeQueues =
+    answered_no_route cause link (carried_message (read_frame text)) a.settings node in
     if is_link a.node.parts link
-    then with_node a (with_parts node (note (notices.Refused cause link) node.parts))
+    then with_node a (tell_owed whole a.settings (noted cause link answered))
     else a
 
 abbrev pub refusals_leave : Type 0
 refusals_leave =
     (what : Happening) (a : Abstract) (cause : Cause) → IsSound a → outcome_of whole what a ≡ Refused cause →
     after whole what a ≡ after_refusal what cause a
+
+-- at first, after each event and after each frame that goes out, nothing is owed that finds room
+abbrev pub first_is_told : Type 0
+first_is_told = (c : Configuration) → is_all_told whole c (first_state c).node ≡ true
+
+abbrev pub events_tell_all : Type 0
+events_tell_all =
+    (what : Happening) (a : Abstract) → is_all_told whole a.settings (after whole what a).node ≡ true
+
+abbrev pub takes_owe_nothing : Type 0
+takes_owe_nothing =
+    (a : Abstract) (link : ℕ) → is_all_told whole a.settings a.node ≡ true →
+    is_all_told whole a.settings (taken whole a link).node ≡ true
 
 -- a take that gives nothing changes nothing
 abbrev pub nothing_taken_leaves : Type 0
@@ -176,6 +212,15 @@ abbrev pub lift_keeps_places : Type 0
 lift_keeps_places =
     (c : Configuration) (p : Parts) (procedure : Procedure) → HasPlacesFor c p →
     HasPlacesFor c (record p { holds = lifted p.holds procedure })
+
+abbrev pub status_keeps_places : Type 0
+status_keeps_places =
+    (c : Configuration) (p : Parts) (set destination : ℕ) (status : RouteStatus) → HasPlacesFor c p →
+    HasPlacesFor c (forced c set destination status p)
+
+abbrev pub reset_keeps_places : Type 0
+reset_keeps_places =
+    (c : Configuration) (p : Parts) (set : ℕ) → HasPlacesFor c p → HasPlacesFor c (with_set_reset c set p)
 
 abbrev pub code_keeps_places : Type 0
 code_keeps_places =

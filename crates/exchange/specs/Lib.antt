@@ -4,8 +4,12 @@ pub mod Routing
 pub mod Timing
 pub mod Noting
 pub mod Holding
-pub mod Arrival
+pub mod Points
+pub mod Queueing
 pub mod Made
+pub mod Telling
+pub mod Rerouting
+pub mod Arrival
 pub mod Suspending
 pub mod Failing
 pub mod ChangingOver
@@ -15,6 +19,7 @@ pub mod Local
 pub mod Messages
 pub mod Opening
 pub mod Statuses
+pub mod Entering
 pub mod Ticking
 pub mod Frames
 pub mod Carried

@@ -5,7 +5,7 @@ use Rattle.std.specs.Option.{option_and_then}
 use Rattle.std.specs.List.{list_any}
 use Rattle.signalling_types.specs.Message.{Message, service_indicator, opc_of, is_management}
 use Rattle.settings_rows.specs.Configuration.{Configuration}
-use Rattle.stp_types.specs.Readings.{set_place}
+use Rattle.stp_types.specs.Readings.{set_place, destination_place}
 use Rattle.signalling_types.specs.declared.cause.Cause.{Cause}
 use Rattle.signalling_types.specs.declared.cause.Cause.TheVariants.{NotInProfile, NoUserPart, BadManagement}
 use Rattle.signalling_types.specs.declared.cause.Cause.TheVariants.{NotFromAdjacent}
@@ -28,10 +28,14 @@ use Rattle.mgmt_codec.specs.declared.management.Management.TheVariants.{RouteSet
 use Rattle.mgmt_codec.specs.declared.management.Management.TheVariants.{RouteSetTestRestricted}
 use Rattle.mgmt_codec.specs.LinkTests.{LinkTestValue, read_link_test, spelled, answer_to}
 use Rattle.mgmt_codec.specs.Management.{read_management}
+use Rattle.route_table.specs.declared.route.RouteStatus.TheVariants as status
+use Rattle.route_management.specs.declared.heard.RouteTest.TheVariants as test
 use Rattle.exchange.specs.State.{QueueKind, Node, Done, answer, refuse}
 use Rattle.exchange.specs.Made.{own_sio, send_on}
 use Rattle.exchange.specs.ChangingOver.{order, acknowledge}
 use Rattle.exchange.specs.ChangingBack.{confirm, end_hold}
+use Rattle.exchange.specs.Rerouting.{hear_status}
+use Rattle.exchange.specs.Telling.{be_tested}
 
 -- the service indicators of tests and of SCCP; that of management is 0
 abbrev pub testing : ℕ
@@ -91,8 +95,7 @@ module _ {Q : Type 0} (q : QueueKind Q) (c : Configuration) where
   do_acknowledgement (Some link) number node = acknowledge q c link number node
   do_acknowledgement None number node = refuse BadManagement node
 
-  -- a management message from a point; that it has restarted asks nothing of this node, and those about routes are
-  -- refused
+  -- a management message from a point; that it has restarted asks nothing of this node
   abbrev pub do_management : Management → ℕ → Node Q → Done Q
   do_management TrafficRestartAllowed point node = answer Ignored node
   do_management (ExtendedChangeoverOrder slc number) point node =
@@ -105,11 +108,16 @@ module _ {Q : Type 0} (q : QueueKind Q) (c : Configuration) where
       do_acknowledgement (link_with_code c point slc) None node
   do_management (ChangebackDeclaration slc code) point node = confirm q c point slc code node
   do_management (ChangebackAcknowledgement slc code) point node = end_hold q c (set_place c point) code node
-  do_management (TransferProhibited about) point node = refuse NotInProfile node
-  do_management (TransferRestricted about) point node = refuse NotInProfile node
-  do_management (TransferAllowed about) point node = refuse NotInProfile node
-  do_management (RouteSetTestProhibited about) point node = refuse NotInProfile node
-  do_management (RouteSetTestRestricted about) point node = refuse NotInProfile node
+  do_management (TransferProhibited about) point node =
+      hear_status q c status.Prohibited (set_place c point) (destination_place c about) node
+  do_management (TransferRestricted about) point node =
+      hear_status q c status.Restricted (set_place c point) (destination_place c about) node
+  do_management (TransferAllowed about) point node =
+      hear_status q c status.Allowed (set_place c point) (destination_place c about) node
+  do_management (RouteSetTestProhibited about) point node =
+      be_tested q c test.Prohibited (set_place c point) (destination_place c about) node
+  do_management (RouteSetTestRestricted about) point node =
+      be_tested q c test.Restricted (set_place c point) (destination_place c about) node
 
   abbrev pub do_read : Result Management MgmtFault → ℕ → Node Q → Done Q
   do_read (Err fault) point node = refuse (cause_of fault) node

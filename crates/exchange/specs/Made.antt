@@ -1,5 +1,5 @@
 -- Management that this node makes, or that a link left over when it failed.
-use Rattle.std.specs.Prelude.{ℕ, true, ◌+◌, ◌*◌, Option, Some, None}
+use Rattle.std.specs.Prelude.{ℕ, ◌+◌, ◌*◌, Option, Some, None}
 use Rattle.signalling_types.specs.Message.{Message, dpc_of, flow_of}
 use Rattle.settings_rows.specs.Configuration.{Configuration}
 use Rattle.signalling_types.specs.declared.cause.Cause.{Cause}
@@ -10,7 +10,7 @@ use Rattle.mgmt_codec.specs.Management.{management_octets}
 use Rattle.exchange.specs.State.{QueueKind, Parts, Node, with_parts}
 use Rattle.exchange.specs.Noting.{note, flagged}
 use Rattle.exchange.specs.Routing.{link_of}
-use Rattle.exchange.specs.Arrival.{no_room, queue_on}
+use Rattle.exchange.specs.Queueing.{no_room, queue_on}
 
 -- the service information octet of a message made here: its service indicator, and the network of this node
 abbrev pub own_sio : Configuration → ℕ → ℕ

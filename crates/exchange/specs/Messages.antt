@@ -1,5 +1,5 @@
 -- A message: where it goes, and what becomes of it.
-use Rattle.std.specs.Prelude.{ℕ, nat_lt, length, if◌then◌else◌}
+use Rattle.std.specs.Prelude.{ℕ, nat_lt, length, Some, None, if◌then◌else◌}
 use Rattle.signalling_types.specs.Message.{Message, is_management}
 use Rattle.settings_rows.specs.Configuration.{Configuration}
 use Rattle.signalling_types.specs.declared.limits.TheConstants.Limits.{SIF_OCTETS}
@@ -23,7 +23,7 @@ module _ {Q : Type 0} (q : QueueKind Q) (c : Configuration) where
   abbrev pub deliver_to : Discrimination → ℕ → Message → Node Q → Done Q
   deliver_to (whither.Refused cause) link m node = refuse cause node
   deliver_to whither.Here link m node = hand_over q c link m node
-  deliver_to whither.Transfer link m node = transfer q c m node
+  deliver_to whither.Transfer link m node = transfer q c (Some link) m node
 
   -- a message in a frame, with the link that it came by: where it is refused, that is noted
   abbrev pub deliver : ℕ → Message → Node Q → Done Q
@@ -33,7 +33,7 @@ module _ {Q : Type 0} (q : QueueKind Q) (c : Configuration) where
   abbrev pub submit_to : Discrimination → Message → Node Q → Done Q
   submit_to (whither.Refused cause) m node = refuse cause node
   submit_to whither.Here m node = (if is_management m then refuse NotInProfile node else local c m node)
-  submit_to whither.Transfer m node = (if is_management m then refuse NotInProfile node else transfer q c m node)
+  submit_to whither.Transfer m node = (if is_management m then refuse NotInProfile node else transfer q c None m node)
 
   -- a message that a user part hands over
   abbrev pub submit : Message → Node Q → Done Q

@@ -1,11 +1,11 @@
--- Release: after each event the messages of Held whose flows have no hold any more go on (Q.704 §5.4).
+-- Release: at the end of each event the messages of Held whose flows have no hold any more go on (Q.704 §5.4).
 use Rattle.std.specs.Prelude.{ℕ, Bool, true, false, List, [], ◌∷◌, Option, Some, None}
 use Rattle.signalling_types.specs.Message.{Message, flow_of}
 use Rattle.settings_rows.specs.Configuration.{Configuration}
 use Rattle.signalling_types.specs.declared.cause.Cause.TheVariants.{NoRoute}
-use Rattle.exchange.specs.State.{QueueKind, Node, Done, with_parts}
+use Rattle.exchange.specs.State.{QueueKind, Node, with_parts}
 use Rattle.exchange.specs.Routing.{link_of}
-use Rattle.exchange.specs.Arrival.{queue_on}
+use Rattle.exchange.specs.Queueing.{queue_on}
 use Rattle.exchange.specs.Holding.{waits, hold}
 use Rattle.exchange.specs.ChangingOver.{lose}
 
@@ -31,7 +31,3 @@ module _ {Q : Type 0} (q : QueueKind Q) (c : Configuration) where
   abbrev pub release : Node Q → Node Q
   release node =
       go_each (q.held node.queues) (record node { queues = q.without_held node.queues })
-
-  -- the end of each event
-  abbrev pub released : Done Q → Done Q
-  released d = record d { left = release d.left }

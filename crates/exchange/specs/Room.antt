@@ -1,7 +1,10 @@
 -- How an exchange lies in its parts, and the room that they have.
 use Rattle.signalling_types.specs.declared.limits.TheConstants.Limits.{NOTICES}
-use Rattle.std.specs.Prelude.{◌≡◌, ◌+◌, ◌||◌, true, length, vec_len}
+use Rattle.std.specs.Prelude.{◌≡◌, ◌+◌, ◌||◌, true, length, replicate, vec_len}
 use Rattle.cell_pool.specs.Lanes.{lane_at}
+use Rattle.node_links.specs.Network.{facts_of}
+use Rattle.route_management.specs.Told.{shape_of}
+use Rattle.route_management.specs.Owed.{owes_nothing}
 use Rattle.exchange.specs.Holding.{all_wait}
 use Rattle.exchange.specs.State.{State}
 use Rattle.exchange.specs.Routing.{sets_in}
@@ -16,6 +19,7 @@ kept_in e = record {
     parts = record {
       links = e.links.links;
       routes = e.links.routes;
+      told = e.told;
       changeovers = e.changeovers;
       codes = e.changeback;
       holds = e.holds;
@@ -28,8 +32,9 @@ kept_in e = record {
 }
 
 -- Held and each link have their list, each link its numbers, its state and its changeover, and links and sets are those
--- of the settings; the pool and the notices have the room that they are to have; unless a release is due, each message
--- of Held waits
+-- of the settings; the pool and the notices have the room that they are to have; of each set it is known what its point
+-- was told of each destination. Unless a release is due, each message of Held waits; unless telling is due, no adjacent
+-- point is owed anything
 pub record HasRoom (e : Inside) : Type 0 where
   pub lanes : length e.lanes.lists ≡ length e.links.links + 1
   pub sequences : vec_len e.sequences ≡ length e.links.links
@@ -38,4 +43,6 @@ pub record HasRoom (e : Inside) : Type 0 where
   pub sets : e.links.sets ≡ sets_in e.settings
   pub pool : e.lanes.pool ≡ e.settings.pool
   pub notices : e.notices.capacity ≡ NOTICES
+  pub told : shape_of e.told ≡ replicate (length e.settings.sets) (length e.settings.destinations)
   pub waiting : (e.release_due || all_wait e.settings e.holds (lane_at e.lanes.lists held_lane)) ≡ true
+  pub telling : (e.telling_due || owes_nothing (facts_of e.links) e.told) ≡ true

@@ -48,17 +48,17 @@ frame_from last_accepted last_sent Acknowledges = Some (EmptyFrame last_accepted
 frame_from last_accepted last_sent SendsNothing = None
 
 -- the status that waited longest waits no more
-abbrev pub told : ℕ → Parts → Parts
-told link p = with_link p link (record (link_at p link) { waiting = drop 1 (link_at p link).waiting })
+abbrev pub without_status : ℕ → Parts → Parts
+without_status link p = with_link p link (record (link_at p link) { waiting = drop 1 (link_at p link).waiting })
 
 -- no acknowledgement is owed any more
-abbrev pub settled : Link → Link
-settled l = record l { acknowledgement_owed = false }
+abbrev pub without_owed : Link → Link
+without_owed l = record l { acknowledgement_owed = false }
 
 -- a message goes out, where so many are unconfirmed
 abbrev pub carried : Configuration → ℕ → (outstanding : ℕ) → Parts → Parts
 carried c link outstanding p = record p {
-  links = links_with p link (settled (link_at p link));
+  links = links_with p link (without_owed (link_at p link));
   timers = timed_sending c link outstanding p.timers;
 }
 
@@ -77,13 +77,13 @@ module _ {Q : Type 0} (q : QueueKind Q) (c : Configuration) where
 
   -- the node after it went out: a message is sent; it and an empty User Data settle the acknowledgement
   abbrev pub after_sending : ℕ → Node Q → Outgoing → Node Q
-  after_sending link node (SendsStatus status) = with_parts node (told link node.parts)
+  after_sending link node (SendsStatus status) = with_parts node (without_status link node.parts)
   after_sending link node (SendsMessage next) = record {
     queues = q.sent_one node.queues link c.window;
     parts = carried c link (q.outstanding node.queues link) node.parts;
   }
   after_sending link node Acknowledges =
-      with_parts node (with_link node.parts link (settled (link_at node.parts link)))
+      with_parts node (with_link node.parts link (without_owed (link_at node.parts link)))
   after_sending link node SendsNothing = node
 
   -- the frame that a take gives, and the node that it leaves

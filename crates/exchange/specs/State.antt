@@ -13,6 +13,7 @@ use Rattle.route_table.specs.declared.route.Route.{Route}
 use Rattle.node_links.specs.Link.{Link}
 use Rattle.changeover.specs.Standing.{Standing}
 use Rattle.changeback.specs.Codes.{Codes}
+use Rattle.route_management.specs.Told.{ToldTable}
 use Rattle.flow_hold.specs.Holds.{HoldTable}
 
 -- All that isn't a queue.
@@ -20,6 +21,8 @@ pub record Parts : Type 0 where
   pub links : List Link
   -- of each destination the sets that lead there, each with its status
   pub routes : List (List Route)
+  -- what the adjacent point of each set was told of each destination
+  pub told : ToldTable
   -- of each link, how far its changeover is
   pub changeovers : List Standing
   -- of each set, which changeback codes wait for their answer

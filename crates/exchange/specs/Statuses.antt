@@ -17,7 +17,9 @@ use Rattle.route_table.specs.Facts.{Facts}
 use Rattle.exchange.specs.Links.{link_at, links_with, in_service}
 use Rattle.exchange.specs.Routing.{facts}
 use Rattle.exchange.specs.Timing.{timed, timed_busy, timed_busy_ended}
-use Rattle.exchange.specs.Failing.{fail}
+use Rattle.exchange.specs.Points.{set_of}
+use Rattle.exchange.specs.Rerouting.{with_set_reset}
+use Rattle.exchange.specs.Failing.{has_other, fail}
 use Rattle.exchange.specs.ChangingBack.{take_back}
 
 -- a link takes a step of its alignment
@@ -48,11 +50,21 @@ end_busy c link outstanding p =
 abbrev pub enters : ℕ → Transition → Parts → Bool
 enters link step p = is_in_service step.state && not (in_service p link)
 
--- what a link's alignment does about an input, before a return is looked at
+-- what a link's alignment does about an input, before its entry into service is looked at
 abbrev pub stepped_by : {Q : Type 0} → Configuration → Action → ℕ → Node Q → Node Q
 stepped_by c act.Ignored link node = node
 stepped_by c act.Fail link node = node
 stepped_by c (act.Go step) link node = with_parts node (step_on c link step node.parts)
+
+-- where it is the first of its set, all that is known over that set begins anew
+abbrev pub begun_anew_if : (is_first : Bool) → Configuration → ℕ → Parts → Parts
+begun_anew_if true c link p = with_set_reset c (set_of c link) p
+begun_anew_if false c link p = p
+
+-- a link takes a step of its alignment, and may so be the first of its set to enter service
+abbrev pub moved_on : Configuration → ℕ → Transition → Parts → Parts
+moved_on c link step p =
+    begun_anew_if (enters link step p && not (has_other c link p)) c link (step_on c link step p)
 
 module _ {Q : Type 0} (q : QueueKind Q) (c : Configuration) where
   -- a link that entered service takes its flows back, by what was known of routes before
@@ -64,7 +76,7 @@ module _ {Q : Type 0} (q : QueueKind Q) (c : Configuration) where
   abbrev pub advance : ℕ → Transition → Node Q → Node Q
   advance link step node =
       return_if (enters link step node.parts) link (facts c node.parts)
-      (with_parts node (step_on c link step node.parts))
+      (with_parts node (moved_on c link step node.parts))
 
   -- what a link's alignment does about an input; where the link is to fail, nothing changes here
   abbrev pub acted : Action → ℕ → Node Q → Node Q

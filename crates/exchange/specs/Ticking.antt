@@ -11,13 +11,14 @@ use Rattle.signalling_types.specs.declared.notice.ChangeoverTimer.TheVariants as
 use Rattle.exchange.specs.Statuses.{run_out}
 use Rattle.exchange.specs.ChangingOver.{expire}
 use Rattle.exchange.specs.ChangingBack.{late_time, late_code}
+use Rattle.exchange.specs.Rerouting.{rerouting_ended, ask_again}
 
 -- the same node with other timers
 abbrev pub with_timers : {Q : Type 0} → Node Q → Running → Node Q
 with_timers node timers = with_parts node (record node.parts { timers = timers })
 
 module _ {Q : Type 0} (q : QueueKind Q) (c : Configuration) where
-  -- a timer runs; those of rerouting and route management aren't set yet
+  -- a timer runs; that T8 did is all that it is for
   abbrev pub run_timer : TimerName → Node Q → Node Q
   run_timer (L1 link) node = run_out q c link timer.L1 node
   run_timer (L2 link) node = run_out q c link timer.L2 node
@@ -29,9 +30,9 @@ module _ {Q : Type 0} (q : QueueKind Q) (c : Configuration) where
   run_timer (T2 link) node = expire q c changeover.T2 link node
   run_timer (T3 link) node = with_parts node (late_time link node.parts)
   run_timer (T4 set code) node = with_parts node (late_code set code node.parts)
-  run_timer (T6 destination) node = node
+  run_timer (T6 destination) node = with_parts node (rerouting_ended destination node.parts)
   run_timer (T8 set destination) node = node
-  run_timer (T10 set destination) node = node
+  run_timer (T10 set destination) node = ask_again q c set destination node
 
   abbrev pub run_due : Option TimerName → Node Q → Node Q
   run_due None node = node

@@ -17,17 +17,20 @@ mod failing;
 mod frames;
 mod labels;
 mod lanes;
+mod links;
 mod local;
 mod made;
 mod messages;
 mod noting;
 mod opening;
 mod releasing;
+mod rerouting;
 mod runs;
 mod sending;
 mod showing;
 mod statuses;
 mod suspending;
+mod telling;
 mod ticking;
 mod timing;
 mod views;
@@ -41,6 +44,7 @@ use flow_hold::Holds;
 use link_sequence::Sequence;
 use m2pa_codec::BUFFER_OCTETS;
 use node_links::NodeLinks;
+use route_management::Told;
 use std::marker::Model;
 use stp_types::{LinkId, Notice, Outcome, Settings};
 use timer_wheel::Timers;
@@ -55,6 +59,7 @@ pub struct Exchange {
     lanes: RingLanes,
     sequences: Vec<Sequence>,
     links: NodeLinks,
+    told: Told,
     changeovers: Changeover,
     changeback: Changeback,
     holds: Holds,
@@ -64,6 +69,8 @@ pub struct Exchange {
     late_any: bool,
     // whether a hold changed since the messages of Held were last gone through
     release_due: bool,
+    // whether an adjacent point may be owed word of a destination
+    telling_due: bool,
 }
 
 impl Model for Exchange {
@@ -120,14 +127,16 @@ impl Exchange {
 }
 
 impl Exchange {
-    /// Hands an event to its handler; then what is held no longer goes on.
+    /// Hands an event to its handler; then what is held no longer goes on, and adjacent points are told what they are
+    /// owed.
     #[inline(always)]
     fn apply(&mut self, event: &Event<'_>) -> Outcome
         ensures { Ends self.old result self.new
             (rule.done_by kept self.old.settings (happened event.now) self.old.node) }
     {
         let outcome = self.handle_event(event);
-        self.settle();
+        self.let_go();
+        self.tell_owed();
         outcome
     }
 

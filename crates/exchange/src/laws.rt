@@ -1,14 +1,24 @@
 //! Laws of the abstract exchange.
 
 ghost use Rattle.exchange.specs.Laws.{refusals_leave, nothing_taken_leaves, queued_in_service};
+ghost use Rattle.exchange.specs.Laws.{first_is_told, events_tell_all, takes_owe_nothing};
 ghost use Rattle.exchange.specs.Laws.{completion_leaves_others, release_keeps_order, moved_before_held};
 ghost use Rattle.exchange.specs.Laws.{entries_hold_changed_flows, changed_flows_are_held, returns_keep_holds};
 ghost use Rattle.exchange.specs.Laws.{places_at_first, hold_keeps_places, lift_keeps_places, code_keeps_places};
+ghost use Rattle.exchange.specs.Laws.{status_keeps_places, reset_keeps_places};
 
-/// A refused event changes nothing but the notices; only where a message in a frame is refused, what
-/// accepting that frame did stands.
+/// A refused event changes nothing. Only where a message in a frame is refused, what accepting that frame did stands,
+/// with what answered the message, a notice, and what then found room to be told.
 pub fn refusals_change_nothing()
     ensures { refusals_leave }
+{}
+
+/// Between two events adjacent points are owed only what finds no room: so it is at first, after each event, and after
+/// each frame that goes out.
+pub fn only_what_finds_no_room_is_owed()
+    ensures first { first_is_told }
+    ensures event { events_tell_all }
+    ensures take { takes_owe_nothing }
 {}
 
 /// A take that gives nothing changes nothing.
@@ -48,11 +58,13 @@ pub fn flows_that_change_their_link_are_held()
     ensures others { returns_keep_holds }
 {}
 
-/// A node that was just booted has those places, and it keeps them whatever is held and lifted, and whatever code is
-/// used.
+/// A node that was just booted has those places, and it keeps them whatever is held and lifted, whatever code is used,
+/// and whatever status routes get.
 pub fn nodes_have_their_places()
     ensures first { places_at_first }
     ensures hold { hold_keeps_places }
     ensures lift { lift_keeps_places }
     ensures code { code_keeps_places }
+    ensures status { status_keeps_places }
+    ensures reset { reset_keeps_places }
 {}

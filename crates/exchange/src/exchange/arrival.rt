@@ -1,8 +1,9 @@
 //! The arrival of a message for another point.
 
-ghost use Rattle.std.specs.Prelude.{◌≡◌, ◌<◌, ◌≤◌, ◌&&◌, None, true, false, not, length, IfSome};
+ghost use Rattle.std.specs.Prelude.{◌≡◌, ◌<◌, ◌≤◌, ◌&&◌, None, Some, true, false, not, length, IfSome};
 ghost use Rattle.signalling_types.specs.Lent.{lent};
-ghost use Rattle.signalling_types.specs.Message.{is_management};
+ghost use Rattle.signalling_types.specs.Message.{is_management, dpc_of};
+ghost use Rattle.stp_types.specs.Readings.{destination_place};
 ghost use Rattle.flow_hold.specs.Holds.{is_held};
 ghost use Rattle.exchange.specs.Holding as holding;
 ghost use Rattle.route_table.specs.Chosen.{chosen_link};
@@ -10,6 +11,7 @@ ghost use Rattle.exchange.specs.Queues.{kept};
 ghost use Rattle.exchange.specs.Exchange.{Ends};
 ghost use Rattle.exchange.specs.Routing as routing;
 ghost use Rattle.exchange.specs.Routing.{facts};
+ghost use Rattle.exchange.specs.Queueing.{no_room};
 ghost use Rattle.exchange.specs.Arrival as rule;
 
 use super::Exchange;
@@ -18,13 +20,15 @@ use routing_label::Label;
 use stp_types::{Cause, Limits, LinkId, MsuRef, Outcome, Sls};
 
 impl Exchange {
-    /// A message for another point: a known destination, then room, then no hold, then a route.
+    /// A message for another point, with the link that it came by, if it came by one: a known destination, then room,
+    /// then no hold, then a route.
     #[inline(always)]
-    pub(super) fn transfer(&mut self, message: MsuRef<'_>) -> Outcome
+    pub(super) fn transfer(&mut self, from: Option<LinkId>, message: MsuRef<'_>) -> Outcome
+        requires from { IfSome from (λ link. link < length self.old.settings.links) }
         requires label { 4 ≤ length message.sif.now }
         requires fits { length message.sif.now ≤ Limits.SIF_OCTETS }
         ensures { Ends self.old result self.new
-            (rule.transfer kept self.old.settings (lent message.entry) self.old.node) }
+            (rule.transfer kept self.old.settings from (lent message.entry) self.old.node) }
     {
         let Some(label) = Label::read(message.sif) else {
             unreachable!()
@@ -38,7 +42,8 @@ impl Exchange {
         if self.is_waiting(message, destination, label.sls) {
             self.offer_held(message)
         } else {
-            self.offer_on(self.link_to(destination, label.sls), message)
+            let link = self.link_to(destination, label.sls);
+            self.offer_on(link, from, destination, message)
         }
     }
 
@@ -56,7 +61,7 @@ impl Exchange {
         requires fits { length message.sif.now ≤ Limits.SIF_OCTETS }
         requires waits { holding.waits self.old.settings self.old.node.parts.holds (lent message) ≡ true }
         ensures { Ends self.old result self.new (rule.offer kept self.old.settings
-            (rule.no_room kept self.old.settings (lent message.entry) self.old.node.queues) true None
+            (no_room kept self.old.settings (lent message.entry) self.old.node.queues) true None None
             (lent message.entry) self.old.node) }
     {
         match self.hold(message) {
@@ -65,16 +70,26 @@ impl Exchange {
         }
     }
 
-    /// A message stands at the end of the queue of its link, where it has room and a link.
+    /// A message to the destination of this number stands at the end of the queue of its link, where it has room. One
+    /// that came by a link and finds no route is answered.
     #[inline(always)]
-    fn offer_on(&mut self, link: Option<LinkId>, message: MsuRef<'_>) -> Outcome
+    fn offer_on(
+        &mut self,
+        link: Option<LinkId>,
+        from: Option<LinkId>,
+        destination: usize,
+        message: MsuRef<'_>,
+    ) -> Outcome
         requires link { IfSome link (λ link. link < length self.old.settings.links) }
-        requires room { rule.no_room kept self.old.settings (lent message) self.old.node.queues ≡ None }
+        requires from { IfSome from (λ link. link < length self.old.settings.links) }
+        requires destination { destination_place self.old.settings (dpc_of (lent message)) ≡ Some destination }
+        requires room { no_room kept self.old.settings (lent message) self.old.node.queues ≡ None }
         requires fits { length message.sif.now ≤ Limits.SIF_OCTETS }
         ensures { Ends self.old result self.new
-            (rule.offer kept self.old.settings None false link (lent message.entry) self.old.node) }
+            (rule.offer kept self.old.settings None false link from (lent message.entry) self.old.node) }
     {
         let Some(link) = link else {
+            self.answer_no_route(from, destination);
             return Outcome::Refused(Cause::NoRoute);
         };
         match self.queue(link, message) {

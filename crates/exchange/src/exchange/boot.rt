@@ -2,6 +2,7 @@
 
 ghost use Rattle.std.specs.Prelude.{◌≡◌, ◌≤◌, length, replicate, IfOk};
 ghost use Rattle.changeback.specs.Codes.{no_codes};
+ghost use Rattle.route_management.specs.Told.{first_told, shape_of};
 ghost use Rattle.flow_hold.specs.Holds.{no_holds};
 ghost use Rattle.link_sequence.specs.Counts.{kept_first};
 ghost use Rattle.exchange.specs.Stands.{StandsFor, kept_of, first_state, counts_in};
@@ -16,6 +17,7 @@ use circular_buffer::HeapCircularBuffer;
 use flow_hold::Holds;
 use link_sequence::Sequence;
 use node_links::NodeLinks;
+use route_management::Told;
 use std::alloc::{AllocError, Global};
 use stp_types::{Limits, Settings};
 use timer_wheel::{NodeCounts, Timers};
@@ -35,6 +37,7 @@ impl Exchange {
         let lanes = RingLanes::new(alloc, count + 1, settings.pool())?;
         let sequences = first_sequences(alloc, count)?;
         let links = node_links(alloc, &settings)?;
+        let told = nothing_told(alloc, &settings)?;
         let changeovers = Changeover::new(alloc, count)?;
         let changeback = no_changebacks(alloc, &settings)?;
         let holds = no_holds(alloc, &settings)?;
@@ -45,6 +48,7 @@ impl Exchange {
             lanes,
             sequences,
             links,
+            told,
             changeovers,
             changeback,
             holds,
@@ -53,6 +57,8 @@ impl Exchange {
             lost_any: false,
             late_any: false,
             release_due: false,
+            // nothing is owed yet, which the first event finds out
+            telling_due: true,
         })
     }
 }
@@ -74,6 +80,16 @@ fn node_links(alloc: Global, settings: &Settings) -> Result<NodeLinks, AllocErro
 {
     let sets = settings.sets().len();
     NodeLinks::new(alloc, sets, settings.links(), settings.destinations())
+}
+
+/// Each adjacent point takes each destination of these settings for allowed.
+fn nothing_told(alloc: Global, settings: &Settings) -> Result<Told, AllocError>
+    ensures told { IfOk result (λ told. told ≡ first_told settings.now.sets settings.now.destinations) }
+    ensures shape { IfOk result (λ told. shape_of told
+        ≡ replicate (length settings.now.sets) (length settings.now.destinations)) }
+{
+    let sets = settings.sets();
+    Told::new(alloc, sets, settings.destinations())
 }
 
 /// No code that waits for its answer, for the sets of these settings.

@@ -9,7 +9,7 @@ ghost use Rattle.exchange.specs.Head.{with_holds};
 ghost use Rattle.exchange.specs.Links.{in_service};
 ghost use Rattle.exchange.specs.Queues.{kept};
 ghost use Rattle.exchange.specs.Routing.{facts};
-ghost use Rattle.exchange.specs.Arrival.{no_room, queue_on};
+ghost use Rattle.exchange.specs.Queueing.{no_room, queue_on};
 ghost use Rattle.signalling_types.specs.declared.limits.TheConstants.Limits.{LINKS};
 ghost use Rattle.exchange.specs.Exchange.{Ends};
 ghost use Rattle.exchange.specs.ChangingBack as rule;
@@ -170,7 +170,7 @@ impl Exchange {
             (rule.confirm kept self.old.settings point slc code self.old.node) }
     {
         let answer = Management::ChangebackAcknowledgement(slc, code);
-        self.tell(point, &answer);
+        self.send_management(point, &answer);
         Outcome::Handled
     }
 
@@ -218,14 +218,6 @@ impl Exchange {
         self.late_any = true;
         self.changeback.expired(procedure, &mut self.holds);
         self.note(notice);
-    }
-
-    /// The set of a link.
-    fn set_of(&self, link: LinkId) -> SetId
-        requires { link < length self.now.settings.links }
-        ensures { result ≡ rule.set_of self.now.settings link }
-    {
-        self.row_of(link).set()
     }
 }
 

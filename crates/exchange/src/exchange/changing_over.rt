@@ -45,7 +45,7 @@ impl Exchange {
     {
         let number = self.sequences[link.index()].last_accepted();
         let answer = Management::ExtendedChangeoverAcknowledgement(self.code_of(link), number);
-        self.tell(self.peer_of(link), &answer);
+        self.send_management(self.peer_of(link), &answer);
     }
 
     /// The peer answers an order about a link; ignored where no answer is awaited.

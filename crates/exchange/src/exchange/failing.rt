@@ -5,6 +5,7 @@ ghost use Rattle.exchange.specs.State.{with_node, with_parts};
 ghost use Rattle.exchange.specs.Links.{in_service};
 ghost use Rattle.exchange.specs.Queues.{kept};
 ghost use Rattle.exchange.specs.Made as made;
+ghost use Rattle.exchange.specs.Points.{entry_of, peer_of, set_of};
 ghost use Rattle.exchange.specs.Failing as rule;
 
 use super::Exchange;
@@ -12,8 +13,8 @@ use changeover::Beginning;
 use link_number::Number24;
 use mgmt_codec::Management;
 use settings_rows::LinkRow;
-use stp_types::{FailureReason, LinkId, Notice, PointCode, Sls};
-use timer_wheel::TimerName;
+use stp_types::{FailureReason, LinkId, Notice, PointCode, SetId, Sls};
+use timer_wheel::{RouteTimer, TimerName};
 
 impl Exchange {
     /// A link fails. Where it was in service, its changeover begins.
@@ -49,7 +50,22 @@ impl Exchange {
             self.suspend(link);
         }
         self.fall(link, why);
+        if served {
+            self.quieten(link);
+        }
         served
+    }
+
+    /// Where no link of its set is left, the point that a link leads to is tested about no route any more (Q.704 §13.5).
+    fn quieten(&mut self, link: LinkId)
+        requires { link < length self.old.settings.links }
+        ensures { self.new ≡ with_node self.old
+            (with_parts self.old.node (rule.quietened self.old.settings link self.old.node.parts)) }
+    {
+        if !self.has_other(link) {
+            let set = self.set_of(link);
+            self.timers.clear_set(RouteTimer::T10, set);
+        }
     }
 
     /// A link is down, its timers don't run, and that is noted.
@@ -57,7 +73,7 @@ impl Exchange {
         requires { link < length self.old.settings.links }
         ensures { self.new ≡ with_node self.old (with_parts self.old.node (rule.fall link why self.old.node.parts)) }
     {
-        self.links.fall(link);
+        self.go_down(link);
         self.stop_all(link);
         self.note(Notice::Failed(link, why));
     }
@@ -89,7 +105,7 @@ impl Exchange {
             (rule.order_about self.old.settings link number) self.old.node) }
     {
         let order = Management::ExtendedChangeoverOrder(self.code_of(link), number);
-        self.tell(self.peer_of(link), &order);
+        self.send_management(self.peer_of(link), &order);
     }
 
     /// Whether a link of the same set is in service.
@@ -97,13 +113,13 @@ impl Exchange {
         requires { link < length self.now.settings.links }
         ensures { result ≡ rule.has_other self.now.settings link self.now.node.parts }
     {
-        self.links.has_link(self.row_of(link).set())
+        self.links.has_link(self.set_of(link))
     }
 
     /// The signalling link code of a link.
     pub(super) fn code_of(&self, link: LinkId) -> Sls
         requires { link < length self.now.settings.links }
-        ensures { result ≡ (rule.entry_of self.now.settings link).slc }
+        ensures { result ≡ (entry_of self.now.settings link).slc }
     {
         let Some(code) = Sls::new(self.row_of(link).slc()) else {
             unreachable!()
@@ -114,17 +130,25 @@ impl Exchange {
     /// The point that a link leads to.
     pub(super) fn peer_of(&self, link: LinkId) -> PointCode
         requires { link < length self.now.settings.links }
-        ensures { result ≡ rule.peer_of self.now.settings link }
+        ensures { result ≡ peer_of self.now.settings link }
     {
-        let set = self.row_of(link).set();
-        self.settings.sets()[set.index()].adjacent()
+        self.adjacent_of(self.set_of(link))
+    }
+
+    /// The set of a link.
+    pub(super) fn set_of(&self, link: LinkId) -> SetId
+        requires { link < length self.now.settings.links }
+        ensures set { result ≡ set_of self.now.settings link }
+        ensures fits { result < length self.now.settings.sets }
+    {
+        self.row_of(link).set()
     }
 
     /// The row of a link in the settings.
     pub(super) fn row_of(&self, link: LinkId) -> &LinkRow
         requires { link < length self.now.settings.links }
-        ensures row { result.now ≡ rule.entry_of self.now.settings link }
-        ensures set { (rule.entry_of self.now.settings link).set < length self.now.settings.sets }
+        ensures row { result.now ≡ entry_of self.now.settings link }
+        ensures set { (entry_of self.now.settings link).set < length self.now.settings.sets }
     {
         &self.settings.links()[link.index()]
     }

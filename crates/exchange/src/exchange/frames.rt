@@ -124,7 +124,7 @@ impl Exchange {
     {
         match message {
             Some(message) => {
-                self.links.set_owed(link, true);
+                self.set_owed(link, true);
                 self.deliver(link, message)
             }
             None => Outcome::Handled,

@@ -14,6 +14,8 @@ ghost use Rattle.exchange.specs.Local as rule;
 use super::Exchange;
 use link_number::Number24;
 use mgmt_codec::{ANSWER_OCTETS, LinkTest, Management, MgmtFault, TestKind};
+use route_management::RouteTest;
+use route_table::RouteStatus;
 use routing_label::Label;
 use settings_rows::LinkRow;
 use stp_types::{Cause, LinkId, MsuRef, Outcome, PointCode, SetId, Sls};
@@ -116,8 +118,7 @@ impl Exchange {
         }
     }
 
-    /// Does what a management message from an adjacent point asks; that it has restarted asks nothing. Those about
-    /// routes are refused NotInProfile.
+    /// Does what a management message from an adjacent point asks; that it has restarted asks nothing.
     fn heed(&mut self, point: PointCode, message: Management) -> Outcome
         ensures { Ends self.old result self.new
             (rule.do_management kept self.old.settings message point self.old.node) }
@@ -145,11 +146,21 @@ impl Exchange {
                 let set = self.settings.set_to(point);
                 self.end_hold(set, code)
             }
-            Management::TransferProhibited(_)
-            | Management::TransferRestricted(_)
-            | Management::TransferAllowed(_)
-            | Management::RouteSetTestProhibited(_)
-            | Management::RouteSetTestRestricted(_) => Outcome::Refused(Cause::NotInProfile),
+            Management::TransferProhibited(about) => {
+                self.hear_status(RouteStatus::Prohibited, point, about)
+            }
+            Management::TransferRestricted(about) => {
+                self.hear_status(RouteStatus::Restricted, point, about)
+            }
+            Management::TransferAllowed(about) => {
+                self.hear_status(RouteStatus::Allowed, point, about)
+            }
+            Management::RouteSetTestProhibited(about) => {
+                self.be_tested(RouteTest::Prohibited, point, about)
+            }
+            Management::RouteSetTestRestricted(about) => {
+                self.be_tested(RouteTest::Restricted, point, about)
+            }
         }
     }
 

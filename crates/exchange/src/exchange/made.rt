@@ -7,7 +7,7 @@ ghost use Rattle.exchange.specs.State.{with_node, with_parts};
 ghost use Rattle.exchange.specs.Queues.{kept};
 ghost use Rattle.exchange.specs.Noting.{note, flagged};
 ghost use Rattle.signalling_types.specs.declared.notice.Notice.TheVariants as notices;
-ghost use Rattle.exchange.specs.Arrival.{no_room, queue_on};
+ghost use Rattle.exchange.specs.Queueing.{no_room, queue_on};
 ghost use Rattle.exchange.specs.Made as rule;
 
 use super::Exchange;
@@ -42,7 +42,7 @@ impl Exchange {
     }
 
     /// A management message made here for a point goes out on the link of its flow.
-    pub(super) fn tell(&mut self, point: PointCode, message: &Management)
+    pub(super) fn send_management(&mut self, point: PointCode, message: &Management)
         ensures { self.new ≡ with_node self.old (rule.send_routed kept self.old.settings
             (rule.management_to self.old.settings point message.now) self.old.node) }
     {

@@ -35,7 +35,7 @@ impl Exchange {
         match self.whither_goes(message) {
             Discrimination::Refused(cause) => Outcome::Refused(cause),
             Discrimination::Here => self.hand_over(link, message),
-            Discrimination::Transfer => self.transfer(message),
+            Discrimination::Transfer => self.transfer(Some(link), message),
         }
     }
 
@@ -48,7 +48,7 @@ impl Exchange {
             Discrimination::Refused(cause) => Outcome::Refused(cause),
             _ if message.is_management() => Outcome::Refused(Cause::NotInProfile),
             Discrimination::Here => self.local(message),
-            Discrimination::Transfer => self.transfer(message),
+            Discrimination::Transfer => self.transfer(None, message),
         }
     }
 

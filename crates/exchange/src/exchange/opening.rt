@@ -62,7 +62,7 @@ impl Exchange {
     {
         self.drop_all(link);
         self.sequences[link.index()] = Sequence::start();
-        self.links.open(link);
+        self.begin_to_align(link);
         self.time(link, &Alignment::open());
     }
 
@@ -77,7 +77,7 @@ impl Exchange {
             return Outcome::Ignored;
         }
         self.bring_down(link, FailureReason::Association);
-        self.links.part(link);
+        self.part(link);
         Outcome::Handled
     }
 
@@ -98,7 +98,7 @@ impl Exchange {
         if !self.links.has(link) {
             return Outcome::Refused(Cause::NoSuchName);
         }
-        self.links.allow(link, true);
+        self.allow(link, true);
         Outcome::Handled
     }
 
@@ -110,7 +110,7 @@ impl Exchange {
             return Outcome::Refused(Cause::NoSuchName);
         }
         self.bring_down(link, FailureReason::Operator);
-        self.links.allow(link, false);
+        self.allow(link, false);
         Outcome::Handled
     }
 }

@@ -20,7 +20,7 @@ impl Exchange {
     /// Lets go what is held no longer. Unless a hold changed in the event, each message of Held waits, and nothing is
     /// to be done.
     #[inline(always)]
-    pub(super) fn settle(&mut self)
+    pub(super) fn let_go(&mut self)
         ensures { self.new ≡ with_node self.old (rule.release kept self.old.settings self.old.node) }
     {
         if self.release_due {

@@ -51,11 +51,11 @@ impl Exchange {
         requires { link < length self.old.settings.links }
         ensures frame { Writes (frame_of self.old link (rule.SendsStatus status)) (Some result) buffer.old buffer.new }
         ensures state { self.new ≡
-            with_node self.old (with_parts self.old.node (rule.told link self.old.node.parts)) }
+            with_node self.old (with_parts self.old.node (rule.without_status link self.old.node.parts)) }
         ensures fits { result ≤ BUFFER_OCTETS }
     {
         let index = link.index();
-        self.links.drop_status(link);
+        self.drop_status(link);
         let sequence = &self.sequences[index];
         let bsn = sequence.last_accepted();
         let fsn = sequence.last_sent();
@@ -91,7 +91,7 @@ impl Exchange {
         let sequence = &mut self.sequences[index];
         let outstanding = sequence.outstanding();
         let count = write_message(sequence, &self.lanes, lane_of(link), window, buffer)?;
-        self.links.set_owed(link, false);
+        self.set_owed(link, false);
         if outstanding == 0 {
             self.start(link, LinkTimer::L7);
         }
@@ -113,7 +113,7 @@ impl Exchange {
         if !self.links.state(link).owes_acknowledgement() {
             return None;
         }
-        self.links.set_owed(link, false);
+        self.set_owed(link, false);
         let sequence = &self.sequences[index];
         let bsn = sequence.last_accepted();
         let fsn = sequence.last_sent();

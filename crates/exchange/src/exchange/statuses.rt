@@ -1,10 +1,14 @@
 //! Link Status, and the timers of a link that run out, by the table of the alignment.
 
-ghost use Rattle.std.specs.Prelude.{◌≡◌, ◌<◌, length};
+ghost use Rattle.std.specs.Prelude.{◌≡◌, ◌<◌, length, true, false};
 ghost use Rattle.exchange.specs.State.{with_node, with_parts};
 ghost use Rattle.exchange.specs.Queues.{kept};
 ghost use Rattle.exchange.specs.Exchange.{Ends};
+ghost use Rattle.route_table.specs.Facts.{with_link};
 ghost use Rattle.exchange.specs.Links.{link_at, in_service};
+ghost use Rattle.exchange.specs.Points.{set_of};
+ghost use Rattle.exchange.specs.Routing.{facts};
+ghost use Rattle.exchange.specs.Entering.{entered, is_first_in};
 ghost use Rattle.link_alignment.specs.Table.{action_at};
 ghost use Rattle.exchange.specs.Statuses as rule;
 
@@ -14,8 +18,9 @@ use m2pa_codec::LinkStatus;
 use stp_types::{FailureReason, LinkId, Outcome};
 
 impl Exchange {
-    /// A link does what its alignment does about an input, and says what that is. Where it enters service, it takes its
-    /// flows back; where it is to fail, nothing changes here.
+    /// A link does what its alignment does about an input, and says what that is. Where it is the first of its set to
+    /// enter service, all that is known over that set begins anew; where it enters service, it takes its flows back;
+    /// where it is to fail, nothing changes here.
     #[inline(always)]
     pub(super) fn act(&mut self, link: LinkId, input: Input) -> Action
         requires { link < length self.old.settings.links }
@@ -26,9 +31,36 @@ impl Exchange {
         let served = self.serves(link);
         let action = self.take_step(link, input);
         if !served && self.serves(link) {
-            self.take_back(link);
+            self.enter_service(link);
         }
         action
+    }
+
+    /// A link entered service. Where it is the first of its set, all that is known over that set begins anew. Then it
+    /// takes its flows back.
+    #[inline(never)]
+    fn enter_service(&mut self, link: LinkId)
+        requires link { link < length self.old.settings.links }
+        requires serves { in_service self.old.node.parts link ≡ true }
+        ensures { self.new ≡ with_node self.old (entered kept self.old.settings link self.old.node) }
+    {
+        if self.is_first(link) {
+            self.reset_set(self.set_of(link));
+        }
+        self.take_back(link);
+    }
+
+    /// Whether no other link of its set is in service beside a link: that is taken out of service to see it, and put
+    /// back.
+    fn is_first(&mut self, link: LinkId) -> bool
+        requires link { link < length self.old.settings.links }
+        requires serves { in_service self.old.node.parts link ≡ true }
+        ensures first { result ≡ is_first_in (with_link link false
+            (facts self.old.settings self.old.node.parts)) (set_of self.old.settings link) }
+        ensures state { self.new ≡ self.old }
+    {
+        let set = self.set_of(link);
+        !self.links.has_link_without(link, set)
     }
 
     /// Whether a link is in service.
@@ -48,7 +80,7 @@ impl Exchange {
         ensures state { self.new ≡
             with_node self.old (rule.stepped_by self.old.settings result link self.old.node) }
     {
-        let action = self.links.on(link, input);
+        let action = self.align(link, input);
         if let Action::Go(step) = action {
             self.time(link, &step);
         }
@@ -97,7 +129,7 @@ impl Exchange {
         if self.links.state(link).is_peer_busy() {
             return;
         }
-        self.links.set_peer_busy(link, true);
+        self.set_peer_busy(link, true);
         self.stop(link, LinkTimer::L7);
         self.start(link, LinkTimer::L6);
     }
@@ -111,7 +143,7 @@ impl Exchange {
         if !self.links.state(link).is_peer_busy() {
             return;
         }
-        self.links.set_peer_busy(link, false);
+        self.set_peer_busy(link, false);
         self.stop(link, LinkTimer::L6);
         if self.sequences[link.index()].outstanding() > 0 {
             self.start(link, LinkTimer::L7);

@@ -39,7 +39,7 @@ impl Exchange {
         }
     }
 
-    /// Runs a timer. Those of rerouting and route management aren't set yet.
+    /// Runs a timer. That T8 did is all that it is for.
     fn run_timer(&mut self, name: TimerName)
         ensures { self.new ≡ with_node self.old (rule.run_timer kept self.old.settings name self.old.node) }
     {
@@ -54,7 +54,9 @@ impl Exchange {
             TimerName::T2(link) => self.expire(ChangeoverTimer::T2, link),
             TimerName::T3(link) => self.expire_time(link),
             TimerName::T4(set, code) => self.expire_code(set, code),
-            _ => {}
+            TimerName::T6(destination) => self.end_rerouting(destination),
+            TimerName::T8(_, _) => {}
+            TimerName::T10(set, destination) => self.ask_again(set, destination),
         }
     }
 }

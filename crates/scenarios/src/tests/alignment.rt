@@ -1,11 +1,11 @@
 //! What a link does in each state about each input.
 
 use super::statuses::status_frame;
-use super::{POOL, booted};
 use exchange::{BUFFER_OCTETS, Event, Exchange, Wants};
 use std::alloc::Global;
 use std::process::Abort;
-use stp_types::{LinkId, Msu, Notice, Outcome};
+use stp_node::built_in;
+use stp_types::{LinkId, Msu, Notice, Outcome, Settings};
 
 /// User Data without a message, before any message.
 const EMPTY: [u8; 16] = [
@@ -55,8 +55,8 @@ u24p|++++
 u24p7|+++t
 ";
 
-/// The same with a message unconfirmed, and L7 runs out, about the first two of `WAITS`: after more ticks its changeover
-/// has ended by T1, and left notices of its own.
+/// The same with a message unconfirmed, and L7 runs out, about the first two of `WAITS`: after more ticks its
+/// changeover has ended by T1, and left notices of its own.
 const UNCONFIRMED_ROW: &str = "u24pm|+t";
 
 /// Ticks, in the order of these rows: one less than a confirmation may take, as many as that, one less than a peer may
@@ -77,6 +77,14 @@ const BUSY: usize = 20;
 
 /// How many frames may wait where a way ends: three statuses, and a message.
 const WAITING: usize = 4;
+
+/// A node with a link to its one destination, before its first event: it owes that point no word of another.
+fn booted<T: Abort>(rt: &T, alloc: Global) -> Exchange {
+    let mut draft = built_in(alloc).expect(rt, "memory");
+    draft.destinations.pop();
+    let settings = Settings::check(alloc, draft).expect(rt, "good settings");
+    Exchange::boot(alloc, settings).expect(rt, "memory")
+}
 
 /// Hands one input in.
 fn put(exchange: &mut Exchange, input: u8) -> Outcome {
@@ -103,9 +111,9 @@ fn tick(exchange: &mut Exchange, ticks: usize) -> Outcome {
     Outcome::Handled
 }
 
-/// Submits a message for the destination behind the link.
+/// Submits a message for the point behind the link.
 fn submit(exchange: &mut Exchange) -> Outcome {
-    match Msu::new(0x85, &[0x2c, 0x41, 0x00, 0x50, 0xaa, 0xbb]) {
+    match Msu::new(0x85, &[0x02, 0x40, 0x00, 0x50, 0xaa, 0xbb]) {
         Ok(message) => exchange.step(&Event::Submit(message)),
         Err(cause) => Outcome::Refused(cause),
     }
@@ -165,7 +173,7 @@ fn walk(exchange: &mut Exchange, way: &[u8]) {
 
 /// What a link does about an input after such a way.
 fn done_after<T: Abort>(rt: &T, alloc: Global, way: &[u8], input: u8) -> u8 {
-    let mut exchange = booted(rt, alloc, POOL);
+    let mut exchange = booted(rt, alloc);
     walk(&mut exchange, way);
     done(&mut exchange, input)
 }

@@ -7,23 +7,24 @@ use std::alloc::Global;
 use std::process::Abort;
 use stp_types::{FrameFault, LinkId, Msu, Notice, Outcome};
 
-/// A frame with a message from point 2 to point 300, the first of its link.
+/// A frame with a message from point 2 to point 300, the first of its link. It confirms the first that went out.
 const COMES: [u8; 24] = [
-    0x01, 0x00, 0x0b, 0x01, 0x00, 0x00, 0x00, 0x18, 0x00, 0xff, 0xff, 0xff, 0x00, 0x00, 0x00, 0x00,
+    0x01, 0x00, 0x0b, 0x01, 0x00, 0x00, 0x00, 0x18, 0x00, 0x00, 0x00, 0x00, 0x00, 0x00, 0x00, 0x00,
     0x00, 0x85, 0x2c, 0x81, 0x00, 0x50, 0xaa, 0xbb,
 ];
 
-/// The frame that it leaves by.
+/// The frame that it leaves by, the second that went out.
 const GOES: [u8; 24] = [
-    0x01, 0x00, 0x0b, 0x01, 0x00, 0x00, 0x00, 0x18, 0x00, 0x00, 0x00, 0x00, 0x00, 0x00, 0x00, 0x00,
+    0x01, 0x00, 0x0b, 0x01, 0x00, 0x00, 0x00, 0x18, 0x00, 0x00, 0x00, 0x00, 0x00, 0x00, 0x00, 0x01,
     0x00, 0x85, 0x2c, 0x81, 0x00, 0x50, 0xaa, 0xbb,
 ];
 
 /// A frame of another version.
 const OTHER_VERSION: [u8; 8] = [0x02, 0x00, 0x0b, 0x02, 0x00, 0x00, 0x00, 0x08];
 
-/// Brings a link into service, and lets a message through; then an operator closes the link, its association
-/// goes, and he lets it open again, which it may once its changeover has ended by T1.
+/// Brings a link into service, takes what its adjacent point is told of point 300, and lets a message through; then an
+/// operator closes the link, its association goes, and he lets it open again, which it may once its changeover has ended
+/// by T1.
 fn made<T: Abort>(rt: &T, alloc: Global, exchange: &mut Exchange, message: Msu) -> Vec<Answer> {
     let link = LinkId::new(0);
     let proving = status_frame(2);
@@ -35,6 +36,7 @@ fn made<T: Abort>(rt: &T, alloc: Global, exchange: &mut Exchange, message: Msu) 
         Call::Step(Event::Tick),
         Call::Step(Event::Tick),
         Call::Step(Event::Tick),
+        Call::Take(link),
         Call::Take(link),
         Call::Take(link),
         Call::Take(link),
@@ -61,7 +63,7 @@ fn made<T: Abort>(rt: &T, alloc: Global, exchange: &mut Exchange, message: Msu) 
 }
 
 /// What is answered to them.
-const ANSWERS: [&str; 27] = [
+const ANSWERS: [&str; 28] = [
     "handled",
     "handled",
     "handled",
@@ -71,6 +73,7 @@ const ANSWERS: [&str; 27] = [
     "a status",
     "a status",
     "a status",
+    "another frame",
     "queued",
     "ignored",
     "local",

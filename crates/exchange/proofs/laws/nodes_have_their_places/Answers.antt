@@ -1,4 +1,4 @@
-use Rattle.exchange.proofs.TakenBack.{places_first, places_held, places_lifted, places_coded}
+use Rattle.exchange.proofs.TakenBack.{places_first, places_held, places_lifted, places_coded, places_with_status, places_reset}
 use Rattle.exchange.proofs.laws.nodes_have_their_places.Goals as goal
 
 pub returns-clause-first : goal.returns-clause-first
@@ -12,3 +12,9 @@ returns-clause-lift c = places_lifted
 
 pub returns-clause-code : goal.returns-clause-code
 returns-clause-code c = places_coded
+
+pub returns-clause-status : goal.returns-clause-status
+returns-clause-status c = places_with_status
+
+pub returns-clause-reset : goal.returns-clause-reset
+returns-clause-reset c = places_reset

@@ -1,10 +1,10 @@
--- A link that enters service takes its flows back.
+-- A link enters service.
 use Rattle.std.proofs.Common.{sym, ◌∙◌}
 use Rattle.exchange.proofs.Returning.{entered_service}
 use Rattle.exchange.proofs.exchange.Exchange.act.Goals as goal
 
 pub returns-then-serves-clause-state : goal.returns-then-serves-clause-state
 returns-then-serves-clause-state c =
-    entered_service c.take_step-action.result c.args.self.now c.take_step-action.new.self c.take_back.new.self c.args.link
+    entered_service c.take_step-action.result c.args.self.now c.take_step-action.new.self c.enter_service.new.self c.args.link
     c.take_step-action.ensures.state (sym c.serves-served.ensures ∙ c.if-not-served.true)
-    (sym c.serves.ensures ∙ c.if-serves.true) c.take_back.ensures
+    (sym c.serves.ensures ∙ c.if-serves.true) c.enter_service.ensures

@@ -3,7 +3,7 @@ use Rattle.std.proofs.Common.{ap, ◌∙◌, Bool, false, List, Option, ℕ, sli
 use Rattle.flow_hold.specs.declared.procedure.Procedure.{Procedure}
 use Rattle.exchange.specs.State.{State, Node, with_node}
 use Rattle.exchange.specs.Queues.{KeptQueues, kept}
-use Rattle.exchange.specs.ChangingBack.{holder, holders, declare, declare_each}
+use Rattle.exchange.specs.ChangingBack.{holder, holders, declare}
 use Rattle.exchange.proofs.Returning.{none_declared, more_declared, no_holders, more_holders}
 use Rattle.exchange.proofs.exchange.Exchange.declare_each.Goals as goal
 

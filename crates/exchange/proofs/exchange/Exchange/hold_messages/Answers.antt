@@ -1,5 +1,5 @@
 -- The flow of one message is held, and one fewer is left.
-use Rattle.std.proofs.Common.{◌≡◌, ◌+◌, [], List, drop, length, arith, ap, sym, ◌∙◌, slice_get}
+use Rattle.std.proofs.Common.{◌≡◌, ◌+◌, [], List, drop, arith, ap, sym, ◌∙◌, slice_get}
 use Rattle.std.proofs.lemmas.List.{drop_all}
 use Rattle.signalling_types.specs.Message.{Message}
 use Rattle.flow_hold.specs.Holds.{HoldTable}

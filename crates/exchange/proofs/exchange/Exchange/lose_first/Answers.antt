@@ -1,6 +1,6 @@
 -- One message is lost, and one fewer is left.
-use Rattle.std.proofs.Common.{◌≡◌, ◌+◌, ◌≤◌, [], List, drop, take, length, arith, ap, sym, ◌∙◌, slice_get}
-use Rattle.std.proofs.lemmas.List.{drop_all, length-take-le}
+use Rattle.std.proofs.Common.{◌≡◌, ◌+◌, [], List, drop, take, arith, ap, sym, ◌∙◌, slice_get}
+use Rattle.std.proofs.lemmas.List.{drop_all}
 use Rattle.signalling_types.specs.Message.{Message}
 use Rattle.exchange.specs.State.{State, Parts, with_node, with_parts}
 use Rattle.exchange.specs.Queues.{KeptQueues, link_lane}

@@ -1,5 +1,5 @@
 -- After a release each message of Held waits.
-use Rattle.std.proofs.Common.{◌≡◌, true, ap, sym, subst, ◌∙◌}
+use Rattle.std.proofs.Common.{◌≡◌, true, sym, subst}
 use Rattle.exchange.specs.State.{State}
 use Rattle.exchange.specs.Queues.{KeptQueues, kept}
 use Rattle.exchange.specs.Holding.{all_wait}
@@ -19,5 +19,7 @@ invariant_of-self c =
       sets = c.self.invariant.sets;
       pool = c.self.invariant.pool;
       notices = c.self.invariant.notices;
+      told = c.self.invariant.told;
+      telling = c.self.invariant.telling;
       waiting = subst (λ (x : State KeptQueues). all_wait x.settings x.node.parts.holds (kept.held x.node.queues) ≡ true) (sym c.self.view_is) wait;
     }

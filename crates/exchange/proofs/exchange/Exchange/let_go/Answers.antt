@@ -1,10 +1,10 @@
 -- Unless a release is due, each message of Held waits, and a release would change nothing.
-use Rattle.std.proofs.Common.{◌≡◌, true, ap, sym, subst, ◌∙◌}
+use Rattle.std.proofs.Common.{◌≡◌, true, ap, sym, subst}
 use Rattle.exchange.specs.State.{State, Node, with_node}
 use Rattle.exchange.specs.Queues.{KeptQueues, kept}
 use Rattle.exchange.specs.Holding.{all_wait}
 use Rattle.exchange.proofs.Settling.{nothing_released_kept, or-true}
-use Rattle.exchange.proofs.exchange.Exchange.settle.Goals as goal
+use Rattle.exchange.proofs.exchange.Exchange.let_go.Goals as goal
 
 pub returns-else-self : goal.returns-else-self
 returns-else-self c =

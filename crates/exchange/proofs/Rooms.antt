@@ -1,0 +1,148 @@
+-- What an exchange keeps has its room still, and telling is due where it has to be, as links and what was told change.
+use Rattle.std.proofs.Common.{◌≡◌, ◌<◌, ◌+◌, ℕ, Bool, true, false, ◌||◌, not, length, replicate, List, refl, ap, sym, subst, ◌∙◌}
+use Rattle.std.specs.Prelude.{if◌then◌else◌}
+use Rattle.std.proofs.lemmas.List.{length-set, get_or-set_same}
+use Rattle.linkset.specs.declared.link_set.SetLink.{SetLink}
+use Rattle.route_table.specs.declared.route.RouteStatus.{RouteStatus}
+use Rattle.route_table.specs.Facts.{Facts}
+use Rattle.node_links.specs.Link.{Link}
+use Rattle.node_links.specs.LinkState.{is_in_service, down_link}
+use Rattle.node_links.specs.Network.{Network, facts_of, link_in, with_state, serving}
+use Rattle.node_links.proofs.Serving.{facts_alike}
+use Rattle.timer_wheel.specs.Timers.{Running}
+use Rattle.route_management.specs.Told.{ToldTable, shape_of, with_told}
+use Rattle.route_management.specs.Owed.{should, owes_nothing}
+use Rattle.route_management.proofs.Shape.{told_shape}
+use Rattle.route_management.proofs.Settled.{answered_owes_no_more, none_from_owes_nothing, owes_nothing_from_none}
+use Rattle.exchange.specs.State.{State}
+use Rattle.exchange.specs.Queues.{KeptQueues, kept}
+use Rattle.exchange.specs.Routing.{facts}
+use Rattle.exchange.specs.Telling.{may_tell, is_all_told}
+use Rattle.exchange.specs.Room.{HasRoom, kept_in}
+use Rattle.exchange.proofs.Settling.{or-true}
+use Rattle.exchange.specs.declared.exchange.Exchange.TheInside.{Inside}
+
+-- links, what was told and timers change
+pub changed_room : (e : Inside) (n : Network) (t : ToldTable) (r : Running) (due : Bool) → HasRoom e
+    → length n.links ≡ length e.links.links → n.sets ≡ e.links.sets → shape_of t ≡ shape_of e.told
+    → (due || owes_nothing (facts_of n) t) ≡ true
+    → HasRoom (record e { links = n; told = t; timers = r; telling_due = due })
+changed_room e n t r due h many sets shape telling = record {
+  lanes = h.lanes ∙ ap (λ (k : ℕ). k + 1) (sym many);
+  sequences = h.sequences ∙ sym many;
+  changeovers = h.changeovers ∙ sym many;
+  links = many ∙ h.links;
+  sets = sets ∙ h.sets;
+  pool = h.pool;
+  notices = h.notices;
+  told = shape ∙ h.told;
+  waiting = h.waiting;
+  telling = telling;
+}
+
+-- one link changes
+pub link_room : (e : Inside) (n : Network) (link : ℕ) (state : Link) (due : Bool) → HasRoom e → n ≡ with_state e.links link state
+    → (due || owes_nothing (facts_of (with_state e.links link state)) e.told) ≡ true
+    → HasRoom (record e { links = n; telling_due = due })
+link_room e n link state due h same telling =
+    subst (λ (m : Network). HasRoom (record e { links = m; telling_due = due })) (sym same)
+    (changed_room e (with_state e.links link state) e.told e.timers due h (length-set e.links.links link state) refl refl telling)
+
+-- whatever changes, what was owed nothing is owed nothing
+still : (e : Inside) (link : ℕ) (state : Link) (due : Bool) → is_in_service state.alignment ≡ is_in_service (link_in e.links.links link).alignment
+    → (due || owes_nothing (facts_of e.links) e.told) ≡ true → (due || owes_nothing (facts_of (with_state e.links link state)) e.told) ≡ true
+still e link state due serves telling = ap (λ (f : Facts). due || owes_nothing f e.told) (facts_alike e.links link state serves) ∙ telling
+
+-- neither in service before nor now, or both
+pub still_room : (e : Inside) (n : Network) (link : ℕ) (state : Link) → HasRoom e → n ≡ with_state e.links link state
+    → is_in_service state.alignment ≡ is_in_service (link_in e.links.links link).alignment
+    → HasRoom (record e { links = n })
+still_room e n link state h same serves = link_room e n link state e.telling_due h same (still e link state e.telling_due serves h.telling)
+
+-- where it was in service and is no more, telling is due
+left-by : (e : Inside) (link : ℕ) (state : Link) (due served : Bool) → is_in_service (link_in e.links.links link).alignment ≡ served → is_in_service state.alignment ≡ false
+    → (due || owes_nothing (facts_of e.links) e.told) ≡ true
+    → ((due || served) || owes_nothing (facts_of (with_state e.links link state)) e.told) ≡ true
+left-by e link state true served was out telling = refl
+left-by e link state false true was out telling = refl
+left-by e link state false false was out telling = still e link state false (out ∙ sym was) telling
+
+pub left_room : (e : Inside) (n : Network) (link : ℕ) (state : Link) (served : Bool) → HasRoom e → n ≡ with_state e.links link state
+    → served ≡ is_in_service (link_in e.links.links link).alignment → is_in_service state.alignment ≡ false
+    → HasRoom (record e { links = n; telling_due = e.telling_due || served })
+left_room e n link state served h same was out =
+    link_room e n link state (e.telling_due || served) h same (left-by e link state e.telling_due served (sym was) out h.telling)
+
+-- where it entered or left service, telling is due
+moved-by : (e : Inside) (link : ℕ) (state : Link) (due before now : Bool) → is_in_service (link_in e.links.links link).alignment ≡ before → is_in_service state.alignment ≡ now
+    → (due || owes_nothing (facts_of e.links) e.told) ≡ true
+    → ((due || (if before then not now else now)) || owes_nothing (facts_of (with_state e.links link state)) e.told) ≡ true
+moved-by e link state true before now was is telling = refl
+moved-by e link state false true true was is telling = still e link state false (is ∙ sym was) telling
+moved-by e link state false true false was is telling = refl
+moved-by e link state false false true was is telling = refl
+moved-by e link state false false false was is telling = still e link state false (is ∙ sym was) telling
+
+pub moved_room : (e : Inside) (n : Network) (link : ℕ) (state : Link) (before now changed : Bool) → HasRoom e → n ≡ with_state e.links link state
+    → before ≡ is_in_service (link_in e.links.links link).alignment → now ≡ is_in_service (link_in n.links link).alignment
+    → changed ≡ (if before then not now else now) → link < length e.links.links
+    → HasRoom (record e { links = n; telling_due = e.telling_due || changed })
+moved_room e n link state before now changed h same was is differs there =
+    let now_is : now ≡ is_in_service state.alignment =
+    is ∙ ap (λ (l : Link). is_in_service l.alignment)
+    (ap (λ (m : Network). link_in m.links link) same ∙ get_or-set_same e.links.links link state down_link there) in
+    link_room e n link state (e.telling_due || changed) h same
+    (ap (λ (b : Bool). (e.telling_due || b) || owes_nothing (facts_of (with_state e.links link state)) e.told) differs
+    ∙ moved-by e link state e.telling_due before now (sym was) (sym now_is) h.telling)
+
+-- ---- what is said of what an exchange shows
+
+-- what is known of routes
+pub view_facts : (e : Inside) (s : State KeptQueues) → HasRoom e → kept_in e ≡ s → facts s.settings s.node.parts ≡ facts_of e.links
+view_facts e s h view =
+    ap (λ (x : State KeptQueues). facts x.settings x.node.parts) (sym view)
+    ∙ ap (λ (sets : List (List SetLink)). record { sets = sets; in_service = serving e.links.links; routes = e.links.routes }) (sym h.sets)
+
+pub view_told : (e : Inside) (s : State KeptQueues) → kept_in e ≡ s → s.node.parts.told ≡ e.told
+view_told e s view = ap (λ (x : State KeptQueues). x.node.parts.told) (sym view)
+
+pub view_shape : (e : Inside) (s : State KeptQueues) → HasRoom e → kept_in e ≡ s
+    → shape_of s.node.parts.told ≡ replicate (length s.settings.sets) (length s.settings.destinations)
+view_shape e s h view =
+    subst (λ (x : State KeptQueues). shape_of x.node.parts.told ≡ replicate (length x.settings.sets) (length x.settings.destinations)) view h.told
+
+-- unless telling is due, nothing is owed
+pub view_telling : (e : Inside) (s : State KeptQueues) → HasRoom e → kept_in e ≡ s → e.telling_due ≡ false
+    → owes_nothing (facts s.settings s.node.parts) s.node.parts.told ≡ true
+view_telling e s h view due =
+    ap (λ (f : Facts). owes_nothing f s.node.parts.told) (view_facts e s h view)
+    ∙ ap (owes_nothing (facts_of e.links)) (view_told e s view)
+    ∙ or-true e.telling_due (owes_nothing (facts_of e.links) e.told) due h.telling
+
+-- all was told that finds room
+pub told_room : (e : Inside) (s : State KeptQueues) (room : Bool) → HasRoom e → kept_in e ≡ s → room ≡ may_tell kept s.settings s.node → is_all_told kept s.settings s.node ≡ true
+    → HasRoom (record e { telling_due = not room })
+told_room e s room h view same told =
+    changed_room e e.links e.told e.timers (not room) h refl refl refl
+    (ap (λ (b : Bool). not b || owes_nothing (facts_of e.links) e.told) same
+    ∙ ap (λ (f : Facts). not (may_tell kept s.settings s.node) || owes_nothing f e.told) (sym (view_facts e s h view))
+    ∙ ap (λ (t : ToldTable). not (may_tell kept s.settings s.node) || owes_nothing (facts s.settings s.node.parts) t) (sym (view_told e s view))
+    ∙ told)
+
+-- what is to be told was told
+answered-by : (f : Facts) (t : ToldTable) (set destination : ℕ) (due : Bool) → (due || owes_nothing f t) ≡ true
+    → (due || owes_nothing f (with_told set destination (should f set destination) t)) ≡ true
+answered-by f t set destination true e = refl
+answered-by f t set destination false e =
+    owes_nothing_from_none f (with_told set destination (should f set destination) t)
+    (answered_owes_no_more f t set destination (none_from_owes_nothing f t e))
+
+pub answered_room : (e : Inside) (s : State KeptQueues) (t : ToldTable) (set destination : ℕ) (status : RouteStatus) → HasRoom e → kept_in e ≡ s
+    → status ≡ should (facts s.settings s.node.parts) set destination → t ≡ with_told set destination status e.told
+    → HasRoom (record e { told = t })
+answered_room e s t set destination status h view is same =
+    let all : t ≡ with_told set destination (should (facts_of e.links) set destination) e.told =
+    same ∙ ap (λ (x : RouteStatus). with_told set destination x e.told) (is ∙ ap (λ (f : Facts). should f set destination) (view_facts e s h view)) in
+    changed_room e e.links t e.timers e.telling_due h refl refl (ap shape_of same ∙ told_shape e.told set destination status)
+    (ap (λ (x : ToldTable). e.telling_due || owes_nothing (facts_of e.links) x) all
+    ∙ answered-by (facts_of e.links) e.told set destination e.telling_due h.telling)

@@ -1,0 +1,243 @@
+-- Adjacent points are told what they are owed, one destination after the other and one set after the other.
+use Rattle.std.proofs.Common.{◌≡◌, ◌≢◌, ◌<◌, ◌≤◌, ℕ, suc, ◌+◌, ◌-◌, length, replicate, Bool, true, false, ◌||◌, not, List, [], ◌∷◌, ◌++◌, Option, Some, None, refl, ap, sym, ◌∙◌, arith}
+use Rattle.std.specs.Prelude.{if◌then◌else◌}
+use Rattle.signalling_types.specs.declared.cause.Cause.{Cause}
+use Rattle.signalling_types.specs.Message.{Message, flow_of}
+use Rattle.settings_rows.specs.Configuration.{Configuration}
+use Rattle.route_table.specs.Facts.{Facts}
+use Rattle.route_table.specs.declared.route.RouteStatus.{RouteStatus}
+use Rattle.route_management.specs.Told.{ToldTable, row_of, with_told, shape_of}
+use Rattle.route_management.specs.Owed.{Owed, owed_at, owed_from, owed_to, owed_by_sets, owed, all_told, owes_nothing}
+use Rattle.route_management.proofs.Walking.{next_is_owed, next_is_not_owed, later_stay_owed, next_set, row_kept, AreTo, owed_are_to, others_stay_owed}
+use Rattle.route_management.proofs.Shape.{row_by_shape, rows_by_shape}
+use Rattle.route_management.proofs.Settled.{none_from_owes_nothing, all_told_owes_nothing}
+use Rattle.exchange.specs.State.{QueueKind, Parts, Node, State, with_node}
+use Rattle.exchange.specs.Queues.{KeptQueues, kept}
+use Rattle.exchange.specs.Routing.{facts, link_of}
+use Rattle.exchange.specs.Queueing.{no_room}
+use Rattle.exchange.specs.Made.{send}
+use Rattle.exchange.specs.Telling.{may_tell, tell, tell_if, tell_each, tell_at, tell_owed, is_all_told, route_message, told_parts}
+
+-- ---- what a message that is told leaves
+
+-- links, routes and what was told are those of other parts
+pub record KeepsRoutes (p o : Parts) : Type 0 where
+  pub facts : (c : Configuration) → facts c p ≡ facts c o
+  pub told : p.told ≡ o.told
+
+module _ {Q : Type 0} (q : QueueKind Q) (c : Configuration) where
+  pub send-routes : (room : Option Cause) (link : Option ℕ) (m : Message) (n : Node Q) → KeepsRoutes (send q c room link m n).parts n.parts
+  send-routes (Some cause) link m n = record { facts = λ c. refl; told = refl }
+  send-routes None None m n = record { facts = λ c. refl; told = refl }
+  send-routes None (Some l) m n = record { facts = λ c. refl; told = refl }
+
+  tell-routes : (o : Owed) (n : Node Q) → KeepsRoutes (tell q c o n).parts (told_parts c o n.parts)
+  tell-routes o n =
+      let m : Message = route_message c o.set o.destination o.status in
+      let next : Node Q = record { queues = n.queues; parts = told_parts c o n.parts } in
+      send-routes (no_room q c m n.queues) (link_of c next.parts (flow_of m)) m next
+
+  tell-facts : (o : Owed) (n : Node Q) → facts c (tell q c o n).parts ≡ facts c n.parts
+  tell-facts o n = (tell-routes o n).facts c
+
+  tell-told : (o : Owed) (n : Node Q) → (tell q c o n).parts.told ≡ with_told o.set o.destination o.status n.parts.told
+  tell-told o n = (tell-routes o n).told
+
+  either-facts : (b : Bool) (o : Owed) (n : Node Q) → facts c (if b then tell q c o n else n).parts ≡ facts c n.parts
+  either-facts true o n = tell-facts o n
+  either-facts false o n = refl
+
+  pub tell_each-facts : (os : List Owed) (n : Node Q) → facts c (tell_each q c os n).parts ≡ facts c n.parts
+  tell_each-facts [] n = refl
+  tell_each-facts (o ∷ os) n = tell_each-facts os (tell_if q c o n) ∙ either-facts (may_tell q c n) o n
+
+  either-row : (b : Bool) (o : Owed) (other : ℕ) (n : Node Q) → o.set ≢ other → row_of (if b then tell q c o n else n).parts.told other ≡ row_of n.parts.told other
+  either-row true o other n apart = ap (λ (t : ToldTable). row_of t other) (tell-told o n) ∙ row_kept o.set other o.destination o.status n.parts.told apart
+  either-row false o other n apart = refl
+
+  tell_each-row : (set other : ℕ) (os : List Owed) (n : Node Q) → AreTo set os → set ≢ other → row_of (tell_each q c os n).parts.told other ≡ row_of n.parts.told other
+  tell_each-row set other [] n to apart = refl
+  tell_each-row set other (o ∷ os) n to apart =
+      tell_each-row set other os (tell_if q c o n) to.1 apart ∙ either-row (may_tell q c n) o other n (λ e. apart (sym to.0 ∙ e))
+
+  either-adjacents : (b : Bool) (o : Owed) (n : Node Q) → (if b then tell q c o n else n).parts.told.adjacents ≡ n.parts.told.adjacents
+  either-adjacents true o n = ap (λ (t : ToldTable). t.adjacents) (tell-told o n)
+  either-adjacents false o n = refl
+
+  tell_each-adjacents : (os : List Owed) (n : Node Q) → (tell_each q c os n).parts.told.adjacents ≡ n.parts.told.adjacents
+  tell_each-adjacents [] n = refl
+  tell_each-adjacents (o ∷ os) n = tell_each-adjacents os (tell_if q c o n) ∙ either-adjacents (may_tell q c n) o n
+
+  -- ---- room
+
+  -- where there is none, nothing is told
+  pub none_told : (os : List Owed) (n : Node Q) → may_tell q c n ≡ false → tell_each q c os n ≡ n
+  none_told [] n full = refl
+  none_told (o ∷ os) n full =
+      ap (λ (b : Bool). tell_each q c os (if b then tell q c o n else n)) full ∙ none_told os n full
+
+  pub none_told_at : (set destination : ℕ) (status : Option RouteStatus) (n : Node Q) → may_tell q c n ≡ false → n ≡ tell_at q c set destination status n
+  none_told_at set destination (Some status) n full =
+      ap (λ (b : Bool). if b then tell q c (record { set = set; destination = destination; status = status }) n else n) (sym full)
+  none_told_at set destination None n full = refl
+
+  full-then : (b : Bool) (os : List Owed) (o : Owed) (n : Node Q) → may_tell q c n ≡ b → may_tell q c (tell_each q c os (if b then tell q c o n else n)) ≡ true → b ≡ true
+  full-then true os o n e room = refl
+  full-then false os o n e room = sym e ∙ sym (ap (may_tell q c) (none_told os n e)) ∙ room
+
+  -- where there is some in the end, all was told
+  pub all_were_told : (os : List Owed) (n : Node Q) → may_tell q c (tell_each q c os n) ≡ true → (tell_each q c os n).parts.told ≡ all_told os n.parts.told
+  all_were_told [] n room = refl
+  all_were_told (o ∷ os) n room =
+      let had : may_tell q c n ≡ true = full-then (may_tell q c n) os o n refl room in
+      all_were_told os (tell_if q c o n) room
+      ∙ ap (λ (b : Bool). all_told os (if b then tell q c o n else n).parts.told) had
+      ∙ ap (all_told os) (tell-told o n)
+
+  -- so in the end nothing is owed that finds room
+  settled-by : (b : Bool) (n : Node Q) → may_tell q c (tell_each q c (owed (facts c n.parts) n.parts.told) n) ≡ b
+      → (not b || owes_nothing (facts c (tell_each q c (owed (facts c n.parts) n.parts.told) n).parts) (tell_each q c (owed (facts c n.parts) n.parts.told) n).parts.told) ≡ true
+  settled-by true n room =
+      let os : List Owed = owed (facts c n.parts) n.parts.told in
+      ap (λ (f : Facts). owes_nothing f (tell_each q c os n).parts.told) (tell_each-facts os n)
+      ∙ ap (owes_nothing (facts c n.parts)) (all_were_told os n room)
+      ∙ all_told_owes_nothing (facts c n.parts) n.parts.told
+  settled-by false n room = refl
+
+  pub all_is_told : (n : Node Q) → is_all_told q c (tell_owed q c n) ≡ true
+  unfolding tell_owed
+  all_is_told n =
+      let next : Node Q = tell_each q c (owed (facts c n.parts) n.parts.told) n in
+      settled-by (may_tell q c next) n refl
+
+  -- ---- nothing to tell
+
+  pub nothing_told : (n : Node Q) → owes_nothing (facts c n.parts) n.parts.told ≡ true → tell_owed q c n ≡ n
+  unfolding tell_owed
+  nothing_told n e = ap (λ (os : List Owed). tell_each q c os n) (none_from_owes_nothing (facts c n.parts) n.parts.told e)
+
+  pub no_room_told : (n : Node Q) → may_tell q c n ≡ false → tell_owed q c n ≡ n
+  unfolding tell_owed
+  no_room_told n full = none_told (owed (facts c n.parts) n.parts.told) n full
+
+  all-told-by : (b : Bool) (n : Node Q) → may_tell q c n ≡ b → (not b || owes_nothing (facts c n.parts) n.parts.told) ≡ true → tell_owed q c n ≡ n
+  all-told-by true n room e = nothing_told n e
+  all-told-by false n room e = no_room_told n room
+
+  pub told_already : (n : Node Q) → is_all_told q c n ≡ true → tell_owed q c n ≡ n
+  told_already n e = all-told-by (may_tell q c n) n refl e
+
+  -- ---- one destination after the other
+
+  -- what the adjacent point of a set is still to be told, of so many destinations from one on
+  abbrev pub row_left : (set from count : ℕ) → Node Q → Node Q
+  row_left set from count n = tell_each q c (owed_from (facts c n.parts) n.parts.told set from count) n
+
+  later-left : (b : Bool) (o : Owed) (from count : ℕ) (n : Node Q) → o.destination < from
+      → row_left o.set from count (if b then tell q c o n else n)
+      ≡ tell_each q c (owed_from (facts c n.parts) n.parts.told o.set from count) (if b then tell q c o n else n)
+  later-left true o from count n before =
+      ap (λ (os : List Owed). tell_each q c os (tell q c o n))
+      (ap (λ (f : Facts). owed_from f (tell q c o n).parts.told o.set from count) (tell-facts o n)
+      ∙ ap (λ (t : ToldTable). owed_from (facts c n.parts) t o.set from count) (tell-told o n)
+      ∙ later_stay_owed (facts c n.parts) n.parts.told o.set o.destination from count o.status before)
+  later-left false o from count n before = refl
+
+  at-place : (set from count : ℕ) (status : Option RouteStatus) (n : Node Q) → owed_at (facts c n.parts) n.parts.told set from ≡ status
+      → row_left set (suc from) count (tell_at q c set from status n) ≡ row_left set from (suc count) n
+  at-place set from count (Some status) n e =
+      let o : Owed = record { set = set; destination = from; status = status } in
+      later-left (may_tell q c n) o (suc from) count n (omega arith)
+      ∙ ap (λ (os : List Owed). tell_each q c os n) (sym (next_is_owed (facts c n.parts) n.parts.told set from count status e))
+  at-place set from count None n e = ap (λ (os : List Owed). tell_each q c os n) (sym (next_is_not_owed (facts c n.parts) n.parts.told set from count e))
+
+  pub one_told : (set from count : ℕ) (n : Node Q)
+      → row_left set (suc from) count (tell_at q c set from (owed_at (facts c n.parts) n.parts.told set from) n) ≡ row_left set from (suc count) n
+  one_told set from count n = at-place set from count (owed_at (facts c n.parts) n.parts.told set from) n refl
+
+  -- ---- one set after the other
+
+  -- what the adjacent points of so many sets from one on are still to be told
+  abbrev pub sets_left : (from count : ℕ) → Node Q → Node Q
+  sets_left from count n = tell_each q c (owed_by_sets (facts c n.parts) n.parts.told from count) n
+
+  tell_each-behind : (os xs : List Owed) (n : Node Q) → tell_each q c (os ++ xs) n ≡ tell_each q c xs (tell_each q c os n)
+  tell_each-behind [] xs n = refl
+  tell_each-behind (o ∷ os) xs n = tell_each-behind os xs (tell_if q c o n)
+
+  pub set_told : (from count : ℕ) (n : Node Q)
+      → sets_left (suc from) count (tell_each q c (owed_to (facts c n.parts) n.parts.told from) n) ≡ sets_left from (suc count) n
+  set_told from count n =
+      let f : Facts = facts c n.parts in
+      let t : ToldTable = n.parts.told in
+      let next : Node Q = tell_each q c (owed_to f t from) n in
+      ap (λ (os : List Owed). tell_each q c os next)
+      (ap (λ (g : Facts). owed_by_sets g next.parts.told (suc from) count) (tell_each-facts (owed_to f t from) n)
+      ∙ others_stay_owed f t next.parts.told (suc from) count (sym (tell_each-adjacents (owed_to f t from) n))
+      (λ set l. tell_each-row from set (owed_to f t from) n (owed_are_to f t from 0 _) (λ e. omega (arith, l, e))))
+      ∙ sym (tell_each-behind (owed_to f t from) (owed_by_sets f t (suc from) count) n)
+      ∙ ap (λ (os : List Owed). tell_each q c os n) (sym (next_set f t from count))
+
+-- ---- the same of a state of the code
+
+abbrev known : State KeptQueues → Facts
+known s = facts s.settings s.node.parts
+
+-- a state once the adjacent point of a set was told of so many destinations from one on
+abbrev pub row_rest : (set from count : ℕ) → State KeptQueues → State KeptQueues
+row_rest set from count s = with_node s (row_left kept s.settings set from count s.node)
+
+-- and once those of so many sets from one on were told all
+abbrev pub sets_rest : (from count : ℕ) → State KeptQueues → State KeptQueues
+sets_rest from count s = with_node s (sets_left kept s.settings from count s.node)
+
+-- one destination was told
+abbrev pub told_at_place : (set destination : ℕ) → State KeptQueues → State KeptQueues
+told_at_place set destination s =
+    with_node s (tell_at kept s.settings set destination (owed_at (known s) s.node.parts.told set destination) s.node)
+
+-- one set was told all
+abbrev pub told_set : (set : ℕ) → State KeptQueues → State KeptQueues
+told_set set s = with_node s (tell_each kept s.settings (owed_to (known s) s.node.parts.told set) s.node)
+
+pub row_step : (s next : State KeptQueues) (set from end : ℕ) → from < end → next ≡ told_at_place set from s
+    → row_rest set (from + 1) (end - (from + 1)) next ≡ row_rest set from (end - from) s
+row_step s next set from end h e =
+    let left : end - from ≡ suc (end - (from + 1)) = omega (arith, h) in
+    let one : from + 1 ≡ suc from = omega arith in
+    ap (row_rest set (from + 1) (end - (from + 1))) e
+    ∙ ap (λ (k : ℕ). row_rest set k (end - (from + 1)) (told_at_place set from s)) one
+    ∙ ap (λ (n : Node KeptQueues). with_node s n) (one_told kept s.settings set from (end - (from + 1)) s.node)
+    ∙ ap (λ (k : ℕ). row_rest set from k s) (sym left)
+
+pub row_end : (s : State KeptQueues) (set from end : ℕ) → end ≤ from → row_rest set from (end - from) s ≡ s
+row_end s set from end h =
+    let none : end - from ≡ 0 = omega (arith, h) in
+    ap (λ (k : ℕ). row_rest set from k s) none
+
+pub row_whole : (s : State KeptQueues) (set : ℕ) → set < length s.settings.sets
+    → shape_of s.node.parts.told ≡ replicate (length s.settings.sets) (length s.settings.destinations)
+    → row_rest set 0 (length s.settings.destinations) s ≡ told_set set s
+row_whole s set h shape =
+    ap (λ (k : ℕ). row_rest set 0 k s) (sym (row_by_shape s.node.parts.told (length s.settings.sets) (length s.settings.destinations) set shape h))
+
+pub set_step : (s next : State KeptQueues) (from end : ℕ) → from < end → next ≡ told_set from s
+    → sets_rest (from + 1) (end - (from + 1)) next ≡ sets_rest from (end - from) s
+set_step s next from end h e =
+    let left : end - from ≡ suc (end - (from + 1)) = omega (arith, h) in
+    let one : from + 1 ≡ suc from = omega arith in
+    ap (sets_rest (from + 1) (end - (from + 1))) e
+    ∙ ap (λ (k : ℕ). sets_rest k (end - (from + 1)) (told_set from s)) one
+    ∙ ap (λ (n : Node KeptQueues). with_node s n) (set_told kept s.settings from (end - (from + 1)) s.node)
+    ∙ ap (λ (k : ℕ). sets_rest from k s) (sym left)
+
+pub sets_end : (s : State KeptQueues) (from end : ℕ) → end ≤ from → sets_rest from (end - from) s ≡ s
+sets_end s from end h =
+    let none : end - from ≡ 0 = omega (arith, h) in
+    ap (λ (k : ℕ). sets_rest from k s) none
+
+pub sets_whole : (s : State KeptQueues) → shape_of s.node.parts.told ≡ replicate (length s.settings.sets) (length s.settings.destinations)
+    → sets_rest 0 (length s.settings.sets) s ≡ with_node s (tell_owed kept s.settings s.node)
+unfolding tell_owed
+sets_whole s shape =
+    ap (λ (k : ℕ). sets_rest 0 k s) (sym (rows_by_shape s.node.parts.told (length s.settings.sets) (length s.settings.destinations) shape))

@@ -1,0 +1,13 @@
+-- What was told keeps its shape, and telling is due.
+use Rattle.std.proofs.Common.{length, true, refl, ap, ◌∙◌}
+use Rattle.node_links.specs.Network.{Network}
+use Rattle.route_management.specs.Told.{shape_of}
+use Rattle.route_management.proofs.Shape.{reset_shape}
+use Rattle.exchange.proofs.Rooms.{changed_room}
+use Rattle.exchange.proofs.exchange.Exchange.reset_set.Goals as goal
+
+pub invariant_of-self : goal.invariant_of-self
+invariant_of-self c =
+    changed_room c.self.inside c.reset_statuses.new.self c.reset.new.self c.clear_set-2.new.self true c.self.invariant
+    (ap (λ (n : Network). length n.links) c.reset_statuses.ensures) (ap (λ (n : Network). n.sets) c.reset_statuses.ensures)
+    (ap shape_of c.reset.ensures ∙ reset_shape c.self.inside.told c.args.set) refl

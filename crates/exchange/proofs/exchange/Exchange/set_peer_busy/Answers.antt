@@ -1,0 +1,10 @@
+-- The link serves as before.
+use Rattle.std.proofs.Common.{refl}
+use Rattle.node_links.specs.Network.{link_in}
+use Rattle.exchange.proofs.Rooms.{still_room}
+use Rattle.exchange.proofs.exchange.Exchange.set_peer_busy.Goals as goal
+
+pub invariant_of-self : goal.invariant_of-self
+invariant_of-self c =
+    still_room c.self.inside c.set_peer_busy.new.self c.args.link (record (link_in c.self.inside.links.links c.args.link) { peer_busy = c.args.busy })
+    c.self.invariant c.set_peer_busy.ensures refl

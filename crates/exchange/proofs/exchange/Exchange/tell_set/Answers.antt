@@ -1,0 +1,21 @@
+-- A point that can't be reached is owed nothing.
+use Rattle.std.proofs.Common.{List, ap, sym, ◌∙◌}
+use Rattle.linkset.specs.Preference.{has_link}
+use Rattle.route_table.specs.Facts.{Facts, set_at}
+use Rattle.route_management.specs.Owed.{Owed}
+use Rattle.route_management.proofs.Walking.{unreached_is_owed_nothing}
+use Rattle.exchange.specs.State.{State, with_node}
+use Rattle.exchange.specs.Queues.{KeptQueues, kept}
+use Rattle.exchange.specs.Routing.{facts}
+use Rattle.exchange.specs.Telling.{tell_each}
+use Rattle.exchange.proofs.Rooms.{view_facts}
+use Rattle.exchange.proofs.exchange.Exchange.tell_set.Goals as goal
+
+pub returns-else-has_link : goal.returns-else-has_link
+returns-else-has_link c =
+    let s : State KeptQueues = c.args.self.now in
+    let f : Facts = facts s.settings s.node.parts in
+    ap (λ (os : List Owed). with_node s (tell_each kept s.settings os s.node))
+    (sym (unreached_is_owed_nothing f s.node.parts.told c.args.set
+    (ap (λ (f : Facts). has_link f.in_service (set_at f c.args.set)) (view_facts c.self.inside s c.self.invariant c.self.view_is)
+    ∙ sym c.has_link.ensures ∙ c.if-has_link.false)))

@@ -1,0 +1,9 @@
+-- What is left to tell, and what was told, is all that is owed.
+use Rattle.std.proofs.Common.{◌≡◌, ◌-◌, length}
+use Rattle.exchange.proofs.Telling.{sets_rest}
+use Rattle.exchange.proofs.exchange.Exchange.tell_sets.Given as goal
+
+abbrev pub invariant-loop-set : goal.invariant-loop-set
+invariant-loop-set l =
+    sets_rest l.set (length l.fn.self.settings.sets - l.set) l.self
+    ≡ sets_rest 0 (length l.fn.self.settings.sets) l.fn.self

@@ -1,0 +1,104 @@
+//! Links that change. As long as none enters or leaves service, what is known of routes stays, and telling isn't due.
+
+ghost use Rattle.std.specs.Prelude.{◌≡◌, ◌<◌, drop, length, not, false, if◌then◌else◌};
+ghost use Rattle.exchange.specs.State.{with_node, with_parts};
+ghost use Rattle.exchange.specs.Links.{link_at, with_link};
+ghost use Rattle.link_alignment.specs.Table.{action_at};
+ghost use Rattle.node_links.specs.LinkState.{acted, fallen, opened};
+
+use super::Exchange;
+use link_alignment::{Action, Input};
+use stp_types::LinkId;
+
+impl Exchange {
+    /// A link owes an acknowledgement from now on, or not.
+    #[inline(always)]
+    pub(super) fn set_owed(&mut self, link: LinkId, owed: bool)
+        requires { link < length self.old.settings.links }
+        ensures { self.new ≡ with_node self.old (with_parts self.old.node (with_link self.old.node.parts link
+            (record (link_at self.old.node.parts link) { acknowledgement_owed = owed }))) }
+    {
+        self.links.set_owed(link, owed);
+    }
+
+    /// A link knows its peer busy from now on, or not.
+    pub(super) fn set_peer_busy(&mut self, link: LinkId, busy: bool)
+        requires { link < length self.old.settings.links }
+        ensures { self.new ≡ with_node self.old (with_parts self.old.node (with_link self.old.node.parts link
+            (record (link_at self.old.node.parts link) { peer_busy = busy }))) }
+    {
+        self.links.set_peer_busy(link, busy);
+    }
+
+    /// A link forgets the status that waited longest, if one waits.
+    pub(super) fn drop_status(&mut self, link: LinkId)
+        requires { link < length self.old.settings.links }
+        ensures { self.new ≡ with_node self.old (with_parts self.old.node (with_link self.old.node.parts link
+            (record (link_at self.old.node.parts link) {
+              waiting = drop 1 (link_at self.old.node.parts link).waiting;
+            }))) }
+    {
+        self.links.drop_status(link);
+    }
+
+    /// A link loses its association.
+    pub(super) fn part(&mut self, link: LinkId)
+        requires { link < length self.old.settings.links }
+        ensures { self.new ≡ with_node self.old (with_parts self.old.node (with_link self.old.node.parts link
+            (record (link_at self.old.node.parts link) { association = false }))) }
+    {
+        self.links.part(link);
+    }
+
+    /// A link may open from now on, or not.
+    pub(super) fn allow(&mut self, link: LinkId, active: bool)
+        requires { link < length self.old.settings.links }
+        ensures { self.new ≡ with_node self.old (with_parts self.old.node (with_link self.old.node.parts link
+            (record (link_at self.old.node.parts link) { active = active }))) }
+    {
+        self.links.allow(link, active);
+    }
+
+    /// A link begins to align, with an association.
+    pub(super) fn begin_to_align(&mut self, link: LinkId)
+        requires { link < length self.old.settings.links }
+        ensures { self.new ≡ with_node self.old (with_parts self.old.node
+            (with_link self.old.node.parts link (opened (link_at self.old.node.parts link)))) }
+    {
+        self.telling_due |= self.links.state(link).is_in_service();
+        self.links.open(link);
+    }
+
+    /// A link is down. Its association stays.
+    pub(super) fn go_down(&mut self, link: LinkId)
+        requires { link < length self.old.settings.links }
+        ensures { self.new ≡ with_node self.old (with_parts self.old.node
+            (with_link self.old.node.parts link (fallen (link_at self.old.node.parts link)))) }
+    {
+        self.telling_due |= self.links.state(link).is_in_service();
+        self.links.fall(link);
+    }
+
+    /// A link does what its alignment does about an input, and says what that is.
+    #[inline(always)]
+    pub(super) fn align(&mut self, link: LinkId, input: Input) -> Action
+        requires { link < length self.old.settings.links }
+        ensures action { result ≡ action_at (link_at self.old.node.parts link).alignment input }
+        ensures state { self.new ≡ with_node self.old (with_parts self.old.node
+            (with_link self.old.node.parts link (acted result (link_at self.old.node.parts link)))) }
+    {
+        let served = self.links.state(link).is_in_service();
+        let action = self.links.on(link, input);
+        let serves = self.links.state(link).is_in_service();
+        self.telling_due |= has_changed(served, serves);
+        action
+    }
+}
+
+/// Whether a link entered or left service.
+#[inline(always)]
+fn has_changed(served: bool, serves: bool) -> bool
+    ensures { result ≡ (if served then not serves else serves) }
+{
+    if served { !serves } else { serves }
+}

@@ -1,0 +1,197 @@
+//! What adjacent points say of routes, and what that does to flows.
+
+ghost use Rattle.std.specs.Prelude.{◌≡◌, ◌<◌, length, IfSome};
+ghost use Rattle.stp_types.specs.Readings.{destination_place, set_place};
+ghost use Rattle.exchange.specs.State.{with_node, with_parts};
+ghost use Rattle.exchange.specs.Queues.{kept};
+ghost use Rattle.exchange.specs.Exchange.{Ends};
+ghost use Rattle.exchange.specs.Routing.{facts};
+ghost use Rattle.exchange.specs.Ticking.{with_timers};
+ghost use Rattle.exchange.specs.Made.{management_to};
+ghost use Rattle.exchange.specs.Points.{adjacent_of};
+ghost use Rattle.route_table.specs.Statuses.{status_of};
+ghost use Rattle.route_management.specs.Hearing.{heard};
+ghost use Rattle.exchange.specs.Rerouting as rule;
+
+use super::Exchange;
+use changeback::reroute;
+use flow_hold::Procedure;
+use mgmt_codec::Management;
+use route_management::Heard;
+use route_table::RouteStatus;
+use stp_types::{Cause, Outcome, PointCode, SetId};
+use timer_wheel::{RouteTimer, TimerName};
+
+impl Exchange {
+    /// A status that an adjacent point tells of another. Refused UnknownDestination where the other is no destination;
+    /// ignored where it is that very point, or isn't reached by its set (Q.704 §13.2 to §13.4).
+    pub(super) fn hear_status(
+        &mut self,
+        status: RouteStatus,
+        point: PointCode,
+        about: PointCode,
+    ) -> Outcome
+        ensures { Ends self.old result self.new (rule.hear_status kept self.old.settings status
+            (set_place self.old.settings point) (destination_place self.old.settings about) self.old.node) }
+    {
+        let set = self.settings.set_to(point);
+        let destination = self.settings.destination(about);
+        self.hear_status_of(status, set, destination)
+    }
+
+    /// A status that the adjacent point of a set tells of a destination, where both are there.
+    fn hear_status_of(
+        &mut self,
+        status: RouteStatus,
+        set: Option<SetId>,
+        destination: Option<usize>,
+    ) -> Outcome
+        requires set { IfSome set (λ set. set < length self.old.settings.sets) }
+        requires destination { IfSome destination
+            (λ destination. destination < length self.old.settings.destinations) }
+        ensures { Ends self.old result self.new
+            (rule.hear_status kept self.old.settings status set destination self.old.node) }
+    {
+        let Some(destination) = destination else {
+            return Outcome::Refused(Cause::UnknownDestination);
+        };
+        let Some(set) = set else {
+            return Outcome::Ignored;
+        };
+        self.heed_status(set, destination, status)
+    }
+
+    /// A status that the adjacent point of this set tells of this destination.
+    fn heed_status(&mut self, set: SetId, destination: usize, status: RouteStatus) -> Outcome
+        requires set { set < length self.old.settings.sets }
+        requires destination { destination < length self.old.settings.destinations }
+        ensures { Ends self.old result self.new (rule.heed_status kept self.old.settings
+            (heard (facts self.old.settings self.old.node.parts) self.old.node.parts.told set destination status)
+            set destination status self.old.node) }
+    {
+        match self.told.received(&self.links, set, destination, status) {
+            Heard::Ignored => Outcome::Ignored,
+            Heard::Unchanged => Outcome::Handled,
+            Heard::Changed => {
+                self.change_status(set, destination, status);
+                Outcome::Handled
+            }
+        }
+    }
+
+    /// The route to a destination over a set gets another status. Prohibited holds nothing (forced rerouting); the
+    /// others hold the flows that go from one link to another (controlled rerouting; Q.704 §7, §8).
+    fn change_status(&mut self, set: SetId, destination: usize, status: RouteStatus)
+        requires set { set < length self.old.settings.sets }
+        requires destination { destination < length self.old.settings.destinations }
+        ensures { self.new ≡ with_node self.old (with_parts self.old.node
+            (rule.with_status_heard self.old.settings set destination status self.old.node.parts)) }
+    {
+        self.time_status(set, destination, status);
+        if status.is(RouteStatus::Prohibited) {
+            self.telling_due = true;
+            self.links.set_status(destination, set, status);
+        } else {
+            self.reroute(set, destination, status);
+        }
+    }
+
+    /// T10 runs while a route isn't allowed.
+    fn time_status(&mut self, set: SetId, destination: usize, status: RouteStatus)
+        requires destination { destination < length self.old.settings.destinations }
+        ensures { self.new ≡ with_node self.old (with_timers self.old.node
+            (rule.timed_status self.old.settings set destination status self.old.node.parts.timers)) }
+    {
+        let timer = TimerName::T10(set, self.number_of(destination));
+        match status {
+            RouteStatus::Allowed => self.timers.clear(timer),
+            RouteStatus::Restricted | RouteStatus::Prohibited => {
+                self.timers.set(timer, self.settings.timers().t10);
+            }
+        }
+    }
+
+    /// Controlled rerouting: the route to a destination over a set gets a status. Flows to that destination that go
+    /// from one link to another for it are held, and where there are such flows, T6 starts anew.
+    fn reroute(&mut self, set: SetId, destination: usize, status: RouteStatus)
+        requires destination { destination < length self.old.settings.destinations }
+        ensures { self.new ≡ with_node self.old (with_parts self.old.node
+            (rule.controlled self.old.settings set destination status self.old.node.parts)) }
+    {
+        let timer = TimerName::T6(self.number_of(destination));
+        self.telling_due = true;
+        self.release_due = true;
+        if reroute(&mut self.links, &mut self.holds, destination, set, status) {
+            self.timers.set(timer, self.settings.timers().t6);
+        }
+    }
+
+    /// T6 of a destination ran out: its rerouting holds nothing any more.
+    pub(super) fn end_rerouting(&mut self, destination: u16)
+        ensures { self.new ≡ with_node self.old
+            (with_parts self.old.node (rule.rerouting_ended destination self.old.node.parts)) }
+    {
+        self.release_due = true;
+        self.holds
+            .lift(Procedure::Reroute(usize::from(destination)));
+    }
+
+    /// The first link of a set enters service: all routes over it are allowed, its adjacent point takes all
+    /// destinations for allowed, and T8 and T10 of the set stop.
+    pub(super) fn reset_set(&mut self, set: SetId)
+        ensures { self.new ≡ with_node self.old
+            (with_parts self.old.node (rule.with_set_reset self.old.settings set self.old.node.parts)) }
+    {
+        self.telling_due = true;
+        self.links.reset_statuses(set);
+        self.told.reset(set);
+        self.timers.clear_set(RouteTimer::T8, set);
+        self.timers.clear_set(RouteTimer::T10, set);
+    }
+
+    /// T10 of a set and a destination ran out: the adjacent point is tested about its route once more, while that is
+    /// prohibited or restricted, and T10 runs again (Q.704 §13.5).
+    pub(super) fn ask_again(&mut self, set: SetId, destination: u16)
+        ensures { self.new ≡
+            with_node self.old (rule.ask_again kept self.old.settings set destination self.old.node) }
+    {
+        let destination = usize::from(destination);
+        let is_there = set.index() < self.settings.sets().len()
+            && destination < self.settings.destinations().len();
+        if is_there {
+            self.ask(set, destination);
+        }
+    }
+
+    /// Tests the route of the adjacent point of this set to this destination.
+    fn ask(&mut self, set: SetId, destination: usize)
+        requires set { set < length self.old.settings.sets }
+        requires destination { destination < length self.old.settings.destinations }
+        ensures { self.new ≡ with_node self.old (rule.ask_by kept self.old.settings
+            (status_of (facts self.old.settings self.old.node.parts) destination set) set destination self.old.node) }
+    {
+        let about = self.point_of(destination);
+        match self.links.status_of(destination, set) {
+            Some(RouteStatus::Prohibited) => {
+                self.send_test(set, destination, &Management::RouteSetTestProhibited(about));
+            }
+            Some(RouteStatus::Restricted) => {
+                self.send_test(set, destination, &Management::RouteSetTestRestricted(about));
+            }
+            Some(RouteStatus::Allowed) | None => {}
+        }
+    }
+
+    /// A test about a destination goes to the adjacent point of a set, and T10 runs again.
+    fn send_test(&mut self, set: SetId, destination: usize, test: &Management)
+        requires set { set < length self.old.settings.sets }
+        requires destination { destination < length self.old.settings.destinations }
+        ensures { self.new ≡ with_node self.old (rule.ask kept self.old.settings
+            (management_to self.old.settings (adjacent_of self.old.settings set) test.now) set destination
+            self.old.node) }
+    {
+        let timer = TimerName::T10(set, self.number_of(destination));
+        self.timers.set(timer, self.settings.timers().t10);
+        self.send_management(self.adjacent_of(set), test);
+    }
+}

@@ -1,0 +1,291 @@
+//! What adjacent points are told of routes.
+
+ghost use Rattle.std.specs.Prelude.{◌≡◌, ◌<◌, length, Some, IfSome};
+ghost use Rattle.stp_types.specs.Readings.{destination_place, set_place};
+ghost use Rattle.route_management.specs.Hearing as hearing;
+ghost use Rattle.route_management.specs.Owed.{owed_at, owed_to, should};
+ghost use Rattle.exchange.specs.State.{with_node, with_parts};
+ghost use Rattle.exchange.specs.Queues.{kept};
+ghost use Rattle.exchange.specs.Exchange.{Ends};
+ghost use Rattle.exchange.specs.Made.{send_routed};
+ghost use Rattle.exchange.specs.Routing.{facts};
+ghost use Rattle.exchange.specs.Points as points;
+ghost use Rattle.exchange.specs.Telling as rule;
+
+use super::Exchange;
+use cell_pool::Lanes;
+use mgmt_codec::Management;
+use route_management::RouteTest;
+use route_table::RouteStatus;
+use stp_types::{Cause, Limits, LinkId, Outcome, PointCode, SetId};
+use timer_wheel::TimerName;
+
+/// What is owed is told while fewer management messages than this stand in the node.
+const TOLD_BELOW: usize = 128;
+
+impl Exchange {
+    /// Tells adjacent points what they are owed, while there is room for it. Unless telling is due, they are owed
+    /// nothing.
+    #[inline(always)]
+    pub(super) fn tell_owed(&mut self)
+        ensures { self.new ≡ with_node self.old (rule.tell_owed kept self.old.settings self.old.node) }
+    {
+        if self.telling_due && self.may_tell() {
+            self.tell_all();
+        }
+    }
+
+    /// Tells each adjacent point what it is owed, by set and then by destination.
+    #[inline(never)]
+    fn tell_all(&mut self)
+        ensures { self.new ≡ with_node self.old (rule.tell_owed kept self.old.settings self.old.node) }
+    {
+        self.tell_sets();
+        self.telling_due = !self.may_tell();
+    }
+
+    /// Tells each adjacent point what it is owed; telling stays due.
+    fn tell_sets(&mut self)
+        ensures { self.new ≡ with_node self.old (rule.tell_owed kept self.old.settings self.old.node) }
+    {
+        for set in 0..self.settings.sets().len() {
+            self.tell_set(SetId::new(set as u8));
+        }
+    }
+
+    /// Tells the adjacent point of a set what it is owed, by destination.
+    fn tell_set(&mut self, set: SetId)
+        requires { set < length self.old.settings.sets }
+        ensures { self.new ≡ with_node self.old (rule.tell_each kept self.old.settings
+            (owed_to (facts self.old.settings self.old.node.parts) self.old.node.parts.told set) self.old.node) }
+    {
+        if self.links.has_link(set) {
+            self.tell_row(set);
+        }
+    }
+
+    /// Tells the adjacent point of a set with a link in service what it is owed, by destination.
+    fn tell_row(&mut self, set: SetId)
+        requires { set < length self.old.settings.sets }
+        ensures { self.new ≡ with_node self.old (rule.tell_each kept self.old.settings
+            (owed_to (facts self.old.settings self.old.node.parts) self.old.node.parts.told set) self.old.node) }
+    {
+        for destination in 0..self.settings.destinations().len() {
+            self.tell_about(set, destination);
+        }
+    }
+
+    /// Tells the adjacent point of a set what it is owed of a destination, where there is room for it. Telling stays
+    /// due.
+    fn tell_about(&mut self, set: SetId, destination: usize)
+        requires set { set < length self.old.settings.sets }
+        requires destination { destination < length self.old.settings.destinations }
+        ensures { self.new ≡ with_node self.old (rule.tell_at kept self.old.settings set destination
+            (owed_at (facts self.old.settings self.old.node.parts) self.old.node.parts.told set destination)
+            self.old.node) }
+    {
+        self.telling_due = true;
+        if !self.may_tell() {
+            return;
+        }
+        if let Some(status) = self.told.owed(&self.links, set, destination) {
+            self.tell_status(set, destination, status);
+        }
+    }
+
+    /// Tells the adjacent point of a set a status that it is owed of a destination. Telling stays due.
+    fn tell_status(&mut self, set: SetId, destination: usize, status: RouteStatus)
+        requires set { set < length self.old.settings.sets }
+        requires destination { destination < length self.old.settings.destinations }
+        ensures { self.new ≡ with_node self.old (rule.tell kept self.old.settings
+            (record { set = set; destination = destination; status = status }) self.old.node) }
+    {
+        self.record_told(set, destination, status);
+        if status.is(RouteStatus::Prohibited) {
+            self.inhibit(set, destination);
+        }
+        self.send_status(set, destination, status);
+    }
+
+    /// The adjacent point of a set was told a status of a destination. Telling is due.
+    fn record_told(&mut self, set: SetId, destination: usize, status: RouteStatus)
+        ensures { self.new ≡ with_node self.old (with_parts self.old.node
+            (rule.answered_parts set destination status self.old.node.parts)) }
+    {
+        self.telling_due = true;
+        self.told.tell(set, destination, status);
+    }
+
+    /// T8 starts for a set and a destination, anew where it runs already.
+    fn inhibit(&mut self, set: SetId, destination: usize)
+        requires { destination < length self.old.settings.destinations }
+        ensures { self.new ≡ with_node self.old (with_parts self.old.node
+            (rule.inhibited self.old.settings set destination self.old.node.parts)) }
+    {
+        let timer = TimerName::T8(set, self.number_of(destination));
+        self.timers.set(timer, self.settings.timers().t8);
+    }
+
+    /// Sends the adjacent point of a set the message that tells a status of a destination.
+    fn send_status(&mut self, set: SetId, destination: usize, status: RouteStatus)
+        requires set { set < length self.old.settings.sets }
+        requires destination { destination < length self.old.settings.destinations }
+        ensures { self.new ≡ with_node self.old (send_routed kept self.old.settings
+            (rule.route_message self.old.settings set destination status) self.old.node) }
+    {
+        let about = self.point_of(destination);
+        self.send_management(self.adjacent_of(set), &telling(status, about));
+    }
+
+    /// A message to the destination of this number found no route. If it came by a link, transfer-prohibited about the
+    /// destination goes to the point at the other end of that link, and T8 starts. None goes while T8 runs, where that
+    /// point is the destination itself, or where there is no room (Q.704 §13.2).
+    #[inline(never)]
+    pub(super) fn answer_no_route(&mut self, from: Option<LinkId>, destination: usize)
+        requires from { IfSome from (λ link. link < length self.old.settings.links) }
+        requires destination { destination < length self.old.settings.destinations }
+        ensures { self.new ≡ with_node self.old
+            (rule.answer_no_route kept self.old.settings from (Some destination) self.old.node) }
+    {
+        let Some(link) = from else {
+            return;
+        };
+        let set = self.set_of(link);
+        if self.may_tell() && !self.is_inhibited(set, destination) {
+            self.inhibit(set, destination);
+            self.send_status(set, destination, RouteStatus::Prohibited);
+        }
+    }
+
+    /// Whether no transfer-prohibited message about a destination goes out to the adjacent point of a set: for now, as
+    /// one was just sent; or ever, as it is that point itself.
+    fn is_inhibited(&self, set: SetId, destination: usize) -> bool
+        requires { destination < length self.now.settings.destinations }
+        ensures { result ≡ rule.is_inhibited set destination self.now.node.parts }
+    {
+        let timer = TimerName::T8(set, self.number_of(destination));
+        self.timers.is_running(timer) || self.told.is_adjacent(set, destination)
+    }
+
+    /// A test of an adjacent point about another. Refused UnknownDestination where the other is no destination; ignored
+    /// where it is that very point. It is answered where the point is to be told something else than it asks about (Q.704
+    /// §13.5).
+    pub(super) fn be_tested(
+        &mut self,
+        test: RouteTest,
+        point: PointCode,
+        about: PointCode,
+    ) -> Outcome
+        ensures { Ends self.old result self.new (rule.be_tested kept self.old.settings test
+            (set_place self.old.settings point) (destination_place self.old.settings about) self.old.node) }
+    {
+        let set = self.settings.set_to(point);
+        let destination = self.settings.destination(about);
+        self.be_tested_of(test, set, destination)
+    }
+
+    /// A test of the adjacent point of a set about a destination, where both are there.
+    fn be_tested_of(
+        &mut self,
+        test: RouteTest,
+        set: Option<SetId>,
+        destination: Option<usize>,
+    ) -> Outcome
+        requires set { IfSome set (λ set. set < length self.old.settings.sets) }
+        requires destination { IfSome destination
+            (λ destination. destination < length self.old.settings.destinations) }
+        ensures { Ends self.old result self.new
+            (rule.be_tested kept self.old.settings test set destination self.old.node) }
+    {
+        let Some(destination) = destination else {
+            return Outcome::Refused(Cause::UnknownDestination);
+        };
+        let Some(set) = set else {
+            return Outcome::Ignored;
+        };
+        self.be_tested_by(test, set, destination)
+    }
+
+    /// A test of the adjacent point of this set about this destination.
+    fn be_tested_by(&mut self, test: RouteTest, set: SetId, destination: usize) -> Outcome
+        requires set { set < length self.old.settings.sets }
+        requires destination { destination < length self.old.settings.destinations }
+        ensures { Ends self.old result self.new
+            (rule.test_by kept self.old.settings test set destination self.old.node) }
+    {
+        if self.told.is_adjacent(set, destination) {
+            return Outcome::Ignored;
+        }
+        self.answer_route_test(test, set, destination);
+        Outcome::Handled
+    }
+
+    /// Answers a test, where it is to be answered. What it is answered with counts as told.
+    fn answer_route_test(&mut self, test: RouteTest, set: SetId, destination: usize)
+        requires set { set < length self.old.settings.sets }
+        requires destination { destination < length self.old.settings.destinations }
+        ensures { self.new ≡ with_node self.old (rule.answer_with kept self.old.settings
+            (hearing.answer (facts self.old.settings self.old.node.parts) self.old.node.parts.told set destination test)
+            set destination self.old.node) }
+    {
+        let answer = self
+            .told
+            .answer_to_test(&self.links, set, destination, test);
+        if let Some(status) = answer {
+            self.record_answer(set, destination, status);
+            self.send_status(set, destination, status);
+        }
+    }
+
+    /// The adjacent point of a set was told what it is to be told of a destination. That makes nothing due.
+    fn record_answer(&mut self, set: SetId, destination: usize, status: RouteStatus)
+        requires { status ≡ should (facts self.old.settings self.old.node.parts) set destination }
+        ensures { self.new ≡ with_node self.old (with_parts self.old.node
+            (rule.answered_parts set destination status self.old.node.parts)) }
+    {
+        self.told.tell(set, destination, status);
+    }
+
+    /// Whether few enough management messages stand in the node to tell more of routes.
+    fn may_tell(&self) -> bool
+        ensures { result ≡ rule.may_tell kept self.now.settings self.now.node }
+    {
+        self.lanes.managements() < TOLD_BELOW
+    }
+
+    /// The number of a destination, as timers are named by it.
+    pub(super) fn number_of(&self, destination: usize) -> u16
+        requires { destination < length self.now.settings.destinations }
+        ensures { result ≡ destination }
+    {
+        prove!(self.settings.destinations().len() <= Limits::DESTINATIONS);
+        destination as u16
+    }
+
+    /// The point of a destination.
+    pub(super) fn point_of(&self, destination: usize) -> PointCode
+        requires { destination < length self.now.settings.destinations }
+        ensures { result ≡ points.point_of self.now.settings destination }
+    {
+        self.settings.destinations()[destination].point()
+    }
+
+    /// The point that the links of a set lead to.
+    pub(super) fn adjacent_of(&self, set: SetId) -> PointCode
+        requires { set < length self.now.settings.sets }
+        ensures { result ≡ points.adjacent_of self.now.settings set }
+    {
+        self.settings.sets()[set.index()].adjacent()
+    }
+}
+
+/// The message that tells a status of a point.
+fn telling(status: RouteStatus, about: PointCode) -> Management
+    ensures { result ≡ rule.telling status about }
+{
+    match status {
+        RouteStatus::Prohibited => Management::TransferProhibited(about),
+        RouteStatus::Restricted => Management::TransferRestricted(about),
+        RouteStatus::Allowed => Management::TransferAllowed(about),
+    }
+}
