@@ -59,7 +59,7 @@ use Rattle.exchange.specs.Links.{is_link, link_at, down, in_service}
 use Rattle.exchange.specs.Holding.{waits}
 use Rattle.exchange.specs.Noting.{note_refusal}
 use Rattle.exchange.specs.Routing.{facts, link_of}
-use Rattle.exchange.specs.Points.{set_of}
+use Rattle.exchange.specs.Points.{set_of, route_about}
 use Rattle.exchange.specs.Queueing.{no_room}
 use Rattle.exchange.specs.Arrival.{is_destination, offer, transfer}
 use Rattle.exchange.specs.Telling as telling
@@ -247,10 +247,9 @@ module _ {P Q : Type 0} (p : QueueKind P) (q : QueueKind Q) (h : P → Q) (IsFit
       either (told.is_adjacent n.parts.told s d) _ _ (answer Ignored n) (answer Handled (answer_with p c status s d n))
       (parted _ n.parts n.queues f) (answered _ _ _ (answer_with-kept status s d n f))
 
-  be_tested-kept : (test : RouteTest) (set place : Option ℕ) (n : Node P) → IsFit n.queues → Keeps (be_tested q c test set place (keep h n)) (be_tested p c test set place n)
-  be_tested-kept test (Some s) (Some d) n f = test_by-kept test s d n f
-  be_tested-kept test None (Some d) n f = parted _ n.parts n.queues f
-  be_tested-kept test set None n f = parted _ n.parts n.queues f
+  be_tested-kept : (test : RouteTest) (route : Result (ℕ × ℕ) Outcome) (n : Node P) → IsFit n.queues → Keeps (be_tested q c test route (keep h n)) (be_tested p c test route n)
+  be_tested-kept test (Ok (s, d)) n f = test_by-kept test s d n f
+  be_tested-kept test (Err outcome) n f = parted _ n.parts n.queues f
 
   -- ---- what they say
 
@@ -259,11 +258,10 @@ module _ {P Q : Type 0} (p : QueueKind P) (q : QueueKind Q) (h : P → Q) (IsFit
   heed_status-kept hears.Unchanged s d status n f = parted _ n.parts n.queues f
   heed_status-kept hears.Changed s d status n f = parted _ (with_status_heard c s d status n.parts) n.queues f
 
-  hear_status-kept : (status : RouteStatus) (set place : Option ℕ) (n : Node P) → IsFit n.queues
-      → Keeps (hear_status q c status set place (keep h n)) (hear_status p c status set place n)
-  hear_status-kept status (Some s) (Some d) n f = heed_status-kept (hearing.heard (facts c n.parts) n.parts.told s d status) s d status n f
-  hear_status-kept status None (Some d) n f = parted _ n.parts n.queues f
-  hear_status-kept status set None n f = parted _ n.parts n.queues f
+  hear_status-kept : (status : RouteStatus) (route : Result (ℕ × ℕ) Outcome) (n : Node P) → IsFit n.queues
+      → Keeps (hear_status q c status route (keep h n)) (hear_status p c status route n)
+  hear_status-kept status (Ok (s, d)) n f = heed_status-kept (hearing.heard (facts c n.parts) n.parts.told s d status) s d status n f
+  hear_status-kept status (Err outcome) n f = parted _ n.parts n.queues f
 
   ask_by-kept : (status : Option RouteStatus) (s d : ℕ) (n : Node P) → IsFit n.queues → KeepsNode (ask_by q c status s d (keep h n)) (ask_by p c status s d n)
   ask_by-kept (Some Prohibited) s d n f = send_routed-kept (prohibited_test p c s d) (with_parts n (with_next_test p c s d n.parts)) f
@@ -487,11 +485,11 @@ module _ {P Q : Type 0} (p : QueueKind P) (q : QueueKind Q) (h : P → Q) (IsFit
   do_read-kept (Ok (EmergencyChangeoverAcknowledgement slc)) z n f = do_acknowledgement-kept (link_with_code c z slc) None n f
   do_read-kept (Ok (ChangebackDeclaration slc code)) z n f = answered _ _ _ (send_routed-kept (acknowledgement c z slc code) n f)
   do_read-kept (Ok (ChangebackAcknowledgement slc code)) z n f = end_hold-kept (set_place c z) code n f
-  do_read-kept (Ok (TransferProhibited about)) z n f = hear_status-kept Prohibited (set_place c z) (destination_place c about) n f
-  do_read-kept (Ok (TransferRestricted about)) z n f = hear_status-kept Restricted (set_place c z) (destination_place c about) n f
-  do_read-kept (Ok (TransferAllowed about)) z n f = hear_status-kept Allowed (set_place c z) (destination_place c about) n f
-  do_read-kept (Ok (RouteSetTestProhibited about)) z n f = be_tested-kept tests.Prohibited (set_place c z) (destination_place c about) n f
-  do_read-kept (Ok (RouteSetTestRestricted about)) z n f = be_tested-kept tests.Restricted (set_place c z) (destination_place c about) n f
+  do_read-kept (Ok (TransferProhibited about)) z n f = hear_status-kept Prohibited (route_about (set_place c z) (destination_place c about)) n f
+  do_read-kept (Ok (TransferRestricted about)) z n f = hear_status-kept Restricted (route_about (set_place c z) (destination_place c about)) n f
+  do_read-kept (Ok (TransferAllowed about)) z n f = hear_status-kept Allowed (route_about (set_place c z) (destination_place c about)) n f
+  do_read-kept (Ok (RouteSetTestProhibited about)) z n f = be_tested-kept tests.Prohibited (route_about (set_place c z) (destination_place c about)) n f
+  do_read-kept (Ok (RouteSetTestRestricted about)) z n f = be_tested-kept tests.Restricted (route_about (set_place c z) (destination_place c about)) n f
 
   manage-kept : (l : ℕ) (m : Message) (n : Node P) → IsFit n.queues → Keeps (manage q c l m (keep h n)) (manage p c l m n)
   manage-kept l m n f =

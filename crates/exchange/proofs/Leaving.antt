@@ -53,6 +53,7 @@ use Rattle.exchange.specs.Routing.{network_of, link_of}
 use Rattle.exchange.specs.Queueing.{no_room}
 use Rattle.exchange.specs.Arrival.{is_destination, offer, transfer}
 use Rattle.exchange.specs.Made.{send, send_on, send_routed}
+use Rattle.exchange.specs.Points.{route_about}
 use Rattle.exchange.specs.Rerouting.{heed_status, hear_status}
 use Rattle.exchange.specs.Telling.{route_message, told_parts, may_tell, tell_if, tell_each, tell_owed, answer_no_route, answer_with, test_by, be_tested}
 use Rattle.exchange.specs.Telling as telling
@@ -244,7 +245,7 @@ module _ (c : Configuration) (n : Node WholeQueues) (by : Cause → Node WholeQu
   heed_status-leaves hears.Unchanged set destination status = handled n by
   heed_status-leaves hears.Changed set destination status = handled _ by
 
-  hear_status-leaves : (status : RouteStatus) (set place : Option ℕ) → Leaves (hear_status whole c status set place n) by
+  hear_status-leaves : (status : RouteStatus) (set place : Option ℕ) → Leaves (hear_status whole c status (route_about set place) n) by
   hear_status-leaves status (Some set) (Some place) = heed_status-leaves (hearing.heard (facts c n.parts) n.parts.told set place status) set place status
   hear_status-leaves status None (Some place) = ignored n by
   hear_status-leaves status set None = refused causes.UnknownDestination refl
@@ -254,7 +255,7 @@ module _ (c : Configuration) (n : Node WholeQueues) (by : Cause → Node WholeQu
       let answered : Node WholeQueues = answer_with whole c (hearing.answer (facts c n.parts) n.parts.told set place test) set place n in
       either (told.is_adjacent n.parts.told set place) (answer Ignored n) (answer Handled answered) by (ignored n by) (handled answered by)
 
-  be_tested-leaves : (test : RouteTest) (set place : Option ℕ) → Leaves (be_tested whole c test set place n) by
+  be_tested-leaves : (test : RouteTest) (set place : Option ℕ) → Leaves (be_tested whole c test (route_about set place) n) by
   be_tested-leaves test (Some set) (Some place) = test_by-leaves test set place
   be_tested-leaves test None (Some place) = ignored n by
   be_tested-leaves test set None = refused causes.UnknownDestination refl

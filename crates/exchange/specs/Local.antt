@@ -34,6 +34,7 @@ use Rattle.exchange.specs.State.{QueueKind, Node, Done, answer, refuse}
 use Rattle.exchange.specs.Made.{own_sio, send_on}
 use Rattle.exchange.specs.ChangingOver.{order, acknowledge}
 use Rattle.exchange.specs.ChangingBack.{confirm, end_hold}
+use Rattle.exchange.specs.Points.{route_about}
 use Rattle.exchange.specs.Rerouting.{hear_status}
 use Rattle.exchange.specs.Telling.{be_tested}
 
@@ -109,15 +110,15 @@ module _ {Q : Type 0} (q : QueueKind Q) (c : Configuration) where
   do_management (ChangebackDeclaration slc code) point node = confirm q c point slc code node
   do_management (ChangebackAcknowledgement slc code) point node = end_hold q c (set_place c point) code node
   do_management (TransferProhibited about) point node =
-      hear_status q c status.Prohibited (set_place c point) (destination_place c about) node
+      hear_status q c status.Prohibited (route_about (set_place c point) (destination_place c about)) node
   do_management (TransferRestricted about) point node =
-      hear_status q c status.Restricted (set_place c point) (destination_place c about) node
+      hear_status q c status.Restricted (route_about (set_place c point) (destination_place c about)) node
   do_management (TransferAllowed about) point node =
-      hear_status q c status.Allowed (set_place c point) (destination_place c about) node
+      hear_status q c status.Allowed (route_about (set_place c point) (destination_place c about)) node
   do_management (RouteSetTestProhibited about) point node =
-      be_tested q c test.Prohibited (set_place c point) (destination_place c about) node
+      be_tested q c test.Prohibited (route_about (set_place c point) (destination_place c about)) node
   do_management (RouteSetTestRestricted about) point node =
-      be_tested q c test.Restricted (set_place c point) (destination_place c about) node
+      be_tested q c test.Restricted (route_about (set_place c point) (destination_place c about)) node
 
   abbrev pub do_read : Result Management MgmtFault → ℕ → Node Q → Done Q
   do_read (Err fault) point node = refuse (cause_of fault) node

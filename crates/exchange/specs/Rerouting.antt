@@ -1,8 +1,9 @@
 -- What adjacent points say of routes, and what that does to flows (Q.704 §7, §8, §13.2 to §13.5).
-use Rattle.std.specs.Prelude.{ℕ, List, [], ◌∷◌, Option, Some, None, ◌&&◌, nat_lt, length, if◌then◌else◌}
+use Rattle.std.specs.Prelude.{ℕ, List, [], ◌∷◌, Option, Some, None, Result, Ok, Err, ◌&&◌, nat_lt, length}
+use Rattle.std.specs.Prelude.{if◌then◌else◌}
 use Rattle.settings_rows.specs.Configuration.{Configuration}
 use Rattle.signalling_types.specs.Message.{Message}
-use Rattle.signalling_types.specs.declared.cause.Cause.TheVariants.{UnknownDestination}
+use Rattle.signalling_types.specs.declared.outcome.Outcome.{Outcome}
 use Rattle.signalling_types.specs.declared.outcome.Outcome.TheVariants as outcomes
 use Rattle.mgmt_codec.specs.declared.management.Management.TheVariants.{RouteSetTestProhibited}
 use Rattle.mgmt_codec.specs.declared.management.Management.TheVariants.{RouteSetTestRestricted}
@@ -20,7 +21,7 @@ use Rattle.route_management.specs.Told.{with_told_reset}
 use Rattle.route_management.specs.declared.heard.Heard.{Heard}
 use Rattle.route_management.specs.declared.heard.Heard.TheVariants.{Ignored, Unchanged, Changed}
 use Rattle.route_management.specs.Hearing.{heard}
-use Rattle.exchange.specs.State.{QueueKind, Parts, Node, Done, with_parts, answer, refuse}
+use Rattle.exchange.specs.State.{QueueKind, Parts, Node, Done, with_parts, answer}
 use Rattle.exchange.specs.Routing.{network_of, facts}
 use Rattle.exchange.specs.Points.{adjacent_of, point_of}
 use Rattle.exchange.specs.Made.{management_to, send_routed}
@@ -91,12 +92,11 @@ module _ {Q : Type 0} (q : QueueKind Q) (c : Configuration) where
   heed_status Changed set destination status node =
       answer outcomes.Handled (with_parts node (with_status_heard c set destination status node.parts))
 
-  -- a status that the adjacent point of a set tells of a destination
-  abbrev pub hear_status : RouteStatus → (set destination : Option ℕ) → Node Q → Done Q
-  hear_status status (Some set) (Some destination) node =
+  -- a status that an adjacent point tells of a route
+  abbrev pub hear_status : RouteStatus → Result (ℕ × ℕ) Outcome → Node Q → Done Q
+  hear_status status (Ok (set, destination)) node =
       heed_status (heard (facts c node.parts) node.parts.told set destination status) set destination status node
-  hear_status status None (Some destination) node = answer outcomes.Ignored node
-  hear_status status set None node = refuse UnknownDestination node
+  hear_status status (Err outcome) node = answer outcome node
 
   -- ---- tests of our own
 

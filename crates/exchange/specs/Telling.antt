@@ -1,9 +1,9 @@
 -- What adjacent points are told of routes (Q.704 §13.2 to §13.5).
 use Rattle.std.specs.Prelude.{ℕ, Bool, ◌&&◌, ◌||◌, not, nat_lt, List, [], ◌∷◌, Option, Some, None}
-use Rattle.std.specs.Prelude.{if◌then◌else◌}
+use Rattle.std.specs.Prelude.{Result, Ok, Err, if◌then◌else◌}
 use Rattle.settings_rows.specs.Configuration.{Configuration}
 use Rattle.signalling_types.specs.Message.{Message}
-use Rattle.signalling_types.specs.declared.cause.Cause.TheVariants.{UnknownDestination}
+use Rattle.signalling_types.specs.declared.outcome.Outcome.{Outcome}
 use Rattle.signalling_types.specs.declared.outcome.Outcome.TheVariants.{Handled, Ignored}
 use Rattle.mgmt_codec.specs.declared.management.Management.{Management}
 use Rattle.mgmt_codec.specs.declared.management.Management.TheVariants.{TransferProhibited, TransferRestricted}
@@ -17,7 +17,7 @@ use Rattle.route_management.specs.declared.heard.RouteTest.{RouteTest}
 use Rattle.route_management.specs.Told.{is_adjacent, with_told}
 use Rattle.route_management.specs.Owed.{Owed, owed, owes_nothing}
 use Rattle.route_management.specs.Hearing as hearing
-use Rattle.exchange.specs.State.{QueueKind, Parts, Node, Done, with_parts, answer, refuse}
+use Rattle.exchange.specs.State.{QueueKind, Parts, Node, Done, with_parts, answer}
 use Rattle.exchange.specs.Routing.{facts}
 use Rattle.exchange.specs.Points.{set_of, adjacent_of, point_of}
 use Rattle.exchange.specs.Made.{management_to, send_routed}
@@ -129,7 +129,7 @@ module _ {Q : Type 0} (q : QueueKind Q) (c : Configuration) where
       else answer Handled
       (answer_with (hearing.answer (facts c node.parts) node.parts.told set destination test) set destination node)
 
-  abbrev pub be_tested : RouteTest → (set destination : Option ℕ) → Node Q → Done Q
-  be_tested test (Some set) (Some destination) node = test_by test set destination node
-  be_tested test None (Some destination) node = answer Ignored node
-  be_tested test set None node = refuse UnknownDestination node
+  -- a test by which an adjacent point asks about a route
+  abbrev pub be_tested : RouteTest → Result (ℕ × ℕ) Outcome → Node Q → Done Q
+  be_tested test (Ok (set, destination)) node = test_by test set destination node
+  be_tested test (Err outcome) node = answer outcome node

@@ -56,7 +56,8 @@ impl Exchange {
         served
     }
 
-    /// Where no link of its set is left, the point that a link leads to is tested about no route any more (Q.704 §13.5).
+    /// Where no link of its set is left, the point that a link leads to is tested about no route any more
+    /// (Q.704 §13.5).
     fn quieten(&mut self, link: LinkId)
         requires { link < length self.old.settings.links }
         ensures { self.new ≡ with_node self.old

@@ -1,6 +1,6 @@
 //! What adjacent points say of routes, and what that does to flows.
 
-ghost use Rattle.std.specs.Prelude.{◌≡◌, ◌<◌, length, IfSome};
+ghost use Rattle.std.specs.Prelude.{◌≡◌, ◌<◌, length, IfOk};
 ghost use Rattle.stp_types.specs.Readings.{destination_place, set_place};
 ghost use Rattle.exchange.specs.State.{with_node, with_parts};
 ghost use Rattle.exchange.specs.Queues.{kept};
@@ -8,7 +8,7 @@ ghost use Rattle.exchange.specs.Exchange.{Ends};
 ghost use Rattle.exchange.specs.Routing.{facts};
 ghost use Rattle.exchange.specs.Ticking.{with_timers};
 ghost use Rattle.exchange.specs.Made.{management_to};
-ghost use Rattle.exchange.specs.Points.{adjacent_of};
+ghost use Rattle.exchange.specs.Points.{adjacent_of, route_about};
 ghost use Rattle.route_table.specs.Statuses.{status_of};
 ghost use Rattle.route_management.specs.Hearing.{heard};
 ghost use Rattle.exchange.specs.Rerouting as rule;
@@ -23,8 +23,29 @@ use stp_types::{Cause, Outcome, PointCode, SetId};
 use timer_wheel::{RouteTimer, TimerName};
 
 impl Exchange {
-    /// A status that an adjacent point tells of another. Refused UnknownDestination where the other is no destination;
-    /// ignored where it is that very point, or isn't reached by its set (Q.704 §13.2 to §13.4).
+    /// The route that an adjacent point speaks of: the set that leads to that point, and the destination. Refused
+    /// UnknownDestination where it speaks of no destination; ignored where no set leads to it.
+    pub(super) fn route_about(
+        &self,
+        point: PointCode,
+        about: PointCode,
+    ) -> Result<(SetId, usize), Outcome>
+        ensures route { result ≡
+            route_about (set_place self.now.settings point) (destination_place self.now.settings about) }
+        ensures set { IfOk result (λ route. route.0 < length self.now.settings.sets) }
+        ensures destination { IfOk result (λ route. route.1 < length self.now.settings.destinations) }
+    {
+        let Some(destination) = self.settings.destination(about) else {
+            return Err(Outcome::Refused(Cause::UnknownDestination));
+        };
+        match self.settings.set_to(point) {
+            Some(set) => Ok((set, destination)),
+            None => Err(Outcome::Ignored),
+        }
+    }
+
+    /// A status that an adjacent point tells of another (Q.704 §13.2 to §13.4). It is ignored where the other isn't
+    /// reached by its set.
     pub(super) fn hear_status(
         &mut self,
         status: RouteStatus,
@@ -32,33 +53,13 @@ impl Exchange {
         about: PointCode,
     ) -> Outcome
         ensures { Ends self.old result self.new (rule.hear_status kept self.old.settings status
-            (set_place self.old.settings point) (destination_place self.old.settings about) self.old.node) }
+            (route_about (set_place self.old.settings point) (destination_place self.old.settings about))
+            self.old.node) }
     {
-        let set = self.settings.set_to(point);
-        let destination = self.settings.destination(about);
-        self.hear_status_of(status, set, destination)
-    }
-
-    /// A status that the adjacent point of a set tells of a destination, where both are there.
-    fn hear_status_of(
-        &mut self,
-        status: RouteStatus,
-        set: Option<SetId>,
-        destination: Option<usize>,
-    ) -> Outcome
-        requires set { IfSome set (λ set. set < length self.old.settings.sets) }
-        requires destination { IfSome destination
-            (λ destination. destination < length self.old.settings.destinations) }
-        ensures { Ends self.old result self.new
-            (rule.hear_status kept self.old.settings status set destination self.old.node) }
-    {
-        let Some(destination) = destination else {
-            return Outcome::Refused(Cause::UnknownDestination);
-        };
-        let Some(set) = set else {
-            return Outcome::Ignored;
-        };
-        self.heed_status(set, destination, status)
+        match self.route_about(point, about) {
+            Ok((set, destination)) => self.heed_status(set, destination, status),
+            Err(outcome) => outcome,
+        }
     }
 
     /// A status that the adjacent point of this set tells of this destination.

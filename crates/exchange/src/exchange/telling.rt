@@ -10,6 +10,7 @@ ghost use Rattle.exchange.specs.Exchange.{Ends};
 ghost use Rattle.exchange.specs.Made.{send_routed};
 ghost use Rattle.exchange.specs.Routing.{facts};
 ghost use Rattle.exchange.specs.Points as points;
+ghost use Rattle.exchange.specs.Points.{route_about};
 ghost use Rattle.exchange.specs.Telling as rule;
 
 use super::Exchange;
@@ -17,7 +18,7 @@ use cell_pool::Lanes;
 use mgmt_codec::Management;
 use route_management::RouteTest;
 use route_table::RouteStatus;
-use stp_types::{Cause, Limits, LinkId, Outcome, PointCode, SetId};
+use stp_types::{Limits, LinkId, Outcome, PointCode, SetId};
 use timer_wheel::TimerName;
 
 /// What is owed is told while fewer management messages than this stand in the node.
@@ -167,9 +168,8 @@ impl Exchange {
         self.timers.is_running(timer) || self.told.is_adjacent(set, destination)
     }
 
-    /// A test of an adjacent point about another. Refused UnknownDestination where the other is no destination; ignored
-    /// where it is that very point. It is answered where the point is to be told something else than it asks about (Q.704
-    /// §13.5).
+    /// A test of an adjacent point about another (Q.704 §13.5). It is ignored where the other is that very point. It is
+    /// answered where the point is to be told something else than it asks about.
     pub(super) fn be_tested(
         &mut self,
         test: RouteTest,
@@ -177,33 +177,13 @@ impl Exchange {
         about: PointCode,
     ) -> Outcome
         ensures { Ends self.old result self.new (rule.be_tested kept self.old.settings test
-            (set_place self.old.settings point) (destination_place self.old.settings about) self.old.node) }
+            (route_about (set_place self.old.settings point) (destination_place self.old.settings about))
+            self.old.node) }
     {
-        let set = self.settings.set_to(point);
-        let destination = self.settings.destination(about);
-        self.be_tested_of(test, set, destination)
-    }
-
-    /// A test of the adjacent point of a set about a destination, where both are there.
-    fn be_tested_of(
-        &mut self,
-        test: RouteTest,
-        set: Option<SetId>,
-        destination: Option<usize>,
-    ) -> Outcome
-        requires set { IfSome set (λ set. set < length self.old.settings.sets) }
-        requires destination { IfSome destination
-            (λ destination. destination < length self.old.settings.destinations) }
-        ensures { Ends self.old result self.new
-            (rule.be_tested kept self.old.settings test set destination self.old.node) }
-    {
-        let Some(destination) = destination else {
-            return Outcome::Refused(Cause::UnknownDestination);
-        };
-        let Some(set) = set else {
-            return Outcome::Ignored;
-        };
-        self.be_tested_by(test, set, destination)
+        match self.route_about(point, about) {
+            Ok((set, destination)) => self.be_tested_by(test, set, destination),
+            Err(outcome) => outcome,
+        }
     }
 
     /// A test of the adjacent point of this set about this destination.
