@@ -15,14 +15,16 @@ mod incoming;
 mod outage;
 mod peer;
 mod routes;
+mod total;
 mod traffic;
 
 use arguments::Arguments;
-use peer::{Peer, Total};
+use peer::Peer;
 use std::alloc::Global;
 use std::process::ExitCode;
 use std::{env, io};
 use stp_types::Limits;
+use total::Total;
 use traffic::carry;
 
 fn main(rt: HostRuntime) -> io::Result<ExitCode> {

@@ -5,6 +5,7 @@ ghost use Rattle.std.specs.Prelude.{◌≤◌, length};
 use crate::draft::{Sets, draft_with};
 use crate::end::End;
 use crate::incoming::Incoming;
+use crate::total::Total;
 use exchange::{BUFFER_OCTETS, Event, Exchange};
 use link_number::{Number24, next};
 use m2pa_codec::{Frame, LinkStatus, encode};
@@ -49,15 +50,6 @@ pub(crate) struct Peer {
     total: Total,
 }
 
-/// What went out.
-#[derive(Clone, Copy)]
-pub(crate) struct Total {
-    /// How many frames.
-    pub frames: u64,
-    /// The sum of their words.
-    pub checksum: u64,
-}
-
 impl Peer {
     /// The peer of an exchange with so many destinations and links. The last link of the first set is in service and
     /// carries all messages, so that the others of its set are looked at in vain. All that is owed was told and
@@ -82,10 +74,7 @@ impl Peer {
             empty: Incoming::empty(),
             submitted,
             buffer: [0; BUFFER_OCTETS],
-            total: Total {
-                frames: 0,
-                checksum: 0,
-            },
+            total: Total::NOTHING,
         };
         peer.open(link);
         peer.settle();
@@ -245,11 +234,7 @@ impl Peer {
     #[inline(always)]
     fn take_from(&mut self, link: LinkId) {
         if let Some(count) = self.exchange.take(link, &mut self.buffer) {
-            let sum = sum_of(&self.buffer[..count]);
-            self.total = Total {
-                frames: self.total.frames.wrapping_add(1),
-                checksum: self.total.checksum.wrapping_add(sum),
-            };
+            self.total = self.total.with(&self.buffer[..count]);
         }
     }
 
@@ -285,17 +270,4 @@ fn exchange_with(alloc: Global, destinations: usize, links: usize, sets: Sets) -
     let draft = draft_with(alloc, destinations, links, sets).ok()?;
     let settings = Settings::check(alloc, draft).ok()?;
     Exchange::boot(alloc, settings).ok()
-}
-
-/// The sum of a frame's words of eight octets, and of its last eight octets.
-fn sum_of(octets: &[u8]) -> u64 {
-    let (words, _rest) = octets.as_chunks::<8>();
-    let mut sum = 0u64;
-    for word in words {
-        sum = sum.wrapping_add(u64::from_le_bytes(*word));
-    }
-    match octets.last_chunk::<8>() {
-        Some(last) => sum.wrapping_add(u64::from_le_bytes(*last)),
-        None => sum,
-    }
 }

@@ -23,8 +23,8 @@ const GOES: [u8; 24] = [
 const OTHER_VERSION: [u8; 8] = [0x02, 0x00, 0x0b, 0x02, 0x00, 0x00, 0x00, 0x08];
 
 /// Brings a link into service, takes what its adjacent point is told of point 300, and lets a message through; then an
-/// operator closes the link, its association goes, and he lets it open again, which it may once its changeover has ended
-/// by T1.
+/// operator closes the link, its association goes, and he lets it open again, which it may once its changeover has
+/// ended by T1.
 fn made<T: Abort>(rt: &T, alloc: Global, exchange: &mut Exchange, message: Msu) -> Vec<Answer> {
     let link = LinkId::new(0);
     let proving = status_frame(2);
