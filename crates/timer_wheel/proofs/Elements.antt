@@ -1,7 +1,8 @@
 -- What holds of each element of a list, and of what a filter leaves.
-use Rattle.std.proofs.Common.{◌≡◌, Bool, true, false, cond, List, [], ◌∷◌, ◌++◌, refl, ap, ◌∙◌}
+use Rattle.std.proofs.Common.{◌≡◌, ℕ, zero, suc, ◌<◌, ◌≤◌, Bool, true, false, cond, List, [], ◌∷◌, ◌++◌, length, get_or, refl, sym, ap, ◌∙◌, arith}
 use Rattle.std.specs.Prelude.{filter}
 use Rattle.std.specs.List.{AllByRecursion}
+use Rattle.std.specs.List.Sorted.{IsPartitionPoint}
 
 module _ {X : Type 0} (P : X → Type 0) where
   pub all-filter : (p : X → Bool) (xs : List X) → AllByRecursion P xs → AllByRecursion P (filter p xs)
@@ -17,6 +18,11 @@ module _ {X : Type 0} (P : X → Type 0) where
   pub all-without : (xs : List X) (x : X) (ys : List X) → AllByRecursion P (xs ++ x ∷ ys) → AllByRecursion P (xs ++ ys)
   all-without [] x ys h = h.1
   all-without (z ∷ xs) x ys h = (h.0, all-without xs x ys h.1)
+
+  pub each_at : (xs : List X) → AllByRecursion P xs → (k : ℕ) (d : X) → k < length xs → P (get_or xs k d)
+  each_at [] h k d lt = absurd (omega (arith, lt))
+  each_at (x ∷ xs) h zero d lt = h.0
+  each_at (x ∷ xs) h (suc k) d lt = each_at xs h.1 k d (omega (arith, lt))
 
 module _ {X : Type 0} (p : X → Bool) where
   -- each element that a filter leaves passes
@@ -36,13 +42,15 @@ module _ {X : Type 0} (p : X → Bool) where
   filter-none [] h = refl
   filter-none (x ∷ xs) h = ap (λ b. cond b (x ∷ filter p xs) (filter p xs)) h.0 ∙ filter-none xs h.1
 
-  pub filter-append : (xs ys : List X) → filter p (xs ++ ys) ≡ filter p xs ++ filter p ys
-  filter-append [] ys = refl
-  filter-append (x ∷ xs) ys =
-      elim (p x) as (λ b. cond b (x ∷ filter p (xs ++ ys)) (filter p (xs ++ ys)) ≡ cond b (x ∷ filter p xs) (filter p xs) ++ filter p ys) [
-        | true ↦ ap (λ (zs : List X). x ∷ zs) (filter-append xs ys)
-        | false ↦ filter-append xs ys
-      ]
+  -- where those that pass stand in front, a filter leaves as many as stand before the first that fails
+  pub filter-at : (xs : List X) (i : ℕ) → i ≤ length xs → IsPartitionPoint (λ x. p x ≡ true) (λ x. p x ≡ false) xs i → i ≡ length (filter p xs)
+  filter-at [] i le s = let none : i ≡ 0 = omega (arith, le) in none
+  filter-at (x ∷ xs) zero le s =
+      let rest = filter-at xs zero (omega arith) (λ k d low high. absurd (omega (arith, high)), λ k d low high. s.1 (suc k) d (omega arith) (omega (arith, high))) in
+      rest ∙ ap (λ b. length (cond b (x ∷ filter p xs) (filter p xs))) (sym (s.1 0 x (omega arith) (omega arith)))
+  filter-at (x ∷ xs) (suc i) le s =
+      let rest = filter-at xs i (omega (arith, le)) (λ k d low high. s.0 (suc k) d (omega arith) (omega (arith, high)), λ k d low high. s.1 (suc k) d (omega (arith, low)) (omega (arith, high))) in
+      ap suc rest ∙ ap (λ b. length (cond b (x ∷ filter p xs) (filter p xs))) (sym (s.0 0 x (omega arith) (omega arith)))
 
 pub all-weaker : {X : Type 0} (P Q : X → Type 0) → ((x : X) → P x → Q x) → (xs : List X) → AllByRecursion P xs → AllByRecursion Q xs
 all-weaker P Q f [] h = tt

@@ -13,3 +13,4 @@ pub mod Joined
 pub mod JoinedDue
 pub mod Whole
 pub mod Alike
+pub mod Standing

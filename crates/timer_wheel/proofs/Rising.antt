@@ -1,6 +1,6 @@
 -- Lists of timers in name order.
 use Rattle.std.proofs.Common.{◌≡◌, ℕ, suc, nat_lt, not, ◌+◌, ◌<◌, ◌≤◌, Bool, true, false, cond, List, [], ◌∷◌, ◌++◌, length, take, drop, map, get_or, refl, sym, ap, subst, ◌∙◌, arith}
-use Rattle.std.proofs.lemmas.List.{append-nil, take_at, drop_at, length-append}
+use Rattle.std.proofs.lemmas.List.{take_at, drop_at}
 use Rattle.std.proofs.lemmas.Bool.Decides.{nat_tests}
 use Rattle.std.specs.Prelude.{filter, remove, insert, Option, Some, None, find, position, MatchOption, max}
 use Rattle.std.specs.Option.{option_map, option_map_or}
@@ -11,8 +11,8 @@ use Rattle.timer_wheel.specs.declared.named.Timer.{Timer}
 use Rattle.timer_wheel.specs.Names.{is_before, has_name}
 use Rattle.timer_wheel.specs.Named.{before, after, cleared, started, lowered, is_due, first_named, Named, set_named, clear_named, after_named}
 use Rattle.timer_wheel.specs.Kept.{AreAfter, DoRise, AreNamed}
-use Rattle.timer_wheel.specs.Lists.{without_due, is_found}
-use Rattle.timer_wheel.proofs.Elements.{all-filter, all-append, all-without, passes, filter-all, filter-none, filter-append, all-weaker}
+use Rattle.timer_wheel.specs.Lists.{without_due}
+use Rattle.timer_wheel.proofs.Elements.{all-filter, all-append, all-without, passes, filter-all, filter-none, all-weaker}
 use Rattle.timer_wheel.proofs.Order.{before-asym, before-chain, before-trans, before-itself}
 
 -- ---- the timers before and after a name
@@ -26,32 +26,6 @@ before-first name ts = passes (λ t. is_before t.name name) ts
 after-first : (name : TimerName) (ts : List Timer) → AreAfter name (after name ts)
 after-first name ts = passes (λ t. is_before name t.name) ts
 
--- in a list of earlier timers and later ones nothing has the name
-before-parted : (name : TimerName) (xs ys : List Timer) → AreBefore name xs → AreAfter name ys → before name (xs ++ ys) ≡ xs
-before-parted name xs ys h k =
-    filter-append _ xs ys
-    ∙ ap (λ (zs : List Timer). zs ++ before name ys) (filter-all _ xs h)
-    ∙ ap (λ (zs : List Timer). xs ++ zs) (filter-none _ ys (all-weaker _ (λ t. is_before t.name name ≡ false) (λ t e. before-asym name t.name e) ys k))
-    ∙ append-nil xs
-
-after-parted : (name : TimerName) (xs ys : List Timer) → AreBefore name xs → AreAfter name ys → after name (xs ++ ys) ≡ ys
-after-parted name xs ys h k =
-    filter-append _ xs ys
-    ∙ ap (λ (zs : List Timer). zs ++ after name ys) (filter-none _ xs (all-weaker _ (λ t. is_before name t.name ≡ false) (λ t e. before-asym t.name name e) xs h))
-    ∙ filter-all _ ys k
-
-pub before-cleared : (name : TimerName) (ts : List Timer) → before name (cleared name ts) ≡ before name ts
-before-cleared name ts = before-parted name (before name ts) (after name ts) (before-first name ts) (after-first name ts)
-
-pub after-cleared : (name : TimerName) (ts : List Timer) → after name (cleared name ts) ≡ after name ts
-after-cleared name ts = after-parted name (before name ts) (after name ts) (before-first name ts) (after-first name ts)
-
-pub cleared_twice : (name : TimerName) (ts : List Timer) → cleared name (cleared name ts) ≡ cleared name ts
-cleared_twice name ts = λ i. before-cleared name ts i ++ after-cleared name ts i
-
-pub started_cleared : (timer : Timer) (ts : List Timer) → started timer (cleared timer.name ts) ≡ started timer ts
-started_cleared timer ts = λ i. before-cleared timer.name ts i ++ timer ∷ after-cleared timer.name ts i
-
 -- a timer put in its place
 pub put-started : (timer : Timer) (ts : List Timer) → cleared timer.name ts ≡ ts → insert ts (length (before timer.name ts)) timer ≡ started timer ts
 put-started timer ts absent =
@@ -64,54 +38,18 @@ put-started timer ts absent =
 
 -- ---- the timer of a name taken out
 
-later : (t : Timer) (name : TimerName) (ts : List Timer) → is_before t.name name ≡ false → AreAfter t.name ts → AreAfter name ts
+pub later : (t : Timer) (name : TimerName) (ts : List Timer) → is_before t.name name ≡ false → AreAfter t.name ts → AreAfter name ts
 later t name ts h k = all-weaker _ (λ u. is_before name u.name ≡ true) (λ u e. before-chain t.name name u.name h e) ts k
 
-none_before : (name : TimerName) (ts : List Timer) → AreAfter name ts → before name ts ≡ []
+pub none_before : (name : TimerName) (ts : List Timer) → AreAfter name ts → before name ts ≡ []
 none_before name ts k = filter-none _ ts (all-weaker _ (λ t. is_before t.name name ≡ false) (λ t e. before-asym name t.name e) ts k)
 
-pub record StopsAt (name : TimerName) (ts : List Timer) (at : ℕ) : Type 0 where
-  pub found : is_found name ts at ≡ true → remove ts at ≡ cleared name ts
-  pub missed : is_found name ts at ≡ false → ts ≡ cleared name ts
-
 -- to stop a later timer leaves the first
-cleared-behind : (name : TimerName) (t : Timer) (ts : List Timer) → is_before t.name name ≡ true → cleared name (t ∷ ts) ≡ t ∷ cleared name ts
+pub cleared-behind : (name : TimerName) (t : Timer) (ts : List Timer) → is_before t.name name ≡ true → cleared name (t ∷ ts) ≡ t ∷ cleared name ts
 cleared-behind name t ts h =
     let earlier : before name (t ∷ ts) ≡ t ∷ before name ts = ap (λ b. cond b (t ∷ before name ts) (before name ts)) h in
     let same : after name (t ∷ ts) ≡ after name ts = ap (λ b. cond b (t ∷ after name ts) (after name ts)) (before-asym t.name name h) in
     λ i. earlier i ++ same i
-
-stops-behind : (name : TimerName) (t : Timer) (ts : List Timer) → is_before t.name name ≡ true → StopsAt name ts (length (before name ts)) → StopsAt name (t ∷ ts) (length (before name (t ∷ ts)))
-stops-behind name t ts h s =
-    let earlier : before name (t ∷ ts) ≡ t ∷ before name ts = ap (λ b. cond b (t ∷ before name ts) (before name ts)) h in
-    let all : t ∷ cleared name ts ≡ cleared name (t ∷ ts) = sym (cleared-behind name t ts h) in
-    subst (λ n. StopsAt name (t ∷ ts) n) (ap length (sym earlier)) (record {
-      found = λ e. ap (λ (zs : List Timer). t ∷ zs) (s.found e) ∙ all;
-      missed = λ e. ap (λ (zs : List Timer). t ∷ zs) (s.missed e) ∙ all;
-    })
-
-stops-here : (name : TimerName) (t : Timer) (ts : List Timer) → is_before t.name name ≡ false → AreAfter t.name ts → StopsAt name (t ∷ ts) (length (before name (t ∷ ts)))
-stops-here name t ts h k =
-    let others = later t name ts h k in
-    let none : before name (t ∷ ts) ≡ [] = ap (λ b. cond b (t ∷ before name ts) (before name ts)) h ∙ none_before name ts others in
-    let rest : after name ts ≡ ts = filter-all _ ts others in
-    let all : cleared name (t ∷ ts) ≡ after name (t ∷ ts) = ap (λ (zs : List Timer). zs ++ after name (t ∷ ts)) none in
-    subst (λ n. StopsAt name (t ∷ ts) n) (ap length (sym none)) (record {
-      found = λ e. let apart : is_before name t.name ≡ false = turned (is_before name t.name) true e in sym (all ∙ ap (λ b. cond b (t ∷ after name ts) (after name ts)) apart ∙ rest);
-      missed = λ e. let apart : is_before name t.name ≡ true = turned (is_before name t.name) false e in sym (all ∙ ap (λ b. cond b (t ∷ after name ts) (after name ts)) apart ∙ ap (λ (zs : List Timer). t ∷ zs) rest);
-    })
-  where
-    turned : (b c : Bool) → not b ≡ c → b ≡ not c
-    turned true c e = ap not e
-    turned false c e = ap not e
-
-pub stops_at : (name : TimerName) (ts : List Timer) → DoRise ts → StopsAt name ts (length (before name ts))
-stops_at name [] r = record { found = λ e. absurd cc; missed = λ e. refl }
-stops_at name (t ∷ ts) r =
-    elim (is_before t.name name) as (λ b. is_before t.name name ≡ b → StopsAt name (t ∷ ts) (length (before name (t ∷ ts)))) [
-      | true ↦ λ e. stops-behind name t ts e (stops_at name ts r.1)
-      | false ↦ λ e. stops-here name t ts e r.0
-    ] refl
 
 -- ---- names keep rising
 
@@ -265,11 +203,3 @@ pub without_due-after : (n : NodeCounts) (ts new : List Timer) → DoRise ts →
 without_due-after n ts new r e =
     ap (running n) (e ∙ sym (left-without_due ts r))
     ∙ elim (first_named ts) as (λ o. running n (left_after o ts) ≡ option_map_or (λ name. clear_named name (running n ts)) o (running n ts)) [ None ↦ refl | Some name ↦ refl ]
-
-pub length-started : (timer : Timer) (ts : List Timer) → length (started timer ts) ≡ length (cleared timer.name ts) + 1
-length-started timer ts =
-    let front = before timer.name ts in
-    let behind = after timer.name ts in
-    length-append front (timer ∷ behind) ∙ (let e : length front + length (timer ∷ behind) ≡ (length front + length behind) + 1 = omega arith in e) ∙ ap (λ (n : ℕ). n + 1) (sym (length-append front behind))
-
-pub ruleset restart_steps = (cleared_twice, started_cleared, length-started)

@@ -40,3 +40,10 @@ before-total x y h k = key-total (key_of x) (key_of y) (other_is_not x y h) k
 
 pub before-differs : (x y : TimerName) → is_before x y ≡ true → is_same x y ≡ false
 before-differs x y h = other_is_not x y (λ e. false≢true (sym (before-itself y) ∙ ap (λ z. is_before z y) (sym e) ∙ h))
+
+key-neither : (x y : Key) → is_key_before x y ≡ false → is_key_before y x ≡ false → is_same_key x y ≡ true
+key-neither x y h k = grind (arith, nat_tests)
+
+-- of two names of which neither comes first, each is the other
+pub neither-before : (x y : TimerName) → is_before x y ≡ false → is_before y x ≡ false → is_same x y ≡ true
+neither-before x y h k = key-neither (key_of x) (key_of y) h k

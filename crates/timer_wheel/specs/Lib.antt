@@ -1,8 +1,8 @@
 pub mod Names
 pub mod Named
 pub mod Kept
-pub mod Lists
 pub mod Table
 pub mod TableRoom
 pub mod Timers
 pub mod Lookup
+pub mod Lists

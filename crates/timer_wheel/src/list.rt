@@ -1,39 +1,29 @@
 //! A list of timers in name order.
 
-ghost use Rattle.std.specs.Prelude.{◌≡◌, ◌<◌, ◌≤◌, filter, length, map, position, vec_capacity, vec_len};
-ghost use Rattle.std.specs.List.{list_any};
+ghost use Rattle.std.specs.Prelude.{◌≡◌, ◌≤◌, IfOk, IfErr, filter, length, map, position, vec_capacity};
 ghost use Rattle.timer_wheel.specs.Named.{before, cleared, set_cleared, started, lowered, is_due, first_named};
 ghost use Rattle.timer_wheel.specs.Kept.{DoRise};
-ghost use Rattle.timer_wheel.specs.Lists.{without_due, is_found};
-ghost use Rattle.timer_wheel.specs.Lookup.{is_same};
+ghost use Rattle.timer_wheel.specs.Lists.{without_due, is_found, has_timer, StandsAt, FitsAt};
 
 use crate::name::{RouteTimer, TimerName};
 use crate::named::Timer;
 use signalling_types::SetId;
 
-/// Starts a timer in its place, in place of one of its name, where there is room.
-#[tactic(auto, using(crate::proofs::Rising::restart_steps))]
+/// Starts a timer in its place, where there is room, or anew where one of its name runs.
 pub(crate) fn restart(timers: &mut Vec<Timer>, timer: Timer)
     requires rise { DoRise timers.old.items }
     requires room { length (started timer timers.old.items) ≤ vec_capacity timers.old }
     ensures timers { timers.new.items ≡ started timer timers.old.items }
     ensures room { vec_capacity timers.old ≤ vec_capacity timers.new }
 {
-    stop(timers, &timer.name);
-    start(timers, timer);
-}
-
-/// Puts a timer in its place, where none of its name stands and there is room.
-fn start(timers: &mut Vec<Timer>, timer: Timer)
-    requires absent { cleared timer.name timers.old.items ≡ timers.old.items }
-    requires room { vec_len timers.old < vec_capacity timers.old }
-    ensures timers { timers.new.items ≡ started timer timers.old.items }
-    ensures room { vec_capacity timers.old ≤ vec_capacity timers.new }
-{
-    let at = place(timers, &timer.name);
-    let Ok(()) = timers.insert(at, timer) else {
-        unreachable!()
-    };
+    match place(timers, &timer.name) {
+        Ok(at) => timers[at] = timer,
+        Err(at) => {
+            let Ok(()) = timers.insert(at, timer) else {
+                unreachable!()
+            };
+        }
+    }
 }
 
 /// Takes out the timer of this name, if there is one.
@@ -42,8 +32,7 @@ pub(crate) fn stop(timers: &mut Vec<Timer>, name: &TimerName)
     ensures timers { timers.new.items ≡ cleared name.now timers.old.items }
     ensures room { vec_capacity timers.new ≡ vec_capacity timers.old }
 {
-    let at = place(timers, name);
-    if stands_at(timers, at, name) {
+    if let Ok(at) = place(timers, name) {
         timers.remove(at);
     }
 }
@@ -58,9 +47,10 @@ pub(crate) fn stop_set(timers: &mut Vec<Timer>, timer: RouteTimer, set: SetId)
 
 /// Whether a timer of this name stands in the list.
 pub(crate) fn has(timers: &[Timer], name: &TimerName) -> bool
-    ensures { result ≡ list_any (λ t. is_same t.name name.now) timers.now }
+    requires { DoRise timers.now }
+    ensures { result ≡ has_timer name.now timers.now }
 {
-    timers.iter().any(|timer| timer.name == *name)
+    place(timers, name).is_ok()
 }
 
 /// Takes one tick from each timer.
@@ -99,14 +89,26 @@ fn first_due(timers: &[Timer]) -> Option<usize>
     timers.iter().position(|timer| timer.left == 0)
 }
 
-/// How many timers come before a name.
-fn place(timers: &[Timer], name: &TimerName) -> usize
+/// The place of the timer of this name, or that where it would stand, as an error.
+fn place(timers: &[Timer], name: &TimerName) -> Result<usize, usize>
+    requires { DoRise timers.now }
+    ensures found { IfOk result (StandsAt name.now timers.now) }
+    ensures free { IfErr result (FitsAt name.now timers.now) }
+{
+    let at = count_before(timers, name);
+    if stands_at(timers, at, name) {
+        Ok(at)
+    } else {
+        Err(at)
+    }
+}
+
+/// How many timers come before a name, looked for by halves.
+fn count_before(timers: &[Timer], name: &TimerName) -> usize
+    requires { DoRise timers.now }
     ensures { result ≡ length (before name.now timers.now) }
 {
-    timers
-        .iter()
-        .filter(|timer| timer.name.is_before(name))
-        .count()
+    timers.partition_point(|timer| timer.name.is_before(name))
 }
 
 /// Whether a timer stands at this place that doesn't come behind the name.

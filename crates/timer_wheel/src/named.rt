@@ -24,8 +24,9 @@ pub struct Timer {
 
 /// Timers by name: a finite map from names to the ticks that are left.
 ///
-/// They are kept in a list, in name order, with room for all names that the node has. A tick costs the timers that
-/// run; so do setting and stopping one, and looking for the one that is due.
+/// They are kept in a list, in name order, with room for all names that the node has. A name is looked for by halves;
+/// where its timer comes in or goes out, those behind it move. A tick costs the timers that run; so does looking for
+/// the one that is due.
 #[derive(Drop)]
 pub struct NamedTimers {
     counts: NodeCounts,

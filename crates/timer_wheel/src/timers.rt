@@ -15,9 +15,9 @@ use std::marker::Model;
 /// The timers of a node: a finite map from names to the ticks that are left.
 ///
 /// The timers of links stand in a table: setting and stopping one is one write. The others stand in a list, in name
-/// order, with room for all names of sets and destinations that the node has: setting and stopping one costs the
-/// others that run. A tick costs the table and that list. What is left to a name is `left_to`; `laws` says what each
-/// call does to it.
+/// order, with room for all names of sets and destinations that the node has: setting and stopping one costs a search
+/// by halves, and moves those behind it. A tick costs the table and that list. What is left to a name is `left_to`;
+/// `laws` says what each call does to it.
 #[derive(Drop)]
 pub struct Timers {
     links: LinkTimers,
@@ -94,7 +94,7 @@ impl Timers {
 
     /// Whether a timer runs, also where it is due and not handed out yet.
     ///
-    /// For a timer of a link this is one read; for another it costs a pass over those that run and aren't of a link.
+    /// For a timer of a link this is one read; for another it costs a search by halves.
     #[tactic(auto, unfolding(crate::specs::Lookup::left_to))]
     pub fn is_running(&self, name: TimerName) -> bool
         ensures { result ≡ is_running name self.now }
