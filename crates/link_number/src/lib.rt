@@ -1,7 +1,7 @@
 //! The sequence numbers of a link: 24 bits, and after the last comes 0 again.
 #![tactic(auto)]
 
-ghost use Rattle.std.specs.Prelude.{◌≡◌, ℕ, ◌+◌, ◌%◌, ◌^◌, ◌<◌, ◌≤◌, ◌↔◌, IsTrue, IsSome, IfSome};
+ghost use Rattle.std.specs.Prelude.{◌≡◌, ℕ, ◌+◌, ◌%◌, ◌^◌, ◌<◌, ◌≤◌, ◌↔◌, IsTrue, IsSome, IfSome, ◌∷◌, drop};
 ghost use Rattle.link_number.specs.Numbers.{next_number, previous_number, steps_between, is_within};
 ghost use Rattle.link_number.specs.Numbers.{three_octets, number_of};
 
@@ -74,6 +74,24 @@ impl Number24 {
     {
         let [_, high, middle, low] = self.value.to_be_bytes();
         [high, middle, low]
+    }
+
+    /// The number in four octets, most significant first, of which the first is 0.
+    pub fn to_four_octets(self) -> [u8; 4]
+        ensures octets { result ≡ 0 ∷ three_octets self }
+        ensures fits { self < 2 ^ 24 }
+    {
+        self.value.to_be_bytes()
+    }
+
+    /// The number in the last three of four octets, most significant first. The first octet may be any.
+    pub fn from_four_octets(octets: [u8; 4]) -> Number24
+        ensures number { result ≡ number_of (drop 1 octets) }
+        ensures fits { result < 2 ^ 24 }
+    {
+        Number24 {
+            value: u32::from_be_bytes(octets) % Number24::MODULUS,
+        }
     }
 
     /// The number before this one; before 0 comes the last.

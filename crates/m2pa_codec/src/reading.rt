@@ -73,10 +73,14 @@ fn read(octets: &[u8]) -> Result<Frame<'_>, FrameFault>
 
 /// The number in the three octets from a place on.
 fn number_at(octets: &[u8], at: usize) -> Number24
-    requires { at + 3 ≤ length octets.now }
+    requires before { 1 ≤ at }
+    requires fits { at + 3 ≤ length octets.now }
     ensures { result ≡ number_field octets.now at }
 {
-    Number24::from_be_bytes([octets[at], octets[at + 1], octets[at + 2]])
+    let Some(four) = octets[at - 1..].first_chunk::<4>() else {
+        unreachable!()
+    };
+    Number24::from_four_octets(*four)
 }
 
 /// The message types of M2PA (RFC 4165 §2.1.4).

@@ -40,34 +40,39 @@ fn write(frame: &Frame<'_>, out: &mut [u8; BUFFER_OCTETS]) -> usize
 {
     match *frame {
         Frame::Empty { bsn, fsn } => {
-            write_at(out, 0, &header(USER_DATA, HEADER_OCTETS as u32, bsn, fsn))
+            write_header(out, USER_DATA, HEADER_OCTETS as u32, bsn, fsn)
         }
         Frame::Message { bsn, fsn, sio, sif } => {
             let octets = (MESSAGE_HEADER_OCTETS + sif.len()) as u32;
-            let at = write_at(out, 0, &header(USER_DATA, octets, bsn, fsn));
+            let at = write_header(out, USER_DATA, octets, bsn, fsn);
             let at = write_at(out, at, &[SPARE, sio]);
             write_at(out, at, sif)
         }
         Frame::Status { bsn, fsn, status } => {
-            let at = write_at(out, 0, &header(LINK_STATUS, STATUS_OCTETS as u32, bsn, fsn));
+            let at = write_header(out, LINK_STATUS, STATUS_OCTETS as u32, bsn, fsn);
             write_at(out, at, &status.number().to_be_bytes())
         }
     }
 }
 
-/// Both headers of a frame of this message type, of this many octets in all.
+/// Writes both headers of a frame of this message type, of this many octets in all, and answers the place behind them.
 #[inline(always)]
-fn header(kind: u8, octets: u32, bsn: Number24, fsn: Number24) -> [u8; HEADER_OCTETS]
-    ensures text { result ≡ common_header 0 kind octets ++ number_header 0 bsn 0 fsn }
+fn write_header(
+    out: &mut [u8; BUFFER_OCTETS],
+    kind: u8,
+    octets: u32,
+    bsn: Number24,
+    fsn: Number24,
+) -> usize
+    ensures count { result ≡ 16 }
+    ensures text { take result out.new ≡ common_header 0 kind octets ++ number_header 0 bsn 0 fsn }
     ensures bsn { bsn < 2 ^ 24 }
     ensures fsn { fsn < 2 ^ 24 }
 {
-    let [l3, l2, l1, l0] = octets.to_be_bytes();
-    let [b2, b1, b0] = bsn.to_be_bytes();
-    let [f2, f1, f0] = fsn.to_be_bytes();
-    [
-        VERSION, SPARE, CLASS, kind, l3, l2, l1, l0, SPARE, b2, b1, b0, SPARE, f2, f1, f0,
-    ]
+    let at = write_at(out, 0, &[VERSION, SPARE, CLASS, kind]);
+    let at = write_at(out, at, &octets.to_be_bytes());
+    let at = write_at(out, at, &bsn.to_four_octets());
+    write_at(out, at, &fsn.to_four_octets())
 }
 
 /// Writes the octets from a place on, and answers the place behind them.

@@ -23,10 +23,7 @@ impl Label {
     pub fn read(sif: &[u8]) -> Option<Label>
         ensures { result ≡ label_in sif.now }
     {
-        let [first, second, third, fourth, ..] = sif else {
-            return None;
-        };
-        let number = u32::from_le_bytes([*first, *second, *third, *fourth]);
+        let number = u32::from_le_bytes(*sif.first_chunk::<4>()?);
         Some(Label {
             dpc: PointCode::new((number & 0x3fff) as u16)?,
             opc: PointCode::new((number >> 14 & 0x3fff) as u16)?,
