@@ -115,6 +115,7 @@ impl Sequence {
     /// Refused BadFsn where the forward number isn't the next one, or without a message not that of the last
     /// accepted message; else BadBsn where the backward number names no count from what is confirmed to what
     /// was sent. Then nothing changes.
+    #[inline(always)]
     pub fn accept<L: Lanes>(
         &mut self,
         lanes: &mut L,
@@ -136,12 +137,17 @@ impl Sequence {
             Keeps w self.old (lane_at (L.lists lanes.old) lane) q →
             Keeps w self.new (lane_at (L.lists lanes.new) lane) (accepted q fsn bsn carries) }
     {
-        let answer = self.accept_numbers(fsn, bsn, carries);
-        lanes.drop_front(lane, answer.unwrap_or(0));
-        answer
+        match self.accept_numbers(fsn, bsn, carries) {
+            Ok(confirmed) => {
+                lanes.drop_front(lane, confirmed);
+                Ok(confirmed)
+            }
+            Err(fault) => Err(fault),
+        }
     }
 
     // What `accept` does to the numbers alone.
+    #[inline(always)]
     fn accept_numbers(
         &mut self,
         fsn: Number24,
