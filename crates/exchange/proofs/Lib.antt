@@ -18,3 +18,4 @@ pub mod Returning
 pub mod Belonging
 pub mod TakenBack
 pub mod Attracted
+pub mod Serving

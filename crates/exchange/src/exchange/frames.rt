@@ -65,9 +65,28 @@ impl Exchange {
         }
     }
 
-    /// User Data, by the state of its link.
+    /// User Data, by the state of its link. On a link in service the alignment would change nothing, and isn't asked.
     #[inline(always)]
     fn take_in(
+        &mut self,
+        link: LinkId,
+        fsn: Number24,
+        bsn: Number24,
+        message: Option<MsuRef<'_>>,
+    ) -> Outcome
+        requires { link < length self.old.settings.links }
+        ensures { Ends self.old result self.new
+            (rule.take_in kept self.old.settings link (carrying fsn bsn message.entry) self.old.node) }
+    {
+        if self.serves(link) {
+            return self.handle(link, fsn, bsn, message);
+        }
+        self.enter_by(link, fsn, bsn, message)
+    }
+
+    /// User Data on a link that isn't in service: one that expects it enters service, and takes the message.
+    #[inline(never)]
+    fn enter_by(
         &mut self,
         link: LinkId,
         fsn: Number24,

@@ -13,6 +13,7 @@ use stp_types::{Cause, Limits, LinkId, MsuRef, Notice, Outcome};
 
 impl Exchange {
     /// A message in a frame, with the link that it came by. Where it is refused, that is noted.
+    #[inline(always)]
     pub(super) fn deliver(&mut self, link: LinkId, message: MsuRef<'_>) -> Outcome
         requires { link < length self.old.settings.links }
         ensures { Ends self.old result self.new
@@ -26,6 +27,7 @@ impl Exchange {
     }
 
     /// A message in a frame goes to this point, to another, or nowhere.
+    #[inline(always)]
     fn deliver_to(&mut self, link: LinkId, message: MsuRef<'_>) -> Outcome
         requires { link < length self.old.settings.links }
         ensures { Ends self.old result self.new

@@ -65,7 +65,7 @@ impl Exchange {
 
     /// Whether a link is in service.
     #[inline(always)]
-    fn serves(&self, link: LinkId) -> bool
+    pub(super) fn serves(&self, link: LinkId) -> bool
         requires { link < length self.now.settings.links }
         ensures { result ≡ in_service self.now.node.parts link }
     {

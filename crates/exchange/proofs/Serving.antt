@@ -1,0 +1,46 @@
+-- User Data on a link in service changes nothing before its numbers are looked at.
+use Rattle.std.proofs.Common.{◌≡◌, ℕ, true, refl, ap}
+use Rattle.std.specs.Prelude.{None}
+use Rattle.std.proofs.lemmas.List.{append-nil, set-get_or}
+use Rattle.settings_rows.specs.Configuration.{Configuration}
+use Rattle.link_alignment.specs.declared.action.Input.TheVariants.{UserData}
+use Rattle.link_alignment.specs.declared.action.Transition.{Transition}
+use Rattle.link_alignment.specs.declared.alignment.Alignment.{Alignment}
+use Rattle.link_alignment.specs.declared.alignment.Alignment.TheVariants.{Down, NotAligned, Aligned, Proving, AlignedReady, InService}
+use Rattle.link_alignment.specs.Table.{action_at}
+use Rattle.node_links.specs.Link.{Link}
+use Rattle.node_links.specs.LinkState.{down_link, is_in_service, stepped}
+use Rattle.exchange.specs.State.{QueueKind, Parts, Node}
+use Rattle.exchange.specs.Links.{link_at, in_service, links_with}
+use Rattle.exchange.specs.Statuses.{advance}
+use Rattle.exchange.specs.Frames.{Carrying, act_by_data, take_in, handle}
+
+-- the step of a link in service about User Data
+abbrev staying_in_service : Transition
+staying_in_service = record { state = InService; stop = None; send = None; start = None; serve = true }
+
+same_link : (l : Link) → l.alignment ≡ InService → stepped staying_in_service l ≡ l
+same_link l e = rw (append-nil l.waiting, ← e) refl
+
+same_links : (p : Parts) (link : ℕ) → (link_at p link).alignment ≡ InService
+    → links_with p link (stepped staying_in_service (link_at p link)) ≡ p.links
+same_links p link e = rw (same_link (link_at p link) e) (set-get_or p.links link down_link)
+
+module _ {Q : Type 0} (q : QueueKind Q) (c : Configuration) where
+  same_node : (link : ℕ) (node : Node Q) → (link_at node.parts link).alignment ≡ InService
+      → advance q c link staying_in_service node ≡ node
+  same_node link node e =
+      rw e (ap (λ links. record node { parts = record node.parts { links = links } }) (same_links node.parts link e))
+
+  by_alignment : (a : Alignment) (link : ℕ) (d : Carrying) (node : Node Q) → (link_at node.parts link).alignment ≡ a → is_in_service a ≡ true
+      → act_by_data q c (action_at a UserData) link d node ≡ handle q c link d node
+  by_alignment InService link d node e serves = ap (handle q c link d) (same_node link node e)
+  by_alignment Down link d node e serves = absurd cc
+  by_alignment NotAligned link d node e serves = absurd cc
+  by_alignment Aligned link d node e serves = absurd cc
+  by_alignment (Proving ready) link d node e serves = absurd cc
+  by_alignment AlignedReady link d node e serves = absurd cc
+
+  pub taken_in_service : (link : ℕ) (d : Carrying) (node : Node Q) → in_service node.parts link ≡ true
+      → take_in q c link d node ≡ handle q c link d node
+  taken_in_service link d node serves = by_alignment (link_at node.parts link).alignment link d node refl serves
