@@ -13,6 +13,3 @@ pub mod ring_lanes;
 pub use lanes::Lanes;
 pub use pick::{Pick, UserMessages};
 pub use ring_lanes::RingLanes;
-
-#[cfg(test)]
-mod tests;

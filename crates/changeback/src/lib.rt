@@ -16,6 +16,3 @@ pub use returning::{hold_changes, losing};
 
 /// How many selections a flow can have (Q.704 §2.2.4).
 const SELECTIONS: u8 = 16;
-
-#[cfg(test)]
-mod tests;

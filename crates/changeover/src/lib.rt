@@ -10,6 +10,3 @@ mod standing;
 pub use beginning::Beginning;
 pub use changeover::Changeover;
 pub use completion::{complete, in_doubt};
-
-#[cfg(test)]
-mod tests;

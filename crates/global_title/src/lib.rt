@@ -7,6 +7,3 @@ pub mod translations;
 
 pub use sccp_codec::TitleKey;
 pub use translations::Translations;
-
-#[cfg(test)]
-mod tests;

@@ -6,6 +6,3 @@ pub mod alignment;
 
 pub use action::{Action, Input, LinkTimer, Transition};
 pub use alignment::Alignment;
-
-#[cfg(test)]
-mod tests;

@@ -7,6 +7,3 @@ pub mod sequence;
 
 pub use fault::SeqFault;
 pub use sequence::Sequence;
-
-#[cfg(test)]
-mod tests;

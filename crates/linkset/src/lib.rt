@@ -5,6 +5,3 @@ pub mod laws;
 pub mod link_set;
 
 pub use link_set::{LinkSet, SetLink};
-
-#[cfg(test)]
-mod tests;

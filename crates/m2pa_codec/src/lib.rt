@@ -16,6 +16,3 @@ pub use reading::decode;
 pub use signalling_types::FrameFault;
 pub use status::LinkStatus;
 pub use writing::encode;
-
-#[cfg(test)]
-mod tests;

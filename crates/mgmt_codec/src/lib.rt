@@ -10,6 +10,3 @@ mod writing;
 pub use fault::MgmtFault;
 pub use link_test::{ANSWER_OCTETS, LinkTest, TestKind};
 pub use management::{MANAGEMENT_OCTETS, Management};
-
-#[cfg(test)]
-mod tests;

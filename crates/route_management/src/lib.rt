@@ -8,6 +8,3 @@ pub mod told;
 
 pub use heard::{Heard, RouteTest};
 pub use told::{Told, should};
-
-#[cfg(test)]
-mod tests;

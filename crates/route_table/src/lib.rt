@@ -7,6 +7,3 @@ pub mod routes;
 
 pub use route::{Route, RouteStatus};
 pub use routes::Routes;
-
-#[cfg(test)]
-mod tests;

@@ -6,6 +6,3 @@ pub mod label;
 
 pub use discrimination::{Discrimination, discriminate};
 pub use label::Label;
-
-#[cfg(test)]
-mod tests;

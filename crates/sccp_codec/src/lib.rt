@@ -18,6 +18,3 @@ pub use title::{EncodingScheme, GlobalTitle, TitleKey};
 pub use title_indicator::TitleIndicator;
 pub use unitdata::{Parts, Udt, Udts, Unitdata};
 pub use writing::Field;
-
-#[cfg(test)]
-mod tests;

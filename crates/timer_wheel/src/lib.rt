@@ -12,6 +12,3 @@ pub use name::{NodeCounts, RouteTimer, TimerName};
 pub use named::{NamedTimers, Timer};
 pub use table::LinkTimers;
 pub use timers::Timers;
-
-#[cfg(test)]
-mod tests;

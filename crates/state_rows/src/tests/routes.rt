@@ -1,42 +1,52 @@
-use super::*;
+//! Which set and which link the flows to a destination take.
+
 use arrayvec::ArrayVec;
+use route_table::{RouteStatus, Routes};
 use settings_rows::{DestinationRow, LinkRow};
 use signalling_types::{LinkId, PointCode, SetId, Sls};
-use std::alloc::Global;
+use std::alloc::{AllocError, Global};
 use std::test::*;
 
-/// A node with the links e0, e1, e2 of set 0 and w0 of set 1, all in service, and one destination, which both sets lead
-/// to, set 0 first.
-fn two_sets(alloc: Global) -> Result<Routes, Fail> {
-    let (east, west) = (SetId::new(0), SetId::new(1));
-    let links = [
+/// The links e0, e1, e2 of set 0 and w0 of set 1.
+fn four_links() -> [LinkRow; 4] {
+    let east = SetId::new(0);
+    [
         LinkRow::new("e0", east, 0),
         LinkRow::new("e1", east, 1),
         LinkRow::new("e2", east, 2),
-        LinkRow::new("w0", west, 0),
-    ];
+        LinkRow::new("w0", SetId::new(1), 0),
+    ]
+}
+
+/// A destination, which both sets lead to, set 0 first.
+fn by_both_sets() -> DestinationRow {
     let mut sets = ArrayVec::new();
-    sets.push(east);
-    sets.push(west);
-    let destinations = [DestinationRow::new(PointCode::new(2).unwrap(), sets)];
-    let mut routes = Routes::new(alloc, 2, &links, &destinations)?;
+    sets.push(SetId::new(0));
+    sets.push(SetId::new(1));
+    DestinationRow::new(PointCode::new(2).unwrap(), sets)
+}
+
+/// A node with these links, all in service, and that destination.
+fn two_sets(alloc: Global) -> Result<Routes, AllocError> {
+    let mut routes = Routes::new(alloc, 2, &four_links(), &[by_both_sets()])?;
     for link in 0..4u8 {
         routes.set_link(LinkId::new(link), true);
     }
     Ok(routes)
 }
 
+/// The link that the flow of a selection takes.
+fn taken(routes: &Routes, selection: u8) -> Option<LinkId> {
+    match Sls::new(selection) {
+        Some(sls) => routes.link_of(0, sls),
+        None => None,
+    }
+}
+
 /// Whether the flows of all 16 selections take these links.
 fn take(routes: &Routes, links: &[u8; 16]) -> bool {
-    for selection in 0..16u8 {
-        let link = match Sls::new(selection) {
-            Some(sls) => routes.link_of(0, sls),
-            None => None,
-        };
-        let Some(number) = links.get(selection as usize) else {
-            return false;
-        };
-        if link != Some(LinkId::new(*number)) {
+    for (selection, link) in (0..16u8).zip(links) {
+        if taken(routes, selection) != Some(LinkId::new(*link)) {
             return false;
         }
     }
@@ -44,24 +54,24 @@ fn take(routes: &Routes, links: &[u8; 16]) -> bool {
 }
 
 /// Whether load is shared as links fail one by one.
-fn share(mut routes: Routes) -> bool {
-    let all = take(&routes, &[0, 1, 2, 0, 1, 2, 0, 1, 2, 0, 1, 2, 0, 1, 2, 0]);
+fn share(routes: &mut Routes) -> bool {
+    let all = take(routes, &[0, 1, 2, 0, 1, 2, 0, 1, 2, 0, 1, 2, 0, 1, 2, 0]);
     routes.set_link(LinkId::new(1), false);
-    let two = take(&routes, &[0, 0, 2, 0, 2, 2, 0, 0, 2, 0, 2, 2, 0, 0, 2, 0]);
+    let two = take(routes, &[0, 0, 2, 0, 2, 2, 0, 0, 2, 0, 2, 2, 0, 0, 2, 0]);
     routes.set_link(LinkId::new(2), false);
-    let one = take(&routes, &[0; 16]);
+    let one = take(routes, &[0; 16]);
     routes.set_link(LinkId::new(0), false);
-    all && two && one && take(&routes, &[3; 16])
+    all && two && one && take(routes, &[3; 16])
 }
 
 #[test]
 fn load_sharing(rt: HostRuntime) -> Result<(), Fail> {
-    assert!(rt; share(two_sets(rt.alloc())?));
+    assert!(rt; share(&mut two_sets(rt.alloc())?));
     Ok(())
 }
 
 /// Whether the set of the destination goes by the statuses.
-fn choose(mut routes: Routes) -> bool {
+fn choose(routes: &mut Routes) -> bool {
     let (east, west) = (SetId::new(0), SetId::new(1));
     let preferred = routes.set_of(0) == Some(east);
     routes.set_status(0, east, RouteStatus::Restricted);
@@ -74,12 +84,12 @@ fn choose(mut routes: Routes) -> bool {
 
 #[test]
 fn allowed_then_restricted(rt: HostRuntime) -> Result<(), Fail> {
-    assert!(rt; choose(two_sets(rt.alloc())?));
+    assert!(rt; choose(&mut two_sets(rt.alloc())?));
     Ok(())
 }
 
 /// Whether statuses are read as they were told, until those of a set are reset.
-fn tell_and_reset(mut routes: Routes) -> bool {
+fn tell_and_reset(routes: &mut Routes) -> bool {
     let (east, west) = (SetId::new(0), SetId::new(1));
     let allowed = routes.status_of(0, east) == Some(RouteStatus::Allowed);
     routes.set_status(0, east, RouteStatus::Prohibited);
@@ -93,6 +103,6 @@ fn tell_and_reset(mut routes: Routes) -> bool {
 
 #[test]
 fn told_then_reset(rt: HostRuntime) -> Result<(), Fail> {
-    assert!(rt; tell_and_reset(two_sets(rt.alloc())?));
+    assert!(rt; tell_and_reset(&mut two_sets(rt.alloc())?));
     Ok(())
 }

@@ -1,16 +1,12 @@
-use super::*;
+//! Timers that run out in one tick.
+
 use signalling_types::{LinkId, SetId};
-use std::alloc::Global;
+use std::alloc::{AllocError, Global};
 use std::test::*;
+use timer_wheel::{NodeCounts, TimerName, Timers};
 
 /// Three timers that run out in one tick, set out of order; a fourth that was set again, and one that was stopped.
-fn started(alloc: Global) -> Result<Timers, Fail> {
-    let counts = NodeCounts {
-        links: 1,
-        sets: 1,
-        destinations: 2,
-    };
-    let mut timers = Timers::new(alloc, counts)?;
+fn start(timers: &mut Timers) {
     timers.set(TimerName::T10(SetId::new(0), 1), 1);
     timers.set(TimerName::T6(0), 1);
     timers.set(TimerName::L7(LinkId::new(0)), 1);
@@ -18,7 +14,6 @@ fn started(alloc: Global) -> Result<Timers, Fail> {
     timers.set(TimerName::T6(1), 2);
     timers.set(TimerName::T1(LinkId::new(0)), 1);
     timers.clear(TimerName::T1(LinkId::new(0)));
-    Ok(timers)
 }
 
 /// Whether this is due next.
@@ -26,15 +21,24 @@ fn is_next(timers: &mut Timers, name: Option<TimerName>) -> bool {
     timers.next_due() == name
 }
 
-fn is_in_order(alloc: Global) -> Result<bool, Fail> {
-    let mut timers = started(alloc)?;
+/// Whether those that run out in the next tick come in the order of their names.
+fn come_in_order(timers: &mut Timers) -> bool {
     timers.tick();
-    Ok(
-        is_next(&mut timers, Some(TimerName::L7(LinkId::new(0))))
-            && is_next(&mut timers, Some(TimerName::T6(0)))
-            && is_next(&mut timers, Some(TimerName::T10(SetId::new(0), 1)))
-            && is_next(&mut timers, None),
-    )
+    is_next(timers, Some(TimerName::L7(LinkId::new(0))))
+        && is_next(timers, Some(TimerName::T6(0)))
+        && is_next(timers, Some(TimerName::T10(SetId::new(0), 1)))
+        && is_next(timers, None)
+}
+
+fn is_in_order(alloc: Global) -> Result<bool, AllocError> {
+    let counts = NodeCounts {
+        links: 1,
+        sets: 1,
+        destinations: 2,
+    };
+    let mut timers = Timers::new(alloc, counts)?;
+    start(&mut timers);
+    Ok(come_in_order(&mut timers))
 }
 
 #[test]

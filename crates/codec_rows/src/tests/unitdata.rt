@@ -1,0 +1,302 @@
+//! Messages written by hand, and what they say.
+
+mod messages;
+mod writing;
+
+use super::{are_octets, octets, word};
+use messages::MESSAGES;
+use sccp_codec::{Address, GlobalTitle, Routing, SccpFault, TitleIndicator, Unitdata};
+use signalling_types::{Limits, PointCode};
+
+/// Faults: the octets, and the fault.
+const FAULTS: &str = "\
+- Short
+11 Kind
+1180030b0d08120600120494710202420802aabb Kind
+09 Short
+0980030b Short
+0980030b0d081206001204947102024208 Pointer
+0980030b0e08120600120494710202420802aabb Pointer
+0980020b0d08120600120494710202420802aabb Pointer
+0980030b0008120600120494710202420802aabb Pointer
+098003ff0d08120600120494710202420802aabb Pointer
+0a00030b0d08120600120494710202420803aabb Pointer
+090003020100 Short
+09000303050002420802aabb Short
+090003050702430102420802aabb Short
+090003050702412c02420802aabb Short
+0900030406014202420802aabb Short
+0900030506024208014202aabb Short
+09000305ff02430102420802aabb Pointer
+";
+
+/// Addresses: the octets, then `national` where that bit is set, by what it is routed, point code, subsystem
+/// number, title indicator, title.
+const ADDRESSES: &str = "\
+1206001204947102 - title - 6 4 001204947102
+4208 - ssn - 8 0 -
+c208 national ssn - 8 0 -
+00 - title - - 0 -
+412c01 - ssn 300 - 0 -
+43ffff06 - ssn 16383 6 0 -
+130300060012 - title 3 6 4 0012
+532c010600 - ssn 300 6 4 00
+3e0694 - title - 6 15 94
+0606049471 - title - 6 1 049471
+ff0140ff00 national ssn 1 255 15 00
+";
+
+/// Titles: their indicator and octets, then translation type, numbering plan, nature of address and digits, or
+/// why they are refused.
+const TITLES: &str = "\
+4 001204947102 0 1 4 491720
+4 001104947102 0 1 4 49172
+4 ff2184947102 255 2 4 49172
+4 00120494 0 1 4 49
+4 00110494 0 1 4 4
+4 001204 0 1 4 -
+4 001104 0 1 4 -
+4 0012ffbafcde 0 1 127 abcfed
+4 00f20010325476981032547698103254769810 0 15 0 01234567890123456789012345678901
+4 0011001032547698103254769810325476981002 0 1 0 01234567890123456789012345678901
+4 00110010325476981032547698103254769810 0 1 0 0123456789012345678901234567890
+4 001200103254769810325476981032547698103254 0 1 0 01234567890123456789012345678901
+1 04947102 NoNature
+3 0012947102 NoNature
+0 - NoNature
+4 - BadSccp
+4 0012 BadSccp
+4 0010 BadSccp
+4 001004947102 NoNature
+4 001304947102 NoNature
+";
+
+/// The one octet that a text in hexadecimal says.
+fn octet(text: &str) -> Option<u8> {
+    u8::from_str_radix(text, 16).ok()
+}
+
+/// Whether an address is what these octets say.
+fn is_read(found: &Address<'_>, octets: &[u8]) -> bool {
+    match Address::read(octets) {
+        Ok(address) => address == *found,
+        Err(_) => false,
+    }
+}
+
+/// Whether an address is what the octets of a text say.
+fn is_address(found: &Address<'_>, text: &str) -> bool {
+    let mut buffer = [0; Limits::SIF_OCTETS];
+    match octets(text, &mut buffer) {
+        Some(octets) => is_read(found, octets),
+        None => false,
+    }
+}
+
+/// Whether the kind and the octet behind the message type are what a row says.
+fn is_kind(message: &Unitdata<'_>, row: &str) -> bool {
+    let (kind, second) = match message {
+        Unitdata::Udt(udt) => ("udt", udt.class_octet),
+        Unitdata::Udts(udts) => ("udts", udts.return_cause),
+    };
+    word(row, 1) == kind && octet(word(row, 2)) == Some(second)
+}
+
+/// Whether a message is what a row says.
+fn is_row(message: &Unitdata<'_>, row: &str) -> bool {
+    let parts = message.parts();
+    is_kind(message, row)
+        && is_address(&parts.called, word(row, 3))
+        && is_address(&parts.calling, word(row, 4))
+        && are_octets(parts.data, word(row, 5))
+}
+
+/// Whether so many of the first octets of a message are no message, or the same one.
+fn is_cut(octets: &[u8], count: usize, whole: &Unitdata<'_>) -> bool {
+    match Unitdata::read(&octets[..count.min(octets.len())]) {
+        Ok(message) => message == *whole,
+        Err(SccpFault::Short) => count < 5,
+        Err(SccpFault::Pointer) => 5 <= count,
+        Err(SccpFault::Kind) => false,
+    }
+}
+
+/// Whether every front of a message is no message, or the same one.
+fn is_cut_anywhere(octets: &[u8], whole: &Unitdata<'_>) -> bool {
+    for count in 0..octets.len() {
+        if !is_cut(octets, count, whole) {
+            return false;
+        }
+    }
+    true
+}
+
+/// Whether octets are the message of a row, also where they are cut short.
+fn are_message(octets: &[u8], row: &str) -> bool {
+    match Unitdata::read(octets) {
+        Ok(message) => is_row(&message, row) && is_cut_anywhere(octets, &message),
+        Err(_) => false,
+    }
+}
+
+/// Whether a row of messages holds.
+fn holds(row: &str) -> bool {
+    let mut buffer = [0; Limits::SIF_OCTETS];
+    match octets(word(row, 0), &mut buffer) {
+        Some(octets) => are_message(octets, row),
+        None => false,
+    }
+}
+
+#[test]
+fn messages_say_their_parts(rt: HostRuntime) {
+    for row in MESSAGES.lines() {
+        assert!(rt; row.starts_with('#') || holds(row), "{row}");
+    }
+}
+
+/// The fault of this name.
+fn fault(name: &str) -> SccpFault {
+    match name {
+        "Short" => SccpFault::Short,
+        "Pointer" => SccpFault::Pointer,
+        _ => SccpFault::Kind,
+    }
+}
+
+/// Whether octets have this fault.
+fn have_fault(octets: &[u8], fault: SccpFault) -> bool {
+    match Unitdata::read(octets) {
+        Ok(_) => false,
+        Err(found) => found == fault,
+    }
+}
+
+/// Whether a row of faults holds.
+fn fails(row: &str) -> bool {
+    let mut buffer = [0; Limits::SIF_OCTETS];
+    match octets(word(row, 0), &mut buffer) {
+        Some(octets) => have_fault(octets, fault(word(row, 1))),
+        None => false,
+    }
+}
+
+#[test]
+fn the_first_fault_is_answered(rt: HostRuntime) {
+    for row in FAULTS.lines() {
+        assert!(rt; fails(row), "{row}");
+    }
+}
+
+/// The point code of a word; none where it is `-`.
+fn point(word: &str) -> Option<PointCode> {
+    PointCode::new(word.parse().ok()?)
+}
+
+/// The word for a routing.
+fn name(routing: Routing) -> &'static str {
+    if routing == Routing::Ssn {
+        "ssn"
+    } else {
+        "title"
+    }
+}
+
+/// Whether an address has the fields of a row.
+fn has_fields(address: &Address<'_>, row: &str) -> bool {
+    address.national == (word(row, 1) == "national")
+        && name(address.routing) == word(row, 2)
+        && address.point == point(word(row, 3))
+        && address.ssn == word(row, 4).parse().ok()
+        && word(row, 5).parse().ok() == Some(address.title_indicator.number())
+        && are_octets(address.title, word(row, 6))
+}
+
+/// Whether octets are the address of a row.
+fn are_address(octets: &[u8], row: &str) -> bool {
+    match Address::read(octets) {
+        Ok(address) => has_fields(&address, row),
+        Err(_) => false,
+    }
+}
+
+/// Whether a row of addresses holds.
+fn is_said(row: &str) -> bool {
+    let mut buffer = [0; Limits::SIF_OCTETS];
+    match octets(word(row, 0), &mut buffer) {
+        Some(octets) => are_address(octets, row),
+        None => false,
+    }
+}
+
+#[test]
+fn addresses_say_their_fields(rt: HostRuntime) {
+    for row in ADDRESSES.lines() {
+        assert!(rt; is_said(row), "{row}");
+    }
+}
+
+/// Whether this is the digit of an octet of a text.
+fn is_digit(octet: u8, digit: u8) -> bool {
+    char::from(octet).to_digit(16) == Some(u32::from(digit))
+}
+
+/// Whether these are the digits of a text; `-` has none.
+fn are_digits(digits: &[u8], text: &str) -> bool {
+    let text = if text == "-" { "" } else { text };
+    for (octet, digit) in text.bytes().zip(digits) {
+        if !is_digit(octet, *digit) {
+            return false;
+        }
+    }
+    digits.len() == text.len()
+}
+
+/// Whether a title is what a row says.
+fn is_title(title: &GlobalTitle<'_>, row: &str) -> bool {
+    word(row, 2).parse().ok() == Some(title.key.translation)
+        && word(row, 3).parse().ok() == Some(title.key.plan)
+        && word(row, 4).parse().ok() == Some(title.key.nature)
+        && are_digits(title.digits().as_slice(), word(row, 5))
+}
+
+/// An address of a title alone.
+fn titled<'a>(indicator: TitleIndicator, title: &'a [u8]) -> Address<'a> {
+    Address {
+        national: false,
+        routing: Routing::Title,
+        point: None,
+        ssn: None,
+        title_indicator: indicator,
+        title,
+    }
+}
+
+/// Whether the title of an address is what a row says, or refused as it says.
+fn has_title(address: &Address<'_>, row: &str) -> bool {
+    match address.global_title() {
+        Ok(title) => is_title(&title, row),
+        Err(cause) => cause.name() == word(row, 2),
+    }
+}
+
+/// The title indicator of a word.
+fn indicator(word: &str) -> Option<TitleIndicator> {
+    TitleIndicator::new(word.parse().ok()?)
+}
+
+/// Whether a row of titles holds.
+fn is_titled(row: &str) -> bool {
+    let mut buffer = [0; Limits::SIF_OCTETS];
+    match (indicator(word(row, 0)), octets(word(row, 1), &mut buffer)) {
+        (Some(indicator), Some(octets)) => has_title(&titled(indicator, octets), row),
+        _ => false,
+    }
+}
+
+#[test]
+fn titles_say_their_digits(rt: HostRuntime) {
+    for row in TITLES.lines() {
+        assert!(rt; is_titled(row), "{row}");
+    }
+}
