@@ -1,9 +1,12 @@
--- The first link in service that a flow tries is in service.
+-- The first link in service that a flow tries is in service, and there is one where its set has one.
 use Rattle.std.proofs.Common.{◌≡◌, ℕ, Bool, true, false, cond, List, [], ◌∷◌, refl, ap, ◌∙◌, sym}
-use Rattle.std.specs.Prelude.{Some, find}
+use Rattle.std.proofs.lemmas.List.Sorted.{list_any-IsPermutation}
+use Rattle.std.specs.List.{list_any}
+use Rattle.std.specs.Prelude.{Some, find, is_some, ◌||◌}
 use Rattle.std.specs.Option.{option_map}
 use Rattle.linkset.specs.declared.link_set.SetLink.{SetLink}
-use Rattle.linkset.specs.Preference.{preference, is_in_service, first_in_service}
+use Rattle.linkset.specs.Preference.{preference, is_in_service, first_in_service, has_link}
+use Rattle.linkset.proofs.Preference.{preference-permutation}
 
 found : (in_service : List Bool) (links : List SetLink) (link : ℕ)
     → option_map (λ l. l.link) (find (λ l. is_in_service in_service l.link) links) ≡ Some link → is_in_service in_service link ≡ true
@@ -20,3 +23,20 @@ found in_service (x ∷ xs) link e =
 pub first_serves : (selection : ℕ) (in_service : List Bool) (links : List SetLink) (link : ℕ)
     → first_in_service selection in_service links ≡ Some link → is_in_service in_service link ≡ true
 first_serves selection in_service links link e = found in_service (preference selection links) link e
+
+some_found : (in_service : List Bool) (links : List SetLink)
+    → is_some (option_map (λ l. l.link) (find (λ l. is_in_service in_service l.link) links)) ≡ list_any (λ l. is_in_service in_service l.link) links
+some_found in_service [] = refl
+some_found in_service (x ∷ xs) =
+    elim (is_in_service in_service x.link) as (λ b.
+    is_some (option_map (λ l. l.link) (cond b (Some x) (find (λ l. is_in_service in_service l.link) xs)))
+    ≡ (b || list_any (λ l. is_in_service in_service l.link) xs)) [
+      | true ↦ refl
+      | false ↦ some_found in_service xs
+    ]
+
+pub some_serves : (selection : ℕ) (in_service : List Bool) (links : List SetLink)
+    → is_some (first_in_service selection in_service links) ≡ has_link in_service links
+some_serves selection in_service links =
+    some_found in_service (preference selection links)
+    ∙ sym (list_any-IsPermutation (λ l. is_in_service in_service l.link) links (preference selection links) (preference-permutation selection links))

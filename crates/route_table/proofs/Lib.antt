@@ -3,3 +3,4 @@ pub mod InService
 pub mod Telling
 pub mod Resetting
 pub mod Opening
+pub mod Searching

@@ -9,7 +9,7 @@ use Rattle.route_table.specs.declared.route.RouteStatus.TheVariants.{Allowed, Re
 use Rattle.route_table.specs.Facts.{Facts, set_at, routes_to}
 use Rattle.route_table.specs.Chosen.{status_number, is_open, open_route, chosen_route}
 
-found_passes : (p : Route → Bool) (routes : List Route) (route : Route) → find p routes ≡ Some route → p route ≡ true
+pub found_passes : (p : Route → Bool) (routes : List Route) (route : Route) → find p routes ≡ Some route → p route ≡ true
 found_passes p [] route e = absurd cc
 found_passes p (r ∷ rs) route e =
     elim (p r) as (λ b. p r ≡ b → cond b (Some r) (find p rs) ≡ Some route → p route ≡ true) [

@@ -1,5 +1,5 @@
 -- Which set and which link a flow takes (Q.704 §4.2).
-use Rattle.std.specs.Prelude.{ℕ, Bool, ◌&&◌, ◌==◌, List, Option, codes, find}
+use Rattle.std.specs.Prelude.{ℕ, Bool, ◌&&◌, ◌==◌, List, [], ◌∷◌, Option, None, codes, find, if◌then◌else◌}
 use Rattle.std.specs.Option.{option_map, option_or, option_and_then}
 use Rattle.linkset.specs.Preference.{has_link, first_in_service}
 use Rattle.route_table.specs.declared.route.Route.{Route}
@@ -44,3 +44,15 @@ chosen_set f destination = option_or (first_set f destination Allowed) (first_se
 abbrev pub chosen_link : Facts → (destination selection : ℕ) → Option ℕ
 chosen_link f destination selection =
     option_and_then (λ set. first_in_service selection f.in_service (set_at f set)) (chosen_set f destination)
+
+-- the same, route by route: the link by a route of this status
+abbrev pub link_by : Facts → (selection : ℕ) → RouteStatus → Route → Option ℕ
+link_by f selection status route =
+    if status_number route.status == status_number status
+    then first_in_service selection f.in_service (set_at f route.set) else None
+
+-- and that by the first of some routes that has one
+abbrev pub open_link : Facts → (selection : ℕ) → RouteStatus → List Route → Option ℕ
+open_link f selection status [] = None
+open_link f selection status (route ∷ routes) =
+    option_or (link_by f selection status route) (open_link f selection status routes)

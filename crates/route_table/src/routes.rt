@@ -6,7 +6,7 @@ ghost use Rattle.linkset.specs.Preference.{first_in_service, has_link};
 ghost use Rattle.route_table.specs.Facts.{first_facts, first_sets, first_routes, set_at, routes_to};
 ghost use Rattle.route_table.specs.Facts.{with_link, with_status};
 ghost use Rattle.route_table.specs.Chosen.{chosen_route, chosen_set, chosen_link};
-ghost use Rattle.route_table.specs.Chosen.{open_route, first_set, is_open};
+ghost use Rattle.route_table.specs.Chosen.{open_route, first_set, is_open, open_link, link_by};
 
 mod statuses;
 
@@ -101,12 +101,37 @@ impl Routes {
 
     /// The link of a flow: of the set of its destination, the first in service in the order in which the selection
     /// tries them (Q.704 §4.2).
+    #[tactic(auto, using(crate::proofs::Searching::chosen_is))]
     pub fn link_of(&self, destination: usize, sls: Sls) -> Option<LinkId>
         ensures { result ≡ chosen_link self.now destination sls }
     {
-        match self.set_of(destination) {
-            Some(set) => self.link_in(set, sls),
-            None => None,
+        match self.open_link(destination, sls, RouteStatus::Allowed) {
+            Some(link) => Some(link),
+            None => self.open_link(destination, sls, RouteStatus::Restricted),
+        }
+    }
+
+    /// The link of a flow by the first route with this status that has one.
+    fn open_link(&self, destination: usize, sls: Sls, status: RouteStatus) -> Option<LinkId>
+        ensures { result ≡ open_link self.now sls status (routes_to self.now destination) }
+    {
+        for route in self.routes_to(destination) {
+            let link = self.link_by(*route, sls, status);
+            if link.is_some() {
+                return link;
+            }
+        }
+        None
+    }
+
+    /// The link of a flow by a route, where it has this status.
+    fn link_by(&self, route: Route, sls: Sls, status: RouteStatus) -> Option<LinkId>
+        ensures { result ≡ link_by self.now sls status route }
+    {
+        if route.status.is(status) {
+            self.link_in(route.set, sls)
+        } else {
+            None
         }
     }
 
