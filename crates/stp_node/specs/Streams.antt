@@ -1,5 +1,6 @@
 -- What is known of streams, how they count their failures, and what a write that stops early leaves written.
-use Rattle.std.specs.Prelude.{ℕ, ◌+◌, ◌-◌, ◌^◌, min, List, take, Option, Result, Ok, Err}
+use Rattle.std.specs.Prelude.{ℕ, ◌+◌, ◌-◌, ◌^◌, ◌==◌, min, List, take, Option, None, Some, Result, Ok, Err}
+use Rattle.std.specs.Prelude.{if◌then◌else◌}
 use Rattle.std.specs.Io.KnownBytes.{Appends}
 
 -- of a source: the octets that reads give from here on, where they are known; how many reads were made, and how many
@@ -26,6 +27,11 @@ failures_after n (Err e) = counted n
 -- the known octets grew by the first of these, however many
 abbrev pub AppendsFirst : Option (List ℕ) → Option (List ℕ) → List ℕ → Type 0
 AppendsFirst old new octets = (count : ℕ) × Appends old new (take count octets)
+
+-- which call fails, after one more call: the one after a call fewer, or none any more
+abbrev pub plan_after : Option ℕ → Option ℕ
+plan_after None = None
+plan_after (Some calls) = if calls == 0 then None else Some (calls - 1)
 
 -- octets that are given so many a read, with at most one read to come that fails, after so many others
 pub record PlannedSource : Type 0 where

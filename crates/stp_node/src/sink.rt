@@ -3,7 +3,7 @@
 ghost use Rattle.std.specs.Prelude.{◌≡◌, ℕ, ◌<◌, ◌≤◌, ◌++◌, [], List};
 ghost use Rattle.std.specs.Prelude.{Option, None, Some, length, take, IsOk, IsErr, OnOk, OnErr};
 ghost use Rattle.std.specs.Io.KnownBytes.{Appends};
-ghost use Rattle.stp_node.specs.Streams.{Output, AppendsFirst, failures_after};
+ghost use Rattle.stp_node.specs.Streams.{Output, AppendsFirst, failures_after, plan_after};
 
 use std::alloc::Global;
 use std::io::Write;
@@ -139,7 +139,14 @@ impl MemorySink {
 impl Sink for MemorySink {
     ghost output = { λ s. record { written = Some s.written; failures = s.failures } };
 
-    fn write(&mut self, octets: &[u8]) -> Result<(), WriteFailed> {
+    fn write(&mut self, octets: &[u8]) -> Result<(), WriteFailed>
+        ensures all { OnOk result (Appends (Some self.old.written) (Some self.new.written) octets.now) }
+        ensures first { OnErr result (AppendsFirst (Some self.old.written) (Some self.new.written) octets.now) }
+        ensures counted { self.new.failures ≡ failures_after self.old.failures result }
+        ensures planned { self.old.until_failure ≡ Some 0 → IsErr result }
+        ensures none { OnErr result (self.new.written ≡ self.old.written) }
+        ensures plan { self.new.until_failure ≡ plan_after self.old.until_failure }
+    {
         let is_refused = self.until_failure == Some(0);
         self.until_failure = match self.until_failure {
             Some(0) | None => None,

@@ -3,7 +3,7 @@
 ghost use Rattle.std.specs.Prelude.{◌≡◌, ℕ, ◌<◌, ◌≤◌, ◌++◌, List, []};
 ghost use Rattle.std.specs.Prelude.{Option, None, Some, length, take, IfOk, IsErr, ◌↔◌, min, max, drop};
 ghost use Rattle.std.specs.Io.KnownBytes.{ReadConsumes};
-ghost use Rattle.stp_node.specs.Streams.{Input, counted, failures_after};
+ghost use Rattle.stp_node.specs.Streams.{Input, counted, failures_after, plan_after};
 
 use std::io::Read;
 use std::marker::Model;
@@ -174,6 +174,8 @@ impl Source for MemorySource<'_> {
         ensures made { self.new.reads ≡ counted self.old.reads }
         ensures counted { self.new.failures ≡ failures_after self.old.failures result }
         ensures planned { IsErr result ↔ (self.old.until_failure ≡ Some 0) }
+        ensures plan { self.new.until_failure ≡ plan_after self.old.until_failure }
+        ensures most { self.new.most ≡ self.old.most }
     {
         self.reads = self.reads.saturating_add(1);
         match self.until_failure {
