@@ -1,7 +1,8 @@
 -- A settings file that a run changes line by line.
-use Rattle.std.specs.Prelude.{◌≡◌, ◌<◌, ◌≤◌, ◌+◌, ◌-◌, ◌==◌, ◌||◌, ◌&&◌, ℕ, Bool, true, false, List, [], ◌∷◌, ◌++◌}
-use Rattle.std.specs.Prelude.{length, take, drop, nat_lt, Option, None, Some}
+use Rattle.std.specs.Prelude.{◌≡◌, ◌<◌, ◌≤◌, ◌+◌, ◌-◌, ◌==◌, ◌||◌, ◌&&◌, ℕ, Bool, true, false, List, ◌∷◌, ◌++◌}
+use Rattle.std.specs.Prelude.{length, take, drop, nat_lt, Option, None, Some, Ok}
 use Rattle.std.specs.List.{slice_index_or, starts_with}
+use Rattle.stp_node.specs.Folders.{FileRead}
 
 -- the text of a settings file, and where the next change goes
 pub record Changed : Type 0 where
@@ -38,7 +39,7 @@ abbrev pub PutsIn : List ℕ → Changed → Changed → Type 0
 PutsIn line file after = (after.at ≡ file.at + (length line + 1))
     × (after.text ≡ take file.at file.text ++ (line ++ (10 ∷ drop file.at file.text)))
 
--- the file that a run changes further, or a file that wasn't changed yet
-abbrev pub StartsFrom : Option Changed → Changed → Type 0
-StartsFrom (Some changed) file = file ≡ changed
-StartsFrom None file = file.at ≡ 0
+-- the file that a run changes further, or what a read of the file of this name came to, not changed yet
+abbrev pub StartsFrom : (List ℕ → FileRead → Type 0) → (name : List ℕ) → Option Changed → Changed → Type 0
+StartsFrom reads name (Some changed) file = file ≡ changed
+StartsFrom reads name None file = (file.at ≡ 0) × reads name (Ok file.text)

@@ -1,7 +1,8 @@
 -- What a run of the program prints.
 use Rattle.std.specs.Prelude.{◌≡◌, ◌⊎◌, ℕ, List, [], ◌∷◌, ◌++◌, codes, Option, None, Some, Ok, Err}
-use Rattle.std.specs.Prelude.{String, string_bytes, if◌then◌else◌, bytes_eq}
+use Rattle.std.specs.Prelude.{String, string_bytes, if◌then◌else◌, bytes_eq, drop, ◌==◌}
 use Rattle.std.specs.Global.{Global}
+use Rattle.std.specs.List.{slice_split}
 use Rattle.stp_node.specs.Folders.{FileRead}
 use Rattle.stp_node.specs.Program.{Does}
 use Rattle.stp_node.specs.Streams.{Input, Output}
@@ -32,17 +33,21 @@ pub record Prints (words : List (String Global)) (reads : List ℕ → FileRead 
   pub known : output.written ≡ Some written
   pub all : printed ≡ written ++ status_line status
 
+-- the words of a command, which blanks (32) part, without the program's name
+abbrev pub words_of : List ℕ → List (List ℕ)
+words_of command = drop 1 (slice_split (λ octet. octet == 32) command)
+
 -- the file that words name
 abbrev pub file_name : List (String Global) → List ℕ
 file_name (command ∷ file ∷ []) = string_bytes file
 file_name _ = []
 
--- what a read of a file may come to: of files that lie on the disk nothing is known; of a file that was changed all is
-abbrev pub reads_of : List (String Global) → Option Changed → List ℕ → FileRead → Type 0
-reads_of words None name read = Unit {0}
-reads_of words (Some file) name read =
+-- what a read of a file may come to in a folder, where that file was changed
+abbrev pub reads_of : (List ℕ → FileRead → Type 0) → List (String Global) → Option Changed → List ℕ → FileRead → Type 0
+reads_of reads words None name read = reads name read
+reads_of reads words (Some file) name read =
     (read ≡ (if bytes_eq name (file_name words) then Ok file.text else Err Unread)) ⊎ (read ≡ Err NoMemory)
 
 -- the program prints this for these words, this script and this file, where it was changed
-abbrev pub IsPrinted : List (String Global) → Option Changed → List ℕ → List ℕ → Type 0
-IsPrinted words file script printed = Prints words (reads_of words file) script printed
+abbrev pub IsPrinted : (List ℕ → FileRead → Type 0) → List (String Global) → Option Changed → List ℕ → List ℕ → Type 0
+IsPrinted reads words file script printed = Prints words (reads_of reads words file) script printed

@@ -1,7 +1,10 @@
 //! The lines of a transcript.
 
-ghost use Rattle.std.specs.Prelude.{◌≡◌, option_map};
+ghost use Rattle.std.specs.Prelude.{◌≡◌, IfOk, map, option_map};
 ghost use Rattle.transcripts.specs.Lines.{behind, line_of, said};
+ghost use Rattle.transcripts.specs.Texts.{lines_of};
+
+use std::alloc::{AllocError, Global};
 
 /// What a line of a transcript is.
 #[derive(Clone, Copy)]
@@ -54,4 +57,11 @@ fn behind<'a>(mark: &[u8], line: &'a [u8]) -> Option<&'a [u8]>
     } else {
         None
     }
+}
+
+/// The lines of a text.
+pub fn lines(alloc: Global, text: &[u8]) -> Result<Vec<&[u8]>, AllocError>
+    ensures { IfOk result (λ lines. map (λ line. line.now) lines.items ≡ lines_of text.now) }
+{
+    text.split(|octet| *octet == b'\n').collect(alloc)
 }

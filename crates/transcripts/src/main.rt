@@ -10,25 +10,31 @@
 //! - Every other line is one that is printed; at the end, `[3]` is an exit status other than 0.
 #![tactic(auto)]
 
+ghost use Rattle.std.specs.Prelude.{ℕ, List, IfOk, Ok};
+ghost use Rattle.transcripts.specs.Alike.{TellsBuiltIn};
+
+mod alike;
+mod built_in;
 mod changed;
 mod differences;
 mod line;
-mod listing;
 mod play;
 mod run;
 mod tally;
 
-use crate::listing::is_built_in;
+use crate::built_in::is_built_in;
+use crate::run::read_file;
 use crate::tally::play_all;
 use anyhow::{Result, ensure};
-use std::rt::Files;
-use std::{env, fs};
+use std::env;
+use stp_node::{Disk, Folder};
 
 fn main(rt: HostRuntime) -> Result<()> {
     let names: Vec<String> = env::args(&rt)?.skip(1).collect(rt.alloc())?;
-    let tally = play_all(&rt, names.as_slice())?;
-    let built_in = tell_whether_built_in(&rt, "built_in.toml")?;
-    let single = tell_whether_built_in(&rt, "single.toml")?;
+    let disk = Disk::new(&rt);
+    let tally = play_all(&rt, &disk, names.as_slice())?;
+    let built_in = tell_whether_built_in(&rt, &disk, "built_in.toml")?;
+    let single = tell_whether_built_in(&rt, &disk, "single.toml")?;
     let (good, failed) = (tally.good, tally.failed);
     println!(rt; "{good} good, {failed} failed")?;
     ensure!(
@@ -39,9 +45,15 @@ fn main(rt: HostRuntime) -> Result<()> {
 }
 
 /// Tells whether the settings of a file are those built in.
-fn tell_whether_built_in<R: Files + Print + AllocGlobal>(rt: &R, name: &str) -> Result<bool> {
-    let text = fs::read_to_string(rt, name)?;
-    let is_built_in = is_built_in(rt.alloc(), text.as_str())?;
+fn tell_whether_built_in<R: Print + AllocGlobal, F: Folder>(
+    rt: &R,
+    folder: &F,
+    name: &str,
+) -> Result<bool>
+    ensures { IfOk result (λ same. (text : List ℕ) × F.reads folder.now name.now (Ok text) × TellsBuiltIn text same) }
+{
+    let octets = read_file(rt.alloc(), folder, name)?;
+    let is_built_in = is_built_in(rt.alloc(), str::from_utf8(octets.as_slice())?)?;
     println!(rt; "{name} has the built-in settings: {is_built_in}")?;
     Ok(is_built_in)
 }

@@ -1,16 +1,15 @@
 //! A run of the program in a transcript.
 
-ghost use Rattle.std.specs.Prelude.{◌≡◌, ◌↔◌, ◌++◌, ◌∷◌, [], IsOk, IfOk, OnOk, None};
-ghost use Rattle.transcripts.specs.Changed.{Changed, StartsFrom, TakesOut, PutsIn};
-ghost use Rattle.transcripts.specs.Runs.{file_name, status_line, IsPrinted, Prints};
+ghost use Rattle.std.specs.Prelude.{◌≡◌, ◌↔◌, ◌++◌, ◌∷◌, [], map, string_bytes, IsOk, IfOk, OnOk, Ok, None};
+ghost use Rattle.transcripts.specs.Changed.{Changed, TakesOut, PutsIn};
+ghost use Rattle.transcripts.specs.Plays.{IsGood, StartsOf};
+ghost use Rattle.transcripts.specs.Runs.{file_name, words_of, status_line, IsPrinted, Prints};
 
 use crate::changed::ChangedFile;
 use crate::differences::{first_difference, line_at};
 use anyhow::{Result, bail};
 use std::alloc::{AllocError, Global};
-use std::fs;
-use std::rt::Files;
-use stp_node::{Disk, Folder, MemorySink, MemorySource, OneFile, Status, run_program};
+use stp_node::{FileFault, Folder, MemorySink, MemorySource, OneFile, Status, run_program};
 
 /// A run of the program: its words, its script, and what it is to print.
 #[derive(Drop)]
@@ -32,6 +31,8 @@ pub struct Run {
 impl Run {
     /// The run of a command on a line of this number.
     pub fn new(alloc: Global, command: &[u8], number: usize) -> Result<Run>
+        ensures words { IfOk result (λ run.
+            map (λ word. string_bytes word) run.words.items ≡ words_of command.now) }
         ensures others { IfOk result (λ run. run ≡ record {
           words = run.words;
           file = None;
@@ -85,70 +86,69 @@ impl Run {
     }
 
     /// Takes a line out of the settings file, and answers whether it was there.
-    pub fn take_out<R: Files + AllocGlobal>(&mut self, rt: &R, line: &[u8]) -> Result<bool>
+    pub fn take_out<F: Folder>(&mut self, alloc: Global, folder: &F, line: &[u8]) -> Result<bool>
         ensures file { IfOk result (λ is_there. (before : Changed) × (after : Changed)
-            × StartsFrom self.old.file before × TakesOut line.now before after is_there
+            × StartsOf (F.reads folder.now) self.old before × TakesOut line.now before after is_there
             × (self.new.file ≡ Some after)) }
         ensures others { self.new ≡ record self.old { file = self.new.file } }
     {
-        let mut file = self.changed(rt)?;
+        let mut file = self.changed(alloc, folder)?;
         let is_there = file.take_out(line);
         self.file = Some(file);
         Ok(is_there)
     }
 
     /// Puts a line into the settings file.
-    pub fn put_in<R: Files + AllocGlobal>(&mut self, rt: &R, line: &[u8]) -> Result<()>
+    pub fn put_in<F: Folder>(&mut self, alloc: Global, folder: &F, line: &[u8]) -> Result<()>
         ensures file { OnOk result ((before : Changed) × (after : Changed)
-            × StartsFrom self.old.file before × PutsIn line.now before after × (self.new.file ≡ Some after)) }
+            × StartsOf (F.reads folder.now) self.old before × PutsIn line.now before after
+            × (self.new.file ≡ Some after)) }
         ensures others { self.new ≡ record self.old { file = self.new.file } }
     {
-        let mut file = self.changed(rt)?;
+        let mut file = self.changed(alloc, folder)?;
         file.put_in(line)?;
         self.file = Some(file);
         Ok(())
     }
 
     /// The settings file with the changes so far, which is moved out.
-    fn changed<R: Files + AllocGlobal>(&mut self, rt: &R) -> Result<ChangedFile>
-        ensures file { IfOk result (StartsFrom self.old.file) }
+    fn changed<F: Folder>(&mut self, alloc: Global, folder: &F) -> Result<ChangedFile>
+        ensures file { IfOk result (StartsOf (F.reads folder.now) self.old) }
         ensures others { self.new ≡ record self.old { file = None } }
     {
         match self.file.take() {
             Some(file) => Ok(file),
             None => {
-                let octets = fs::read(rt, self.file_name())?;
-                Ok(ChangedFile::new(rt.alloc(), octets.as_slice())?)
+                let octets = read_file(alloc, folder, self.file_name())?;
+                Ok(ChangedFile::new(alloc, octets.as_slice())?)
             }
         }
     }
 
     /// What the program prints in this run.
-    fn printed<R: Files + AllocGlobal>(&self, rt: &R) -> Result<Vec<u8>>
-        ensures { IfOk result (λ printed.
-            IsPrinted self.now.words.items self.now.file self.now.script.items printed.items) }
+    fn printed<F: Folder>(&self, alloc: Global, folder: &F) -> Result<Vec<u8>>
+        ensures { IfOk result (λ printed. IsPrinted (F.reads folder.now) self.now.words.items self.now.file
+            self.now.script.items printed.items) }
     {
-        let alloc = rt.alloc();
         let words = self.words.as_slice();
         let script = self.script.as_slice();
         match &self.file {
-            None => printed(alloc, words, &Disk::new(rt), script),
+            None => printed(alloc, words, folder, script),
             Some(file) => {
-                let folder = OneFile {
+                let changed = OneFile {
                     name: self.file_name(),
                     octets: file.octets(),
                 };
-                printed(alloc, words, &folder, script)
+                printed(alloc, words, &changed, script)
             }
         }
     }
 
     /// Runs the program, and compares what it prints with what it is to print.
-    pub fn finish<R: Files + AllocGlobal>(&self, rt: &R) -> Result<()>
-        ensures { OnOk result (IsPrinted self.now.words.items self.now.file self.now.script.items
-            self.now.wanted.items) }
+    pub fn finish<F: Folder>(&self, alloc: Global, folder: &F) -> Result<()>
+        ensures { OnOk result (IsGood (F.reads folder.now) self.now) }
     {
-        let printed = self.printed(rt)?;
+        let printed = self.printed(alloc, folder)?;
         self.compare(printed.as_slice())
     }
 
@@ -175,12 +175,25 @@ impl Run {
 }
 
 /// The words of a command, without the program's name.
-fn words(alloc: Global, command: &[u8]) -> Result<Vec<String>> {
+fn words(alloc: Global, command: &[u8]) -> Result<Vec<String>>
+    ensures { IfOk result (λ words. map (λ word. string_bytes word) words.items ≡ words_of command.now) }
+{
     let mut words = Vec::new(alloc);
     for word in str::from_utf8(command)?.split(' ').skip(1) {
         words.push(String::from_str(alloc, word)?)?;
     }
     Ok(words)
+}
+
+/// Reads the file of this name.
+pub fn read_file<F: Folder>(alloc: Global, folder: &F, name: &str) -> Result<Vec<u8>>
+    ensures { IfOk result (λ octets. F.reads folder.now name.now (Ok octets.items)) }
+{
+    match folder.read(alloc, name) {
+        Ok(octets) => Ok(octets),
+        Err(FileFault::Unread) => bail!("{name} can't be read"),
+        Err(FileFault::NoMemory) => bail!("memory ran out"),
+    }
 }
 
 /// What the program prints of a script, with its exit status where that isn't 0. The error comes where memory runs
