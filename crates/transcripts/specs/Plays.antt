@@ -1,5 +1,6 @@
 -- What the lines of a transcript do to the run that they belong to.
-use Rattle.std.specs.Prelude.{◌≡◌, ◌==◌, codes, ℕ, Bool, true, false, Option, None, IfSome, IsSomeAnd, List, [], ◌∷◌, ◌++◌, Some}
+use Rattle.std.specs.Prelude.{◌≡◌, ◌==◌, codes, ℕ, Bool, true, false, Option, None, Some, IfSome, IsSomeAnd}
+use Rattle.std.specs.Prelude.{List, [], ◌∷◌, ◌++◌}
 use Rattle.std.specs.Prelude.{Ok, map, string_bytes}
 use Rattle.std.specs.List.{count_by, ends_with}
 use Rattle.stp_node.specs.Folders.{FileRead}
