@@ -104,7 +104,8 @@ impl LinkSet {
         Some(links[usize::from(sls.number()) % links.len()].link)
     }
 
-    /// The same as `first_in_service`, link by link.
+    /// The same as `first_in_service`, link by link. It is seldom needed, and stays out of the path of a message.
+    #[inline(never)]
     fn search(&self, sls: Sls, in_service: &[bool]) -> Option<LinkId>
         ensures { result ≡ first_in_service sls in_service.now self.now }
     {

@@ -73,6 +73,7 @@ impl Timers {
 
     /// Stops a timer, if it runs.
     #[tactic(auto, unfolding(crate::specs::Timers::clear_timer))]
+    #[inline(always)]
     pub fn clear(&mut self, name: TimerName)
         ensures { self.new ≡ clear_timer name self.old }
     {
