@@ -2,7 +2,7 @@
 use Rattle.std.proofs.Common.{◌≡◌, ℕ, Bool, true, false, cond, List, [], ◌∷◌, refl, ap, ◌∙◌, sym}
 use Rattle.std.proofs.lemmas.List.Sorted.{list_any-IsPermutation}
 use Rattle.std.specs.List.{list_any}
-use Rattle.std.specs.Prelude.{Some, find, is_some, ◌||◌}
+use Rattle.std.specs.Prelude.{Option, Some, None, find, is_some, ◌||◌}
 use Rattle.std.specs.Option.{option_map}
 use Rattle.linkset.specs.declared.link_set.SetLink.{SetLink}
 use Rattle.linkset.specs.Preference.{preference, is_in_service, first_in_service, has_link}
@@ -40,3 +40,13 @@ pub some_serves : (selection : ℕ) (in_service : List Bool) (links : List SetLi
 some_serves selection in_service links =
     some_found in_service (preference selection links)
     ∙ sym (list_any-IsPermutation (λ l. is_in_service in_service l.link) links (preference selection links) (preference-permutation selection links))
+
+none_by : (found : Option ℕ) → is_some found ≡ false → None ≡ found
+none_by None e = refl
+none_by (Some link) e = absurd cc
+
+-- a set without a link in service has none for any flow
+pub none_serves : (selection : ℕ) (in_service : List Bool) (links : List SetLink)
+    → has_link in_service links ≡ false → None ≡ first_in_service selection in_service links
+none_serves selection in_service links e =
+    none_by (first_in_service selection in_service links) (some_serves selection in_service links ∙ e)

@@ -89,7 +89,7 @@ impl LinkSet {
     {
         match self.first_tried(sls) {
             Some(link) if is_in_service(in_service, link) => Some(link),
-            _ => self.search(sls, in_service),
+            _ => self.search_if_any(sls, in_service),
         }
     }
 
@@ -104,8 +104,21 @@ impl LinkSet {
         Some(links[usize::from(sls.number()) % links.len()].link)
     }
 
-    /// The same as `first_in_service`, link by link. It is seldom needed, and stays out of the path of a message.
+    /// The same as `first_in_service`. Where the link that is tried first is in service this isn't needed, and stays out
+    /// of the path of such messages.
+    #[tactic(auto, using(crate::proofs::InService::none_serves))]
     #[inline(never)]
+    fn search_if_any(&self, sls: Sls, in_service: &[bool]) -> Option<LinkId>
+        ensures { result ≡ first_in_service sls in_service.now self.now }
+    {
+        if self.has_link(in_service) {
+            self.search(sls, in_service)
+        } else {
+            None
+        }
+    }
+
+    /// The same again, link by link.
     fn search(&self, sls: Sls, in_service: &[bool]) -> Option<LinkId>
         ensures { result ≡ first_in_service sls in_service.now self.now }
     {
