@@ -6,7 +6,7 @@ ghost use Rattle.transcripts.specs.Alike.{AreAlike, HaveSameNumbers, HaveSameUse
 
 use stp_types::{DestinationRow, LinkRow, SetId, SetRow, Settings, TimerTicks};
 
-/// Whether all that two settings say is the same.
+/// Whether all that two settings say is the same; of translation rows, whether there are as many.
 pub fn are_alike(a: &Settings, b: &Settings) -> bool
     ensures { Decides result (AreAlike a.now b.now) }
 {

@@ -44,8 +44,8 @@ impl Exchange {
         }
     }
 
-    /// A status that an adjacent point tells of another (Q.704 §13.2 to §13.4). It is ignored where the other isn't
-    /// reached by its set.
+    /// A status that an adjacent point tells of another (Q.704 §13.2 to §13.4). It is ignored where the other is that
+    /// very point, or isn't reached by its set.
     pub(super) fn hear_status(
         &mut self,
         status: RouteStatus,
