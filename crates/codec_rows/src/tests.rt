@@ -3,6 +3,7 @@
 mod framing;
 mod labels;
 mod management;
+mod title_limits;
 mod titles;
 mod unitdata;
 

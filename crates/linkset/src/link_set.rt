@@ -104,8 +104,8 @@ impl LinkSet {
         Some(links[usize::from(sls.number()) % links.len()].link)
     }
 
-    /// The same as `first_in_service`. Where the link that is tried first is in service this isn't needed, and stays out
-    /// of the path of such messages.
+    /// The same as `first_in_service`. Where the link that is tried first is in service this isn't needed, and stays
+    /// out of the path of such messages.
     #[tactic(auto, using(crate::proofs::InService::none_serves))]
     #[inline(never)]
     fn search_if_any(&self, sls: Sls, in_service: &[bool]) -> Option<LinkId>

@@ -3,6 +3,7 @@
 mod alignment;
 mod changebacks;
 mod changeovers;
+mod limits;
 mod link_sets;
 mod lists;
 mod messages;
