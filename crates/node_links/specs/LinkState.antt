@@ -31,13 +31,13 @@ acted Ignored l = l
 acted Fail l = l
 acted (Go step) l = stepped step l
 
--- a link that got an association
-abbrev pub opened : Link → Link
-opened l = stepped opening (record down_link { association = true; active = l.active })
-
 -- a link that failed: no status waits, and Busy and the acknowledgement that was owed are forgotten
 abbrev pub fallen : Link → Link
-fallen l = record down_link { association = l.association; active = l.active }
+fallen l = record l { alignment = Down; waiting = []; peer_busy = false; acknowledgement_owed = false }
+
+-- a link that got an association begins anew
+abbrev pub opened : Link → Link
+opened l = stepped opening (record (fallen l) { association = true })
 
 -- a link that is down takes no frames
 abbrev pub is_down : Alignment → Bool
