@@ -1,6 +1,7 @@
 -- Lists of timers in name order.
-use Rattle.std.proofs.Common.{◌≡◌, ℕ, suc, nat_lt, not, ◌+◌, ◌<◌, ◌≤◌, Bool, true, false, cond, List, [], ◌∷◌, ◌++◌, length, take, drop, map, get_or, refl, sym, ap, subst, ◌∙◌, arith}
+use Rattle.std.proofs.Common.{◌≡◌, ℕ, suc, nat_lt, not, ◌+◌, ◌<◌, ◌≤◌, Bool, true, false, cond, List, [], ◌∷◌, ◌++◌, length, take, drop, map, get_or, set, refl, sym, ap, subst, ◌∙◌, arith}
 use Rattle.std.proofs.lemmas.List.{take_at, drop_at}
+use Rattle.std.proofs.lemmas.List.Edits.{map_over_more}
 use Rattle.std.proofs.lemmas.Bool.Decides.{nat_tests}
 use Rattle.std.specs.Prelude.{filter, remove, insert, Option, Some, None, find, position, MatchOption, max}
 use Rattle.std.specs.Option.{option_map, option_map_or}
@@ -93,9 +94,9 @@ named-started n timer ts h k = all-append _ (before timer.name ts) _ (all-filter
 pub named-cleared : (n : NodeCounts) (name : TimerName) (ts : List Timer) → AreNamed n ts → AreNamed n (cleared name ts)
 named-cleared n name ts k = all-append _ (before name ts) _ (all-filter _ _ ts k) (all-filter _ _ ts k)
 
-pub length-lowered : (ts : List Timer) → length (map lowered ts) ≡ length ts
-length-lowered [] = refl
-length-lowered (t ∷ ts) = ap suc (length-lowered ts)
+-- one timer more has a tick less
+pub more_lowered : (ts new : List Timer) (i : ℕ) (t : Timer) → i < length ts → new ≡ map lowered (take i ts) ++ drop i ts → t ≡ get_or new i t → set new i (lowered t) ≡ map lowered (take (i + 1) ts) ++ drop (i + 1) ts
+more_lowered = map_over_more lowered
 
 pub named-lowered : (n : NodeCounts) (ts : List Timer) → AreNamed n ts → AreNamed n (map lowered ts)
 named-lowered n [] h = tt

@@ -1,5 +1,6 @@
 -- How timers are kept: in name order, with room for every name that the node has.
-use Rattle.std.specs.Prelude.{◌≡◌, ◌≤◌, true, List, [], ◌∷◌, vec_capacity}
+use Rattle.std.specs.Prelude.{◌≡◌, ◌≤◌, true, List, [], ◌∷◌}
+use Rattle.std.specs.VecDeque.{deque_capacity}
 use Rattle.std.specs.List.{AllByRecursion}
 use Rattle.timer_wheel.specs.declared.name.TimerName.{TimerName}
 use Rattle.timer_wheel.specs.declared.name.NodeCounts.{NodeCounts}
@@ -27,4 +28,4 @@ AreNamed counts timers = AllByRecursion (λ t. has_name counts t.name ≡ true) 
 pub record HasRoom (s : Inside) : Type 0 where
   pub rise : DoRise s.running.items
   pub named : AreNamed s.counts s.running.items
-  pub room : count_of s.counts ≤ vec_capacity s.running
+  pub room : count_of s.counts ≤ deque_capacity s.running

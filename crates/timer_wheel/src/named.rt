@@ -11,6 +11,7 @@ use crate::name::{NodeCounts, RouteTimer, TimerName};
 use crate::timers::at_least_one;
 use signalling_types::SetId;
 use std::alloc::{AllocError, Global};
+use std::collections::VecDeque;
 use std::marker::Model;
 
 /// A timer that runs.
@@ -24,13 +25,14 @@ pub struct Timer {
 
 /// Timers by name: a finite map from names to the ticks that are left.
 ///
-/// They are kept in a list, in name order, with room for all names that the node has. A name is looked for by halves;
-/// where its timer comes in or goes out, those behind it move. A tick costs the timers that run; so does looking for
-/// the one that is due.
+/// They are kept in a ring, in name order, with room for all names that the node has. A name is looked for by halves;
+/// where its timer comes in or goes out, those before it or those behind it move, whichever are fewer. So none moves
+/// where those that run out together stand in front. A tick costs the timers that run; looking for the one that is due
+/// costs those before it.
 #[derive(Drop)]
 pub struct NamedTimers {
     counts: NodeCounts,
-    running: Vec<Timer>,
+    running: VecDeque<Timer>,
 }
 
 impl Model for NamedTimers {
@@ -52,7 +54,7 @@ impl NamedTimers {
     {
         Ok(NamedTimers {
             counts,
-            running: Vec::with_capacity(alloc, counts.count())?,
+            running: VecDeque::with_capacity(alloc, counts.count())?,
         })
     }
 

@@ -16,8 +16,8 @@ use std::marker::Model;
 ///
 /// The timers of links stand in a table: setting and stopping one is one write. The others stand in a list, in name
 /// order, with room for all names of sets and destinations that the node has: setting and stopping one costs a search
-/// by halves, and moves those behind it. A tick costs the table and that list. What is left to a name is `left_to`;
-/// `laws` says what each call does to it.
+/// by halves, and moves those before it or those behind it, whichever are fewer. A tick costs the table and that list.
+/// What is left to a name is `left_to`; `laws` says what each call does to it.
 #[derive(Drop)]
 pub struct Timers {
     links: LinkTimers,
