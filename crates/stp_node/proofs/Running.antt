@@ -9,7 +9,7 @@ use Rattle.exchange.specs.Stands.{Kept}
 use Rattle.exchange.specs.Queues.{KeptQueues, kept}
 use Rattle.stp_node.specs.Asking.{Reading, IsMalformed, parsed_line}
 use Rattle.stp_node.specs.Lines.{lines}
-use Rattle.stp_node.specs.Streams.{AppendsFirst}
+use Rattle.stp_node.specs.Streams.{AppendsFirst, AppendsAtLeast}
 use Rattle.stp_node.specs.Runs.{Reached, silent, stopped, line_run, whole_line, open_run, onto, unless_ended, behind, lines_run, run_so_far, whole_run, Does, Runs}
 use Rattle.stp_node.specs.Steps.{LineSoFar, first_line, rest_run, GoesOn, HasTaken}
 use Rattle.stp_node.specs.Faults.{reads_failed, MakesReads}
@@ -31,6 +31,15 @@ appends-appends (Some v0) (Some v1) (Some v2) xs ys h k = k ∙ ap (λ (v : List
 pub appends-first : (w0 w1 w2 : Option (List ℕ)) (xs ys : List ℕ) → Appends w0 w1 xs → AppendsFirst w1 w2 ys → AppendsFirst w0 w2 (xs ++ ys)
 appends-first w0 w1 w2 xs ys h k =
     (length xs + k.0, rw (take-append-add xs ys k.0) (appends-appends w0 w1 w2 xs (take k.0 ys) h k.1))
+
+-- the first of them, and at least as many as those in front and so many more
+pub appends-least : (n : ℕ) (w0 w1 w2 : Option (List ℕ)) (xs ys : List ℕ) → Appends w0 w1 xs → AppendsAtLeast n w1 w2 ys → AppendsAtLeast (length xs + n) w0 w2 (xs ++ ys)
+appends-least n w0 w1 w2 xs ys h k =
+    let least = k.1 in (length xs + k.0, omega (arith, least), rw (take-append-add xs ys k.0) (appends-appends w0 w1 w2 xs (take k.0 ys) h k.2))
+
+-- however many, they are at least none
+least-nothing : (front : List ℕ) (w0 w1 : Option (List ℕ)) (xs : List ℕ) → front ≡ [] → AppendsFirst w0 w1 xs → AppendsAtLeast (length front) w0 w1 xs
+least-nothing front w0 w1 xs e h = let none = ap length e in (h.0, omega (arith, none), h.1)
 
 pub appends-nothing : (w : Option (List ℕ)) → Appends w w []
 appends-nothing None = tt
@@ -100,29 +109,42 @@ long-run octet line s most more other long k =
     ap (λ (parts : List (List ℕ)). lines_run kept most line.number parts s) (lines-nonfeed line.octets octet more other)
     ∙ long-first most line.number line.octets octet (lines more) s (parted-some 10 more) long k
 
+-- an open line that isn't too long prints nothing while more may come
+open-line : (line : LineSoFar) (s : Kept) → length line.octets ≤ LINE_OCTETS → rest_run LINE_OCTETS line [] s ≡ silent s
+open-line line s short =
+    ap (λ (text : List ℕ). open_run LINE_OCTETS line.number text s) (append-nil line.octets)
+    ∙ if-false (nat_lt LINE_OCTETS (length line.octets)) (stopped line.number s) (silent s) (test-false LINE_OCTETS (length line.octets) short)
+
+-- so nothing went out before its last octet
+least-open : (line : LineSoFar) (s : Kept) (w0 w1 : Option (List ℕ)) (xs : List ℕ) → length line.octets ≤ LINE_OCTETS → AppendsFirst w0 w1 xs
+    → AppendsAtLeast (length (rest_run LINE_OCTETS line [] s).text) w0 w1 xs
+least-open line s w0 w1 xs short h =
+    least-nothing (rest_run LINE_OCTETS line [] s).text w0 w1 xs (ap (λ (r : Reached KeptQueues). r.text) (open-line line s short)) h
+
 pub octet-too_many : (octet : ℕ) (line next : LineSoFar) (s : Kept) (result : Result Unit ScriptFault) (w0 w1 : Option (List ℕ))
-    → (octet ≡ 10 → ⊥) → LINE_OCTETS ≤ length line.octets
+    → (octet ≡ 10 → ⊥) → length line.octets ≤ LINE_OCTETS → LINE_OCTETS ≤ length line.octets
     → Does (stopped line.number s) result s w0 w1 → HasTaken (octet ∷ []) result line next s s w0 w1
-octet-too_many octet line next s (Ok x) w0 w1 other long h = cc (h.0)
-octet-too_many octet line next s (Err (Line number)) w0 w1 other long h = record {
+octet-too_many octet line next s (Ok x) w0 w1 other short long h = cc (h.0)
+octet-too_many octet line next s (Err (Line number)) w0 w1 other short long h = record {
   text = (stopped line.number s).text;
   wrote = h.2;
   rest = λ most more k.
       long-run octet line s most more other long k
       ∙ ap (λ (f : Option ℕ). record { text = (stopped line.number s).text; state = s; fault = f }) h.0;
 }
-octet-too_many octet line next s (Err Write) w0 w1 other long h =
+octet-too_many octet line next s (Err Write) w0 w1 other short long h =
     let run = long-run octet line s LINE_OCTETS [] other long (omega arith) in
     record {
-      taken = octet ∷ [];
+      front = [];
+      last = octet;
       more = [];
       are = refl;
       state = ap (λ (r : Reached KeptQueues). r.state) run;
-      wrote = subst (λ (r : Reached KeptQueues). AppendsFirst w0 w1 r.text) (sym run) h.1;
+      wrote = least-open line s w0 w1 _ short (subst (λ (r : Reached KeptQueues). AppendsFirst w0 w1 r.text) (sym run) h.1);
     }
-octet-too_many octet line next s (Err Read) w0 w1 other long h = absurd h
-octet-too_many octet line next s (Err TooManyReads) w0 w1 other long h = absurd h
-octet-too_many octet line next s (Err NoMemory) w0 w1 other long h = absurd h
+octet-too_many octet line next s (Err Read) w0 w1 other short long h = absurd h
+octet-too_many octet line next s (Err TooManyReads) w0 w1 other short long h = absurd h
+octet-too_many octet line next s (Err NoMemory) w0 w1 other short long h = absurd h
 
 -- a line feed ends the front line
 ended-first : (most number : ℕ) (line : List ℕ) (parts : List (List ℕ)) (s : Kept) → 0 < length parts
@@ -180,11 +202,12 @@ feed-broken line next s after Write w0 w1 short h =
     let run = line-ended line s LINE_OCTETS [] short in
     let same = behind-nothing r r.fault (rest_run LINE_OCTETS (record { octets = []; number = line.number + 1 }) []) refl (λ t. refl) in
     record {
-      taken = 10 ∷ [];
+      front = [];
+      last = 10;
       more = [];
       are = refl;
       state = ap (λ (x : Reached KeptQueues). x.state) run ∙ same.0 ∙ h.0;
-      wrote = subst (λ (text : List ℕ). AppendsFirst w0 w1 text) (sym (ap (λ (x : Reached KeptQueues). x.text) run ∙ same.1)) h.1;
+      wrote = least-open line s w0 w1 _ short (subst (λ (text : List ℕ). AppendsFirst w0 w1 text) (sym (ap (λ (x : Reached KeptQueues). x.text) run ∙ same.1)) h.1);
     }
 feed-broken line next s after Read w0 w1 short h = absurd h
 feed-broken line next s after TooManyReads w0 w1 short h = absurd h
@@ -213,6 +236,14 @@ line-broken octet line next text s after fault w0 w1 feed short same h =
 pub taken-nothing : (line : LineSoFar) (s : Kept) (w : Option (List ℕ)) → HasTaken [] (Ok tt) line line s s w w
 taken-nothing line s w = record { text = []; wrote = appends-nothing w; rest = λ most more k. refl }
 
+-- what was written behind a text, where both runs print that text first
+least-behind : (text : List ℕ) (r t front whole : Reached KeptQueues) (w0 w1 w2 : Option (List ℕ)) → front ≡ onto text r → whole ≡ onto text t
+    → Appends w0 w1 text → AppendsAtLeast (length r.text) w1 w2 t.text → AppendsAtLeast (length front.text) w0 w2 whole.text
+least-behind text r t front whole w0 w1 w2 e f h k =
+    subst (λ (x : Reached KeptQueues). AppendsAtLeast (length x.text) w0 w2 whole.text) (sym e)
+    (subst (λ (x : Reached KeptQueues). AppendsAtLeast (length (text ++ r.text)) w0 w2 x.text) (sym f)
+    (subst (λ (n : ℕ). AppendsAtLeast n w0 w2 (text ++ t.text)) (sym (length-append text r.text)) (appends-least (length r.text) w0 w1 w2 text t.text h k)))
+
 pub taken-more : (xs ys : List ℕ) (x : Unit) (result : Result Unit ScriptFault) (line mid next : LineSoFar) (s between after : Kept) (w0 w1 w2 : Option (List ℕ))
     → HasTaken xs (Ok x) line mid s between w0 w1 → HasTaken ys result mid next between after w1 w2 → HasTaken (xs ++ ys) result line next s after w0 w2
 taken-more xs ys x (Ok y) line mid next s between after w0 w1 w2 h k = record {
@@ -230,13 +261,16 @@ taken-more xs ys x (Err (Line number)) line mid next s between after w0 w1 w2 h 
       ∙ ap (λ (r : Reached KeptQueues). onto h.text r) (k.rest most more m);
 }
 taken-more xs ys x (Err Write) line mid next s between after w0 w1 w2 h k =
-    let run = h.rest LINE_OCTETS k.taken (omega arith) in
+    let before = h.rest LINE_OCTETS k.front (omega arith) in
+    let run = ap (λ (octets : List ℕ). rest_run LINE_OCTETS line octets s) (append_assoc xs k.front (k.last ∷ []))
+    ∙ h.rest LINE_OCTETS (k.front ++ k.last ∷ []) (omega arith) in
     record {
-      taken = xs ++ k.taken;
+      front = xs ++ k.front;
+      last = k.last;
       more = k.more;
-      are = ap (λ (octets : List ℕ). xs ++ octets) k.are ∙ sym (append_assoc xs k.taken k.more);
+      are = ap (λ (octets : List ℕ). xs ++ octets) k.are ∙ sym (append_assoc xs k.front (k.last ∷ k.more));
       state = ap (λ (r : Reached KeptQueues). r.state) run ∙ k.state;
-      wrote = subst (λ (r : Reached KeptQueues). AppendsFirst w0 w2 r.text) (sym run) (appends-first w0 w1 w2 h.text _ h.wrote k.wrote);
+      wrote = least-behind h.text (rest_run LINE_OCTETS mid k.front between) _ _ _ w0 w1 w2 before run h.wrote k.wrote;
     }
 taken-more xs ys x (Err Read) line mid next s between after w0 w1 w2 h k = absurd k
 taken-more xs ys x (Err TooManyReads) line mid next s between after w0 w1 w2 h k = absurd k
@@ -250,9 +284,10 @@ taken-no_more xs ys (Line number) line mid next s after w0 w1 h = record {
   rest = λ most more m. ap (λ (octets : List ℕ). rest_run most line octets s) (append_assoc xs ys more) ∙ h.rest most (ys ++ more) m;
 }
 taken-no_more xs ys Write line mid next s after w0 w1 h = record {
-  taken = h.taken;
+  front = h.front;
+  last = h.last;
   more = h.more ++ ys;
-  are = ap (λ (octets : List ℕ). octets ++ ys) h.are ∙ append_assoc h.taken h.more ys;
+  are = ap (λ (octets : List ℕ). octets ++ ys) h.are ∙ append_assoc h.front (h.last ∷ h.more) ys;
   state = h.state;
   wrote = h.wrote;
 }
@@ -302,20 +337,28 @@ consumes-nothing : (a : Option (List ℕ)) → Consumes a a []
 consumes-nothing None = tt
 consumes-nothing (Some a) = refl
 
--- the octets so far were taken, and led to the open line and the state
-pub record Progress (before : Kept) (left left_new written written_new : Option (List ℕ)) (line : LineSoFar) (s : Kept) : Type 0 where
+-- the octets so far, at least so many, were taken, and led to the open line and the state
+pub record Progress (least : ℕ) (before : Kept) (left left_new written written_new : Option (List ℕ)) (line : LineSoFar) (s : Kept) : Type 0 where
   pub octets : List ℕ
+  pub many : least ≤ length octets
   pub consumed : Consumes left left_new octets
   pub taken : GoesOn octets first_line line before s written written_new
 
-pub no-progress : (before : Kept) (left written : Option (List ℕ)) → Progress before left left written written first_line before
-no-progress before left written = record { octets = []; consumed = consumes-nothing left; taken = taken-nothing first_line before written }
+pub no-progress : (before : Kept) (left written : Option (List ℕ)) → Progress 0 before left left written written first_line before
+no-progress before left written = record {
+  octets = [];
+  many = omega arith;
+  consumed = consumes-nothing left;
+  taken = taken-nothing first_line before written;
+}
 
-pub more-progress : (before s after : Kept) (left left_mid left_new w0 w1 w2 : Option (List ℕ)) (line next : LineSoFar) (piece : List ℕ)
-    → Progress before left left_mid w0 w1 line s → Consumes left_mid left_new piece → HasTaken piece (Ok tt) line next s after w1 w2
-    → Progress before left left_new w0 w2 next after
-more-progress before s after left left_mid left_new w0 w1 w2 line next piece p consumed taken = record {
+pub more-progress : (least most : ℕ) (before s after : Kept) (left left_mid left_new w0 w1 w2 : Option (List ℕ)) (line next : LineSoFar) (piece : List ℕ)
+    → most ≤ least + length piece
+    → Progress least before left left_mid w0 w1 line s → Consumes left_mid left_new piece → HasTaken piece (Ok tt) line next s after w1 w2
+    → Progress most before left left_new w0 w2 next after
+more-progress least most before s after left left_mid left_new w0 w1 w2 line next piece enough p consumed taken = record {
   octets = p.octets ++ piece;
+  many = let both = length-append p.octets piece in let some = p.many in omega (arith, enough, both, some);
   consumed = consumes-consumes left left_mid left_new p.octets piece p.consumed consumed;
   taken = taken-more p.octets piece tt (Ok tt) first_line line next before s after w0 w1 w2 p.taken taken;
 }
@@ -329,63 +372,84 @@ from-first most octets s =
     ∙ ap (λ (text : List ℕ). rest_run most first_line text s) (sym (append-nil octets))
 
 -- where the octets so far lead, with the open line at the end of what there is
-so-far : (before s : Kept) (left left_new w0 w1 : Option (List ℕ)) (line : LineSoFar) (most : ℕ) → most ≤ LINE_OCTETS
-    → (p : Progress before left left_new w0 w1 line s) → lines_run kept most 1 (lines p.octets) before ≡ onto p.taken.text (rest_run most line [] s)
-so-far before s left left_new w0 w1 line most m p = from-first most p.octets before ∙ p.taken.rest most [] m
+so-far : (least : ℕ) (before s : Kept) (left left_new w0 w1 : Option (List ℕ)) (line : LineSoFar) (most : ℕ) → most ≤ LINE_OCTETS
+    → (p : Progress least before left left_new w0 w1 line s) → lines_run kept most 1 (lines p.octets) before ≡ onto p.taken.text (rest_run most line [] s)
+so-far least before s left left_new w0 w1 line most m p = from-first most p.octets before ∙ p.taken.rest most [] m
 
--- an open line that isn't too long prints nothing while more may come
-open-line : (line : LineSoFar) (s : Kept) → length line.octets ≤ LINE_OCTETS → rest_run LINE_OCTETS line [] s ≡ silent s
-open-line line s short =
-    ap (λ (text : List ℕ). open_run LINE_OCTETS line.number text s) (append-nil line.octets)
-    ∙ if-false (nat_lt LINE_OCTETS (length line.octets)) (stopped line.number s) (silent s) (test-false LINE_OCTETS (length line.octets) short)
+open-so-far : (least : ℕ) (before s : Kept) (left left_new w0 w1 : Option (List ℕ)) (line : LineSoFar) → length line.octets ≤ LINE_OCTETS
+    → (p : Progress least before left left_new w0 w1 line s) → run_so_far kept p.octets before ≡ onto p.taken.text (silent s)
+open-so-far least before s left left_new w0 w1 line short p =
+    so-far least before s left left_new w0 w1 line LINE_OCTETS (omega arith) p ∙ ap (λ (r : Reached KeptQueues). onto p.taken.text r) (open-line line s short)
 
-does-so-far : (before s : Kept) (left left_new w0 w1 : Option (List ℕ)) (line : LineSoFar) → length line.octets ≤ LINE_OCTETS
-    → (p : Progress before left left_new w0 w1 line s) → Does (run_so_far kept p.octets before) (Ok tt) s w0 w1
-does-so-far before s left left_new w0 w1 line short p =
-    let same : run_so_far kept p.octets before ≡ onto p.taken.text (silent s) =
-    so-far before s left left_new w0 w1 line LINE_OCTETS (omega arith) p ∙ ap (λ (r : Reached KeptQueues). onto p.taken.text r) (open-line line s short) in
-    subst (λ (r : Reached KeptQueues). Does r (Ok tt) s w0 w1) (sym same)
+does-so-far : (least : ℕ) (before s : Kept) (left left_new w0 w1 : Option (List ℕ)) (line : LineSoFar) → length line.octets ≤ LINE_OCTETS
+    → (p : Progress least before left left_new w0 w1 line s) → Does (run_so_far kept p.octets before) (Ok tt) s w0 w1
+does-so-far least before s left left_new w0 w1 line short p =
+    subst (λ (r : Reached KeptQueues). Does r (Ok tt) s w0 w1) (sym (open-so-far least before s left left_new w0 w1 line short p))
     (refl, refl, appends-appends w0 w1 w1 p.taken.text [] p.taken.wrote (appends-nothing w1))
 
-pub at-failed-read : (before s : Kept) (left left_mid left_new w0 w1 : Option (List ℕ)) (line : LineSoFar) → length line.octets ≤ LINE_OCTETS
-    → Progress before left left_mid w0 w1 line s → Keeps left_mid left_new → Runs kept (Err Read) before s left left_new w0 w1
-at-failed-read before s left left_mid left_new w0 w1 line short p h =
-    (p.octets, consumes-keeps left left_mid left_new p.octets p.consumed h, does-so-far before s left left_mid w0 w1 line short p)
+pub at-failed-read : (least : ℕ) (before s : Kept) (left left_mid left_new w0 w1 : Option (List ℕ)) (line : LineSoFar) → length line.octets ≤ LINE_OCTETS
+    → Progress least before left left_mid w0 w1 line s → Keeps left_mid left_new → Runs kept (Err Read) before s left left_new w0 w1
+at-failed-read least before s left left_mid left_new w0 w1 line short p h =
+    (p.octets, omega arith, consumes-keeps left left_mid left_new p.octets p.consumed h, does-so-far least before s left left_mid w0 w1 line short p)
 
-pub at-last-read : (before s : Kept) (left left_new w0 w1 : Option (List ℕ)) (line : LineSoFar) → length line.octets ≤ LINE_OCTETS
-    → Progress before left left_new w0 w1 line s → Runs kept (Err TooManyReads) before s left left_new w0 w1
-at-last-read before s left left_new w0 w1 line short p = (p.octets, p.consumed, does-so-far before s left left_new w0 w1 line short p)
+pub at-last-read : (least : ℕ) (before s : Kept) (left left_new w0 w1 : Option (List ℕ)) (line : LineSoFar) → length line.octets ≤ LINE_OCTETS
+    → READS ≤ least → Progress least before left left_new w0 w1 line s → Runs kept (Err TooManyReads) before s left left_new w0 w1
+at-last-read least before s left left_new w0 w1 line short all p =
+    let some = p.many in (p.octets, omega (arith, all, some), p.consumed, does-so-far least before s left left_new w0 w1 line short p)
 
--- the end of the input
+-- the end of the input: at least so many octets were written, also where a write failed
+abbrev DoesAtLeast : (least : ℕ) → Reached KeptQueues → Result Unit ScriptFault → Kept → (w0 w1 : Option (List ℕ)) → Type 0
+DoesAtLeast least r (Ok x) after w0 w1 = Does r (Ok x) after w0 w1
+DoesAtLeast least r (Err (Line number)) after w0 w1 = Does r (Err (Line number)) after w0 w1
+DoesAtLeast least r (Err Write) after w0 w1 = (r.state ≡ after) × AppendsAtLeast least w0 w1 r.text
+DoesAtLeast least r (Err Read) after w0 w1 = ⊥
+DoesAtLeast least r (Err TooManyReads) after w0 w1 = ⊥
+DoesAtLeast least r (Err NoMemory) after w0 w1 = ⊥
+
 does-onto : (text : List ℕ) (r : Reached KeptQueues) (result : Result Unit ScriptFault) (after : Kept) (w0 w1 w2 : Option (List ℕ))
-    → Appends w0 w1 text → Does r result after w1 w2 → Does (onto text r) result after w0 w2
+    → Appends w0 w1 text → Does r result after w1 w2 → DoesAtLeast (length text) (onto text r) result after w0 w2
 does-onto text r (Ok x) after w0 w1 w2 h k = (k.0, k.1, appends-appends w0 w1 w2 text r.text h k.2)
 does-onto text r (Err (Line number)) after w0 w1 w2 h k = (k.0, k.1, appends-appends w0 w1 w2 text r.text h k.2)
-does-onto text r (Err Write) after w0 w1 w2 h k = (k.0, appends-first w0 w1 w2 text r.text h k.1)
+does-onto text r (Err Write) after w0 w1 w2 h k =
+    let first = appends-least 0 w0 w1 w2 text r.text h (k.1.0, omega arith, k.1.1) in let some = first.1 in (k.0, (first.0, omega (arith, some), first.2))
 does-onto text r (Err Read) after w0 w1 w2 h k = absurd k
 does-onto text r (Err TooManyReads) after w0 w1 w2 h k = absurd k
 does-onto text r (Err NoMemory) after w0 w1 w2 h k = absurd k
 
 runs-whole : (octets : List ℕ) (before s : Kept) (result : Result Unit ScriptFault) (left left_new w0 w1 : Option (List ℕ))
-    → Consumes left left_new octets → IsAtEnd left_new → Does (whole_run kept octets before) result s w0 w1 → Runs kept result before s left left_new w0 w1
+    → Consumes left left_new octets → IsAtEnd left_new → DoesAtLeast (length (run_so_far kept octets before).text) (whole_run kept octets before) result s w0 w1
+    → Runs kept result before s left left_new w0 w1
 runs-whole octets before s (Ok x) left left_new w0 w1 consumed done does = (octets, consumed, done, does)
 runs-whole octets before s (Err (Line number)) left left_new w0 w1 consumed done does =
     (octets, consumed, whole_run kept octets before, inr (refl, done, refl), does)
 runs-whole octets before s (Err Write) left left_new w0 w1 consumed done does =
-    (octets, [], rw (append-nil octets) consumed, whole_run kept octets before, inr (refl, done, refl), does)
+    let all = sym (append-nil octets) in (
+      octets,
+      None,
+      [],
+      subst (λ (xs : List ℕ). Consumes left left_new xs) all consumed,
+      whole_run kept octets before,
+      inr (refl, done, ap (λ (xs : List ℕ). whole_run kept xs before) all),
+      does.0,
+      does.1,
+    )
 runs-whole octets before s (Err Read) left left_new w0 w1 consumed done does = absurd does
 runs-whole octets before s (Err TooManyReads) left left_new w0 w1 consumed done does = absurd does
 runs-whole octets before s (Err NoMemory) left left_new w0 w1 consumed done does = absurd does
 
-pub at-end : (before s : Kept) (left left_mid left_new w0 w1 w2 : Option (List ℕ)) (line : LineSoFar) (result : Result Unit ScriptFault) (piece : List ℕ)
-    → Progress before left left_mid w0 w1 line s → piece ≡ [] → Consumes left_mid left_new piece → IsAtEnd left_new
+pub at-end : (least : ℕ) (before s : Kept) (left left_mid left_new w0 w1 w2 : Option (List ℕ)) (line : LineSoFar) (result : Result Unit ScriptFault) (piece : List ℕ)
+    → length line.octets ≤ LINE_OCTETS → Progress least before left left_mid w0 w1 line s → piece ≡ [] → Consumes left_mid left_new piece → IsAtEnd left_new
     → Does (rest_run 0 line [] s) result s w1 w2 → Runs kept result before s left left_new w0 w2
-at-end before s left left_mid left_new w0 w1 w2 line result piece p e consumed done does =
+at-end least before s left left_mid left_new w0 w1 w2 line result piece short p e consumed done does =
     let all : p.octets ++ piece ≡ p.octets = rw e (append-nil p.octets) in
+    let sent : (run_so_far kept p.octets before).text ≡ p.taken.text =
+    ap (λ (r : Reached KeptQueues). r.text) (open-so-far least before s left left_mid w0 w1 line short p) ∙ append-nil p.taken.text in
     runs-whole p.octets before s result left left_new w0 w2
     (subst (λ (xs : List ℕ). Consumes left left_new xs) all (consumes-consumes left left_mid left_new p.octets piece p.consumed consumed)) done
-    (subst (λ (r : Reached KeptQueues). Does r result s w0 w2) (sym (so-far before s left left_mid w0 w1 line 0 (omega arith) p))
-    (does-onto p.taken.text (rest_run 0 line [] s) result s w0 w1 w2 p.taken.wrote does))
+    (subst (λ (r : Reached KeptQueues). DoesAtLeast (length (run_so_far kept p.octets before).text) r result s w0 w2)
+    (sym (so-far least before s left left_mid w0 w1 line 0 (omega arith) p))
+    (subst (λ (text : List ℕ). DoesAtLeast (length text) (onto p.taken.text (rest_run 0 line [] s)) result s w0 w2) (sym sent)
+    (does-onto p.taken.text (rest_run 0 line [] s) result s w0 w1 w2 p.taken.wrote does)))
 
 -- a fault in a piece
 runs-broken : (octets : List ℕ) (before after : Kept) (fault : ScriptFault) (line next : LineSoFar) (left left_new w0 w1 : Option (List ℕ))
@@ -400,22 +464,27 @@ runs-broken octets before after (Line number) line next left left_new w0 w1 cons
       subst (λ (r : Reached KeptQueues). Does r (Err (Line number)) after w0 w1) (sym same) (refl, refl, h.wrote),
     )
 runs-broken octets before after Write line next left left_new w0 w1 consumed h =
-    let same = ap (λ (parts : List (List ℕ)). lines_run kept LINE_OCTETS 1 parts before) (sym (begun-nothing (lines h.taken))) in (
-      h.taken,
+    let same : (text : List ℕ) → run_so_far kept text before ≡ rest_run LINE_OCTETS first_line text before =
+    λ text. ap (λ (parts : List (List ℕ)). lines_run kept LINE_OCTETS 1 parts before) (sym (begun-nothing (lines text))) in
+    let to = h.front ++ h.last ∷ [] in (
+      h.front,
+      Some h.last,
       h.more,
       subst (λ (xs : List ℕ). Consumes left left_new xs) h.are consumed,
-      run_so_far kept h.taken before,
+      run_so_far kept to before,
       inl refl,
-      subst (λ (r : Reached KeptQueues). Does r (Err Write) after w0 w1) (sym same) (h.state, h.wrote),
+      ap (λ (r : Reached KeptQueues). r.state) (same to) ∙ h.state,
+      subst (λ (r : Reached KeptQueues). AppendsAtLeast (length r.text) w0 w1 (run_so_far kept to before).text) (sym (same h.front))
+          (subst (λ (r : Reached KeptQueues). AppendsAtLeast (length (rest_run LINE_OCTETS first_line h.front before).text) w0 w1 r.text) (sym (same to)) h.wrote),
     )
 runs-broken octets before after Read line next left left_new w0 w1 consumed h = absurd h
 runs-broken octets before after TooManyReads line next left left_new w0 w1 consumed h = absurd h
 runs-broken octets before after NoMemory line next left left_new w0 w1 consumed h = absurd h
 
-pub at-fault : (before s after : Kept) (left left_mid left_new w0 w1 w2 : Option (List ℕ)) (line next : LineSoFar) (fault : ScriptFault) (piece : List ℕ)
-    → Progress before left left_mid w0 w1 line s → Consumes left_mid left_new piece → HasTaken piece (Err fault) line next s after w1 w2
+pub at-fault : (least : ℕ) (before s after : Kept) (left left_mid left_new w0 w1 w2 : Option (List ℕ)) (line next : LineSoFar) (fault : ScriptFault) (piece : List ℕ)
+    → Progress least before left left_mid w0 w1 line s → Consumes left_mid left_new piece → HasTaken piece (Err fault) line next s after w1 w2
     → Runs kept (Err fault) before after left left_new w0 w2
-at-fault before s after left left_mid left_new w0 w1 w2 line next fault piece p consumed taken =
+at-fault least before s after left left_mid left_new w0 w1 w2 line next fault piece p consumed taken =
     runs-broken (p.octets ++ piece) before after fault line next left left_new w0 w2
     (consumes-consumes left left_mid left_new p.octets piece p.consumed consumed)
     (taken-more p.octets piece tt (Err fault) first_line line next before s after w0 w1 w2 p.taken taken)

@@ -1,5 +1,6 @@
 -- A run over what an exchange keeps is the run over the abstract state that it stands for.
 use Rattle.std.proofs.Common.{◌≡◌, ℕ, zero, suc, ◌+◌, List, [], ◌∷◌, Option, None, Some, Result, Ok, Err, refl, sym, ◌∙◌, ap, subst, inl, inr, ◌++◌, Bool, true, false, nat_lt, length}
+use Rattle.std.specs.Option.{option_to_list}
 use Rattle.std.specs.Prelude.{if◌then◌else◌}
 use Rattle.std.specs.Io.KnownBytes.{Appends}
 use Rattle.exchange.specs.declared.event.Answer.{Answer}
@@ -12,7 +13,7 @@ use Rattle.exchange.specs.Happening.{Ticked}
 use Rattle.stp_node.specs.Asking.{Asked, Reading, Skips, IsMalformed, Asks}
 use Rattle.stp_node.specs.Doing.{Meaning, Calls, Passes, Shows, Refuses, meaning, answer_text, after_ticks, meaning_printed, meaning_done, printed, done}
 use Rattle.stp_node.proofs.Shown.{shown-stands}
-use Rattle.stp_node.specs.Streams.{AppendsFirst}
+use Rattle.stp_node.specs.Streams.{AppendsFirst, AppendsAtLeast}
 use Rattle.stp_node.specs.Lines.{lines}
 use Rattle.stp_node.specs.Runs.{Reached, silent, stopped, line_run, whole_line, onto, unless_ended, behind, lines_run, run_so_far, whole_run, LeadsTo, Does, Runs}
 use Rattle.stp_node.specs.declared.script.TheConstants.{LINE_OCTETS}
@@ -151,16 +152,29 @@ runs-stand (Err (Line number)) k j a left left_new w0 w1 s (octets, consumed, r,
     let to = leads-stands octets [] left_new k a r s leads in
     let d = does-stands r to.reached (Err (Line number)) j w0 w1 to.same does in
     (to.reached.state, d.0, (octets, consumed, to.reached, to.leads, d.1))
-runs-stand (Err Write) k j a left left_new w0 w1 s (octets, more, consumed, r, leads, does) =
-    let to = leads-stands octets more left_new k a r s leads in
-    let d = does-stands r to.reached (Err Write) j w0 w1 to.same does in
-    (to.reached.state, d.0, (octets, more, consumed, to.reached, to.leads, d.1))
-runs-stand (Err Read) k j a left left_new w0 w1 s (octets, consumed, does) =
+runs-stand (Err Write) k j a left left_new w0 w1 s (front, last, more, consumed, r, leads, state, wrote) =
+    let to = leads-stands (front ++ option_to_list last) more left_new k a r s leads in
+    let sent = same-lines LINE_OCTETS 1 (lines front) k a s in (
+      to.reached.state,
+      subst (λ (x : Kept). StandsFor x to.reached.state) state to.same.state,
+      (
+        front,
+        last,
+        more,
+        consumed,
+        to.reached,
+        to.leads,
+        refl,
+        subst (λ (text : List ℕ). AppendsAtLeast (length text) w0 w1 to.reached.text) sent.text
+            (subst (λ (text : List ℕ). AppendsAtLeast (length (run_so_far kept front k).text) w0 w1 text) to.same.text wrote),
+      ),
+    )
+runs-stand (Err Read) k j a left left_new w0 w1 s (octets, many, consumed, does) =
     let t = run_so_far whole octets a in
     let d = does-stands (run_so_far kept octets k) t (Ok tt) j w0 w1 (same-lines LINE_OCTETS 1 (lines octets) k a s) does in
-    (t.state, d.0, (octets, consumed, d.1))
-runs-stand (Err TooManyReads) k j a left left_new w0 w1 s (octets, consumed, does) =
+    (t.state, d.0, (octets, many, consumed, d.1))
+runs-stand (Err TooManyReads) k j a left left_new w0 w1 s (octets, many, consumed, does) =
     let t = run_so_far whole octets a in
     let d = does-stands (run_so_far kept octets k) t (Ok tt) j w0 w1 (same-lines LINE_OCTETS 1 (lines octets) k a s) does in
-    (t.state, d.0, (octets, consumed, d.1))
+    (t.state, d.0, (octets, many, consumed, d.1))
 runs-stand (Err NoMemory) k j a left left_new w0 w1 s h = absurd h

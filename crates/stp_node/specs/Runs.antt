@@ -1,14 +1,15 @@
 -- What a script prints, and the state that it leaves, line by line, for queues of any kind.
-use Rattle.std.specs.Prelude.{◌≡◌, ℕ, ◌+◌, if◌then◌else◌, nat_lt, List, [], ◌∷◌}
+use Rattle.std.specs.Option.{option_to_list}
+use Rattle.std.specs.Prelude.{◌≡◌, ℕ, ◌≤◌, ◌+◌, if◌then◌else◌, nat_lt, List, [], ◌∷◌}
 use Rattle.std.specs.Prelude.{◌++◌, length, ◌⊎◌, Option, Some, None, Result, Ok, Err}
 use Rattle.std.specs.Io.KnownBytes.{Appends, Consumes, IsAtEnd}
 use Rattle.exchange.specs.State.{QueueKind, State}
-use Rattle.stp_node.specs.Streams.{AppendsFirst}
+use Rattle.stp_node.specs.Streams.{AppendsFirst, AppendsAtLeast}
 use Rattle.stp_node.specs.Lines.{lines}
 use Rattle.stp_node.specs.Texts.{line_fault}
 use Rattle.stp_node.specs.Asking.{Reading, Skips, IsMalformed, Asks, parsed_line}
 use Rattle.stp_node.specs.Doing.{printed, done}
-use Rattle.stp_node.specs.declared.script.TheConstants.{LINE_OCTETS}
+use Rattle.stp_node.specs.declared.script.TheConstants.{LINE_OCTETS, READS}
 use Rattle.stp_node.specs.declared.script.ScriptFault.{ScriptFault}
 use Rattle.stp_node.specs.declared.script.ScriptFault.TheVariants.{Read, Write, Line, TooManyReads, NoMemory}
 
@@ -84,18 +85,19 @@ Does r (Err Read) after written written_new = ⊥
 Does r (Err TooManyReads) after written written_new = ⊥
 Does r (Err NoMemory) after written written_new = ⊥
 
--- the whole lines of all that was read were done
-abbrev pub RunsSoFar : {Q : Type 0} → QueueKind Q → (before after : State Q)
+-- at least so many octets were read, and the whole lines of all of them were done
+abbrev pub RunsSoFar : {Q : Type 0} → QueueKind Q → (least : ℕ) → (before after : State Q)
     → (left left_new written written_new : Option (List ℕ)) → Type 0
-RunsSoFar q before after left left_new written written_new =
-    (octets : List ℕ) × Consumes left left_new octets
+RunsSoFar q least before after left left_new written written_new =
+    (octets : List ℕ) × (least ≤ length octets) × Consumes left left_new octets
     × Does (run_so_far q octets before) (Ok tt) after written written_new
 
 -- What a run of a script did, from a state to another. On Ok the octets that were read are the whole script, and it was
 -- done. On Line they hold a malformed line, its line feed included, or more of a line than it may have, or they end in
 -- the midst of a line and nothing is left to be read; the lines before that one were done. On Write the first of these
--- octets lead to the state, and what went out is the beginning of what they print. On Read and TooManyReads their whole
--- lines were done.
+-- octets lead to the state, and what went out is the beginning of what they print, with all of what they print but for
+-- the last of them, which ends a line or makes it too long (or but for their end). On Read and TooManyReads their whole
+-- lines were done; after TooManyReads they are as many as the reads (READS), since each found one at least.
 abbrev pub Runs : {Q : Type 0} → QueueKind Q → Result Unit ScriptFault → (before after : State Q)
     → (left left_new written written_new : Option (List ℕ)) → Type 0
 Runs q (Ok x) before after left left_new written written_new =
@@ -105,10 +107,12 @@ Runs {Q = Q} q (Err (Line number)) before after left left_new written written_ne
     (octets : List ℕ) × Consumes left left_new octets
     × (r : Reached Q) × LeadsTo q octets [] left_new before r × Does r (Err (Line number)) after written written_new
 Runs {Q = Q} q (Err Write) before after left left_new written written_new =
-    (octets : List ℕ) × (more : List ℕ) × Consumes left left_new (octets ++ more)
-    × (r : Reached Q) × LeadsTo q octets more left_new before r × Does r (Err Write) after written written_new
+    (front : List ℕ) × (last : Option ℕ) × (more : List ℕ)
+    × Consumes left left_new (front ++ (option_to_list last ++ more))
+    × (r : Reached Q) × LeadsTo q (front ++ option_to_list last) more left_new before r × (r.state ≡ after)
+    × AppendsAtLeast (length (run_so_far q front before).text) written written_new r.text
 Runs q (Err Read) before after left left_new written written_new =
-    RunsSoFar q before after left left_new written written_new
+    RunsSoFar q 0 before after left left_new written written_new
 Runs q (Err TooManyReads) before after left left_new written written_new =
-    RunsSoFar q before after left left_new written written_new
+    RunsSoFar q READS before after left left_new written written_new
 Runs q (Err NoMemory) before after left left_new written written_new = ⊥

@@ -1,11 +1,11 @@
 -- How a script is gone through: the line that is open, and the octets that come behind.
-use Rattle.std.specs.Prelude.{◌≡◌, ℕ, ◌≤◌, List, [], ◌++◌, Option, Some, Result, Ok, Err}
+use Rattle.std.specs.Prelude.{◌≡◌, ℕ, ◌≤◌, List, [], ◌∷◌, ◌++◌, length, Option, Some, Result, Ok, Err}
 use Rattle.std.specs.Io.KnownBytes.{Appends}
 use Rattle.exchange.specs.Queues.{KeptQueues, kept}
 use Rattle.exchange.specs.Stands.{Kept}
 use Rattle.console.specs.Words.{begun}
 use Rattle.stp_node.specs.Lines.{lines}
-use Rattle.stp_node.specs.Streams.{AppendsFirst}
+use Rattle.stp_node.specs.Streams.{AppendsAtLeast}
 use Rattle.stp_node.specs.Runs.{Reached, lines_run, onto}
 use Rattle.stp_node.specs.declared.script.TheConstants.{LINE_OCTETS}
 use Rattle.stp_node.specs.declared.script.ScriptFault.{ScriptFault}
@@ -41,14 +41,16 @@ pub record StopsAt (number : ℕ) (octets : List ℕ) (line : LineSoFar) (s afte
   pub rest : (most : ℕ) (behind : List ℕ) → most ≤ LINE_OCTETS
       → rest_run most line (octets ++ behind) s ≡ record { text = text; state = after; fault = Some number }
 
--- a write failed at some of these octets
+-- a write failed at one of these octets, behind which none was taken: what those in front of it print went out
 pub record BreaksOff (octets : List ℕ) (line : LineSoFar) (s after : Kept)
     (written written_new : Option (List ℕ)) : Type 0 where
-  pub taken : List ℕ
+  pub front : List ℕ
+  pub last : ℕ
   pub more : List ℕ
-  pub are : octets ≡ taken ++ more
-  pub state : (rest_run LINE_OCTETS line taken s).state ≡ after
-  pub wrote : AppendsFirst written written_new (rest_run LINE_OCTETS line taken s).text
+  pub are : octets ≡ front ++ last ∷ more
+  pub state : (rest_run LINE_OCTETS line (front ++ last ∷ []) s).state ≡ after
+  pub wrote : AppendsAtLeast (length (rest_run LINE_OCTETS line front s).text) written written_new
+      (rest_run LINE_OCTETS line (front ++ last ∷ []) s).text
 
 -- what was done with octets
 abbrev pub HasTaken : List ℕ → Result Unit ScriptFault → (line next : LineSoFar) → (s after : Kept)

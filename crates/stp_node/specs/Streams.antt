@@ -1,5 +1,5 @@
 -- What is known of streams, how they count their failures, and what a write that stops early leaves written.
-use Rattle.std.specs.Prelude.{ℕ, ◌+◌, ◌-◌, ◌^◌, ◌==◌, min, List, take, Option, None, Some, Result, Ok, Err}
+use Rattle.std.specs.Prelude.{ℕ, ◌+◌, ◌-◌, ◌^◌, ◌==◌, ◌≤◌, min, List, take, Option, None, Some, Result, Ok, Err}
 use Rattle.std.specs.Prelude.{if◌then◌else◌}
 use Rattle.std.specs.Io.KnownBytes.{Appends}
 
@@ -27,6 +27,10 @@ failures_after n (Err e) = counted n
 -- the known octets grew by the first of these, however many
 abbrev pub AppendsFirst : Option (List ℕ) → Option (List ℕ) → List ℕ → Type 0
 AppendsFirst old new octets = (count : ℕ) × Appends old new (take count octets)
+
+-- the known octets grew by the first of these, however many but at least so many
+abbrev pub AppendsAtLeast : (least : ℕ) → Option (List ℕ) → Option (List ℕ) → List ℕ → Type 0
+AppendsAtLeast least old new octets = (count : ℕ) × (least ≤ count) × Appends old new (take count octets)
 
 -- which call fails, after one more call: the one after a call fewer, or none any more
 abbrev pub plan_after : Option ℕ → Option ℕ

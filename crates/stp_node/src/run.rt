@@ -50,9 +50,9 @@ impl Model for OpenLine {
 /// malformed, longer than 8,300 octets, or without a line feed at the end of the script, prints
 /// `fault` and its number and ends the script with `Line`; nothing of it is done. `Read` and `Write`
 /// come exactly where a read or a write failed. After `Write` the exchange has done the lines up to
-/// some line, and what went out is the beginning of what these print. At most 4,194,304 reads are
-/// made; where the last of them didn't find the end, the lines that are whole by then are done, and
-/// the script ends with `TooManyReads`. It takes no memory.
+/// some line: what those before it print went out, and of what it prints the beginning. At most
+/// 4,194,304 reads are made; where each of them found an octet, the lines that are whole by then are
+/// done, and the script ends with `TooManyReads`. It takes no memory.
 pub fn run_script<R: Source, W: Sink>(
     exchange: &mut Exchange,
     reader: &mut R,

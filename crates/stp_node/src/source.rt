@@ -170,6 +170,7 @@ impl Source for MemorySource<'_> {
 
     fn read(&mut self, buffer: &mut [u8]) -> Result<usize, ReadFailed>
         ensures bound { IfOk result (λ count. count ≤ length buffer.new) }
+        ensures count { IfOk result (λ n. n ≡ min (min (length self.old.rest) (length buffer.old)) self.old.most) }
         ensures octets { ReadConsumes (Some self.old.rest) (Some self.new.rest) result buffer.new }
         ensures made { self.new.reads ≡ counted self.old.reads }
         ensures counted { self.new.failures ≡ failures_after self.old.failures result }

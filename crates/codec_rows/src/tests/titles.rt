@@ -91,7 +91,12 @@ fn key(translation: &str, plan: &str, nature: &str) -> Option<TitleKey> {
 }
 
 /// A row that leads to this point.
-pub(super) fn row(key: TitleKey, digits: &[u8], point: PointCode, route: Route) -> Option<TitleRow> {
+pub(super) fn row(
+    key: TitleKey,
+    digits: &[u8],
+    point: PointCode,
+    route: Route,
+) -> Option<TitleRow> {
     TitleRow::new(key.translation, key.plan, key.nature, digits, point, route)
 }
 

@@ -138,7 +138,12 @@ fn agree<L: Lanes>(lanes: &L, plain: &Plain) -> bool {
 }
 
 /// Whether the store answers a push by this cause, or takes the message.
-pub(super) fn answers<L: Lanes>(lanes: &mut L, lane: usize, message: &Msu, cause: Option<Cause>) -> bool {
+pub(super) fn answers<L: Lanes>(
+    lanes: &mut L,
+    lane: usize,
+    message: &Msu,
+    cause: Option<Cause>,
+) -> bool {
     lane < lanes.lanes()
         && lanes.refusal(message.lend()) == cause
         && lanes.push_back(lane, message.lend()).err() == cause

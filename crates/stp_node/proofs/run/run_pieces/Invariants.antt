@@ -11,6 +11,6 @@ invariant-loop g l = record {
   reads : (g.R.Source.input l.reader).failures ≡ (g.R.Source.input l.fn.reader).failures;
   writes : (g.W.Sink.output l.writer).failures ≡ (g.W.Sink.output l.fn.writer).failures;
   short : length l.line.octets ≤ LINE_OCTETS;
-  run : Progress l.fn.exchange (g.R.Source.input l.fn.reader).remaining (g.R.Source.input l.reader).remaining
+  run : Progress l.counter l.fn.exchange (g.R.Source.input l.fn.reader).remaining (g.R.Source.input l.reader).remaining
       (g.W.Sink.output l.fn.writer).written (g.W.Sink.output l.writer).written l.line l.exchange;
 }

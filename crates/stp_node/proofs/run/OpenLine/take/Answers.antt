@@ -11,7 +11,7 @@ pub returns-then-is_full-clause-run : goal.returns-then-is_full-clause-run
 returns-then-is_full-clause-run g c =
     let line : LineSoFar = record { octets = c.self.inside.octets.items; number = c.self.inside.number } in
     let long : LINE_OCTETS ≤ length c.self.inside.octets.items = grind (arith, nat_tests) in
-    rw (← c.self.view_is) (octet-too_many c.args.octet line line c.args.exchange.now c.fail.result _ _ c.if-octet-ne-LINE_FEED.true long (c.fail.ensures.run c.args.exchange.now))
+    rw (← c.self.view_is) (octet-too_many c.args.octet line line c.args.exchange.now c.fail.result _ _ c.if-octet-ne-LINE_FEED.true c.self.invariant long (c.fail.ensures.run c.args.exchange.now))
 
 pub returns-then-octet-ne-LINE_FEED-clause-run : goal.returns-then-octet-ne-LINE_FEED-clause-run
 returns-then-octet-ne-LINE_FEED-clause-run g c =
