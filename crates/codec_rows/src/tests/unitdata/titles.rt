@@ -1,7 +1,8 @@
 //! Global titles of addresses, and their digits.
 
+use super::writing::titled;
 use crate::tests::{octets, word};
-use sccp_codec::{Address, GlobalTitle, Routing, TitleIndicator};
+use sccp_codec::{Address, GlobalTitle, TitleIndicator};
 use signalling_types::Limits;
 
 /// Titles: their indicator and octets, then translation type, numbering plan, nature of address and digits, or
@@ -51,18 +52,6 @@ fn is_title(title: &GlobalTitle<'_>, row: &str) -> bool {
         && word(row, 3).parse().ok() == Some(title.key.plan)
         && word(row, 4).parse().ok() == Some(title.key.nature)
         && are_digits(title.digits().as_slice(), word(row, 5))
-}
-
-/// An address of a title alone.
-fn titled<'a>(indicator: TitleIndicator, title: &'a [u8]) -> Address<'a> {
-    Address {
-        national: false,
-        routing: Routing::Title,
-        point: None,
-        ssn: None,
-        title_indicator: indicator,
-        title,
-    }
 }
 
 /// Whether the title of an address is what a row says, or refused as it says.

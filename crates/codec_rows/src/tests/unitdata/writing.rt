@@ -31,7 +31,7 @@ fn zeros(word: &str) -> &'static [u8] {
 }
 
 /// An address routed by its title, which has these octets.
-fn titled<'a>(indicator: TitleIndicator, title: &'a [u8]) -> Address<'a> {
+pub(super) fn titled<'a>(indicator: TitleIndicator, title: &'a [u8]) -> Address<'a> {
     Address {
         national: false,
         routing: Routing::Title,
