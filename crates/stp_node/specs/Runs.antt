@@ -95,9 +95,9 @@ RunsSoFar q least before after left left_new written written_new =
 -- What a run of a script did, from a state to another. On Ok the octets that were read are the whole script, and it was
 -- done. On Line they hold a malformed line, its line feed included, or more of a line than it may have, or they end in
 -- the midst of a line and nothing is left to be read; the lines before that one were done. On Write the first of these
--- octets lead to the state, and what went out is the beginning of what they print, with all of what they print but for
--- the last of them, which ends a line or makes it too long (or but for their end). On Read and TooManyReads their whole
--- lines were done; after TooManyReads they are as many as the reads (READS), since each found one at least.
+-- octets lead to the state: all that `front` prints went out, and the beginning of what the octet behind it adds, an
+-- outcome or a fault, or of the fault at the script's end. On Read and TooManyReads their whole lines were done, and
+-- after TooManyReads they are no fewer than the reads (READS).
 abbrev pub Runs : {Q : Type 0} → QueueKind Q → Result Unit ScriptFault → (before after : State Q)
     → (left left_new written written_new : Option (List ℕ)) → Type 0
 Runs q (Ok x) before after left left_new written written_new =

@@ -49,10 +49,10 @@ impl Model for OpenLine {
 /// Empty lines, and lines that begin with `#`, are skipped and print nothing. A line that is
 /// malformed, longer than 8,300 octets, or without a line feed at the end of the script, prints
 /// `fault` and its number and ends the script with `Line`; nothing of it is done. `Read` and `Write`
-/// come exactly where a read or a write failed. After `Write` the exchange has done the lines up to
-/// some line: what those before it print went out, and of what it prints the beginning. At most
-/// 4,194,304 reads are made; where each of them found an octet, the lines that are whole by then are
-/// done, and the script ends with `TooManyReads`. It takes no memory.
+/// come exactly where a read or a write failed. After `Write` the lines up to some line were taken:
+/// the output of those before it went out whole, and of its own the beginning. At most 4,194,304
+/// reads are made; where each of them found an octet, the lines that are whole by then are done, and
+/// the script ends with `TooManyReads`. It takes no memory.
 pub fn run_script<R: Source, W: Sink>(
     exchange: &mut Exchange,
     reader: &mut R,

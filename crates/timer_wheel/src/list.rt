@@ -55,7 +55,8 @@ pub(crate) fn has(timers: &VecDeque<Timer>, name: &TimerName) -> bool
     place(timers, name).is_ok()
 }
 
-/// Takes one tick from each timer. It goes by places, since `iter_mut` would first move a ring that has wrapped around.
+/// Takes one tick from each timer. It goes by places, since `iter_mut` of this `VecDeque` first moves a ring that has
+/// wrapped around.
 #[tactic(auto, using(crate::proofs::Rising::more_lowered))]
 pub(crate) fn lower(timers: &mut VecDeque<Timer>)
     ensures timers { timers.new.items ≡ map lowered timers.old.items }
