@@ -136,12 +136,8 @@ impl LinkState {
     pub fn open(&mut self)
         ensures { self.new ≡ opened self.old }
     {
-        let active = self.active;
-        *self = LinkState {
-            association: true,
-            active,
-            ..LinkState::new()
-        };
+        self.fall();
+        self.association = true;
         self.take_step(Alignment::open());
     }
 
@@ -149,13 +145,10 @@ impl LinkState {
     pub fn fall(&mut self)
         ensures { self.new ≡ fallen self.old }
     {
-        let association = self.association;
-        let active = self.active;
-        *self = LinkState {
-            association,
-            active,
-            ..LinkState::new()
-        };
+        self.alignment = Alignment::Down;
+        self.waiting.clear();
+        self.peer_busy = false;
+        self.acknowledgement_owed = false;
     }
 
     /// Loses its association.
