@@ -67,7 +67,7 @@ use Rattle.exchange.specs.Telling.{told_below, route_message, told_parts, answer
 use Rattle.exchange.specs.Rerouting.{with_status_heard, with_next_test, prohibited_test, restricted_test, heed_status, hear_status, ask_by, ask_again}
 use Rattle.exchange.specs.Made.{send, send_on, send_routed, send_anew}
 use Rattle.exchange.specs.Suspending.{suspended}
-use Rattle.exchange.specs.Local.{is_user, is_adjacent, link_with_code, test_answer, local, do_order, do_acknowledgement, do_read, do_kind, do_test, manage, hand_over}
+use Rattle.exchange.specs.Local.{is_user, is_adjacent, link_with_code, test_answer, local, do_order, do_acknowledgement, do_management, do_kind, do_test, manage, hand_over}
 use Rattle.exchange.specs.Messages.{whither_goes, deliver_to, deliver, submit_to}
 use Rattle.exchange.specs.Opening.{may_open, begun, open_link, associate, bring_down, part, dissociate, allowed, allow, activate, deactivate, without_association}
 use Rattle.exchange.specs.Failing.{fall, quietened, order_about, changeover_of, with_changeover, has_other, changing, drop_out, begin, change_over, fail, follow, fail_by_peer}
@@ -79,7 +79,7 @@ use Rattle.exchange.specs.Ticking.{with_timers, run_timer, run_due, run_next, ru
 use Rattle.exchange.specs.Frames.{Carrying, carries, owing, timed_parts, numbers, accept, carry, handle_by, handle, act_by_data, take_in, receive_frame, leave_aside, read, receive}
 use Rattle.exchange.specs.Sending.{Outgoing, SendsStatus, SendsMessage, Acknowledges, SendsNothing, carried, goes_out, after_sending, frame_taken, after_take}
 use Rattle.exchange.specs.Happening.{Happening, CameUp, WentDown, FrameCame, Ticked, Submitted, Activated, Deactivated}
-use Rattle.exchange.specs.Exchange.{apply, settled, done_by}
+use Rattle.exchange.specs.Exchange.{handle_event, settled, apply}
 
 -- y is what h keeps of x, and x is sound
 pub record IsKept {P Q : Type 0} (h : P → Q) (IsFit : P → Type 0) (y : Q) (x : P) : Type 0 where
@@ -476,27 +476,27 @@ module _ {P Q : Type 0} (p : QueueKind P) (q : QueueKind Q) (h : P → Q) (IsFit
   do_acknowledgement-kept (Some l) number n f = acknowledge-kept l number n f
   do_acknowledgement-kept None number n f = parted _ n.parts n.queues f
 
-  do_read-kept : (r : Result Management MgmtFault) (z : ℕ) (n : Node P) → IsFit n.queues → Keeps (do_read q c r z (keep h n)) (do_read p c r z n)
-  do_read-kept (Err fault) z n f = parted _ n.parts n.queues f
-  do_read-kept (Ok TrafficRestartAllowed) z n f = parted _ n.parts n.queues f
-  do_read-kept (Ok (ExtendedChangeoverOrder slc number)) z n f = do_order-kept (link_with_code c z slc) (Some number) n f
-  do_read-kept (Ok (ExtendedChangeoverAcknowledgement slc number)) z n f = do_acknowledgement-kept (link_with_code c z slc) (Some number) n f
-  do_read-kept (Ok (EmergencyChangeoverOrder slc)) z n f = do_order-kept (link_with_code c z slc) None n f
-  do_read-kept (Ok (EmergencyChangeoverAcknowledgement slc)) z n f = do_acknowledgement-kept (link_with_code c z slc) None n f
-  do_read-kept (Ok (ChangebackDeclaration slc code)) z n f = answered _ _ _ (send_routed-kept (acknowledgement c z slc code) n f)
-  do_read-kept (Ok (ChangebackAcknowledgement slc code)) z n f = end_hold-kept (set_place c z) code n f
-  do_read-kept (Ok (TransferProhibited about)) z n f = hear_status-kept Prohibited (route_about (set_place c z) (destination_place c about)) n f
-  do_read-kept (Ok (TransferRestricted about)) z n f = hear_status-kept Restricted (route_about (set_place c z) (destination_place c about)) n f
-  do_read-kept (Ok (TransferAllowed about)) z n f = hear_status-kept Allowed (route_about (set_place c z) (destination_place c about)) n f
-  do_read-kept (Ok (RouteSetTestProhibited about)) z n f = be_tested-kept tests.Prohibited (route_about (set_place c z) (destination_place c about)) n f
-  do_read-kept (Ok (RouteSetTestRestricted about)) z n f = be_tested-kept tests.Restricted (route_about (set_place c z) (destination_place c about)) n f
+  do_management-kept : (r : Result Management MgmtFault) (z : ℕ) (n : Node P) → IsFit n.queues → Keeps (do_management q c r z (keep h n)) (do_management p c r z n)
+  do_management-kept (Err fault) z n f = parted _ n.parts n.queues f
+  do_management-kept (Ok TrafficRestartAllowed) z n f = parted _ n.parts n.queues f
+  do_management-kept (Ok (ExtendedChangeoverOrder slc number)) z n f = do_order-kept (link_with_code c z slc) (Some number) n f
+  do_management-kept (Ok (ExtendedChangeoverAcknowledgement slc number)) z n f = do_acknowledgement-kept (link_with_code c z slc) (Some number) n f
+  do_management-kept (Ok (EmergencyChangeoverOrder slc)) z n f = do_order-kept (link_with_code c z slc) None n f
+  do_management-kept (Ok (EmergencyChangeoverAcknowledgement slc)) z n f = do_acknowledgement-kept (link_with_code c z slc) None n f
+  do_management-kept (Ok (ChangebackDeclaration slc code)) z n f = answered _ _ _ (send_routed-kept (acknowledgement c z slc code) n f)
+  do_management-kept (Ok (ChangebackAcknowledgement slc code)) z n f = end_hold-kept (set_place c z) code n f
+  do_management-kept (Ok (TransferProhibited about)) z n f = hear_status-kept Prohibited (route_about (set_place c z) (destination_place c about)) n f
+  do_management-kept (Ok (TransferRestricted about)) z n f = hear_status-kept Restricted (route_about (set_place c z) (destination_place c about)) n f
+  do_management-kept (Ok (TransferAllowed about)) z n f = hear_status-kept Allowed (route_about (set_place c z) (destination_place c about)) n f
+  do_management-kept (Ok (RouteSetTestProhibited about)) z n f = be_tested-kept tests.Prohibited (route_about (set_place c z) (destination_place c about)) n f
+  do_management-kept (Ok (RouteSetTestRestricted about)) z n f = be_tested-kept tests.Restricted (route_about (set_place c z) (destination_place c about)) n f
 
   manage-kept : (l : ℕ) (m : Message) (n : Node P) → IsFit n.queues → Keeps (manage q c l m (keep h n)) (manage p c l m n)
   manage-kept l m n f =
       let t : Done P = do_test p c (read_link_test m.sif) l (opc_of m) n in
-      let r : Done P = do_read p c (read_management m.sif) (opc_of m) n in
+      let r : Done P = do_management p c (read_management m.sif) (opc_of m) n in
       either (is_adjacent c (opc_of m)) _ _ (if nat_eq (service_indicator m) 1 then t else r) (refuse causes.NotFromAdjacent n)
-      (either (nat_eq (service_indicator m) 1) _ _ t r (do_test-kept (read_link_test m.sif) l (opc_of m) n f) (do_read-kept (read_management m.sif) (opc_of m) n f))
+      (either (nat_eq (service_indicator m) 1) _ _ t r (do_test-kept (read_link_test m.sif) l (opc_of m) n f) (do_management-kept (read_management m.sif) (opc_of m) n f))
       (parted _ n.parts n.queues f)
 
   hand_over-kept : (l : ℕ) (m : Message) (n : Node P) → IsFit n.queues → Keeps (hand_over q c l m (keep h n)) (hand_over p c l m n)
@@ -691,14 +691,14 @@ module _ {P Q : Type 0} (p : QueueKind P) (q : QueueKind Q) (h : P → Q) (IsFit
 
   -- ---- all events, and what goes out
 
-  apply-kept : (what : Happening) (n : Node P) → IsFit n.queues → Keeps (apply q c what (keep h n)) (apply p c what n)
-  apply-kept (CameUp link) n f = associate-kept link n f
-  apply-kept (WentDown link) n f = dissociate-kept link n f
-  apply-kept (FrameCame link text) n f = receive-kept link text n f
-  apply-kept Ticked n f = tick-kept n f
-  apply-kept (Submitted message) n f = submit_to-kept (whither_goes c message) message n f
-  apply-kept (Activated link) n f = activate-kept link n f
-  apply-kept (Deactivated link) n f = deactivate-kept link n f
+  handle_event-kept : (what : Happening) (n : Node P) → IsFit n.queues → Keeps (handle_event q c what (keep h n)) (handle_event p c what n)
+  handle_event-kept (CameUp link) n f = associate-kept link n f
+  handle_event-kept (WentDown link) n f = dissociate-kept link n f
+  handle_event-kept (FrameCame link text) n f = receive-kept link text n f
+  handle_event-kept Ticked n f = tick-kept n f
+  handle_event-kept (Submitted message) n f = submit_to-kept (whither_goes c message) message n f
+  handle_event-kept (Activated link) n f = activate-kept link n f
+  handle_event-kept (Deactivated link) n f = deactivate-kept link n f
 
   -- ---- release
 
@@ -724,13 +724,13 @@ module _ {P Q : Type 0} (p : QueueKind P) (q : QueueKind Q) (h : P → Q) (IsFit
       behind_node (λ (z : Node Q). go_each q c (p.held n.queues) z) (go_each p c (p.held n.queues) m) _ m e.same (go_each-kept (p.held n.queues) m e.fit) in
       record { same = ap (λ (ms : List Message). go_each q c ms (record { queues = q.without_held (h n.queues); parts = n.parts })) (k.held n.queues) ∙ s.same; fit = s.fit }
 
-  pub done-kept : (what : Happening) (n : Node P) → IsFit n.queues → Keeps (done_by q c what (keep h n)) (done_by p c what n)
-  unfolding done_by
-  done-kept what n f =
-      let d : Keeps (apply q c what (keep h n)) (apply p c what n) = apply-kept what n f in
-      let one : Node P = release p c (apply p c what n).left in
-      let e : KeepsNode (release q c (keep h (apply p c what n).left)) one = release-kept (apply p c what n).left d.fit in
-      behind_done (apply p c what n) _ d.same (behind_node (λ (z : Node Q). tell_owed q c z) (tell_owed p c one) _ one e.same (tell_owed-kept one e.fit))
+  pub apply-kept : (what : Happening) (n : Node P) → IsFit n.queues → Keeps (apply q c what (keep h n)) (apply p c what n)
+  unfolding apply
+  apply-kept what n f =
+      let d : Keeps (handle_event q c what (keep h n)) (handle_event p c what n) = handle_event-kept what n f in
+      let one : Node P = release p c (handle_event p c what n).left in
+      let e : KeepsNode (release q c (keep h (handle_event p c what n).left)) one = release-kept (handle_event p c what n).left d.fit in
+      behind_done (handle_event p c what n) _ d.same (behind_node (λ (z : Node Q). tell_owed q c z) (tell_owed p c one) _ one e.same (tell_owed-kept one e.fit))
 
   goes_out-kept : (l : ℕ) (n : Node P) → IsFit n.queues → goes_out q c l (keep h n) ≡ goes_out p c l n
   goes_out-kept l n f = rw (k.to_send n.queues l f)

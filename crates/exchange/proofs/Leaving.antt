@@ -59,7 +59,7 @@ use Rattle.exchange.specs.Telling.{route_message, told_parts, may_tell, tell_if,
 use Rattle.exchange.specs.Telling as telling
 use Rattle.exchange.specs.ChangingBack.{acknowledgement, freed, end_hold}
 use Rattle.changeback.specs.Codes.{is_outstanding}
-use Rattle.exchange.specs.Local.{is_user, is_adjacent, cause_of, test_answer, link_with_code, local, do_order, do_acknowledgement, do_read, do_kind, do_test, manage, hand_over}
+use Rattle.exchange.specs.Local.{is_user, is_adjacent, cause_of, test_answer, link_with_code, local, do_order, do_acknowledgement, do_management, do_kind, do_test, manage, hand_over}
 use Rattle.exchange.specs.Messages.{whither_goes, deliver_to, submit_to}
 use Rattle.exchange.specs.Opening.{may_open, open_link, associate, bring_down, part, dissociate, allow, activate, deactivate}
 use Rattle.exchange.specs.Statuses.{advance, act_by_status}
@@ -74,7 +74,7 @@ use Rattle.changeover.specs.Standing.{may_restart}
 use Rattle.exchange.proofs.Settling.{nothing_released, answer_no_route-waits}
 use Rattle.exchange.proofs.Telling.{told_already}
 use Rattle.exchange.proofs.Returning.{advance-waits}
-use Rattle.exchange.specs.Exchange.{settled, done_by}
+use Rattle.exchange.specs.Exchange.{settled, apply}
 use Rattle.exchange.specs.Laws.{accept_data, accept_frame, accept_text, carried_message, answered_no_route, noted, refusals_leave, queued_in_service}
 use Rattle.exchange.specs.Stands.{Abstract, IsSound}
 
@@ -260,27 +260,27 @@ module _ (c : Configuration) (n : Node WholeQueues) (by : Cause → Node WholeQu
   be_tested-leaves test None (Some place) = ignored n by
   be_tested-leaves test set None = refused causes.UnknownDestination refl
 
-  do_read-leaves : (r : Result Management MgmtFault) (z : ℕ) → Leaves (do_read whole c r z n) by
-  do_read-leaves (Err fault) z = refused (cause_of fault) (fault_so fault)
-  do_read-leaves (Ok TrafficRestartAllowed) z = ignored n by
-  do_read-leaves (Ok (ExtendedChangeoverOrder slc number)) z = do_order-leaves (link_with_code c z slc) (Some number)
-  do_read-leaves (Ok (ExtendedChangeoverAcknowledgement slc number)) z = do_acknowledgement-leaves (link_with_code c z slc) (Some number)
-  do_read-leaves (Ok (EmergencyChangeoverOrder slc)) z = do_order-leaves (link_with_code c z slc) None
-  do_read-leaves (Ok (EmergencyChangeoverAcknowledgement slc)) z = do_acknowledgement-leaves (link_with_code c z slc) None
-  do_read-leaves (Ok (ChangebackDeclaration slc code)) z = handled (send_routed whole c (acknowledgement c z slc code) n) by
-  do_read-leaves (Ok (ChangebackAcknowledgement slc code)) z = end_hold-leaves (set_place c z) code
-  do_read-leaves (Ok (TransferProhibited about)) z = hear_status-leaves Prohibited (set_place c z) (destination_place c about)
-  do_read-leaves (Ok (TransferRestricted about)) z = hear_status-leaves Restricted (set_place c z) (destination_place c about)
-  do_read-leaves (Ok (TransferAllowed about)) z = hear_status-leaves Allowed (set_place c z) (destination_place c about)
-  do_read-leaves (Ok (RouteSetTestProhibited about)) z = be_tested-leaves tests.Prohibited (set_place c z) (destination_place c about)
-  do_read-leaves (Ok (RouteSetTestRestricted about)) z = be_tested-leaves tests.Restricted (set_place c z) (destination_place c about)
+  do_management-leaves : (r : Result Management MgmtFault) (z : ℕ) → Leaves (do_management whole c r z n) by
+  do_management-leaves (Err fault) z = refused (cause_of fault) (fault_so fault)
+  do_management-leaves (Ok TrafficRestartAllowed) z = ignored n by
+  do_management-leaves (Ok (ExtendedChangeoverOrder slc number)) z = do_order-leaves (link_with_code c z slc) (Some number)
+  do_management-leaves (Ok (ExtendedChangeoverAcknowledgement slc number)) z = do_acknowledgement-leaves (link_with_code c z slc) (Some number)
+  do_management-leaves (Ok (EmergencyChangeoverOrder slc)) z = do_order-leaves (link_with_code c z slc) None
+  do_management-leaves (Ok (EmergencyChangeoverAcknowledgement slc)) z = do_acknowledgement-leaves (link_with_code c z slc) None
+  do_management-leaves (Ok (ChangebackDeclaration slc code)) z = handled (send_routed whole c (acknowledgement c z slc code) n) by
+  do_management-leaves (Ok (ChangebackAcknowledgement slc code)) z = end_hold-leaves (set_place c z) code
+  do_management-leaves (Ok (TransferProhibited about)) z = hear_status-leaves Prohibited (set_place c z) (destination_place c about)
+  do_management-leaves (Ok (TransferRestricted about)) z = hear_status-leaves Restricted (set_place c z) (destination_place c about)
+  do_management-leaves (Ok (TransferAllowed about)) z = hear_status-leaves Allowed (set_place c z) (destination_place c about)
+  do_management-leaves (Ok (RouteSetTestProhibited about)) z = be_tested-leaves tests.Prohibited (set_place c z) (destination_place c about)
+  do_management-leaves (Ok (RouteSetTestRestricted about)) z = be_tested-leaves tests.Restricted (set_place c z) (destination_place c about)
 
   manage-leaves : (link : ℕ) (m : Message) → Leaves (manage whole c link m n) by
   manage-leaves link m =
       let t : Done WholeQueues = do_test whole c (read_link_test m.sif) link (opc_of m) n in
-      let r : Done WholeQueues = do_read whole c (read_management m.sif) (opc_of m) n in
+      let r : Done WholeQueues = do_management whole c (read_management m.sif) (opc_of m) n in
       either (is_adjacent c (opc_of m)) (if nat_eq (service_indicator m) 1 then t else r) (refuse causes.NotFromAdjacent n) by
-      (either (nat_eq (service_indicator m) 1) t r by (do_test-leaves (read_link_test m.sif) link (opc_of m)) (do_read-leaves (read_management m.sif) (opc_of m)))
+      (either (nat_eq (service_indicator m) 1) t r by (do_test-leaves (read_link_test m.sif) link (opc_of m)) (do_management-leaves (read_management m.sif) (opc_of m)))
       (refused _ refl)
 
   hand_over-leaves : (link : ℕ) (m : Message) → Leaves (hand_over whole c link m n) by
@@ -515,7 +515,7 @@ left-so : (a : Abstract) (d : Done WholeQueues) (cause : Cause) → IsSound a �
 left-so a d cause s f e = settled-so a d s (f.left cause e)
 
 pub refused_leaves : refusals_leave
-unfolding done_by
+unfolding apply
 refused_leaves (CameUp link) a cause s e = left-so a _ cause s (associate-leaves a.settings a.node (as_it_was a) (unchanged a) link) e
 refused_leaves (WentDown link) a cause s e = left-so a _ cause s (dissociate-leaves a.settings a.node (as_it_was a) (unchanged a) link) e
 refused_leaves Ticked a cause s e = cc
@@ -538,7 +538,7 @@ served-so : (a : Abstract) (d : Done WholeQueues) (l : ℕ) → Leaves d (as_it_
 served-so a d l f e = still a d l (f.served l e)
 
 pub queued_served : queued_in_service
-unfolding done_by
+unfolding apply
 queued_served (CameUp link) a l e = served-so a _ l (associate-leaves a.settings a.node (as_it_was a) (unchanged a) link) e
 queued_served (WentDown link) a l e = served-so a _ l (dissociate-leaves a.settings a.node (as_it_was a) (unchanged a) link) e
 queued_served Ticked a l e = cc

@@ -24,9 +24,9 @@ use Rattle.exchange.specs.Telling.{told_below, is_all_told}
 use Rattle.exchange.specs.State.{Node, Done, keep}
 use Rattle.exchange.specs.Queues.{WholeQueues, KeptQueues, kept, whole}
 use Rattle.exchange.specs.Happening.{Happening}
-use Rattle.exchange.specs.Exchange.{apply, done_by, outcome_of, after, frame_to_take, taken, wants_of}
+use Rattle.exchange.specs.Exchange.{handle_event, apply, outcome_of, after, frame_to_take, taken, wants_of}
 use Rattle.exchange.specs.Stands.{Abstract, Kept, AreQueues, IsSound, StandsFor, kept_of, kept_queues_of, counts_in, first_state}
-use Rattle.exchange.proofs.Keeping.{Keeps, done-kept, frame_taken-kept, after_take-kept}
+use Rattle.exchange.proofs.Keeping.{Keeps, apply-kept, frame_taken-kept, after_take-kept}
 use Rattle.exchange.proofs.KeptQueues.{keeps_whole, managements-sent_one}
 use Rattle.changeover.specs.Standing.{Standing, no_changeover}
 use Rattle.changeback.specs.Codes.{Codes, no_codes}
@@ -41,21 +41,21 @@ use Rattle.exchange.proofs.Lists.{each-replicate, map-replicate}
 
 applied : (what : Happening) (a : Abstract) → IsSound a →
     Keeps whole kept kept_queues_of (AreQueues a.settings.window) a.settings (keeps_whole a.settings.window)
-    (done_by kept a.settings what (keep kept_queues_of a.node)) (done_by whole a.settings what a.node)
-applied what a s = done-kept whole kept kept_queues_of (AreQueues a.settings.window) a.settings (keeps_whole a.settings.window) what a.node s.queues
+    (apply kept a.settings what (keep kept_queues_of a.node)) (apply whole a.settings what a.node)
+applied what a s = apply-kept whole kept kept_queues_of (AreQueues a.settings.window) a.settings (keeps_whole a.settings.window) what a.node s.queues
 
 -- after each event each message of Held waits
 done-waits : (what : Happening) (a : Abstract)
-    → all_wait a.settings (done_by whole a.settings what a.node).left.parts.holds (done_by whole a.settings what a.node).left.queues.held ≡ true
-unfolding done_by
+    → all_wait a.settings (apply whole a.settings what a.node).left.parts.holds (apply whole a.settings what a.node).left.queues.held ≡ true
+unfolding apply
 done-waits what a =
-    let left : Node WholeQueues = (apply whole a.settings what a.node).left in
+    let left : Node WholeQueues = (handle_event whole a.settings what a.node).left in
     tell_owed-waits a.settings (release whole a.settings left) (release-waits a.settings left)
 
 -- and nothing is owed that finds room
-pub done-told : (what : Happening) (a : Abstract) → is_all_told whole a.settings (done_by whole a.settings what a.node).left ≡ true
-unfolding done_by
-done-told what a = all_is_told whole a.settings (release whole a.settings (apply whole a.settings what a.node).left)
+pub done-told : (what : Happening) (a : Abstract) → is_all_told whole a.settings (apply whole a.settings what a.node).left ≡ true
+unfolding apply
+done-told what a = all_is_told whole a.settings (release whole a.settings (handle_event whole a.settings what a.node).left)
 
 -- ---- a take tells nothing, and owes nothing
 

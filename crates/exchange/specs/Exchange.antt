@@ -16,29 +16,29 @@ use Rattle.exchange.specs.Telling.{tell_owed}
 use Rattle.exchange.specs.Sending.{frame_taken, after_take}
 
 -- each event has its rule
-abbrev pub apply : {Q : Type 0} → QueueKind Q → Configuration → Happening → Node Q → Done Q
-apply q c (CameUp link) node = associate q c link node
-apply q c (WentDown link) node = dissociate q c link node
-apply q c (FrameCame link text) node = receive q c link text node
-apply q c Ticked node = tick q c node
-apply q c (Submitted message) node = submit q c message node
-apply q c (Activated link) node = activate q c link node
-apply q c (Deactivated link) node = deactivate q c link node
+abbrev pub handle_event : {Q : Type 0} → QueueKind Q → Configuration → Happening → Node Q → Done Q
+handle_event q c (CameUp link) node = associate q c link node
+handle_event q c (WentDown link) node = dissociate q c link node
+handle_event q c (FrameCame link text) node = receive q c link text node
+handle_event q c Ticked node = tick q c node
+handle_event q c (Submitted message) node = submit q c message node
+handle_event q c (Activated link) node = activate q c link node
+handle_event q c (Deactivated link) node = deactivate q c link node
 
 -- then what is held no longer goes on, and adjacent points are told what they are owed
 abbrev pub settled : {Q : Type 0} → QueueKind Q → Configuration → Done Q → Done Q
 settled q c d = record d { left = tell_owed q c (release q c d.left) }
 
-unfoldable pub done_by : {Q : Type 0} → QueueKind Q → Configuration → Happening → Node Q → Done Q
-done_by q c what node = settled q c (apply q c what node)
+unfoldable pub apply : {Q : Type 0} → QueueKind Q → Configuration → Happening → Node Q → Done Q
+apply q c what node = settled q c (handle_event q c what node)
 
 -- what becomes of an event
 abbrev pub outcome_of : {Q : Type 0} → QueueKind Q → Happening → State Q → Outcome
-outcome_of q what s = (done_by q s.settings what s.node).outcome
+outcome_of q what s = (apply q s.settings what s.node).outcome
 
 -- and the state after it
 abbrev pub after : {Q : Type 0} → QueueKind Q → Happening → State Q → State Q
-after q what s = with_node s (done_by q s.settings what s.node).left
+after q what s = with_node s (apply q s.settings what s.node).left
 
 -- the frame that goes out next on a link
 abbrev pub frame_to_take : {Q : Type 0} → QueueKind Q → State Q → ℕ → Option FrameValue

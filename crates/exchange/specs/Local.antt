@@ -97,32 +97,32 @@ module _ {Q : Type 0} (q : QueueKind Q) (c : Configuration) where
   do_acknowledgement None number node = refuse BadManagement node
 
   -- a management message from a point; that it has restarted asks nothing of this node
-  abbrev pub do_management : Management → ℕ → Node Q → Done Q
-  do_management TrafficRestartAllowed point node = answer Ignored node
-  do_management (ExtendedChangeoverOrder slc number) point node =
+  abbrev pub obey : Management → ℕ → Node Q → Done Q
+  obey TrafficRestartAllowed point node = answer Ignored node
+  obey (ExtendedChangeoverOrder slc number) point node =
       do_order (link_with_code c point slc) (Some number) node
-  do_management (EmergencyChangeoverOrder slc) point node =
+  obey (EmergencyChangeoverOrder slc) point node =
       do_order (link_with_code c point slc) None node
-  do_management (ExtendedChangeoverAcknowledgement slc number) point node =
+  obey (ExtendedChangeoverAcknowledgement slc number) point node =
       do_acknowledgement (link_with_code c point slc) (Some number) node
-  do_management (EmergencyChangeoverAcknowledgement slc) point node =
+  obey (EmergencyChangeoverAcknowledgement slc) point node =
       do_acknowledgement (link_with_code c point slc) None node
-  do_management (ChangebackDeclaration slc code) point node = confirm q c point slc code node
-  do_management (ChangebackAcknowledgement slc code) point node = end_hold q c (set_place c point) code node
-  do_management (TransferProhibited about) point node =
+  obey (ChangebackDeclaration slc code) point node = confirm q c point slc code node
+  obey (ChangebackAcknowledgement slc code) point node = end_hold q c (set_place c point) code node
+  obey (TransferProhibited about) point node =
       hear_status q c status.Prohibited (route_about (set_place c point) (destination_place c about)) node
-  do_management (TransferRestricted about) point node =
+  obey (TransferRestricted about) point node =
       hear_status q c status.Restricted (route_about (set_place c point) (destination_place c about)) node
-  do_management (TransferAllowed about) point node =
+  obey (TransferAllowed about) point node =
       hear_status q c status.Allowed (route_about (set_place c point) (destination_place c about)) node
-  do_management (RouteSetTestProhibited about) point node =
+  obey (RouteSetTestProhibited about) point node =
       be_tested q c test.Prohibited (route_about (set_place c point) (destination_place c about)) node
-  do_management (RouteSetTestRestricted about) point node =
+  obey (RouteSetTestRestricted about) point node =
       be_tested q c test.Restricted (route_about (set_place c point) (destination_place c about)) node
 
-  abbrev pub do_read : Result Management MgmtFault → ℕ → Node Q → Done Q
-  do_read (Err fault) point node = refuse (cause_of fault) node
-  do_read (Ok message) point node = do_management message point node
+  abbrev pub do_management : Result Management MgmtFault → ℕ → Node Q → Done Q
+  do_management (Err fault) point node = refuse (cause_of fault) node
+  do_management (Ok message) point node = obey message point node
 
   -- management and tests, by the link that they came by: only an adjacent point is heard
   abbrev pub manage : ℕ → Message → Node Q → Done Q
@@ -130,7 +130,7 @@ module _ {Q : Type 0} (q : QueueKind Q) (c : Configuration) where
       if is_adjacent c (opc_of m)
       then (if nat_eq (service_indicator m) testing
       then do_test (read_link_test m.sif) link (opc_of m) node
-      else do_read (read_management m.sif) (opc_of m) node)
+      else do_management (read_management m.sif) (opc_of m) node)
       else refuse NotFromAdjacent node
 
   -- a message for this point, by the link that it came by

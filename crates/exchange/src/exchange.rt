@@ -132,7 +132,7 @@ impl Exchange {
     #[inline(always)]
     fn apply(&mut self, event: &Event<'_>) -> Outcome
         ensures { Ends self.old result self.new
-            (rule.done_by kept self.old.settings (happened event.now) self.old.node) }
+            (rule.apply kept self.old.settings (happened event.now) self.old.node) }
     {
         let outcome = self.handle_event(event);
         self.let_go();
@@ -143,7 +143,7 @@ impl Exchange {
     /// Hands an event to its handler.
     #[inline(always)]
     fn handle_event(&mut self, event: &Event<'_>) -> Outcome
-        ensures { Ends self.old result self.new (rule.apply kept self.old.settings (happened event.now) self.old.node) }
+        ensures { Ends self.old result self.new (rule.handle_event kept self.old.settings (happened event.now) self.old.node) }
     {
         match event {
             Event::AssociationUp(link) => self.associate(*link),

@@ -121,7 +121,7 @@ impl Exchange {
             (rule.handle kept self.old.settings link (carrying fsn bsn message.entry) self.old.node) }
     {
         let carries = message.is_some();
-        match self.accept(link, fsn, bsn, carries) {
+        match self.accept_numbers(link, fsn, bsn, carries) {
             Err(_) => {
                 self.fail(link, FailureReason::Sequence);
                 Outcome::Handled

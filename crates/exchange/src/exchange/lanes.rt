@@ -59,7 +59,7 @@ impl Exchange {
 
     /// Takes the numbers of User Data on a link: what it confirms leaves the link's list.
     #[inline(always)]
-    pub(super) fn accept(
+    pub(super) fn accept_numbers(
         &mut self,
         link: LinkId,
         fsn: Number24,

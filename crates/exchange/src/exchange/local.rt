@@ -110,18 +110,18 @@ impl Exchange {
     /// A management message from an adjacent point.
     fn do_management(&mut self, point: PointCode, sif: &[u8]) -> Outcome
         ensures { Ends self.old result self.new
-            (rule.do_read kept self.old.settings (read_management sif.now) point self.old.node) }
+            (rule.do_management kept self.old.settings (read_management sif.now) point self.old.node) }
     {
         match Management::read(sif) {
             Err(fault) => Outcome::Refused(cause_of(fault)),
-            Ok(message) => self.heed(point, message),
+            Ok(message) => self.obey(point, message),
         }
     }
 
     /// Does what a management message from an adjacent point asks; that it has restarted asks nothing.
-    fn heed(&mut self, point: PointCode, message: Management) -> Outcome
+    fn obey(&mut self, point: PointCode, message: Management) -> Outcome
         ensures { Ends self.old result self.new
-            (rule.do_management kept self.old.settings message point self.old.node) }
+            (rule.obey kept self.old.settings message point self.old.node) }
     {
         match message {
             Management::TrafficRestartAllowed => Outcome::Ignored,

@@ -160,12 +160,12 @@ impl Exchange {
         let is_there = set.index() < self.settings.sets().len()
             && destination < self.settings.destinations().len();
         if is_there {
-            self.ask(set, destination);
+            self.ask_by(set, destination);
         }
     }
 
     /// Tests the route of the adjacent point of this set to this destination.
-    fn ask(&mut self, set: SetId, destination: usize)
+    fn ask_by(&mut self, set: SetId, destination: usize)
         requires set { set < length self.old.settings.sets }
         requires destination { destination < length self.old.settings.destinations }
         ensures { self.new ≡ with_node self.old (rule.ask_by kept self.old.settings
@@ -174,17 +174,17 @@ impl Exchange {
         let about = self.point_of(destination);
         match self.links.status_of(destination, set) {
             Some(RouteStatus::Prohibited) => {
-                self.send_test(set, destination, &Management::RouteSetTestProhibited(about));
+                self.ask(set, destination, &Management::RouteSetTestProhibited(about));
             }
             Some(RouteStatus::Restricted) => {
-                self.send_test(set, destination, &Management::RouteSetTestRestricted(about));
+                self.ask(set, destination, &Management::RouteSetTestRestricted(about));
             }
             Some(RouteStatus::Allowed) | None => {}
         }
     }
 
     /// A test about a destination goes to the adjacent point of a set, and T10 runs again.
-    fn send_test(&mut self, set: SetId, destination: usize, test: &Management)
+    fn ask(&mut self, set: SetId, destination: usize, test: &Management)
         requires set { set < length self.old.settings.sets }
         requires destination { destination < length self.old.settings.destinations }
         ensures { self.new ≡ with_node self.old (rule.ask kept self.old.settings

@@ -4,7 +4,7 @@ use Rattle.exchange.specs.State.{State, with_node}
 use Rattle.exchange.specs.Queues.{KeptQueues, kept}
 use Rattle.exchange.specs.Releasing.{release}
 use Rattle.exchange.specs.Telling.{tell_owed}
-use Rattle.exchange.specs.Exchange.{done_by}
+use Rattle.exchange.specs.Exchange.{apply}
 use Rattle.exchange.proofs.exchange.Exchange.apply.Goals as goal
 
 abbrev let_go : State KeptQueues → State KeptQueues
@@ -14,7 +14,7 @@ abbrev told : State KeptQueues → State KeptQueues
 told s = with_node s (tell_owed kept s.settings s.node)
 
 pub returns : goal.returns
-unfolding done_by
+unfolding apply
 returns c = (
   c.handle_event-outcome.ensures.0,
   c.tell_owed.ensures ∙ ap told c.let_go.ensures ∙ ap (λ (s : State KeptQueues). told (let_go s)) c.handle_event-outcome.ensures.1,
