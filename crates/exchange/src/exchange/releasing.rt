@@ -10,7 +10,7 @@ ghost use Rattle.exchange.specs.Releasing as rule;
 ghost use Rattle.signalling_types.specs.declared.notice.Notice.TheVariants as notices;
 
 use super::Exchange;
-use super::labels::Head;
+use super::head::Head;
 use super::lanes::{HELD, lane_of};
 use cell_pool::Lanes;
 use routing_label::Label;

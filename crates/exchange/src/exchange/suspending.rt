@@ -11,7 +11,7 @@ ghost use Rattle.exchange.specs.Head.{with_holds, with_head, with_read};
 ghost use Rattle.exchange.specs.Suspending as rule;
 
 use super::Exchange;
-use super::labels::Head;
+use super::head::Head;
 use flow_hold::Procedure;
 use stp_types::{LinkId, Sls};
 
