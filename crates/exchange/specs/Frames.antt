@@ -32,11 +32,17 @@ pub record Carrying : Type 0 where
 abbrev pub carries : Carrying → Bool
 carries d = is_some d.message
 
+-- User Data without a message, and with one
+abbrev pub empty_data : (bsn fsn : ℕ) → Carrying
+empty_data bsn fsn = record { fsn = fsn; bsn = bsn; message = None }
+
+abbrev pub message_data : (bsn fsn sio : ℕ) → List ℕ → Carrying
+message_data bsn fsn sio sif = record { fsn = fsn; bsn = bsn; message = Some (record { sio = sio; sif = sif }) }
+
 -- the User Data that a frame is; nothing where it is a link status
 abbrev pub data_of : FrameValue → Option Carrying
-data_of (EmptyFrame bsn fsn) = Some (record { fsn = fsn; bsn = bsn; message = None })
-data_of (MessageFrame bsn fsn sio sif) =
-    Some (record { fsn = fsn; bsn = bsn; message = Some (record { sio = sio; sif = sif }) })
+data_of (EmptyFrame bsn fsn) = Some (empty_data bsn fsn)
+data_of (MessageFrame bsn fsn sio sif) = Some (message_data bsn fsn sio sif)
 data_of (StatusFrame bsn fsn status) = None
 
 -- a message that came is to be acknowledged
@@ -88,10 +94,8 @@ module _ {Q : Type 0} (q : QueueKind Q) (c : Configuration) where
 
   -- a frame by its kind; the numbers of a link status are ignored
   abbrev pub receive_frame : ℕ → FrameValue → Node Q → Done Q
-  receive_frame link (EmptyFrame bsn fsn) node =
-      take_in link (record { fsn = fsn; bsn = bsn; message = None }) node
-  receive_frame link (MessageFrame bsn fsn sio sif) node =
-      take_in link (record { fsn = fsn; bsn = bsn; message = Some (record { sio = sio; sif = sif }) }) node
+  receive_frame link (EmptyFrame bsn fsn) node = take_in link (empty_data bsn fsn) node
+  receive_frame link (MessageFrame bsn fsn sio sif) node = take_in link (message_data bsn fsn sio sif) node
   receive_frame link (StatusFrame bsn fsn status) node = hear q c link status node
 
   -- a frame that can't be read: a wrong length fails the link, any other fault is noted

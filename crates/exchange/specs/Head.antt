@@ -5,7 +5,7 @@ use Rattle.settings_rows.specs.Configuration.{Configuration}
 use Rattle.stp_types.specs.Readings.{destination_place}
 use Rattle.routing_label.specs.Label.{label_at}
 use Rattle.flow_hold.specs.Holds.{HoldTable}
-use Rattle.exchange.specs.declared.exchange.labels.Head.{Head}
+use Rattle.exchange.specs.declared.exchange.head.Head.{Head}
 use Rattle.exchange.specs.State.{State, with_node, with_parts}
 use Rattle.exchange.specs.Queues.{KeptQueues}
 use Rattle.exchange.specs.Holding.{is_held_at}
