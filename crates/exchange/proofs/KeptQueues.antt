@@ -17,7 +17,7 @@ use Rattle.changeover.proofs.Keeping.{alike, counted-some}
 use Rattle.link_sequence.specs.Keeps.{Keeps}
 use Rattle.exchange.specs.Queues.{WholeQueues, KeptQueues, queue_at, with_queue, counts_at, kept, whole}
 use Rattle.exchange.specs.Stands.{AreQueues, kept_queues_of}
-use Rattle.exchange.proofs.Keeping.{IsKept, IsKeeping}
+use Rattle.exchange.proofs.Combining.{IsKept, IsKeeping}
 use Rattle.exchange.proofs.Lists.{map-set_alike, sum_by-map, each-set}
 
 -- one link's counts, and its messages

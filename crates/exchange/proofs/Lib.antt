@@ -1,4 +1,9 @@
 pub mod Lists
+pub mod Combining
+pub mod KeepingMessages
+pub mod KeepingChangeover
+pub mod KeepingLocal
+pub mod KeepingLinks
 pub mod Keeping
 pub mod KeptQueues
 pub mod Settling
@@ -12,8 +17,12 @@ pub mod Standing
 pub mod Ticking
 pub mod Calls
 pub mod Showing
+pub mod Leaves
+pub mod LeavingMessages
+pub mod LeavingFrames
 pub mod Leaving
 pub mod Releasing
+pub mod AddedHolds
 pub mod Returning
 pub mod Belonging
 pub mod TakenBack

@@ -26,7 +26,8 @@ use Rattle.exchange.specs.Queues.{WholeQueues, KeptQueues, kept, whole}
 use Rattle.exchange.specs.Happening.{Happening}
 use Rattle.exchange.specs.Exchange.{handle_event, apply, outcome_of, after, frame_to_take, taken, wants_of}
 use Rattle.exchange.specs.Stands.{Abstract, Kept, AreQueues, IsSound, StandsFor, kept_of, kept_queues_of, counts_in, first_state}
-use Rattle.exchange.proofs.Keeping.{Keeps, apply-kept, frame_taken-kept, after_take-kept}
+use Rattle.exchange.proofs.Combining.{Keeps}
+use Rattle.exchange.proofs.Keeping.{apply-kept, frame_taken-kept, after_take-kept}
 use Rattle.exchange.proofs.KeptQueues.{keeps_whole, managements-sent_one}
 use Rattle.changeover.specs.Standing.{Standing, no_changeover}
 use Rattle.changeback.specs.Codes.{Codes, no_codes}
@@ -40,8 +41,7 @@ use Rattle.exchange.proofs.Telling.{all_is_told}
 use Rattle.exchange.proofs.Lists.{each-replicate, map-replicate}
 
 applied : (what : Happening) (a : Abstract) → IsSound a →
-    Keeps whole kept kept_queues_of (AreQueues a.settings.window) a.settings (keeps_whole a.settings.window)
-    (apply kept a.settings what (keep kept_queues_of a.node)) (apply whole a.settings what a.node)
+    Keeps kept_queues_of (AreQueues a.settings.window) (apply kept a.settings what (keep kept_queues_of a.node)) (apply whole a.settings what a.node)
 applied what a s = apply-kept whole kept kept_queues_of (AreQueues a.settings.window) a.settings (keeps_whole a.settings.window) what a.node s.queues
 
 -- after each event each message of Held waits
