@@ -2,6 +2,9 @@ pub mod Asking
 pub mod BuiltIn
 pub mod Octets
 pub mod Parting
+pub mod Appending
+pub mod OneOctet
+pub mod Taken
 pub mod Running
 pub mod Shown
 pub mod Standing

@@ -12,7 +12,7 @@ use Rattle.stp_node.specs.Streams.{AppendsFirst}
 use Rattle.stp_node.specs.Showing.{line_of, most_lines, ended, first_lines, shown_text}
 use Rattle.stp_node.specs.declared.line.Show.{Show}
 use Rattle.stp_node.specs.declared.line.Show.TheVariants.{Links, Routes, Notices}
-use Rattle.stp_node.proofs.Running.{appends-appends, appends-first, appends-nothing}
+use Rattle.stp_node.proofs.Appending.{appends-appends, appends-first, appends-nothing}
 
 -- ---- of what is kept, and of the whole
 

@@ -3,7 +3,7 @@ use Rattle.std.proofs.lemmas.Result.{err_from_is_err_and}
 use Rattle.std.proofs.lemmas.Bool.Decides.{nat_tests}
 use Rattle.stp_node.specs.Steps.{LineSoFar}
 use Rattle.stp_node.specs.declared.script.TheConstants.{LINE_OCTETS}
-use Rattle.stp_node.proofs.Running.{octet-kept, octet-too_many, line-done, line-broken}
+use Rattle.stp_node.proofs.OneOctet.{octet-kept, octet-too_many, line-done, line-broken}
 use Rattle.stp_node.specs.declared.script.ScriptFault.{ScriptFault}
 use Rattle.stp_node.proofs.run.OpenLine.take.Goals as goal
 

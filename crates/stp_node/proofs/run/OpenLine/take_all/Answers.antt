@@ -1,6 +1,6 @@
 use Rattle.std.proofs.Common.{◌≡◌, Ok, Err, arith, ap, ◌∙◌}
 use Rattle.std.proofs.lemmas.Result.{err_from_is_err_and}
-use Rattle.stp_node.proofs.Running.{taken-at, broken-at, end-at}
+use Rattle.stp_node.proofs.Taken.{taken-at, broken-at, end-at}
 use Rattle.stp_node.specs.declared.script.ScriptFault.{ScriptFault}
 use Rattle.stp_node.proofs.run.OpenLine.take_all.Goals as goal
 
