@@ -27,7 +27,8 @@ use Rattle.exchange.specs.ChangingBack.{declare_each, take_back}
 use Rattle.exchange.specs.Points.{set_of}
 use Rattle.exchange.specs.Failing as failing
 use Rattle.exchange.specs.Statuses.{enters, begun_anew_if, step_on, return_if, advance}
-use Rattle.exchange.specs.Laws.{HasPlacesFor, entries_hold_changed_flows}
+use Rattle.exchange.specs.Places.{HasPlacesFor}
+use Rattle.exchange.specs.Laws.{entries_hold_changed_flows}
 use Rattle.exchange.proofs.Returning.{known_links}
 use Rattle.exchange.proofs.TakenBack.{IsAlike, declare_each-alike, taken_flows_held}
 use Rattle.exchange.proofs.Belonging.{HasNumber, first-of}
@@ -230,21 +231,15 @@ was-out false b e = absurd cc
 stepped-places : (c : Configuration) (link : ℕ) (step : Transition) (p : Parts) (first : Bool) → HasPlacesFor c p → HasPlacesFor c (begun_anew_if first c link (step_on c link step p))
 stepped-places c link step p true h = record {
   few_links = h.few_links;
-  holds = h.holds;
-  links = h.links;
-  sets = h.sets;
-  destinations = h.destinations;
   routes = length-map p.routes (map (told (set_of c link) Allowed)) ∙ h.routes;
   codes = h.codes;
+  holds = h.holds;
 }
 stepped-places c link step p false h = record {
   few_links = h.few_links;
-  holds = h.holds;
-  links = h.links;
-  sets = h.sets;
-  destinations = h.destinations;
   routes = h.routes;
   codes = h.codes;
+  holds = h.holds;
 }
 
 pub entered_flows_held : entries_hold_changed_flows

@@ -8,6 +8,7 @@ pub mod Keeping
 pub mod KeptQueues
 pub mod Settling
 pub mod Telling
+pub mod Places
 pub mod Rooms
 pub mod Draining
 pub mod Suspending

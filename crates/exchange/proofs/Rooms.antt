@@ -1,33 +1,41 @@
 -- What an exchange keeps has its room still, and telling is due where it has to be, as links and what was told change.
 use Rattle.std.proofs.Common.{◌≡◌, ◌<◌, ◌+◌, ℕ, Bool, true, false, ◌||◌, not, length, replicate, List, refl, ap, sym, subst, ◌∙◌}
-use Rattle.std.specs.Prelude.{if◌then◌else◌}
+use Rattle.std.specs.Prelude.{map, [], slice_index_or, if◌then◌else◌}
 use Rattle.std.proofs.lemmas.List.{length-set, get_or-set_same}
 use Rattle.linkset.specs.declared.link_set.SetLink.{SetLink}
 use Rattle.route_table.specs.declared.route.RouteStatus.{RouteStatus}
-use Rattle.route_table.specs.Facts.{Facts}
+use Rattle.route_table.specs.Facts.{Facts, told}
 use Rattle.node_links.specs.Link.{Link}
 use Rattle.node_links.specs.LinkState.{is_in_service, down_link}
 use Rattle.node_links.specs.Network.{Network, facts_of, link_in, with_state, serving}
+use Rattle.node_links.specs.Statuses.{with_status}
 use Rattle.node_links.proofs.Serving.{facts_alike}
 use Rattle.timer_wheel.specs.Timers.{Running}
+use Rattle.cell_pool.specs.Lanes.{lane_at}
+use Rattle.flow_hold.specs.Holds.{HoldTable}
+use Rattle.changeback.specs.Codes.{Codes}
 use Rattle.route_management.specs.Told.{ToldTable, shape_of, with_told}
 use Rattle.route_management.specs.Owed.{should, owes_nothing}
 use Rattle.route_management.proofs.Shape.{told_shape}
 use Rattle.route_management.proofs.Settled.{answered_owes_no_more, none_from_owes_nothing, owes_nothing_from_none}
 use Rattle.exchange.specs.State.{State}
-use Rattle.exchange.specs.Queues.{KeptQueues, kept}
+use Rattle.exchange.specs.Queues.{KeptQueues, kept, held_lane}
+use Rattle.exchange.specs.Holding.{all_wait}
 use Rattle.exchange.specs.Routing.{facts}
 use Rattle.exchange.specs.Telling.{may_tell, is_all_told}
 use Rattle.exchange.specs.Room.{HasRoom, kept_in}
+use Rattle.exchange.specs.Places.{HasHoldsFor, HasCodes}
 use Rattle.exchange.proofs.Settling.{or-true}
 use Rattle.exchange.specs.declared.exchange.Exchange.TheInside.{Inside}
 
--- links, what was told and timers change
-pub changed_room : (e : Inside) (n : Network) (t : ToldTable) (r : Running) (due : Bool) → HasRoom e
-    → length n.links ≡ length e.links.links → n.sets ≡ e.links.sets → shape_of t ≡ shape_of e.told
+-- whatever changes but queues, the changeovers and the notices
+pub any_room : (e : Inside) (n : Network) (t : ToldTable) (k : Codes) (u : HoldTable) (r : Running) (late release due : Bool) → HasRoom e
+    → length n.links ≡ length e.links.links → n.sets ≡ e.links.sets → length n.routes ≡ length e.links.routes → shape_of t ≡ shape_of e.told
+    → HasCodes k → HasHoldsFor e.settings u
+    → (release || all_wait e.settings u (lane_at e.lanes.lists held_lane)) ≡ true
     → (due || owes_nothing (facts_of n) t) ≡ true
-    → HasRoom (record e { links = n; told = t; timers = r; telling_due = due })
-changed_room e n t r due h many sets shape telling = record {
+    → HasRoom (record e { links = n; told = t; changeback = k; holds = u; timers = r; late_any = late; release_due = release; telling_due = due })
+any_room e n t k u r late release due h many sets routes shape codes holds waiting telling = record {
   lanes = h.lanes ∙ ap (λ (k : ℕ). k + 1) (sym many);
   sequences = h.sequences ∙ sym many;
   changeovers = h.changeovers ∙ sym many;
@@ -36,9 +44,43 @@ changed_room e n t r due h many sets shape telling = record {
   pool = h.pool;
   notices = h.notices;
   told = shape ∙ h.told;
-  waiting = h.waiting;
+  few_links = h.few_links;
+  routes = routes ∙ h.routes;
+  codes = codes;
+  holds = holds;
+  waiting = waiting;
   telling = telling;
 }
+
+-- links, what was told and timers change
+pub changed_room : (e : Inside) (n : Network) (t : ToldTable) (r : Running) (due : Bool) → HasRoom e
+    → length n.links ≡ length e.links.links → n.sets ≡ e.links.sets → length n.routes ≡ length e.links.routes → shape_of t ≡ shape_of e.told
+    → (due || owes_nothing (facts_of n) t) ≡ true
+    → HasRoom (record e { links = n; told = t; timers = r; telling_due = due })
+changed_room e n t r due h many sets routes shape telling =
+    any_room e n t e.changeback e.holds r e.late_any e.release_due due h many sets routes shape h.codes h.holds h.waiting telling
+
+-- what is held changes, a release is due, and codes and timers may change with it
+pub held_room : (e : Inside) (n : Network) (k : Codes) (u : HoldTable) (r : Running) (late : Bool) → HasRoom e
+    → n ≡ e.links → HasCodes k → HasHoldsFor e.settings u
+    → HasRoom (record e { links = n; changeback = k; holds = u; timers = r; late_any = late; release_due = true })
+held_room e n k u r late h same codes holds =
+    any_room e n e.told k u r late true e.telling_due h (ap (λ (m : Network). length m.links) same) (ap (λ (m : Network). m.sets) same)
+    (ap (λ (m : Network). length m.routes) same) refl codes holds refl
+    (ap (λ (m : Network). e.telling_due || owes_nothing (facts_of m) e.told) same ∙ h.telling)
+
+-- a status changes no count of routes
+pub status_routes : (n m : Network) (destination set : ℕ) (status : RouteStatus) → m ≡ with_status destination set status n → length m.routes ≡ length n.routes
+status_routes n m destination set status e =
+    ap (λ (m : Network). length m.routes) e
+    ∙ length-set n.routes destination (map (told set status) (slice_index_or n.routes destination []))
+
+-- routes and what is held change, and a release and telling are due
+pub rerouted_room : (e : Inside) (n : Network) (u : HoldTable) (r : Running) → HasRoom e
+    → n.links ≡ e.links.links → n.sets ≡ e.links.sets → length n.routes ≡ length e.links.routes → HasHoldsFor e.settings u
+    → HasRoom (record e { links = n; holds = u; timers = r; release_due = true; telling_due = true })
+rerouted_room e n u r h links sets routes holds =
+    any_room e n e.told e.changeback u r e.late_any true true h (ap (λ (ls : List Link). length ls) links) sets routes refl h.codes holds refl refl
 
 -- one link changes
 pub link_room : (e : Inside) (n : Network) (link : ℕ) (state : Link) (due : Bool) → HasRoom e → n ≡ with_state e.links link state
@@ -46,7 +88,7 @@ pub link_room : (e : Inside) (n : Network) (link : ℕ) (state : Link) (due : Bo
     → HasRoom (record e { links = n; telling_due = due })
 link_room e n link state due h same telling =
     subst (λ (m : Network). HasRoom (record e { links = m; telling_due = due })) (sym same)
-    (changed_room e (with_state e.links link state) e.told e.timers due h (length-set e.links.links link state) refl refl telling)
+    (changed_room e (with_state e.links link state) e.told e.timers due h (length-set e.links.links link state) refl refl refl telling)
 
 -- whatever changes, what was owed nothing is owed nothing
 still : (e : Inside) (link : ℕ) (state : Link) (due : Bool) → is_in_service state.alignment ≡ is_in_service (link_in e.links.links link).alignment
@@ -123,7 +165,7 @@ view_telling e s h view due =
 pub told_room : (e : Inside) (s : State KeptQueues) (room : Bool) → HasRoom e → kept_in e ≡ s → room ≡ may_tell kept s.settings s.node → is_all_told kept s.settings s.node ≡ true
     → HasRoom (record e { telling_due = not room })
 told_room e s room h view same told =
-    changed_room e e.links e.told e.timers (not room) h refl refl refl
+    changed_room e e.links e.told e.timers (not room) h refl refl refl refl
     (ap (λ (b : Bool). not b || owes_nothing (facts_of e.links) e.told) same
     ∙ ap (λ (f : Facts). not (may_tell kept s.settings s.node) || owes_nothing f e.told) (sym (view_facts e s h view))
     ∙ ap (λ (t : ToldTable). not (may_tell kept s.settings s.node) || owes_nothing (facts s.settings s.node.parts) t) (sym (view_told e s view))
@@ -143,6 +185,6 @@ pub answered_room : (e : Inside) (s : State KeptQueues) (t : ToldTable) (set des
 answered_room e s t set destination status h view is same =
     let all : t ≡ with_told set destination (should (facts_of e.links) set destination) e.told =
     same ∙ ap (λ (x : RouteStatus). with_told set destination x e.told) (is ∙ ap (λ (f : Facts). should f set destination) (view_facts e s h view)) in
-    changed_room e e.links t e.timers e.telling_due h refl refl (ap shape_of same ∙ told_shape e.told set destination status)
+    changed_room e e.links t e.timers e.telling_due h refl refl refl (ap shape_of same ∙ told_shape e.told set destination status)
     (ap (λ (x : ToldTable). e.telling_due || owes_nothing (facts_of e.links) x) all
     ∙ answered-by (facts_of e.links) e.told set destination e.telling_due h.telling)

@@ -1,22 +1,20 @@
 -- A flow whose link changed by a return is held, and what was held stays held.
-use Rattle.std.proofs.Common.{◌≡◌, ◌≢◌, ◌<◌, ◌≤◌, ℕ, zero, suc, Bool, true, false, ◌||◌, not, List, [], ◌∷◌, length, nat_eq, refl, ap, sym, ◌∙◌, subst, arith, replicate}
+use Rattle.std.proofs.Common.{◌≡◌, ◌≢◌, ◌<◌, ◌≤◌, ℕ, zero, suc, Bool, true, false, ◌||◌, not, List, [], ◌∷◌, length, nat_eq, refl, ap, sym, ◌∙◌, subst, arith}
 use Rattle.std.specs.Prelude.{Option, Some, None, Contains, map, slice_index_or, slice_set, if◌then◌else◌}
 use Rattle.std.proofs.Math.Logic.{⊎_elim}
-use Rattle.std.proofs.lemmas.Bool.{cases_lt, cases_eq, eq-eqb}
+use Rattle.std.proofs.lemmas.Bool.{cases_eq, eq-eqb}
 use Rattle.std.proofs.lemmas.Bool.Decides.{nat_tests}
-use Rattle.std.proofs.lemmas.List.{get_or_past, get_or-set_same, get_or-set_other, length-set, length-replicate, length-map}
+use Rattle.std.proofs.lemmas.List.{get_or-set_same, get_or-set_other, length-set, length-replicate, length-map}
 use Rattle.std.proofs.lemmas.List.Quantifiers.{position-Some}
 use Rattle.signalling_types.specs.declared.cause.Cause.{Cause}
-use Rattle.signalling_types.specs.declared.limits.TheConstants.Limits.{LINKS, CHANGEBACK_CODES}
+use Rattle.signalling_types.specs.declared.limits.TheConstants.Limits.{LINKS}
 use Rattle.settings_rows.specs.Configuration.{Configuration}
 use Rattle.route_table.specs.declared.route.RouteStatus.TheVariants.{Allowed}
 use Rattle.route_table.specs.Facts.{first_routes, told}
 use Rattle.flow_hold.specs.declared.procedure.Procedure.{Procedure}
-use Rattle.flow_hold.specs.Holds.{HoldTable, is_held, place_of, flow_of, with_mark_at, with_row_hold, with_row_lifted}
-use Rattle.flow_hold.specs.Rows.{marks_at, place_of_flow}
+use Rattle.flow_hold.specs.Holds.{HoldTable, is_held}
 use Rattle.flow_hold.specs.Pairs.{HasPlaces, may_hold}
-use Rattle.flow_hold.proofs.Placing.{no_holds-places, with_hold-places, lifted-places}
-use Rattle.changeback.specs.Codes.{Codes, codes_of, free_code, with_code}
+use Rattle.changeback.specs.Codes.{Codes, codes_of, free_code}
 use Rattle.changeback.specs.Return.{FlowChange, returned, gives_up}
 use Rattle.changeback.proofs.Held.{change_held, stay_held}
 use Rattle.changeback.proofs.Moved.{each_found}
@@ -25,8 +23,9 @@ use Rattle.exchange.specs.Queues.{WholeQueues, whole}
 use Rattle.exchange.specs.Routing.{facts}
 use Rattle.exchange.specs.Points.{set_of}
 use Rattle.exchange.specs.ChangingBack.{if_room, procedure_by, usable, code_for, declare_by, holder, declare_each, holders}
-use Rattle.exchange.specs.Laws.{HasPlacesFor, changed_flows_are_held, returns_keep_holds, places_at_first, hold_keeps_places, lift_keeps_places, code_keeps_places, status_keeps_places, reset_keeps_places}
+use Rattle.exchange.specs.Laws.{changed_flows_are_held, returns_keep_holds, places_at_first, hold_keeps_places, lift_keeps_places, code_keeps_places, status_keeps_places, reset_keeps_places}
 use Rattle.exchange.proofs.Belonging.{IsListed, chosen_listed, chosen_there}
+use Rattle.exchange.proofs.Places.{length-codes, no_codes-fits, with_code-fits, no_holds-fits, with_hold-fits, lifted-fits}
 
 -- ---- the codes of a set are below their count
 
@@ -46,19 +45,6 @@ room-below limit (Some cause) code h = none-below limit
 either-below : (limit : ℕ) (b : Bool) (m n : Option ℕ) → IsBelow limit m → IsBelow limit n → IsBelow limit (if b then m else n)
 either-below limit true m n h k = h
 either-below limit false m n h k = k
-
-length-codes : (t : Codes) (set code other : ℕ) (b : Bool) → length (codes_of (with_code t set code b) other) ≡ length (codes_of t other)
-length-codes t set code other b =
-    let changed : List Bool = slice_set (codes_of t set) code b in
-    ⊎_elim
-    (λ (e : other ≡ set). subst (λ (s : ℕ). length (codes_of (with_code t set code b) s) ≡ length (codes_of t s)) (sym e)
-    (⊎_elim
-    (λ (h : set < length t). ap length (get_or-set_same t set changed [] h) ∙ length-set (codes_of t set) code b)
-    (λ (h : length t ≤ set).
-    ap length (get_or_past (slice_set t set changed) set [] (omega (arith, h, length-set t set changed))) ∙ sym (ap length (get_or_past t set [] h)))
-    (cases_lt set (length t))))
-    (λ (d : other ≢ set). ap length (get_or-set_other t set other changed [] d))
-    (cases_eq other set)
 
 -- ---- what holds a flow is there
 
@@ -164,16 +150,16 @@ taken_flows_held c link before node destination sls from fits few other was is =
     let codes : IsAlike whole c then_on node = declare_each-alike whole c link loses from node in
     let code : Option ℕ = code_for whole c link from then_on in
     let below : IsBelow 16 code = record {
-      below = λ n e. omega (arith, (code-below whole c link from then_on).below n e, codes.codes (set_of c link), fits.codes (set_of c link));
+      below = λ n e. omega (arith, (code-below whole c link from then_on).below n e, codes.codes (set_of c link), fits.codes.each (set_of c link));
     } in
     let holds_it : slice_index_or (holders whole c link loses (length c.links) node) from None ≡ Some (procedure_by c link code) =
     holder-at whole c link loses from (length c.links) node old.there fits.few_links
     ∙ ap (λ (b : Bool). if b then Some (procedure_by c link code) else None) (given_up changes change stands) in
     change_held (holders whole c link loses (length c.links) node) changes last.parts.holds change (procedure_by c link code) stands holds_it
-    (subst HasPlaces (sym same.holds) fits.holds)
+    (subst HasPlaces (sym same.holds) fits.holds.places)
     (ap (λ (t : HoldTable). may_hold t (procedure_by c link code) destination) same.holds
-    ∙ procedure-there whole c p.holds link destination code (omega (arith, new.there, fits.links)) (omega (arith, new.set, fits.sets)) below)
-    (subst (λ (t : HoldTable). destination < t.destinations) (sym same.holds) (omega (arith, here, fits.routes, fits.destinations)))
+    ∙ procedure-there whole c p.holds link destination code (omega (arith, new.there, fits.holds.links)) (omega (arith, new.set, fits.holds.sets)) below)
+    (subst (λ (t : HoldTable). destination < t.destinations) (sym same.holds) (omega (arith, here, fits.routes, fits.holds.destinations)))
     few
 
 -- ---- what was held
@@ -188,92 +174,52 @@ taken_holds_stay c link before node destination sls e =
 
 -- ---- at first
 
-codes-first : (sets set : ℕ) → length (codes_of (replicate sets (replicate CHANGEBACK_CODES false)) set) ≤ CHANGEBACK_CODES
-codes-first zero set = omega arith
-codes-first (suc sets) zero = omega (arith, length-replicate CHANGEBACK_CODES false)
-codes-first (suc sets) (suc set) = codes-first sets set
-
 pub places_first : places_at_first
 places_first c few = record {
   few_links = few;
-  holds = no_holds-places (length c.links) (length c.sets) (length c.destinations);
-  links = refl;
-  sets = refl;
-  destinations = refl;
   routes = length-map c.destinations first_routes;
-  codes = codes-first (length c.sets);
+  codes = no_codes-fits (length c.sets);
+  holds = no_holds-fits c;
 }
 
 -- ---- and after each change
 
--- a table that has the places, and as many links, sets and destinations as another
-record IsTableLike (t u : HoldTable) : Type 0 where
-  pub places : HasPlaces t
-  pub links : t.links ≡ u.links
-  pub sets : t.sets ≡ u.sets
-  pub destinations : t.destinations ≡ u.destinations
-
-mark-like : (t : HoldTable) (row : ℕ) (place : Option ℕ) → HasPlaces (with_mark_at t row place) → IsTableLike (with_mark_at t row place) t
-mark-like t row (Some place) h = record { places = h; links = refl; sets = refl; destinations = refl }
-mark-like t row None h = record { places = h; links = refl; sets = refl; destinations = refl }
-
-hold-like : (t : HoldTable) (row flow : Option ℕ) → HasPlaces (with_row_hold t row flow) → IsTableLike (with_row_hold t row flow) t
-hold-like t (Some row) (Some flow) h = mark-like t row (place_of_flow (marks_at t.rows row) flow) h
-hold-like t (Some row) None h = record { places = h; links = refl; sets = refl; destinations = refl }
-hold-like t None flow h = record { places = h; links = refl; sets = refl; destinations = refl }
-
-lift-like : (t : HoldTable) (row : Option ℕ) → HasPlaces (with_row_lifted t row) → IsTableLike (with_row_lifted t row) t
-lift-like t (Some row) h = record { places = h; links = refl; sets = refl; destinations = refl }
-lift-like t None h = record { places = h; links = refl; sets = refl; destinations = refl }
-
-with_table : (c : Configuration) (p : Parts) (t : HoldTable) → HasPlacesFor c p → IsTableLike t p.holds → HasPlacesFor c (record p { holds = t })
-with_table c p t h like = record {
+pub places_held : hold_keeps_places
+places_held c p procedure destination sls h = record {
   few_links = h.few_links;
-  holds = like.places;
-  links = like.links ∙ h.links;
-  sets = like.sets ∙ h.sets;
-  destinations = like.destinations ∙ h.destinations;
   routes = h.routes;
   codes = h.codes;
+  holds = with_hold-fits c p.holds procedure destination sls h.holds;
 }
 
-pub places_held : hold_keeps_places
-places_held c p procedure destination sls h =
-    with_table c p _ h
-    (hold-like p.holds (place_of p.holds procedure) (flow_of p.holds destination sls) (with_hold-places p.holds procedure destination sls h.holds))
-
 pub places_lifted : lift_keeps_places
-places_lifted c p procedure h = with_table c p _ h (lift-like p.holds (place_of p.holds procedure) (lifted-places p.holds procedure h.holds))
+places_lifted c p procedure h = record {
+  few_links = h.few_links;
+  routes = h.routes;
+  codes = h.codes;
+  holds = lifted-fits c p.holds procedure h.holds;
+}
 
 pub places_coded : code_keeps_places
 places_coded c p set code outstanding h = record {
   few_links = h.few_links;
-  holds = h.holds;
-  links = h.links;
-  sets = h.sets;
-  destinations = h.destinations;
   routes = h.routes;
-  codes = λ other. omega (arith, length-codes p.codes set code other outstanding, h.codes other);
+  codes = with_code-fits p.codes set code outstanding h.codes;
+  holds = h.holds;
 }
 
 pub places_with_status : status_keeps_places
 places_with_status c p set destination status h = record {
   few_links = h.few_links;
-  holds = h.holds;
-  links = h.links;
-  sets = h.sets;
-  destinations = h.destinations;
   routes = length-set p.routes destination (map (told set status) (slice_index_or p.routes destination [])) ∙ h.routes;
   codes = h.codes;
+  holds = h.holds;
 }
 
 pub places_reset : reset_keeps_places
 places_reset c p set h = record {
   few_links = h.few_links;
-  holds = h.holds;
-  links = h.links;
-  sets = h.sets;
-  destinations = h.destinations;
   routes = length-map p.routes (map (told set Allowed)) ∙ h.routes;
   codes = h.codes;
+  holds = h.holds;
 }

@@ -4,7 +4,7 @@ use Rattle.std.specs.Prelude.{◌≡◌, ◌≢◌, ◌<◌, ◌≤◌, ◌&&◌
 use Rattle.std.specs.Prelude.{Option, Some, None, Result, Ok, Err, if◌then◌else◌}
 use Rattle.signalling_types.specs.declared.cause.Cause.{Cause}
 use Rattle.signalling_types.specs.declared.cause.Cause.TheVariants.{NoRoute}
-use Rattle.signalling_types.specs.declared.limits.TheConstants.Limits.{LINKS, CHANGEBACK_CODES}
+use Rattle.signalling_types.specs.declared.limits.TheConstants.Limits.{LINKS}
 use Rattle.signalling_types.specs.declared.notice.Notice.TheVariants as notices
 use Rattle.signalling_types.specs.declared.notice.FrameFault.{FrameFault}
 use Rattle.signalling_types.specs.declared.outcome.Outcome.TheVariants.{Queued, Refused}
@@ -32,8 +32,7 @@ use Rattle.route_table.specs.Facts.{Facts}
 use Rattle.route_table.specs.Chosen.{chosen_link}
 use Rattle.flow_hold.specs.declared.procedure.Procedure.{Procedure}
 use Rattle.flow_hold.specs.Holds.{is_held, with_hold, lifted}
-use Rattle.flow_hold.specs.Pairs.{HasPlaces}
-use Rattle.changeback.specs.Codes.{codes_of, with_code}
+use Rattle.changeback.specs.Codes.{with_code}
 use Rattle.changeback.specs.Return.{selections}
 use Rattle.exchange.specs.Routing.{facts, link_of}
 use Rattle.exchange.specs.ChangingBack.{take_back}
@@ -43,6 +42,7 @@ use Rattle.exchange.specs.Rerouting.{forced, with_set_reset}
 use Rattle.exchange.specs.Telling.{is_all_told, answer_no_route, tell_owed}
 use Rattle.exchange.specs.Queues.{WholeQueues, queue_at, whole}
 use Rattle.exchange.specs.Exchange.{outcome_of, after, frame_to_take, taken}
+use Rattle.exchange.specs.Places.{HasPlacesFor}
 use Rattle.exchange.specs.Stands.{Abstract, IsSound, first_parts, first_state}
 
 -- the node after User Data was accepted on a link in service
@@ -163,16 +163,6 @@ moved_before_held =
     ++ (filter of_flow (moved (queue_at qs failed) number) ++ filter of_flow qs.held)
 
 -- ---- returns to service
-
--- there is a place for each link, set and destination of the settings
-pub record HasPlacesFor (c : Configuration) (p : Parts) : Type 0 where
-  pub few_links : length c.links ≤ LINKS
-  pub holds : HasPlaces p.holds
-  pub links : p.holds.links ≡ length c.links
-  pub sets : p.holds.sets ≡ length c.sets
-  pub destinations : p.holds.destinations ≡ length c.destinations
-  pub routes : length p.routes ≡ length c.destinations
-  pub codes : (set : ℕ) → length (codes_of p.codes set) ≤ CHANGEBACK_CODES
 
 -- when a link enters service, a flow whose link changed from one link to another is held
 abbrev pub entries_hold_changed_flows : Type 0

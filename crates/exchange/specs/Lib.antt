@@ -29,6 +29,7 @@ pub mod Exchange
 pub mod Queues
 pub mod Stands
 pub mod Runs
+pub mod Places
 pub mod Room
 pub mod Taking
 pub mod Head

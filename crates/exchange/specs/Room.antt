@@ -1,12 +1,13 @@
 -- How an exchange lies in its parts, and the room that they have.
-use Rattle.signalling_types.specs.declared.limits.TheConstants.Limits.{NOTICES}
-use Rattle.std.specs.Prelude.{◌≡◌, ◌+◌, ◌||◌, true, length, replicate, vec_len}
+use Rattle.signalling_types.specs.declared.limits.TheConstants.Limits.{LINKS, NOTICES}
+use Rattle.std.specs.Prelude.{◌≡◌, ◌≤◌, ◌+◌, ◌||◌, true, length, replicate, vec_len}
 use Rattle.cell_pool.specs.Lanes.{lane_at}
 use Rattle.node_links.specs.Network.{facts_of}
 use Rattle.route_management.specs.Told.{shape_of}
 use Rattle.route_management.specs.Owed.{owes_nothing}
 use Rattle.exchange.specs.Holding.{all_wait}
 use Rattle.exchange.specs.State.{State}
+use Rattle.exchange.specs.Places.{HasHoldsFor, HasCodes}
 use Rattle.exchange.specs.Routing.{sets_in}
 use Rattle.exchange.specs.Queues.{KeptQueues, held_lane}
 use Rattle.exchange.specs.declared.exchange.Exchange.TheInside.{Inside}
@@ -33,8 +34,8 @@ kept_in e = record {
 
 -- Held and each link have their list, each link its numbers, its state and its changeover, and links and sets are those
 -- of the settings; the pool and the notices have the room that they are to have; of each set it is known what its point
--- was told of each destination. Unless a release is due, each message of Held waits; unless telling is due, no adjacent
--- point is owed anything
+-- was told of each destination; links, routes, codes and holds have their places. Unless a release is due, each message
+-- of Held waits; unless telling is due, no adjacent point is owed anything
 pub record HasRoom (e : Inside) : Type 0 where
   pub lanes : length e.lanes.lists ≡ length e.links.links + 1
   pub sequences : vec_len e.sequences ≡ length e.links.links
@@ -44,5 +45,9 @@ pub record HasRoom (e : Inside) : Type 0 where
   pub pool : e.lanes.pool ≡ e.settings.pool
   pub notices : e.notices.capacity ≡ NOTICES
   pub told : shape_of e.told ≡ replicate (length e.settings.sets) (length e.settings.destinations)
+  pub few_links : length e.settings.links ≤ LINKS
+  pub routes : length e.links.routes ≡ length e.settings.destinations
+  pub codes : HasCodes e.changeback
+  pub holds : HasHoldsFor e.settings e.holds
   pub waiting : (e.release_due || all_wait e.settings e.holds (lane_at e.lanes.lists held_lane)) ≡ true
   pub telling : (e.telling_due || owes_nothing (facts_of e.links) e.told) ≡ true

@@ -1,8 +1,9 @@
-//! What an exchange shows: its settings, its flags and notices, its links and its routes.
+//! What an exchange shows: its settings, its flags and notices, its links and its routes; and the places that it has.
 
 ghost use Rattle.std.specs.Prelude.{◌≡◌};
 ghost use Rattle.exchange.specs.Stands.{Abstract, StandsFor};
 ghost use Rattle.exchange.specs.Queues.{kept, whole};
+ghost use Rattle.exchange.specs.Places.{HasPlacesFor};
 ghost use Rattle.exchange.specs.Views.{link_view, route_view};
 
 use super::Exchange;
@@ -69,5 +70,14 @@ impl Exchange {
     {
         let row = self.settings.destinations().get(destination)?;
         Some(RouteView::of(row.point(), self.links.route_of(destination)))
+    }
+
+    /// Every exchange has a place for each link, set and destination of its settings, whatever happened to it.
+    pub fn has_its_places(&self)
+        ensures places { (a : Abstract) → StandsFor self.now a → HasPlacesFor a.settings a.node.parts }
+        ensures kept_places { HasPlacesFor self.now.settings self.now.node.parts }
+    {
+        // what is known of every exchange is known where a field of it is read
+        let _ = &self.holds;
     }
 }

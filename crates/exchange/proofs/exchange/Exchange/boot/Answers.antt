@@ -1,6 +1,6 @@
 -- The parts are those of the first state.
-use Rattle.std.proofs.Common.{◌≡◌, ◌+◌, ℕ, suc, List, [], length, replicate, refl, ap, sym, ◌∙◌, arith}
-use Rattle.std.proofs.lemmas.List.{length-replicate}
+use Rattle.std.proofs.Common.{◌≡◌, ◌+◌, ℕ, suc, List, [], length, replicate, refl, ap, sym, subst, ◌∙◌, arith}
+use Rattle.std.proofs.lemmas.List.{length-replicate, length-map}
 use Rattle.signalling_types.specs.Message.{Message}
 use Rattle.link_sequence.specs.Counts.{kept_first}
 use Rattle.changeover.specs.Standing.{no_changeover}
@@ -12,6 +12,9 @@ use Rattle.exchange.specs.Holding.{all_wait}
 use Rattle.flow_hold.specs.Holds.{no_holds}
 use Rattle.timer_wheel.specs.Timers.{none_running}
 use Rattle.cell_pool.specs.Stored.{Stored}
+use Rattle.route_table.specs.Facts.{first_routes}
+use Rattle.exchange.specs.Places.{HasHoldsFor, HasCodes}
+use Rattle.exchange.proofs.Places.{no_codes-fits, no_holds-fits}
 use Rattle.exchange.proofs.Standing.{first-kept, stands-first}
 use Rattle.exchange.proofs.exchange.Exchange.boot.Goals as goal
 
@@ -43,6 +46,10 @@ invariant_of-result c =
       pool = ap (λ (x : Stored). x.pool) c.in_ok-lanes.ensures ∙ c.pool.ensures.value;
       notices = ap (λ x. x.capacity) c.in_ok-notices.ensures;
       told = c.in_ok-told.ensures.shape;
+      few_links = c.link_count-count.ensures.fits;
+      routes = ap (λ (n : Network). length n.routes) c.in_ok-links.ensures ∙ length-map c.args.settings.destinations first_routes;
+      codes = subst HasCodes (sym c.in_ok-changeback.ensures) (no_codes-fits (length c.args.settings.sets));
+      holds = subst (HasHoldsFor c.args.settings) (sym c.in_ok-holds.ensures) (no_holds-fits c.args.settings);
       waiting = ap (λ (ls : List (List Message)). all_wait c.args.settings c.in_ok-holds.holds (lane_at ls held_lane)) lists;
       telling = refl;
     }

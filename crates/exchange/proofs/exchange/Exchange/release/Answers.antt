@@ -20,6 +20,10 @@ invariant_of-self c =
       pool = c.self.invariant.pool;
       notices = c.self.invariant.notices;
       told = c.self.invariant.told;
+      few_links = c.self.invariant.few_links;
+      routes = c.self.invariant.routes;
+      codes = c.self.invariant.codes;
+      holds = c.self.invariant.holds;
       telling = c.self.invariant.telling;
       waiting = subst (λ (x : State KeptQueues). all_wait x.settings x.node.parts.holds (kept.held x.node.queues) ≡ true) (sym c.self.view_is) wait;
     }
