@@ -142,7 +142,8 @@ impl Exchange {
     /// Hands an event to its handler.
     #[inline(always)]
     fn handle_event(&mut self, event: &Event<'_>) -> Outcome
-        ensures { Ends self.old result self.new (rule.handle_event kept self.old.settings (happened event.now) self.old.node) }
+        ensures { Ends self.old result self.new
+            (rule.handle_event kept self.old.settings (happened event.now) self.old.node) }
     {
         match event {
             Event::AssociationUp(link) => self.associate(*link),
