@@ -20,6 +20,14 @@ use link_number::Number24;
 use m2pa_codec::{Frame, LinkStatus, decode};
 use stp_types::{Cause, FailureReason, FrameFault, LinkId, MsuRef, Notice, Outcome};
 
+/// User Data: its numbers, and the message that it carries, if it carries one.
+#[derive(Clone, Copy)]
+struct UserData<'a> {
+    fsn: Number24,
+    bsn: Number24,
+    message: Option<MsuRef<'a>>,
+}
+
 impl Exchange {
     /// A frame that came by a link; one for a link that is down is ignored.
     pub(super) fn receive(&mut self, link: LinkId, octets: &[u8]) -> Outcome
@@ -57,9 +65,13 @@ impl Exchange {
             (rule.receive_frame kept self.old.settings link (value_of frame.entry) self.old.node) }
     {
         match frame {
-            Frame::Empty { bsn, fsn } => self.take_in(link, fsn, bsn, None),
+            Frame::Empty { bsn, fsn } => {
+                let message = None;
+                self.take_in(link, &UserData { fsn, bsn, message })
+            }
             Frame::Message { bsn, fsn, sio, sif } => {
-                self.take_in(link, fsn, bsn, Some(MsuRef { sio, sif }))
+                let message = Some(MsuRef { sio, sif });
+                self.take_in(link, &UserData { fsn, bsn, message })
             }
             Frame::Status { status, .. } => self.hear(link, status),
         }
@@ -67,35 +79,23 @@ impl Exchange {
 
     /// User Data, by the state of its link. On a link in service the alignment would change nothing, and isn't asked.
     #[inline(always)]
-    fn take_in(
-        &mut self,
-        link: LinkId,
-        fsn: Number24,
-        bsn: Number24,
-        message: Option<MsuRef<'_>>,
-    ) -> Outcome
+    fn take_in(&mut self, link: LinkId, data: &UserData<'_>) -> Outcome
         requires { link < length self.old.settings.links }
         ensures { Ends self.old result self.new
-            (rule.take_in kept self.old.settings link (carrying fsn bsn message.entry) self.old.node) }
+            (rule.take_in kept self.old.settings link (carrying data.now) self.old.node) }
     {
         if self.serves(link) {
-            return self.handle(link, fsn, bsn, message);
+            return self.handle(link, data);
         }
-        self.enter_by(link, fsn, bsn, message)
+        self.enter_by(link, data)
     }
 
     /// User Data on a link that isn't in service: one that expects it enters service, and takes the message.
     #[inline(never)]
-    fn enter_by(
-        &mut self,
-        link: LinkId,
-        fsn: Number24,
-        bsn: Number24,
-        message: Option<MsuRef<'_>>,
-    ) -> Outcome
+    fn enter_by(&mut self, link: LinkId, data: &UserData<'_>) -> Outcome
         requires { link < length self.old.settings.links }
         ensures { Ends self.old result self.new
-            (rule.take_in kept self.old.settings link (carrying fsn bsn message.entry) self.old.node) }
+            (rule.take_in kept self.old.settings link (carrying data.now) self.old.node) }
     {
         match self.act(link, Input::UserData) {
             Action::Ignored => Outcome::Ignored,
@@ -103,32 +103,26 @@ impl Exchange {
                 self.fail(link, FailureReason::Sequence);
                 Outcome::Handled
             }
-            Action::Go(_) => self.handle(link, fsn, bsn, message),
+            Action::Go(_) => self.handle(link, data),
         }
     }
 
     /// User Data on a link in service: right numbers count, and a message is delivered; a wrong number fails the link.
     #[inline(always)]
-    fn handle(
-        &mut self,
-        link: LinkId,
-        fsn: Number24,
-        bsn: Number24,
-        message: Option<MsuRef<'_>>,
-    ) -> Outcome
+    fn handle(&mut self, link: LinkId, data: &UserData<'_>) -> Outcome
         requires { link < length self.old.settings.links }
         ensures { Ends self.old result self.new
-            (rule.handle kept self.old.settings link (carrying fsn bsn message.entry) self.old.node) }
+            (rule.handle kept self.old.settings link (carrying data.now) self.old.node) }
     {
-        let carries = message.is_some();
-        match self.accept_numbers(link, fsn, bsn, carries) {
+        let carries = data.message.is_some();
+        match self.accept_numbers(link, data.fsn, data.bsn, carries) {
             Err(_) => {
                 self.fail(link, FailureReason::Sequence);
                 Outcome::Handled
             }
             Ok(confirmed) => {
                 self.time_confirming(link, confirmed);
-                self.carry(link, message)
+                self.carry(link, data.message)
             }
         }
     }

@@ -7,6 +7,6 @@ use Rattle.exchange.proofs.exchange.Exchange.take_in.Goals as goal
 
 pub returns-then-serves : goal.returns-then-serves
 returns-then-serves c =
-    rw (taken_in_service kept c.args.self.now.settings c.args.link (carrying c.args.fsn c.args.bsn c.args.message) c.args.self.now.node
+    rw (taken_in_service kept c.args.self.now.settings c.args.link (carrying c.args.data.now) c.args.self.now.node
     (sym c.serves.ensures ∙ c.if-serves.true))
     c.handle.ensures
