@@ -22,7 +22,7 @@ use Rattle.exchange.specs.Points.{set_of}
 use Rattle.exchange.specs.Made.{send_routed}
 use Rattle.exchange.specs.Suspending.{suspended}
 use Rattle.exchange.specs.Failing.{fall, quietened, order_about, changeover_of, with_changeover, has_other, changing, drop_out, begin, change_over, fail, follow, fail_by_peer}
-use Rattle.exchange.specs.ChangingOver.{concluded, answer_about, with_expiry, heard, send_each, conclude, complete_if, heed, complete_by_order, tell, order, acknowledge, expire}
+use Rattle.exchange.specs.ChangingOver.{concluded, answer_message, with_expiry, heard, send_each, conclude, complete_if, heed, complete_by_order, answer_about, order, acknowledge, expire}
 use Rattle.exchange.specs.ChangingBack.{declaration, code_in_use, freed, if_room, procedure_by, usable, code_for, declare_by, holder, declare, declare_each, holders, take_over, end_hold}
 use Rattle.exchange.specs.Statuses.{enters, moved_on, return_if, advance}
 use Rattle.exchange.proofs.Combining.{IsKeeping, KeepsNode, Keeps, changed, answered, parted, either, either_node, behind_node}
@@ -108,7 +108,7 @@ module _ {P Q : Type 0} (p : QueueKind P) (q : QueueKind Q) (h : P → Q) (IsFit
       let e : KeepsNode h IsFit (heed q c l (keep h n)) one = heed-kept l n f in
       let g : KeepsNode h IsFit (complete_by_order q c l number (heed q c l (keep h n))) two =
       behind_node (λ (z : Node Q). complete_by_order q c l number z) two _ one e.same (complete_by_order-kept l number one e.fit) in
-      answered _ _ _ (behind_node (λ (z : Node Q). tell q c l z) (tell p c l two) _ two g.same (about-kept (answer_about c l) l two g.fit))
+      answered _ _ _ (behind_node (λ (z : Node Q). answer_about q c l z) (answer_about p c l two) _ two g.same (about-kept (answer_message c l) l two g.fit))
 
   pub acknowledge-kept : (l : ℕ) (number : Option ℕ) (n : Node P) → IsFit n.queues → Keeps h IsFit (acknowledge q c l number (keep h n)) (acknowledge p c l number n)
   acknowledge-kept l number n f =

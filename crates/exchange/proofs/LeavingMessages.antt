@@ -46,7 +46,7 @@ use Rattle.exchange.specs.Messages.{deliver_to, submit_to}
 use Rattle.exchange.specs.Opening.{may_open, open_link, associate, bring_down, part, dissociate, allow, activate, deactivate}
 use Rattle.exchange.specs.Queues.{WholeQueues, whole}
 use Rattle.exchange.specs.Holding.{waits}
-use Rattle.exchange.specs.ChangingOver.{acknowledge, complete_if, heard, heed, complete_by_order, tell}
+use Rattle.exchange.specs.ChangingOver.{acknowledge, complete_if, heard, heed, complete_by_order, answer_about}
 use Rattle.exchange.specs.Failing.{changeover_of}
 use Rattle.changeover.specs.Standing.{may_restart}
 use Rattle.exchange.proofs.Leaves.{Leaves, queued_on, is_other, refuses_other, goes_other, room_so, fault_so, Stays, left_by, stayed, waited, handled, ignored, either}
@@ -96,7 +96,7 @@ module _ (c : Configuration) (n : Node WholeQueues) (by : Cause → Node WholeQu
   do_test-leaves (Ok v) link z = do_kind-leaves v.kind link z v
 
   do_order-leaves : (link : Option ℕ) (number : Option ℕ) → Leaves (do_order whole c link number n) by
-  do_order-leaves (Some link) number = handled (tell whole c link (complete_by_order whole c link number (heed whole c link n))) by
+  do_order-leaves (Some link) number = handled (answer_about whole c link (complete_by_order whole c link number (heed whole c link n))) by
   do_order-leaves None number = refused causes.BadManagement refl
 
   acknowledge-leaves : (link : ℕ) (number : Option ℕ) → Leaves (acknowledge whole c link number n) by

@@ -49,8 +49,8 @@ abbrev pub concluded : ℕ → Found → Parts → Parts
 concluded link found p = lifted_parts link (with_losses found p)
 
 -- the answer about a link, with the number of the last message that was accepted on it
-abbrev pub answer_about : Configuration → ℕ → ℕ → Message
-answer_about c link number =
+abbrev pub answer_message : Configuration → ℕ → ℕ → Message
+answer_message c link number =
     management_to c (peer_of c link) (ExtendedChangeoverAcknowledgement (entry_of c link).slc number)
 
 -- where T2 ran out, something may be lost
@@ -100,12 +100,12 @@ module _ {Q : Type 0} (q : QueueKind Q) (c : Configuration) where
       (with_parts node (with_changeover link (completed (changeover_of node.parts link)) node.parts))
 
   -- the peer is told what was accepted on the link
-  abbrev pub tell : ℕ → Node Q → Node Q
-  tell link node = send_routed q c (answer_about c link (q.last_accepted node.queues link)) node
+  abbrev pub answer_about : ℕ → Node Q → Node Q
+  answer_about link node = send_routed q c (answer_message c link (q.last_accepted node.queues link)) node
 
   -- the peer orders a changeover
   abbrev pub order : ℕ → Option ℕ → Node Q → Done Q
-  order link number node = answer Handled (tell link (complete_by_order link number (heed link node)))
+  order link number node = answer Handled (answer_about link (complete_by_order link number (heed link node)))
 
   -- the peer answers an order
   abbrev pub acknowledge : ℕ → Option ℕ → Node Q → Done Q

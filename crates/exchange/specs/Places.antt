@@ -14,7 +14,7 @@ pub record HasHoldsFor (c : Configuration) (t : HoldTable) : Type 0 where
   pub sets : t.sets ≡ length c.sets
   pub destinations : t.destinations ≡ length c.destinations
 
--- no set has more codes than there are
+-- no set has more codes than a changeback may have
 pub record HasCodes (t : Codes) : Type 0 where
   pub each : (set : ℕ) → length (codes_of t set) ≤ CHANGEBACK_CODES
 

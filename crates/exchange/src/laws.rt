@@ -51,8 +51,8 @@ pub fn moved_messages_go_before_held_ones()
 {}
 
 /// When a link enters service, each flow whose link changed from one link to another is held; and what was held stays
-/// held. So it is of every node that has a place for each link, set and destination of its settings, as every exchange
-/// has (`Exchange::has_its_places`).
+/// held. This holds for every node that has a place for each link, set and destination of its settings, and every
+/// exchange has (`Exchange::has_its_places`).
 pub fn flows_that_change_their_link_are_held()
     ensures entered { entries_hold_changed_flows }
     ensures changed { changed_flows_are_held }

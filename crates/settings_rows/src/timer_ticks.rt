@@ -1,7 +1,7 @@
 //! The ticks of the timers.
 
 /// How many ticks each timer runs.
-#[derive(Clone, Copy)]
+#[derive(Clone, Copy, PartialEq, Eq)]
 pub struct TimerTicks {
     /// Waiting for the adjacent point's Ready.
     pub l1: u16,

@@ -5,7 +5,6 @@ use Rattle.std.specs.List.{list_any}
 use Rattle.settings.specs.Reading.{IsReadAs}
 use Rattle.settings_rows.specs.Configuration.{Configuration}
 use Rattle.stp_node.specs.BuiltIn.{built_in_settings}
-use Rattle.stp_types.specs.Well.{all_ticks}
 
 -- whether a user part of this service indicator stands on the node
 abbrev pub is_user : Configuration → (service_indicator : ℕ) → Bool
@@ -28,7 +27,7 @@ pub record AreAlike (c d : Configuration) : Type 0 where
   pub numbers : HaveSameNumbers c d
   pub users : HaveSameUsers c d
   pub subsystems : c.subsystems ≡ d.subsystems
-  pub timers : all_ticks c.timers ≡ all_ticks d.timers
+  pub timers : c.timers ≡ d.timers
   pub sets : c.sets ≡ d.sets
   pub links : c.links ≡ d.links
   pub destinations : c.destinations ≡ d.destinations

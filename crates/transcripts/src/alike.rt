@@ -1,10 +1,9 @@
 //! Whether two settings are alike.
 ghost use Rattle.std.specs.Prelude.{◌≡◌, ◌<◌, ℕ};
 ghost use Rattle.std.specs.Bool.{Decides};
-ghost use Rattle.stp_types.specs.Well.{all_ticks};
 ghost use Rattle.transcripts.specs.Alike.{AreAlike, HaveSameNumbers, HaveSameUsers};
 
-use stp_types::{DestinationRow, LinkRow, SetId, SetRow, Settings, TimerTicks};
+use stp_types::{DestinationRow, LinkRow, SetId, SetRow, Settings};
 
 /// Whether all that two settings say is the same; of translation rows, whether there are as many.
 pub fn are_alike(a: &Settings, b: &Settings) -> bool
@@ -13,7 +12,7 @@ pub fn are_alike(a: &Settings, b: &Settings) -> bool
     have_same_numbers(a, b)
         && have_same_users(a, b)
         && a.subsystems() == b.subsystems()
-        && ticks(a.timers()) == ticks(b.timers())
+        && a.timers() == b.timers()
         && are_same_sets(a.sets(), b.sets())
         && are_same_links(a.links(), b.links())
         && are_same_destinations(a.destinations(), b.destinations())
@@ -40,28 +39,6 @@ fn have_same_users(a: &Settings, b: &Settings) -> bool
         }
     }
     true
-}
-
-/// The ticks of all timers.
-fn ticks(timers: TimerTicks) -> [u16; 13]
-    ensures { result ≡ all_ticks timers }
-{
-    let TimerTicks {
-        l1,
-        l2,
-        l3,
-        l4,
-        l6,
-        l7,
-        t1,
-        t2,
-        t3,
-        t4,
-        t6,
-        t8,
-        t10,
-    } = timers;
-    [l1, l2, l3, l4, l6, l7, t1, t2, t3, t4, t6, t8, t10]
 }
 
 /// Whether these are the same link sets.

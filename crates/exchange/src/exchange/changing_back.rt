@@ -61,8 +61,8 @@ impl Exchange {
         hold_changes(&mut self.links, link, holders, &mut self.holds);
     }
 
-    /// For each other link that loses flows to a link, in order: begins the hold of those flows, as `declare` does, and
-    /// says by which procedure they are to be held.
+    /// For each other link that loses flows to a link, in order: begins the hold of those flows, as `declare_by` does,
+    /// and says by which procedure they are to be held.
     fn declare_each(
         &mut self,
         link: LinkId,
@@ -76,14 +76,14 @@ impl Exchange {
     {
         let mut holders = no_holders();
         for other in 0..self.settings.link_count() {
-            holders[other] = self.declare_if(link, loses, other);
+            holders[other] = self.declare(link, loses, other);
         }
         holders
     }
 
     /// Begins the hold of the flows that a link takes over from another, if it takes any, and says by which procedure
     /// they are to be held.
-    fn declare_if(
+    fn declare(
         &mut self,
         link: LinkId,
         loses: &[bool; Limits::LINKS],
@@ -100,13 +100,13 @@ impl Exchange {
         if !loses[other] {
             return None;
         }
-        Some(self.declare(link, LinkId::new(other as u8)))
+        Some(self.declare_by(link, LinkId::new(other as u8)))
     }
 
     /// Begins the hold of the flows that a link takes over from another, and says by which procedure they are to be
     /// held: by a code, with which a declaration goes out on the other link and T4 starts; or else by time, and T3
     /// starts anew.
-    fn declare(&mut self, link: LinkId, other: LinkId) -> Procedure
+    fn declare_by(&mut self, link: LinkId, other: LinkId) -> Procedure
         requires link { link < length self.old.settings.links }
         requires other { other < length self.old.settings.links }
         ensures procedure { result ≡ rule.procedure_by self.old.settings link

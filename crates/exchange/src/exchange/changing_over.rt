@@ -41,7 +41,7 @@ impl Exchange {
     /// Tells the peer the number of the last message that was accepted on a link.
     fn answer_about(&mut self, link: LinkId)
         requires { link < length self.old.settings.links }
-        ensures { self.new ≡ with_node self.old (rule.tell kept self.old.settings link self.old.node) }
+        ensures { self.new ≡ with_node self.old (rule.answer_about kept self.old.settings link self.old.node) }
     {
         let number = self.sequences[link.index()].last_accepted();
         let answer = Management::ExtendedChangeoverAcknowledgement(self.code_of(link), number);
@@ -91,7 +91,7 @@ impl Exchange {
         self.lose_doubtful(link, &number);
         self.lift(link);
         self.splice(link, number);
-        self.send_each(link);
+        self.send_all(link);
     }
 
     /// Without a reasonable number, the user messages of a link that were sent are lost.
@@ -165,7 +165,7 @@ impl Exchange {
     }
 
     /// The management messages in the list of a link go out anew, each on the link of its flow.
-    fn send_each(&mut self, link: LinkId)
+    fn send_all(&mut self, link: LinkId)
         requires { link < length self.old.settings.links }
         ensures { self.new ≡ with_node self.old (draining.drained (draining.anew self.old.settings)
             (length (link_lane self.old.node.queues link)) (queues.lane_of link) self.old.node) }

@@ -72,13 +72,13 @@ impl Exchange {
             (owed_to (facts self.old.settings self.old.node.parts) self.old.node.parts.told set) self.old.node) }
     {
         for destination in 0..self.settings.destinations().len() {
-            self.tell_about(set, destination);
+            self.tell_at(set, destination);
         }
     }
 
     /// Tells the adjacent point of a set what it is owed of a destination, where there is room for it. Telling stays
     /// due.
-    fn tell_about(&mut self, set: SetId, destination: usize)
+    fn tell_at(&mut self, set: SetId, destination: usize)
         requires set { set < length self.old.settings.sets }
         requires destination { destination < length self.old.settings.destinations }
         ensures { self.new ≡ with_node self.old (rule.tell_at kept self.old.settings set destination
@@ -90,12 +90,12 @@ impl Exchange {
             return;
         }
         if let Some(status) = self.told.owed(&self.links, set, destination) {
-            self.tell_status(set, destination, status);
+            self.tell(set, destination, status);
         }
     }
 
     /// Tells the adjacent point of a set a status that it is owed of a destination. Telling stays due.
-    fn tell_status(&mut self, set: SetId, destination: usize, status: RouteStatus)
+    fn tell(&mut self, set: SetId, destination: usize, status: RouteStatus)
         requires set { set < length self.old.settings.sets }
         requires destination { destination < length self.old.settings.destinations }
         ensures { self.new ≡ with_node self.old (rule.tell kept self.old.settings
@@ -181,13 +181,13 @@ impl Exchange {
             self.old.node) }
     {
         match self.route_about(point, about) {
-            Ok((set, destination)) => self.be_tested_by(test, set, destination),
+            Ok((set, destination)) => self.test_by(test, set, destination),
             Err(outcome) => outcome,
         }
     }
 
     /// A test of the adjacent point of this set about this destination.
-    fn be_tested_by(&mut self, test: RouteTest, set: SetId, destination: usize) -> Outcome
+    fn test_by(&mut self, test: RouteTest, set: SetId, destination: usize) -> Outcome
         requires set { set < length self.old.settings.sets }
         requires destination { destination < length self.old.settings.destinations }
         ensures { Ends self.old result self.new
@@ -196,12 +196,12 @@ impl Exchange {
         if self.told.is_adjacent(set, destination) {
             return Outcome::Ignored;
         }
-        self.answer_route_test(test, set, destination);
+        self.answer_with(test, set, destination);
         Outcome::Handled
     }
 
     /// Answers a test, where it is to be answered. What it is answered with counts as told.
-    fn answer_route_test(&mut self, test: RouteTest, set: SetId, destination: usize)
+    fn answer_with(&mut self, test: RouteTest, set: SetId, destination: usize)
         requires set { set < length self.old.settings.sets }
         requires destination { destination < length self.old.settings.destinations }
         ensures { self.new ≡ with_node self.old (rule.answer_with kept self.old.settings

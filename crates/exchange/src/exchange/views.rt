@@ -77,7 +77,7 @@ impl Exchange {
         ensures places { (a : Abstract) → StandsFor self.now a → HasPlacesFor a.settings a.node.parts }
         ensures kept_places { HasPlacesFor self.now.settings self.now.node.parts }
     {
-        // what is known of every exchange is known where a field of it is read
+        // reading a field gives the prover the invariant
         let _ = &self.holds;
     }
 }

@@ -18,7 +18,7 @@ returns c =
     let done : c.splice.new.self ≡ splices (lifts (with_node s0 (with_parts s0.node (with_losses found s0.node.parts)))) = c.splice.ensures.state ∙ ap splices lifted in
     let queues : c.lift.new.self.node.queues ≡ s0.node.queues = ap (λ (s : State KeptQueues). s.node.queues) lifted in
     let spliced : spliced_queues s0.node.queues c.args.link c.args.number ≡ c.splice.new.self.node.queues = sym (ap (λ (s : State KeptQueues). s.node.queues) done) in
-    c.send_each.ensures
+    c.send_all.ensures
     ∙ concluding s0 c.splice.new.self found c.args.link c.args.number (spliced_queues s0.node.queues c.args.link c.args.number) done
     (ap (λ (q : KeptQueues). link_lane q c.args.link) spliced ∙ c.splice.ensures.anew
     ∙ ap (λ (q : KeptQueues). (kept.found q c.args.link c.args.number).queued_anew) queues)

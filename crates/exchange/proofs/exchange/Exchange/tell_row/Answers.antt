@@ -11,7 +11,7 @@ loop-destination-preserved c =
     let rows : length c.destinations-destination-end.result.now ≡ length c.args.self.now.settings.destinations =
     ap length c.destinations-destination-end.ensures.rows ∙ ap (λ (s : State KeptQueues). length s.settings.destinations) c.self.view_is in
     let left : c.loop-destination.destination < length c.args.self.now.settings.destinations = omega (arith, c.loop-destination-test.true, rows) in
-    row_step c.loop-destination.self c.tell_about.new.self c.args.set c.loop-destination.destination (length c.args.self.now.settings.destinations) left c.tell_about.ensures
+    row_step c.loop-destination.self c.tell_at.new.self c.args.set c.loop-destination.destination (length c.args.self.now.settings.destinations) left c.tell_at.ensures
     ∙ c.loop-destination.invariant
 
 pub returns : goal.returns

@@ -3,7 +3,7 @@ use Rattle.std.proofs.Common.{◌-◌, length}
 use Rattle.exchange.specs.Queues.{link_lane, lane_of}
 use Rattle.exchange.specs.Draining.{anew}
 use Rattle.exchange.proofs.Draining.{Rest}
-use Rattle.exchange.proofs.exchange.Exchange.send_each.Given as goal
+use Rattle.exchange.proofs.exchange.Exchange.send_all.Given as goal
 
 abbrev pub invariant-loop : goal.invariant-loop
 invariant-loop l = Rest anew l.fn.self l.self (l.end - l.counter) (lane_of l.link) (length (link_lane l.fn.self.node.queues l.link))

@@ -3,7 +3,7 @@ use Rattle.std.proofs.Common.{arith, ◌-◌}
 use Rattle.exchange.specs.Queues.{lane_of}
 use Rattle.exchange.specs.Draining.{anew}
 use Rattle.exchange.proofs.Draining.{loop_begins, loop_step, loop_done}
-use Rattle.exchange.proofs.exchange.Exchange.send_each.Goals as goal
+use Rattle.exchange.proofs.exchange.Exchange.send_all.Goals as goal
 
 pub loop-init : goal.loop-init
 loop-init c = loop_begins anew c.args.self.now (c.count_on-end.result - 0) (lane_of c.args.link) (omega (arith, c.count_on-end.ensures))
