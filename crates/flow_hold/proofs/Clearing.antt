@@ -3,7 +3,7 @@ use Rattle.std.proofs.Common.{◌≡◌, ℕ, ◌+◌, ◌<◌, ◌≤◌, Bool,
 use Rattle.std.proofs.Math.ListN.{set}
 use Rattle.std.proofs.lemmas.List.{set-set, set_at, set-get_or, get_or-set_same, length-replicate, length-append, length-drop, replicate_more, drop_more, drop_all, append_assoc, append-nil}
 use Rattle.flow_hold.specs.Rows.{Marks, marks_at}
-use Rattle.flow_hold.specs.Holds.{HoldTable, with_mark, cleared}
+use Rattle.flow_hold.specs.Table.{HoldTable, with_mark, cleared}
 
 -- the marks when the first n are gone
 abbrev pub marks_gone : List Bool → ℕ → List Bool

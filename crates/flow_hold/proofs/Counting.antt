@@ -7,7 +7,7 @@ use Rattle.std.proofs.lemmas.Bool.Decides.{nat_tests}
 use Rattle.std.proofs.lemmas.List.{length-replicate}
 use Rattle.std.proofs.lemmas.List.Sums.{sum_by-cons, sum_by_push}
 use Rattle.flow_hold.specs.Rows.{Marks, has_mark}
-use Rattle.flow_hold.specs.Holds.{first_row, marked_as_held}
+use Rattle.flow_hold.specs.Table.{first_row, marked_as_held}
 
 -- what one row adds to the count of a flow
 abbrev pub mark_of : ℕ → Marks → ℕ

@@ -1,166 +1,115 @@
--- A hold puts one mark, which is that of its pair.
-use Rattle.std.proofs.Common.{◌≡◌, ℕ, zero, suc, ◌+◌, ◌-◌, ◌*◌, ◌<◌, ◌≤◌, Bool, true, false, ◌&&◌, ◌||◌, List, [], ◌∷◌, length, get_or, refl, ap, sym, ◌∙◌, arith, nat_lt, nat_le, Option, Some, None}
+-- A hold adds its pair, where the procedure may hold the flow.
+use Rattle.std.proofs.Common.{◌≡◌, ℕ, ◌<◌, Bool, true, false, ◌&&◌, ◌||◌, refl, ap, sym, ◌∙◌, nat_lt}
 use Rattle.std.specs.Prelude.{if◌then◌else◌}
-use Rattle.std.specs.List.{list_any}
-use Rattle.std.proofs.Math.ListN.{set}
-use Rattle.std.proofs.lemmas.Grind.{common_steps}
-use Rattle.std.proofs.lemmas.Bool.{and_from, and_parts}
-use Rattle.std.proofs.lemmas.Bool.Decides.{nat_tests}
-use Rattle.std.proofs.lemmas.List.{get_or-set_same, get_or-set_other}
+use Rattle.std.specs.Ordering.{eq_by_cmp}
+use Rattle.std.specs.FinSet.{contains, insert, contains-insert}
+use Rattle.std.proofs.lemmas.Bool.{and_parts, ltb-true}
 use Rattle.flow_hold.specs.declared.procedure.Procedure.{Procedure}
-use Rattle.flow_hold.specs.Rows.{Marks, marks_at, place_of_flow, has_mark}
-use Rattle.flow_hold.specs.Holds.{HoldTable, place_of, flow_of, row_has, holds, any_has, with_mark_at, with_row_hold, with_hold}
-use Rattle.flow_hold.specs.Pairs.{hold_adds_its_pair, hold_holds_its_flow, hold_keeps_flows_held, hold_leaves_others}
-use Rattle.flow_hold.proofs.Pairing.{same-places, named, some-mark}
-use Rattle.flow_hold.proofs.Placing.{HasFlow, has_flow}
+use Rattle.flow_hold.specs.Holds.{Hold, HoldSet, by_numbers, selections, holds, is_held, may_hold_to, may_hold, with_hold}
+use Rattle.flow_hold.specs.Pairs.{IsOfNode, pair, hold_is_of_node, hold_adds_its_pair, hold_leaves_others, may_not_leaves, hold_holds_its_flow, hold_keeps_flows_held}
+use Rattle.flow_hold.proofs.Numbers.{in_order, tied, tied-same, untied}
+use Rattle.flow_hold.proofs.Pairing.{held_by, may-alike}
 
--- ---- procedures and flows keep their numbers
+-- ---- what it takes to hold a flow
 
-only-rows-at : (t : HoldTable) (row : ℕ) (place : Option ℕ) → with_mark_at t row place ≡ record t { rows = (with_mark_at t row place).rows }
-only-rows-at t row (Some place) = refl
-only-rows-at t row None = refl
+pub record MayHold (h : HoldSet) (procedure : Procedure) (destination sls : ℕ) : Type 0 where
+  pub to : may_hold_to h procedure destination ≡ true
+  pub there : destination < h.destinations
+  pub few : sls < selections
 
-only-rows : (t : HoldTable) (row flow : Option ℕ) → with_row_hold t row flow ≡ record t { rows = (with_row_hold t row flow).rows }
-only-rows t (Some row) (Some flow) = only-rows-at t row (place_of_flow (marks_at t.rows row) flow)
-only-rows t (Some row) None = refl
-only-rows t None flow = refl
+pub may_parts : (h : HoldSet) (procedure : Procedure) (destination sls : ℕ) → may_hold h procedure destination sls ≡ true → MayHold h procedure destination sls
+may_parts h procedure destination sls may =
+    let parts : (may_hold_to h procedure destination ≡ true) × ((nat_lt destination h.destinations && nat_lt sls selections) ≡ true) =
+    and_parts (may_hold_to h procedure destination) (nat_lt destination h.destinations && nat_lt sls selections) may in
+    let flow : (nat_lt destination h.destinations ≡ true) × (nat_lt sls selections ≡ true) = and_parts (nat_lt destination h.destinations) (nat_lt sls selections) parts.1 in
+    record { to = parts.0; there = ltb-true destination h.destinations flow.0; few = ltb-true sls selections flow.1 }
 
-same-flows : (t : HoldTable) (row flow : Option ℕ) (destination sls : ℕ) → flow_of (with_row_hold t row flow) destination sls ≡ flow_of t destination sls
-same-flows t row flow destination sls =
-    ap (λ (u : HoldTable). if nat_lt destination u.destinations then Some (16 * destination + sls) else None) (only-rows t row flow)
+-- a flow that is held is one of the node
+pub flows_there : (h : HoldSet) (destination sls : ℕ) → IsOfNode h → is_held h destination sls ≡ true → destination < h.destinations
+flows_there h destination sls of_node e =
+    let found : (procedure : Procedure) × (holds h procedure destination sls ≡ true) = (held_by h destination sls).0 e in
+    (may_parts h found.0 destination sls (of_node.each (record { procedure = found.0; destination = destination; sls = sls }) found.1)).there
 
--- what a pair says after a hold, at the places as they were
-after-hold : (t : HoldTable) (row flow : Option ℕ) (procedure : Procedure) (destination sls : ℕ) →
-    holds (with_row_hold t row flow) procedure destination sls ≡ row_has (with_row_hold t row flow) (place_of t procedure) (flow_of t destination sls)
-after-hold t row flow procedure destination sls =
-    let u : HoldTable = with_row_hold t row flow in
-    ap (λ (o : Option ℕ). row_has u o (flow_of u destination sls))
-    (same-places t u procedure (ap (λ (v : HoldTable). v.links) (only-rows t row flow)) (ap (λ (v : HoldTable). v.sets) (only-rows t row flow)) (ap (λ (v : HoldTable). v.destinations) (only-rows t row flow)))
-    ∙ ap (λ (o : Option ℕ). row_has u (place_of t procedure) o) (same-flows t row flow destination sls)
+-- ---- the pairs after a hold
 
--- ---- its own pair
+abbrev if_may : Bool → HoldSet → Hold → HoldSet
+if_may may h hold = record h { pairs = if may then insert h.pairs hold else h.pairs }
 
-is-there : (t : HoldTable) (destination sls : ℕ) → destination < t.destinations → flow_of t destination sls ≡ Some (16 * destination + sls)
-is-there t destination sls h =
-    let test : nat_lt destination t.destinations ≡ true = grind (arith, nat_tests, h) in
-    ap (λ (b : Bool). if b then Some (16 * destination + sls) else None) test
+contains-if_may : (may : Bool) (h : HoldSet) (hold other : Hold) → contains (if_may may h hold).pairs other ≡ ((may && eq_by_cmp by_numbers other hold) || contains h.pairs other)
+contains-if_may true h hold other = contains-insert in_order h.pairs hold other
+contains-if_may false h hold other = refl
 
-is-marked : (t : HoldTable) (row flow : ℕ) → row < length t.rows → (marks_at t.rows row).first ≤ flow → flow < (marks_at t.rows row).first + length (marks_at t.rows row).marks →
-    row_has (with_row_hold t (Some row) (Some flow)) (Some row) (Some flow) ≡ true
-is-marked t row flow there from to =
-    let m : Marks = marks_at t.rows row in
-    let low : nat_le m.first flow ≡ true = grind (arith, nat_tests, from) in
-    let high : nat_lt (flow - m.first) (length m.marks) ≡ true = grind (arith, nat_tests, from, to) in
-    ap (λ (b : Bool). row_has (with_mark_at t row (if b then Some (flow - m.first) else None)) (Some row) (Some flow)) (and_from (nat_le m.first flow) (nat_lt (flow - m.first) (length m.marks)) low high)
-    ∙ ap (has_mark flow) (get_or-set_same t.rows row (record m { marks = set m.marks (flow - m.first) true }) (record { first = 0; marks = [] }) there)
-    ∙ and_from (nat_le m.first flow) (get_or (set m.marks (flow - m.first) true) (flow - m.first) false) low (get_or-set_same m.marks (flow - m.first) true false (omega (arith, from, to)))
+pub contains-with_hold : (h : HoldSet) (procedure : Procedure) (destination sls : ℕ) (other : Hold) →
+    contains (with_hold h procedure destination sls).pairs other
+    ≡ ((may_hold h procedure destination sls && eq_by_cmp by_numbers other (record { procedure = procedure; destination = destination; sls = sls })) || contains h.pairs other)
+contains-with_hold h procedure destination sls other =
+    contains-if_may (may_hold h procedure destination sls) h (record { procedure = procedure; destination = destination; sls = sls }) other
 
 pub adds_its_pair : hold_adds_its_pair
-adds_its_pair t procedure destination sls h may there few =
-    let at : HasFlow t procedure (16 * destination + sls) = has_flow t procedure destination sls h may there few in
-    after-hold t (place_of t procedure) (flow_of t destination sls) procedure destination sls
-    ∙ ap (λ (o : Option ℕ). row_has (with_row_hold t o (flow_of t destination sls)) o (flow_of t destination sls)) at.is
-    ∙ ap (λ (o : Option ℕ). row_has (with_row_hold t (Some at.row) o) (Some at.row) o) (is-there t destination sls there)
-    ∙ is-marked t at.row (16 * destination + sls) at.there at.from at.to
+adds_its_pair h procedure destination sls may =
+    let hold : Hold = record { procedure = procedure; destination = destination; sls = sls } in
+    contains-with_hold h procedure destination sls hold
+    ∙ ap (λ (b : Bool). (b && eq_by_cmp by_numbers hold hold) || contains h.pairs hold) may
+    ∙ ap (λ (b : Bool). b || contains h.pairs hold) (tied-same hold)
 
--- ---- flows that are held
-
-pub holds_its_flow : hold_holds_its_flow
-holds_its_flow t procedure destination sls h may there few =
-    let u : HoldTable = with_hold t procedure destination sls in
-    some-mark u (place_of u procedure) (flow_of u destination sls) (adds_its_pair t procedure destination sls h may there few)
-
-abbrev marked : ℕ → Marks → Marks
-marked place m = record m { marks = set m.marks place true }
-
-still-true : (marks : List Bool) (place i : ℕ) → get_or marks i false ≡ true → get_or (set marks place true) i false ≡ true
-still-true [] place i e = e
-still-true (m ∷ marks) zero zero e = refl
-still-true (m ∷ marks) zero (suc i) e = e
-still-true (m ∷ marks) (suc place) zero e = e
-still-true (m ∷ marks) (suc place) (suc i) e = still-true marks place i e
-
-still-marked : (m : Marks) (place flow : ℕ) → has_mark flow m ≡ true → has_mark flow (marked place m) ≡ true
-still-marked m place flow e =
-    let both : (nat_le m.first flow ≡ true) × (get_or m.marks (flow - m.first) false ≡ true) = and_parts (nat_le m.first flow) (get_or m.marks (flow - m.first) false) e in
-    and_from (nat_le m.first flow) (get_or (set m.marks place true) (flow - m.first) false) both.0 (still-true m.marks place (flow - m.first) both.1)
-
-either-more : (a b c d : Bool) → (a ≡ true → c ≡ true) → (b ≡ true → d ≡ true) → (a || b) ≡ true → (c || d) ≡ true
-either-more true b c d f g e = ap (λ (x : Bool). x || d) (f refl)
-either-more false b true d f g e = refl
-either-more false b false d f g e = g e
-
-still-any : (rows : List Marks) (row place flow : ℕ) → list_any (has_mark flow) rows ≡ true → list_any (has_mark flow) (set rows row (marked place (marks_at rows row))) ≡ true
-still-any [] row place flow e = e
-still-any (m ∷ rows) zero place flow e =
-    either-more (has_mark flow m) (list_any (has_mark flow) rows) (has_mark flow (marked place m)) (list_any (has_mark flow) rows) (still-marked m place flow) (λ f. f) e
-still-any (m ∷ rows) (suc row) place flow e =
-    either-more (has_mark flow m) (list_any (has_mark flow) rows) (has_mark flow m) (list_any (has_mark flow) (set rows row (marked place (marks_at rows row)))) (λ f. f) (still-any rows row place flow) e
-
-still-held-at : (t : HoldTable) (row : ℕ) (place other : Option ℕ) → any_has t other ≡ true → any_has (with_mark_at t row place) other ≡ true
-still-held-at t row place None e = absurd cc
-still-held-at t row None (Some other) e = e
-still-held-at t row (Some place) (Some other) e = still-any t.rows row place other e
-
-still-held : (t : HoldTable) (row flow other : Option ℕ) → any_has t other ≡ true → any_has (with_row_hold t row flow) other ≡ true
-still-held t None flow other e = e
-still-held t (Some row) None other e = e
-still-held t (Some row) (Some flow) other e = still-held-at t row (place_of_flow (marks_at t.rows row) flow) other e
-
-pub keeps_flows_held : hold_keeps_flows_held
-keeps_flows_held t procedure destination sls other_destination other_sls e =
-    let row : Option ℕ = place_of t procedure in
-    let flow : Option ℕ = flow_of t destination sls in
-    ap (any_has (with_row_hold t row flow)) (same-flows t row flow other_destination other_sls)
-    ∙ still-held t row flow (flow_of t other_destination other_sls) e
-
--- ---- other pairs
-
-same-rest : (rows : List Marks) (row place other flow : ℕ) → (other ≡ row → has_mark flow (marked place (marks_at rows row)) ≡ has_mark flow (marks_at rows row)) →
-    has_mark flow (marks_at (set rows row (marked place (marks_at rows row))) other) ≡ has_mark flow (marks_at rows other)
-same-rest [] row place other flow same = refl
-same-rest (m ∷ rows) zero place zero flow same = same refl
-same-rest (m ∷ rows) zero place (suc other) flow same = refl
-same-rest (m ∷ rows) (suc row) place zero flow same = refl
-same-rest (m ∷ rows) (suc row) place (suc other) flow same = same-rest rows row place other flow (λ e. same (ap suc e))
-
-same-marks : (b : Bool) (marks : List Bool) (place i : ℕ) → (b ≡ true → i ≡ place → 1 ≤ 0) → (b && get_or (set marks place true) i false) ≡ (b && get_or marks i false)
-same-marks false marks place i apart = refl
-same-marks true marks place i apart = get_or-set_other marks place i true false (λ e. absurd (omega (arith, apart refl e)))
-
--- the place of a flow is that of no other flow
-place-apart : (m : Marks) (flow other place : ℕ) → place_of_flow m flow ≡ Some place → nat_le m.first other ≡ true → other - m.first ≡ place → other ≡ flow
-place-apart m flow other place e low same = grind (arith, common_steps, nat_tests)
-
-abbrev Apart : (row flow other other_flow : Option ℕ) → Type 0
-Apart row flow other other_flow = (i f : ℕ) → row ≡ Some i → flow ≡ Some f → other ≡ Some i → other_flow ≡ Some f → 1 ≤ 0
-
-other-place : (t : HoldTable) (row flow other other_flow : ℕ) (place : Option ℕ) → place_of_flow (marks_at t.rows row) flow ≡ place → (other ≡ row → other_flow ≡ flow → 1 ≤ 0) →
-    row_has (with_mark_at t row place) (Some other) (Some other_flow) ≡ row_has t (Some other) (Some other_flow)
-other-place t row flow other other_flow None e apart = refl
-other-place t row flow other other_flow (Some place) e apart =
-    let m : Marks = marks_at t.rows row in
-    same-rest t.rows row place other other_flow
-    (λ same. same-marks (nat_le m.first other_flow) m.marks place (other_flow - m.first) (λ low at. apart same (place-apart m flow other_flow place e low at)))
-
-other-pair : (t : HoldTable) (row flow other other_flow : Option ℕ) → Apart row flow other other_flow → row_has (with_row_hold t row flow) other other_flow ≡ row_has t other other_flow
-other-pair t None flow other other_flow apart = refl
-other-pair t (Some row) None other other_flow apart = refl
-other-pair t (Some row) (Some flow) None other_flow apart = refl
-other-pair t (Some row) (Some flow) (Some other) None apart = refl
-other-pair t (Some row) (Some flow) (Some other) (Some other_flow) apart =
-    other-place t row flow other other_flow (place_of_flow (marks_at t.rows row) flow) refl
-    (λ e f. apart row flow refl refl (ap (λ (i : ℕ). Some i) e) (ap (λ (i : ℕ). Some i) f))
-
-numbered : (t : HoldTable) (destination sls flow : ℕ) → flow_of t destination sls ≡ Some flow → 16 * destination + sls ≡ flow
-numbered t destination sls flow e = grind (arith, common_steps, nat_tests)
+and-false : (b : Bool) → (b && false) ≡ false
+and-false true = refl
+and-false false = refl
 
 pub hold-leaves_others : hold_leaves_others
-hold-leaves_others t procedure other destination sls other_destination other_sls few other_few apart =
-    after-hold t (place_of t procedure) (flow_of t destination sls) other other_destination other_sls
-    ∙ other-pair t (place_of t procedure) (flow_of t destination sls) (place_of t other) (flow_of t other_destination other_sls)
-    (λ i f row flow other_row other_flow.
-    let same : 16 * destination + sls ≡ 16 * other_destination + other_sls = numbered t destination sls f flow ∙ sym (numbered t other_destination other_sls f other_flow) in
-    absurd (apart (ap (λ (p : Procedure). (p, other_destination, other_sls)) (sym (named t other i other_row) ∙ named t procedure i row)
-    ∙ ap (λ (d : ℕ). (procedure, d, other_sls)) (omega (arith, same, few, other_few))
-    ∙ ap (λ (s : ℕ). (procedure, destination, s)) (omega (arith, same, few, other_few)))))
+hold-leaves_others h procedure other destination sls other_destination other_sls apart =
+    let hold : Hold = record { procedure = procedure; destination = destination; sls = sls } in
+    let second : Hold = record { procedure = other; destination = other_destination; sls = other_sls } in
+    contains-with_hold h procedure destination sls second
+    ∙ ap (λ (b : Bool). (may_hold h procedure destination sls && b) || contains h.pairs second)
+    (untied second hold (λ e. apart (ap (λ (x : Hold). pair x.procedure x.destination x.sls) e)))
+    ∙ ap (λ (b : Bool). b || contains h.pairs second) (and-false (may_hold h procedure destination sls))
+
+pub may_not-leaves : may_not_leaves
+may_not-leaves h procedure destination sls e =
+    ap (λ (b : Bool). if_may b h (record { procedure = procedure; destination = destination; sls = sls })) e
+
+still : (b c : Bool) → c ≡ true → (b || c) ≡ true
+still true c e = refl
+still false c e = e
+
+-- what was held stays held
+pub keeps_pairs : (h : HoldSet) (procedure other : Procedure) (destination sls other_destination other_sls : ℕ) → holds h other other_destination other_sls ≡ true →
+    holds (with_hold h procedure destination sls) other other_destination other_sls ≡ true
+keeps_pairs h procedure other destination sls other_destination other_sls e =
+    let second : Hold = record { procedure = other; destination = other_destination; sls = other_sls } in
+    contains-with_hold h procedure destination sls second
+    ∙ still (may_hold h procedure destination sls && eq_by_cmp by_numbers second (record { procedure = procedure; destination = destination; sls = sls })) (contains h.pairs second) e
+
+pub holds_its_flow : hold_holds_its_flow
+holds_its_flow h procedure destination sls may =
+    (held_by (with_hold h procedure destination sls) destination sls).1 (procedure, adds_its_pair h procedure destination sls may)
+
+pub keeps_flows_held : hold_keeps_flows_held
+keeps_flows_held h procedure destination sls other_destination other_sls e =
+    let found : (other : Procedure) × (holds h other other_destination other_sls ≡ true) = (held_by h other_destination other_sls).0 e in
+    (held_by (with_hold h procedure destination sls) other_destination other_sls).1
+    (found.0, keeps_pairs h procedure found.0 destination sls other_destination other_sls found.1)
+
+-- ---- links, sets and destinations stay
+
+pub may-still : (h : HoldSet) (procedure : Procedure) (destination sls : ℕ) (other : Procedure) (other_destination other_sls : ℕ) →
+    may_hold (with_hold h procedure destination sls) other other_destination other_sls ≡ may_hold h other other_destination other_sls
+may-still h procedure destination sls other other_destination other_sls =
+    may-alike h (with_hold h procedure destination sls) other other_destination other_sls refl refl refl
+
+of-node-case : (h : HoldSet) (hold other : Hold) (may same : Bool) → IsOfNode h → may_hold h hold.procedure hold.destination hold.sls ≡ may → eq_by_cmp by_numbers other hold ≡ same →
+    ((may && same) || contains h.pairs other) ≡ true → may_hold h other.procedure other.destination other.sls ≡ true
+of-node-case h hold other true true of_node m s e = ap (λ (x : Hold). may_hold h x.procedure x.destination x.sls) (tied other hold s) ∙ m
+of-node-case h hold other true false of_node m s e = of_node.each other e
+of-node-case h hold other false same of_node m s e = of_node.each other e
+
+pub hold_of_node : hold_is_of_node
+hold_of_node h procedure destination sls of_node =
+    let hold : Hold = record { procedure = procedure; destination = destination; sls = sls } in
+    record {
+      each = λ other e.
+          may-still h procedure destination sls other.procedure other.destination other.sls
+          ∙ of-node-case h hold other (may_hold h procedure destination sls) (eq_by_cmp by_numbers other hold) of_node refl refl
+          (sym (contains-with_hold h procedure destination sls other) ∙ e);
+    }

@@ -1,5 +1,13 @@
 pub mod Counting
 pub mod Clearing
-pub mod Pairing
+pub mod TablePairing
 pub mod Placing
+pub mod TableHolding
+pub mod Numbers
+pub mod Pairing
 pub mod Holding
+pub mod Flows
+pub mod FlowPairs
+pub mod Adding
+pub mod Standing
+pub mod Changed

@@ -1,150 +1,140 @@
--- Each row is that of one procedure, so that a lift leaves the pairs of others, and each mark is a pair.
-use Rattle.std.proofs.Common.{◌≡◌, ℕ, suc, ◌+◌, ◌-◌, ◌*◌, ◌/◌, ◌%◌, ◌<◌, ◌≤◌, Bool, true, false, ◌&&◌, ◌||◌, List, [], ◌∷◌, length, get_or, replicate, refl, ap, sym, ◌∙◌, arith, nat_lt, nat_le, Option, Some, None}
-use Rattle.std.specs.Prelude.{if◌then◌else◌}
+-- A flow is held exactly where some pair is one of it, and a lift takes the pairs of one procedure.
+use Rattle.std.proofs.Common.{◌≡◌, ℕ, Bool, true, false, not, ◌&&◌, ◌||◌, List, [], ◌∷◌, refl, ap, sym, ◌∙◌, arith}
+use Rattle.std.specs.Prelude.{nat_eq, nat_lt}
 use Rattle.std.specs.List.{list_any}
-use Rattle.std.proofs.Math.ListN.{set}
-use Rattle.std.proofs.lemmas.Grind.{common_steps}
-use Rattle.std.proofs.lemmas.Bool.{ltb-true, ltb-false}
+use Rattle.std.specs.Ordering.{eq_by_cmp}
+use Rattle.std.specs.FinSet.{contains, items, contains-items, contains-empty, contains-retain}
+use Rattle.std.proofs.lemmas.Bool.{and_parts, true≢false}
 use Rattle.std.proofs.lemmas.Bool.Decides.{nat_tests}
-use Rattle.std.proofs.lemmas.List.{get_or-set_same, get_or-set_other, get_or_past, set_past}
-use Rattle.std.proofs.lemmas.List.Folds.{list_any_at}
+use Rattle.signalling_types.specs.declared.limits.TheConstants.Limits.{CHANGEBACK_CODES}
 use Rattle.flow_hold.specs.declared.procedure.Procedure.{Procedure}
 use Rattle.flow_hold.specs.declared.procedure.Procedure.TheVariants.{Changeover, Code, Time, Reroute}
-use Rattle.flow_hold.specs.Rows.{Marks, marks_at, has_mark}
-use Rattle.flow_hold.specs.Holds.{HoldTable, place_of, flow_of, row_has, holds, any_has, cleared, with_row_lifted}
-use Rattle.flow_hold.specs.Pairs.{HasRows, lift_leaves_others, lift_ends_its_own, held_by_a_procedure}
-use Rattle.flow_hold.proofs.Counting.{all_same}
-
--- ---- the procedure of a row
-
-abbrev pub procedure_at : HoldTable → ℕ → Procedure
-procedure_at t row =
-    if nat_lt row t.links then Changeover row
-    else if nat_lt row (2 * t.links) then Time (row - t.links)
-    else if nat_lt row (2 * t.links + 16 * t.sets) then Code ((row - 2 * t.links) / 16) ((row - 2 * t.links) % 16)
-    else Reroute (row - (2 * t.links + 16 * t.sets))
-
-pub named : (t : HoldTable) (procedure : Procedure) (row : ℕ) → place_of t procedure ≡ Some row → procedure_at t row ≡ procedure
-named t (Changeover link) row e = grind (arith, common_steps, nat_tests)
-named t (Time link) row e = grind (arith, common_steps, nat_tests)
-named t (Code set code) row e = grind (arith, common_steps, nat_tests)
-named t (Reroute destination) row e = grind (arith, common_steps, nat_tests)
-
-placed : (t : HoldTable) (row : ℕ) → row < 2 * t.links + 16 * t.sets + t.destinations → place_of t (procedure_at t row) ≡ Some row
-placed t row h = grind (arith, common_steps, nat_tests)
-
--- ---- a lift
-
-pub same-places : (t u : HoldTable) (procedure : Procedure) → u.links ≡ t.links → u.sets ≡ t.sets → u.destinations ≡ t.destinations → place_of u procedure ≡ place_of t procedure
-same-places t u (Changeover link) l s d = rw l refl
-same-places t u (Time link) l s d = rw l refl
-same-places t u (Code set code) l s d = rw (l, s) refl
-same-places t u (Reroute destination) l s d = rw (l, s, d) refl
-
-lifted-links : (t : HoldTable) (row : Option ℕ) → (with_row_lifted t row).links ≡ t.links
-lifted-links t (Some row) = refl
-lifted-links t None = refl
-
-lifted-sets : (t : HoldTable) (row : Option ℕ) → (with_row_lifted t row).sets ≡ t.sets
-lifted-sets t (Some row) = refl
-lifted-sets t None = refl
-
-lifted-destinations : (t : HoldTable) (row : Option ℕ) → (with_row_lifted t row).destinations ≡ t.destinations
-lifted-destinations t (Some row) = refl
-lifted-destinations t None = refl
-
-places-lifted : (t : HoldTable) (row : Option ℕ) (procedure : Procedure) → place_of (with_row_lifted t row) procedure ≡ place_of t procedure
-places-lifted t row procedure = same-places t (with_row_lifted t row) procedure (lifted-links t row) (lifted-sets t row) (lifted-destinations t row)
-
-flows-lifted : (t : HoldTable) (row : Option ℕ) (destination sls : ℕ) → flow_of (with_row_lifted t row) destination sls ≡ flow_of t destination sls
-flows-lifted t row destination sls = ap (λ (n : ℕ). if nat_lt destination n then Some (16 * destination + sls) else None) (lifted-destinations t row)
-
--- what a pair says after a lift, at the places as they were
-after-lift : (t : HoldTable) (row : Option ℕ) (procedure : Procedure) (destination sls : ℕ) →
-    holds (with_row_lifted t row) procedure destination sls ≡ row_has (with_row_lifted t row) (place_of t procedure) (flow_of t destination sls)
-after-lift t row procedure destination sls =
-    ap (λ (o : Option ℕ). row_has (with_row_lifted t row) o (flow_of (with_row_lifted t row) destination sls)) (places-lifted t row procedure)
-    ∙ ap (λ (o : Option ℕ). row_has (with_row_lifted t row) (place_of t procedure) o) (flows-lifted t row destination sls)
-
-others-row : (t : HoldTable) (row other flow : Option ℕ) → ((i : ℕ) → row ≡ Some i → other ≡ Some i → 1 ≤ 0) → row_has (with_row_lifted t row) other flow ≡ row_has t other flow
-others-row t None other flow apart = refl
-others-row t (Some i) None flow apart = refl
-others-row t (Some i) (Some j) None apart = refl
-others-row t (Some i) (Some j) (Some flow) apart =
-    ap (has_mark flow) (get_or-set_other t.rows i j (record (marks_at t.rows i) { marks = replicate (length (marks_at t.rows i).marks) false }) (record { first = 0; marks = [] })
-    (λ e. absurd (omega (arith, apart i refl (ap (λ (k : ℕ). Some k) e)))))
-
-pub leaves_others : lift_leaves_others
-leaves_others t procedure other destination sls apart =
-    after-lift t (place_of t procedure) other destination sls
-    ∙ others-row t (place_of t procedure) (place_of t other) (flow_of t destination sls)
-    (λ i e f. absurd (apart (sym (named t procedure i e) ∙ named t other i f)))
-
-unmarked : (b : Bool) (n i : ℕ) → (b && get_or (replicate n false) i false) ≡ false
-unmarked true n i = all_same n i false
-unmarked false n i = refl
-
-nothing : (b : Bool) → (b && false) ≡ false
-nothing true = refl
-nothing false = refl
-
-cleared-row : (t : HoldTable) (row flow : ℕ) (within : Bool) → nat_lt row (length t.rows) ≡ within → has_mark flow (marks_at (cleared t row).rows row) ≡ false
-cleared-row t row flow true e =
-    ap (has_mark flow) (get_or-set_same t.rows row (record (marks_at t.rows row) { marks = replicate (length (marks_at t.rows row).marks) false }) (record { first = 0; marks = [] }) (ltb-true row (length t.rows) e))
-    ∙ unmarked (nat_le (marks_at t.rows row).first flow) (length (marks_at t.rows row).marks) (flow - (marks_at t.rows row).first)
-cleared-row t row flow false e =
-    let past : length t.rows ≤ row = ltb-false row (length t.rows) e in
-    ap (λ (rows : List Marks). has_mark flow (marks_at rows row)) (set_past t.rows row (record (marks_at t.rows row) { marks = replicate (length (marks_at t.rows row).marks) false }) past)
-    ∙ ap (has_mark flow) (get_or_past t.rows row (record { first = 0; marks = [] }) past)
-    ∙ nothing (nat_le 0 flow)
-
-own-row : (t : HoldTable) (row flow : Option ℕ) → row_has (with_row_lifted t row) row flow ≡ false
-own-row t None flow = refl
-own-row t (Some row) None = refl
-own-row t (Some row) (Some flow) = cleared-row t row flow (nat_lt row (length t.rows)) refl
-
-pub ends_its_own : lift_ends_its_own
-ends_its_own t procedure destination sls =
-    after-lift t (place_of t procedure) procedure destination sls ∙ own-row t (place_of t procedure) (flow_of t destination sls)
+use Rattle.flow_hold.specs.Holds.{Hold, HoldSet, by_numbers, holds, is_of_flow, selections, is_same, may_hold_to, may_hold, lifted}
+use Rattle.flow_hold.specs.Pairs.{first_holds_nothing, first_is_of_node, held_by_a_procedure, lift_is_of_node, lift_leaves_others, lift_ends_its_own}
+use Rattle.flow_hold.proofs.Numbers.{only_same_tie, tied, tied-same, same-itself, not-same}
 
 -- ---- a flow that is held
 
-abbrev pub FoundAt : (Marks → Bool) → List Marks → Type 0
-FoundAt test rows = (row : ℕ) × (row < length rows) × (test (marks_at rows row) ≡ true)
+-- a pair of a flow that is among these
+record FoundPair (destination sls : ℕ) (pairs : List Hold) : Type 0 where
+  pub hold : Hold
+  pub of_flow : is_of_flow destination sls hold ≡ true
+  pub among : list_any (eq_by_cmp by_numbers hold) pairs ≡ true
 
-found-first : (test : Marks → Bool) (m : Marks) (rows : List Marks) (b : Bool) → test m ≡ b → (b || list_any test rows) ≡ true → (list_any test rows ≡ true → FoundAt test rows) → FoundAt test (m ∷ rows)
-found-first test m rows true e any rest = (0, omega arith, e)
-found-first test m rows false e any rest =
-    let found : FoundAt test rows = rest any in
-    (suc found.0, omega (arith, found.1), found.2)
+also-behind : (b c : Bool) → c ≡ true → (b || c) ≡ true
+also-behind true c e = refl
+also-behind false c e = e
 
-found : (test : Marks → Bool) (rows : List Marks) → list_any test rows ≡ true → FoundAt test rows
-found test [] e = absurd cc
-found test (m ∷ rows) e = found-first test m rows (test m) refl e (found test rows)
+in-front : (b c : Bool) → b ≡ true → (b || c) ≡ true
+in-front true c e = refl
+in-front false c e = absurd cc
 
-not-true : (b : Bool) → (b && false) ≡ true → 1 ≤ 0
-not-true true e = absurd cc
-not-true false e = absurd cc
+found-case : (destination sls : ℕ) (x : Hold) (xs : List Hold) (b : Bool) → is_of_flow destination sls x ≡ b → (b || list_any (is_of_flow destination sls) xs) ≡ true →
+    (list_any (is_of_flow destination sls) xs ≡ true → FoundPair destination sls xs) → FoundPair destination sls (x ∷ xs)
+found-case destination sls x xs true e any rest = record {
+  hold = x;
+  of_flow = e;
+  among = in-front (eq_by_cmp by_numbers x x) (list_any (eq_by_cmp by_numbers x) xs) (tied-same x);
+}
+found-case destination sls x xs false e any rest =
+    let found : FoundPair destination sls xs = rest any in
+    record {
+      hold = found.hold;
+      of_flow = found.of_flow;
+      among = also-behind (eq_by_cmp by_numbers found.hold x) (list_any (eq_by_cmp by_numbers found.hold) xs) found.among;
+    }
 
-inside-case : (rows : List Marks) (row flow : ℕ) (within : Bool) → nat_lt row (length rows) ≡ within → has_mark flow (marks_at rows row) ≡ true → row < length rows
-inside-case rows row flow true e h = ltb-true row (length rows) e
-inside-case rows row flow false e h =
-    let none : has_mark flow (marks_at rows row) ≡ (nat_le 0 flow && false) = ap (has_mark flow) (get_or_past rows row (record { first = 0; marks = [] }) (ltb-false row (length rows) e)) in
-    absurd (omega (arith, not-true (nat_le 0 flow) (sym none ∙ h)))
+found : (destination sls : ℕ) (xs : List Hold) → list_any (is_of_flow destination sls) xs ≡ true → FoundPair destination sls xs
+found destination sls [] e = absurd cc
+found destination sls (x ∷ xs) e = found-case destination sls x xs (is_of_flow destination sls x) refl e (found destination sls xs)
 
-some-pair : (t : HoldTable) (flow : Option ℕ) → HasRows t → any_has t flow ≡ true → (procedure : Procedure) × (row_has t (place_of t procedure) flow ≡ true)
-some-pair t None h e = absurd cc
-some-pair t (Some flow) h e =
-    let at : FoundAt (has_mark flow) t.rows = found (has_mark flow) t.rows e in
-    (procedure_at t at.0, ap (λ (o : Option ℕ). row_has t o (Some flow)) (placed t at.0 (omega (arith, at.1, h.rows))) ∙ at.2)
+either-more : (a b c d : Bool) → (a ≡ true → c ≡ true) → (b ≡ true → d ≡ true) → (a || b) ≡ true → (c || d) ≡ true
+either-more true b c d f g e = in-front c d (f refl)
+either-more false b c d f g e = also-behind c d (g e)
 
-pub some-mark : (t : HoldTable) (row flow : Option ℕ) → row_has t row flow ≡ true → any_has t flow ≡ true
-some-mark t None flow e = absurd cc
-some-mark t (Some row) None e = absurd cc
-some-mark t (Some row) (Some flow) e = list_any_at (has_mark flow) t.rows row (record { first = 0; marks = [] }) (inside-case t.rows row flow (nat_lt row (length t.rows)) refl e) e
+some-of-flow : (hold : Hold) (xs : List Hold) → list_any (eq_by_cmp by_numbers hold) xs ≡ true → list_any (is_of_flow hold.destination hold.sls) xs ≡ true
+some-of-flow hold [] e = absurd cc
+some-of-flow hold (x ∷ xs) e =
+    either-more (eq_by_cmp by_numbers hold x) (list_any (eq_by_cmp by_numbers hold) xs) (is_of_flow hold.destination hold.sls x) (list_any (is_of_flow hold.destination hold.sls) xs)
+    (λ same. ap (is_of_flow hold.destination hold.sls) (sym (tied hold x same)) ∙ own-flow hold) (some-of-flow hold xs) e
+  where
+    own-flow : (hold : Hold) → is_of_flow hold.destination hold.sls hold ≡ true
+    own-flow hold = grind (arith, nat_tests)
 
 pub held_by : held_by_a_procedure
-held_by t destination sls h = (
-  (λ e. some-pair t (flow_of t destination sls) h e),
-  (λ pair. some-mark t (place_of t pair.0) (flow_of t destination sls) pair.1),
+held_by h destination sls = (
+  (λ e.
+      let pair : FoundPair destination sls (items h.pairs) = found destination sls (items h.pairs) e in
+      let parts : (nat_eq pair.hold.destination destination ≡ true) × (nat_eq pair.hold.sls sls ≡ true) = and_parts (nat_eq pair.hold.destination destination) (nat_eq pair.hold.sls sls) pair.of_flow in
+      let place : pair.hold.destination ≡ destination = grind (arith, nat_tests, parts.0) in
+      let selection : pair.hold.sls ≡ sls = grind (arith, nat_tests, parts.1) in (
+        pair.hold.procedure,
+        ap (λ (d : ℕ). holds h pair.hold.procedure d sls) (sym place)
+            ∙ ap (λ (s : ℕ). holds h pair.hold.procedure pair.hold.destination s) (sym selection)
+            ∙ contains-items h.pairs pair.hold
+            ∙ pair.among,
+      )),
+  (λ pair.
+      let hold : Hold = record { procedure = pair.0; destination = destination; sls = sls } in
+      some-of-flow hold (items h.pairs) (sym (contains-items h.pairs hold) ∙ pair.1)),
 )
+
+-- ---- at first
+
+pub none_at_first : first_holds_nothing
+none_at_first links sets destinations procedure destination sls =
+    contains-empty by_numbers (record { procedure = procedure; destination = destination; sls = sls })
+
+pub first_of_node : first_is_of_node
+first_of_node links sets destinations = record {
+  each = λ hold e. absurd (true≢false (sym e ∙ contains-empty by_numbers hold));
+}
+
+-- ---- a lift
+
+pub contains-lifted : (h : HoldSet) (procedure : Procedure) (hold : Hold) →
+    contains (lifted h procedure).pairs hold ≡ (contains h.pairs hold && not (is_same hold.procedure procedure))
+contains-lifted h procedure hold =
+    contains-retain h.pairs (λ other. not (is_same other.procedure procedure)) hold
+    (λ x tie. ap (λ (other : Hold). not (is_same other.procedure procedure)) (sym (only_same_tie hold x tie)))
+
+and-false : (b : Bool) → (b && false) ≡ false
+and-false true = refl
+and-false false = refl
+
+and-true : (b : Bool) → (b && true) ≡ b
+and-true true = refl
+and-true false = refl
+
+pub ends_its_own : lift_ends_its_own
+ends_its_own h procedure destination sls =
+    let hold : Hold = record { procedure = procedure; destination = destination; sls = sls } in
+    contains-lifted h procedure hold
+    ∙ ap (λ (b : Bool). contains h.pairs hold && not b) (same-itself procedure)
+    ∙ and-false (contains h.pairs hold)
+
+pub leaves_others : lift_leaves_others
+leaves_others h procedure other destination sls apart =
+    let hold : Hold = record { procedure = other; destination = destination; sls = sls } in
+    contains-lifted h procedure hold
+    ∙ ap (λ (b : Bool). contains h.pairs hold && not b) (not-same other procedure (λ e. apart (sym e)))
+    ∙ and-true (contains h.pairs hold)
+
+may_to-alike : (h k : HoldSet) (procedure : Procedure) (destination : ℕ) → k.links ≡ h.links → k.sets ≡ h.sets → may_hold_to k procedure destination ≡ may_hold_to h procedure destination
+may_to-alike h k (Changeover link) destination links sets = ap (nat_lt link) links
+may_to-alike h k (Code set code) destination links sets = ap (λ (n : ℕ). nat_lt set n && nat_lt code CHANGEBACK_CODES) sets
+may_to-alike h k (Time link) destination links sets = ap (nat_lt link) links
+may_to-alike h k (Reroute rerouted) destination links sets = refl
+
+pub may-alike : (h k : HoldSet) (procedure : Procedure) (destination sls : ℕ) → k.links ≡ h.links → k.sets ≡ h.sets → k.destinations ≡ h.destinations →
+    may_hold k procedure destination sls ≡ may_hold h procedure destination sls
+may-alike h k procedure destination sls links sets destinations =
+    ap (λ (b : Bool). b && (nat_lt destination k.destinations && nat_lt sls selections)) (may_to-alike h k procedure destination links sets)
+    ∙ ap (λ (n : ℕ). may_hold_to h procedure destination && (nat_lt destination n && nat_lt sls selections)) destinations
+
+pub lifted_of_node : lift_is_of_node
+lifted_of_node h procedure of_node = record {
+  each = λ hold e.
+      may-alike h (lifted h procedure) hold.procedure hold.destination hold.sls refl refl refl
+      ∙ of_node.each hold ((and_parts (contains h.pairs hold) (not (is_same hold.procedure procedure)) (sym (contains-lifted h procedure hold) ∙ e)).0);
+}

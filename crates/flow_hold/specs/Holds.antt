@@ -1,108 +1,92 @@
 -- Holds: a set of pairs of a procedure and a flow (Q.704 §5.4, §6.3, §8.2).
-use Rattle.std.specs.Prelude.{ℕ, ◌+◌, ◌-◌, ◌*◌, Bool, ◌&&◌, true, false, List, length, map, replicate, nat_lt}
-use Rattle.std.specs.Prelude.{slice_set, if◌then◌else◌, Option, Some, None, count_by}
-use Rattle.std.specs.List.{range_with_len, list_any}
+use Rattle.std.specs.Prelude.{ℕ, Bool, ◌&&◌, not, List, [], ◌∷◌, nat_eq, nat_lt, if◌then◌else◌}
+use Rattle.std.specs.List.{list_any}
+use Rattle.std.specs.declared.cmp.Ordering.{Ordering}
+use Rattle.std.specs.Ordering.{nat_cmp, on}
+use Rattle.std.specs.Cmp.Lexicographic.{slice_cmp, pointwise}
+use Rattle.std.specs.FinSet.{FinSet, empty, contains, insert, retain, items}
+use Rattle.signalling_types.specs.declared.limits.TheConstants.Limits.{CHANGEBACK_CODES}
 use Rattle.flow_hold.specs.declared.procedure.Procedure.{Procedure}
 use Rattle.flow_hold.specs.declared.procedure.Procedure.TheVariants.{Changeover, Code, Time, Reroute}
-use Rattle.flow_hold.specs.Rows.{Marks, marks_at, place_of_flow, has_mark}
 
--- how many links, sets and destinations there are, and for each procedure which flows it holds
-pub record HoldTable : Type 0 where
+-- how many signalling link selections there are (Q.704 §2.2.4)
+abbrev pub selections : ℕ
+selections = 16
+
+-- a pair: a procedure holds the flow to a destination, by its place in the settings, with a selection
+pub record Hold : Type 0 where
+  pub procedure : Procedure
+  pub destination : ℕ
+  pub sls : ℕ
+
+-- a procedure as numbers: which kind it is, and of which link, of which set and code, or of which destination
+abbrev pub numbers_of : Procedure → List ℕ
+numbers_of (Changeover link) = 0 ∷ link ∷ []
+numbers_of (Code set code) = 1 ∷ set ∷ code ∷ []
+numbers_of (Time link) = 2 ∷ link ∷ []
+numbers_of (Reroute destination) = 3 ∷ destination ∷ []
+
+-- a pair as numbers
+abbrev pub hold_numbers : Hold → List ℕ
+hold_numbers hold = hold.destination ∷ hold.sls ∷ numbers_of hold.procedure
+
+-- the order in which a set has its pairs
+abbrev pub by_numbers : Hold → Hold → Ordering
+by_numbers = on hold_numbers (slice_cmp nat_cmp)
+
+-- how many links, sets and destinations the node has, and which procedure holds which flow
+pub record HoldSet : Type 0 where
   pub links : ℕ
   pub sets : ℕ
   pub destinations : ℕ
-  pub rows : List Marks
+  pub pairs : FinSet by_numbers
 
--- the number of a flow, where its destination is there
-abbrev pub flow_of : HoldTable → (destination sls : ℕ) → Option ℕ
-flow_of t destination sls = if nat_lt destination t.destinations then Some (16 * destination + sls) else None
-
--- the row of a procedure, where it is there: first the changeovers of all links, then their times, then the codes of
--- all sets, then the reroutings of all destinations
-abbrev pub place_of : HoldTable → Procedure → Option ℕ
-place_of t (Changeover link) = if nat_lt link t.links then Some link else None
-place_of t (Time link) = if nat_lt link t.links then Some (t.links + link) else None
-place_of t (Code set code) = if nat_lt set t.sets && nat_lt code 16 then Some (2 * t.links + 16 * set + code) else None
-place_of t (Reroute destination) =
-    if nat_lt destination t.destinations then Some (2 * t.links + 16 * t.sets + destination) else None
-
--- ---- which pairs there are
-
-abbrev pub row_has : HoldTable → Option ℕ → Option ℕ → Bool
-row_has t (Some row) (Some flow) = has_mark flow (marks_at t.rows row)
-row_has t (Some row) None = false
-row_has t None flow = false
+-- ---- what is held
 
 -- whether a procedure holds a flow
-abbrev pub holds : HoldTable → Procedure → (destination sls : ℕ) → Bool
-holds t procedure destination sls = row_has t (place_of t procedure) (flow_of t destination sls)
+abbrev pub holds : HoldSet → Procedure → (destination sls : ℕ) → Bool
+holds h procedure destination sls =
+    contains h.pairs (record { procedure = procedure; destination = destination; sls = sls })
 
--- how many procedures hold a flow
-abbrev pub marked_as_held : List Marks → ℕ → ℕ
-marked_as_held rows flow = count_by (has_mark flow) rows
-
-abbrev pub any_has : HoldTable → Option ℕ → Bool
-any_has t (Some flow) = list_any (has_mark flow) t.rows
-any_has t None = false
+-- whether a pair is one of this flow
+abbrev pub is_of_flow : (destination sls : ℕ) → Hold → Bool
+is_of_flow destination sls hold = nat_eq hold.destination destination && nat_eq hold.sls sls
 
 -- whether some procedure holds a flow
-abbrev pub is_held : HoldTable → (destination sls : ℕ) → Bool
-is_held t destination sls = any_has t (flow_of t destination sls)
+abbrev pub is_held : HoldSet → (destination sls : ℕ) → Bool
+is_held h destination sls = list_any (is_of_flow destination sls) (items h.pairs)
 
--- ---- how they begin
+-- ---- how they begin and change
 
--- a rerouting holds only flows of its destination, each other procedure may hold all
-abbrev pub first_row : (shared destinations place : ℕ) → Marks
-first_row shared destinations place =
-    if nat_lt place shared
-    then record { first = 0; marks = replicate (16 * destinations) false }
-    else record { first = 16 * (place - shared); marks = replicate 16 false }
+-- at first nothing is held
+abbrev pub no_holds : (links sets destinations : ℕ) → HoldSet
+no_holds links sets destinations = record { links = links; sets = sets; destinations = destinations; pairs = empty }
 
--- nothing is held
-abbrev pub no_holds : (links sets destinations : ℕ) → HoldTable
-no_holds links sets destinations = record {
-  links = links;
-  sets = sets;
-  destinations = destinations;
-  rows = map (first_row (2 * links + 16 * sets) destinations)
-      (range_with_len 0 (2 * links + 16 * sets + destinations));
+-- whether a procedure is there and may hold flows to a destination: a rerouting holds only those to its own
+abbrev pub may_hold_to : HoldSet → Procedure → (destination : ℕ) → Bool
+may_hold_to h (Changeover link) destination = nat_lt link h.links
+may_hold_to h (Code set code) destination = nat_lt set h.sets && nat_lt code CHANGEBACK_CODES
+may_hold_to h (Time link) destination = nat_lt link h.links
+may_hold_to h (Reroute rerouted) destination = nat_eq rerouted destination
+
+-- whether a procedure may hold a flow, and both are there
+abbrev pub may_hold : HoldSet → Procedure → (destination sls : ℕ) → Bool
+may_hold h procedure destination sls =
+    may_hold_to h procedure destination && (nat_lt destination h.destinations && nat_lt sls selections)
+
+-- a procedure holds a flow from now on, if it may
+abbrev pub with_hold : HoldSet → Procedure → (destination sls : ℕ) → HoldSet
+with_hold h procedure destination sls = record h {
+  pairs =
+      if may_hold h procedure destination sls
+      then insert h.pairs (record { procedure = procedure; destination = destination; sls = sls })
+      else h.pairs;
 }
 
--- ---- how they change
+-- whether two procedures are the same
+abbrev pub is_same : Procedure → Procedure → Bool
+is_same one other = pointwise nat_eq (numbers_of one) (numbers_of other)
 
--- one mark of one row
-abbrev pub with_mark : HoldTable → (row place : ℕ) → Bool → HoldTable
-with_mark t row place held = record t {
-  rows = slice_set t.rows row (record (marks_at t.rows row) {
-    marks = slice_set (marks_at t.rows row).marks place held;
-  });
-}
-
-abbrev pub with_mark_at : HoldTable → ℕ → Option ℕ → HoldTable
-with_mark_at t row (Some place) = with_mark t row place true
-with_mark_at t row None = t
-
-abbrev pub with_row_hold : HoldTable → Option ℕ → Option ℕ → HoldTable
-with_row_hold t (Some row) (Some flow) = with_mark_at t row (place_of_flow (marks_at t.rows row) flow)
-with_row_hold t (Some row) None = t
-with_row_hold t None flow = t
-
--- a procedure holds a flow from now on; what isn't there is left aside
-abbrev pub with_hold : HoldTable → Procedure → (destination sls : ℕ) → HoldTable
-with_hold t procedure destination sls = with_row_hold t (place_of t procedure) (flow_of t destination sls)
-
--- no flow of one row is held
-abbrev pub cleared : HoldTable → ℕ → HoldTable
-cleared t row = record t {
-  rows = slice_set t.rows row (record (marks_at t.rows row) {
-    marks = replicate (length (marks_at t.rows row).marks) false;
-  });
-}
-
-abbrev pub with_row_lifted : HoldTable → Option ℕ → HoldTable
-with_row_lifted t (Some row) = cleared t row
-with_row_lifted t None = t
-
--- a procedure holds nothing from now on
-abbrev pub lifted : HoldTable → Procedure → HoldTable
-lifted t procedure = with_row_lifted t (place_of t procedure)
+-- a procedure holds nothing from now on; what others hold stays
+abbrev pub lifted : HoldSet → Procedure → HoldSet
+lifted h procedure = record h { pairs = retain h.pairs (λ hold. not (is_same hold.procedure procedure)) }

@@ -1,93 +1,121 @@
 -- What holds of holds.
-use Rattle.std.specs.Prelude.{◌≡◌, ◌≢◌, ℕ, ◌+◌, ◌*◌, ◌<◌, ◌↔◌, Bool, ◌&&◌, true, false, length, map, nat_eq, nat_lt}
+use Rattle.std.specs.Prelude.{◌≡◌, ◌≢◌, ◌<◌, ◌↔◌, ◌&&◌, ◌||◌, ℕ, Bool, true, false}
+use Rattle.std.specs.FinSet.{contains}
 use Rattle.flow_hold.specs.declared.procedure.Procedure.{Procedure}
-use Rattle.flow_hold.specs.declared.procedure.Procedure.TheVariants.{Changeover, Code, Time, Reroute}
-use Rattle.flow_hold.specs.Rows.{Marks}
-use Rattle.flow_hold.specs.Holds.{HoldTable, no_holds, holds, is_held, with_hold, lifted}
+use Rattle.flow_hold.specs.Holds.{Hold, HoldSet, selections, no_holds, holds, is_held, may_hold, with_hold, lifted}
+use Rattle.flow_hold.specs.Flows.{NodeFlow, passes, any_flow, with_flows}
 
--- there is a row for each procedure
-pub record HasRows (t : HoldTable) : Type 0 where
-  pub rows : length t.rows ≡ 2 * t.links + 16 * t.sets + t.destinations
+-- at first no procedure holds anything
+abbrev pub first_holds_nothing : Type 0
+first_holds_nothing =
+    (links sets destinations : ℕ) (procedure : Procedure) (destination sls : ℕ) →
+    holds (no_holds links sets destinations) procedure destination sls ≡ false
 
--- what other procedures hold stays where one is lifted
-abbrev pub lift_leaves_others : Type 0
-lift_leaves_others =
-    (t : HoldTable) (procedure other : Procedure) (destination sls : ℕ) → procedure ≢ other →
-    holds (lifted t procedure) other destination sls ≡ holds t other destination sls
-
--- and it holds nothing itself
-abbrev pub lift_ends_its_own : Type 0
-lift_ends_its_own =
-    (t : HoldTable) (procedure : Procedure) (destination sls : ℕ) →
-    holds (lifted t procedure) procedure destination sls ≡ false
-
--- a flow is held exactly where some pair names it
+-- a flow is held exactly where some procedure holds it
 abbrev pub held_by_a_procedure : Type 0
 held_by_a_procedure =
-    (t : HoldTable) (destination sls : ℕ) → HasRows t →
-    (is_held t destination sls ≡ true) ↔ ((procedure : Procedure) × (holds t procedure destination sls ≡ true))
+    (h : HoldSet) (destination sls : ℕ) →
+    (is_held h destination sls ≡ true) ↔ ((procedure : Procedure) × (holds h procedure destination sls ≡ true))
 
--- ---- where the marks are
+-- each procedure that holds a flow is one of the node that may hold it, and the flow is one of the node
+pub record IsOfNode (h : HoldSet) : Type 0 where
+  pub each : (hold : Hold) → contains h.pairs hold ≡ true →
+      may_hold h hold.procedure hold.destination hold.sls ≡ true
 
--- the first flow of a row, and how many flows it has
-abbrev pub shape_of : Marks → ℕ × ℕ
-shape_of row = (row.first, length row.marks)
-
--- there is a row for each procedure, with the flows that it may hold
-pub record HasPlaces (t : HoldTable) : Type 0 where
-  pub rows : map shape_of t.rows ≡ map shape_of (no_holds t.links t.sets t.destinations).rows
-
-abbrev pub places_are_rows : Type 0
-places_are_rows = (t : HoldTable) → HasPlaces t → HasRows t
-
-abbrev pub places_at_first : Type 0
-places_at_first = (links sets destinations : ℕ) → HasPlaces (no_holds links sets destinations)
-
-abbrev pub hold_keeps_places : Type 0
-hold_keeps_places =
-    (t : HoldTable) (procedure : Procedure) (destination sls : ℕ) → HasPlaces t →
-    HasPlaces (with_hold t procedure destination sls)
-
-abbrev pub lift_keeps_places : Type 0
-lift_keeps_places = (t : HoldTable) (procedure : Procedure) → HasPlaces t → HasPlaces (lifted t procedure)
+abbrev pub first_is_of_node : Type 0
+first_is_of_node = (links sets destinations : ℕ) → IsOfNode (no_holds links sets destinations)
 
 -- ---- a hold
 
--- whether a procedure is there and may hold flows of a destination that is there: a rerouting only those of its own
-abbrev pub may_hold : HoldTable → Procedure → (destination : ℕ) → Bool
-may_hold t (Changeover link) destination = nat_lt link t.links
-may_hold t (Time link) destination = nat_lt link t.links
-may_hold t (Code set code) destination = nat_lt set t.sets && nat_lt code 16
-may_hold t (Reroute rerouted) destination = nat_eq rerouted destination
+abbrev pub hold_is_of_node : Type 0
+hold_is_of_node =
+    (h : HoldSet) (procedure : Procedure) (destination sls : ℕ) → IsOfNode h →
+    IsOfNode (with_hold h procedure destination sls)
 
--- a procedure holds the flow that it is to hold
+-- a procedure holds the flow that it is to hold, where it may
 abbrev pub hold_adds_its_pair : Type 0
 hold_adds_its_pair =
-    (t : HoldTable) (procedure : Procedure) (destination sls : ℕ) → HasPlaces t →
-    may_hold t procedure destination ≡ true → destination < t.destinations → sls < 16 →
-    holds (with_hold t procedure destination sls) procedure destination sls ≡ true
+    (h : HoldSet) (procedure : Procedure) (destination sls : ℕ) →
+    may_hold h procedure destination sls ≡ true →
+    holds (with_hold h procedure destination sls) procedure destination sls ≡ true
+
+-- any other pair stays as it was: that of another procedure, another destination or another selection
+abbrev pub pair : Procedure → (destination sls : ℕ) → Procedure × ℕ × ℕ
+pair procedure destination sls = (procedure, destination, sls)
+
+abbrev pub hold_leaves_others : Type 0
+hold_leaves_others =
+    (h : HoldSet) (procedure other : Procedure) (destination sls other_destination other_sls : ℕ) →
+    pair other other_destination other_sls ≢ pair procedure destination sls →
+    holds (with_hold h procedure destination sls) other other_destination other_sls
+    ≡ holds h other other_destination other_sls
+
+-- where it may not hold the flow, nothing changes
+abbrev pub may_not_leaves : Type 0
+may_not_leaves =
+    (h : HoldSet) (procedure : Procedure) (destination sls : ℕ) →
+    may_hold h procedure destination sls ≡ false → with_hold h procedure destination sls ≡ h
 
 -- so that the flow is held
 abbrev pub hold_holds_its_flow : Type 0
 hold_holds_its_flow =
-    (t : HoldTable) (procedure : Procedure) (destination sls : ℕ) → HasPlaces t →
-    may_hold t procedure destination ≡ true → destination < t.destinations → sls < 16 →
-    is_held (with_hold t procedure destination sls) destination sls ≡ true
+    (h : HoldSet) (procedure : Procedure) (destination sls : ℕ) →
+    may_hold h procedure destination sls ≡ true →
+    is_held (with_hold h procedure destination sls) destination sls ≡ true
 
 -- and what was held stays held
 abbrev pub hold_keeps_flows_held : Type 0
 hold_keeps_flows_held =
-    (t : HoldTable) (procedure : Procedure) (destination sls other_destination other_sls : ℕ) →
-    is_held t other_destination other_sls ≡ true →
-    is_held (with_hold t procedure destination sls) other_destination other_sls ≡ true
+    (h : HoldSet) (procedure : Procedure) (destination sls other_destination other_sls : ℕ) →
+    is_held h other_destination other_sls ≡ true →
+    is_held (with_hold h procedure destination sls) other_destination other_sls ≡ true
 
-abbrev pub pair : Procedure → (destination sls : ℕ) → Procedure × ℕ × ℕ
-pair procedure destination sls = (procedure, destination, sls)
+-- ---- a hold of all flows of which a test is true
 
--- any other pair stays as it was: that of another procedure, another destination or another selection
-abbrev pub hold_leaves_others : Type 0
-hold_leaves_others =
-    (t : HoldTable) (procedure other : Procedure) (destination sls other_destination other_sls : ℕ) →
-    sls < 16 → other_sls < 16 → pair other other_destination other_sls ≢ pair procedure destination sls →
-    holds (with_hold t procedure destination sls) other other_destination other_sls
-    ≡ holds t other other_destination other_sls
+-- the test is true of some flow: one to a destination that is there, with a selection
+pub record IsAnyFlow (destinations : ℕ) (test : (destination sls : ℕ) → Bool) : Type 0 where
+  pub flow : NodeFlow
+  pub there : flow.destination < destinations
+  pub selection : flow.sls < selections
+  pub passing : passes test flow ≡ true
+
+abbrev pub some_flow_passes : Type 0
+some_flow_passes =
+    (destinations : ℕ) (test : (destination sls : ℕ) → Bool) →
+    (any_flow destinations test ≡ true) ↔ IsAnyFlow destinations test
+
+-- the procedure holds afterwards the flows that it held, and each that it may hold of which the test is true
+abbrev pub flows_add_their_pairs : Type 0
+flows_add_their_pairs =
+    (h : HoldSet) (procedure : Procedure) (test : (destination sls : ℕ) → Bool) (destination sls : ℕ) →
+    holds (with_flows h procedure test) procedure destination sls
+    ≡ ((may_hold h procedure destination sls && test destination sls) || holds h procedure destination sls)
+
+-- what other procedures hold stays
+abbrev pub flows_leave_others : Type 0
+flows_leave_others =
+    (h : HoldSet) (procedure other : Procedure) (test : (destination sls : ℕ) → Bool) (destination sls : ℕ) →
+    other ≢ procedure →
+    holds (with_flows h procedure test) other destination sls ≡ holds h other destination sls
+
+abbrev pub flows_are_of_node : Type 0
+flows_are_of_node =
+    (h : HoldSet) (procedure : Procedure) (test : (destination sls : ℕ) → Bool) → IsOfNode h →
+    IsOfNode (with_flows h procedure test)
+
+-- ---- a lift
+
+abbrev pub lift_is_of_node : Type 0
+lift_is_of_node = (h : HoldSet) (procedure : Procedure) → IsOfNode h → IsOfNode (lifted h procedure)
+
+-- what other procedures hold stays where one is lifted
+abbrev pub lift_leaves_others : Type 0
+lift_leaves_others =
+    (h : HoldSet) (procedure other : Procedure) (destination sls : ℕ) → procedure ≢ other →
+    holds (lifted h procedure) other destination sls ≡ holds h other destination sls
+
+-- and it holds nothing itself
+abbrev pub lift_ends_its_own : Type 0
+lift_ends_its_own =
+    (h : HoldSet) (procedure : Procedure) (destination sls : ℕ) →
+    holds (lifted h procedure) procedure destination sls ≡ false

@@ -5,8 +5,8 @@ use Rattle.std.proofs.lemmas.List.{drop-drop, drop-append-le}
 use Rattle.signalling_types.specs.Message.{Message}
 use Rattle.link_number.specs.Numbers.{previous_number}
 use Rattle.link_sequence.specs.declared.fault.SeqFault.{SeqFault}
-use Rattle.link_sequence.specs.Queue.{Queue, IsQueue, Sending, first_queue, first_queue_at, newly_confirmed, expected, accept_answer, count_confirmed, after_answer, accepted, to_send, after_sending, sent_one, appended, emptied, last_sent, last_accepted, confirmation}
-use Rattle.link_sequence.specs.Counts.{counts_of, unconfirmed, kept_first, kept_first_at, kept_newly_confirmed, kept_expected, kept_accept_answer, kept_after_answer, kept_accepted, kept_to_send, kept_after_sending, kept_sent_one, kept_emptied, kept_last_sent, kept_last_accepted}
+use Rattle.link_sequence.specs.Queue.{Queue, IsQueue, Sending, first_queue, first_queue_at, newly_confirmed, expected, accept_answer, count_confirmed, after_answer, accepted, to_send, after_sending, sent_one, appended, emptied, last_sent, last_accepted, confirmation, unconfirmed}
+use Rattle.link_sequence.specs.Counts.{counts_of, kept_first, kept_first_at, kept_newly_confirmed, kept_expected, kept_accept_answer, kept_after_answer, kept_accepted, kept_to_send, kept_after_sending, kept_sent_one, kept_emptied, kept_last_sent, kept_last_accepted}
 use Rattle.link_sequence.proofs.Named.{found_ahead, slice_get-drop}
 
 -- ---- numbers

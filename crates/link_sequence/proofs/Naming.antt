@@ -3,7 +3,7 @@ use Rattle.std.proofs.Common.{◌≡◌, ℕ, ◌+◌, ◌-◌, ◌%◌, ◌^◌
 use Rattle.std.proofs.lemmas.Grind.{common_steps}
 use Rattle.std.proofs.lemmas.Bool.Decides.{nat_tests}
 use Rattle.link_number.specs.Numbers.{next_number, steps_between}
-use Rattle.link_sequence.specs.Queue.{Queue, IsQueue, Names, number_of, named_count}
+use Rattle.link_sequence.specs.Queue.{Queue, IsQueue, Names, forward_number, named_count}
 use Rattle.link_sequence.specs.Naming.{search_finds_named}
 use Rattle.link_sequence.proofs.Named.{found}
 
@@ -27,11 +27,11 @@ distance-there base first n bsn h k e = omega arith
 
 -- ---- the search
 
-searched : {w : ℕ} (q : Queue) (bsn d : ℕ) → IsQueue w q → d ≡ steps_between (number_of q q.confirmed) (next_number bsn) →
+searched : {w : ℕ} (q : Queue) (bsn d : ℕ) → IsQueue w q → d ≡ steps_between (forward_number q q.confirmed) (next_number bsn) →
     named_count q bsn ≡ (if nat_lt d (q.sent - q.confirmed + 1) then Some (q.confirmed + d) else None)
 searched q bsn d h e = rw e (found q.base q.confirmed (q.sent - q.confirmed + 1) (next_number bsn) (omega (arith, h.window, h.limit)) (omega arith))
 
-named : {w : ℕ} (q : Queue) (bsn d n : ℕ) → d ≡ steps_between (number_of q q.confirmed) (next_number bsn) →
+named : {w : ℕ} (q : Queue) (bsn d n : ℕ) → d ≡ steps_between (forward_number q q.confirmed) (next_number bsn) →
     (if nat_lt d (q.sent - q.confirmed + 1) then Some (q.confirmed + d) else None) ≡ Some n → IsQueue w q → Names q bsn n
 named q bsn d n e f h =
     let near : d ≤ q.sent - q.confirmed = found-near q.confirmed (q.sent - q.confirmed) d n f in
@@ -42,7 +42,7 @@ pub finds_named : search_finds_named
 finds_named w q bsn n h = (
   (λ e. named q bsn _ n refl (sym (searched q bsn _ h refl) ∙ e) h),
   (λ names.
-      let d : steps_between (number_of q q.confirmed) (next_number bsn) ≡ n - q.confirmed =
+      let d : steps_between (forward_number q q.confirmed) (next_number bsn) ≡ n - q.confirmed =
       distance-there q.base q.confirmed n bsn names.from_confirmed (omega (arith, h.window, h.limit, names.to_sent)) names.number in
       searched q bsn (n - q.confirmed) h (sym d)
       ∙ near-found q.confirmed (q.sent - q.confirmed) (n - q.confirmed) n (omega (arith, names.to_sent)) (omega (arith, names.from_confirmed))),

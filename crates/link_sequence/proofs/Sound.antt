@@ -8,7 +8,7 @@ use Rattle.signalling_types.specs.declared.limits.TheConstants.Limits.{WINDOW}
 use Rattle.link_sequence.specs.declared.fault.SeqFault.{SeqFault}
 use Rattle.link_number.specs.Numbers.{steps_between, next_number}
 use Rattle.link_sequence.proofs.Kept.{kept-newly_confirmed}
-use Rattle.link_sequence.specs.Queue.{Queue, IsQueue, confirmation, count_confirmed, number_of, numbered, first_queue, first_queue_at, expected, accept_answer, after_answer, accepted, after_sending, sent_one, appended, emptied}
+use Rattle.link_sequence.specs.Queue.{Queue, IsQueue, confirmation, count_confirmed, forward_number, numbered, first_queue, first_queue_at, expected, accept_answer, after_answer, accepted, after_sending, sent_one, appended, emptied}
 
 pub sound-first : (w : ℕ) → w ≤ WINDOW → IsQueue w first_queue
 sound-first w l = record { confirmed = omega arith; sent = omega arith; window = omega arith; limit = l }
@@ -32,7 +32,7 @@ pub confirmed-within : {w : ℕ} (q : Queue) (fsn bsn : ℕ) (carries : Bool) �
     count_confirmed (accept_answer q fsn bsn carries) ≤ q.sent - q.confirmed
 confirmed-within q fsn bsn carries h =
     let P : Option ℕ → Type 0 = λ o. count_confirmed (if nat_eq fsn (expected q carries) then confirmation o else Err SeqFault.BadFsn) ≤ q.sent - q.confirmed in
-    subst P (kept-newly_confirmed q bsn h) (near-within (steps_between (number_of q q.confirmed) (next_number bsn)) (q.sent - q.confirmed) (nat_eq fsn (expected q carries)))
+    subst P (kept-newly_confirmed q bsn h) (near-within (steps_between (forward_number q q.confirmed) (next_number bsn)) (q.sent - q.confirmed) (nat_eq fsn (expected q carries)))
 
 sound-after_answer : {w : ℕ} (q : Queue) (carries : Bool) (r : Result ℕ SeqFault) → IsQueue w q → count_confirmed r ≤ q.sent - q.confirmed →
     IsQueue w (after_answer q carries r)
@@ -60,6 +60,6 @@ below-window outstanding window e = grind (arith, nat_tests)
 
 pub sound-sent_one : (q : Queue) (window : ℕ) → IsQueue window q → IsQueue window (sent_one q window)
 sound-sent_one q window h =
-    sound-one q (nat_lt (q.sent - q.confirmed) window) (number_of q q.sent) (slice_get q.all q.sent) h
+    sound-one q (nat_lt (q.sent - q.confirmed) window) (forward_number q q.sent) (slice_get q.all q.sent) h
     (below-window (q.sent - q.confirmed) window)
     (slice_get_within q.all q.sent)

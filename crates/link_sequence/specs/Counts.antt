@@ -1,12 +1,12 @@
 -- What is kept of a queue: the messages that aren't confirmed, the number of the first of them, how many of them
 -- were sent, and the number that the peer's next message must have.
-use Rattle.std.specs.Prelude.{ℕ, Bool, ◌+◌, ◌-◌, ◌%◌, List, drop, Option, Some, None, Result, Ok, Err, nat_eq, nat_lt}
+use Rattle.std.specs.Prelude.{ℕ, Bool, ◌+◌, ◌-◌, ◌%◌, List, Option, Some, None, Result, Ok, Err, nat_eq, nat_lt}
 use Rattle.std.specs.Prelude.{nat_le, slice_get, if◌then◌else◌}
 use Rattle.signalling_types.specs.Message.{Message}
 use Rattle.link_number.specs.Numbers.{modulus, next_number, previous_number, steps_between}
 use Rattle.link_sequence.specs.declared.fault.SeqFault.{SeqFault}
 use Rattle.link_sequence.specs.declared.fault.SeqFault.TheVariants.{BadFsn}
-use Rattle.link_sequence.specs.Queue.{Queue, Sending, number_of, confirmation, numbered}
+use Rattle.link_sequence.specs.Queue.{Queue, Sending, forward_number, confirmation, numbered, unconfirmed}
 
 pub record Counts : Type 0 where
   -- the number of the first message that isn't confirmed, sent or not
@@ -19,14 +19,10 @@ pub record Counts : Type 0 where
 -- what is kept of a queue's counts
 abbrev pub counts_of : Queue → Counts
 counts_of q = record {
-  oldest = number_of q q.confirmed;
+  oldest = forward_number q q.confirmed;
   outstanding = q.sent - q.confirmed;
   expected = q.received % modulus;
 }
-
--- what is kept of its messages
-abbrev pub unconfirmed : Queue → List Message
-unconfirmed q = drop q.confirmed q.all
 
 -- what is kept of the queue of a new epoch
 abbrev pub kept_first : Counts

@@ -1,5 +1,5 @@
 -- The queue of a link: all messages of an epoch in order, numbered from 0, and how far they have come (RFC 4165 §2.2).
-use Rattle.std.specs.Prelude.{◌≡◌, ℕ, zero, suc, Bool, ◌+◌, ◌-◌, ◌%◌, ◌≤◌, List, [], ◌∷◌, ◌++◌, length, find, Option}
+use Rattle.std.specs.Prelude.{◌≡◌, ℕ, zero, suc, Bool, ◌+◌, ◌-◌, ◌%◌, ◌≤◌, List, [], ◌∷◌, ◌++◌, length, drop, find, Option}
 use Rattle.std.specs.Prelude.{Some, None, Result, Ok, Err, nat_eq, nat_lt, slice_get, if◌then◌else◌}
 use Rattle.std.specs.Option.{option_map}
 use Rattle.signalling_types.specs.Message.{Message}
@@ -26,6 +26,10 @@ pub record IsQueue (w : ℕ) (q : Queue) : Type 0 where
   pub window : q.sent ≤ q.confirmed + w
   pub limit : w ≤ WINDOW
 
+-- the messages that aren't confirmed, sent or not
+abbrev pub unconfirmed : Queue → List Message
+unconfirmed q = drop q.confirmed q.all
+
 -- the queue of a new epoch
 abbrev pub first_queue : Queue
 first_queue = record { base = 0; all = []; confirmed = 0; sent = 0; received = 0 }
@@ -35,8 +39,8 @@ abbrev pub first_queue_at : ℕ → Queue
 first_queue_at number = record { base = number; all = []; confirmed = 0; sent = 0; received = 0 }
 
 -- the forward sequence number (FSN) of message k
-abbrev pub number_of : Queue → ℕ → ℕ
-number_of q k = (q.base + k) % modulus
+abbrev pub forward_number : Queue → ℕ → ℕ
+forward_number q k = (q.base + k) % modulus
 
 -- a backward sequence number names a count from `confirmed` to `sent` where the number after it is that of the message
 -- behind the count (RFC 4165 §2.2)
@@ -53,7 +57,7 @@ counts_from first (suc many) = first ∷ counts_from (first + 1) many
 -- the count that it names, found among those from `confirmed` to `sent`
 abbrev pub named_count : Queue → ℕ → Option ℕ
 named_count q bsn =
-    find (λ n. nat_eq (number_of q n) (next_number bsn)) (counts_from q.confirmed (q.sent - q.confirmed + 1))
+    find (λ n. nat_eq (forward_number q n) (next_number bsn)) (counts_from q.confirmed (q.sent - q.confirmed + 1))
 
 -- how many more messages it confirms
 abbrev pub newly_confirmed : Queue → ℕ → Option ℕ
@@ -100,7 +104,7 @@ numbered number None = None
 -- the next message that goes out: the first that wasn't sent, while fewer than a window are unconfirmed
 abbrev pub to_send : Queue → ℕ → Option Sending
 to_send q window =
-    if nat_lt (q.sent - q.confirmed) window then numbered (number_of q q.sent) (slice_get q.all q.sent) else None
+    if nat_lt (q.sent - q.confirmed) window then numbered (forward_number q q.sent) (slice_get q.all q.sent) else None
 
 -- the queue after it went out
 abbrev pub after_sending : Queue → Option Sending → Queue

@@ -10,12 +10,13 @@ pub enum Outcome {
     Queued(LinkId),
     /// The message is held until its flow may go on.
     Held,
-    /// The message came to a user part of this node.
+    /// The message is for a user part or a subsystem of this node: the caller passes it on, also one that was submitted.
     Local,
-    /// The event was taken.
+    /// The event was taken. A link may have failed by it.
     Handled,
-    /// The event means nothing here, and changed nothing but the notices.
+    /// The event asks for nothing here. What accepting its frame did stands, and a frame that can't be read is noted.
     Ignored,
-    /// The event was refused.
+    /// The event was refused, and changed nothing; but a refused message may be answered (TFP, UDTS), and what accepting
+    /// its frame did stands.
     Refused(Cause),
 }

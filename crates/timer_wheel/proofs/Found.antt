@@ -9,12 +9,11 @@ use Rattle.timer_wheel.specs.declared.name.TimerName.{TimerName}
 use Rattle.timer_wheel.specs.declared.name.RouteTimer.{RouteTimer}
 use Rattle.timer_wheel.specs.declared.named.Timer.{Timer}
 use Rattle.timer_wheel.specs.declared.name.NodeCounts.{NodeCounts}
-use Rattle.timer_wheel.specs.Names.{is_before, has_name, is_of_set}
-use Rattle.timer_wheel.specs.Named.{before, after, cleared, set_cleared, started, lowered, is_due, first_named, count_named}
+use Rattle.timer_wheel.specs.Names.{is_before, is_same, has_name, is_of_set}
+use Rattle.timer_wheel.specs.Named.{named_left, before, after, cleared, set_cleared, started, lowered, is_due, first_named, count_named}
 use Rattle.timer_wheel.specs.Kept.{AreAfter, DoRise, AreNamed}
 use Rattle.timer_wheel.specs.Lists.{without_due}
-use Rattle.timer_wheel.specs.Lookup.{is_same, named_left}
-use Rattle.timer_wheel.specs.Table.{one_less}
+use Rattle.timer_wheel.specs.Timers.{one_less}
 use Rattle.timer_wheel.proofs.Elements.{all-weaker}
 use Rattle.timer_wheel.proofs.Order.{before-asym, before-itself, before-trans}
 use Rattle.timer_wheel.proofs.Same.{same_is, is_itself, other_is_not, before-total, before-differs}

@@ -7,8 +7,8 @@ use Rattle.std.proofs.lemmas.Bool.Decides.{nat_tests}
 use Rattle.std.proofs.Math.ListN.{get_or-map}
 use Rattle.std.specs.Prelude.{Option, Some, None, MatchOption, filter, max}
 use Rattle.std.specs.List.{position_or_len}
-use Rattle.timer_wheel.specs.Table.{Table, place_in, with_left, with_link_left, one_less, is_place_due, ticked_table, due_place, count_places}
-use Rattle.timer_wheel.specs.Lookup.{link_left}
+use Rattle.timer_wheel.specs.Timers.{one_less, no_tick_left}
+use Rattle.timer_wheel.specs.Table.{Table, place_in, link_left, with_left, with_link_left, ticked_table, due_place, count_places}
 use Rattle.timer_wheel.proofs.Places.{in_rows, row_of, column_of}
 
 abbrev pub HasPlaces : Table → Type 0
@@ -119,9 +119,9 @@ links-put kind link v t =
 pub record IsFirst (t : Table) (place : ℕ) : Type 0 where
   pub within : place < length t.left
   pub due : get_or t.left place None ≡ Some 0
-  pub idle : (k : ℕ) → k < place → is_place_due (get_or t.left k None) ≡ false
+  pub idle : (k : ℕ) → k < place → no_tick_left (get_or t.left k None) ≡ false
 
-no_ticks : (o : Option ℕ) → is_place_due o ≡ true → o ≡ Some 0
+no_ticks : (o : Option ℕ) → no_tick_left o ≡ true → o ≡ Some 0
 no_ticks None e = absurd cc
 no_ticks (Some n) e = let z : n ≡ 0 = grind (arith, nat_tests) in ap (λ n. Some n) z
 
@@ -132,18 +132,18 @@ tested n m (Some i) e = (grind (arith, nat_tests, e), grind (arith, nat_tests, e
 
 pub first_place : (t : Table) (place : ℕ) → due_place t ≡ Some place → IsFirst t place
 first_place t place e =
-    let n = position_or_len is_place_due t.left in
+    let n = position_or_len no_tick_left t.left in
     let f = tested n (length t.left) (Some place) e in
     subst (IsFirst t) f.0 (record {
       within = f.1;
-      due = no_ticks (get_or t.left n None) (passes_at_first is_place_due t.left None f.1);
-      idle = λ k l. fails_before_first is_place_due t.left k None l;
+      due = no_ticks (get_or t.left n None) (passes_at_first no_tick_left t.left None f.1);
+      idle = λ k l. fails_before_first no_tick_left t.left k None l;
     })
 
-all_idle : (t : Table) → due_place t ≡ None → (k : ℕ) → k < length t.left → is_place_due (get_or t.left k None) ≡ false
+all_idle : (t : Table) → due_place t ≡ None → (k : ℕ) → k < length t.left → no_tick_left (get_or t.left k None) ≡ false
 all_idle t e k l =
-    let f = tested (position_or_len is_place_due t.left) (length t.left) None e in
-    fails_before_first is_place_due t.left k None (omega (arith, f, l))
+    let f = tested (position_or_len no_tick_left t.left) (length t.left) None e in
+    fails_before_first no_tick_left t.left k None (omega (arith, f, l))
 
 -- a place that is due doesn't come before the first
 pub not_before : (t : Table) (place k : ℕ) → IsFirst t place → get_or t.left k None ≡ Some 0 → place ≤ k
@@ -151,7 +151,7 @@ not_before t place k f e =
     elim (cases_order place k) [
       | inl same ↦ omega (arith, same)
       | inr (inl lower) ↦ omega (arith, lower)
-      | inr (inr higher) ↦ absurd (true≢false (sym (ap is_place_due e) ∙ f.idle k higher))
+      | inr (inr higher) ↦ absurd (true≢false (sym (ap no_tick_left e) ∙ f.idle k higher))
     ]
 
 -- a link's timer that is due stands at a place that is due
@@ -170,17 +170,17 @@ pub none-due : (kind link : ℕ) (t : Table) → HasPlaces t → kind < 9 → du
 none-due kind link t p k e d =
     let s = stands_due kind link t d in
     let within : place_in t.links kind link < length t.left = omega (arith, p, in_rows t.links 9 kind link k (is_below s.there)) in
-    true≢false (sym (ap is_place_due s.due) ∙ all_idle t e (place_in t.links kind link) within)
+    true≢false (sym (ap no_tick_left s.due) ∙ all_idle t e (place_in t.links kind link) within)
 
 -- ---- how many are due
 
 abbrev pub one : Option ℕ → ℕ
-one o = cond (is_place_due o) 1 0
+one o = cond (no_tick_left o) 1 0
 
 count-left : (place : ℕ) (v : Option ℕ) (t : Table) → place < length t.left → count_places (with_left place v t) + one (get_or t.left place None) ≡ count_places t + one v
 count-left place v t h =
-    let new = ap count_places (with_left-there place v t h) ∙ length-filter is_place_due (slice_set t.left place v) in
-    let old = length-filter is_place_due t.left in
+    let new = ap count_places (with_left-there place v t h) ∙ length-filter no_tick_left (slice_set t.left place v) in
+    let old = length-filter no_tick_left t.left in
     let sums = sum_by-set one t.left place v None h in
     omega (arith, new, old, sums)
 
@@ -209,10 +209,10 @@ count-taken t place e =
     let none : one None ≡ 0 = refl in
     omega (arith, c, was, none)
 
-none-pass : (xs : List (Option ℕ)) → ((k : ℕ) → k < length xs → is_place_due (get_or xs k None) ≡ false) → length (filter is_place_due xs) ≡ 0
+none-pass : (xs : List (Option ℕ)) → ((k : ℕ) → k < length xs → no_tick_left (get_or xs k None) ≡ false) → length (filter no_tick_left xs) ≡ 0
 none-pass [] h = refl
 none-pass (x ∷ xs) h =
-    ap (λ b. length (cond b (x ∷ filter is_place_due xs) (filter is_place_due xs))) (h 0 (omega arith))
+    ap (λ b. length (cond b (x ∷ filter no_tick_left xs) (filter no_tick_left xs))) (h 0 (omega arith))
     ∙ none-pass xs (λ k l. h (suc k) (omega (arith, l)))
 
 pub count-none : (t : Table) → due_place t ≡ None → count_places t ≡ 0

@@ -1,6 +1,5 @@
 -- The table and the list together are a finite map.
-use Rattle.std.proofs.Common.{◌≡◌, ◌≢◌, ℕ, nat_lt, ◌==◌, Bool, true, false, cond, refl, sym, ap, ◌∙◌, arith}
-use Rattle.std.proofs.lemmas.Bool.Decides.{nat_tests}
+use Rattle.std.proofs.Common.{◌≡◌, ◌≢◌, ℕ, nat_lt, Bool, true, false, cond, refl, sym, ap, ◌∙◌}
 use Rattle.std.specs.Prelude.{Option, Some, None, max}
 use Rattle.timer_wheel.specs.declared.name.TimerName.{TimerName}
 use Rattle.timer_wheel.specs.declared.name.TimerName.TheVariants as name
@@ -8,18 +7,20 @@ use Rattle.timer_wheel.specs.declared.name.RouteTimer.{RouteTimer}
 use Rattle.timer_wheel.specs.declared.name.RouteTimer.TheVariants as route
 use Rattle.timer_wheel.specs.declared.name.LinkPlace.{LinkPlace}
 use Rattle.timer_wheel.specs.declared.name.NodeCounts.{NodeCounts}
-use Rattle.timer_wheel.specs.Names.{has_name, is_of_set, place_of, name_of_kind}
-use Rattle.timer_wheel.specs.Named.{Named, set_named, started}
-use Rattle.timer_wheel.specs.Timers.{Running, none_running, set_at, set_timer, clear_at, clear_timer, clear_set, ticked}
-use Rattle.timer_wheel.specs.Lookup.{link_left, left_at, left_to, named_left, counts_of, IsWhole}
-use Rattle.timer_wheel.specs.Table.{one_less}
+use Rattle.timer_wheel.specs.Names.{has_name, is_of_set}
+use Rattle.timer_wheel.specs.Places.{place_of, name_of_kind}
+use Rattle.timer_wheel.specs.Named.{Named, named_left, set_named, started}
+use Rattle.timer_wheel.specs.Timers.{one_less}
+use Rattle.timer_wheel.specs.Table.{link_left}
+use Rattle.timer_wheel.specs.Tables.{Tables, left_at, left_to, counts_of, IsWhole}
+use Rattle.timer_wheel.proofs.OnTables.{none_in, set_at, set_in, clear_at, clear_in, clear_set_in, ticked_in}
 use Rattle.timer_wheel.proofs.Places.{IsAt, is_at, IsOfLink, IsOther}
 use Rattle.timer_wheel.proofs.Found as list
 use Rattle.timer_wheel.proofs.InTable as table
 
 -- ---- setting
 
-has_other : (name : TimerName) (r : Running) → IsOther name → (b : Bool) → has_name (counts_of r) name ≡ b → has_name r.others.counts name ≡ b
+has_other : (name : TimerName) (r : Tables) → IsOther name → (b : Bool) → has_name (counts_of r) name ≡ b → has_name r.others.counts name ≡ b
 has_other name r o b h = sym (o.has r.others.counts r.links.links) ∙ h
 
 set_there : (name : TimerName) (ticks : ℕ) (n : Named) → has_name n.counts name ≡ true
@@ -29,8 +30,8 @@ set_there name ticks n h = ap (λ b. cond b (record n { timers = started (record
 set_absent : (name : TimerName) (ticks : ℕ) (n : Named) → has_name n.counts name ≡ false → set_named name ticks n ≡ n
 set_absent name ticks n h = ap (λ b. cond b (record n { timers = started (record { name = name; left = max 1 ticks }) n.timers }) n) h
 
-pub left-set : (name : TimerName) (ticks : ℕ) (r : Running) → IsWhole r → has_name (counts_of r) name ≡ true → left_to name (set_timer name ticks r) ≡ Some (max 1 ticks)
-unfolding left_to set_timer
+pub left-set : (name : TimerName) (ticks : ℕ) (r : Tables) → IsWhole r → has_name (counts_of r) name ≡ true → left_to name (set_in name ticks r) ≡ Some (max 1 ticks)
+unfolding left_to
 left-set name ticks r w h = at (place_of name) (is_at name)
   where
     at : (o : Option LinkPlace) → IsAt name o → left_at o name (set_at o name ticks r) ≡ Some (max 1 ticks)
@@ -41,8 +42,8 @@ left-set name ticks r w h = at (place_of name) (is_at name)
 apart : (name other : TimerName) (p q : LinkPlace) → IsOfLink name p → IsOfLink other q → name ≢ other → (q.kind ≡ p.kind) × (q.link ≡ p.link) → ⊥
 apart name other p q a b h e = h (a.named ∙ sym (λ i. name_of_kind (e.0 i) (e.1 i)) ∙ sym b.named)
 
-pub left-set_other : (name other : TimerName) (ticks : ℕ) (r : Running) → name ≢ other → left_to other (set_timer name ticks r) ≡ left_to other r
-unfolding left_to set_timer
+pub left-set_other : (name other : TimerName) (ticks : ℕ) (r : Tables) → name ≢ other → left_to other (set_in name ticks r) ≡ left_to other r
+unfolding left_to
 left-set_other name other ticks r h = at (place_of name) (place_of other) (is_at name) (is_at other)
   where
     at : (o u : Option LinkPlace) → IsAt name o → IsAt other u → left_at u other (set_at o name ticks r) ≡ left_at u other r
@@ -55,8 +56,7 @@ left-set_other name other ticks r h = at (place_of name) (place_of other) (is_at
           | false ↦ λ e. ap (λ (n : Named). named_left other n.timers) (set_absent name ticks r.others e)
         ] refl
 
-pub set-absent : (name : TimerName) (ticks : ℕ) (r : Running) → has_name (counts_of r) name ≡ false → set_timer name ticks r ≡ r
-unfolding set_timer
+pub set-absent : (name : TimerName) (ticks : ℕ) (r : Tables) → has_name (counts_of r) name ≡ false → set_in name ticks r ≡ r
 set-absent name ticks r h = at (place_of name) (is_at name)
   where
     at : (o : Option LinkPlace) → IsAt name o → set_at o name ticks r ≡ r
@@ -65,8 +65,8 @@ set-absent name ticks r h = at (place_of name) (is_at name)
 
 -- ---- stopping
 
-pub left-clear : (name : TimerName) (r : Running) → IsWhole r → left_to name (clear_timer name r) ≡ None
-unfolding left_to clear_timer
+pub left-clear : (name : TimerName) (r : Tables) → IsWhole r → left_to name (clear_in name r) ≡ None
+unfolding left_to
 left-clear name r w = at (place_of name) (is_at name)
   where
     at : (o : Option LinkPlace) → IsAt name o → left_at o name (clear_at o name r) ≡ None
@@ -77,8 +77,8 @@ left-clear name r w = at (place_of name) (is_at name)
         ] refl
     at None q = list.left-cleared name r.others.timers
 
-pub left-clear_other : (name other : TimerName) (r : Running) → name ≢ other → left_to other (clear_timer name r) ≡ left_to other r
-unfolding left_to clear_timer
+pub left-clear_other : (name other : TimerName) (r : Tables) → name ≢ other → left_to other (clear_in name r) ≡ left_to other r
+unfolding left_to
 left-clear_other name other r h = at (place_of name) (place_of other) (is_at name) (is_at other)
   where
     at : (o u : Option LinkPlace) → IsAt name o → IsAt other u → left_at u other (clear_at o name r) ≡ left_at u other r
@@ -89,46 +89,45 @@ left-clear_other name other r h = at (place_of name) (place_of other) (is_at nam
 
 -- ---- stopping the timers of a set
 
-same_set : (set : ℕ) → (set == set) ≡ true
-same_set set = grind (arith, nat_tests)
+-- these aren't of a link
+not_of_link : (timer : RouteTimer) (set : ℕ) (name : TimerName) → is_of_set timer set name ≡ true → place_of name ≡ None
+not_of_link route.T8 set (name.T8 s destination) h = refl
+not_of_link route.T10 set (name.T10 s destination) h = refl
+not_of_link timer set name h = absurd cc
 
-pub left-clear_t8 : (set destination : ℕ) (r : Running) → left_to (name.T8 set destination) (clear_set route.T8 set r) ≡ None
-unfolding left_to clear_set
-left-clear_t8 set destination r = list.left-set_cleared route.T8 set (name.T8 set destination) r.others.timers (same_set set)
+pub left-clear_set : (timer : RouteTimer) (set : ℕ) (name : TimerName) (r : Tables) → is_of_set timer set name ≡ true → left_to name (clear_set_in timer set r) ≡ None
+unfolding left_to
+left-clear_set timer set name r h = ap (λ o. left_at o name (clear_set_in timer set r)) (not_of_link timer set name h) ∙ list.left-set_cleared timer set name r.others.timers h
 
-pub left-clear_t10 : (set destination : ℕ) (r : Running) → left_to (name.T10 set destination) (clear_set route.T10 set r) ≡ None
-unfolding left_to clear_set
-left-clear_t10 set destination r = list.left-set_cleared route.T10 set (name.T10 set destination) r.others.timers (same_set set)
-
-pub left-clear_set_other : (timer : RouteTimer) (set : ℕ) (other : TimerName) (r : Running) → is_of_set timer set other ≡ false
-    → left_to other (clear_set timer set r) ≡ left_to other r
-unfolding left_to clear_set
+pub left-clear_set_other : (timer : RouteTimer) (set : ℕ) (other : TimerName) (r : Tables) → is_of_set timer set other ≡ false
+    → left_to other (clear_set_in timer set r) ≡ left_to other r
+unfolding left_to
 left-clear_set_other timer set other r h = at (place_of other)
   where
-    at : (o : Option LinkPlace) → left_at o other (clear_set timer set r) ≡ left_at o other r
+    at : (o : Option LinkPlace) → left_at o other (clear_set_in timer set r) ≡ left_at o other r
     at (Some p) = refl
     at None = list.left-set_cleared_other timer set other r.others.timers h
 
 -- ---- at first, and by a tick
 
-pub left-none : (name : TimerName) (n : NodeCounts) → left_to name (none_running n) ≡ None
+pub left-none : (name : TimerName) (n : NodeCounts) → left_to name (none_in n) ≡ None
 unfolding left_to
 left-none name n = at (place_of name) (is_at name)
   where
-    at : (o : Option LinkPlace) → IsAt name o → left_at o name (none_running n) ≡ None
+    at : (o : Option LinkPlace) → IsAt name o → left_at o name (none_in n) ≡ None
     at (Some p) q = table.left-none n.links p.kind p.link q.kind
     at None q = refl
 
-pub left-ticked : (name : TimerName) (r : Running) → left_to name (ticked r) ≡ one_less (left_to name r)
+pub left-ticked : (name : TimerName) (r : Tables) → left_to name (ticked_in r) ≡ one_less (left_to name r)
 unfolding left_to
 left-ticked name r = at (place_of name)
   where
-    at : (o : Option LinkPlace) → left_at o name (ticked r) ≡ one_less (left_at o name r)
+    at : (o : Option LinkPlace) → left_at o name (ticked_in r) ≡ one_less (left_at o name r)
     at (Some p) = table.left-ticked p.kind p.link r.links
     at None = list.left-lowered name r.others.timers
 
 -- only a name that the node has runs
-pub left-absent : (name : TimerName) (r : Running) → IsWhole r → has_name (counts_of r) name ≡ false → left_to name r ≡ None
+pub left-absent : (name : TimerName) (r : Tables) → IsWhole r → has_name (counts_of r) name ≡ false → left_to name r ≡ None
 unfolding left_to
 left-absent name r w h = at (place_of name) (is_at name)
   where

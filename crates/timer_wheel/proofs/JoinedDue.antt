@@ -2,53 +2,52 @@
 use Rattle.std.proofs.Common.{◌≡◌, ◌≢◌, ℕ, nat_lt, ◌+◌, ◌/◌, ◌%◌, ◌<◌, ◌≤◌, ◌⊎◌, true, cond, inl, inr, get_or, refl, sym, ap, subst, ◌∙◌, arith}
 use Rattle.std.proofs.lemmas.Bool.{cases_order}
 use Rattle.std.proofs.lemmas.Bool.Decides.{nat_tests}
-use Rattle.std.specs.Prelude.{Option, Some, None, max}
+use Rattle.std.specs.Prelude.{Option, Some, None}
 use Rattle.std.specs.Option.{option_map_or}
 use Rattle.timer_wheel.specs.declared.name.TimerName.{TimerName}
-use Rattle.timer_wheel.specs.declared.name.RouteTimer.{RouteTimer}
 use Rattle.timer_wheel.specs.declared.name.Key.{Key}
 use Rattle.timer_wheel.specs.declared.name.LinkPlace.{LinkPlace}
-use Rattle.timer_wheel.specs.Names.{key, key_of, is_key_before, is_before, place_of, link_place, name_of_kind, name_at}
+use Rattle.timer_wheel.specs.Names.{key, key_of, is_key_before, is_before}
+use Rattle.timer_wheel.specs.Places.{place_of, link_place, name_of_kind, name_at}
 use Rattle.timer_wheel.specs.Named.{Named, after_named, clear_named, first_named, count_named}
-use Rattle.timer_wheel.specs.Table.{Table, place_in, due_place, with_left, with_link_left}
-use Rattle.timer_wheel.specs.Timers.{Running, clear_at, clear_timer, clear_set, set_at, set_timer, due_by, due_name, after_due_by, after_due, due_count}
-use Rattle.timer_wheel.specs.Lookup.{link_left, left_at, left_to, IsWhole}
+use Rattle.timer_wheel.specs.Table.{Table, place_in, link_left, due_place, with_left, with_link_left}
+use Rattle.timer_wheel.specs.Tables.{Tables, left_at, left_to, IsWhole}
+use Rattle.timer_wheel.proofs.OnTables.{clear_at, clear_in, due_by, due_in, after_due_by, after_due_in, count_in}
 use Rattle.timer_wheel.proofs.Places.{IsAt, is_at, IsOfLink, IsOther, placed, has_row, HasRow, later_place, row_of, column_of}
 use Rattle.timer_wheel.proofs.Rising.{left_after, left-without_due}
-use Rattle.timer_wheel.proofs.Due.{set-due, clear-due, clear_set-due}
 use Rattle.timer_wheel.proofs.Found as list
 use Rattle.timer_wheel.proofs.InTable as table
 
 -- ---- the name that is due
 
 -- the timer of a link is due, at its place
-pub record DueLink (name : TimerName) (place : ℕ) (r : Running) : Type 0 where
+pub record DueLink (name : TimerName) (place : ℕ) (r : Tables) : Type 0 where
   pub first : due_place r.links ≡ Some place
   pub named : name_at r.links.links place ≡ name
 
 -- or another is, and none of a link
-pub record DueOther (name : TimerName) (r : Running) : Type 0 where
+pub record DueOther (name : TimerName) (r : Tables) : Type 0 where
   pub idle : due_place r.links ≡ None
   pub first : first_named r.others.timers ≡ Some name
 
 some_is : {A : Type 0} {x y : A} → Some x ≡ Some y → x ≡ y
 some_is {A} {x} {y} e = cc
 
-abbrev IsDue : TimerName → Running → Type 0
+abbrev IsDue : TimerName → Tables → Type 0
 IsDue name r = ((place : ℕ) × DueLink name place r) ⊎ DueOther name r
 
-is_due : (name : TimerName) (r : Running) → due_name r ≡ Some name → IsDue name r
+is_due : (name : TimerName) (r : Tables) → due_in r ≡ Some name → IsDue name r
 is_due name r e =
     elim (due_place r.links) as (λ o. due_place r.links ≡ o → due_by o r ≡ Some name → IsDue name r) [
       | Some place ↦ λ d k. inl (place, record { first = d; named = some_is k })
       | None ↦ λ d k. inr (record { idle = d; first = k })
     ] refl e
 
-pub record NoneDue (r : Running) : Type 0 where
+pub record NoneDue (r : Tables) : Type 0 where
   pub links : due_place r.links ≡ None
   pub others : first_named r.others.timers ≡ None
 
-none_due : (r : Running) → due_name r ≡ None → NoneDue r
+none_due : (r : Tables) → due_in r ≡ None → NoneDue r
 none_due r e =
     elim (due_place r.links) as (λ o. due_place r.links ≡ o → due_by o r ≡ None → NoneDue r) [
       | Some place ↦ λ d k. absurd cc
@@ -56,17 +55,17 @@ none_due r e =
     ] refl e
 
 -- the row and column of the place that is due
-row_due : (name : TimerName) (place : ℕ) (r : Running) → IsWhole r → DueLink name place r → HasRow r.links.links place
+row_due : (name : TimerName) (place : ℕ) (r : Tables) → IsWhole r → DueLink name place r → HasRow r.links.links place
 row_due name place r w d = has_row r.links.links place (let f = (table.first_place r.links place d.first).within in omega (arith, f, w.places))
 
-abbrev place_at : ℕ → Running → LinkPlace
+abbrev place_at : ℕ → Tables → LinkPlace
 place_at place r = link_place (place / r.links.links) (place % r.links.links)
 
-place_due : (name : TimerName) (place : ℕ) (r : Running) → IsWhole r → DueLink name place r → place_of name ≡ Some (place_at place r)
+place_due : (name : TimerName) (place : ℕ) (r : Tables) → IsWhole r → DueLink name place r → place_of name ≡ Some (place_at place r)
 place_due name place r w d = ap place_of (sym d.named) ∙ placed (place / r.links.links) (place % r.links.links) (row_due name place r w d).kind
 
 -- none of a link is in the list
-other_place : (name : TimerName) (r : Running) → IsWhole r → DueOther name r → place_of name ≡ None
+other_place : (name : TimerName) (r : Tables) → IsWhole r → DueOther name r → place_of name ≡ None
 other_place name r w d = at (place_of name) (is_at name)
   where
     none_below : (n m : ℕ) → m ≡ 0 → nat_lt n m ≡ true → ⊥
@@ -78,7 +77,7 @@ other_place name r w d = at (place_of name) (is_at name)
 
 -- ---- it has no tick left
 
-pub due-left : (name : TimerName) (r : Running) → IsWhole r → due_name r ≡ Some name → left_to name r ≡ Some 0
+pub due-left : (name : TimerName) (r : Tables) → IsWhole r → due_in r ≡ Some name → left_to name r ≡ Some 0
 unfolding left_to
 due-left name r w e =
     elim (is_due name r e) [
@@ -112,7 +111,7 @@ other-behind : (name other : TimerName) (p : LinkPlace) → IsOfLink name p → 
 other-behind name other p a b = kind-before (key_of name) (key_of other) (let k : (key_of name).kind ≡ p.kind = ap (λ (x : Key). x.kind) a.key in omega (arith, k, a.kind)) b.behind
 
 -- another link's timer that is due stands behind the first
-link_behind : (name other : TimerName) (place : ℕ) (q : LinkPlace) (r : Running) → IsWhole r → DueLink name place r → IsOfLink other q → name ≢ other → link_left q.kind q.link r.links ≡ Some 0
+link_behind : (name other : TimerName) (place : ℕ) (q : LinkPlace) (r : Tables) → IsWhole r → DueLink name place r → IsOfLink other q → name ≢ other → link_left q.kind q.link r.links ≡ Some 0
     → is_before name other ≡ true
 link_behind name other place q r w d b h k =
     let t = r.links in
@@ -135,7 +134,7 @@ link_behind name other place q r w d b h k =
           | inr (inr higher) ↦ absurd (omega (arith, h, higher))
         ]
 
-pub due-first : (name other : TimerName) (r : Running) → IsWhole r → due_name r ≡ Some name → left_to other r ≡ Some 0 → name ≢ other → is_before name other ≡ true
+pub due-first : (name other : TimerName) (r : Tables) → IsWhole r → due_in r ≡ Some name → left_to other r ≡ Some 0 → name ≢ other → is_before name other ≡ true
 unfolding left_to
 due-first name other r w e k h =
     elim (is_due name r e) [
@@ -151,7 +150,7 @@ due-first name other r w e k h =
     of_other d (Some q) b k = absurd (table.none-due q.kind q.link r.links w.places b.kind d.idle k)
     of_other d None b k = list.first-before name other r.others.timers w.rise d.first k h
 
-pub due-none : (name : TimerName) (r : Running) → IsWhole r → due_name r ≡ None → left_to name r ≡ Some 0 → ⊥
+pub due-none : (name : TimerName) (r : Tables) → IsWhole r → due_in r ≡ None → left_to name r ≡ Some 0 → ⊥
 unfolding left_to
 due-none name r w e k = at (place_of name) (is_at name) k
   where
@@ -164,8 +163,7 @@ due-none name r w e k = at (place_of name) (is_at name) k
 after-others : (name : TimerName) (n : Named) → first_named n.timers ≡ Some name → after_named n ≡ clear_named name n
 after-others name n e = ap (λ o. option_map_or (λ name. clear_named name n) o n) e
 
-pub after-clear : (name : TimerName) (r : Running) → IsWhole r → due_name r ≡ Some name → after_due r ≡ clear_timer name r
-unfolding clear_timer
+pub after-clear : (name : TimerName) (r : Tables) → IsWhole r → due_in r ≡ Some name → after_due_in r ≡ clear_in name r
 after-clear name r w e =
     elim (is_due name r e) [
       | inl (place, d) ↦
@@ -180,7 +178,7 @@ after-clear name r w e =
           ∙ sym (ap (λ o. clear_at o name r) (other_place name r w d))
     ]
 
-pub after-none : (r : Running) → due_name r ≡ None → after_due r ≡ r
+pub after-none : (r : Tables) → due_in r ≡ None → after_due_in r ≡ r
 after-none r e =
     let d = none_due r e in
     ap (λ o. after_due_by o r) d.links
@@ -188,15 +186,15 @@ after-none r e =
 
 -- ---- how many are due
 
-pub count-after : (name : TimerName) (r : Running) → IsWhole r → due_name r ≡ Some name → due_count (after_due r) + 1 ≡ due_count r
+pub count-after : (name : TimerName) (r : Tables) → IsWhole r → due_in r ≡ Some name → count_in (after_due_in r) + 1 ≡ count_in r
 count-after name r w e =
     elim (is_due name r e) [
       | inl (place, d) ↦
-          let all = ap due_count (ap (λ o. after_due_by o r) d.first) in
+          let all = ap count_in (ap (λ o. after_due_by o r) d.first) in
           let one = table.count-taken r.links place d.first in
           omega (arith, all, one)
       | inr d ↦
-          let all = ap due_count (ap (λ o. after_due_by o r) d.idle) in
+          let all = ap count_in (ap (λ o. after_due_by o r) d.idle) in
           let ts = r.others.timers in
           let rest = ap (λ (n : Named). count_named n.timers) (after-others name r.others d.first) in
           let cut = ap count_named (ap (λ o. left_after o ts) (sym d.first) ∙ left-without_due ts w.rise) in
@@ -204,27 +202,7 @@ count-after name r w e =
           omega (arith, all, rest, cut, one)
     ]
 
-pub count-none : (r : Running) → due_name r ≡ None → due_count r ≡ 0
+pub count-none : (r : Tables) → due_in r ≡ None → count_in r ≡ 0
 count-none r e =
     let d = none_due r e in
     omega (arith, table.count-none r.links d.links, list.count-none r.others.timers d.others)
-
-pub count-set : (name : TimerName) (ticks : ℕ) (r : Running) → due_count (set_timer name ticks r) ≤ due_count r
-unfolding set_timer
-count-set name ticks r = at (place_of name)
-  where
-    at : (o : Option LinkPlace) → due_count (set_at o name ticks r) ≤ due_count r
-    at (Some p) = omega (arith, table.count-put_le p.kind p.link (Some (max 1 ticks)) r.links (table.set-one ticks))
-    at None = omega (arith, set-due name ticks r.others)
-
-pub count-clear : (name : TimerName) (r : Running) → due_count (clear_timer name r) ≤ due_count r
-unfolding clear_timer
-count-clear name r = at (place_of name)
-  where
-    at : (o : Option LinkPlace) → due_count (clear_at o name r) ≤ due_count r
-    at (Some p) = omega (arith, table.count-put_le p.kind p.link None r.links refl)
-    at None = omega (arith, clear-due name r.others)
-
-pub count-clear_set : (timer : RouteTimer) (set : ℕ) (r : Running) → due_count (clear_set timer set r) ≤ due_count r
-unfolding clear_set
-count-clear_set timer set r = omega (arith, clear_set-due timer set r.others)

@@ -9,7 +9,8 @@ use Rattle.timer_wheel.specs.declared.name.TimerName.{TimerName}
 use Rattle.timer_wheel.specs.declared.name.TimerName.TheVariants.{L1, L2, L3, L4, L6, L7, T1, T2, T3, T4, T6, T8, T10}
 use Rattle.timer_wheel.specs.declared.name.LinkPlace.{LinkPlace}
 use Rattle.timer_wheel.specs.declared.name.NodeCounts.{NodeCounts}
-use Rattle.timer_wheel.specs.Names.{key, key_of, has_name, place_of, link_place, name_of_kind}
+use Rattle.timer_wheel.specs.Names.{key, key_of, has_name}
+use Rattle.timer_wheel.specs.Places.{place_of, link_place, name_of_kind}
 use Rattle.timer_wheel.specs.Table.{place_in}
 
 -- ---- arithmetic

@@ -6,10 +6,9 @@ use Rattle.std.specs.List.Sorted.{IsPartitionedBy}
 use Rattle.timer_wheel.specs.declared.name.TimerName.{TimerName}
 use Rattle.timer_wheel.specs.declared.named.Timer.{Timer}
 use Rattle.timer_wheel.specs.Names.{is_before}
-use Rattle.timer_wheel.specs.Named.{before, after, cleared, started}
+use Rattle.timer_wheel.specs.Named.{named_left, before, after, cleared, started}
 use Rattle.timer_wheel.specs.Kept.{AreAfter, DoRise}
 use Rattle.timer_wheel.specs.Lists.{is_found, has_timer, StandsAt, FitsAt}
-use Rattle.timer_wheel.specs.Lookup.{named_left}
 use Rattle.timer_wheel.proofs.Elements.{each_at, filter-all}
 use Rattle.timer_wheel.proofs.Order.{before-asym, before-trans}
 use Rattle.timer_wheel.proofs.Same.{neither-before, before-differs}

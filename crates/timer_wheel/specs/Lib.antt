@@ -1,8 +1,10 @@
 pub mod Names
-pub mod Named
-pub mod Kept
+pub mod Timers
+pub mod OneMap
+pub mod Places
 pub mod Table
 pub mod TableRoom
-pub mod Timers
-pub mod Lookup
+pub mod Named
+pub mod Kept
 pub mod Lists
+pub mod Tables

@@ -4,10 +4,9 @@ use Rattle.std.specs.Prelude.{slice_get, slice_set, insert, remove}
 use Rattle.std.specs.Option.{option_map_or}
 use Rattle.std.specs.List.{list_any}
 use Rattle.timer_wheel.specs.declared.name.TimerName.{TimerName}
-use Rattle.timer_wheel.specs.Names.{is_before}
+use Rattle.timer_wheel.specs.Names.{is_before, is_same}
 use Rattle.timer_wheel.specs.declared.named.Timer.{Timer}
 use Rattle.timer_wheel.specs.Named.{is_due, started, cleared}
-use Rattle.timer_wheel.specs.Lookup.{is_same}
 
 -- the timers without the first that is due
 abbrev pub without_due : List Timer → List Timer

@@ -1,12 +1,12 @@
--- The timers that run: a finite map from names to the ticks that are left, as the list of its entries in name order.
+-- The timers that run, as a list in name order.
 use Rattle.std.specs.Prelude.{ℕ, ◌+◌, ◌-◌, ◌==◌, max, Bool, not, if◌then◌else◌}
-use Rattle.std.specs.Prelude.{List, [], ◌∷◌, ◌++◌, map, filter, find, Option}
+use Rattle.std.specs.Prelude.{List, [], ◌∷◌, ◌++◌, map, filter, find, Option, None, Some, is_some}
 use Rattle.std.specs.Option.{option_map, option_map_or}
 use Rattle.timer_wheel.specs.declared.name.TimerName.{TimerName}
 use Rattle.timer_wheel.specs.declared.name.RouteTimer.{RouteTimer}
 use Rattle.timer_wheel.specs.declared.name.NodeCounts.{NodeCounts}
 use Rattle.timer_wheel.specs.declared.named.Timer.{Timer}
-use Rattle.timer_wheel.specs.Names.{is_before, has_name, is_of_set}
+use Rattle.timer_wheel.specs.Names.{is_before, is_same, has_name, is_of_set}
 
 -- the timers whose names come before a name
 abbrev pub before : TimerName → List Timer → List Timer
@@ -19,6 +19,11 @@ after name timers = filter (λ t. is_before name t.name) timers
 -- no timer of this name runs
 abbrev pub cleared : TimerName → List Timer → List Timer
 cleared name timers = before name timers ++ after name timers
+
+-- the ticks that are left to the timer of a name
+abbrev pub named_left : TimerName → List Timer → Option ℕ
+named_left name [] = None
+named_left name (t ∷ timers) = if is_same t.name name then Some t.left else named_left name timers
 
 -- this timer of this set runs for no destination
 abbrev pub set_cleared : RouteTimer → ℕ → List Timer → List Timer
@@ -53,6 +58,10 @@ set_named name ticks r =
     if has_name r.counts name
     then record r { timers = started (record { name = name; left = max 1 ticks }) r.timers }
     else r
+
+-- a timer that runs goes on, and another is set
+abbrev pub start_named : TimerName → ℕ → Named → Named
+start_named name ticks r = if is_some (named_left name r.timers) then r else set_named name ticks r
 
 -- a timer is stopped
 abbrev pub clear_named : TimerName → Named → Named

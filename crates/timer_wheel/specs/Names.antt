@@ -1,12 +1,11 @@
 -- The names of timers: their order, and which of them a node has.
-use Rattle.std.specs.Prelude.{ℕ, ◌+◌, ◌*◌, ◌/◌, ◌%◌, ◌==◌, nat_lt, Bool, false, ◌&&◌, ◌||◌, if◌then◌else◌}
-use Rattle.std.specs.Prelude.{Option, None, Some}
+use Rattle.std.specs.Prelude.{◌≡◌, ℕ, ◌+◌, ◌*◌, ◌==◌, nat_lt, Bool, true, false, ◌&&◌, ◌||◌, List, [], ◌∷◌, map}
+use Rattle.std.specs.List.{AllByRecursion, flat_map, range_with_len}
 use Rattle.timer_wheel.specs.declared.name.TimerName.{TimerName}
 use Rattle.timer_wheel.specs.declared.name.TimerName.TheVariants.{L1, L2, L3, L4, L6, L7, T1, T2, T3, T4, T6, T8, T10}
 use Rattle.timer_wheel.specs.declared.name.RouteTimer.{RouteTimer}
 use Rattle.timer_wheel.specs.declared.name.RouteTimer.TheVariants as route
 use Rattle.timer_wheel.specs.declared.name.Key.{Key}
-use Rattle.timer_wheel.specs.declared.name.LinkPlace.{LinkPlace}
 use Rattle.timer_wheel.specs.declared.name.NodeCounts.{NodeCounts}
 
 -- ---- name order: by kind, then in the order of the settings
@@ -38,7 +37,14 @@ is_key_before x y =
 abbrev pub is_before : TimerName → TimerName → Bool
 is_before x y = is_key_before (key_of x) (key_of y)
 
--- ---- the timers of a node
+abbrev pub is_same_key : Key → Key → Bool
+is_same_key x y = x.kind == y.kind && (x.row == y.row && x.column == y.column)
+
+-- whether two names are one
+abbrev pub is_same : TimerName → TimerName → Bool
+is_same x y = is_same_key (key_of x) (key_of y)
+
+-- ---- the names of a node
 
 -- whether a node has a timer of this name
 abbrev pub has_name : NodeCounts → TimerName → Bool
@@ -61,45 +67,43 @@ has_name n (T10 set destination) = nat_lt set n.sets && nat_lt destination n.des
 abbrev pub count_of : NodeCounts → ℕ
 count_of n = 9 * n.links + 16 * n.sets + n.destinations + 2 * (n.sets * n.destinations)
 
+-- so many names of one kind
+abbrev pub each : (ℕ → TimerName) → ℕ → List TimerName
+each name count = map name (range_with_len 0 count)
+
+-- those of so many rows, and of so many columns within each
+abbrev pub each_in_rows : (ℕ → ℕ → TimerName) → (rows columns : ℕ) → List TimerName
+each_in_rows name rows columns = flat_map (λ row. each (name row) columns) (range_with_len 0 rows)
+
+-- the names that a node has, kind by kind
+abbrev pub names_by_kind : NodeCounts → List (List TimerName)
+names_by_kind n =
+    each L1 n.links
+    ∷ each L2 n.links
+    ∷ each L3 n.links
+    ∷ each L4 n.links
+    ∷ each L6 n.links
+    ∷ each L7 n.links
+    ∷ each T1 n.links
+    ∷ each T2 n.links
+    ∷ each T3 n.links
+    ∷ each_in_rows T4 n.sets 16
+    ∷ each T6 n.destinations
+    ∷ each_in_rows T8 n.sets n.destinations
+    ∷ each_in_rows T10 n.sets n.destinations
+    ∷ []
+
+-- all names that a node has, in order
+unfoldable pub names_of : NodeCounts → List TimerName
+names_of n = flat_map (λ names. names) (names_by_kind n)
+
 -- whether a name is this timer of this set, for whatever destination
 abbrev pub is_of_set : RouteTimer → ℕ → TimerName → Bool
 is_of_set route.T8 set (T8 s destination) = s == set
 is_of_set route.T10 set (T10 s destination) = s == set
 is_of_set timer set name = false
 
--- ---- the timers of links, by their places
-
-abbrev pub link_place : (kind link : ℕ) → LinkPlace
-link_place kind link = record { kind = kind; link = link }
-
--- the kind and the link of a timer of a link; kinds are numbered in name order
-abbrev pub place_of : TimerName → Option LinkPlace
-place_of (L1 link) = Some (link_place 0 link)
-place_of (L2 link) = Some (link_place 1 link)
-place_of (L3 link) = Some (link_place 2 link)
-place_of (L4 link) = Some (link_place 3 link)
-place_of (L6 link) = Some (link_place 4 link)
-place_of (L7 link) = Some (link_place 5 link)
-place_of (T1 link) = Some (link_place 6 link)
-place_of (T2 link) = Some (link_place 7 link)
-place_of (T3 link) = Some (link_place 8 link)
-place_of (T4 set code) = None
-place_of (T6 destination) = None
-place_of (T8 set destination) = None
-place_of (T10 set destination) = None
-
--- the name of the timer of a kind and a link
-abbrev pub name_of_kind : (kind link : ℕ) → TimerName
-name_of_kind kind link =
-    if kind == 0 then L1 link
-    else if kind == 1 then L2 link
-    else if kind == 2 then L3 link
-    else if kind == 3 then L4 link
-    else if kind == 4 then L6 link
-    else if kind == 5 then L7 link
-    else if kind == 6 then T1 link
-    else if kind == 7 then T2 link
-    else T3 link
-
-abbrev pub name_at : (links place : ℕ) → TimerName
-name_at links place = name_of_kind (place / links) (place % links)
+-- names that rise: each stands once
+abbrev pub AreInOrder : List TimerName → Type 0
+AreInOrder [] = Unit {0}
+AreInOrder (name ∷ names) = AllByRecursion (λ later. is_before name later ≡ true) names × AreInOrder names

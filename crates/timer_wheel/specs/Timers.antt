@@ -1,67 +1,80 @@
--- The timers that run: a finite map from names to the ticks that are left, as a table for links and a list for the
--- others.
-use Rattle.std.specs.Prelude.{ℕ, ◌+◌, ◌*◌, [], replicate, Option, Some, None, max}
+-- The timers of a node: a finite map from names to the ticks that are left.
+use Rattle.std.specs.Prelude.{◌≡◌, ℕ, ◌-◌, ◌==◌, max, Bool, false, if◌then◌else◌, Option, None, Some}
+use Rattle.std.specs.Prelude.{length, filter, find, is_some}
+use Rattle.std.specs.Option.{option_map_or}
+use Rattle.std.proofs.Common.{ap}
 use Rattle.timer_wheel.specs.declared.name.TimerName.{TimerName}
 use Rattle.timer_wheel.specs.declared.name.RouteTimer.{RouteTimer}
 use Rattle.timer_wheel.specs.declared.name.NodeCounts.{NodeCounts}
-use Rattle.timer_wheel.specs.declared.name.LinkPlace.{LinkPlace}
-use Rattle.timer_wheel.specs.Names.{place_of, name_at}
-use Rattle.timer_wheel.specs.Table.{Table, with_link_left, with_left, ticked_table, due_place, count_places}
-use Rattle.timer_wheel.specs.Named.{Named, set_named, clear_named, clear_set_named, ticked_named, first_named}
-use Rattle.timer_wheel.specs.Named.{after_named, count_named}
+use Rattle.timer_wheel.specs.Names.{has_name, names_of, is_same, is_of_set}
 
 pub record Running : Type 0 where
-  pub links : Table
-  pub others : Named
+  -- how many links, sets and destinations there are, which says what names exist
+  pub counts : NodeCounts
+  -- the ticks that are left to a timer, 0 where it is due; nothing where it doesn't run
+  pub left : TimerName → Option ℕ
+  -- a name that doesn't exist has nothing
+  pub only : (name : TimerName) → has_name counts name ≡ false → left name ≡ None
 
--- no timer runs; the list has room for no link's, since they stand in the table
-abbrev pub none_running : NodeCounts → Running
-none_running n = record {
-  links = record { links = n.links; left = replicate (9 * n.links) None };
-  others = record { counts = record n { links = 0 }; timers = [] };
+-- these ticks are left to the names that exist; any other is left aside
+abbrev pub running_with : NodeCounts → (TimerName → Option ℕ) → Running
+running_with n left = record {
+  counts = n;
+  left = λ name. if has_name n name then left name else None;
+  only = λ name h. ap (λ (has : Bool). if has then left name else None) h;
 }
 
--- a timer runs out after so many ticks, at the next one where that is 0; a name that the node doesn't have is left
--- aside
-abbrev pub set_at : Option LinkPlace → TimerName → ℕ → Running → Running
-set_at (Some p) name ticks r = record r { links = with_link_left p.kind p.link (Some (max 1 ticks)) r.links }
-set_at None name ticks r = record r { others = set_named name ticks r.others }
+-- no timer runs
+abbrev pub none_running : NodeCounts → Running
+none_running n = running_with n (λ name. None)
 
+-- whether a timer runs, also where it is due and not handed out yet
+abbrev pub is_running : TimerName → Running → Bool
+is_running name r = is_some (r.left name)
+
+-- a timer runs out after so many ticks, at the next one where that is 0, whatever it was set to before; a name that
+-- doesn't exist is left aside
 unfoldable pub set_timer : TimerName → ℕ → Running → Running
-set_timer name ticks r = set_at (place_of name) name ticks r
+set_timer name ticks r = running_with r.counts (λ other. if is_same name other then Some (max 1 ticks) else r.left other)
+
+-- a timer that runs goes on, and another is set
+unfoldable pub start_unless_running : TimerName → ℕ → Running → Running
+start_unless_running name ticks r = if is_running name r then r else set_timer name ticks r
 
 -- a timer is stopped
-abbrev pub clear_at : Option LinkPlace → TimerName → Running → Running
-clear_at (Some p) name r = record r { links = with_link_left p.kind p.link None r.links }
-clear_at None name r = record r { others = clear_named name r.others }
-
 unfoldable pub clear_timer : TimerName → Running → Running
-clear_timer name r = clear_at (place_of name) name r
+clear_timer name r = running_with r.counts (λ other. if is_same name other then None else r.left other)
 
--- a timer of a set is stopped, for every destination; none of these is of a link
+-- a timer of a set is stopped, for every destination
 unfoldable pub clear_set : RouteTimer → ℕ → Running → Running
-clear_set timer set r = record r { others = clear_set_named timer set r.others }
+clear_set timer set r = running_with r.counts (λ other. if is_of_set timer set other then None else r.left other)
 
--- a tick lowers all timers
+-- one tick less
+abbrev pub one_less : Option ℕ → Option ℕ
+one_less None = None
+one_less (Some left) = Some (left - 1)
+
+-- a tick lowers each timer
 abbrev pub ticked : Running → Running
-ticked r = record { links = ticked_table r.links; others = ticked_named r.others }
+ticked r = running_with r.counts (λ name. one_less (r.left name))
 
--- the first name that is due: the timers of links come before the others
-abbrev pub due_by : Option ℕ → Running → Option TimerName
-due_by (Some place) r = Some (name_at r.links.links place)
-due_by None r = first_named r.others.timers
+-- no tick is left
+abbrev pub no_tick_left : Option ℕ → Bool
+no_tick_left None = false
+no_tick_left (Some left) = left == 0
 
-abbrev pub due_name : Running → Option TimerName
-due_name r = due_by (due_place r.links) r
+-- whether a timer is due: it runs, and no tick is left
+abbrev pub is_due : Running → TimerName → Bool
+is_due r name = no_tick_left (r.left name)
+
+-- the first timer that is due, in the order of names
+unfoldable pub due_name : Running → Option TimerName
+due_name r = find (is_due r) (names_of r.counts)
 
 -- it is handed out, and runs no longer
-abbrev pub after_due_by : Option ℕ → Running → Running
-after_due_by (Some place) r = record r { links = with_left place None r.links }
-after_due_by None r = record r { others = after_named r.others }
-
-abbrev pub after_due : Running → Running
-after_due r = after_due_by (due_place r.links) r
+unfoldable pub after_due : Running → Running
+after_due r = option_map_or (λ name. clear_timer name r) (due_name r) r
 
 -- how many timers are due
-abbrev pub due_count : Running → ℕ
-due_count r = count_places r.links + count_named r.others.timers
+unfoldable pub due_count : Running → ℕ
+due_count r = length (filter (is_due r) (names_of r.counts))

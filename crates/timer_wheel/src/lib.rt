@@ -4,11 +4,9 @@
 pub mod laws;
 mod list;
 pub mod name;
-pub mod named;
-pub mod table;
+mod named;
+mod table;
 pub mod timers;
 
 pub use name::{NodeCounts, RouteTimer, TimerName};
-pub use named::{NamedTimers, Timer};
-pub use table::LinkTimers;
 pub use timers::Timers;

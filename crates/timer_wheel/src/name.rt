@@ -1,7 +1,8 @@
 //! The names of timers, and their order.
 
 ghost use Rattle.std.specs.Prelude.{◌≡◌, ◌≤◌};
-ghost use Rattle.timer_wheel.specs.Names.{key_of, is_before, has_name, is_of_set, count_of, place_of};
+ghost use Rattle.timer_wheel.specs.Names.{key_of, is_before, has_name, is_of_set, count_of};
+ghost use Rattle.timer_wheel.specs.Places.{place_of};
 
 use signalling_types::{LinkId, SetId};
 

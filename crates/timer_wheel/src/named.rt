@@ -3,8 +3,7 @@
 ghost use Rattle.std.specs.Prelude.{◌≡◌, ◌≤◌, [], IfOk, is_some};
 ghost use Rattle.timer_wheel.specs.Kept.{DoRise, AreNamed};
 ghost use Rattle.timer_wheel.specs.Named.{set_named, clear_named, clear_set_named, ticked_named};
-ghost use Rattle.timer_wheel.specs.Named.{first_named, count_named, after_named};
-ghost use Rattle.timer_wheel.specs.Lookup.{named_left};
+ghost use Rattle.timer_wheel.specs.Named.{start_named, named_left, first_named, count_named, after_named};
 
 use crate::list::{count_named, has, lower, restart, stop, stop_set, take_due};
 use crate::name::{NodeCounts, RouteTimer, TimerName};
@@ -58,14 +57,6 @@ impl NamedTimers {
         })
     }
 
-    /// The law that the names rise, and are the node's. The call does nothing.
-    pub fn are_in_order(&self)
-        ensures rise { DoRise self.now.timers }
-        ensures named { AreNamed self.now.counts self.now.timers }
-    {
-        let _ = &self.running;
-    }
-
     /// Starts a timer, which runs out after so many ticks, at the next one where that is 0. Where it runs already it
     /// starts anew, and forgets its old moment. A name of a link, set or destination that the node doesn't have is
     /// left aside.
@@ -75,6 +66,15 @@ impl NamedTimers {
         if self.counts.has(&name) {
             let left = at_least_one(ticks);
             restart(&mut self.running, Timer { name, left });
+        }
+    }
+
+    /// Starts a timer, as `set` does, unless it runs.
+    pub fn start(&mut self, name: TimerName, ticks: u16)
+        ensures { self.new ≡ start_named name ticks self.old }
+    {
+        if !self.is_running(&name) {
+            self.set(name, ticks);
         }
     }
 

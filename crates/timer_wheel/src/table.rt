@@ -3,10 +3,10 @@
 ghost use Rattle.std.specs.Prelude.{◌≡◌, ◌*◌, ◌<◌, ◌≤◌, IfOk, IfSome, None};
 ghost use Rattle.std.specs.Prelude.{get_or, is_some, length, filter, map, position, replicate};
 ghost use Rattle.std.specs.Option.{option_map, option_map_or};
-ghost use Rattle.timer_wheel.specs.Names.{name_at};
-ghost use Rattle.timer_wheel.specs.Table.{with_left, with_link_left, ticked_table, due_place, count_places};
-ghost use Rattle.timer_wheel.specs.Table.{one_less, is_place_due};
-ghost use Rattle.timer_wheel.specs.Lookup.{link_left};
+ghost use Rattle.timer_wheel.specs.Places.{name_at};
+ghost use Rattle.timer_wheel.specs.Timers.{one_less, no_tick_left};
+ghost use Rattle.timer_wheel.specs.Table.{with_left, with_link_left, with_link_started, link_left};
+ghost use Rattle.timer_wheel.specs.Table.{ticked_table, due_place, count_places};
 
 use crate::name::TimerName;
 use signalling_types::LinkId;
@@ -49,13 +49,6 @@ impl LinkTimers {
         })
     }
 
-    /// The law that there is a place for each timer. The call does nothing.
-    pub fn has_places(&self)
-        ensures { length self.now.left ≡ 9 * self.now.links }
-    {
-        let _ = &self.left;
-    }
-
     /// The timer of a kind and a link has so many ticks left from now on, or doesn't run. A link that isn't there is
     /// left aside.
     pub fn put(&mut self, kind: u8, link: usize, left: Option<u16>)
@@ -73,6 +66,16 @@ impl LinkTimers {
     {
         if place < self.left.len() {
             self.left[place] = left;
+        }
+    }
+
+    /// The timer of a kind and a link has so many ticks left from now on, unless it runs. A link that isn't there is left
+    /// aside.
+    pub fn start(&mut self, kind: u8, link: usize, left: u16)
+        ensures { self.new ≡ with_link_started kind link left self.old }
+    {
+        if !self.is_running(kind, link) {
+            self.put(kind, link, Some(left));
         }
     }
 
@@ -125,7 +128,7 @@ impl LinkTimers {
 
 /// The first place that is due.
 fn first_due(left: &[Option<u16>]) -> Option<usize>
-    ensures place { result ≡ position is_place_due left.now }
+    ensures place { result ≡ position no_tick_left left.now }
     ensures fits { IfSome result (λ place. place < length left.now) }
 {
     left.iter().position(|left| is_due(*left))
@@ -133,7 +136,7 @@ fn first_due(left: &[Option<u16>]) -> Option<usize>
 
 /// How many places are due.
 fn count_due(left: &[Option<u16>]) -> usize
-    ensures count { result ≡ length (filter is_place_due left.now) }
+    ensures count { result ≡ length (filter no_tick_left left.now) }
     ensures fits { result ≤ length left.now }
 {
     left.iter().filter(|left| is_due(**left)).count()
@@ -141,7 +144,7 @@ fn count_due(left: &[Option<u16>]) -> usize
 
 /// Whether a timer with so many ticks left is due.
 fn is_due(left: Option<u16>) -> bool
-    ensures { result ≡ is_place_due left }
+    ensures { result ≡ no_tick_left left }
 {
     match left {
         Some(left) => left == 0,

@@ -1,9 +1,8 @@
 //! The timers of a node.
 
 ghost use Rattle.std.specs.Prelude.{◌≡◌, IfOk, max};
-ghost use Rattle.timer_wheel.specs.Timers.{none_running, set_timer, clear_timer, clear_set, ticked};
-ghost use Rattle.timer_wheel.specs.Timers.{due_name, due_count, after_due};
-ghost use Rattle.timer_wheel.specs.Lookup.{IsWhole, is_running};
+ghost use Rattle.timer_wheel.specs.Timers.{none_running, set_timer, start_unless_running, clear_timer, clear_set};
+ghost use Rattle.timer_wheel.specs.Timers.{is_running, ticked, due_name, due_count, after_due};
 
 use crate::name::{NodeCounts, RouteTimer, TimerName};
 use crate::named::NamedTimers;
@@ -12,12 +11,11 @@ use signalling_types::SetId;
 use std::alloc::{AllocError, Global};
 use std::marker::Model;
 
-/// The timers of a node: a finite map from names to the ticks that are left.
+/// The timers of a node: a finite map from names to the ticks that are left. `laws` says what each call does to it.
 ///
 /// The timers of links stand in a table: setting and stopping one is one write. The others stand in a list, in name
 /// order, with room for all names of sets and destinations that the node has: setting and stopping one costs a search
 /// by halves, and moves those before it or those behind it, whichever are fewer. A tick costs the table and that list.
-/// What is left to a name is `left_to`; `laws` says what each call does to it.
 #[derive(Drop)]
 pub struct Timers {
     links: LinkTimers,
@@ -25,14 +23,19 @@ pub struct Timers {
 }
 
 impl Model for Timers {
-    ghost use Rattle.std.specs.Prelude.{◌≡◌};
     ghost use Rattle.timer_wheel.specs.Timers.{Running};
 
     ghost Value = { Running };
 
-    ghost view = { λ t. record { links = t.links; others = t.others } };
+    ghost use Rattle.timer_wheel.specs.OneMap.{running_code};
 
-    ghost invariant = { λ t. t.others.counts.links ≡ 0 };
+    ghost coded = { running_code };
+
+    ghost use Rattle.timer_wheel.specs.Tables.{map_in, AreKept};
+
+    ghost view = { map_in };
+
+    ghost invariant = { AreKept };
 }
 
 impl Timers {
@@ -46,19 +49,9 @@ impl Timers {
         })
     }
 
-    /// The law that there is a place for each timer of a link, and that the others stand in name order. The call does
-    /// nothing.
-    pub fn are_whole(&self)
-        ensures { IsWhole self.now }
-    {
-        self.links.has_places();
-        self.others.are_in_order();
-    }
-
     /// Starts a timer, which runs out after so many ticks, at the next one where that is 0. Where it runs already it
     /// starts anew, and forgets its old moment. A name of a link, set or destination that the node doesn't have is
     /// left aside.
-    #[tactic(auto, unfolding(crate::specs::Timers::set_timer))]
     #[inline(always)]
     pub fn set(&mut self, name: TimerName, ticks: u16)
         ensures { self.new ≡ set_timer name ticks self.old }
@@ -71,8 +64,23 @@ impl Timers {
         }
     }
 
+    /// Starts a timer, as `set` does, unless it runs: one that runs keeps its moment, also where it is due and not handed
+    /// out yet.
+    ///
+    /// For a timer of a link that runs this is one read.
+    #[inline(always)]
+    pub fn start_unless_running(&mut self, name: TimerName, ticks: u16)
+        ensures { self.new ≡ start_unless_running name ticks self.old }
+    {
+        match name.place() {
+            Some(place) => self
+                .links
+                .start(place.kind, place.link, at_least_one(ticks)),
+            None => self.others.start(name, ticks),
+        }
+    }
+
     /// Stops a timer, if it runs.
-    #[tactic(auto, unfolding(crate::specs::Timers::clear_timer))]
     #[inline(always)]
     pub fn clear(&mut self, name: TimerName)
         ensures { self.new ≡ clear_timer name self.old }
@@ -86,7 +94,6 @@ impl Timers {
     /// Stops a timer of a set, for every destination for which it runs.
     ///
     /// This costs one pass over the timers that run and aren't of a link.
-    #[tactic(auto, unfolding(crate::specs::Timers::clear_set))]
     pub fn clear_set(&mut self, timer: RouteTimer, set: SetId)
         ensures { self.new ≡ clear_set timer set self.old }
     {
@@ -96,7 +103,6 @@ impl Timers {
     /// Whether a timer runs, also where it is due and not handed out yet.
     ///
     /// For a timer of a link this is one read; for another it costs a search by halves.
-    #[tactic(auto, unfolding(crate::specs::Lookup::left_to))]
     pub fn is_running(&self, name: TimerName) -> bool
         ensures { result ≡ is_running name self.now }
     {

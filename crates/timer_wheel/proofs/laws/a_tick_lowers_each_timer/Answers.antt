@@ -1,4 +1,4 @@
-use Rattle.timer_wheel.proofs.Joined.{left-ticked}
+use Rattle.timer_wheel.proofs.Maps.{left-ticked}
 use Rattle.timer_wheel.proofs.laws.a_tick_lowers_each_timer.Goals as goal
 
 pub returns : goal.returns

@@ -1,4 +1,4 @@
-use Rattle.timer_wheel.proofs.Joined.{left-clear_t8, left-clear_t10, left-clear_set_other}
+use Rattle.timer_wheel.proofs.Maps.{left-clear_t8, left-clear_t10, left-clear_set_other}
 use Rattle.timer_wheel.proofs.laws.clearing_a_set_changes_its_timers.Goals as goal
 
 pub returns-clause-t8 : goal.returns-clause-t8

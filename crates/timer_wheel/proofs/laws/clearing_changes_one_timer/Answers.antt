@@ -1,4 +1,4 @@
-use Rattle.timer_wheel.proofs.Joined.{left-clear, left-clear_other}
+use Rattle.timer_wheel.proofs.Maps.{left-clear, left-clear_other}
 use Rattle.timer_wheel.proofs.laws.clearing_changes_one_timer.Goals as goal
 
 pub returns-clause-cleared : goal.returns-clause-cleared

@@ -1,4 +1,4 @@
-use Rattle.timer_wheel.proofs.Joined.{left-set, left-set_other, set-absent, left-absent}
+use Rattle.timer_wheel.proofs.Maps.{left-set, left-set_other, set-absent}
 use Rattle.timer_wheel.proofs.laws.setting_changes_one_timer.Goals as goal
 
 pub returns-clause-set : goal.returns-clause-set
@@ -11,4 +11,4 @@ pub returns-clause-absent : goal.returns-clause-absent
 returns-clause-absent c = set-absent
 
 pub returns-clause-never : goal.returns-clause-never
-returns-clause-never c = left-absent
+returns-clause-never c = λ name r. r.only name

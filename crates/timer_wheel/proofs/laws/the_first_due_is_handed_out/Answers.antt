@@ -1,4 +1,4 @@
-use Rattle.timer_wheel.proofs.JoinedDue.{due-left, due-first, due-none}
+use Rattle.timer_wheel.proofs.Dues.{due-left, due-first, due-none}
 use Rattle.timer_wheel.proofs.laws.the_first_due_is_handed_out.Goals as goal
 
 pub returns-clause-due : goal.returns-clause-due

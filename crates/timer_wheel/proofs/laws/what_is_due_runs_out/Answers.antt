@@ -1,4 +1,4 @@
-use Rattle.timer_wheel.proofs.JoinedDue.{count-after, count-none, count-set, count-clear, count-clear_set}
+use Rattle.timer_wheel.proofs.Dues.{count-after, count-none, count-set, count-clear, count-clear_set}
 use Rattle.timer_wheel.proofs.laws.what_is_due_runs_out.Goals as goal
 
 pub returns-clause-taken : goal.returns-clause-taken

@@ -1,4 +1,4 @@
-use Rattle.timer_wheel.proofs.JoinedDue.{after-clear, after-none}
+use Rattle.timer_wheel.proofs.Dues.{after-clear, after-none}
 use Rattle.timer_wheel.proofs.laws.what_is_handed_out_is_stopped.Goals as goal
 
 pub returns-clause-stopped : goal.returns-clause-stopped

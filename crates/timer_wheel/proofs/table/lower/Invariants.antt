@@ -1,5 +1,5 @@
 use Rattle.std.proofs.Common.{◌≡◌, ◌++◌, map, take, drop}
-use Rattle.timer_wheel.specs.Table.{one_less}
+use Rattle.timer_wheel.specs.Timers.{one_less}
 use Rattle.timer_wheel.proofs.table.lower.Given as goal
 
 abbrev pub invariant-loop-left : goal.invariant-loop-left

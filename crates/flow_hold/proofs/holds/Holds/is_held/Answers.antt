@@ -1,11 +1,13 @@
--- A flow is held where its count is above 0.
-use Rattle.std.proofs.Common.{ap, sym, ◌∙◌, nat_lt}
-use Rattle.flow_hold.specs.Holds.{any_has}
-use Rattle.flow_hold.proofs.Counting.{any-counted}
+-- A flow that has a mark is one that some pair names.
+use Rattle.std.proofs.Common.{ℕ, ap, ◌∙◌}
+use Rattle.flow_hold.specs.Holds.{HoldSet, is_held}
+use Rattle.flow_hold.specs.Table.{has_flow}
+use Rattle.flow_hold.proofs.Changed.{set-has_flow}
 use Rattle.flow_hold.proofs.holds.Holds.is_held.Goals as goal
 
-pub returns-in-Some : goal.returns-in-Some
-returns-in-Some c =
-    ap (nat_lt 0) c.holders.ensures
-    ∙ any-counted c.args.self.now.rows c.in-Some.flow
-    ∙ ap (any_has c.args.self.now) (sym c.in-Some.is ∙ c.flow.ensures)
+pub returns : goal.returns
+returns c =
+    c.is_marked.ensures
+    ∙ ap (λ (sls : ℕ). has_flow c.self.inside.table c.args.destination sls) c.number.ensures.value
+    ∙ set-has_flow c.self.inside.table c.args.destination c.args.sls c.self.invariant.places c.number.ensures.fits
+    ∙ ap (λ (h : HoldSet). is_held h c.args.destination c.args.sls) c.self.view_is

@@ -1,22 +1,8 @@
--- Nothing is marked, and each count is 0.
-use Rattle.std.proofs.Common.{◌≡◌, ℕ, ◌+◌, ◌*◌, ◌≤◌, List, length, get_or, ap, sym, subst, ◌∙◌}
-use Rattle.std.specs.Prelude.{All}
-use Rattle.std.proofs.lemmas.List.{length-replicate}
-use Rattle.std.proofs.lemmas.List.FromFn.{length-map-range_with_len}
-use Rattle.flow_hold.specs.Rows.{Marks}
-use Rattle.flow_hold.specs.Holds.{first_row}
-use Rattle.flow_hold.proofs.Counting.{all_same}
+-- A table without marks stands for the empty set.
+use Rattle.std.proofs.Common.{ap, ◌∙◌}
+use Rattle.flow_hold.specs.Room.{set_of}
+use Rattle.flow_hold.proofs.Changed.{set-no_marks}
 use Rattle.flow_hold.proofs.holds.Holds.new.Goals as goal
 
-pub invariant_of-result : goal.invariant_of-result
-invariant_of-result c =
-    let rows : List Marks = c.in_ok-first_rows.field-0.items in
-    let many : length c.in_ok-no_counts.field-0.items ≡ 16 * c.args.destinations = ap (length {A = ℕ}) c.in_ok-no_counts.ensures ∙ length-replicate (16 * c.args.destinations) 0 in
-    record {
-      counts = λ flow. ap (λ (counts : List ℕ). get_or counts flow 0) c.in_ok-no_counts.ensures ∙ all_same (16 * c.args.destinations) flow 0 ∙ sym (c.in_ok-first_rows.ensures.none flow);
-      fits = subst (λ (n : ℕ). All (λ (row : Marks). row.first + length row.marks ≤ n) rows) (sym many) c.in_ok-first_rows.ensures.fits;
-      rows = ap (length {A = Marks}) c.in_ok-first_rows.ensures.rows ∙ length-map-range_with_len (first_row (2 * c.args.links + 16 * c.args.sets) c.args.destinations) 0 (2 * c.args.links + 16 * c.args.sets + c.args.destinations);
-      links = c.requires.links;
-      sets = c.requires.sets;
-      destinations = c.requires.destinations;
-    }
+pub returns : goal.returns
+returns c = ap set_of c.in_ok-new.ensures ∙ set-no_marks c.args.links c.args.sets c.args.destinations

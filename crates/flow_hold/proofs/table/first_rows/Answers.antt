@@ -4,9 +4,9 @@ use Rattle.std.specs.List.{range_with_len}
 use Rattle.std.proofs.lemmas.List.Elements.{All-push}
 use Rattle.std.proofs.lemmas.List.FromFn.{length-map-range_with_len, map-range_with_len_more}
 use Rattle.flow_hold.specs.Rows.{Marks}
-use Rattle.flow_hold.specs.Holds.{first_row}
+use Rattle.flow_hold.specs.Table.{first_row}
 use Rattle.flow_hold.proofs.Counting.{mark_of, unmarked, unmarked-more, fits-first}
-use Rattle.flow_hold.proofs.holds.first_rows.Goals as goal
+use Rattle.flow_hold.proofs.table.first_rows.Goals as goal
 
 pub push_reserved-requires : goal.push_reserved-requires
 push_reserved-requires c =

@@ -3,8 +3,8 @@ use Rattle.std.proofs.Common.{◌≡◌, ℕ, ◌+◌, ◌*◌, ◌≤◌, lengt
 use Rattle.std.specs.Prelude.{All}
 use Rattle.std.specs.List.{range_with_len}
 use Rattle.flow_hold.specs.Rows.{Marks}
-use Rattle.flow_hold.specs.Holds.{first_row, marked_as_held}
-use Rattle.flow_hold.proofs.holds.first_rows.Given as goal
+use Rattle.flow_hold.specs.Table.{first_row, marked_as_held}
+use Rattle.flow_hold.proofs.table.first_rows.Given as goal
 
 abbrev pub invariant-loop-place : goal.invariant-loop-place
 invariant-loop-place l = record {

@@ -1,9 +1,9 @@
 -- One mark more is gone.
 use Rattle.std.proofs.Common.{◌<◌, false, length, arith, ap, ◌∙◌}
 use Rattle.flow_hold.specs.Rows.{marks_at}
-use Rattle.flow_hold.specs.Holds.{HoldTable, with_mark}
+use Rattle.flow_hold.specs.Table.{HoldTable, with_mark}
 use Rattle.flow_hold.proofs.Clearing.{gone-more}
-use Rattle.flow_hold.proofs.holds.Holds.clear.Goals as goal
+use Rattle.flow_hold.proofs.table.Table.clear.Goals as goal
 
 pub loop-place-preserved : goal.loop-place-preserved
 loop-place-preserved c =
