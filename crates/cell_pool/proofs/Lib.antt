@@ -1,7 +1,14 @@
 pub mod Buffers
+pub mod Chaining
 pub mod Counting
+pub mod LinkedReading
+pub mod Linking
 pub mod Moving
 pub mod Passing
 pub mod Reading
 pub mod Sharing
+pub mod Splicing
 pub mod Sums
+pub mod Taking
+pub mod Turning
+pub mod Walks

@@ -66,7 +66,7 @@ lists_at-empty cells (suc count) = ap (λ lists. [] ∷ lists) (lists_at-empty c
 
 -- ---- moves of cells are moves of their messages
 
-moved-behind : (cells : List Message) (rings : List (List ℕ)) (from to : ℕ) (left gone : List ℕ) → to < length rings → lists_at cells (put_behind rings from left gone to) ≡ put_behind (lists_at cells rings) from (messages_at cells left) (messages_at cells gone) to
+pub moved-behind : (cells : List Message) (rings : List (List ℕ)) (from to : ℕ) (left gone : List ℕ) → to < length rings → lists_at cells (put_behind rings from left gone to) ≡ put_behind (lists_at cells rings) from (messages_at cells left) (messages_at cells gone) to
 moved-behind cells rings from to left gone h =
     let kept : List (List ℕ) = set rings from left in
     let inside : to < length kept = omega (arith, h, length-set rings from left) in
@@ -75,7 +75,7 @@ moved-behind cells rings from to left gone h =
     ∙ ap (set (lists_at cells kept) to) there
     ∙ ap (λ (lists : List (List Message)). set lists to (lane_at lists to ++ messages_at cells gone)) (map-set (messages_at cells) rings from left)
 
-moved-before : (cells : List Message) (rings : List (List ℕ)) (from to : ℕ) (left gone : List ℕ) → to < length rings → lists_at cells (put_before rings from left gone to) ≡ put_before (lists_at cells rings) from (messages_at cells left) (messages_at cells gone) to
+pub moved-before : (cells : List Message) (rings : List (List ℕ)) (from to : ℕ) (left gone : List ℕ) → to < length rings → lists_at cells (put_before rings from left gone to) ≡ put_before (lists_at cells rings) from (messages_at cells left) (messages_at cells gone) to
 moved-before cells rings from to left gone h =
     let kept : List (List ℕ) = set rings from left in
     let inside : to < length kept = omega (arith, h, length-set rings from left) in

@@ -69,10 +69,10 @@ shared-room free rings total ring s h = omega (arith, s.all, get_or-le-sum_by (l
 abbrev pub below : ℕ → ℕ → ℕ
 below n a = cond (nat_lt n a) 1 0
 
-below-next : (n a : ℕ) → below n (a + 1) ≡ below n a + use_of n a
+pub below-next : (n a : ℕ) → below n (a + 1) ≡ below n a + use_of n a
 below-next n a = grind (arith, nat_tests)
 
-below-none : (n : ℕ) → below n 0 ≡ 0
+pub below-none : (n : ℕ) → below n 0 ≡ 0
 below-none n = grind (arith, nat_tests)
 
 uses-range : (n a count : ℕ) → uses n (range_with_len a count) + below n a ≡ below n (a + count)

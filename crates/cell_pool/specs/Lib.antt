@@ -5,5 +5,10 @@ pub mod Numbering
 pub mod Rings
 pub mod Cells
 pub mod Row
+pub mod LinkedRow
 pub mod Stored
 pub mod Counted
+pub mod LinkedCounted
+pub mod Chains
+pub mod Links
+pub mod Linked

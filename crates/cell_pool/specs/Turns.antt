@@ -1,5 +1,7 @@
--- A list is gone through once, message by message: each goes to another list or stays.
-use Rattle.std.specs.Prelude.{ℕ, Bool, ◌-◌, List, Option, Some, None, false, length, slice_get, if◌then◌else◌}
+-- A list is gone through once, message by message: each goes to another list or stays. Or a list is turned round.
+use Rattle.std.specs.Prelude.{ℕ, Bool, ◌-◌, List, Option, Some, None, false, ◌++◌, length, take, drop}
+use Rattle.std.specs.Prelude.{slice_get, slice_set}
+use Rattle.std.specs.Prelude.{if◌then◌else◌}
 use Rattle.cell_pool.specs.Moves.{list_at, first_behind, last_before}
 
 -- whether there is an element that a test picks
@@ -17,3 +19,7 @@ abbrev pub turned_back : {A : Type 0} → (A → Bool) → List (List A) → (fr
 turned_back picks lists from to =
     last_before lists from
     (if is_picked picks (slice_get (list_at lists from) (length (list_at lists from) - 1)) then to else from)
+
+-- what comes behind so many first elements of a list is put before these
+abbrev pub cut_at : {A : Type 0} → ℕ → List (List A) → (list : ℕ) → List (List A)
+cut_at count lists list = slice_set lists list (drop count (list_at lists list) ++ take count (list_at lists list))

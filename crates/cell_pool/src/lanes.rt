@@ -98,6 +98,13 @@ pub trait Lanes {
         ensures lists { lists self.new ≡ picked_before (P.picks pick.now) (lists self.old) from to }
         ensures pool { pool self.new ≡ pool self.old };
 
+    /// Notes a place of a list, so that `get` at that place and at the next one takes a fixed number of steps, also
+    /// after messages were put behind the list or dropped before that place. No message moves.
+    fn note(&mut self, lane: usize, index: usize)
+        requires { lane < length (lists self.old) }
+        ensures lists { lists self.new ≡ lists self.old }
+        ensures pool { pool self.new ≡ pool self.old };
+
     /// The message at a place of a list, from 0, where there is one.
     fn get(&self, lane: usize, index: usize) -> Option<&Msu>
         requires { lane < length (lists self.now) }

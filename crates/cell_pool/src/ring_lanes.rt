@@ -190,6 +190,8 @@ impl Lanes for RingLanes {
         }
     }
 
+    fn note(&mut self, _lane: usize, _index: usize) {}
+
     fn get(&self, lane: usize, index: usize) -> Option<&Msu> {
         self.lists.get(lane, index)
     }

@@ -1,0 +1,7 @@
+-- the cell at the place that was reached
+use Rattle.std.proofs.Common.{◌≡◌, get_or}
+use Rattle.cell_pool.specs.Numbering.{ring_at}
+use Rattle.cell_pool.proofs.cell_links.CellLinks.walked.Given as goal
+
+abbrev pub invariant-loop : goal.invariant-loop
+invariant-loop l = l.cell ≡ get_or (ring_at l.self.rings l.ring) l.counter 0

@@ -1,0 +1,10 @@
+-- the lists so far, and room for all
+use Rattle.std.proofs.Common.{◌≡◌, ◌≤◌, replicate, vec_capacity}
+use Rattle.cell_pool.specs.Chains.{no_cells}
+use Rattle.cell_pool.proofs.cell_links.empty_chains.Given as goal
+
+abbrev pub invariant-loop : goal.invariant-loop
+invariant-loop l = record {
+  chains : l.chains.items ≡ replicate l.counter no_cells;
+  room : l.count ≤ vec_capacity l.chains;
+}

@@ -1,0 +1,283 @@
+//! Which cells each list has, in order, where each cell names the next one of its list.
+
+ghost use Rattle.std.specs.Prelude.{◌≡◌, ◌≢◌, ◌+◌, ◌^◌, ◌<◌, ◌≤◌, [], ◌∷◌, ◌++◌, length, take, drop, replicate, sum_by};
+ghost use Rattle.std.specs.Prelude.{slice_get, slice_set, slice_index_or, IfOk, IfSome};
+ghost use Rattle.cell_pool.specs.Moves.{first_behind, all_behind};
+ghost use Rattle.cell_pool.specs.Numbering.{ring_at, uses};
+ghost use Rattle.cell_pool.specs.Chains.{no_cells};
+ghost use Rattle.cell_pool.specs.Links.{reserved, IsReached};
+
+use crate::cell_number::CellNumber;
+use crate::chain::Chain;
+use std::alloc::{AllocError, Global};
+use std::marker::Model;
+
+/// Lists of cell numbers, each cell naming the next one, and the cells that are free again: the last one that was freed
+/// is the first one that is taken. A number that was never taken has no memory that was written.
+#[derive(Drop)]
+pub(crate) struct CellLinks {
+    next: Vec<CellNumber>,
+    chains: Vec<Chain>,
+    free: CellNumber,
+    spare: usize,
+    total: usize,
+}
+
+impl Model for CellLinks {
+    ghost use Rattle.cell_pool.specs.Links.{Linked};
+
+    ghost Value = { Linked };
+
+    ghost use Rattle.cell_pool.specs.Linked.{linked_in, IsLinked};
+
+    ghost view = { linked_in };
+
+    ghost invariant = { IsLinked };
+}
+
+impl CellLinks {
+    /// Lists without cells; no cell was ever used.
+    pub(crate) fn new(alloc: Global, rings: usize, total: usize) -> Result<CellLinks, AllocError>
+        requires { total < 2 ^ 32 }
+        ensures { IfOk result (λ n. n ≡ record { free = []; rings = replicate rings []; used = 0; total = total }) }
+    {
+        Ok(CellLinks {
+            next: Vec::with_capacity(alloc, total)?,
+            chains: empty_chains(alloc, rings)?,
+            free: CellNumber::new(0),
+            spare: 0,
+            total,
+        })
+    }
+
+    /// How many lists there are.
+    pub(crate) fn rings(&self) -> usize
+        ensures { result ≡ length self.now.rings }
+    {
+        self.chains.len()
+    }
+
+    /// How many cells a list has.
+    pub(crate) fn count(&self, ring: usize) -> usize
+        requires { ring < length self.now.rings }
+        ensures { result ≡ length (ring_at self.now.rings ring) }
+    {
+        self.chains[ring].count()
+    }
+
+    /// A cell that was never used is the free one, where no other is.
+    fn grow(&mut self)
+        requires none { self.old.free ≡ [] }
+        requires room { self.old.used < self.old.total }
+        ensures { self.new ≡ record self.old { free = self.old.used ∷ []; used = self.old.used + 1 } }
+    {
+        let cell = CellNumber::new(self.next.len());
+        self.next.push_reserved(cell);
+        self.free = cell;
+        self.spare = 1;
+    }
+
+    /// Puts the first free cell at the end of a list.
+    fn take_free(&mut self, ring: usize)
+        requires ring { ring < length self.old.rings }
+        requires some { 1 ≤ length self.old.free }
+        ensures { self.new ≡ record self.old {
+          free = drop 1 self.old.free;
+          rings = slice_set self.old.rings ring (ring_at self.old.rings ring ++ take 1 self.old.free);
+        } }
+    {
+        let cell = Chain::of(self.free);
+        let chain = self.chains[ring];
+        self.free = self.next[self.free.index()];
+        self.spare -= 1;
+        self.next[chain.end(&cell).index()] = cell.first();
+        self.chains[ring] = chain.joined(&cell);
+    }
+
+    /// Frees the first cell of a list.
+    fn free_first(&mut self, ring: usize)
+        requires ring { ring < length self.old.rings }
+        requires some { 1 ≤ length (ring_at self.old.rings ring) }
+        ensures { self.new ≡ record self.old {
+          free = take 1 (ring_at self.old.rings ring) ++ self.old.free;
+          rings = slice_set self.old.rings ring (drop 1 (ring_at self.old.rings ring));
+        } }
+    {
+        let chain = self.chains[ring];
+        let cell = chain.first();
+        self.chains[ring] = chain.without_first(self.next[cell.index()]);
+        self.next[cell.index()] = self.free;
+        self.free = cell;
+        self.spare += 1;
+    }
+
+    /// Sees to a free cell: where no cell is free again, one that was never used.
+    fn reserve(&mut self)
+        requires room { sum_by length self.old.rings < self.old.total }
+        ensures cells { self.new ≡ reserved self.old }
+        ensures some { 1 ≤ length self.new.free }
+        ensures room { self.new.used ≤ self.new.total }
+    {
+        if self.spare == 0 {
+            self.grow();
+        }
+    }
+
+    /// The first free cell.
+    fn first_free(&self) -> CellNumber
+        requires { 1 ≤ length self.now.free }
+        ensures cell { take 1 self.now.free ≡ result ∷ [] }
+        ensures within { result < self.now.used }
+        ensures fresh { sum_by (uses result) self.now.rings ≡ 0 }
+    {
+        self.free
+    }
+
+    /// Puts a free cell at the end of a list: the one that was freed last, else one that was never used.
+    #[inline(always)]
+    pub(crate) fn claim(&mut self, ring: usize) -> CellNumber
+        requires ring { ring < length self.old.rings }
+        requires room { sum_by length self.old.rings < self.old.total }
+        ensures rings { self.new.rings
+            ≡ slice_set self.old.rings ring (ring_at self.old.rings ring ++ result ∷ []) }
+        ensures total { self.new.total ≡ self.old.total }
+        ensures used { IsReached self.old.used result self.new.used }
+        ensures room { self.new.used ≤ self.new.total }
+        ensures fresh { sum_by (uses result) self.old.rings ≡ 0 }
+    {
+        self.reserve();
+        let cell = self.first_free();
+        self.take_free(ring);
+        cell
+    }
+
+    /// Frees the first cell of a list, where there is one.
+    pub(crate) fn release(&mut self, ring: usize)
+        requires { ring < length self.old.rings }
+        ensures { self.new ≡ record self.old {
+          free = take 1 (ring_at self.old.rings ring) ++ self.old.free;
+          rings = slice_set self.old.rings ring (drop 1 (ring_at self.old.rings ring));
+        } }
+    {
+        if self.count(ring) > 0 {
+            self.free_first(ring);
+        }
+    }
+
+    /// Moves the first cell of a list, where there is one, to the end of a list, also of its own: it is freed, and
+    /// taken at once.
+    pub(crate) fn move_first(&mut self, from: usize, to: usize)
+        requires from { from < length self.old.rings }
+        requires to { to < length self.old.rings }
+        ensures { self.new ≡ record self.old { rings = first_behind self.old.rings from to } }
+    {
+        if self.count(from) > 0 {
+            self.free_first(from);
+            self.take_free(to);
+        }
+    }
+
+    /// Moves all cells of a list to the end of another.
+    pub(crate) fn append(&mut self, from: usize, to: usize)
+        requires from { from < length self.old.rings }
+        requires to { to < length self.old.rings }
+        requires apart { from ≢ to }
+        ensures { self.new ≡ record self.old { rings = all_behind self.old.rings from to } }
+    {
+        let back = self.chains[from];
+        if back.count() > 0 {
+            let front = self.chains[to];
+            self.next[front.end(&back).index()] = back.first();
+            self.chains[from] = Chain::empty();
+            self.chains[to] = front.joined(&back);
+        }
+    }
+
+    /// Puts what comes behind so many first cells of a list before these.
+    pub(crate) fn turn_round(&mut self, ring: usize, count: usize)
+        requires { ring < length self.old.rings }
+        ensures { self.new ≡ record self.old {
+          rings = slice_set self.old.rings ring
+              (drop count (ring_at self.old.rings ring) ++ take count (ring_at self.old.rings ring));
+        } }
+    {
+        let chain = self.chains[ring];
+        if 0 < count && count < chain.count() {
+            let last = self.cell_at(ring, count - 1);
+            let first = self.next[last.index()];
+            self.next[chain.last().index()] = chain.first();
+            self.chains[ring] = chain.turned_round(first, last);
+        }
+    }
+
+    /// Notes the cell at a place of a list, where there is one: the way to it, and to the one behind it, is short from
+    /// then on.
+    pub(crate) fn note(&mut self, ring: usize, index: usize)
+        requires { ring < length self.old.rings }
+        ensures { self.new ≡ self.old }
+    {
+        let chain = self.chains[ring];
+        if index < chain.count() {
+            let cell = self.cell_at(ring, index);
+            self.chains[ring] = chain.noting(index, cell);
+        }
+    }
+
+    /// The cell at a place of a list, where there is one.
+    pub(crate) fn get(&self, ring: usize, index: usize) -> Option<CellNumber>
+        requires { ring < length self.now.rings }
+        ensures number { result ≡ slice_get (ring_at self.now.rings ring) index }
+        ensures within { IfSome result (λ number. number < self.now.used) }
+    {
+        if index < self.count(ring) {
+            Some(self.cell_at(ring, index))
+        } else {
+            None
+        }
+    }
+
+    /// The cell at a place of a list: the last one is known, and the way to others begins at the noted one or at the
+    /// first.
+    fn cell_at(&self, ring: usize, index: usize) -> CellNumber
+        requires ring { ring < length self.now.rings }
+        requires index { index < length (ring_at self.now.rings ring) }
+        ensures cell { result ≡ slice_index_or (ring_at self.now.rings ring) index 0 }
+        ensures within { result < self.now.used }
+    {
+        let chain = &self.chains[ring];
+        if index + 1 == chain.count() {
+            chain.last()
+        } else if chain.place() <= index {
+            self.walked(ring, chain.place(), chain.noted(), index)
+        } else {
+            self.walked(ring, 0, chain.first(), index)
+        }
+    }
+
+    /// The cell at a place of a list, by way of one at or before that place.
+    fn walked(&self, ring: usize, place: usize, cell: CellNumber, index: usize) -> CellNumber
+        requires ring { ring < length self.now.rings }
+        requires index { index < length (ring_at self.now.rings ring) }
+        requires place { place ≤ index }
+        requires cell { cell ≡ slice_index_or (ring_at self.now.rings ring) place 0 }
+        ensures cell { result ≡ slice_index_or (ring_at self.now.rings ring) index 0 }
+        ensures within { result < self.now.used }
+    {
+        let mut cell = cell;
+        for _ in place..index {
+            cell = self.next[cell.index()];
+        }
+        cell
+    }
+}
+
+/// So many lists without cells.
+fn empty_chains(alloc: Global, count: usize) -> Result<Vec<Chain>, AllocError>
+    ensures { IfOk result (λ chains. chains.items ≡ replicate count no_cells) }
+{
+    let mut chains = Vec::with_capacity(alloc, count)?;
+    for _ in 0..count {
+        chains.push_reserved(Chain::empty());
+    }
+    Ok(chains)
+}
