@@ -37,7 +37,7 @@ there-is test (first ∷ rows) (suc k) row lt e t = passed (test first) first (f
 
 -- ---- no two rows stand at one place
 
-apart : (a b : List ℕ) → a ≡ b → place_order a b ≡ Less → ⊥
+pub apart : (a b : List ℕ) → a ≡ b → place_order a b ≡ Less → ⊥
 apart a b e less = let tied = tied_itself nat_list_cmp_total a in let same : place_order a a ≡ Less = subst (λ (x : List ℕ). place_order a x ≡ Less) (sym e) less in absurd cc
 
 later-apart : (first : TitleEntry) (rows : List TitleEntry) (k : ℕ) (other : TitleEntry) → AllByRecursion (λ r. place_order (row_place first) (row_place r) ≡ Less) rows → k < length rows
@@ -55,7 +55,7 @@ same-row (first ∷ rows) h (suc j) (suc k) x y lt lt' e f same = same-row rows 
 
 -- ---- a row that leads stands at the place of the key and of as many digits
 
-place-leading : (key : TitleKey) (digits : List ℕ) (row : TitleEntry) → leads key digits row ≡ true
+pub place-leading : (key : TitleKey) (digits : List ℕ) (row : TitleEntry) → leads key digits row ≡ true
     → row_place row ≡ key.translation ∷ key.plan ∷ key.nature ∷ take (length row.digits) digits
 place-leading key digits row e =
     let both = and_parts (has_key key row) (starts_with nat_eq digits row.digits) e in

@@ -16,10 +16,10 @@ use Rattle.global_title.specs.Places.{StandsAt, FitsAt}
 
 -- ---- the order of places
 
-total : IsTotalOrder place_order
+pub total : IsTotalOrder place_order
 total = nat_list_cmp_total
 
-reversed : (a b : List ℕ) (o : Ordering) → place_order a b ≡ o → place_order b a ≡ ordering_reverse o
+pub reversed : (a b : List ℕ) (o : Ordering) → place_order a b ≡ o → place_order b a ≡ ordering_reverse o
 reversed a b o e = total.antisymm b a ∙ ap ordering_reverse e
 
 less-is_lt : (o : Ordering) → is_lt o ≡ true → o ≡ Less
@@ -152,12 +152,12 @@ tells-free place rows i h within le first =
 abbrev pub Splits : List ℕ → List TitleEntry → ℕ → Type 0
 Splits place rows i = IsPartitionPoint (λ row. is_before place row ≡ true) (λ row. is_before place row ≡ false) rows i
 
-equal-is_eq : (o : Ordering) → is_eq o ≡ true → o ≡ Equal
+pub equal-is_eq : (o : Ordering) → is_eq o ≡ true → o ≡ Equal
 equal-is_eq Less e = absurd cc
 equal-is_eq Equal e = refl
 equal-is_eq Greater e = absurd cc
 
-greater-neither : (o : Ordering) → is_lt o ≡ false → is_eq o ≡ false → o ≡ Greater
+pub greater-neither : (o : Ordering) → is_lt o ≡ false → is_eq o ≡ false → o ≡ Greater
 greater-neither Less e f = absurd cc
 greater-neither Equal e f = absurd cc
 greater-neither Greater e f = refl

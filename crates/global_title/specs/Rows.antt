@@ -2,6 +2,7 @@
 use Rattle.std.specs.Prelude.{◌≡◌, ℕ, Bool, not, if◌then◌else◌, nat_le, List, [], ◌∷◌, ◌++◌, length, filter, Option}
 use Rattle.std.specs.Prelude.{Some, None, ⊤}
 use Rattle.std.specs.List.{AllByRecursion, list_any}
+use Rattle.std.specs.Str.{bytes_eq}
 use Rattle.std.specs.Cmp.Lexicographic.{slice_cmp}
 use Rattle.std.specs.Ordering.{nat_cmp, is_lt, is_eq, is_gt}
 use Rattle.std.specs.declared.cmp.Ordering.{Ordering}
@@ -15,6 +16,10 @@ use Rattle.sccp_codec.specs.declared.title.TitleKey.{TitleKey}
 -- the place of a row with this key and these digits
 abbrev pub place_of : TitleKey → List ℕ → List ℕ
 place_of key digits = key.translation ∷ key.plan ∷ key.nature ∷ digits
+
+-- the key of a row
+abbrev pub key_of : TitleEntry → TitleKey
+key_of row = record { translation = row.translation; plan = row.plan; nature = row.nature }
 
 -- the place of a row
 abbrev pub row_place : TitleEntry → List ℕ
@@ -47,6 +52,15 @@ has_row rows place = list_any (is_at place) rows
 -- the rows with one more, at its place
 abbrev pub with_row : TitleEntry → List TitleEntry → List TitleEntry
 with_row row rows = filter (is_before (row_place row)) rows ++ row ∷ filter (is_behind (row_place row)) rows
+
+-- whether two rows stand at one place
+abbrev pub is_same_place : TitleEntry → TitleEntry → Bool
+is_same_place row other = bytes_eq (row_place row) (row_place other)
+
+-- the table of rows that are put in one by one, the last first
+abbrev pub table_of : List TitleEntry → List TitleEntry
+table_of [] = []
+table_of (row ∷ rows) = with_row row (table_of rows)
 
 -- the rows without that at the place
 abbrev pub without_row : List ℕ → List TitleEntry → List TitleEntry

@@ -4,6 +4,7 @@
 pub mod laws;
 mod places;
 pub mod translations;
+mod ways;
 
 pub use sccp_codec::TitleKey;
 pub use translations::Translations;

@@ -1,22 +1,32 @@
 //! A table of translation rows.
 
-ghost use Rattle.std.specs.Prelude.{◌≡◌, ◌≤◌, ◌↔◌, [], length, filter, slice_get, IsTrue, Some, None, Err, IsOk, IfOk};
-ghost use Rattle.std.specs.Prelude.{IfErr, OnOk, OnErr, IsOkUnless};
-ghost use Rattle.std.specs.List.{list_any};
+ghost use Rattle.std.specs.Prelude.{◌≡◌, ◌≤◌, ◌↔◌, [], length, slice_get, IsTrue, Some, None, Err, IsOk, IfOk};
+ghost use Rattle.std.specs.Prelude.{IfErr, OnOk, OnErr, IsOkUnless, if◌then◌else◌};
+ghost use Rattle.std.specs.List.{IsDistinct, insert};
+ghost use Rattle.std.specs.Result.{is_ok};
+ghost use Rattle.digit_trie.specs.Digits.{with_value};
+ghost use Rattle.digit_trie.specs.Nodes.{stored};
 ghost use Rattle.global_title.specs.Rows.{IsOrdered, place_of, has_row, with_row, without_row, add_refusal};
-ghost use Rattle.global_title.specs.Translation.{translation, leads, longest, longer, has_key, IsTranslation};
+ghost use Rattle.global_title.specs.Rows.{is_same_place, table_of};
+ghost use Rattle.global_title.specs.Translation.{translation, IsTranslation};
+ghost use Rattle.global_title.specs.Ways.{IsRow, way_of, lead_of};
 
-use crate::places::place;
+use crate::places::{has_key, key_of, place, sort};
+use crate::ways::{enter, key_digits, row_led, trie_of, way_of};
+use digit_trie::Trie;
 use sccp_codec::TitleKey;
 use settings_rows::TitleRow;
 use signalling_types::{Cause, Limits};
-use std::alloc::Global;
+use std::alloc::{AllocError, Global};
 use std::marker::Model;
 
 /// A table of at most 65,535 translation rows. No two have one key and the same digits.
+///
+/// The rows stand in their order, and a trie leads to each of them by the digits of its key and its own.
 #[derive(Drop)]
 pub struct Translations {
     rows: Vec<TitleRow>,
+    trie: Trie,
 }
 
 impl Model for Translations {
@@ -39,7 +49,21 @@ impl Translations {
     {
         Translations {
             rows: Vec::new(alloc),
+            trie: Trie::new(alloc),
         }
+    }
+
+    /// A table of these rows, no two of one key and the same digits, sorted once. It takes its memory, now
+    /// and as rows are added, from this allocator.
+    pub fn of_rows(alloc: Global, rows: &[TitleRow]) -> Result<Translations, AllocError>
+        requires fits { length rows.now ≤ Limits.TITLES }
+        requires differ { IsDistinct is_same_place rows.now }
+        ensures { IfOk result (λ table. table ≡ table_of rows.now) }
+    {
+        let mut rows = Vec::from_slice(alloc, rows)?;
+        sort(&mut rows);
+        let trie = trie_of(alloc, &rows)?;
+        Ok(Translations { rows, trie })
     }
 
     /// How many rows there are.
@@ -68,18 +92,13 @@ impl Translations {
         ensures refused { (cause : Cause) → add_refusal self.old row ≡ Some cause → result ≡ Err cause }
         ensures memory { add_refusal self.old row ≡ None → IsOkUnless result Cause.NoMemory }
     {
-        let key = TitleKey {
-            translation: row.translation(),
-            plan: row.plan(),
-            nature: row.nature(),
-        };
-        let Err(place) = place(&self.rows, key, row.digits()) else {
+        let Err(place) = place(&self.rows, key_of(&row), row.digits()) else {
             return Err(Cause::DuplicateRow);
         };
         if self.rows.len() >= Limits::TITLES {
             return Err(Cause::TableFull);
         }
-        match self.rows.insert(place, row) {
+        match put(&mut self.rows, &mut self.trie, place, row) {
             Ok(()) => Ok(()),
             Err(_) => Err(Cause::NoMemory),
         }
@@ -98,7 +117,8 @@ impl Translations {
         let Ok(place) = place(&self.rows, key, digits) else {
             return Err(Cause::NoSuchName);
         };
-        self.rows.remove(place);
+        let row = self.rows.remove(place);
+        let _ = self.trie.remove(way_of(&row).as_slice());
         Ok(())
     }
 
@@ -111,7 +131,8 @@ impl Translations {
     }
 
     /// The row that an address of this key and these digits is translated by: among the rows of the key
-    /// whose digits begin these, the one with the most. It walks all rows.
+    /// whose digits begin these, the one with the most. It takes a step for each digit, however many rows
+    /// there are; where none begins them, it looks for a row of the key by halves.
     ///
     /// Refused NoNature where there is no row of the key; else NoDigits where none of these begins the
     /// digits (Q.714 §2.6).
@@ -121,54 +142,33 @@ impl Translations {
         // The row is the longest that leads the digits.
         ensures longest { IfOk result (IsTranslation self.now key digits.now) }
     {
-        match longest_leading(&self.rows, key, digits) {
-            Some(row) => Ok(row),
+        match self.trie.longest_behind(&key_digits(key), digits) {
+            Some((count, lead)) => Ok(row_led(key, &digits[..count], lead)),
             None if has_key(&self.rows, key) => Err(Cause::NoDigits),
             None => Err(Cause::NoNature),
         }
     }
 }
 
-/// Whether the row is of this key.
-fn is_of_key(row: &TitleRow, key: TitleKey) -> bool
-    ensures { result ≡ has_key key row.now }
+/// Puts a row at its place among the others, and lets the trie lead to it. Room is made for both before the row is put
+/// there, so an error leaves both as they were.
+fn put(
+    rows: &mut Vec<TitleRow>,
+    trie: &mut Trie,
+    place: usize,
+    row: TitleRow,
+) -> Result<(), AllocError>
+    requires { place ≤ length rows.old.items }
+    ensures rows { rows.new.items ≡ (if is_ok result then insert rows.old.items place row else rows.old.items) }
+    ensures trie { stored trie.new ≡ (if is_ok result then with_value (stored trie.old) (way_of row) (lead_of row)
+        else stored trie.old) }
+    ensures free { OnOk result (stored trie.old (way_of row) ≡ None) }
+    ensures row { OnOk result (IsRow row) }
 {
-    row.translation() == key.translation && row.plan() == key.plan && row.nature() == key.nature
-}
-
-/// Whether there is a row of this key.
-fn has_key(rows: &[TitleRow], key: TitleKey) -> bool
-    ensures { result ≡ list_any (has_key key) rows.now }
-{
-    rows.iter().any(|row| is_of_key(row, key))
-}
-
-/// Whether the row is of this key, and its digits begin these.
-fn leads(row: &TitleRow, key: TitleKey, digits: &[u8]) -> bool
-    ensures { result ≡ leads key digits.now row.now }
-{
-    is_of_key(row, key) && digits.starts_with(row.digits())
-}
-
-/// The row that has more digits, the first where they have as many.
-fn longer(best: Option<TitleRow>, row: &TitleRow) -> Option<TitleRow>
-    ensures { result ≡ longer best row.now }
-{
-    match best {
-        Some(best) if best.digits().len() >= row.digits().len() => Some(best),
-        _ => Some(*row),
+    rows.try_reserve(1)?;
+    if enter(trie, &row).is_err() {
+        return Err(AllocError);
     }
-}
-
-/// Among the rows that lead these digits, the one with the most.
-fn longest_leading(rows: &[TitleRow], key: TitleKey, digits: &[u8]) -> Option<TitleRow>
-    ensures { result ≡ longest (filter (leads key digits.now) rows.now) }
-{
-    let mut best = None;
-    for row in rows {
-        if leads(row, key, digits) {
-            best = longer(best, row);
-        }
-    }
-    best
+    rows.insert(place, row).unwrap();
+    Ok(())
 }

@@ -1,5 +1,5 @@
 -- Management messages: messages of service indicator 0 (Q.704 §15, Q.2210 §10).
-use Rattle.std.specs.Prelude.{ℕ, ◌==◌, if◌then◌else◌, List, [], ◌∷◌, ◌++◌, drop, Result, Ok, Err}
+use Rattle.std.specs.Prelude.{ℕ, ⊤, ◌<◌, ◌^◌, ◌==◌, if◌then◌else◌, List, [], ◌∷◌, ◌++◌, drop, Result, Ok, Err}
 use Rattle.routing_label.specs.Label.{label_at, label_octets}
 use Rattle.mgmt_codec.specs.declared.fault.MgmtFault.{MgmtFault}
 use Rattle.mgmt_codec.specs.declared.fault.MgmtFault.TheVariants.{Short, NotInProfile}
@@ -85,3 +85,19 @@ abbrev pub management_octets : (dpc opc : ℕ) → Management → List ℕ
 management_octets dpc opc message =
     label_octets (record { dpc = dpc; opc = opc; sls = link_code_of message })
     ++ management_heading message ∷ field_octets message
+
+-- the ranges of what a message names: a link code of four bits, a number of 24, a changeback code of eight, and the
+-- code of a point of 14
+abbrev pub IsManagement : Management → Type 0
+IsManagement (ExtendedChangeoverOrder slc number) = (slc < 2 ^ 4) × (number < 2 ^ 24)
+IsManagement (ExtendedChangeoverAcknowledgement slc number) = (slc < 2 ^ 4) × (number < 2 ^ 24)
+IsManagement (ChangebackDeclaration slc code) = (slc < 2 ^ 4) × (code < 2 ^ 8)
+IsManagement (ChangebackAcknowledgement slc code) = (slc < 2 ^ 4) × (code < 2 ^ 8)
+IsManagement (EmergencyChangeoverOrder slc) = slc < 2 ^ 4
+IsManagement (EmergencyChangeoverAcknowledgement slc) = slc < 2 ^ 4
+IsManagement (TransferProhibited point) = point < 2 ^ 14
+IsManagement (TransferRestricted point) = point < 2 ^ 14
+IsManagement (TransferAllowed point) = point < 2 ^ 14
+IsManagement (RouteSetTestProhibited point) = point < 2 ^ 14
+IsManagement (RouteSetTestRestricted point) = point < 2 ^ 14
+IsManagement TrafficRestartAllowed = ⊤

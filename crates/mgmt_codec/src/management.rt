@@ -1,8 +1,11 @@
 //! Management messages.
 
-ghost use Rattle.std.specs.Prelude.{◌≡◌, ◌≤◌, Ok, length, take};
+ghost use Rattle.std.specs.Prelude.{◌≡◌, ◌≤◌, ◌<◌, ◌^◌, ℕ, Ok, Some, length, take};
+ghost use Rattle.routing_label.specs.Label.{label_in};
 ghost use Rattle.mgmt_codec.specs.Headings.{management_heading};
 ghost use Rattle.mgmt_codec.specs.Management.{link_code_of, management_octets, message_of, read_management};
+ghost use Rattle.mgmt_codec.specs.Management.{IsManagement};
+ghost use Rattle.mgmt_codec.specs.declared.management.Management.{Management};
 
 use crate::fault::MgmtFault;
 use crate::fields::{changeback_code_in, number_in, number_octets, point_in, point_octets};
@@ -207,3 +210,15 @@ fn no_link_code() -> Sls
     };
     code
 }
+
+/// Every message within its ranges, written from one point to another, is read back, and so is its label. It has eight
+/// octets at most.
+pub fn every_message_reads_back()
+    ensures label { (dpc opc : ℕ) (message : Management) → dpc < 2 ^ 14 → opc < 2 ^ 14 → IsManagement message →
+        label_in (management_octets dpc opc message)
+        ≡ Some (record { dpc = dpc; opc = opc; sls = link_code_of message }) }
+    ensures message { (dpc opc : ℕ) (message : Management) → dpc < 2 ^ 14 → opc < 2 ^ 14 → IsManagement message →
+        read_management (management_octets dpc opc message) ≡ Ok message }
+    ensures fits { (dpc opc : ℕ) (message : Management) →
+        length (management_octets dpc opc message) ≤ MANAGEMENT_OCTETS }
+{}

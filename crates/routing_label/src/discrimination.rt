@@ -7,18 +7,18 @@ ghost use Rattle.routing_label.specs.Discrimination.{discrimination};
 use crate::label::Label;
 use signalling_types::{Cause, MsuRef, PointCode};
 
-/// Where a message goes (Q.704 §2.3).
+/// Where a message goes (Q.704 §2.4).
 #[derive(Clone, Copy, Debug, PartialEq, Eq)]
 pub enum Discrimination {
-    /// It is for this point.
-    Here,
-    /// It is for another point.
-    Transfer,
+    /// It is for this point, by this label.
+    Here(Label),
+    /// It is for another point, by this label.
+    Transfer(Label),
     /// It is refused before its destination is looked at.
     Refused(Cause),
 }
 
-/// Whether a message is for the point `own` of the network with this indicator, or for another (Q.704 §2.3).
+/// Whether a message is for the point `own` of the network with this indicator, or for another (Q.704 §2.4).
 ///
 /// Refused NoLabel where its signalling information field has fewer than four octets; else WrongNetwork where
 /// its network indicator is another. Else its destination point code decides.
@@ -32,8 +32,8 @@ pub fn discriminate(message: MsuRef<'_>, own: PointCode, network: u8) -> Discrim
         return Discrimination::Refused(Cause::WrongNetwork);
     }
     if label.dpc == own {
-        Discrimination::Here
+        Discrimination::Here(label)
     } else {
-        Discrimination::Transfer
+        Discrimination::Transfer(label)
     }
 }

@@ -18,8 +18,8 @@ set_in i d =
     Ok (record { name = name; adjacent = adjacent }))))
 
 -- a link: its name, the name of its set and its signalling link code
-unfoldable pub link_in : ℕ → Data → Result WrittenLink SettingsFault
-link_in i d =
+unfoldable pub link_entry_in : ℕ → Data → Result WrittenLink SettingsFault
+link_entry_in i d =
     and_then (table_in (key.LinkEntry i) d) (λ t.
     and_then (text_at (codes "name") (key.LinkName i) t) (λ name.
     and_then (text_at (codes "set") (key.LinkSet i) t) (λ set.
@@ -68,7 +68,7 @@ unfoldable pub sets_at : Members → Result (List WrittenSet) SettingsFault
 sets_at t = and_then (entries_at (codes "set") key.Set t) (each set_in 0)
 
 unfoldable pub links_at : Members → Result (List WrittenLink) SettingsFault
-links_at t = and_then (entries_at (codes "link") key.Link t) (each link_in 0)
+links_at t = and_then (entries_at (codes "link") key.Link t) (each link_entry_in 0)
 
 unfoldable pub destinations_at : Members → Result (List WrittenDestination) SettingsFault
 destinations_at t = and_then (entries_at (codes "destination") key.Destination t) (each destination_in 0)

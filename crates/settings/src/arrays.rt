@@ -5,7 +5,7 @@ ghost use Rattle.toml.specs.View.{view, table_view};
 ghost use Rattle.settings.specs.Faults.{AnswersOrNoMemory};
 ghost use Rattle.settings.specs.Shapes.{each};
 ghost use Rattle.settings.specs.Written.{set_written, link_written, destination_written, title_written};
-ghost use Rattle.settings.specs.Entries.{set_in, link_in, destination_in, ssn_at, title_in};
+ghost use Rattle.settings.specs.Entries.{set_in, link_entry_in, destination_in, ssn_at, title_in};
 ghost use Rattle.settings.specs.Entries.{sets_at, links_at, destinations_at, titles_at};
 
 use crate::fault::SettingsFault;
@@ -26,9 +26,9 @@ fn set(alloc: Global, i: usize, value: &Value) -> Result<SetDraft, SettingsFault
 }
 
 /// A link.
-#[tactic(auto, unfolding(crate::specs::Entries::link_in))]
+#[tactic(auto, unfolding(crate::specs::Entries::link_entry_in))]
 fn link(alloc: Global, i: usize, value: &Value) -> Result<LinkDraft, SettingsFault>
-    ensures { AnswersOrNoMemory link_written (link_in i (view value.now)) result }
+    ensures { AnswersOrNoMemory link_written (link_entry_in i (view value.now)) result }
 {
     let table = table_in(value, Key::LinkEntry(i))?;
     let name = text(alloc, table, "name", Key::LinkName(i))?;
@@ -101,7 +101,7 @@ fn each_set(alloc: Global, values: &[Value]) -> Result<Vec<SetDraft>, SettingsFa
 /// The links that values are.
 fn each_link(alloc: Global, values: &[Value]) -> Result<Vec<LinkDraft>, SettingsFault>
     ensures { AnswersOrNoMemory (λ links. map link_written links.items)
-        (each link_in 0 (map view values.now)) result }
+        (each link_entry_in 0 (map view values.now)) result }
 {
     let mut links = Vec::with_capacity(alloc, values.len())?;
     for i in 0..values.len() {

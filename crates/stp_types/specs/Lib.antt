@@ -1,3 +1,4 @@
 pub mod Well
 pub mod Readings
 pub mod Kept
+pub mod Facing

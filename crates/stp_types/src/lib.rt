@@ -1,6 +1,7 @@
 //! The small types that every part of the node names, and the checked settings of a node.
 #![tactic(auto)]
 
+mod facing;
 pub mod settings;
 
 pub use settings::Settings;

@@ -1,7 +1,7 @@
 //! The checked settings of a node.
 
 ghost use Rattle.std.specs.Str.{bytes_eq};
-ghost use Rattle.std.specs.List.{list_any};
+ghost use Rattle.std.specs.List.{list_any, IsDistinct};
 ghost use Rattle.std.specs.Option.{option_copied, option_map};
 ghost use Rattle.std.specs.Prelude.{All, IfOk, IfSome, OnOk, IfErr, ◌⊎◌, Some, None, ◌≡◌, position, ◌<◌, ◌≤◌, length};
 ghost use Rattle.std.specs.Prelude.{nat_eq, slice_get};
@@ -9,6 +9,7 @@ ghost use Rattle.settings_check.specs.Meaning.{settings_of};
 ghost use Rattle.settings_check.specs.FirstFault.{first_fault};
 ghost use Rattle.stp_types.specs.Readings.{link_place, destination_place, first_to, set_place};
 ghost use Rattle.stp_types.specs.Well.{IsWell, IsWithin, IsSet, IsLink, IsDestination, IsTitle, all_ticks};
+ghost use Rattle.stp_types.specs.Well.{is_same_row};
 
 use settings_check::{Checked, check_draft};
 use settings_rows::{DestinationRow, Draft, DraftFault, LinkRow, SetRow, TimerTicks, TitleRow};
@@ -148,6 +149,7 @@ impl Settings {
         ensures rows { result.now ≡ self.now.titles }
         ensures fits { length self.now.titles ≤ Limits.TITLES }
         ensures well { All IsTitle self.now.titles }
+        ensures differ { IsDistinct is_same_row self.now.titles }
     {
         &self.checked.titles
     }

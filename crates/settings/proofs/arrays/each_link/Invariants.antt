@@ -2,9 +2,9 @@ use Rattle.std.proofs.Common.{◌≡◌, drop, map}
 use Rattle.toml.specs.View.{view}
 use Rattle.settings.specs.Shapes.{each}
 use Rattle.settings.specs.Written.{link_written}
-use Rattle.settings.specs.Entries.{link_in}
+use Rattle.settings.specs.Entries.{link_entry_in}
 use Rattle.settings.proofs.Each.{after}
 use Rattle.settings.proofs.arrays.each_link.Given as goal
 
 abbrev pub invariant-loop-i : goal.invariant-loop-i
-invariant-loop-i l = after (map link_written l.links.items) (each link_in l.i (map view (drop l.i l.values))) ≡ each link_in 0 (map view l.values)
+invariant-loop-i l = after (map link_written l.links.items) (each link_entry_in l.i (map view (drop l.i l.values))) ≡ each link_entry_in 0 (map view l.values)

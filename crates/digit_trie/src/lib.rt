@@ -1,0 +1,7 @@
+//! What is found by its first digits: values by lists of digits, and the longest list that begins an address.
+#![tactic(auto)]
+
+mod node;
+pub mod trie;
+
+pub use trie::{Trie, TrieFault};

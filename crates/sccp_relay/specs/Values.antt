@@ -1,0 +1,26 @@
+-- What the relay's types say, without where their octets lie.
+use Rattle.std.specs.Prelude.{ℕ, List, take, Option, Some, None, ⊤}
+use Rattle.sccp_relay.specs.declared.own.Own.{Own}
+use Rattle.sccp_relay.specs.declared.relayed.Relayed.{Relayed}
+use Rattle.sccp_relay.specs.declared.relayed.Relayed.TheVariants as said
+use Rattle.sccp_relay.specs.Relay.{OwnValue, RelayedValue, Delivered, Onward, Refused}
+
+abbrev pub own_of : Own → OwnValue
+own_of own = record { point = own.point; subsystems = own.subsystems.now }
+
+-- what became of a message, with what was written at the front of a field
+abbrev pub relayed_of : Relayed → List ℕ → RelayedValue
+relayed_of said.Delivered field = Delivered
+relayed_of (said.Onward count) field = Onward (take count field)
+relayed_of (said.Refused cause) field = Refused cause
+
+-- a fact of how many octets go on, if any do
+abbrev pub IfOnward : Relayed → (ℕ → Type 0) → Type 0
+IfOnward said.Delivered P = ⊤
+IfOnward (said.Onward count) P = P count
+IfOnward (said.Refused cause) P = ⊤
+
+-- the octets that were written at the front of a field, if any were
+abbrev pub written_in : Option ℕ → List ℕ → Option (List ℕ)
+written_in None field = None
+written_in (Some count) field = Some (take count field)

@@ -1,0 +1,164 @@
+//! A UDTS that returns a UDT.
+
+ghost use Rattle.std.specs.Prelude.{◌≡◌, ◌≤◌, length, IfSome, Some, Ok};
+ghost use Rattle.sccp_codec.specs.Values.{parts_value, udts_of, unitdata_of};
+ghost use Rattle.sccp_relay.specs.Return as rule;
+ghost use Rattle.sccp_relay.specs.Values.{own_of, written_in};
+
+use crate::own::Own;
+use crate::relaying::{behind_label, row_of};
+use crate::writing::{same, translated, write_udts};
+use global_title::Translations;
+use routing_label::Label;
+use sccp_codec::{Field, Parts, Routing, Udt, Udts, Unitdata};
+use settings_rows::TitleRow;
+use signalling_types::{Cause, Limits, PointCode};
+
+/// Writes the UDTS that returns a message with this signalling information field, which came for this
+/// point and was refused for this cause, at the front of the field that is lent, each octet once, and
+/// answers how many octets it has. Its called address is the calling one of the message, and the other
+/// way round; by title that is translated as in a relayed message. Without an answer the field that is
+/// lent may hold anything (Q.714 §4.2).
+///
+/// None where the message isn't a UDT, or doesn't ask for a return on error; where the cause is none of
+/// NoNature, NoDigits, Unequipped, UnknownDestination, NoRoute and TooLong; and where the UDTS would
+/// go to this point, finds no translation, or would be too long.
+#[tactic(auto, unfolding(crate::specs::Return::returned))]
+pub fn returned(
+    sif: &[u8],
+    cause: Cause,
+    rows: &Translations,
+    own: &Own<'_>,
+    field: &mut Field,
+) -> Option<usize>
+    requires label { 4 ≤ length sif.now }
+    ensures exact { written_in result field.new ≡ rule.returned (own_of own.now) rows.now sif.now cause }
+    ensures label { IfSome result (λ count. 4 ≤ count) }
+    ensures fits { IfSome result (λ count. count ≤ Limits.SIF_OCTETS) }
+{
+    let Some(label) = Label::read(sif) else {
+        unreachable!()
+    };
+    let number = return_cause(cause)?;
+    match Unitdata::read(behind_label(sif)) {
+        Ok(unitdata) => return_read(&unitdata, number, label, rows, own, field),
+        Err(_) => None,
+    }
+}
+
+/// The return cause (Q.713 §3.12); nothing is returned for any other refusal.
+fn return_cause(cause: Cause) -> Option<u8>
+    ensures { result ≡ rule.return_cause cause }
+{
+    match cause {
+        Cause::NoNature => Some(0),
+        Cause::NoDigits => Some(1),
+        Cause::Unequipped => Some(4),
+        Cause::UnknownDestination | Cause::NoRoute => Some(5),
+        Cause::TooLong => Some(7),
+        _ => None,
+    }
+}
+
+/// A UDT that asks for it is returned with this return cause.
+fn return_read(
+    unitdata: &Unitdata<'_>,
+    number: u8,
+    label: Label,
+    rows: &Translations,
+    own: &Own<'_>,
+    field: &mut Field,
+) -> Option<usize>
+    ensures text { written_in result field.new
+        ≡ rule.return_read (own_of own.now) rows.now label (Some number) (Ok (unitdata_of unitdata.now)) }
+    ensures label { IfSome result (λ count. 4 ≤ count) }
+    ensures fits { IfSome result (λ count. count ≤ Limits.SIF_OCTETS) }
+{
+    match unitdata {
+        Unitdata::Udt(udt) if udt.returns_on_error() => {
+            return_by(number, &udt.parts, label, rows, own, field)
+        }
+        _ => None,
+    }
+}
+
+/// The UDTS goes to the address that called: by subsystem number to the point that it names, else back
+/// where the message came from; by title to where a row leads.
+fn return_by(
+    number: u8,
+    parts: &Parts<'_>,
+    label: Label,
+    rows: &Translations,
+    own: &Own<'_>,
+    field: &mut Field,
+) -> Option<usize>
+    ensures text { written_in result field.new ≡ rule.return_by (parts_value parts.now).calling.routing
+        (own_of own.now) rows.now label number (parts_value parts.now) }
+    ensures label { IfSome result (λ count. 4 ≤ count) }
+    ensures fits { IfSome result (λ count. count ≤ Limits.SIF_OCTETS) }
+{
+    let caller = &parts.calling;
+    if caller.routing == Routing::Ssn {
+        let udts = Udts {
+            return_cause: number,
+            parts: sent_back(parts),
+        };
+        return return_to(
+            caller.point.unwrap_or(label.opc),
+            own.point,
+            label,
+            &udts,
+            field,
+        );
+    }
+    match row_of(rows, caller) {
+        Ok(row) => {
+            let udts = Udts {
+                return_cause: number,
+                parts: led_back(&row, parts),
+            };
+            return_to(row.point(), own.point, label, &udts, field)
+        }
+        Err(_) => None,
+    }
+}
+
+/// The parts, sent back: to the address that called, from the one that was called.
+fn sent_back<'a>(parts: &Parts<'a>) -> Parts<'a>
+    ensures { parts_value result ≡ rule.sent_back (parts_value parts.now) }
+{
+    Parts {
+        called: same(&parts.calling),
+        calling: same(&parts.called),
+        data: parts.data,
+    }
+}
+
+/// The same, where a row leads the address that called.
+fn led_back<'a>(row: &TitleRow, parts: &Parts<'a>) -> Parts<'a>
+    ensures { parts_value result ≡ rule.led_back row.now (parts_value parts.now) }
+{
+    Parts {
+        called: translated(row, &parts.calling),
+        calling: same(&parts.called),
+        data: parts.data,
+    }
+}
+
+/// A UDTS is written to another point.
+fn return_to(
+    point: PointCode,
+    own: PointCode,
+    label: Label,
+    udts: &Udts<'_>,
+    field: &mut Field,
+) -> Option<usize>
+    ensures text { written_in result field.new ≡ rule.return_to own label point (udts_of udts.now) }
+    ensures label { IfSome result (λ count. 4 ≤ count) }
+    ensures fits { IfSome result (λ count. count ≤ Limits.SIF_OCTETS) }
+{
+    if point == own {
+        return None;
+    }
+    write_udts(point, own, label, udts, field)
+}

@@ -1,0 +1,112 @@
+//! Messages written anew.
+
+ghost use Rattle.std.specs.Prelude.{◌≡◌, ◌≤◌, Some, None, IfSome, if◌then◌else◌};
+ghost use Rattle.sccp_codec.specs.Values.{address_of, parts_value, udt_of, udts_of};
+ghost use Rattle.sccp_relay.specs.Relay as rule;
+ghost use Rattle.sccp_relay.specs.Values.{written_in};
+
+use routing_label::Label;
+use sccp_codec::{Address, Field, Routing, Udt, Udts};
+use settings_rows::{Route, TitleRow};
+use signalling_types::{Limits, PointCode, Ssn};
+
+/// Writes a UDT for another point behind a label from this one, which keeps the link selection, at the
+/// front of the field, and answers how many octets it has. None where it would be too long.
+pub(crate) fn write_udt(
+    point: PointCode,
+    own: PointCode,
+    label: Label,
+    udt: &Udt<'_>,
+    field: &mut Field,
+) -> Option<usize>
+    ensures text { written_in result field.new ≡ rule.written point own label (udt_of udt.now) }
+    ensures label { IfSome result (λ count. 4 ≤ count) }
+    ensures fits { IfSome result (λ count. count ≤ Limits.SIF_OCTETS) }
+{
+    match udt.write(label_to(point, own, label).write(), field) {
+        Ok(count) => Some(count),
+        Err(_) => None,
+    }
+}
+
+/// Writes a UDTS for another point, as `write_udt` does a UDT.
+pub(crate) fn write_udts(
+    point: PointCode,
+    own: PointCode,
+    label: Label,
+    udts: &Udts<'_>,
+    field: &mut Field,
+) -> Option<usize>
+    ensures text { written_in result field.new ≡ rule.written point own label (udts_of udts.now) }
+    ensures label { IfSome result (λ count. 4 ≤ count) }
+    ensures fits { IfSome result (λ count. count ≤ Limits.SIF_OCTETS) }
+{
+    match udts.write(label_to(point, own, label).write(), field) {
+        Ok(count) => Some(count),
+        Err(_) => None,
+    }
+}
+
+/// The label of a message from this point to another, which keeps the link selection.
+fn label_to(point: PointCode, own: PointCode, label: Label) -> Label
+    ensures { result ≡ rule.label_to point own label }
+{
+    Label {
+        dpc: point,
+        opc: own,
+        sls: label.sls,
+    }
+}
+
+/// The subsystem number at the point that a row leads to: that of the row, where it has one, else that
+/// of the address, where it has one (Q.714 §2.4).
+pub(crate) fn ssn_by(route: Route, ssn: Option<u8>) -> Option<u8>
+    ensures { result ≡ rule.ssn_by route ssn }
+{
+    match route {
+        Route::Title(other) => number_or(other, ssn),
+        Route::Ssn(other) => Some(other.number()),
+    }
+}
+
+/// The number of a subsystem, where there is one, else the other.
+fn number_or(ssn: Option<Ssn>, other: Option<u8>) -> Option<u8>
+    ensures { result ≡ rule.number_or ssn other }
+{
+    match ssn {
+        Some(ssn) => Some(ssn.number()),
+        None => other,
+    }
+}
+
+/// By what an address is routed at that point.
+fn routing_by(route: Route) -> Routing
+    ensures { result ≡ rule.routing_by route }
+{
+    match route {
+        Route::Title(_) => Routing::Title,
+        Route::Ssn(_) => Routing::Ssn,
+    }
+}
+
+/// The called address, as a row leads it on: its title is kept, and it names no point any more.
+pub(crate) fn translated<'a>(row: &TitleRow, address: &Address<'a>) -> Address<'a>
+    ensures { address_of result ≡ rule.translated row.now (address_of address.now) }
+{
+    Address {
+        routing: routing_by(row.route()),
+        point: None,
+        ssn: ssn_by(row.route(), address.ssn),
+        ..*address
+    }
+}
+
+/// The same address.
+pub(crate) fn same<'a>(address: &Address<'a>) -> Address<'a>
+    ensures { address_of result ≡ address_of address.now }
+{
+    Address {
+        point: address.point,
+        ..*address
+    }
+}

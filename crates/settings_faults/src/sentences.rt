@@ -1,0 +1,141 @@
+//! The sentence that says what is wrong with a settings file.
+
+ghost use Rattle.std.specs.Prelude.{◌≡◌, Some, IfOk, string_bytes};
+ghost use Rattle.settings_rows.specs.declared.key.Key.{Key};
+ghost use Rattle.settings_faults.specs.Sentences.{IsAbout, Names, Explains, key_of};
+
+use crate::key_rows::{KeyRow, key_row};
+use crate::places::{Place, entry_name, value_at};
+use crate::values::value_text;
+use settings::SettingsFault;
+use std::alloc::{AllocError, Global};
+use stp_types::{DraftFault, FaultKind, Key};
+use toml::{Table, Value};
+
+/// The sentence that says what is wrong with a settings file of this name and these octets, which
+/// has this fault, with a line feed: `node.toml: link[2] "e2": slc is 16, must be 0 to 15`.
+///
+/// `AllocError` where memory ran out.
+pub fn sentence(
+    alloc: Global,
+    file: &str,
+    octets: &[u8],
+    fault: SettingsFault,
+) -> Result<String, AllocError>
+    ensures { IfOk result (λ sentence. Explains file.now octets.now fault (string_bytes sentence)) }
+{
+    let Ok(text) = str::from_utf8(octets) else {
+        return format!(in alloc; "{file}: the file isn't UTF-8\n");
+    };
+    match toml::table_from_str(alloc, text) {
+        Ok(table) => in_document(alloc, file, &table, fault),
+        Err(error) if error.is_memory() => Err(AllocError),
+        Err(error) => {
+            let said = format!(in alloc; "{error}")?;
+            format!(in alloc; "{file}: {said}")
+        }
+    }
+}
+
+/// The sentence about a file that is TOML.
+fn in_document(
+    alloc: Global,
+    file: &str,
+    document: &Table,
+    fault: SettingsFault,
+) -> Result<String, AllocError>
+    ensures names { IfOk result (λ sentence. Names file.now (string_bytes sentence)) }
+    ensures key { IfOk result (λ sentence. (key : Key) → key_of fault ≡ Some key
+        → IsAbout file.now key (string_bytes sentence)) }
+{
+    let Some(key) = key_of(fault) else {
+        return format!(in alloc; "{file}: out of memory\n");
+    };
+    let row = key_row(key);
+    let wrong = wrong(alloc, &row, value_at(document, &row), fault)?;
+    about(alloc, file, document, key, wrong.as_str())
+}
+
+/// The key that a fault of a document is at.
+fn key_of(fault: SettingsFault) -> Option<Key>
+    ensures { result ≡ key_of fault }
+{
+    match fault {
+        SettingsFault::Missing(key) | SettingsFault::Kind(key) => Some(key),
+        SettingsFault::Draft(DraftFault::At(_, key)) => Some(key),
+        SettingsFault::Version => Some(Key::Version),
+        SettingsFault::Text | SettingsFault::Draft(DraftFault::NoMemory) => None,
+    }
+}
+
+/// What is wrong at a key of this row, which has this value.
+fn wrong(
+    alloc: Global,
+    row: &KeyRow,
+    value: Option<&Value>,
+    fault: SettingsFault,
+) -> Result<String, AllocError> {
+    let Some(value) = value else {
+        let kind = row.kind;
+        return format!(in alloc; "is missing, must be {kind}");
+    };
+    match fault {
+        SettingsFault::Missing(_) => String::from_str(
+            alloc,
+            "has no entry, must have one at least",
+        ),
+        SettingsFault::Kind(_) => must_be(alloc, value, row.kind),
+        SettingsFault::Draft(DraftFault::At(kind, _)) => at_key(alloc, row, value, kind),
+        _ => must_be(alloc, value, row.demand),
+    }
+}
+
+/// What the check of settings finds wrong with the value of a key.
+fn at_key(
+    alloc: Global,
+    row: &KeyRow,
+    value: &Value,
+    kind: FaultKind,
+) -> Result<String, AllocError> {
+    match kind {
+        FaultKind::Range | FaultKind::TooMany => must_be(alloc, value, row.demand),
+        FaultKind::Duplicate if value.is_array() => String::from_str(alloc, "has an entry twice"),
+        FaultKind::Duplicate => is(alloc, value, "which another entry has too"),
+        FaultKind::UnknownName if value.is_integer() => is(
+            alloc,
+            value,
+            "and no [[destination]] of this point names this set first",
+        ),
+        FaultKind::UnknownName => is(alloc, value, "and no [[set]] is named so"),
+    }
+}
+
+/// What a value is, and what it has to be.
+fn must_be(alloc: Global, value: &Value, demand: &str) -> Result<String, AllocError> {
+    let text = value_text(alloc, value)?;
+    format!(in alloc; "is {text}, must be {demand}")
+}
+
+/// What a value is, and what is wrong with that.
+fn is(alloc: Global, value: &Value, wrong: &str) -> Result<String, AllocError> {
+    let text = value_text(alloc, value)?;
+    format!(in alloc; "is {text}, {wrong}")
+}
+
+/// The sentence about a key.
+fn about(
+    alloc: Global,
+    file: &str,
+    document: &Table,
+    key: Key,
+    wrong: &str,
+) -> Result<String, AllocError>
+    ensures { IfOk result (λ sentence. IsAbout file.now key (string_bytes sentence)) }
+{
+    let row = key_row(key);
+    let place = Place {
+        row,
+        entry_name: entry_name(document, &row),
+    };
+    format!(in alloc; "{file}: {place} {wrong}\n")
+}
