@@ -4,15 +4,15 @@ use Rattle.std.specs.Prelude.{Option, Some, None}
 use Rattle.route_table.specs.Facts.{Facts, with_link}
 use Rattle.node_links.specs.Network.{Network, facts_of}
 use Rattle.flow_hold.specs.declared.procedure.Procedure.{Procedure}
-use Rattle.flow_hold.specs.Holds.{HoldTable}
-use Rattle.changeback.specs.Return.{FlowChange, selections, origin_of, change_from, changes_of, changes, comes_from, gives_up, with_change, held_by}
+use Rattle.flow_hold.specs.Holds.{HoldSet, selections}
+use Rattle.changeback.specs.Return.{FlowChange, former_link_of, change_from, changes_of, changes, comes_from, gives_up, with_change, held_by}
 
 pub no_changes_of : (to : ℕ) (before after : Facts) (destination : ℕ) → changes_of to before after destination 0 ≡ []
 unfolding changes_of
 no_changes_of to before after destination = refl
 
 pub more_changes_of : (to : ℕ) (before after : Facts) (destination count : ℕ)
-    → changes_of to before after destination (count + 1) ≡ changes_of to before after destination count ++ change_from destination count (origin_of to before after destination count)
+    → changes_of to before after destination (count + 1) ≡ changes_of to before after destination count ++ change_from destination count (former_link_of to before after destination count)
 unfolding changes_of
 more_changes_of to before after destination count = ap (λ (n : ℕ). changes_of to before after destination n) (add-one count)
 
@@ -69,7 +69,7 @@ marked_none m other = sym (or-false (slice_index_or m other false))
 
 -- ---- which flows are held
 
-pub held_by-append : (holders : List (Option Procedure)) (xs ys : List FlowChange) (t : HoldTable)
+pub held_by-append : (holders : List (Option Procedure)) (xs ys : List FlowChange) (t : HoldSet)
     → held_by holders (xs ++ ys) t ≡ held_by holders ys (held_by holders xs t)
 held_by-append holders [] ys t = refl
 held_by-append holders (x ∷ xs) ys t = held_by-append holders xs ys (with_change t x (slice_index_or holders x.from None))
@@ -83,8 +83,8 @@ taken_to n link destination count = changes_of link (with_link link false (facts
 abbrev pub taken : Network → (link count : ℕ) → List FlowChange
 taken n link count = changes link (with_link link false (facts_of n)) (facts_of n) count
 
-abbrev pub origin_in : Network → (link destination sls : ℕ) → Option ℕ
-origin_in n link destination sls = origin_of link (with_link link false (facts_of n)) (facts_of n) destination sls
+abbrev pub former_in : Network → (link destination sls : ℕ) → Option ℕ
+former_in n link destination sls = former_link_of link (with_link link false (facts_of n)) (facts_of n) destination sls
 
 none_set : (n i : ℕ) → slice_index_or (replicate n false) i false ≡ false
 none_set zero i = refl
@@ -97,14 +97,14 @@ unfolding changes_of
 marks_begin m n link destination other = sym (or-false (slice_index_or m other false))
 
 pub marks_go_on : (m0 m1 m2 : List Bool) (n now : Network) (link destination count : ℕ) (from : Option ℕ)
-    → now ≡ n → from ≡ origin_in now link destination count
+    → now ≡ n → from ≡ former_in now link destination count
     → ((other : ℕ) → slice_index_or m1 other false ≡ (slice_index_or m0 other false || gives_up (taken_to n link destination count) other))
     → ((other : ℕ) → slice_index_or m2 other false ≡ (slice_index_or m1 other false || comes_from from other))
     → (other : ℕ) → slice_index_or m2 other false ≡ (slice_index_or m0 other false || gives_up (taken_to n link destination (count + 1)) other)
 marks_go_on m0 m1 m2 n now link destination count from same e f g other =
     marked_one m0 m1 m2 (taken_to n link destination count) destination count from f g other
     ∙ ap (λ (o : Option ℕ). slice_index_or m0 other false || gives_up (taken_to n link destination count ++ change_from destination count o) other)
-    (e ∙ ap (λ (n : Network). origin_in n link destination count) same)
+    (e ∙ ap (λ (n : Network). former_in n link destination count) same)
     ∙ ap (λ (cs : List FlowChange). slice_index_or m0 other false || gives_up cs other)
     (sym (more_changes_of link (with_link link false (facts_of n)) (facts_of n) destination count))
 
@@ -123,34 +123,34 @@ all_marks_go_on m1 m2 n now link count same f g other =
     ∙ sym (gives_up-append (taken n link count) (taken_to n link count selections) other)
     ∙ ap (λ (cs : List FlowChange). gives_up cs other) (sym (more_changes link (with_link link false (facts_of n)) (facts_of n) count))
 
-pub holds_begin : (holders : List (Option Procedure)) (t : HoldTable) (n : Network) (link destination : ℕ)
+pub holds_begin : (holders : List (Option Procedure)) (t : HoldSet) (n : Network) (link destination : ℕ)
     → t ≡ held_by holders (taken_to n link destination 0) t
 unfolding changes_of
 holds_begin holders t n link destination = refl
 
-pub holds_go_on : (holders : List (Option Procedure)) (t0 t1 t2 : HoldTable) (n now : Network) (link destination count : ℕ) → now ≡ n
+pub holds_go_on : (holders : List (Option Procedure)) (t0 t1 t2 : HoldSet) (n now : Network) (link destination count : ℕ) → now ≡ n
     → t1 ≡ held_by holders (taken_to n link destination count) t0
-    → t2 ≡ held_by holders (change_from destination count (origin_in now link destination count)) t1
+    → t2 ≡ held_by holders (change_from destination count (former_in now link destination count)) t1
     → t2 ≡ held_by holders (taken_to n link destination (count + 1)) t0
 holds_go_on holders t0 t1 t2 n now link destination count same f g =
-    let more : List FlowChange = change_from destination count (origin_in n link destination count) in
+    let more : List FlowChange = change_from destination count (former_in n link destination count) in
     g
-    ∙ ap (λ (n : Network). held_by holders (change_from destination count (origin_in n link destination count)) t1) same
-    ∙ ap (λ (t : HoldTable). held_by holders more t) f
+    ∙ ap (λ (n : Network). held_by holders (change_from destination count (former_in n link destination count)) t1) same
+    ∙ ap (λ (t : HoldSet). held_by holders more t) f
     ∙ sym (held_by-append holders (taken_to n link destination count) more t0)
     ∙ ap (λ (cs : List FlowChange). held_by holders cs t0) (sym (more_changes_of link (with_link link false (facts_of n)) (facts_of n) destination count))
 
-pub all_holds_begin : (holders : List (Option Procedure)) (t : HoldTable) (n : Network) (link : ℕ) → t ≡ held_by holders (taken n link 0) t
+pub all_holds_begin : (holders : List (Option Procedure)) (t : HoldSet) (n : Network) (link : ℕ) → t ≡ held_by holders (taken n link 0) t
 unfolding changes
 all_holds_begin holders t n link = refl
 
-pub all_holds_go_on : (holders : List (Option Procedure)) (t0 t1 t2 : HoldTable) (n now : Network) (link count : ℕ) → now ≡ n
+pub all_holds_go_on : (holders : List (Option Procedure)) (t0 t1 t2 : HoldSet) (n now : Network) (link count : ℕ) → now ≡ n
     → t1 ≡ held_by holders (taken n link count) t0
     → t2 ≡ held_by holders (taken_to now link count selections) t1
     → t2 ≡ held_by holders (taken n link (count + 1)) t0
 all_holds_go_on holders t0 t1 t2 n now link count same f g =
     g
     ∙ ap (λ (n : Network). held_by holders (taken_to n link count selections) t1) same
-    ∙ ap (λ (t : HoldTable). held_by holders (taken_to n link count selections) t) f
+    ∙ ap (λ (t : HoldSet). held_by holders (taken_to n link count selections) t) f
     ∙ sym (held_by-append holders (taken n link count) (taken_to n link count selections) t0)
     ∙ ap (λ (cs : List FlowChange). held_by holders cs t0) (sym (more_changes link (with_link link false (facts_of n)) (facts_of n) count))

@@ -1,72 +1,133 @@
--- The flows that a link takes over are held.
-use Rattle.std.proofs.Common.{◌≡◌, ℕ, zero, suc, ◌<◌, true, List, [], ◌∷◌, slice_index_or, refl, ap, sym, ◌∙◌, subst, arith}
-use Rattle.std.specs.Prelude.{Option, Some, None}
+-- The flows that a link takes over are held, each by the procedure that holds what comes from its former link.
+use Rattle.std.proofs.Common.{◌≡◌, ℕ, zero, suc, Bool, true, false, ◌&&◌, ◌||◌, List, [], ◌∷◌, slice_index_or, refl, ap, sym, ◌∙◌, subst, arith, ◌⊎◌, inl, inr}
+use Rattle.std.specs.Prelude.{Option, Some, None, Contains}
+use Rattle.std.specs.Ordering.{eq_by_cmp}
+use Rattle.std.proofs.Math.Logic.{⊎_elim}
 use Rattle.flow_hold.specs.declared.procedure.Procedure.{Procedure}
-use Rattle.flow_hold.specs.declared.procedure.Procedure.TheVariants.{Changeover, Code, Time, Reroute}
-use Rattle.flow_hold.specs.Rows.{Marks, marks_at, place_of_flow}
-use Rattle.flow_hold.specs.Holds.{HoldTable, is_held, place_of, flow_of, with_mark_at, with_row_hold}
-use Rattle.flow_hold.specs.Pairs.{HasPlaces, may_hold}
-use Rattle.flow_hold.proofs.Placing.{with_hold-places}
-use Rattle.flow_hold.proofs.Holding.{holds_its_flow, keeps_flows_held}
-use Rattle.changeback.specs.Return.{FlowChange, selections, with_change}
-use Rattle.changeback.specs.Laws.{each_change_is_held, held_flows_stay_held}
+use Rattle.flow_hold.specs.Holds.{Hold, HoldSet, by_numbers, holds, may_hold}
+use Rattle.flow_hold.proofs.Numbers.{tied}
+use Rattle.flow_hold.proofs.Flows.{IsSameNode}
+use Rattle.flow_hold.proofs.Holding.{contains-with_hold, adds_its_pair, keeps_pairs, may-still, hold-leaves_others}
+use Rattle.changeback.specs.Return.{FlowChange, with_change, held_by}
+use Rattle.changeback.specs.Laws.{IsToHold, each_change_has_its_pair, changes_leave_other_pairs}
 
 -- ---- one change
 
-change-keeps : (t : HoldTable) (c : FlowChange) (holder : Option Procedure) (destination sls : ℕ) → is_held t destination sls ≡ true → is_held (with_change t c holder) destination sls ≡ true
-change-keeps t c (Some procedure) destination sls e = keeps_flows_held t procedure c.destination c.sls destination sls e
-change-keeps t c None destination sls e = e
+change-keeps_pairs : (h : HoldSet) (c : FlowChange) (holder : Option Procedure) (procedure : Procedure) (destination sls : ℕ) → holds h procedure destination sls ≡ true →
+    holds (with_change h c holder) procedure destination sls ≡ true
+change-keeps_pairs h c (Some other) procedure destination sls e = keeps_pairs h other procedure c.destination c.sls destination sls e
+change-keeps_pairs h c None procedure destination sls e = e
 
-change-places : (t : HoldTable) (c : FlowChange) (holder : Option Procedure) → HasPlaces t → HasPlaces (with_change t c holder)
-change-places t c (Some procedure) h = with_hold-places t procedure c.destination c.sls h
-change-places t c None h = h
+pub change-may : (h : HoldSet) (c : FlowChange) (holder : Option Procedure) (procedure : Procedure) (destination sls : ℕ) →
+    may_hold (with_change h c holder) procedure destination sls ≡ may_hold h procedure destination sls
+change-may h c (Some other) procedure destination sls = may-still h other c.destination c.sls procedure destination sls
+change-may h c None procedure destination sls = refl
 
--- links, sets and destinations stay
-only-rows-at : (t : HoldTable) (row : ℕ) (place : Option ℕ) → with_mark_at t row place ≡ record t { rows = (with_mark_at t row place).rows }
-only-rows-at t row (Some place) = refl
-only-rows-at t row None = refl
+change-has_pair : (h : HoldSet) (c : FlowChange) (holder : Option Procedure) (procedure : Procedure) → holder ≡ Some procedure → may_hold h procedure c.destination c.sls ≡ true →
+    holds (with_change h c holder) procedure c.destination c.sls ≡ true
+change-has_pair h c holder procedure e may =
+    ap (λ (o : Option Procedure). holds (with_change h c o) procedure c.destination c.sls) e ∙ adds_its_pair h procedure c.destination c.sls may
 
-pub only-rows : (t : HoldTable) (row flow : Option ℕ) → with_row_hold t row flow ≡ record t { rows = (with_row_hold t row flow).rows }
-only-rows t (Some row) (Some flow) = only-rows-at t row (place_of_flow (marks_at t.rows row) flow)
-only-rows t (Some row) None = refl
-only-rows t None flow = refl
-
-change-rows : (t : HoldTable) (c : FlowChange) (holder : Option Procedure) → with_change t c holder ≡ record t { rows = (with_change t c holder).rows }
-change-rows t c (Some procedure) = only-rows t (place_of t procedure) (flow_of t c.destination c.sls)
-change-rows t c None = refl
-
-may-alike : (t : HoldTable) (rows : List Marks) (procedure : Procedure) (destination : ℕ) → may_hold (record t { rows = rows }) procedure destination ≡ may_hold t procedure destination
-may-alike t rows (Changeover link) destination = refl
-may-alike t rows (Code set code) destination = refl
-may-alike t rows (Time link) destination = refl
-may-alike t rows (Reroute rerouted) destination = refl
-
-change-may : (t : HoldTable) (c : FlowChange) (holder : Option Procedure) (procedure : Procedure) (destination : ℕ) → may_hold (with_change t c holder) procedure destination ≡ may_hold t procedure destination
-change-may t c holder procedure destination =
-    ap (λ (u : HoldTable). may_hold u procedure destination) (change-rows t c holder) ∙ may-alike t (with_change t c holder).rows procedure destination
-
-change-there : (t : HoldTable) (c : FlowChange) (holder : Option Procedure) → (with_change t c holder).destinations ≡ t.destinations
-change-there t c holder = ap (λ (u : HoldTable). u.destinations) (change-rows t c holder)
+change-leaves : (h : HoldSet) (c : FlowChange) (holder : Option Procedure) (procedure : Procedure) (destination sls : ℕ) →
+    (holder ≡ Some procedure → c.destination ≡ destination → c.sls ≡ sls → ⊥) → holds (with_change h c holder) procedure destination sls ≡ holds h procedure destination sls
+change-leaves h c (Some other) procedure destination sls apart =
+    hold-leaves_others h other procedure c.destination c.sls destination sls
+    (λ e. apart (ap (λ (p : Procedure × ℕ × ℕ). Some p.0) (sym e)) (ap (λ (p : Procedure × ℕ × ℕ). p.1) (sym e)) (ap (λ (p : Procedure × ℕ × ℕ). p.2) (sym e)))
+change-leaves h c None procedure destination sls apart = refl
 
 -- ---- all of them
 
-pub stay_held : held_flows_stay_held
-stay_held holders [] t destination sls e = e
-stay_held holders (c ∷ cs) t destination sls e = stay_held holders cs _ destination sls (change-keeps t c (slice_index_or holders c.from None) destination sls e)
+pub pairs-stay : (holders : List (Option Procedure)) (cs : List FlowChange) (h : HoldSet) (procedure : Procedure) (destination sls : ℕ) → holds h procedure destination sls ≡ true →
+    holds (held_by holders cs h) procedure destination sls ≡ true
+pairs-stay holders [] h procedure destination sls e = e
+pairs-stay holders (c ∷ cs) h procedure destination sls e =
+    pairs-stay holders cs (with_change h c (slice_index_or holders c.from None)) procedure destination sls
+    (change-keeps_pairs h c (slice_index_or holders c.from None) procedure destination sls e)
 
-held-first : (t : HoldTable) (c : FlowChange) (holder : Option Procedure) (procedure : Procedure) → holder ≡ Some procedure → HasPlaces t →
-    may_hold t procedure c.destination ≡ true → c.destination < t.destinations → c.sls < selections → is_held (with_change t c holder) c.destination c.sls ≡ true
-held-first t c holder procedure e h may there few =
-    ap (λ (o : Option Procedure). is_held (with_change t c o) c.destination c.sls) e ∙ holds_its_flow t procedure c.destination c.sls h may there few
-
-pub change_held : each_change_is_held
-change_held holders [] t c procedure (k, l, e) holder h may there few = absurd (omega (arith, l))
-change_held holders (x ∷ cs) t c procedure (zero, l, e) holder h may there few =
-    let held : is_held (with_change t x (slice_index_or holders x.from None)) c.destination c.sls ≡ true =
-    subst (λ (x : FlowChange). is_held (with_change t x (slice_index_or holders x.from None)) c.destination c.sls ≡ true) (sym e)
-    (held-first t c (slice_index_or holders c.from None) procedure holder h may there few) in
-    stay_held holders cs _ c.destination c.sls held
-change_held holders (x ∷ cs) t c procedure (suc k, l, e) holder h may there few =
+has-pair : (holders : List (Option Procedure)) (cs : List FlowChange) (h : HoldSet) (c : FlowChange) (procedure : Procedure) → Contains cs c → slice_index_or holders c.from None ≡ Some procedure →
+    may_hold h procedure c.destination c.sls ≡ true → holds (held_by holders cs h) procedure c.destination c.sls ≡ true
+has-pair holders [] h c procedure (k, l, e) holder may = absurd (omega (arith, l))
+has-pair holders (x ∷ cs) h c procedure (zero, l, e) holder may =
+    pairs-stay holders cs (with_change h x (slice_index_or holders x.from None)) procedure c.destination c.sls
+    (subst (λ (x : FlowChange). holds (with_change h x (slice_index_or holders x.from None)) procedure c.destination c.sls ≡ true) (sym e)
+    (change-has_pair h c (slice_index_or holders c.from None) procedure holder may))
+has-pair holders (x ∷ cs) h c procedure (suc k, l, e) holder may =
     let first : Option Procedure = slice_index_or holders x.from None in
-    change_held holders cs (with_change t x first) c procedure (k, omega (arith, l), e) holder (change-places t x first h)
-    (change-may t x first procedure c.destination ∙ may) (omega (arith, there, change-there t x first)) few
+    has-pair holders cs (with_change h x first) c procedure (k, omega (arith, l), e) holder (change-may h x first procedure c.destination c.sls ∙ may)
+
+pub change_pairs : each_change_has_its_pair
+change_pairs holders cs h procedure destination sls to_hold may =
+    ap (λ (d : ℕ). holds (held_by holders cs h) procedure d sls) (sym to_hold.to)
+    ∙ ap (λ (s : ℕ). holds (held_by holders cs h) procedure to_hold.change.destination s) (sym to_hold.selection)
+    ∙ has-pair holders cs h to_hold.change procedure to_hold.among to_hold.holder
+    (ap (λ (d : ℕ). may_hold h procedure d to_hold.change.sls) to_hold.to ∙ ap (λ (s : ℕ). may_hold h procedure destination s) to_hold.selection ∙ may)
+
+to-hold-behind : (holders : List (Option Procedure)) (x : FlowChange) (cs : List FlowChange) (procedure : Procedure) (destination sls : ℕ) →
+    IsToHold holders cs procedure destination sls → IsToHold holders (x ∷ cs) procedure destination sls
+to-hold-behind holders x cs procedure destination sls t = record {
+  change = t.change;
+  among = (suc t.among.0, omega (arith, t.among.1), t.among.2);
+  holder = t.holder;
+  to = t.to;
+  selection = t.selection;
+}
+
+pub other_pairs_stay : changes_leave_other_pairs
+other_pairs_stay holders [] h procedure destination sls apart = refl
+other_pairs_stay holders (x ∷ cs) h procedure destination sls apart =
+    let first : Option Procedure = slice_index_or holders x.from None in
+    other_pairs_stay holders cs (with_change h x first) procedure destination sls (λ t. apart (to-hold-behind holders x cs procedure destination sls t))
+    ∙ change-leaves h x first procedure destination sls
+    (λ holder to selection. apart (record { change = x; among = (0, omega arith, refl); holder = holder; to = to; selection = selection }))
+
+-- ---- a pair that is there
+
+came-case : (holders : List (Option Procedure)) (x : FlowChange) (cs : List FlowChange) (h : HoldSet) (first procedure : Procedure) (destination sls : ℕ) (may tie : Bool) →
+    slice_index_or holders x.from None ≡ Some first → eq_by_cmp by_numbers (record { procedure = procedure; destination = destination; sls = sls }) (record { procedure = first; destination = x.destination; sls = x.sls }) ≡ tie →
+    ((may && tie) || holds h procedure destination sls) ≡ true → IsToHold holders (x ∷ cs) procedure destination sls ⊎ (holds h procedure destination sls ≡ true)
+came-case holders x cs h first procedure destination sls true true holder e f =
+    let this : Hold = record { procedure = procedure; destination = destination; sls = sls } in
+    let that : Hold = record { procedure = first; destination = x.destination; sls = x.sls } in
+    let same : this ≡ that = tied this that e in
+    inl (record {
+      change = x;
+      among = (0, omega arith, refl);
+      holder = holder ∙ ap (λ (y : Hold). Some y.procedure) (sym same);
+      to = ap (λ (y : Hold). y.destination) (sym same);
+      selection = ap (λ (y : Hold). y.sls) (sym same);
+    })
+came-case holders x cs h first procedure destination sls true false holder e f = inr f
+came-case holders x cs h first procedure destination sls false tie holder e f = inr f
+
+came-one : (holders : List (Option Procedure)) (x : FlowChange) (cs : List FlowChange) (h : HoldSet) (holder : Option Procedure) (procedure : Procedure) (destination sls : ℕ) →
+    slice_index_or holders x.from None ≡ holder → holds (with_change h x holder) procedure destination sls ≡ true →
+    IsToHold holders (x ∷ cs) procedure destination sls ⊎ (holds h procedure destination sls ≡ true)
+came-one holders x cs h (Some first) procedure destination sls holder e =
+    came-case holders x cs h first procedure destination sls (may_hold h first x.destination x.sls) _ holder refl
+    (sym (contains-with_hold h first x.destination x.sls (record { procedure = procedure; destination = destination; sls = sls })) ∙ e)
+came-one holders x cs h None procedure destination sls holder e = inr e
+
+-- it is one that was to be held, or it was there
+pub came : (holders : List (Option Procedure)) (cs : List FlowChange) (h : HoldSet) (procedure : Procedure) (destination sls : ℕ) → holds (held_by holders cs h) procedure destination sls ≡ true →
+    IsToHold holders cs procedure destination sls ⊎ (holds h procedure destination sls ≡ true)
+came holders [] h procedure destination sls e = inr e
+came holders (x ∷ cs) h procedure destination sls e =
+    let first : Option Procedure = slice_index_or holders x.from None in
+    ⊎_elim
+    (λ (t : IsToHold holders cs procedure destination sls). inl (to-hold-behind holders x cs procedure destination sls t))
+    (λ (f : holds (with_change h x first) procedure destination sls ≡ true). came-one holders x cs h first procedure destination sls refl f)
+    (came holders cs (with_change h x first) procedure destination sls e)
+
+-- ---- links, sets and destinations stay
+
+change-same_node : (h : HoldSet) (c : FlowChange) (holder : Option Procedure) → IsSameNode (with_change h c holder) h
+change-same_node h c (Some procedure) = record { links = refl; sets = refl; destinations = refl }
+change-same_node h c None = record { links = refl; sets = refl; destinations = refl }
+
+pub changes-same_node : (holders : List (Option Procedure)) (cs : List FlowChange) (h : HoldSet) → IsSameNode (held_by holders cs h) h
+changes-same_node holders [] h = record { links = refl; sets = refl; destinations = refl }
+changes-same_node holders (c ∷ cs) h =
+    let first : Option Procedure = slice_index_or holders c.from None in
+    let rest : IsSameNode (held_by holders cs (with_change h c first)) (with_change h c first) = changes-same_node holders cs (with_change h c first) in
+    let one : IsSameNode (with_change h c first) h = change-same_node h c first in
+    record { links = rest.links ∙ one.links; sets = rest.sets ∙ one.sets; destinations = rest.destinations ∙ one.destinations }

@@ -1,4 +1,3 @@
-pub mod Alike
 pub mod Changes
 pub mod Held
 pub mod Moved

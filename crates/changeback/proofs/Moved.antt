@@ -5,8 +5,9 @@ use Rattle.std.proofs.lemmas.Bool.Decides.{nat_tests}
 use Rattle.std.proofs.lemmas.List.Elements.{Contains-get_or, Contains-append_left, Contains-append_right, Contains-append_cases}
 use Rattle.route_table.specs.Facts.{Facts}
 use Rattle.route_table.specs.Chosen.{chosen_link}
-use Rattle.node_links.specs.Origin.{origin}
-use Rattle.changeback.specs.Return.{FlowChange, selections, origin_of, change_from, changes_of, changes, returned}
+use Rattle.node_links.specs.FormerLink.{former_link}
+use Rattle.flow_hold.specs.Holds.{selections}
+use Rattle.changeback.specs.Return.{FlowChange, former_link_of, change_from, changes_of, changes, returned}
 use Rattle.changeback.specs.Laws.{IsMoved, each_is_moved, each_moved_is_found}
 
 -- the one flow of a list
@@ -37,7 +38,7 @@ module _ (to : ℕ) (before after : Facts) where
 
   flow-moved : (destination sls : ℕ) (b a : Option ℕ) → destination < length after.routes → sls < selections
       → chosen_link before destination sls ≡ b → chosen_link after destination sls ≡ a
-      → (c : FlowChange) → Contains (change_from destination sls (origin to b a)) c → IsMoved to before after c
+      → (c : FlowChange) → Contains (change_from destination sls (former_link to b a)) c → IsMoved to before after c
   flow-moved destination sls (Some from) (Some now) there selection was is c h = one-moved destination sls from now _ there selection was is refl c h
   flow-moved destination sls (Some from) None there selection was is c h = absurd (none c h)
   flow-moved destination sls None a there selection was is c h = absurd (none c h)
@@ -63,11 +64,11 @@ module _ (to : ℕ) (before after : Facts) where
 
   -- ---- each flow that is moved is taken over
 
-  here : (c : FlowChange) (b a : Option ℕ) → b ≡ Some c.from → a ≡ Some to → c.from ≢ to → Contains (change_from c.destination c.sls (origin to b a)) c
+  here : (c : FlowChange) (b a : Option ℕ) → b ≡ Some c.from → a ≡ Some to → c.from ≢ to → Contains (change_from c.destination c.sls (former_link to b a)) c
   here c b a was is other =
       let test : (nat_eq to to && not (nat_eq c.from to)) ≡ true = grind (arith, nat_tests, other) in
       subst (λ (o : Option ℕ). Contains (change_from c.destination c.sls o) c)
-      (sym (ap (λ (b : Option ℕ). origin to b a) was ∙ ap (λ (a : Option ℕ). origin to (Some c.from) a) is
+      (sym (ap (λ (b : Option ℕ). former_link to b a) was ∙ ap (λ (a : Option ℕ). former_link to (Some c.from) a) is
       ∙ ap (λ (t : Bool). if t then Some c.from else None) test))
       (0, omega arith, refl)
 
@@ -78,7 +79,7 @@ module _ (to : ℕ) (before after : Facts) where
   found-to c moved (suc count) false l e =
       let same : c.sls ≡ count = grind (arith, nat_tests, e, l) in
       Contains-append_right (changes_of to before after c.destination count) _ c
-      (subst (λ (n : ℕ). Contains (change_from c.destination n (origin_of to before after c.destination n)) c) same
+      (subst (λ (n : ℕ). Contains (change_from c.destination n (former_link_of to before after c.destination n)) c) same
       (here c _ _ moved.was moved.is moved.other))
 
   found-all : (c : FlowChange) → IsMoved to before after c → (count : ℕ) (earlier : Bool) → c.destination < count → nat_lt c.destination (count - 1) ≡ earlier → Contains (changes to before after count) c
@@ -89,6 +90,9 @@ module _ (to : ℕ) (before after : Facts) where
       let same : c.destination ≡ count = grind (arith, nat_tests, e, l) in
       Contains-append_right (changes to before after count) _ c
       (subst (λ (n : ℕ). Contains (changes_of to before after n selections) c) same (found-to c moved selections _ moved.selection refl))
+
+pub moved_of : (to : ℕ) (before after : Facts) (c : FlowChange) → Contains (returned to before after) c → IsMoved to before after c
+moved_of to before after c h = moved-all to before after (length after.routes) (omega arith) c h
 
 pub each_moved : each_is_moved
 each_moved to before after k d l = moved-all to before after (length after.routes) (omega arith) _ (Contains-get_or (returned to before after) k d l)

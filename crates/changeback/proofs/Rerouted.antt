@@ -8,8 +8,7 @@ use Rattle.std.proofs.lemmas.List.FromFn.{filter_of_map_range_with_len_more}
 use Rattle.route_table.specs.Facts.{Facts}
 use Rattle.route_table.specs.Chosen.{chosen_link}
 use Rattle.flow_hold.specs.declared.procedure.Procedure.TheVariants.{Reroute}
-use Rattle.flow_hold.specs.Holds.{HoldTable, with_hold}
-use Rattle.changeback.specs.Return.{selections}
+use Rattle.flow_hold.specs.Holds.{HoldSet, selections, with_hold}
 use Rattle.changeback.specs.Rerouting.{is_other_link, changes_link, rerouted, moved_from, held_for}
 
 -- ---- the flows
@@ -52,18 +51,18 @@ moved_alike links before after destination h =
 
 -- ---- the holds
 
-held_for-append : (destination : ℕ) (xs ys : List ℕ) (t : HoldTable) → held_for destination (xs ++ ys) t ≡ held_for destination ys (held_for destination xs t)
+held_for-append : (destination : ℕ) (xs ys : List ℕ) (t : HoldSet) → held_for destination (xs ++ ys) t ≡ held_for destination ys (held_for destination xs t)
 held_for-append destination [] ys t = refl
 held_for-append destination (x ∷ xs) ys t = held_for-append destination xs ys (with_hold t (Reroute destination) destination x)
 
-pub held_more : (links : List (Option ℕ)) (after : Facts) (destination count : ℕ) (other : Bool) (t0 t1 t2 : HoldTable)
+pub held_more : (links : List (Option ℕ)) (after : Facts) (destination count : ℕ) (other : Bool) (t0 t1 t2 : HoldSet)
     → other ≡ is_other_link (slice_index_or links count None) (chosen_link after destination count)
     → t1 ≡ held_for destination (moved_from links after destination count) t0
     → t2 ≡ held_for destination (cond other (count ∷ []) []) t1
     → t2 ≡ held_for destination (moved_from links after destination (count + 1)) t0
 held_more links after destination count other t0 t1 t2 is f g =
     g
-    ∙ ap (λ (t : HoldTable). held_for destination (cond other (count ∷ []) []) t) f
+    ∙ ap (λ (t : HoldSet). held_for destination (cond other (count ∷ []) []) t) f
     ∙ sym (held_for-append destination (moved_from links after destination count) (cond other (count ∷ []) []) t0)
     ∙ ap (λ (b : Bool). held_for destination (moved_from links after destination count ++ cond b (count ∷ []) []) t0) is
     ∙ ap (λ (xs : List ℕ). held_for destination xs t0)

@@ -11,53 +11,54 @@ use Rattle.linkset.specs.Preference.{first_in_service}
 use Rattle.route_table.specs.Facts.{Facts, set_at, with_link}
 use Rattle.route_table.specs.Chosen.{chosen_set}
 use Rattle.node_links.specs.Network.{Network, facts_of}
-use Rattle.node_links.specs.Origin.{origin}
-use Rattle.changeback.specs.Return.{selections, change_from, origin_of, changes_of, comes_from, gives_up}
+use Rattle.node_links.specs.FormerLink.{former_link}
+use Rattle.flow_hold.specs.Holds.{selections}
+use Rattle.changeback.specs.Return.{change_from, former_link_of, changes_of, comes_from, gives_up}
 use Rattle.changeback.specs.Seen.{number_of_pair, no_pairs, has_pair, with_pair, IsSeen}
 use Rattle.changeback.proofs.Changes.{gives_up-append, gives_up-one}
 
 -- ---- what a destination loses goes by its sets
 
 -- the link from which a flow comes, by the sets of its destination
-abbrev origin_by : ℕ → Facts → Facts → (before after : Option ℕ) → (sls : ℕ) → Option ℕ
-origin_by to f g before after sls =
-    origin to (option_and_then (λ set. first_in_service sls f.in_service (set_at f set)) before)
+abbrev former_by : ℕ → Facts → Facts → (before after : Option ℕ) → (sls : ℕ) → Option ℕ
+former_by to f g before after sls =
+    former_link to (option_and_then (λ set. first_in_service sls f.in_service (set_at f set)) before)
     (option_and_then (λ set. first_in_service sls g.in_service (set_at g set)) after)
 
 module _ (to : ℕ) (f g : Facts) where
   abbrev lost : (before after : Option ℕ) → (count other : ℕ) → Bool
   lost before after zero other = false
-  lost before after (suc count) other = lost before after count other || comes_from (origin_by to f g before after count) other
+  lost before after (suc count) other = lost before after count other || comes_from (former_by to f g before after count) other
 
   lost-by_sets : (destination count other : ℕ)
       → gives_up (changes_of to f g destination count) other ≡ lost (chosen_set f destination) (chosen_set g destination) count other
   unfolding changes_of
   lost-by_sets destination zero other = refl
   lost-by_sets destination (suc count) other =
-      gives_up-append (changes_of to f g destination count) (change_from destination count (origin_of to f g destination count)) other
-      ∙ ap (λ (b : Bool). b || gives_up (change_from destination count (origin_of to f g destination count)) other) (lost-by_sets destination count other)
+      gives_up-append (changes_of to f g destination count) (change_from destination count (former_link_of to f g destination count)) other
+      ∙ ap (λ (b : Bool). b || gives_up (change_from destination count (former_link_of to f g destination count)) other) (lost-by_sets destination count other)
       ∙ ap (λ (b : Bool). lost (chosen_set f destination) (chosen_set g destination) count other || b)
-      (gives_up-one destination count (origin_of to f g destination count) other)
+      (gives_up-one destination count (former_link_of to f g destination count) other)
 
-  no_origin : (after : Option ℕ) (sls : ℕ) → origin_by to f g None after sls ≡ None
-  no_origin None sls = refl
-  no_origin (Some set) sls = refl
+  no_former_link : (after : Option ℕ) (sls : ℕ) → former_by to f g None after sls ≡ None
+  no_former_link None sls = refl
+  no_former_link (Some set) sls = refl
 
   none_before : (after : Option ℕ) (count other : ℕ) → lost None after count other ≡ false
   none_before after zero other = refl
   none_before after (suc count) other =
-      ap (λ (b : Bool). b || comes_from (origin_by to f g None after count) other) (none_before after count other)
-      ∙ ap (λ (o : Option ℕ). comes_from o other) (no_origin after count)
+      ap (λ (b : Bool). b || comes_from (former_by to f g None after count) other) (none_before after count other)
+      ∙ ap (λ (o : Option ℕ). comes_from o other) (no_former_link after count)
 
-  origin_nowhere : (before : Option ℕ) → origin to before None ≡ None
-  origin_nowhere None = refl
-  origin_nowhere (Some from) = refl
+  former_nowhere : (before : Option ℕ) → former_link to before None ≡ None
+  former_nowhere None = refl
+  former_nowhere (Some from) = refl
 
   none_after : (before : Option ℕ) (count other : ℕ) → lost before None count other ≡ false
   none_after before zero other = refl
   none_after before (suc count) other =
-      ap (λ (b : Bool). b || comes_from (origin_by to f g before None count) other) (none_after before count other)
-      ∙ ap (λ (o : Option ℕ). comes_from o other) (origin_nowhere (option_and_then (λ set. first_in_service count f.in_service (set_at f set)) before))
+      ap (λ (b : Bool). b || comes_from (former_by to f g before None count) other) (none_after before count other)
+      ∙ ap (λ (o : Option ℕ). comes_from o other) (former_nowhere (option_and_then (λ set. first_in_service count f.in_service (set_at f set)) before))
 
 -- ---- marks
 

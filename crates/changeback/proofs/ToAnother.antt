@@ -1,24 +1,19 @@
 -- The flows that are rerouted are those that go from one link to another, and they are held.
-use Rattle.std.proofs.Common.{◌≡◌, ◌≢◌, ℕ, zero, suc, ◌<◌, Bool, true, false, cond, List, [], ◌∷◌, refl, ap, sym, ◌∙◌, subst, arith, nat_eq}
+use Rattle.std.proofs.Common.{◌≡◌, ◌≢◌, ℕ, zero, suc, ◌<◌, Bool, true, false, cond, List, [], ◌∷◌, refl, ap, sym, ◌∙◌, subst, arith, nat_eq, nat_lt, ◌&&◌}
 use Rattle.std.specs.Prelude.{Option, Some, None, Contains}
 use Rattle.std.specs.List.{filter, range_with_len}
-use Rattle.std.proofs.Math.Logic.{⊎_elim}
-use Rattle.std.proofs.lemmas.Bool.{cases_eq}
+use Rattle.std.proofs.lemmas.Bool.{and_from}
 use Rattle.std.proofs.lemmas.Bool.Decides.{nat_tests}
 use Rattle.std.proofs.lemmas.List.FromFn.{length-range_with_len, get_or-range_with_len}
 use Rattle.route_table.specs.Facts.{Facts}
 use Rattle.route_table.specs.Chosen.{chosen_link}
 use Rattle.flow_hold.specs.declared.procedure.Procedure.{Procedure}
 use Rattle.flow_hold.specs.declared.procedure.Procedure.TheVariants.{Reroute}
-use Rattle.flow_hold.specs.Holds.{HoldTable, holds, place_of, flow_of, with_hold}
-use Rattle.flow_hold.specs.Pairs.{HasPlaces}
+use Rattle.flow_hold.specs.Holds.{HoldSet, selections, holds, may_hold, with_hold}
 use Rattle.flow_hold.proofs.Pairing.{held_by}
-use Rattle.flow_hold.proofs.Placing.{with_hold-places, has_rows}
-use Rattle.flow_hold.proofs.Holding.{adds_its_pair, hold-leaves_others, keeps_flows_held}
-use Rattle.changeback.specs.Return.{selections}
+use Rattle.flow_hold.proofs.Holding.{adds_its_pair, keeps_pairs, hold-leaves_others, keeps_flows_held, may-still}
 use Rattle.changeback.specs.Rerouting.{is_other_link, changes_link, rerouted, held_for}
-use Rattle.changeback.specs.Laws.{GoesToAnother, each_rerouted_goes_to_another, each_that_goes_to_another_is_rerouted, unlinked_before_are_left, unlinked_after_are_left, each_rerouted_has_its_hold, each_rerouted_is_held, rerouting_keeps_flows_held}
-use Rattle.changeback.proofs.Held.{only-rows}
+use Rattle.changeback.specs.Laws.{GoesToAnother, each_rerouted_goes_to_another, each_that_goes_to_another_is_rerouted, unlinked_before_are_left, unlinked_after_are_left, each_rerouted_has_its_hold, rerouting_leaves_other_pairs, each_rerouted_is_held, rerouting_keeps_flows_held}
 
 -- ---- what a filter keeps
 
@@ -108,65 +103,48 @@ has_none before after destination sls none h =
 -- ---- they are held
 
 pub still_held : rerouting_keeps_flows_held
-still_held destination [] t other sls e = e
-still_held destination (x ∷ xs) t other sls e =
-    still_held destination xs (with_hold t (Reroute destination) destination x) other sls (keeps_flows_held t (Reroute destination) destination x other sls e)
+still_held destination [] h other sls e = e
+still_held destination (x ∷ xs) h other sls e =
+    still_held destination xs (with_hold h (Reroute destination) destination x) other sls (keeps_flows_held h (Reroute destination) destination x other sls e)
 
 own : (n : ℕ) → nat_eq n n ≡ true
 own n = grind (arith, nat_tests)
 
-there_still : (t : HoldTable) (destination sls : ℕ) → (with_hold t (Reroute destination) destination sls).destinations ≡ t.destinations
-there_still t destination sls = ap (λ (u : HoldTable). u.destinations) (only-rows t (place_of t (Reroute destination)) (flow_of t destination sls))
+-- the rerouting of a destination that is there may hold each flow to it
+rerouting_may_hold : (h : HoldSet) (destination sls : ℕ) → destination < h.destinations → sls < selections → may_hold h (Reroute destination) destination sls ≡ true
+rerouting_may_hold h destination sls there few =
+    and_from (nat_eq destination destination) (nat_lt destination h.destinations && nat_lt sls selections) (own destination)
+    (and_from (nat_lt destination h.destinations) (nat_lt sls selections) (grind (arith, nat_tests, there)) (grind (arith, nat_tests, few)))
 
--- a hold of the same rerouting stays, or is this one
-stays : (t : HoldTable) (destination x sls : ℕ) → HasPlaces t → destination < t.destinations → x < selections → sls < selections
-    → holds t (Reroute destination) destination sls ≡ true → holds (with_hold t (Reroute destination) destination x) (Reroute destination) destination sls ≡ true
-stays t destination x sls h there first few e =
-    ⊎_elim
-    (λ (same : x ≡ sls).
-    subst (λ (y : ℕ). holds (with_hold t (Reroute destination) destination y) (Reroute destination) destination sls ≡ true) (sym same)
-    (adds_its_pair t (Reroute destination) destination sls h (own destination) there few))
-    (λ (other : x ≢ sls).
-    hold-leaves_others t (Reroute destination) (Reroute destination) destination x destination sls first few (λ same. other (sym (ap (λ (p : Procedure × ℕ × ℕ). p.2) same))) ∙ e)
-    (cases_eq x sls)
+pairs-stay : (destination : ℕ) (xs : List ℕ) (h : HoldSet) (procedure : Procedure) (other sls : ℕ) → holds h procedure other sls ≡ true →
+    holds (held_for destination xs h) procedure other sls ≡ true
+pairs-stay destination [] h procedure other sls e = e
+pairs-stay destination (x ∷ xs) h procedure other sls e =
+    pairs-stay destination xs (with_hold h (Reroute destination) destination x) procedure other sls (keeps_pairs h (Reroute destination) procedure destination x other sls e)
 
--- these selections are such
-abbrev AreSelections : List ℕ → Type 0
-AreSelections xs = (sls : ℕ) → Contains xs sls → sls < selections
-
-stay_held_for : (destination : ℕ) (xs : List ℕ) (t : HoldTable) (sls : ℕ) → AreSelections xs → HasPlaces t → destination < t.destinations → sls < selections
-    → holds t (Reroute destination) destination sls ≡ true → holds (held_for destination xs t) (Reroute destination) destination sls ≡ true
-stay_held_for destination [] t sls are h there few e = e
-stay_held_for destination (x ∷ xs) t sls are h there few e =
-    stay_held_for destination xs (with_hold t (Reroute destination) destination x) sls (λ y i. are y (behind x xs y i)) (with_hold-places t (Reroute destination) destination x h)
-    (omega (arith, there, there_still t destination x)) few (stays t destination x sls h there (are x (0, omega arith, refl)) few e)
-
-held_each : (destination : ℕ) (xs : List ℕ) (t : HoldTable) (sls : ℕ) → AreSelections xs → Contains xs sls → HasPlaces t → destination < t.destinations → sls < selections
-    → holds (held_for destination xs t) (Reroute destination) destination sls ≡ true
-held_each destination [] t sls are (k, l, e) h there few = absurd (omega (arith, l))
-held_each destination (x ∷ xs) t sls are (zero, l, e) h there few =
-    let held : holds (with_hold t (Reroute destination) destination x) (Reroute destination) destination sls ≡ true =
-    subst (λ (x : ℕ). holds (with_hold t (Reroute destination) destination x) (Reroute destination) destination sls ≡ true) (sym e)
-    (adds_its_pair t (Reroute destination) destination sls h (own destination) there few) in
-    stay_held_for destination xs (with_hold t (Reroute destination) destination x) sls (λ y i. are y (behind x xs y i)) (with_hold-places t (Reroute destination) destination x h)
-    (omega (arith, there, there_still t destination x)) few held
-held_each destination (x ∷ xs) t sls are (suc k, l, e) h there few =
-    held_each destination xs (with_hold t (Reroute destination) destination x) sls (λ y i. are y (behind x xs y i)) (k, omega (arith, l), e)
-    (with_hold-places t (Reroute destination) destination x h) (omega (arith, there, there_still t destination x)) few
-
-are_selections : (before after : Facts) (destination : ℕ) → AreSelections (rerouted before after destination)
-are_selections before after destination sls h = (goes_to_another before after destination sls h).selection
+held_each : (destination : ℕ) (xs : List ℕ) (h : HoldSet) (sls : ℕ) → Contains xs sls → may_hold h (Reroute destination) destination sls ≡ true →
+    holds (held_for destination xs h) (Reroute destination) destination sls ≡ true
+held_each destination [] h sls (k, l, e) may = absurd (omega (arith, l))
+held_each destination (x ∷ xs) h sls (zero, l, e) may =
+    pairs-stay destination xs (with_hold h (Reroute destination) destination x) (Reroute destination) destination sls
+    (subst (λ (x : ℕ). holds (with_hold h (Reroute destination) destination x) (Reroute destination) destination sls ≡ true) (sym e)
+    (adds_its_pair h (Reroute destination) destination sls may))
+held_each destination (x ∷ xs) h sls (suc k, l, e) may =
+    held_each destination xs (with_hold h (Reroute destination) destination x) sls (k, omega (arith, l), e)
+    (may-still h (Reroute destination) destination x (Reroute destination) destination sls ∙ may)
 
 pub has_hold : each_rerouted_has_its_hold
-has_hold before after destination sls t h places there =
-    held_each destination (rerouted before after destination) t sls (are_selections before after destination) h places there (are_selections before after destination sls h)
+has_hold before after destination sls h among there =
+    held_each destination (rerouted before after destination) h sls among
+    (rerouting_may_hold h destination sls there ((goes_to_another before after destination sls among).selection))
 
-places_stay : (destination : ℕ) (xs : List ℕ) (t : HoldTable) → HasPlaces t → HasPlaces (held_for destination xs t)
-places_stay destination [] t h = h
-places_stay destination (x ∷ xs) t h = places_stay destination xs (with_hold t (Reroute destination) destination x) (with_hold-places t (Reroute destination) destination x h)
+pub other_pairs : rerouting_leaves_other_pairs
+other_pairs destination [] h procedure other sls not_of_it = refl
+other_pairs destination (x ∷ xs) h procedure other sls not_of_it =
+    other_pairs destination xs (with_hold h (Reroute destination) destination x) procedure other sls (λ p d among. not_of_it p d (behind x xs sls among))
+    ∙ hold-leaves_others h (Reroute destination) procedure destination x other sls
+    (λ e. not_of_it (ap (λ (p : Procedure × ℕ × ℕ). p.0) e) (ap (λ (p : Procedure × ℕ × ℕ). p.1) e) (0, omega arith, sym (ap (λ (p : Procedure × ℕ × ℕ). p.2) e)))
 
 pub rerouted_held : each_rerouted_is_held
-rerouted_held before after destination sls t h places there =
-    (held_by (held_for destination (rerouted before after destination) t) destination sls
-    (has_rows (held_for destination (rerouted before after destination) t) (places_stay destination (rerouted before after destination) t places))).1
-    (Reroute destination, has_hold before after destination sls t h places there)
+rerouted_held before after destination sls h among there =
+    (held_by (held_for destination (rerouted before after destination) h) destination sls).1 (Reroute destination, has_hold before after destination sls h among there)

@@ -4,9 +4,8 @@ use Rattle.route_table.specs.Facts.{Facts}
 use Rattle.route_table.specs.Chosen.{chosen_link}
 use Rattle.flow_hold.specs.declared.procedure.Procedure.{Procedure}
 use Rattle.flow_hold.specs.declared.procedure.Procedure.TheVariants.{Reroute}
-use Rattle.flow_hold.specs.Holds.{HoldTable, holds, is_held}
-use Rattle.flow_hold.specs.Pairs.{HasPlaces, may_hold}
-use Rattle.changeback.specs.Return.{FlowChange, selections, returned, held_by}
+use Rattle.flow_hold.specs.Holds.{HoldSet, selections, holds, is_held, may_hold}
+use Rattle.changeback.specs.Return.{FlowChange, returned, held_by}
 use Rattle.changeback.specs.Rerouting.{rerouted, held_for}
 
 -- the flow is there, went by the link that it comes from, and goes by this one now
@@ -27,20 +26,29 @@ each_moved_is_found =
     (to : ℕ) (before after : Facts) (c : FlowChange) → IsMoved to before after c →
     Contains (returned to before after) c
 
--- a flow is held whose former link has a holder that is there
-abbrev pub each_change_is_held : Type 0
-each_change_is_held =
-    (holders : List (Option Procedure)) (cs : List FlowChange) (t : HoldTable) →
-    (c : FlowChange) (procedure : Procedure) →
-    Contains cs c → slice_index_or holders c.from None ≡ Some procedure → HasPlaces t →
-    may_hold t procedure c.destination ≡ true → c.destination < t.destinations → c.sls < selections →
-    is_held (held_by holders cs t) c.destination c.sls ≡ true
+-- a procedure is to hold a flow: some change is one of this flow, and the procedure holds what comes from its link
+pub record IsToHold (holders : List (Option Procedure)) (cs : List FlowChange) (procedure : Procedure)
+    (destination sls : ℕ) : Type 0 where
+  pub change : FlowChange
+  pub among : Contains cs change
+  pub holder : slice_index_or holders change.from None ≡ Some procedure
+  pub to : change.destination ≡ destination
+  pub selection : change.sls ≡ sls
 
--- and what was held stays held
-abbrev pub held_flows_stay_held : Type 0
-held_flows_stay_held =
-    (holders : List (Option Procedure)) (cs : List FlowChange) (t : HoldTable) (destination sls : ℕ) →
-    is_held t destination sls ≡ true → is_held (held_by holders cs t) destination sls ≡ true
+-- it holds that flow then, if it may
+abbrev pub each_change_has_its_pair : Type 0
+each_change_has_its_pair =
+    (holders : List (Option Procedure)) (cs : List FlowChange) (h : HoldSet) (procedure : Procedure)
+    (destination sls : ℕ) → IsToHold holders cs procedure destination sls →
+    may_hold h procedure destination sls ≡ true →
+    holds (held_by holders cs h) procedure destination sls ≡ true
+
+-- and every other pair stays as it was
+abbrev pub changes_leave_other_pairs : Type 0
+changes_leave_other_pairs =
+    (holders : List (Option Procedure)) (cs : List FlowChange) (h : HoldSet) (procedure : Procedure)
+    (destination sls : ℕ) → (IsToHold holders cs procedure destination sls → ⊥) →
+    holds (held_by holders cs h) procedure destination sls ≡ holds h procedure destination sls
 
 -- ---- controlled rerouting
 
@@ -80,19 +88,26 @@ unlinked_after_are_left =
 -- each flow that is rerouted is held by the rerouting of its destination, where that is there
 abbrev pub each_rerouted_has_its_hold : Type 0
 each_rerouted_has_its_hold =
-    (before after : Facts) (destination sls : ℕ) (t : HoldTable) →
-    Contains (rerouted before after destination) sls → HasPlaces t → destination < t.destinations →
-    holds (held_for destination (rerouted before after destination) t) (Reroute destination) destination sls ≡ true
+    (before after : Facts) (destination sls : ℕ) (h : HoldSet) →
+    Contains (rerouted before after destination) sls → destination < h.destinations →
+    holds (held_for destination (rerouted before after destination) h) (Reroute destination) destination sls ≡ true
 
--- so it is held
+-- and every other pair stays as it was
+abbrev pub rerouting_leaves_other_pairs : Type 0
+rerouting_leaves_other_pairs =
+    (destination : ℕ) (selections : List ℕ) (h : HoldSet) (procedure : Procedure) (other sls : ℕ) →
+    (procedure ≡ Reroute destination → other ≡ destination → Contains selections sls → ⊥) →
+    holds (held_for destination selections h) procedure other sls ≡ holds h procedure other sls
+
+-- so each flow that is rerouted is held
 abbrev pub each_rerouted_is_held : Type 0
 each_rerouted_is_held =
-    (before after : Facts) (destination sls : ℕ) (t : HoldTable) →
-    Contains (rerouted before after destination) sls → HasPlaces t → destination < t.destinations →
-    is_held (held_for destination (rerouted before after destination) t) destination sls ≡ true
+    (before after : Facts) (destination sls : ℕ) (h : HoldSet) →
+    Contains (rerouted before after destination) sls → destination < h.destinations →
+    is_held (held_for destination (rerouted before after destination) h) destination sls ≡ true
 
 -- and what was held stays held
 abbrev pub rerouting_keeps_flows_held : Type 0
 rerouting_keeps_flows_held =
-    (destination : ℕ) (selections : List ℕ) (t : HoldTable) (other sls : ℕ) →
-    is_held t other sls ≡ true → is_held (held_for destination selections t) other sls ≡ true
+    (destination : ℕ) (selections : List ℕ) (h : HoldSet) (other sls : ℕ) →
+    is_held h other sls ≡ true → is_held (held_for destination selections h) other sls ≡ true

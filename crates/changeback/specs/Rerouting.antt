@@ -4,8 +4,7 @@ use Rattle.std.specs.List.{filter, range_with_len}
 use Rattle.route_table.specs.Facts.{Facts}
 use Rattle.route_table.specs.Chosen.{chosen_link}
 use Rattle.flow_hold.specs.declared.procedure.Procedure.TheVariants.{Reroute}
-use Rattle.flow_hold.specs.Holds.{HoldTable, with_hold}
-use Rattle.changeback.specs.Return.{selections}
+use Rattle.flow_hold.specs.Holds.{HoldSet, selections, with_hold}
 
 -- whether a flow goes from one link to another; one that had no link, or has none now, doesn't
 abbrev pub is_other_link : (before after : Option ℕ) → Bool
@@ -29,6 +28,6 @@ moved_from before after destination count =
     (range_with_len 0 count)
 
 -- the flows of these selections to a destination are held by its rerouting
-abbrev pub held_for : (destination : ℕ) → (selections : List ℕ) → HoldTable → HoldTable
-held_for destination [] t = t
-held_for destination (sls ∷ others) t = held_for destination others (with_hold t (Reroute destination) destination sls)
+abbrev pub held_for : (destination : ℕ) → (selections : List ℕ) → HoldSet → HoldSet
+held_for destination [] h = h
+held_for destination (sls ∷ others) h = held_for destination others (with_hold h (Reroute destination) destination sls)

@@ -5,18 +5,14 @@ use Rattle.std.specs.List.{list_any}
 use Rattle.route_table.specs.Facts.{Facts}
 use Rattle.route_table.specs.Chosen.{chosen_link}
 use Rattle.flow_hold.specs.declared.procedure.Procedure.{Procedure}
-use Rattle.flow_hold.specs.Holds.{HoldTable, with_hold}
-use Rattle.node_links.specs.Origin.{origin}
+use Rattle.flow_hold.specs.Holds.{HoldSet, selections, with_hold}
+use Rattle.node_links.specs.FormerLink.{former_link}
 
 -- a flow that changes its link: its destination, its selection, and the link that it comes from
 pub record FlowChange : Type 0 where
   pub destination : ℕ
   pub sls : ℕ
   pub from : ℕ
-
--- how many selections a flow can have
-abbrev pub selections : ℕ
-selections = 16
 
 -- the change of a flow that comes from this link, if it comes from one
 abbrev pub change_from : (destination sls : ℕ) → Option ℕ → List FlowChange
@@ -25,14 +21,14 @@ change_from destination sls None = []
 
 module _ (to : ℕ) (before after : Facts) where
   -- the link from which a link takes a flow over
-  abbrev pub origin_of : (destination sls : ℕ) → Option ℕ
-  origin_of destination sls = origin to (chosen_link before destination sls) (chosen_link after destination sls)
+  abbrev pub former_link_of : (destination sls : ℕ) → Option ℕ
+  former_link_of destination sls = former_link to (chosen_link before destination sls) (chosen_link after destination sls)
 
   -- the flows of the first so many selections to a destination that it takes over, in order
   unfoldable pub changes_of : (destination count : ℕ) → List FlowChange
   changes_of destination zero = []
   changes_of destination (suc count) =
-      changes_of destination count ++ change_from destination count (origin_of destination count)
+      changes_of destination count ++ change_from destination count (former_link_of destination count)
 
   -- and those to the first so many destinations
   unfoldable pub changes : (count : ℕ) → List FlowChange
@@ -53,11 +49,11 @@ abbrev pub gives_up : List FlowChange → (other : ℕ) → Bool
 gives_up cs other = list_any (λ c. nat_eq c.from other) cs
 
 -- a flow is held where its former link has a holder
-abbrev pub with_change : HoldTable → FlowChange → Option Procedure → HoldTable
-with_change t c (Some procedure) = with_hold t procedure c.destination c.sls
-with_change t c None = t
+abbrev pub with_change : HoldSet → FlowChange → Option Procedure → HoldSet
+with_change h c (Some procedure) = with_hold h procedure c.destination c.sls
+with_change h c None = h
 
 -- each flow is held by the holder of its former link, if it has one
-abbrev pub held_by : (holders : List (Option Procedure)) → List FlowChange → HoldTable → HoldTable
-held_by holders [] t = t
-held_by holders (c ∷ cs) t = held_by holders cs (with_change t c (slice_index_or holders c.from None))
+abbrev pub held_by : (holders : List (Option Procedure)) → List FlowChange → HoldSet → HoldSet
+held_by holders [] h = h
+held_by holders (c ∷ cs) h = held_by holders cs (with_change h c (slice_index_or holders c.from None))

@@ -5,7 +5,8 @@ use Rattle.signalling_types.specs.declared.limits.TheConstants.Limits.{SETS}
 use Rattle.route_table.specs.Facts.{with_link}
 use Rattle.route_table.specs.Chosen.{chosen_set}
 use Rattle.node_links.specs.Network.{Network, facts_of}
-use Rattle.changeback.specs.Return.{selections, changes_of, gives_up}
+use Rattle.flow_hold.specs.Holds.{selections}
+use Rattle.changeback.specs.Return.{changes_of, gives_up}
 use Rattle.changeback.specs.declared.set_pairs.SetPairs.TheInside.{Inside}
 
 -- the number of a pair

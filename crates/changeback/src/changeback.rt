@@ -62,7 +62,7 @@ impl Changeback {
 
     /// Takes an acknowledgement, and says whether it was awaited. Where it was, the code is free from now on, and holds
     /// nothing any more; else nothing changes (Q.704 §6.3).
-    pub fn answer(&mut self, set: SetId, code: u8, holds: &mut Holds) -> bool
+    pub fn acknowledge(&mut self, set: SetId, code: u8, holds: &mut Holds) -> bool
         ensures awaited { result ≡ is_outstanding self.old set code }
         ensures codes { self.new
             ≡ (if is_outstanding self.old set code then with_code self.old set code false else self.old) }
@@ -75,14 +75,6 @@ impl Changeback {
         self.put(set, code, false);
         holds.lift(Procedure::Code(set, code));
         true
-    }
-
-    /// The timer of a procedure ran out, T3 or T4: it holds nothing any more (Q.704 §6.3, §6.4). Its code, if it has
-    /// one, still awaits its acknowledgement.
-    pub fn expired(&self, procedure: Procedure, holds: &mut Holds)
-        ensures { holds.new ≡ lifted holds.old procedure }
-    {
-        holds.lift(procedure);
     }
 
     /// Whether the acknowledgement of a code is awaited.

@@ -13,6 +13,3 @@ mod set_pairs;
 pub use changeback::Changeback;
 pub use rerouting::reroute;
 pub use returning::{hold_changes, losing};
-
-/// How many selections a flow can have (Q.704 §2.2.4).
-const SELECTIONS: u8 = 16;

@@ -3,12 +3,11 @@
 ghost use Rattle.std.specs.Prelude.{◌≡◌, ℕ, ◌<◌, [], ◌∷◌, None, length, nat_lt, slice_index_or, if◌then◌else◌};
 ghost use Rattle.route_table.specs.Chosen.{chosen_link};
 ghost use Rattle.node_links.specs.Network.{facts_of};
-ghost use Rattle.node_links.specs.Statuses.{with_status};
-ghost use Rattle.changeback.specs.Return.{selections};
+ghost use Rattle.node_links.specs.Statuses.{with_route_status};
+ghost use Rattle.flow_hold.specs.Holds.{selections};
 ghost use Rattle.changeback.specs.Rerouting.{is_other_link, rerouted, moved_from, held_for};
 
-use crate::SELECTIONS;
-use flow_hold::{Holds, Procedure};
+use flow_hold::{Holds, Procedure, SELECTIONS};
 use node_links::NodeLinks;
 use route_table::RouteStatus;
 use signalling_types::{LinkId, SetId, Sls};
@@ -25,7 +24,7 @@ pub fn reroute(
     set: SetId,
     status: RouteStatus,
 ) -> bool
-    ensures links { links.new ≡ with_status destination set status links.old }
+    ensures links { links.new ≡ with_route_status destination set status links.old }
     ensures holds { holds.new ≡ held_for destination
         (rerouted (facts_of links.old) (facts_of links.new) destination) holds.old }
     ensures moved { result

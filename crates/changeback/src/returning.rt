@@ -2,16 +2,15 @@
 
 ghost use Rattle.std.specs.Prelude.{◌≡◌, ℕ, ◌<◌, ◌≤◌, ◌||◌, false, true, length, slice_index_or, IfSome};
 ghost use Rattle.route_table.specs.Facts.{with_link};
-ghost use Rattle.flow_hold.specs.Holds.{HoldTable};
+ghost use Rattle.flow_hold.specs.Holds.{HoldSet, selections};
 ghost use Rattle.node_links.specs.LinkState.{is_in_service};
 ghost use Rattle.node_links.specs.Network.{facts_of, link_in};
-ghost use Rattle.changeback.specs.Return.{selections, origin_of, change_from, changes_of, returned};
+ghost use Rattle.changeback.specs.Return.{former_link_of, change_from, changes_of, returned};
 ghost use Rattle.changeback.specs.Return.{comes_from, gives_up, held_by};
 ghost use Rattle.changeback.specs.Seen.{IsSeen};
 
-use crate::SELECTIONS;
 use crate::set_pairs::SetPairs;
-use flow_hold::{Holds, Procedure};
+use flow_hold::{Holds, Procedure, SELECTIONS};
 use node_links::NodeLinks;
 use signalling_types::{Limits, LinkId, SetId, Sls};
 
@@ -133,7 +132,7 @@ fn former_link(
     requires there { link < length links.old.links }
     requires serves { is_in_service (link_in links.old.links link).alignment ≡ true }
     requires selection { selection < selections }
-    ensures from { result ≡ origin_of link (with_link link false (facts_of links.old)) (facts_of links.old)
+    ensures from { result ≡ former_link_of link (with_link link false (facts_of links.old)) (facts_of links.old)
         destination selection }
     ensures links { links.new ≡ links.old }
     ensures fits { IfSome result (λ from. from < Limits.LINKS) }
@@ -141,7 +140,7 @@ fn former_link(
     let Some(sls) = Sls::new(selection) else {
         unreachable!()
     };
-    links.origin(link, destination, sls)
+    links.former_link(link, destination, sls)
 }
 
 /// Holds the flows to one destination.
@@ -177,14 +176,14 @@ fn hold_change(
     requires there { link < length links.old.links }
     requires serves { is_in_service (link_in links.old.links link).alignment ≡ true }
     requires selection { selection < selections }
-    ensures holds { holds.new ≡ held_by holders.now (change_from destination selection (origin_of link
+    ensures holds { holds.new ≡ held_by holders.now (change_from destination selection (former_link_of link
         (with_link link false (facts_of links.old)) (facts_of links.old) destination selection)) holds.old }
     ensures links { links.new ≡ links.old }
 {
     let Some(sls) = Sls::new(selection) else {
         unreachable!()
     };
-    if let Some(from) = links.origin(link, destination, sls) {
+    if let Some(from) = links.former_link(link, destination, sls) {
         if let Some(procedure) = holders[from.index()] {
             holds.hold(procedure, destination, sls);
         }

@@ -2,4 +2,3 @@ pub mod Completing
 pub mod Finishing
 pub mod Keeping
 pub mod Splicing
-pub mod Taking

@@ -1,6 +1,6 @@
 -- How the standing of a changeover is kept.
 use Rattle.changeover.specs.Standing.{Standing}
-use Rattle.changeover.specs.declared.standing.LinkStanding.TheInside.{Inside}
+use Rattle.changeover.specs.declared.standing.Progress.TheInside.{Inside}
 
 abbrev pub standing_in : Inside → Standing
 standing_in s = record { incomplete = s.incomplete; awaited = s.awaited }

@@ -1,10 +1,8 @@
--- What holds of a failure and of a completion.
-use Rattle.std.specs.Prelude.{◌≡◌, ℕ, ◌-◌, true, false, List, [], ◌∷◌, ◌++◌, take, drop}
+-- What holds of a completion.
+use Rattle.std.specs.Prelude.{◌≡◌, ℕ, ◌-◌, [], ◌++◌, take, drop}
 use Rattle.std.specs.Prelude.{Option, Some, None}
-use Rattle.signalling_types.specs.Message.{Message, flow_of, is_management}
 use Rattle.link_sequence.specs.Queue.{Queue, IsQueue, Names}
 use Rattle.changeover.specs.Completion.{users_of, accepted_count, moved, lost}
-use Rattle.changeover.specs.Failure.{is_taken}
 
 -- how many messages are confirmed in the end
 abbrev pub count_in_the_end : Queue → Option ℕ → ℕ
@@ -33,10 +31,3 @@ abbrev pub none_lost : Type 0
 none_lost =
     (window : ℕ) (q : Queue) (number n : ℕ) → IsQueue window q →
     Names q number n → lost q (Some number) ≡ []
-
--- the changeover holds the flow of each user message that stands unconfirmed on the link
-abbrev pub takes_what_waits : Type 0
-takes_what_waits =
-    (link : Option ℕ) (failed : ℕ) (q : Queue) (before after : List Message) (m : Message) →
-    drop q.confirmed q.all ≡ before ++ m ∷ after → is_management m ≡ false →
-    is_taken link failed q (flow_of m).point (flow_of m).sls ≡ true

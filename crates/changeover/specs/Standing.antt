@@ -37,14 +37,14 @@ abbrev pub completed : Standing → Standing
 completed s = record s { incomplete = false }
 
 -- the answer came, or is no longer waited for
-abbrev pub answered : Standing → Standing
-answered s = record s { incomplete = false; awaited = false }
+abbrev pub acknowledged : Standing → Standing
+acknowledged s = record s { incomplete = false; awaited = false }
 
 -- whether an answer completes a changeover; none where no answer is awaited
-abbrev pub completed_by_answer : Standing → Option Bool
-completed_by_answer s = if s.awaited then Some s.incomplete else None
+abbrev pub completed_by_acknowledgement : Standing → Option Bool
+completed_by_acknowledgement s = if s.awaited then Some s.incomplete else None
 
 -- its timer ran out
 abbrev pub expired : ChangeoverTimer → Standing → Standing
 expired T1 s = completed s
-expired T2 s = answered s
+expired T2 s = acknowledged s

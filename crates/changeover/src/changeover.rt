@@ -6,10 +6,10 @@ ghost use Rattle.link_sequence.specs.Queue.{Queue};
 ghost use Rattle.link_sequence.specs.Keeps.{Keeps};
 ghost use Rattle.changeover.specs.Failure.{beginning, kept_beginning};
 ghost use Rattle.changeover.specs.Standing.{no_changeover, standing_at, with_standing, may_restart, failed};
-ghost use Rattle.changeover.specs.Standing.{begun_by_peer, completed, answered, completed_by_answer, expired};
+ghost use Rattle.changeover.specs.Standing.{begun_by_peer, completed, acknowledged, completed_by_acknowledgement, expired};
 
 use crate::beginning::Beginning;
-use crate::standing::LinkStanding;
+use crate::standing::Progress;
 use link_sequence::Sequence;
 use signalling_types::{ChangeoverTimer, LinkId};
 use std::alloc::{AllocError, Global};
@@ -21,7 +21,7 @@ use std::marker::Model;
 /// All room is made by `new`, two octets for each link. Every other call takes a fixed number of steps.
 #[derive(Drop)]
 pub struct Changeover {
-    links: Vec<LinkStanding>,
+    links: Vec<Progress>,
 }
 
 impl Model for Changeover {
@@ -39,7 +39,7 @@ impl Changeover {
         ensures { IfOk result (λ changeover. changeover ≡ replicate links no_changeover) }
     {
         Ok(Changeover {
-            links: vec![in alloc; LinkStanding::none(); links]?,
+            links: vec![in alloc; Progress::none(); links]?,
         })
     }
 
@@ -52,7 +52,7 @@ impl Changeover {
             Keeps w sequence.now lane q → result ≡ beginning link_left q }
         ensures standing { self.new ≡ with_standing self.old link (failed link_left (standing_at self.old link)) }
     {
-        self.links[link.index()] = LinkStanding::failed(link_left);
+        self.links[link.index()] = Progress::failed(link_left);
         Beginning::of(link_left, sequence)
     }
 
@@ -79,17 +79,17 @@ impl Changeover {
     /// Takes an answer about a link, with a number or without one. None, and nothing changes, where no answer is
     /// awaited. Else it is no longer awaited, and the call says whether an incomplete changeover is to be completed
     /// now; it counts as complete from then on.
-    pub fn answer(&mut self, link: LinkId) -> Option<bool>
+    pub fn acknowledge(&mut self, link: LinkId) -> Option<bool>
         requires { link < length self.old }
-        ensures completes { result ≡ completed_by_answer (standing_at self.old link) }
+        ensures completes { result ≡ completed_by_acknowledgement (standing_at self.old link) }
         ensures standing { self.new ≡ (if (standing_at self.old link).awaited
-            then with_standing self.old link (answered (standing_at self.old link)) else self.old) }
+            then with_standing self.old link (acknowledged (standing_at self.old link)) else self.old) }
     {
         let standing = self.standing(link);
         if !standing.is_awaited() {
             return None;
         }
-        self.links[link.index()] = standing.answered();
+        self.links[link.index()] = standing.acknowledged();
         Some(standing.is_incomplete())
     }
 
@@ -103,7 +103,7 @@ impl Changeover {
         let standing = self.standing(link);
         self.links[link.index()] = match timer {
             ChangeoverTimer::T1 => standing.completed(),
-            ChangeoverTimer::T2 => standing.answered(),
+            ChangeoverTimer::T2 => standing.acknowledged(),
         };
         standing.is_incomplete()
     }
@@ -117,7 +117,7 @@ impl Changeover {
     }
 
     /// How far the changeover of a link is.
-    fn standing(&self, link: LinkId) -> LinkStanding
+    fn standing(&self, link: LinkId) -> Progress
         requires { link < length self.now }
         ensures { result ≡ standing_at self.now link }
     {

@@ -17,7 +17,7 @@ use link_sequence::Sequence;
 /// How many messages of a failed link may be lost, since it isn't known whether the peer accepted them: those that
 /// were sent and aren't confirmed. They stand first in its list. None where the peer's number is reasonable: it names
 /// how many the peer accepted (Q.704 §5.4).
-pub fn in_doubt(sequence: &Sequence, confirmed: Option<Number24>) -> Option<usize>
+pub fn count_in_doubt(sequence: &Sequence, confirmed: Option<Number24>) -> Option<usize>
     ensures count { result ≡ kept_doubted sequence.now (kept_accepted_count sequence.now confirmed) }
     ensures queue { (w : ℕ) (lane : List Message) (q : Queue) →
         Keeps w sequence.now lane q → result ≡ doubted q (accepted_count q confirmed) }

@@ -1,8 +1,8 @@
-//! What holds of a failure and of a completion.
+//! What holds of a completion.
 
 ghost use Rattle.changeover.specs.Kept.{kept_completes_alike};
 ghost use Rattle.changeover.specs.Lanes.{splicing_completes};
-ghost use Rattle.changeover.specs.Laws.{each_once, lost_then_moved, none_lost, takes_what_waits};
+ghost use Rattle.changeover.specs.Laws.{each_once, lost_then_moved, none_lost};
 
 /// The user messages of a failed link from the last confirmed one on are, in order and each once: those that the number
 /// confirms, those named as lost, and those that move.
@@ -29,9 +29,4 @@ pub fn kept_queue_completes_alike()
 /// management messages left.
 pub fn splicing_lists_completes()
     ensures { splicing_completes }
-{}
-
-/// The changeover holds the flow of each user message that stands unconfirmed on the failed link.
-pub fn waiting_flows_are_taken()
-    ensures { takes_what_waits }
 {}

@@ -9,4 +9,4 @@ mod standing;
 
 pub use beginning::Beginning;
 pub use changeover::Changeover;
-pub use completion::{complete, in_doubt};
+pub use completion::{complete, count_in_doubt};

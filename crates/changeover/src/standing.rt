@@ -1,18 +1,18 @@
 //! How far the changeover of one link is.
 
 ghost use Rattle.std.specs.Prelude.{◌≡◌};
-ghost use Rattle.changeover.specs.Standing.{no_changeover, may_restart, failed, begun_by_peer, completed, answered};
+ghost use Rattle.changeover.specs.Standing.{no_changeover, may_restart, failed, begun_by_peer, completed, acknowledged};
 
 use std::marker::Model;
 
 /// How far the changeover of one link is.
 #[derive(Clone, Copy)]
-pub(crate) struct LinkStanding {
+pub(crate) struct Progress {
     incomplete: bool,
     awaited: bool,
 }
 
-impl Model for LinkStanding {
+impl Model for Progress {
     ghost use Rattle.changeover.specs.Standing.{Standing};
 
     ghost Value = { Standing };
@@ -24,12 +24,12 @@ impl Model for LinkStanding {
     ghost inverse = { fields_of };
 }
 
-impl LinkStanding {
+impl Progress {
     /// That of a link which hasn't failed.
-    pub(crate) fn none() -> LinkStanding
+    pub(crate) fn none() -> Progress
         ensures { result ≡ no_changeover }
     {
-        LinkStanding {
+        Progress {
             incomplete: false,
             awaited: false,
         }
@@ -57,40 +57,40 @@ impl LinkStanding {
     }
 
     /// That of a link which just failed in service, whose order goes out, or not.
-    pub(crate) fn failed(ordered: bool) -> LinkStanding
+    pub(crate) fn failed(ordered: bool) -> Progress
         ensures { result ≡ failed ordered no_changeover }
     {
-        LinkStanding {
+        Progress {
             incomplete: true,
             awaited: ordered,
         }
     }
 
     /// After the adjacent point's order made the link fail.
-    pub(crate) fn begun_by_peer(self) -> LinkStanding
+    pub(crate) fn begun_by_peer(self) -> Progress
         ensures { result ≡ begun_by_peer self }
     {
-        LinkStanding {
+        Progress {
             incomplete: true,
             ..self
         }
     }
 
     /// After it is completed. An answer that is awaited stays awaited.
-    pub(crate) fn completed(self) -> LinkStanding
+    pub(crate) fn completed(self) -> Progress
         ensures { result ≡ completed self }
     {
-        LinkStanding {
+        Progress {
             incomplete: false,
             ..self
         }
     }
 
     /// After the answer came, or is no longer waited for.
-    pub(crate) fn answered(self) -> LinkStanding
-        ensures { result ≡ answered self }
+    pub(crate) fn acknowledged(self) -> Progress
+        ensures { result ≡ acknowledged self }
     {
-        LinkStanding {
+        Progress {
             awaited: false,
             ..self.completed()
         }

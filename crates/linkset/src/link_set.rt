@@ -58,14 +58,6 @@ impl LinkSet {
         LinkSet { links: members }
     }
 
-    /// The links, in the order of their codes.
-    pub fn links(&self) -> &[SetLink]
-        ensures links { result.now ≡ self.now }
-        ensures fits { length self.now ≤ Limits.LINKS_PER_SET }
-    {
-        self.links.as_slice()
-    }
-
     /// The links, in the order in which a flow of this selection tries them: first the one at the selection modulo
     /// their count, then the others in the same way by the quotient.
     pub fn preference(&self, sls: Sls) -> ArrayVec<SetLink, { Limits::LINKS_PER_SET }>

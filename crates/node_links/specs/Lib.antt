@@ -3,5 +3,5 @@ pub mod LinkState
 pub mod LinkRoom
 pub mod Network
 pub mod NetworkRoom
-pub mod Origin
+pub mod FormerLink
 pub mod Statuses

@@ -6,8 +6,8 @@ use Rattle.link_alignment.specs.declared.alignment.Alignment.TheVariants.{Aligne
 use Rattle.node_links.specs.Link.{Link}
 use Rattle.node_links.specs.declared.link_state.LinkState.TheInside.{Inside}
 
-abbrev pub link_in : Inside → Link
-link_in s = record {
+abbrev pub link_state_in : Inside → Link
+link_state_in s = record {
   alignment = s.alignment;
   association = s.association;
   active = s.active;

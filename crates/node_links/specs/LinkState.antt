@@ -26,18 +26,18 @@ abbrev pub stepped : Transition → Link → Link
 stepped step l = record l { alignment = step.state; waiting = l.waiting ++ option_to_list step.send }
 
 -- a link after what its alignment does about an input
-abbrev pub acted : Action → Link → Link
-acted Ignored l = l
-acted Fail l = l
-acted (Go step) l = stepped step l
+abbrev pub after_action : Action → Link → Link
+after_action Ignored l = l
+after_action Fail l = l
+after_action (Go step) l = stepped step l
 
 -- a link that failed: no status waits, and Busy and the acknowledgement that was owed are forgotten
-abbrev pub fallen : Link → Link
-fallen l = record l { alignment = Down; waiting = []; peer_busy = false; acknowledgement_owed = false }
+abbrev pub after_failure : Link → Link
+after_failure l = record l { alignment = Down; waiting = []; peer_busy = false; acknowledgement_owed = false }
 
 -- a link that got an association begins anew
 abbrev pub opened : Link → Link
-opened l = stepped opening (record (fallen l) { association = true })
+opened l = stepped opening (record (after_failure l) { association = true })
 
 -- a link that is down takes no frames
 abbrev pub is_down : Alignment → Bool

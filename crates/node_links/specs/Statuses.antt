@@ -6,8 +6,8 @@ use Rattle.route_table.specs.Statuses as statuses
 use Rattle.node_links.specs.Network.{Network, facts_of}
 
 -- the route to a destination by a set gets a status, if there is one
-abbrev pub with_status : (destination set : ℕ) → RouteStatus → Network → Network
-with_status destination set status n =
+abbrev pub with_route_status : (destination set : ℕ) → RouteStatus → Network → Network
+with_route_status destination set status n =
     record n { routes = (facts.with_status destination set status (facts_of n)).routes }
 
 -- all routes by a set are allowed

@@ -3,7 +3,7 @@
 ghost use Rattle.std.specs.Prelude.{◌≡◌, ◌+◌, ◌≤◌, false, drop, length, slice_get};
 ghost use Rattle.std.specs.Option.{option_to_list};
 ghost use Rattle.link_alignment.specs.Table.{action_at};
-ghost use Rattle.node_links.specs.LinkState.{down_link, stepped, acted, opened, fallen, is_down, is_in_service};
+ghost use Rattle.node_links.specs.LinkState.{down_link, stepped, after_action, opened, after_failure, is_down, is_in_service};
 ghost use Rattle.node_links.specs.LinkRoom.{sent_by};
 
 use arrayvec::ArrayVec;
@@ -30,9 +30,9 @@ impl Model for LinkState {
 
     ghost Value = { Link };
 
-    ghost use Rattle.node_links.specs.LinkRoom.{link_in, HasPlaces};
+    ghost use Rattle.node_links.specs.LinkRoom.{link_state_in, HasPlaces};
 
-    ghost view = { link_in };
+    ghost view = { link_state_in };
 
     ghost invariant = { HasPlaces };
 }
@@ -112,7 +112,7 @@ impl LinkState {
     /// here.
     pub fn on(&mut self, input: Input) -> Action
         ensures action { result ≡ action_at self.old.alignment input }
-        ensures state { self.new ≡ acted result self.old }
+        ensures state { self.new ≡ after_action result self.old }
     {
         let action = self.alignment.on(input);
         if let Action::Go(step) = action {
@@ -136,14 +136,14 @@ impl LinkState {
     pub fn open(&mut self)
         ensures { self.new ≡ opened self.old }
     {
-        self.fall();
+        self.fail();
         self.association = true;
         self.take_step(Alignment::open());
     }
 
     /// Fails. The association stays.
-    pub fn fall(&mut self)
-        ensures { self.new ≡ fallen self.old }
+    pub fn fail(&mut self)
+        ensures { self.new ≡ after_failure self.old }
     {
         self.alignment = Alignment::Down;
         self.waiting.clear();
@@ -152,7 +152,7 @@ impl LinkState {
     }
 
     /// Loses its association.
-    pub fn part(&mut self)
+    pub fn lose_association(&mut self)
         ensures { self.new ≡ record self.old { association = false } }
     {
         self.association = false;

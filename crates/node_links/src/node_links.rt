@@ -6,9 +6,9 @@ ghost use Rattle.link_alignment.specs.Table.{action_at};
 ghost use Rattle.linkset.specs.Preference.{has_link};
 ghost use Rattle.route_table.specs.Facts.{set_at, with_link};
 ghost use Rattle.route_table.specs.Chosen.{chosen_link, chosen_route, chosen_set};
-ghost use Rattle.node_links.specs.LinkState.{acted, down_link, fallen, is_in_service, opened};
+ghost use Rattle.node_links.specs.LinkState.{after_action, down_link, after_failure, is_in_service, opened};
 ghost use Rattle.node_links.specs.Network.{facts_of, first_network, link_in, with_state};
-ghost use Rattle.node_links.specs.Origin.{origin};
+ghost use Rattle.node_links.specs.FormerLink.{former_link};
 
 mod statuses;
 
@@ -22,7 +22,7 @@ use std::marker::Model;
 
 /// The state of each link, and the routes, which always know which links are in service.
 ///
-/// All room is made by `new`. Each call but `new`, `link_of`, `origin`, `route_of` and those on statuses costs the same
+/// All room is made by `new`. Each call but `new`, `link_of`, `former_link`, `route_of` and those on statuses costs the same
 /// however many links there are.
 #[derive(Drop)]
 pub struct NodeLinks {
@@ -96,10 +96,10 @@ impl NodeLinks {
     /// The link that a flow, which goes by this link, would take if this link were out of service (Q.704 §6.2). `None`
     /// where it doesn't go by this link, or would have no other. The link is in service; nothing changes in the end. It
     /// costs at most two calls of `link_of`.
-    pub fn origin(&mut self, link: LinkId, destination: usize, sls: Sls) -> Option<LinkId>
+    pub fn former_link(&mut self, link: LinkId, destination: usize, sls: Sls) -> Option<LinkId>
         requires there { link < length self.old.links }
         requires serves { is_in_service (link_in self.old.links link).alignment ≡ true }
-        ensures origin { result ≡ origin link
+        ensures former { result ≡ former_link link
             (chosen_link (with_link link false (facts_of self.old)) destination sls)
             (chosen_link (facts_of self.old) destination sls) }
         ensures links { self.new ≡ self.old }
@@ -181,7 +181,7 @@ impl NodeLinks {
     pub fn on(&mut self, link: LinkId, input: Input) -> Action
         requires { link < length self.old.links }
         ensures action { result ≡ action_at (link_in self.old.links link).alignment input }
-        ensures state { self.new ≡ with_state self.old link (acted result (link_in self.old.links link)) }
+        ensures state { self.new ≡ with_state self.old link (after_action result (link_in self.old.links link)) }
     {
         let state = &mut self.states[link.index()];
         let action = state.on(input);
@@ -201,20 +201,20 @@ impl NodeLinks {
 
     /// A link fails. Its association stays.
     #[tactic(auto, using(crate::proofs::Serving::kept))]
-    pub fn fall(&mut self, link: LinkId)
+    pub fn fail(&mut self, link: LinkId)
         requires { link < length self.old.links }
-        ensures { self.new ≡ with_state self.old link (fallen (link_in self.old.links link)) }
+        ensures { self.new ≡ with_state self.old link (after_failure (link_in self.old.links link)) }
     {
-        self.states[link.index()].fall();
+        self.states[link.index()].fail();
         self.routes.set_link(link, false);
     }
 
     /// A link loses its association.
-    pub fn part(&mut self, link: LinkId)
+    pub fn lose_association(&mut self, link: LinkId)
         requires { link < length self.old.links }
         ensures { self.new ≡ with_state self.old link (record (link_in self.old.links link) { association = false }) }
     {
-        self.states[link.index()].part();
+        self.states[link.index()].lose_association();
     }
 
     /// A link may open from now on, or not.

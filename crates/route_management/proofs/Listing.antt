@@ -11,7 +11,7 @@ use Rattle.std.proofs.lemmas.List.Folds.{list_any-append}
 use Rattle.route_table.specs.declared.route.RouteStatus.{RouteStatus}
 use Rattle.route_table.specs.Facts.{Facts}
 use Rattle.route_management.specs.Told.{ToldTable, row_of, with_told}
-use Rattle.route_management.specs.Owed.{Owed, should, owed_at, owed_about, owed_to, owed, all_told}
+use Rattle.route_management.specs.Owed.{Owed, status_to_advertise, owed_at, owed_about, owed_to, owed, all_told}
 use Rattle.route_management.specs.Laws.{listed_is_owed, told_all_owes_nothing}
 use Rattle.route_management.proofs.Rows.{rows_as_long}
 use Rattle.route_management.proofs.Owing.{once, other_points, other_destinations}
@@ -53,7 +53,7 @@ all_owed f t = as_all (IsOwed f t) (owed f t) (each_owed f t)
 -- ---- what is told stays told
 
 abbrev pub IsDue : Facts → Owed → Type 0
-IsDue f o = o.status ≡ should f o.set o.destination
+IsDue f o = o.status ≡ status_to_advertise f o.set o.destination
 
 due_by : (b : Bool) (s status : RouteStatus) → (if b then Some s else None) ≡ Some status → status ≡ s
 due_by true s status e = cc
@@ -61,7 +61,7 @@ due_by false s status e = absurd cc
 
 all_due : (f : Facts) (t : ToldTable) (os : List Owed) → AllByRecursion (IsOwed f t) os → AllByRecursion (IsDue f) os
 all_due f t [] h = tt
-all_due f t (o ∷ os) h = (due_by _ (should f o.set o.destination) o.status h.0, all_due f t os h.1)
+all_due f t (o ∷ os) h = (due_by _ (status_to_advertise f o.set o.destination) o.status h.0, all_due f t os h.1)
 
 hit : (f : Facts) (t : ToldTable) (o : Owed) (s d : ℕ) → IsDue f o → o.set ≡ s → o.destination ≡ d
     → owed_at f (with_told o.set o.destination o.status t) s d ≡ None

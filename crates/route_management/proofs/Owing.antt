@@ -6,8 +6,8 @@ use Rattle.route_table.specs.declared.route.RouteStatus.{RouteStatus}
 use Rattle.route_table.specs.declared.route.RouteStatus.TheVariants.{Allowed, Restricted, Prohibited}
 use Rattle.route_table.proofs.Telling.{other_route}
 use Rattle.route_table.proofs.Resetting.{reset_route}
-use Rattle.route_management.specs.Told.{is_adjacent, row_of, told_at}
-use Rattle.route_management.specs.Owed.{is_same, said_by, should, is_reachable, is_unlike}
+use Rattle.route_management.specs.Told.{is_own_point, row_of, told_at}
+use Rattle.route_management.specs.Owed.{is_same, said_by, status_to_advertise, is_reachable, is_unlike}
 use Rattle.route_management.specs.Laws.{told_is_kept, told_once, leaves_other_points, leaves_other_destinations}
 use Rattle.route_management.specs.Laws.{reset_is_kept, reset_leaves_others, status_leaves_other_destinations}
 use Rattle.route_management.specs.Laws.{reset_leaves_what_is_to_be_told}
@@ -37,18 +37,18 @@ is_kept t set destination status = rows_back t.rows set destination status
 
 pub once : told_once
 once f t set destination =
-    let status = should f set destination in
-    ap (owed_by (is_reachable f set) (is_adjacent t set destination) status) (is_kept t set destination status)
-    ∙ none_owed (is_reachable f set) (is_adjacent t set destination) _ status (alike status (told_at t set destination))
+    let status = status_to_advertise f set destination in
+    ap (owed_by (is_reachable f set) (is_own_point t set destination) status) (is_kept t set destination status)
+    ∙ none_owed (is_reachable f set) (is_own_point t set destination) _ status (alike status (told_at t set destination))
 
 pub other_points : leaves_other_points
 other_points f t set other about destination status apart =
-    ap (owed_by (is_reachable f other) (is_adjacent t other destination) (should f other destination))
+    ap (owed_by (is_reachable f other) (is_own_point t other destination) (status_to_advertise f other destination))
     (rows_apart t.rows set other destination (slice_set (row_of t set) about status) apart)
 
 pub other_destinations : leaves_other_destinations
 other_destinations f t set other about destination status apart =
-    ap (owed_by (is_reachable f other) (is_adjacent t other destination) (should f other destination))
+    ap (owed_by (is_reachable f other) (is_own_point t other destination) (status_to_advertise f other destination))
     (rows_other t.rows set other about destination status apart)
 
 pub is_reset : reset_is_kept
@@ -56,7 +56,7 @@ is_reset t set destination = rows_alike t.rows set destination Allowed
 
 pub others_after_reset : reset_leaves_others
 others_after_reset f t set other destination apart =
-    ap (owed_by (is_reachable f other) (is_adjacent t other destination) (should f other destination))
+    ap (owed_by (is_reachable f other) (is_own_point t other destination) (status_to_advertise f other destination))
     (rows_apart t.rows set other destination (map (λ old. Allowed) (row_of t set)) apart)
 
 pub after_status : status_leaves_other_destinations

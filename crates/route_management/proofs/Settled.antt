@@ -7,8 +7,8 @@ use Rattle.std.proofs.lemmas.List.{nil_from_length}
 use Rattle.std.proofs.lemmas.Option.{slice_get_within}
 use Rattle.route_table.specs.declared.route.RouteStatus.{RouteStatus}
 use Rattle.route_table.specs.Facts.{Facts}
-use Rattle.route_management.specs.Told.{ToldTable, is_adjacent, row_of, told_at, with_told}
-use Rattle.route_management.specs.Owed.{Owed, should, is_reachable, owed_at, owed, owes_nothing, all_told}
+use Rattle.route_management.specs.Told.{ToldTable, is_own_point, row_of, told_at, with_told}
+use Rattle.route_management.specs.Owed.{Owed, status_to_advertise, is_reachable, owed_at, owed, owes_nothing, all_told}
 use Rattle.route_management.proofs.Owing.{owed_by, none_owed}
 use Rattle.route_management.proofs.Listing.{still, is_about, in_range, listed_of_point, listed_of_points, none_of_point, none_of_points, nothing_owed}
 
@@ -32,8 +32,8 @@ pub nothing_is_owed : (f : Facts) (t : ToldTable) (set destination : ℕ) → ow
 nothing_is_owed f t set destination none =
     elim (told_at t set destination) as (λ told. told_at t set destination ≡ told → owed_at f t set destination ≡ None) [
       | None ↦ λ there.
-          ap (owed_by (is_reachable f set) (is_adjacent t set destination) (should f set destination)) there
-          ∙ none_owed (is_reachable f set) (is_adjacent t set destination) false (should f set destination) refl
+          ap (owed_by (is_reachable f set) (is_own_point t set destination) (status_to_advertise f set destination)) there
+          ∙ none_owed (is_reachable f set) (is_own_point t set destination) false (status_to_advertise f set destination) refl
       | Some told ↦ λ there.
           elim (owed_at f t set destination) as (λ o. owed_at f t set destination ≡ o → owed_at f t set destination ≡ None) [
             | None ↦ λ e. e
@@ -51,10 +51,10 @@ nothing_is_listed f t none =
 
 -- what answers a test tells what is to be told
 pub answered_owes_no_more : (f : Facts) (t : ToldTable) (set destination : ℕ) → owed f t ≡ []
-    → owed f (with_told set destination (should f set destination) t) ≡ []
+    → owed f (with_told set destination (status_to_advertise f set destination) t) ≡ []
 answered_owes_no_more f t set destination none =
-    nothing_is_listed f (with_told set destination (should f set destination) t) (λ other about.
-    still f t (record { set = set; destination = destination; status = should f set destination }) other about refl
+    nothing_is_listed f (with_told set destination (status_to_advertise f set destination) t) (λ other about.
+    still f t (record { set = set; destination = destination; status = status_to_advertise f set destination }) other about refl
     (nothing_is_owed f t other about none))
 
 -- ---- by its test

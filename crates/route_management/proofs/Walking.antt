@@ -7,8 +7,8 @@ use Rattle.std.specs.Option.{option_map}
 use Rattle.std.proofs.lemmas.List.{get_or-set_other, length-set}
 use Rattle.route_table.specs.declared.route.RouteStatus.{RouteStatus}
 use Rattle.route_table.specs.Facts.{Facts}
-use Rattle.route_management.specs.Told.{ToldTable, is_number, is_adjacent, row_of, told_at, with_told}
-use Rattle.route_management.specs.Owed.{Owed, should, is_reachable, owed_at, owed_from, owed_to, owed_by_sets, all_told}
+use Rattle.route_management.specs.Told.{ToldTable, is_number, is_own_point, row_of, told_at, with_told}
+use Rattle.route_management.specs.Owed.{Owed, status_to_advertise, is_reachable, owed_at, owed_from, owed_to, owed_by_sets, all_told}
 use Rattle.route_management.proofs.Rows.{rows_as_long}
 use Rattle.route_management.proofs.Owing.{owed_by, other_destinations}
 use Rattle.route_management.proofs.Listing.{as_many, as_long, none_of_point}
@@ -106,7 +106,7 @@ adjacents_kept_by_all (o ∷ os) t = adjacents_kept_by_all os (with_told o.set o
 abbrev owed_of_row : Facts → ℕ → List (Option ℕ) → List RouteStatus → List Owed
 owed_of_row f set adjacents row =
     filter_map (λ (destination : ℕ). word_about set destination (owed_by (is_reachable f set)
-    (is_number destination (slice_index_or adjacents set None)) (should f set destination) (slice_get row destination)))
+    (is_number destination (slice_index_or adjacents set None)) (status_to_advertise f set destination) (slice_get row destination)))
     (range_with_len 0 (length row))
 
 pub row_stays_owed : (f : Facts) (t u : ToldTable) (set : ℕ) → t.adjacents ≡ u.adjacents → row_of u set ≡ row_of t set
@@ -127,4 +127,4 @@ others_stay_owed f t u from (suc count) same rows =
 pub unreached_is_owed_nothing : (f : Facts) (t : ToldTable) (set : ℕ) → is_reachable f set ≡ false → owed_to f t set ≡ []
 unreached_is_owed_nothing f t set down =
     none_of_point f t set 0 (length (row_of t set)) (λ destination l k.
-    ap (λ (b : Bool). owed_by b (is_adjacent t set destination) (should f set destination) (told_at t set destination)) down)
+    ap (λ (b : Bool). owed_by b (is_own_point t set destination) (status_to_advertise f set destination) (told_at t set destination)) down)

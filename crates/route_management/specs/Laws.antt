@@ -7,7 +7,7 @@ use Rattle.route_table.specs.declared.route.RouteStatus.TheVariants.{Allowed}
 use Rattle.route_table.specs.Facts.{Facts, with_status}
 use Rattle.route_table.specs.Statuses.{with_statuses_reset}
 use Rattle.route_management.specs.Told.{ToldTable, told_at, with_told, with_told_reset}
-use Rattle.route_management.specs.Owed.{is_reachable, owed_at, owed, all_told, should}
+use Rattle.route_management.specs.Owed.{is_reachable, owed_at, owed, all_told, status_to_advertise}
 
 -- what is told is what was told, where both are there
 abbrev pub told_is_kept : Type 0
@@ -20,7 +20,7 @@ told_is_kept =
 abbrev pub told_once : Type 0
 told_once =
     (f : Facts) (t : ToldTable) (set destination : ℕ) →
-    owed_at f (with_told set destination (should f set destination) t) set destination ≡ None
+    owed_at f (with_told set destination (status_to_advertise f set destination) t) set destination ≡ None
 
 -- what other points are owed stays
 abbrev pub leaves_other_points : Type 0
@@ -50,13 +50,13 @@ reset_leaves_others =
 abbrev pub status_leaves_other_destinations : Type 0
 status_leaves_other_destinations =
     (f : Facts) (about by set destination : ℕ) (status : RouteStatus) → about ≢ destination →
-    should (with_status about by status f) set destination ≡ should f set destination
+    status_to_advertise (with_status about by status f) set destination ≡ status_to_advertise f set destination
 
 -- nor do the statuses of a set without a link in service, as they become allowed, what is to be told of any
 abbrev pub reset_leaves_what_is_to_be_told : Type 0
 reset_leaves_what_is_to_be_told =
     (f : Facts) (reset set destination : ℕ) → is_reachable f reset ≡ false →
-    should (with_statuses_reset reset f) set destination ≡ should f set destination
+    status_to_advertise (with_statuses_reset reset f) set destination ≡ status_to_advertise f set destination
 
 -- ---- all that is owed
 

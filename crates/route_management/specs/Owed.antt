@@ -9,7 +9,7 @@ use Rattle.route_table.specs.declared.route.RouteStatus.{RouteStatus}
 use Rattle.route_table.specs.declared.route.RouteStatus.TheVariants.{Prohibited}
 use Rattle.route_table.specs.Facts.{Facts, set_at}
 use Rattle.route_table.specs.Chosen.{chosen_route, status_number}
-use Rattle.route_management.specs.Told.{ToldTable, is_adjacent, row_of, told_at, with_told}
+use Rattle.route_management.specs.Told.{ToldTable, is_own_point, row_of, told_at, with_told}
 
 -- whether two statuses are the same
 abbrev pub is_same : RouteStatus → RouteStatus → Bool
@@ -21,8 +21,8 @@ abbrev pub said_by : ℕ → Option Route → RouteStatus
 said_by set None = Prohibited
 said_by set (Some route) = if nat_eq route.set set then Prohibited else route.status
 
-abbrev pub should : Facts → (set destination : ℕ) → RouteStatus
-should f set destination = said_by set (chosen_route f destination)
+abbrev pub status_to_advertise : Facts → (set destination : ℕ) → RouteStatus
+status_to_advertise f set destination = said_by set (chosen_route f destination)
 
 -- an adjacent point is reached while its own set has a link in service
 abbrev pub is_reachable : Facts → ℕ → Bool
@@ -36,12 +36,12 @@ is_unlike (Some told) status = not (is_same told status)
 -- whether the adjacent point of a set is owed word of a destination
 abbrev pub is_owed : Facts → ToldTable → (set destination : ℕ) → Bool
 is_owed f t set destination =
-    is_reachable f set && (not (is_adjacent t set destination)
-    && is_unlike (told_at t set destination) (should f set destination))
+    is_reachable f set && (not (is_own_point t set destination)
+    && is_unlike (told_at t set destination) (status_to_advertise f set destination))
 
 -- and which status
 abbrev pub owed_at : Facts → ToldTable → (set destination : ℕ) → Option RouteStatus
-owed_at f t set destination = if is_owed f t set destination then Some (should f set destination) else None
+owed_at f t set destination = if is_owed f t set destination then Some (status_to_advertise f set destination) else None
 
 -- ---- all that is owed
 

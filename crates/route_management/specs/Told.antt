@@ -16,8 +16,8 @@ is_number n None = false
 is_number n (Some m) = nat_eq m n
 
 -- whether a destination is the adjacent point of a set itself
-abbrev pub is_adjacent : ToldTable → (set destination : ℕ) → Bool
-is_adjacent t set destination = is_number destination (slice_index_or t.adjacents set None)
+abbrev pub is_own_point : ToldTable → (set destination : ℕ) → Bool
+is_own_point t set destination = is_number destination (slice_index_or t.adjacents set None)
 
 -- what the adjacent point of a set was told
 abbrev pub row_of : ToldTable → ℕ → List RouteStatus
@@ -34,13 +34,13 @@ shape_of t = map length t.rows
 -- ---- how they begin
 
 -- the number of the destination that the links of a set lead to
-abbrev pub adjacent_of : List DestinationEntry → SetEntry → Option ℕ
-adjacent_of destinations s = position (λ d. nat_eq s.adjacent d.point) destinations
+abbrev pub adjacent_place : List DestinationEntry → SetEntry → Option ℕ
+adjacent_place destinations s = position (λ d. nat_eq s.adjacent d.point) destinations
 
 -- at first all are allowed
 abbrev pub first_told : List SetEntry → List DestinationEntry → ToldTable
 first_told sets destinations = record {
-  adjacents = map (adjacent_of destinations) sets;
+  adjacents = map (adjacent_place destinations) sets;
   rows = replicate (length sets) (replicate (length destinations) Allowed);
 }
 

@@ -7,4 +7,4 @@ mod row;
 pub mod told;
 
 pub use heard::{Heard, RouteTest};
-pub use told::{Told, should};
+pub use told::{Told, status_to_advertise};

@@ -3,10 +3,10 @@
 ghost use Rattle.std.specs.Prelude.{◌≡◌, Some, None, length, map, position, replicate, nat_eq, IfOk, slice_index_or};
 ghost use Rattle.route_table.specs.declared.route.RouteStatus.TheVariants as status;
 ghost use Rattle.node_links.specs.Network.{facts_of};
-ghost use Rattle.route_management.specs.Told.{first_told, adjacent_of, is_adjacent, told_at, with_told};
+ghost use Rattle.route_management.specs.Told.{first_told, adjacent_place, is_own_point, told_at, with_told};
 ghost use Rattle.route_management.specs.Told.{with_told_reset};
-ghost use Rattle.route_management.specs.Owed.{said_by, should, owed_at};
-ghost use Rattle.route_management.specs.Hearing.{heard, answer};
+ghost use Rattle.route_management.specs.Owed.{said_by, status_to_advertise, owed_at};
+ghost use Rattle.route_management.specs.Hearing.{heard, answer_to_test};
 
 use crate::heard::{Heard, RouteTest, heard_of};
 use crate::row::Row;
@@ -20,7 +20,7 @@ use std::marker::Model;
 /// What the adjacent point of each set was told of each destination. A destination goes by its number in the order of
 /// the settings.
 ///
-/// All room is made by `new`. `tell` and `is_adjacent` take a fixed number of steps, `reset` takes one for each
+/// All room is made by `new`. `tell` and `is_own_point` take a fixed number of steps, `reset` takes one for each
 /// destination, and each other call what `NodeLinks` takes for the route to one destination, or for its status.
 #[derive(Drop)]
 pub struct Told {
@@ -57,8 +57,8 @@ impl Told {
     }
 
     /// Whether a destination is the adjacent point of a set itself.
-    pub fn is_adjacent(&self, set: SetId, destination: usize) -> bool
-        ensures { result ≡ is_adjacent self.now set destination }
+    pub fn is_own_point(&self, set: SetId, destination: usize) -> bool
+        ensures { result ≡ is_own_point self.now set destination }
     {
         match self.adjacents.get(set.index()) {
             Some(Some(adjacent)) => *adjacent == destination,
@@ -72,10 +72,10 @@ impl Told {
     pub fn owed(&self, links: &NodeLinks, set: SetId, destination: usize) -> Option<RouteStatus>
         ensures { result ≡ owed_at (facts_of links.now) self.now set destination }
     {
-        if !links.has_link(set) || self.is_adjacent(set, destination) {
+        if !links.has_link(set) || self.is_own_point(set, destination) {
             return None;
         }
-        let status = should(links, set, destination);
+        let status = status_to_advertise(links, set, destination);
         match self.told(set, destination) {
             Some(told) if !told.is(status) => Some(status),
             _ => None,
@@ -83,7 +83,7 @@ impl Told {
     }
 
     /// What the adjacent point of a set was told of a destination; `None` where one of the two isn't there.
-    pub fn told(&self, set: SetId, destination: usize) -> Option<RouteStatus>
+    fn told(&self, set: SetId, destination: usize) -> Option<RouteStatus>
         ensures { result ≡ told_at self.now set destination }
     {
         match self.rows.get(set.index()) {
@@ -124,7 +124,7 @@ impl Told {
     ) -> Heard
         ensures { result ≡ heard (facts_of links.now) self.now set destination status }
     {
-        if self.is_adjacent(set, destination) {
+        if self.is_own_point(set, destination) {
             return Heard::Ignored;
         }
         heard_of(links.status_of(destination, set), status)
@@ -140,10 +140,10 @@ impl Told {
         destination: usize,
         test: RouteTest,
     ) -> Option<RouteStatus>
-        ensures { result ≡ answer (facts_of links.now) self.now set destination test }
+        ensures { result ≡ answer_to_test (facts_of links.now) self.now set destination test }
     {
-        let status = should(links, set, destination);
-        if self.is_adjacent(set, destination) || status.is(test.tested()) {
+        let status = status_to_advertise(links, set, destination);
+        if self.is_own_point(set, destination) || status.is(test.tested()) {
             None
         } else {
             Some(status)
@@ -153,8 +153,8 @@ impl Told {
 
 /// What the adjacent point of a set is to be told of a destination: prohibited where no route leads there, or where
 /// messages go by that very set; else the status of their route (Q.704 §13.2 to §13.4).
-pub fn should(links: &NodeLinks, set: SetId, destination: usize) -> RouteStatus
-    ensures { result ≡ should (facts_of links.now) set destination }
+pub fn status_to_advertise(links: &NodeLinks, set: SetId, destination: usize) -> RouteStatus
+    ensures { result ≡ status_to_advertise (facts_of links.now) set destination }
 {
     said_by(set, links.route_of(destination))
 }
@@ -175,18 +175,18 @@ fn adjacents(
     sets: &[SetRow],
     destinations: &[DestinationRow],
 ) -> Result<Vec<Option<usize>>, AllocError>
-    ensures { IfOk result (λ made. made.items ≡ map (adjacent_of destinations.now) sets.now) }
+    ensures { IfOk result (λ made. made.items ≡ map (adjacent_place destinations.now) sets.now) }
 {
     let mut made = Vec::with_capacity(alloc, sets.len())?;
     for set in sets {
-        made.push_reserved(adjacent_of(set, destinations));
+        made.push_reserved(adjacent_place(set, destinations));
     }
     Ok(made)
 }
 
 /// The number of the destination that the links of a set lead to.
-fn adjacent_of(set: &SetRow, destinations: &[DestinationRow]) -> Option<usize>
-    ensures { result ≡ adjacent_of destinations.now set.now }
+fn adjacent_place(set: &SetRow, destinations: &[DestinationRow]) -> Option<usize>
+    ensures { result ≡ adjacent_place destinations.now set.now }
 {
     let adjacent = set.adjacent();
     destinations.iter().position(|destination| adjacent.code() == destination.point().code())

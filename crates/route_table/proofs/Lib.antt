@@ -4,3 +4,4 @@ pub mod Telling
 pub mod Resetting
 pub mod Opening
 pub mod Searching
+pub mod Choosing

@@ -8,7 +8,7 @@ use Rattle.linkset.specs.Preference.{has_link, first_in_service}
 use Rattle.route_table.specs.declared.route.Route.{Route}
 use Rattle.route_table.specs.declared.route.RouteStatus.{RouteStatus}
 use Rattle.route_table.specs.declared.route.RouteStatus.TheVariants.{Allowed, Restricted}
-use Rattle.route_table.specs.Facts.{Facts, set_at, routes_to, told}
+use Rattle.route_table.specs.Facts.{Facts, set_at, routes_to, with_status_over}
 use Rattle.route_table.specs.Chosen.{status_number, is_open, open_route, chosen_route, chosen_link}
 use Rattle.route_table.specs.Statuses.{with_statuses_reset}
 
@@ -23,15 +23,15 @@ is_closed f set status old r down same =
     closed (status_number old == status_number status) _ (ap (λ n. has_link f.in_service (set_at f n)) (eqb-true r.set set same) ∙ down)
 
 found_alike : (f : Facts) (set : ℕ) (status : RouteStatus) (routes : List Route) → has_link f.in_service (set_at f set) ≡ false
-    → find (is_open f status) (map (told set Allowed) routes) ≡ find (is_open f status) routes
+    → find (is_open f status) (map (with_status_over set Allowed) routes) ≡ find (is_open f status) routes
 found_alike f set status [] down = refl
 found_alike f set status (r ∷ rs) down =
     let rest = found_alike f set status rs down in
     elim (nat_eq r.set set) as (λ b. nat_eq r.set set ≡ b
-    → cond (is_open f status (if b then record r { status = Allowed } else r)) (Some (if b then record r { status = Allowed } else r)) (find (is_open f status) (map (told set Allowed) rs))
+    → cond (is_open f status (if b then record r { status = Allowed } else r)) (Some (if b then record r { status = Allowed } else r)) (find (is_open f status) (map (with_status_over set Allowed) rs))
     ≡ cond (is_open f status r) (Some r) (find (is_open f status) rs)) [
       | true ↦ λ same.
-          ap (λ b. cond b (Some (record r { status = Allowed })) (find (is_open f status) (map (told set Allowed) rs))) (is_closed f set status Allowed r down same)
+          ap (λ b. cond b (Some (record r { status = Allowed })) (find (is_open f status) (map (with_status_over set Allowed) rs))) (is_closed f set status Allowed r down same)
           ∙ rest
           ∙ sym (ap (λ b. cond b (Some r) (find (is_open f status) rs)) (is_closed f set status r.status r down same))
       | false ↦ λ apart. ap (λ (o : Option Route). cond (is_open f status r) (Some r) o) rest
@@ -40,7 +40,7 @@ found_alike f set status (r ∷ rs) down =
 pub open_alike : (f : Facts) (set destination : ℕ) (status : RouteStatus) → has_link f.in_service (set_at f set) ≡ false
     → open_route (with_statuses_reset set f) destination status ≡ open_route f destination status
 open_alike f set destination status down =
-    ap (λ (routes : List Route). find (is_open f status) routes) (get_or-map (map (told set Allowed)) f.routes destination [])
+    ap (λ (routes : List Route). find (is_open f status) routes) (get_or-map (map (with_status_over set Allowed)) f.routes destination [])
     ∙ found_alike f set status (routes_to f destination) down
 
 pub reset_route : (f : Facts) (set destination : ℕ) → has_link f.in_service (set_at f set) ≡ false

@@ -8,9 +8,9 @@ use Rattle.linkset.specs.Preference.{first_in_service}
 use Rattle.route_table.specs.declared.route.Route.{Route}
 use Rattle.route_table.specs.declared.route.RouteStatus.{RouteStatus}
 use Rattle.route_table.specs.declared.route.RouteStatus.TheVariants.{Allowed, Restricted}
-use Rattle.route_table.specs.Facts.{Facts, set_at, routes_to, told, with_status}
+use Rattle.route_table.specs.Facts.{Facts, set_at, routes_to, with_status_over, with_status}
 use Rattle.route_table.specs.Chosen.{is_open, chosen_route, chosen_link}
-use Rattle.route_table.specs.Statuses.{goes_by, status_of, with_statuses_reset}
+use Rattle.route_table.specs.Statuses.{leads_by, status_of, with_statuses_reset}
 
 -- ---- another destination
 
@@ -26,7 +26,7 @@ link_among f selection routes =
 routes_left : (f : Facts) (destination other set : ℕ) (status : RouteStatus) → destination ≢ other
     → routes_to (with_status destination set status f) other ≡ routes_to f other
 routes_left f destination other set status apart =
-    get_or-set_other f.routes destination other (map (told set status) (routes_to f destination)) [] (λ e. apart (sym e))
+    get_or-set_other f.routes destination other (map (with_status_over set status) (routes_to f destination)) [] (λ e. apart (sym e))
 
 pub other_route : (f : Facts) (destination other set : ℕ) (status : RouteStatus) → destination ≢ other
     → chosen_route (with_status destination set status f) other ≡ chosen_route f other
@@ -39,22 +39,22 @@ other_link f destination other set selection status apart =
 
 -- ---- the status that is read
 
-goes_as_before : (set : ℕ) (status : RouteStatus) (r : Route) → goes_by set (told set status r) ≡ goes_by set r
+goes_as_before : (set : ℕ) (status : RouteStatus) (r : Route) → leads_by set (with_status_over set status r) ≡ leads_by set r
 goes_as_before set status r =
     elim (nat_eq r.set set) as (λ b. nat_eq (if b then record r { status = status } else r).set set ≡ nat_eq r.set set) [ true ↦ refl | false ↦ refl ]
 
-has_status : (set : ℕ) (status : RouteStatus) (r : Route) → nat_eq r.set set ≡ true → (told set status r).status ≡ status
+has_status : (set : ℕ) (status : RouteStatus) (r : Route) → nat_eq r.set set ≡ true → (with_status_over set status r).status ≡ status
 has_status set status r e = rw e refl
 
 read_among : (set : ℕ) (status : RouteStatus) (routes : List Route)
-    → option_map (λ route. route.status) (find (goes_by set) (map (told set status) routes))
-    ≡ option_map (λ old. status) (option_map (λ route. route.status) (find (goes_by set) routes))
+    → option_map (λ route. route.status) (find (leads_by set) (map (with_status_over set status) routes))
+    ≡ option_map (λ old. status) (option_map (λ route. route.status) (find (leads_by set) routes))
 read_among set status [] = refl
 read_among set status (r ∷ rs) =
     rw (goes_as_before set status r)
     (elim (nat_eq r.set set) as (λ b. nat_eq r.set set ≡ b
-    → option_map (λ route. route.status) (cond b (Some (told set status r)) (find (goes_by set) (map (told set status) rs)))
-    ≡ option_map (λ old. status) (option_map (λ route. route.status) (cond b (Some r) (find (goes_by set) rs)))) [
+    → option_map (λ route. route.status) (cond b (Some (with_status_over set status r)) (find (leads_by set) (map (with_status_over set status) rs)))
+    ≡ option_map (λ old. status) (option_map (λ route. route.status) (cond b (Some r) (find (leads_by set) rs)))) [
       | true ↦ λ e. ap (λ (s : RouteStatus). Some s) (has_status set status r e)
       | false ↦ λ e. read_among set status rs
     ] refl)
@@ -68,15 +68,15 @@ read_back g none (x ∷ xs) (suc i) = read_back g none xs i
 
 -- the status of the route by a set among these
 abbrev pub status_among : ℕ → List Route → Option RouteStatus
-status_among set routes = option_map (λ route. route.status) (find (goes_by set) routes)
+status_among set routes = option_map (λ route. route.status) (find (leads_by set) routes)
 
 pub read_told : (f : Facts) (destination set : ℕ) (status : RouteStatus)
     → status_of (with_status destination set status f) destination set ≡ option_map (λ old. status) (status_of f destination set)
 read_told f destination set status =
-    ap (status_among set) (read_back (map (told set status)) refl f.routes destination) ∙ read_among set status (routes_to f destination)
+    ap (status_among set) (read_back (map (with_status_over set status)) refl f.routes destination) ∙ read_among set status (routes_to f destination)
 
-routes_reset : (f : Facts) (set destination : ℕ) → routes_to (with_statuses_reset set f) destination ≡ map (told set Allowed) (routes_to f destination)
-routes_reset f set destination = get_or-map (map (told set Allowed)) f.routes destination []
+routes_reset : (f : Facts) (set destination : ℕ) → routes_to (with_statuses_reset set f) destination ≡ map (with_status_over set Allowed) (routes_to f destination)
+routes_reset f set destination = get_or-map (map (with_status_over set Allowed)) f.routes destination []
 
 pub read_reset : (f : Facts) (destination set : ℕ)
     → status_of (with_statuses_reset set f) destination set ≡ option_map (λ old. Allowed) (status_of f destination set)

@@ -53,10 +53,10 @@ abbrev pub with_link : ℕ → Bool → Facts → Facts
 with_link link in_service f = record f { in_service = slice_set f.in_service link in_service }
 
 -- a route gets a status, if it goes by this set
-abbrev pub told : ℕ → RouteStatus → Route → Route
-told set status route = if nat_eq route.set set then record route { status = status } else route
+abbrev pub with_status_over : ℕ → RouteStatus → Route → Route
+with_status_over set status route = if nat_eq route.set set then record route { status = status } else route
 
 -- the route to a destination by a set gets a status, if there is one
 abbrev pub with_status : ℕ → ℕ → RouteStatus → Facts → Facts
 with_status destination set status f =
-    record f { routes = slice_set f.routes destination (map (told set status) (routes_to f destination)) }
+    record f { routes = slice_set f.routes destination (map (with_status_over set status) (routes_to f destination)) }

@@ -1,19 +1,25 @@
 //! What holds of the link that a flow takes, and of the statuses of routes.
 
-ghost use Rattle.std.specs.Prelude.{ℕ, ◌≡◌, ◌≢◌, true, false, Some};
+ghost use Rattle.std.specs.Prelude.{ℕ, ◌≡◌, ◌≢◌, true, false, Some, is_some};
 ghost use Rattle.std.specs.Option.{option_map};
 ghost use Rattle.linkset.specs.Preference.{has_link, is_in_service};
 ghost use Rattle.route_table.specs.declared.route.Route.{Route};
 ghost use Rattle.route_table.specs.declared.route.RouteStatus.{RouteStatus};
 ghost use Rattle.route_table.specs.declared.route.RouteStatus.TheVariants.{Allowed, Prohibited};
 ghost use Rattle.route_table.specs.Facts.{Facts, set_at, with_status};
-ghost use Rattle.route_table.specs.Chosen.{chosen_link, chosen_route};
+ghost use Rattle.route_table.specs.Chosen.{chosen_link, chosen_route, chosen_set};
 ghost use Rattle.route_table.specs.Statuses.{status_of, with_statuses_reset};
 
 /// The link of a flow is in service.
 pub fn chosen_link_serves()
     ensures { (f : Facts) (destination selection link : ℕ)
         → chosen_link f destination selection ≡ Some link → is_in_service f.in_service link ≡ true }
+{}
+
+/// There is a link for a flow exactly where there is a set for its destination.
+pub fn a_flow_has_a_link_where_it_has_a_set()
+    ensures { (f : Facts) (destination selection : ℕ)
+        → is_some (chosen_link f destination selection) ≡ is_some (chosen_set f destination) }
 {}
 
 /// The route that messages to a destination take isn't prohibited: it is allowed or restricted.

@@ -1,7 +1,7 @@
 //! The routes to one destination.
 
 ghost use Rattle.std.specs.Prelude.{◌≡◌, ◌==◌, ◌≤◌, length, map};
-ghost use Rattle.route_table.specs.Facts.{first_routes, first_route, told};
+ghost use Rattle.route_table.specs.Facts.{first_routes, first_route, with_status_over};
 ghost use Rattle.route_table.specs.Chosen.{status_name, status_number};
 
 use arrayvec::ArrayVec;
@@ -97,7 +97,7 @@ impl RouteList {
 
     /// The route by this set gets a status, if there is one.
     pub fn tell(&mut self, set: SetId, status: RouteStatus)
-        ensures { self.new ≡ map (told set status) self.old }
+        ensures { self.new ≡ map (with_status_over set status) self.old }
     {
         tell(&mut self.routes, set, status);
     }
@@ -105,16 +105,16 @@ impl RouteList {
 
 /// The routes by this set get a status.
 fn tell(routes: &mut [Route], set: SetId, status: RouteStatus)
-    ensures { routes.new ≡ map (told set status) routes.old }
+    ensures { routes.new ≡ map (with_status_over set status) routes.old }
 {
     for route in routes.iter_mut() {
-        *route = told(*route, set, status);
+        *route = with_status_over(*route, set, status);
     }
 }
 
 /// A route, which gets a status if it goes by this set.
-fn told(route: Route, set: SetId, status: RouteStatus) -> Route
-    ensures { result ≡ told set status route }
+fn with_status_over(route: Route, set: SetId, status: RouteStatus) -> Route
+    ensures { result ≡ with_status_over set status route }
 {
     if route.set.index() == set.index() {
         Route { status, ..route }

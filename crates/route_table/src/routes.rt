@@ -6,7 +6,7 @@ ghost use Rattle.linkset.specs.Preference.{first_in_service, has_link};
 ghost use Rattle.route_table.specs.Facts.{first_facts, first_sets, first_routes, set_at, routes_to};
 ghost use Rattle.route_table.specs.Facts.{with_link, with_status};
 ghost use Rattle.route_table.specs.Chosen.{chosen_route, chosen_set, chosen_link};
-ghost use Rattle.route_table.specs.Chosen.{open_route, first_set, is_open, open_link, link_by};
+ghost use Rattle.route_table.specs.Chosen.{open_route, is_open, open_link, link_by};
 
 mod statuses;
 
@@ -77,19 +77,8 @@ impl Routes {
         }
     }
 
-    /// The set of a destination: the first of its sets that has a link in service and is allowed, else the first that
-    /// has one and is restricted (Q.704 §4.2).
-    pub fn set_of(&self, destination: usize) -> Option<SetId>
-        ensures { result ≡ chosen_set self.now destination }
-    {
-        match self.first_set(destination, RouteStatus::Allowed) {
-            Some(set) => Some(set),
-            None => self.first_set(destination, RouteStatus::Restricted),
-        }
-    }
-
-    /// The route that messages to a destination take: by the set that `set_of` says, with the status of that set. It is
-    /// allowed or restricted.
+    /// The route that messages to a destination take: by the first of its sets that has a link in service and is
+    /// allowed, else by the first that has one and is restricted (Q.704 §4.2).
     pub fn route_of(&self, destination: usize) -> Option<Route>
         ensures { result ≡ chosen_route self.now destination }
     {
@@ -169,16 +158,6 @@ impl Routes {
         match self.destinations.get(destination) {
             Some(routes) => routes.routes(),
             None => &[],
-        }
-    }
-
-    /// The first set that leads to a destination with this status and has a link in service.
-    fn first_set(&self, destination: usize, status: RouteStatus) -> Option<SetId>
-        ensures { result ≡ first_set self.now destination status }
-    {
-        match self.open_route(destination, status) {
-            Some(route) => Some(route.set),
-            None => None,
         }
     }
 

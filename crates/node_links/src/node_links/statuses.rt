@@ -3,7 +3,7 @@
 ghost use Rattle.std.specs.Prelude.{◌≡◌};
 ghost use Rattle.route_table.specs.Statuses.{status_of};
 ghost use Rattle.node_links.specs.Network.{facts_of};
-ghost use Rattle.node_links.specs.Statuses.{with_status, with_statuses_reset};
+ghost use Rattle.node_links.specs.Statuses.{with_route_status, with_statuses_reset};
 
 use super::NodeLinks;
 use route_table::RouteStatus;
@@ -22,7 +22,7 @@ impl NodeLinks {
     /// Links, and all other routes, stay as they are (Q.704 §13). It takes a step for each set that leads to the
     /// destination.
     pub fn set_status(&mut self, destination: usize, set: SetId, status: RouteStatus)
-        ensures { self.new ≡ with_status destination set status self.old }
+        ensures { self.new ≡ with_route_status destination set status self.old }
     {
         self.routes.set_status(destination, set, status);
     }

@@ -2,7 +2,7 @@
 
 ghost use Rattle.std.specs.Prelude.{◌≡◌, map};
 ghost use Rattle.route_table.specs.declared.route.RouteStatus.TheVariants as status;
-ghost use Rattle.route_table.specs.Facts.{told};
+ghost use Rattle.route_table.specs.Facts.{with_status_over};
 ghost use Rattle.route_table.specs.Statuses.{status_of, with_statuses_reset};
 
 use super::Routes;
@@ -34,7 +34,7 @@ impl Routes {
 
 /// The routes by this set are allowed.
 fn allow_all(destinations: &mut [RouteList], set: SetId)
-    ensures { destinations.new ≡ map (map (told set status.Allowed)) destinations.old }
+    ensures { destinations.new ≡ map (map (with_status_over set status.Allowed)) destinations.old }
 {
     for routes in destinations.iter_mut() {
         routes.tell(set, RouteStatus::Allowed);

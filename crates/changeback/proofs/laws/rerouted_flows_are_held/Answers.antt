@@ -1,8 +1,5 @@
-use Rattle.changeback.proofs.ToAnother.{has_hold, rerouted_held, still_held}
+use Rattle.changeback.proofs.ToAnother.{rerouted_held, still_held}
 use Rattle.changeback.proofs.laws.rerouted_flows_are_held.Goals as goal
-
-pub returns-clause-own : goal.returns-clause-own
-returns-clause-own c = has_hold
 
 pub returns-clause-held : goal.returns-clause-held
 returns-clause-held c = rerouted_held

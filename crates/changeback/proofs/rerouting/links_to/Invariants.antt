@@ -2,7 +2,7 @@
 use Rattle.std.proofs.Common.{◌≡◌, ℕ, ◌<◌, None, length, slice_index_or}
 use Rattle.route_table.specs.Chosen.{chosen_link}
 use Rattle.node_links.specs.Network.{facts_of}
-use Rattle.changeback.specs.Return.{selections}
+use Rattle.flow_hold.specs.Holds.{selections}
 use Rattle.changeback.proofs.rerouting.links_to.Given as goal
 
 abbrev pub invariant-loop-selection : goal.invariant-loop-selection

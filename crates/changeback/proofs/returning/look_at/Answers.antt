@@ -3,7 +3,8 @@ use Rattle.std.proofs.Common.{◌≡◌, ◌||◌, Bool, false, List, ℕ, ap, s
 use Rattle.route_table.specs.Facts.{with_link}
 use Rattle.route_table.specs.Chosen.{chosen_set}
 use Rattle.node_links.specs.Network.{Network, facts_of}
-use Rattle.changeback.specs.Return.{selections, changes_of, gives_up}
+use Rattle.flow_hold.specs.Holds.{selections}
+use Rattle.changeback.specs.Return.{changes_of, gives_up}
 use Rattle.changeback.specs.Seen.{with_pair, IsSeen}
 use Rattle.changeback.proofs.Sets.{unmarked_before, unmarked_after, one_seen}
 use Rattle.changeback.proofs.returning.look_at.Goals as goal

@@ -1,11 +1,11 @@
 use Rattle.std.proofs.Common.{◌≡◌, ◌≤◌, length, map, take}
 use Rattle.std.specs.Prelude.{vec_len, vec_capacity}
-use Rattle.route_management.specs.Told.{adjacent_of}
+use Rattle.route_management.specs.Told.{adjacent_place}
 use Rattle.route_management.proofs.told.adjacents.Given as goal
 
 abbrev pub invariant-loop-set : goal.invariant-loop-set
 invariant-loop-set l = record {
-  made : l.made.items ≡ map (adjacent_of l.fn.destinations) (take l.set-index l.fn.sets);
+  made : l.made.items ≡ map (adjacent_place l.fn.destinations) (take l.set-index l.fn.sets);
   count : vec_len l.made ≡ l.set-index;
   room : length l.fn.sets ≤ vec_capacity l.made;
 }

@@ -1,7 +1,7 @@
 use Rattle.std.proofs.Common.{ap, ◌∙◌}
 use Rattle.changeover.specs.Kept.{kept_doubted}
 use Rattle.changeover.proofs.Finishing.{doubted-alike}
-use Rattle.changeover.proofs.completion.in_doubt.Goals as goal
+use Rattle.changeover.proofs.completion.count_in_doubt.Goals as goal
 
 pub returns-clause-queue : goal.returns-clause-queue
 returns-clause-queue c = λ w lane q h.

@@ -1,8 +1,0 @@
--- Where a flow comes from that changes its link.
-use Rattle.std.specs.Prelude.{ℕ, ◌&&◌, not, nat_eq, Option, Some, None, if◌then◌else◌}
-
--- the link that a flow comes from: it goes by one link now, and went by another before
-abbrev pub origin : (to : ℕ) → (before after : Option ℕ) → Option ℕ
-origin to (Some from) (Some now) = if nat_eq now to && not (nat_eq from to) then Some from else None
-origin to (Some from) None = None
-origin to None after = None
