@@ -1,13 +1,18 @@
--- An exchange that stood for an abstract state stands for the state after any calls, and answers as there.
-use Rattle.std.proofs.Common.{◌≡◌, List, [], ◌∷◌, refl, ap, ◌∙◌}
+-- An exchange that stood for an abstract state stands for the state after any calls, and answers as there. Calls in a row are answered one by one.
+use Rattle.std.proofs.Common.{◌≡◌, ℕ, List, [], ◌∷◌, ◌++◌, length, take, get_or, ◌+◌, ◌<◌, ◌≤◌, refl, sym, ap, subst, ◌∙◌, arith}
+use Rattle.std.proofs.lemmas.List.{length-append, take_more, take_all}
+use Rattle.exchange.specs.Calls.{asked, asked_each}
+use Rattle.exchange.specs.declared.event.Call.{Call}
 use Rattle.exchange.specs.declared.event.Answer.{Answer}
 use Rattle.exchange.specs.declared.event.Answer.TheVariants.{Stepped, Wanted}
-use Rattle.exchange.specs.declared.event.Wants.{Wants}
+use Rattle.exchange_rules.specs.declared.wants.Wants.{Wants}
 use Rattle.signalling_types.specs.declared.outcome.Outcome.{Outcome}
-use Rattle.exchange.specs.Happening.{Asking, Happens, Takes, AsksWants}
-use Rattle.exchange.specs.Queues.{kept, whole}
+use Rattle.exchange_rules.specs.Happening.{Asking, Happens, Takes, AsksWants}
+use Rattle.exchange.specs.KeptQueues.{kept}
+use Rattle.exchange_rules.specs.Queues.{whole}
 use Rattle.exchange.specs.Runs.{answer_to_call, after_call, answers_to, after_calls}
-use Rattle.exchange.specs.Stands.{Abstract, Kept, StandsFor}
+use Rattle.exchange_rules.specs.Sound.{Abstract}
+use Rattle.exchange.specs.Stands.{Kept, StandsFor}
 use Rattle.exchange.proofs.Standing.{stands-outcome, stands-after, stands-frame, stands-taken, stands-wants}
 
 pub stands-answer : (call : Asking) (k : Kept) (a : Abstract) → StandsFor k a → answer_to_call kept call k ≡ answer_to_call whole call a
@@ -29,3 +34,57 @@ stands-answers (call ∷ calls) k a s =
 pub stands-calls : (calls : List Asking) (k : Kept) (a : Abstract) → StandsFor k a → StandsFor (after_calls kept calls k) (after_calls whole calls a)
 stands-calls [] k a s = s
 stands-calls (call ∷ calls) k a s = stands-calls calls (after_call kept call k) (after_call whole call a) (stands-call call k a s)
+
+-- ---- one call more
+
+asked-more : (calls : List Call) (answers : List Answer) (call : Call) (answer : Answer) → length answers ≡ length calls
+    → asked_each (calls ++ call ∷ []) (answers ++ answer ∷ []) ≡ asked_each calls answers ++ asked call answer ∷ []
+asked-more [] [] call answer e = refl
+asked-more [] (other ∷ answers) call answer e = absurd (omega (arith, e))
+asked-more (first ∷ calls) [] call answer e = absurd (omega (arith, e))
+asked-more (first ∷ calls) (other ∷ answers) call answer e = ap (λ (asks : List Asking). asked first other ∷ asks) (asked-more calls answers call answer (omega (arith, e)))
+
+answers-more : (askings : List Asking) (asking : Asking) (k : Kept)
+    → answers_to kept (askings ++ asking ∷ []) k ≡ answers_to kept askings k ++ answer_to_call kept asking (after_calls kept askings k) ∷ []
+answers-more [] asking k = refl
+answers-more (first ∷ askings) asking k = ap (λ (more : List Answer). answer_to_call kept first k ∷ more) (answers-more askings asking (after_call kept first k))
+
+after-more : (askings : List Asking) (asking : Asking) (k : Kept) → after_calls kept (askings ++ asking ∷ []) k ≡ after_call kept asking (after_calls kept askings k)
+after-more [] asking k = refl
+after-more (first ∷ askings) asking k = after-more askings asking (after_call kept first k)
+
+-- calls that were answered so, from one state to another
+pub record IsAnswered (calls : List Call) (answers : List Answer) (k now : Kept) : Type 0 where
+  pub told : answers ≡ answers_to kept (asked_each calls answers) k
+  pub rest : now ≡ after_calls kept (asked_each calls answers) k
+  pub count : length answers ≡ length calls
+
+pub answered_more : (calls : List Call) (answers : List Answer) (call : Call) (answer : Answer) (k now next : Kept) → IsAnswered calls answers k now
+    → answer ≡ answer_to_call kept (asked call answer) now → next ≡ after_call kept (asked call answer) now
+    → IsAnswered (calls ++ call ∷ []) (answers ++ answer ∷ []) k next
+answered_more calls answers call answer k now next h a s =
+    let askings : List Asking = asked_each calls answers in
+    let more : asked_each (calls ++ call ∷ []) (answers ++ answer ∷ []) ≡ askings ++ asked call answer ∷ [] = asked-more calls answers call answer h.count in
+    record {
+      told =
+          ap (λ (x : Answer). answers ++ x ∷ []) (a ∙ ap (λ (x : Kept). answer_to_call kept (asked call answer) x) h.rest)
+          ∙ ap (λ (before : List Answer). before ++ answer_to_call kept (asked call answer) (after_calls kept askings k) ∷ []) h.told
+          ∙ sym (answers-more askings (asked call answer) k)
+          ∙ ap (λ (asks : List Asking). answers_to kept asks k) (sym more);
+      rest =
+          s ∙ ap (λ (x : Kept). after_call kept (asked call answer) x) h.rest
+          ∙ sym (after-more askings (asked call answer) k)
+          ∙ ap (λ (asks : List Asking). after_calls kept asks k) (sym more);
+      count = omega (arith, h.count, length-append answers (answer ∷ []), length-append calls (call ∷ []));
+    }
+
+-- at an index of a list of calls
+pub answered_at : (calls : List Call) (i : ℕ) (answers : List Answer) (call : Call) (answer : Answer) (k now next : Kept) → i < length calls → call ≡ get_or calls i call
+    → IsAnswered (take i calls) answers k now → answer ≡ answer_to_call kept (asked call answer) now → next ≡ after_call kept (asked call answer) now
+    → IsAnswered (take (i + 1) calls) (answers ++ answer ∷ []) k next
+answered_at calls i answers call answer k now next l e h a s =
+    let more : take (i + 1) calls ≡ take i calls ++ call ∷ [] = take_more calls i call l ∙ ap (λ (x : Call). take i calls ++ x ∷ []) (sym e) in
+    subst (λ (cs : List Call). IsAnswered cs (answers ++ answer ∷ []) k next) (sym more) (answered_more (take i calls) answers call answer k now next h a s)
+
+pub all_answered : (calls : List Call) (i : ℕ) (answers : List Answer) (k now : Kept) → length calls ≤ i → IsAnswered (take i calls) answers k now → IsAnswered calls answers k now
+all_answered calls i answers k now l h = subst (λ (cs : List Call). IsAnswered cs answers k now) (take_all i calls l) h

@@ -11,9 +11,9 @@ use Rattle.changeover.specs.Completion.{users_of}
 use Rattle.changeover.specs.Kept.{kept_accepted_count, kept_done_with}
 use Rattle.changeover.specs.Lanes.{spliced}
 use Rattle.changeover.proofs.Finishing.{behind-done}
-use Rattle.exchange.specs.State.{State, Node, Found, with_node}
-use Rattle.exchange.specs.Queues.{KeptQueues, kept, lane_of, held_lane, counts_at, link_lane, without_lane}
-use Rattle.exchange.specs.ChangingOver.{concluded, conclude}
+use Rattle.exchange_rules.specs.State.{State, Node, Found, with_node}
+use Rattle.exchange.specs.KeptQueues.{KeptQueues, kept, lane_of, held_lane, counts_at, link_lane, without_lane}
+use Rattle.exchange_rules.specs.ChangingOver.{concluded, conclude}
 use Rattle.exchange.specs.Draining.{anew, drained, placed_each, spliced_queues}
 use Rattle.exchange.proofs.Draining.{all_out, send_each-placed}
 

@@ -8,14 +8,14 @@ use Rattle.signalling_types.specs.Message.{Message, flow_of}
 use Rattle.settings_rows.specs.Configuration.{Configuration}
 use Rattle.cell_pool.specs.Lanes.{lane_at, pushed, dropped}
 use Rattle.cell_pool.specs.Moves.{first_behind}
-use Rattle.exchange.specs.State.{Parts, Node, State, with_node}
-use Rattle.exchange.specs.Queues.{KeptQueues, kept, held_lane}
-use Rattle.exchange.specs.Routing.{link_of}
-use Rattle.exchange.specs.Holding.{waits}
+use Rattle.exchange_rules.specs.State.{Parts, Node, State, with_node}
+use Rattle.exchange.specs.KeptQueues.{KeptQueues, kept, held_lane}
+use Rattle.exchange_rules.specs.Routing.{link_of}
+use Rattle.exchange_rules.specs.Holding.{waits}
 use Rattle.signalling_types.specs.declared.cause.Cause.TheVariants.{NoRoute}
-use Rattle.exchange.specs.Made.{unsent, send_anew, send}
-use Rattle.exchange.specs.ChangingOver.{lose, send_each}
-use Rattle.exchange.specs.Releasing.{go_on, go_by, go, go_each, release}
+use Rattle.exchange_rules.specs.Made.{unsent, send_anew, send}
+use Rattle.exchange_rules.specs.ChangingOver.{lose, send_each}
+use Rattle.exchange_rules.specs.Releasing.{go_on, go_by, go, go_each, release}
 use Rattle.exchange.specs.Draining.{Fate, GoesTo, IsDropped, fate_on, anew, onward, onward_by, placed, placed_each, without_first, drained, gone, gone_by, first_gone}
 
 abbrev Lists : Type 0

@@ -1,13 +1,13 @@
 -- What the code keeps of whole queues, it keeps after each word on them.
-use Rattle.std.proofs.Common.{◌≡◌, ◌≤◌, ◌+◌, ◌++◌, ◌∷◌, ℕ, Bool, List, [], Option, map, get_or, is_some, sum_by, refl, sym, ap, ◌∙◌}
+use Rattle.std.proofs.Common.{◌≡◌, ◌≤◌, ◌+◌, ◌++◌, ◌∷◌, ℕ, Bool, List, [], Option, map, get_or, is_some, refl, sym, ap, ◌∙◌}
 use Rattle.std.proofs.lemmas.List.Sums.{sum_by-cons}
 use Rattle.std.proofs.Math.ListN.{set, get_or-map}
 use Rattle.std.proofs.lemmas.List.{map-set}
 use Rattle.signalling_types.specs.Message.{Message}
 use Rattle.cell_pool.specs.Lanes.{users_in, managements_in}
 use Rattle.link_sequence.specs.Queue as queue
-use Rattle.link_sequence.specs.Queue.{Queue, IsQueue, first_queue, count_confirmed, accept_answer}
-use Rattle.link_sequence.specs.Counts.{Counts, counts_of, unconfirmed, kept_emptied}
+use Rattle.link_sequence.specs.Queue.{Queue, IsQueue, first_queue, accept_answer, unconfirmed}
+use Rattle.link_sequence.specs.Counts.{Counts, counts_of, kept_emptied}
 use Rattle.link_sequence.proofs.Kept.{kept-accept_answer, counts-accepted, unconfirmed-accepted, kept-to_send, counts-sent_one, unconfirmed-sent_one, unconfirmed-appended, kept-last_sent, kept-last_accepted}
 use Rattle.link_sequence.proofs.Sound.{sound-first, sound-appended, sound-accepted, sound-sent_one, sound-emptied}
 use Rattle.signalling_types.specs.declared.limits.TheConstants.Limits.{WINDOW}
@@ -15,10 +15,12 @@ use Rattle.changeover.specs.Completion.{accepted_count, moved, lost}
 use Rattle.changeover.specs.Kept.{kept_accepted_count, kept_lost, kept_queued_anew}
 use Rattle.changeover.proofs.Keeping.{alike, counted-some}
 use Rattle.link_sequence.specs.Keeps.{Keeps}
-use Rattle.exchange.specs.Queues.{WholeQueues, KeptQueues, queue_at, with_queue, counts_at, kept, whole}
-use Rattle.exchange.specs.Stands.{AreQueues, kept_queues_of}
-use Rattle.exchange.proofs.Combining.{IsKept, IsKeeping}
-use Rattle.exchange.proofs.Lists.{map-set_alike, sum_by-map, each-set}
+use Rattle.exchange_rules.specs.Queues.{WholeQueues, queue_at, with_queue, whole}
+use Rattle.exchange.specs.KeptQueues.{KeptQueues, counts_at, kept}
+use Rattle.exchange_rules.specs.Sound.{AreQueues}
+use Rattle.exchange.specs.Stands.{kept_queues_of}
+use Rattle.exchange_rules.proofs.Combining.{IsKept, IsKeeping}
+use Rattle.exchange_rules.proofs.Lists.{map-set_alike, sum_by-map, each-set}
 
 -- one link's counts, and its messages
 pub counts_at-kept : (qs : WholeQueues) (l : ℕ) → counts_at (map counts_of qs.links) l ≡ counts_of (queue_at qs l)
@@ -119,12 +121,3 @@ keeps_whole w = record {
   users = λ qs. sum_by-cons users_in qs.held (map unconfirmed qs.links) ∙ ap (λ (n : ℕ). users_in qs.held + n) (sum_by-map users_in unconfirmed qs.links);
   managements = λ qs. sum_by-cons managements_in qs.held (map unconfirmed qs.links) ∙ ap (λ (n : ℕ). managements_in qs.held + n) (sum_by-map managements_in unconfirmed qs.links);
 }
-
--- a message that goes out stands in its queue until it is confirmed
-pub managements-sent_one : (w : ℕ) (qs : WholeQueues) (l : ℕ) → whole.managements (whole.sent_one qs l w) ≡ whole.managements qs
-managements-sent_one w qs l =
-    let q : Queue = queue.sent_one (queue_at qs l) w in
-    ap (λ (n : ℕ). managements_in qs.held + n)
-    (sym (sum_by-map managements_in unconfirmed (set qs.links l q))
-    ∙ ap (sum_by managements_in) (sym (map-set_alike unconfirmed qs.links l q first_queue (unconfirmed-sent_one (queue_at qs l) w)))
-    ∙ sum_by-map managements_in unconfirmed qs.links)

@@ -3,8 +3,8 @@ use Rattle.std.specs.Prelude.{if◌then◌else◌, not, is_some, length}
 use Rattle.std.proofs.Common.{◌≡◌, ◌<◌, ◌≤◌, ℕ, zero, suc, ◌+◌, Bool, true, false, List, [], ◌∷◌, drop, take, refl, ap, sym, ◌∙◌, arith, Option, Some, None, slice_get}
 use Rattle.signalling_types.specs.Message.{Message}
 use Rattle.settings_rows.specs.Configuration.{Configuration}
-use Rattle.flow_hold.specs.Holds.{HoldTable}
-use Rattle.exchange.specs.State.{Parts}
+use Rattle.flow_hold.specs.Holds.{HoldSet}
+use Rattle.exchange_rules.specs.State.{Parts}
 use Rattle.exchange.specs.Suspending.{with_messages}
 use Rattle.exchange.specs.Head.{with_head}
 use Rattle.signalling_types.specs.Message.{is_management}
@@ -12,9 +12,9 @@ use Rattle.signalling_types.specs.declared.cause.Cause.TheVariants.{LostUnconfir
 use Rattle.link_sequence.specs.Counts.{Counts}
 use Rattle.changeover.specs.Completion.{users_of}
 use Rattle.changeover.specs.Kept.{kept_doubted, kept_accepted_count, kept_in_doubt, kept_queued_anew}
-use Rattle.exchange.specs.Noting.{flagged}
-use Rattle.exchange.specs.Queues.{KeptQueues, kept, counts_at, link_lane}
-use Rattle.exchange.specs.ChangingOver.{lose, lose_each, with_losses}
+use Rattle.exchange_rules.specs.Noting.{flagged}
+use Rattle.exchange.specs.KeptQueues.{KeptQueues, kept, counts_at, link_lane}
+use Rattle.exchange_rules.specs.ChangingOver.{lose, lose_each, with_losses}
 use Rattle.exchange.specs.Draining.{lose_one, lose_users, lose_first}
 
 abbrev get_some : Option ℕ → ℕ
@@ -24,14 +24,14 @@ get_some None = 0
 one-more : (n : ℕ) → suc n ≡ n + 1
 one-more n = omega arith
 
-holds-suc : (c : Configuration) (link place : ℕ) (ms : List Message) (holds : HoldTable)
+holds-suc : (c : Configuration) (link place : ℕ) (ms : List Message) (holds : HoldSet)
     → with_messages c link (drop place ms) holds ≡ with_messages c link (drop (suc place) ms) (with_head c link (slice_get ms place) holds)
 holds-suc c link zero [] holds = refl
 holds-suc c link (suc place) [] holds = refl
 holds-suc c link zero (m ∷ ms) holds = refl
 holds-suc c link (suc place) (m ∷ ms) holds = holds-suc c link place ms holds
 
-pub next_held : (c : Configuration) (link place : ℕ) (ms : List Message) (holds : HoldTable)
+pub next_held : (c : Configuration) (link place : ℕ) (ms : List Message) (holds : HoldSet)
     → with_messages c link (drop (place + 1) ms) (with_head c link (slice_get ms place) holds) ≡ with_messages c link (drop place ms) holds
 next_held c link place ms holds =
     ap (λ (n : ℕ). with_messages c link (drop n ms) (with_head c link (slice_get ms place) holds)) (sym (one-more place)) ∙ sym (holds-suc c link place ms holds)

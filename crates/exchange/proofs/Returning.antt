@@ -11,25 +11,26 @@ use Rattle.link_alignment.specs.declared.action.Action.{Action}
 use Rattle.link_alignment.specs.declared.action.Action.TheVariants as act
 use Rattle.link_alignment.specs.declared.action.Transition.{Transition}
 use Rattle.route_table.specs.Facts.{Facts, with_link}
-use Rattle.route_table.specs.Statuses.{with_statuses_reset}
-use Rattle.route_table.specs.Chosen.{chosen_link}
-use Rattle.route_table.proofs.Resetting.{reset_link}
 use Rattle.node_links.specs.Link.{Link}
 use Rattle.node_links.specs.LinkState.{is_in_service, stepped, down_link}
-use Rattle.node_links.proofs.Serving.{serving_without}
 use Rattle.flow_hold.specs.declared.procedure.Procedure.{Procedure}
-use Rattle.changeback.specs.Return.{FlowChange, returned, gives_up, held_by}
-use Rattle.changeback.proofs.Alike.{returned_alike}
-use Rattle.exchange.specs.State.{QueueKind, Parts, Node, State, with_node, with_parts}
-use Rattle.exchange.specs.Queues.{KeptQueues, kept}
-use Rattle.exchange.specs.Links.{link_at, in_service}
+use Rattle.changeback.specs.Return.{returned, gives_up, held_by}
+use Rattle.exchange_rules.proofs.TakenPairs.{alike_before}
+use Rattle.exchange_rules.specs.State.{QueueKind, Parts, Node, State, with_node, with_parts}
+use Rattle.exchange.specs.KeptQueues.{KeptQueues, kept}
+use Rattle.exchange_rules.specs.Links.{link_at, in_service}
 use Rattle.exchange.specs.Head.{with_holds}
-use Rattle.exchange.specs.Routing.{sets_in, facts}
-use Rattle.exchange.specs.ChangingBack.{code_for, declare_by, holder, declare, declare_each, holders, take_over, take_back}
-use Rattle.exchange.specs.Points.{set_of}
-use Rattle.exchange.specs.Failing.{has_other}
-use Rattle.exchange.specs.Statuses.{begun_anew_if, return_if, acted, stepped_by, step_on}
+use Rattle.exchange_rules.specs.Routing.{facts}
+use Rattle.exchange_rules.specs.ChangingBack.{code_for, declare_by, change_back}
+use Rattle.exchange_rules.specs.Places.{HasPlacesFor}
+use Rattle.exchange.specs.TakingOver.{holder, declare, declare_each, holders}
+use Rattle.exchange.proofs.TakingOver.{taken_over}
+use Rattle.exchange_rules.specs.Points.{set_of}
+use Rattle.exchange_rules.specs.Failing.{has_other}
+use Rattle.exchange_rules.specs.Statuses.{begun_anew_if, return_if, act_by, step_on}
+use Rattle.exchange.specs.Entering.{stepped_by}
 use Rattle.exchange.specs.Entering.{is_first_in, entered}
+use Rattle.exchange_rules.proofs.Entering.{known_before, known_links}
 
 -- ---- one more link declares
 
@@ -100,11 +101,11 @@ abbrev holders_in : ℕ → (ℕ → Bool) → State KeptQueues → List (Option
 holders_in link loses s = holders kept s.settings link loses (length s.settings.links) s.node
 
 pub taken_back : (s0 s1 s2 s3 : State KeptQueues) (link : ℕ) (loses : ℕ → Bool) (hs : List (Option Procedure))
-    → s1 ≡ s0
+    → HasPlacesFor s0.settings s0.node.parts → s1 ≡ s0
     → ((other : ℕ) → loses other ≡ gives_up (returned link (with_link link false (known s0)) (known s0)) other)
     → hs ≡ holders_in link loses s1 → s2 ≡ declared_in link loses s1 → s3 ≡ held_back link hs (known s2) s2
-    → s3 ≡ with_node s0 (take_back kept s0.settings link (with_link link false (known s0)) s0.node)
-taken_back s0 s1 s2 s3 link loses hs e l h d t =
+    → s3 ≡ with_node s0 (change_back kept s0.settings link (with_link link false (known s0)) s0.node)
+taken_back s0 s1 s2 s3 link loses hs fits e l h d t =
     let same : (loses ≡ gives_up (returned link (with_link link false (known s0)) (known s0))) = λ i. λ other. l other i in
     let before : known s2 ≡ known s0 =
     ap known d
@@ -117,15 +118,9 @@ taken_back s0 s1 s2 s3 link loses hs e l h d t =
     ∙ ap (λ (s : State KeptQueues). held_back link (holders_in link loses s1) (known s0) s) d
     ∙ ap (λ (s : State KeptQueues). held_back link (holders_in link loses s) (known s0) (declared_in link loses s)) e
     ∙ ap (λ (f : ℕ → Bool). held_back link (holders_in link f s0) (known s0) (declared_in link f s0)) same
+    ∙ ap (λ (n : Node KeptQueues). with_node s0 n) (taken_over kept s0.settings link (with_link link false (known s0)) s0.node fits)
 
 -- ---- a link enters service
-
--- what was known of routes before, once the link that entered is taken out again
-pub known_before : (c : Configuration) (link : ℕ) (step : Transition) (p : Parts) → in_service p link ≡ false
-    → with_link link false (facts c (step_on c link step p)) ≡ facts c p
-known_before c link step p e =
-    ap (λ (serving : List Bool). record { sets = sets_in c; in_service = serving; routes = p.routes })
-    (serving_without p.links link (stepped step (link_at p link)) e)
 
 absent : (b : Bool) → false ≡ true → b ≡ true
 absent b e = absurd cc
@@ -155,16 +150,6 @@ not_other true false e = refl
 not_other true true e = absurd cc
 not_other false b e = absurd cc
 
--- once the link that entered is taken out again, each flow takes the link that it took before, also where all that is known over its
--- set began anew: then that set had no link
-pub known_links : (c : Configuration) (link : ℕ) (step : Transition) (p : Parts) (first : Bool) → in_service p link ≡ false
-    → (first ≡ true → has_other c link p ≡ false) → (destination sls : ℕ)
-    → chosen_link (with_link link false (facts c (begun_anew_if first c link (step_on c link step p)))) destination sls ≡ chosen_link (facts c p) destination sls
-known_links c link step p true e h destination sls =
-    ap (λ (f : Facts). chosen_link (with_statuses_reset (set_of c link) f) destination sls) (known_before c link step p e)
-    ∙ reset_link (facts c p) (set_of c link) destination sls (h refl)
-known_links c link step p false e h destination sls = ap (λ (f : Facts). chosen_link f destination sls) (known_before c link step p e)
-
 not_first : (b : Bool) → not b ≡ true → b ≡ false
 not_first true e = absurd cc
 not_first false e = refl
@@ -173,7 +158,7 @@ not_first false e = refl
 pub entered_service : (a : Action) (s t u : State KeptQueues) (link : ℕ) → t ≡ with_node s (stepped_by s.settings a link s.node)
     → in_service s.node.parts link ≡ false → in_service t.node.parts link ≡ true
     → u ≡ with_node t (entered kept t.settings link t.node)
-    → u ≡ with_node s (acted kept s.settings a link s.node)
+    → u ≡ with_node s (act_by kept s.settings a link s.node)
 entered_service act.Ignored s t u link e b i f =
     absurd_state (sym b ∙ sym (ap (λ (x : State KeptQueues). in_service x.node.parts link) e) ∙ i) u s
 entered_service act.Fail s t u link e b i f =
@@ -188,9 +173,10 @@ entered_service (act.Go step) s t u link e b i f =
     let known_then : Facts = with_link link false (facts c (anew first)) in
     f
     ∙ ap (λ (x : State KeptQueues). with_node x (entered kept x.settings link x.node)) e
-    ∙ ap (λ (k : Facts). with_node s (take_back kept c link (with_link link false (facts c (anew (is_first_in k (set_of c link))))) (with_parts s.node (anew (is_first_in k (set_of c link))))))
+    ∙ ap (λ (k : Facts). with_node s (change_back kept c link (with_link link false (facts c (anew (is_first_in k (set_of c link))))) (with_parts s.node (anew (is_first_in k (set_of c link))))))
     (known_before c link step p b)
-    ∙ ap (λ (changes : List FlowChange). with_node s (take_over kept c link changes (with_parts s.node (anew first))))
-    (returned_alike link known_then (facts c p) (facts c (anew first)) (known_links c link step p first b (not_first (has_other c link p))))
+    ∙ ap (λ (n : Node KeptQueues). with_node s n)
+    (alike_before kept c known_then (facts c p) (facts c (anew first)) link (known_links c link step p first b (not_first (has_other c link p)))
+    (length c.links) (with_parts s.node (anew first)))
     ∙ ap (λ (x : Bool). with_node s (return_if kept c x link (facts c p) (with_parts s.node (anew (x && first)))))
     (sym (enters_so (is_in_service step.state) (in_service p link) led b))

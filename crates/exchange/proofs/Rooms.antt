@@ -1,37 +1,41 @@
 -- What an exchange keeps has its room still, and telling is due where it has to be, as links and what was told change.
 use Rattle.std.proofs.Common.{◌≡◌, ◌<◌, ◌+◌, ℕ, Bool, true, false, ◌||◌, not, length, replicate, List, refl, ap, sym, subst, ◌∙◌}
-use Rattle.std.specs.Prelude.{map, [], slice_index_or, if◌then◌else◌}
+use Rattle.std.specs.Prelude.{map, [], ◌∷◌, slice_index_or, if◌then◌else◌, Option, Some, None}
 use Rattle.std.proofs.lemmas.List.{length-set, get_or-set_same}
 use Rattle.linkset.specs.declared.link_set.SetLink.{SetLink}
 use Rattle.route_table.specs.declared.route.RouteStatus.{RouteStatus}
-use Rattle.route_table.specs.Facts.{Facts, told}
+use Rattle.route_table.specs.Facts.{Facts, with_status_over}
 use Rattle.node_links.specs.Link.{Link}
 use Rattle.node_links.specs.LinkState.{is_in_service, down_link}
 use Rattle.node_links.specs.Network.{Network, facts_of, link_in, with_state, serving}
-use Rattle.node_links.specs.Statuses.{with_status}
+use Rattle.node_links.specs.Statuses.{with_route_status}
 use Rattle.node_links.proofs.Serving.{facts_alike}
 use Rattle.timer_wheel.specs.Timers.{Running}
 use Rattle.cell_pool.specs.Lanes.{lane_at}
-use Rattle.flow_hold.specs.Holds.{HoldTable}
+use Rattle.flow_hold.specs.declared.procedure.Procedure.{Procedure}
+use Rattle.flow_hold.specs.Holds.{HoldSet}
 use Rattle.changeback.specs.Codes.{Codes}
+use Rattle.changeback.specs.Return.{FlowChange, with_change, held_by}
 use Rattle.route_management.specs.Told.{ToldTable, shape_of, with_told}
-use Rattle.route_management.specs.Owed.{should, owes_nothing}
+use Rattle.route_management.specs.Owed.{status_to_advertise, owes_nothing}
 use Rattle.route_management.proofs.Shape.{told_shape}
 use Rattle.route_management.proofs.Settled.{answered_owes_no_more, none_from_owes_nothing, owes_nothing_from_none}
-use Rattle.exchange.specs.State.{State}
-use Rattle.exchange.specs.Queues.{KeptQueues, kept, held_lane}
-use Rattle.exchange.specs.Holding.{all_wait}
-use Rattle.exchange.specs.Routing.{facts}
-use Rattle.exchange.specs.Telling.{may_tell, is_all_told}
+use Rattle.exchange_rules.specs.State.{State}
+use Rattle.exchange.specs.KeptQueues.{KeptQueues, kept, held_lane}
+use Rattle.exchange_rules.specs.Holding.{all_wait}
+use Rattle.exchange_rules.specs.Routing.{facts}
+use Rattle.exchange_rules.specs.Telling.{may_tell, is_all_told}
 use Rattle.exchange.specs.Room.{HasRoom, kept_in}
-use Rattle.exchange.specs.Places.{HasHoldsFor, HasCodes}
+use Rattle.exchange_rules.specs.Places.{HasHoldsFor, HasCodes}
+use Rattle.exchange_rules.proofs.Places.{with_hold-fits}
+use Rattle.settings_rows.specs.Configuration.{Configuration}
 use Rattle.exchange.proofs.Settling.{or-true}
 use Rattle.exchange.specs.declared.exchange.Exchange.TheInside.{Inside}
 
 -- whatever changes but queues, the changeovers and the notices
-pub any_room : (e : Inside) (n : Network) (t : ToldTable) (k : Codes) (u : HoldTable) (r : Running) (late release due : Bool) → HasRoom e
+pub any_room : (e : Inside) (n : Network) (t : ToldTable) (k : Codes) (u : HoldSet) (r : Running) (late release due : Bool) → HasRoom e
     → length n.links ≡ length e.links.links → n.sets ≡ e.links.sets → length n.routes ≡ length e.links.routes → shape_of t ≡ shape_of e.told
-    → HasCodes k → HasHoldsFor e.settings u
+    → HasCodes (length e.settings.sets) k → HasHoldsFor e.settings u
     → (release || all_wait e.settings u (lane_at e.lanes.lists held_lane)) ≡ true
     → (due || owes_nothing (facts_of n) t) ≡ true
     → HasRoom (record e { links = n; told = t; changeback = k; holds = u; timers = r; late_any = late; release_due = release; telling_due = due })
@@ -61,8 +65,8 @@ changed_room e n t r due h many sets routes shape telling =
     any_room e n t e.changeback e.holds r e.late_any e.release_due due h many sets routes shape h.codes h.holds h.waiting telling
 
 -- what is held changes, a release is due, and codes and timers may change with it
-pub held_room : (e : Inside) (n : Network) (k : Codes) (u : HoldTable) (r : Running) (late : Bool) → HasRoom e
-    → n ≡ e.links → HasCodes k → HasHoldsFor e.settings u
+pub held_room : (e : Inside) (n : Network) (k : Codes) (u : HoldSet) (r : Running) (late : Bool) → HasRoom e
+    → n ≡ e.links → HasCodes (length e.settings.sets) k → HasHoldsFor e.settings u
     → HasRoom (record e { links = n; changeback = k; holds = u; timers = r; late_any = late; release_due = true })
 held_room e n k u r late h same codes holds =
     any_room e n e.told k u r late true e.telling_due h (ap (λ (m : Network). length m.links) same) (ap (λ (m : Network). m.sets) same)
@@ -70,13 +74,13 @@ held_room e n k u r late h same codes holds =
     (ap (λ (m : Network). e.telling_due || owes_nothing (facts_of m) e.told) same ∙ h.telling)
 
 -- a status changes no count of routes
-pub status_routes : (n m : Network) (destination set : ℕ) (status : RouteStatus) → m ≡ with_status destination set status n → length m.routes ≡ length n.routes
+pub status_routes : (n m : Network) (destination set : ℕ) (status : RouteStatus) → m ≡ with_route_status destination set status n → length m.routes ≡ length n.routes
 status_routes n m destination set status e =
     ap (λ (m : Network). length m.routes) e
-    ∙ length-set n.routes destination (map (told set status) (slice_index_or n.routes destination []))
+    ∙ length-set n.routes destination (map (with_status_over set status) (slice_index_or n.routes destination []))
 
 -- routes and what is held change, and a release and telling are due
-pub rerouted_room : (e : Inside) (n : Network) (u : HoldTable) (r : Running) → HasRoom e
+pub rerouted_room : (e : Inside) (n : Network) (u : HoldSet) (r : Running) → HasRoom e
     → n.links ≡ e.links.links → n.sets ≡ e.links.sets → length n.routes ≡ length e.links.routes → HasHoldsFor e.settings u
     → HasRoom (record e { links = n; holds = u; timers = r; release_due = true; telling_due = true })
 rerouted_room e n u r h links sets routes holds =
@@ -173,18 +177,30 @@ told_room e s room h view same told =
 
 -- what is to be told was told
 answered-by : (f : Facts) (t : ToldTable) (set destination : ℕ) (due : Bool) → (due || owes_nothing f t) ≡ true
-    → (due || owes_nothing f (with_told set destination (should f set destination) t)) ≡ true
+    → (due || owes_nothing f (with_told set destination (status_to_advertise f set destination) t)) ≡ true
 answered-by f t set destination true e = refl
 answered-by f t set destination false e =
-    owes_nothing_from_none f (with_told set destination (should f set destination) t)
+    owes_nothing_from_none f (with_told set destination (status_to_advertise f set destination) t)
     (answered_owes_no_more f t set destination (none_from_owes_nothing f t e))
 
 pub answered_room : (e : Inside) (s : State KeptQueues) (t : ToldTable) (set destination : ℕ) (status : RouteStatus) → HasRoom e → kept_in e ≡ s
-    → status ≡ should (facts s.settings s.node.parts) set destination → t ≡ with_told set destination status e.told
+    → status ≡ status_to_advertise (facts s.settings s.node.parts) set destination → t ≡ with_told set destination status e.told
     → HasRoom (record e { told = t })
 answered_room e s t set destination status h view is same =
-    let all : t ≡ with_told set destination (should (facts_of e.links) set destination) e.told =
-    same ∙ ap (λ (x : RouteStatus). with_told set destination x e.told) (is ∙ ap (λ (f : Facts). should f set destination) (view_facts e s h view)) in
+    let all : t ≡ with_told set destination (status_to_advertise (facts_of e.links) set destination) e.told =
+    same ∙ ap (λ (x : RouteStatus). with_told set destination x e.told) (is ∙ ap (λ (f : Facts). status_to_advertise f set destination) (view_facts e s h view)) in
     changed_room e e.links t e.timers e.telling_due h refl refl refl (ap shape_of same ∙ told_shape e.told set destination status)
     (ap (λ (x : ToldTable). e.telling_due || owes_nothing (facts_of e.links) x) all
     ∙ answered-by (facts_of e.links) e.told set destination e.telling_due h.telling)
+
+-- what a link takes over is held by procedures of the node
+with_change-fits : (c : Configuration) (t : HoldSet) (change : FlowChange) (holder : Option Procedure) → HasHoldsFor c t → HasHoldsFor c (with_change t change holder)
+with_change-fits c t change (Some procedure) h = with_hold-fits c t procedure change.destination change.sls h
+with_change-fits c t change None h = h
+
+pub held_by-fits : (c : Configuration) (t : HoldSet) (holders : List (Option Procedure)) (changes : List FlowChange) → HasHoldsFor c t
+    → HasHoldsFor c (held_by holders changes t)
+held_by-fits c t holders [] h = h
+held_by-fits c t holders (x ∷ xs) h =
+    let holder : Option Procedure = slice_index_or holders x.from None in
+    held_by-fits c (with_change t x holder) holders xs (with_change-fits c t x holder h)

@@ -10,10 +10,10 @@ use Rattle.link_alignment.specs.declared.alignment.Alignment.TheVariants.{Down, 
 use Rattle.link_alignment.specs.Table.{action_at}
 use Rattle.node_links.specs.Link.{Link}
 use Rattle.node_links.specs.LinkState.{down_link, is_in_service, stepped}
-use Rattle.exchange.specs.State.{QueueKind, Parts, Node}
-use Rattle.exchange.specs.Links.{link_at, in_service, links_with}
-use Rattle.exchange.specs.Statuses.{advance}
-use Rattle.exchange.specs.Frames.{Carrying, act_by_data, take_in, handle}
+use Rattle.exchange_rules.specs.State.{QueueKind, Parts, Node}
+use Rattle.exchange_rules.specs.Links.{link_at, in_service, links_with}
+use Rattle.exchange_rules.specs.Statuses.{advance}
+use Rattle.exchange_rules.specs.Frames.{Carrying, act_by_data, receive_data, handle}
 
 -- the step of a link in service about User Data
 abbrev staying_in_service : Transition
@@ -42,5 +42,5 @@ module _ {Q : Type 0} (q : QueueKind Q) (c : Configuration) where
   by_alignment AlignedReady link d node e serves = absurd cc
 
   pub taken_in_service : (link : ℕ) (d : Carrying) (node : Node Q) → in_service node.parts link ≡ true
-      → take_in q c link d node ≡ handle q c link d node
+      → receive_data q c link d node ≡ handle q c link d node
   taken_in_service link d node serves = by_alignment (link_at node.parts link).alignment link d node refl serves

@@ -1,101 +1,18 @@
--- What a release leaves: each message of Held waits, and where each did before, nothing changed. What is told leaves that so.
-use Rattle.std.proofs.Common.{◌≡◌, ℕ, Bool, true, false, ◌&&◌, not, List, [], ◌∷◌, ◌++◌, Option, Some, None, refl, ap, sym, ◌∙◌}
-use Rattle.std.specs.Prelude.{◌||◌, if◌then◌else◌}
+-- What a release leaves of what is kept: each message of Held waits, and where each did before, nothing changed.
+use Rattle.std.proofs.Common.{◌≡◌, ℕ, Bool, true, false, List, [], ◌∷◌, ◌++◌, Option, Some, None, refl, ap, sym, ◌∙◌}
+use Rattle.std.specs.Prelude.{◌||◌}
 use Rattle.std.proofs.Math.ListN.{set}
 use Rattle.cell_pool.specs.Lanes.{lane_at, pushed}
 use Rattle.std.proofs.lemmas.List.{append-nil, append_assoc}
-use Rattle.std.proofs.lemmas.List.Folds.{list_all-append}
 use Rattle.signalling_types.specs.Message.{Message, flow_of}
-use Rattle.signalling_types.specs.declared.cause.Cause.{Cause}
 use Rattle.settings_rows.specs.Configuration.{Configuration}
-use Rattle.route_table.specs.declared.route.RouteStatus.TheVariants.{Prohibited}
-use Rattle.route_management.specs.Owed.{Owed, owed}
-use Rattle.flow_hold.specs.Holds.{HoldTable}
-use Rattle.exchange.specs.State.{Node, with_parts}
-use Rattle.exchange.specs.Queues.{WholeQueues, KeptQueues, kept, whole, lane_of, held_lane}
-use Rattle.exchange.specs.Routing.{facts, link_of}
-use Rattle.exchange.specs.Holding.{waits, all_wait}
-use Rattle.exchange.specs.Releasing.{go_on, go_by, go, go_each, release}
-use Rattle.exchange.specs.Sending.{Outgoing, SendsStatus, SendsMessage, Acknowledges, SendsNothing, goes_out, after_sending, after_take}
-use Rattle.exchange.specs.Points.{set_of}
-use Rattle.exchange.specs.Queueing.{no_room}
-use Rattle.exchange.specs.Made.{send, send_routed}
-use Rattle.exchange.specs.Telling.{route_message, told_parts, inhibited, is_inhibited, may_tell, tell, tell_if, tell_each, tell_owed, prohibit, prohibit_if, answer_no_route}
-
--- all messages of Held wait for holds that stay as they are
-record Waits (c : Configuration) (holds : HoldTable) (n : Node WholeQueues) : Type 0 where
-  pub same : n.parts.holds ≡ holds
-  pub all : all_wait c holds n.queues.held ≡ true
-
-one_more : (c : Configuration) (holds : HoldTable) (ms : List Message) (m : Message) → all_wait c holds ms ≡ true → waits c holds m ≡ true → all_wait c holds (ms ++ m ∷ []) ≡ true
-one_more c holds ms m e f =
-    list_all-append (waits c holds) ms (m ∷ [])
-    ∙ ap (λ (b : Bool). b && (waits c holds m && true)) e
-    ∙ ap (λ (b : Bool). b && true) f
-
-module _ (c : Configuration) (holds : HoldTable) where
-  go_on-waits : (link : Option ℕ) (m : Message) (n : Node WholeQueues) → Waits c holds n → Waits c holds (go_on whole c link m n)
-  go_on-waits (Some l) m n w = record { same = w.same; all = w.all }
-  go_on-waits None m n w = record { same = w.same; all = w.all }
-
-  go_by-waits : (b : Bool) (m : Message) (n : Node WholeQueues) → waits c holds m ≡ b → Waits c holds n → Waits c holds (go_by whole c b m n)
-  go_by-waits true m n e w = record { same = w.same; all = one_more c holds n.queues.held m w.all e }
-  go_by-waits false m n e w = go_on-waits (link_of c n.parts (flow_of m)) m n w
-
-  go-waits : (m : Message) (n : Node WholeQueues) → Waits c holds n → Waits c holds (go whole c m n)
-  go-waits m n w = go_by-waits (waits c n.parts.holds m) m n (ap (λ (t : HoldTable). waits c t m) (sym w.same)) w
-
-  go_each-waits : (ms : List Message) (n : Node WholeQueues) → Waits c holds n → Waits c holds (go_each whole c ms n)
-  go_each-waits [] n w = w
-  go_each-waits (m ∷ ms) n w = go_each-waits ms (go whole c m n) (go-waits m n w)
-
--- after a release each message of Held waits
-pub release-waits : (c : Configuration) (n : Node WholeQueues) → all_wait c (release whole c n).parts.holds (release whole c n).queues.held ≡ true
-release-waits c n =
-    let w : Waits c n.parts.holds (release whole c n) = go_each-waits c n.parts.holds n.queues.held (record n { queues = whole.without_held n.queues }) (record { same = refl; all = refl }) in
-    ap (λ (t : HoldTable). all_wait c t (release whole c n).queues.held) w.same ∙ w.all
-
--- a take leaves Held and the holds as they are
-after_sending-waits : (c : Configuration) (l : ℕ) (out : Outgoing) (n : Node WholeQueues) → all_wait c n.parts.holds n.queues.held ≡ true
-    → all_wait c (after_sending whole c l n out).parts.holds (after_sending whole c l n out).queues.held ≡ true
-after_sending-waits c l (SendsStatus status) n e = e
-after_sending-waits c l (SendsMessage next) n e = e
-after_sending-waits c l Acknowledges n e = e
-after_sending-waits c l SendsNothing n e = e
-
-pub take-waits : (c : Configuration) (l : ℕ) (n : Node WholeQueues) → all_wait c n.parts.holds n.queues.held ≡ true
-    → all_wait c (after_take whole c l n).parts.holds (after_take whole c l n).queues.held ≡ true
-take-waits c l n e = after_sending-waits c l (goes_out whole c l n) n e
-
--- ---- where each message waits, a release changes nothing
-
-left-true : (a b : Bool) → (a && b) ≡ true → a ≡ true
-left-true true b e = refl
-left-true false b e = absurd cc
-
-right-true : (a b : Bool) → (a && b) ≡ true → b ≡ true
-right-true true b e = e
-right-true false b e = absurd cc
-
-abbrev pub with_held : List Message → Node WholeQueues → Node WholeQueues
-with_held held n = record n { queues = record n.queues { held = held } }
-
-stays : (c : Configuration) (m : Message) (n : Node WholeQueues) → waits c n.parts.holds m ≡ true → go whole c m n ≡ with_held (n.queues.held ++ m ∷ []) n
-stays c m n e = ap (λ (b : Bool). go_by whole c b m n) e
-
-all_stay : (c : Configuration) (ms : List Message) (n : Node WholeQueues) → all_wait c n.parts.holds ms ≡ true → go_each whole c ms n ≡ with_held (n.queues.held ++ ms) n
-all_stay c [] n e = ap (λ (xs : List Message). with_held xs n) (sym (append-nil n.queues.held))
-all_stay c (m ∷ ms) n e =
-    let f : waits c n.parts.holds m ≡ true = left-true (waits c n.parts.holds m) (all_wait c n.parts.holds ms) e in
-    let g : all_wait c n.parts.holds ms ≡ true = right-true (waits c n.parts.holds m) (all_wait c n.parts.holds ms) e in
-    ap (λ (x : Node WholeQueues). go_each whole c ms x) (stays c m n f)
-    ∙ all_stay c ms (with_held (n.queues.held ++ m ∷ []) n) g
-    ∙ ap (λ (xs : List Message). with_held xs n) (append_assoc n.queues.held (m ∷ []) ms)
-
-pub nothing_released : (c : Configuration) (n : Node WholeQueues) → all_wait c n.parts.holds n.queues.held ≡ true → release whole c n ≡ n
-nothing_released c n e = all_stay c n.queues.held (with_held [] n) e
-
--- ---- the same of what is kept
+use Rattle.flow_hold.specs.Holds.{HoldSet}
+use Rattle.exchange_rules.specs.State.{Node}
+use Rattle.exchange.specs.KeptQueues.{KeptQueues, kept, lane_of, held_lane}
+use Rattle.exchange_rules.specs.Routing.{link_of}
+use Rattle.exchange_rules.specs.Holding.{waits, all_wait}
+use Rattle.exchange_rules.specs.Releasing.{go_on, go_by, go, go_each, release}
+use Rattle.exchange_rules.proofs.Settling.{one_more, left-true, right-true}
 
 -- Held after a message went to a link
 held-beside : (lanes : List (List Message)) (link : ℕ) (ms : List Message) → lane_at (set lanes (lane_of link) ms) held_lane ≡ lane_at lanes held_lane
@@ -103,16 +20,16 @@ held-beside [] link ms = refl
 held-beside (held ∷ lanes) link ms = refl
 
 -- and after one more message went to Held, if there is such a list
-held-more : (c : Configuration) (holds : HoldTable) (lanes : List (List Message)) (m : Message) → all_wait c holds (lane_at lanes held_lane) ≡ true → waits c holds m ≡ true
+held-more : (c : Configuration) (holds : HoldSet) (lanes : List (List Message)) (m : Message) → all_wait c holds (lane_at lanes held_lane) ≡ true → waits c holds m ≡ true
     → all_wait c holds (lane_at (pushed lanes held_lane m) held_lane) ≡ true
 held-more c holds [] m e f = refl
 held-more c holds (held ∷ lanes) m e f = one_more c holds held m e f
 
-record WaitsKept (c : Configuration) (holds : HoldTable) (n : Node KeptQueues) : Type 0 where
+record WaitsKept (c : Configuration) (holds : HoldSet) (n : Node KeptQueues) : Type 0 where
   pub same : n.parts.holds ≡ holds
   pub all : all_wait c holds (kept.held n.queues) ≡ true
 
-module _ (c : Configuration) (holds : HoldTable) where
+module _ (c : Configuration) (holds : HoldSet) where
   go_on-waits_kept : (link : Option ℕ) (m : Message) (n : Node KeptQueues) → WaitsKept c holds n → WaitsKept c holds (go_on kept c link m n)
   go_on-waits_kept (Some l) m n w = record {
     same = w.same;
@@ -127,7 +44,7 @@ module _ (c : Configuration) (holds : HoldTable) where
   go_each-waits_kept : (ms : List Message) (n : Node KeptQueues) → WaitsKept c holds n → WaitsKept c holds (go_each kept c ms n)
   go_each-waits_kept [] n w = w
   go_each-waits_kept (m ∷ ms) n w =
-      go_each-waits_kept ms (go kept c m n) (go_by-waits_kept (waits c n.parts.holds m) m n (ap (λ (t : HoldTable). waits c t m) (sym w.same)) w)
+      go_each-waits_kept ms (go kept c m n) (go_by-waits_kept (waits c n.parts.holds m) m n (ap (λ (t : HoldSet). waits c t m) (sym w.same)) w)
 
 no-held : (lanes : List (List Message)) → lane_at (set lanes held_lane []) held_lane ≡ []
 no-held [] = refl
@@ -138,7 +55,7 @@ release-waits_kept c n =
     let w : WaitsKept c n.parts.holds (release kept c n) =
     go_each-waits_kept c n.parts.holds (kept.held n.queues) (record n { queues = kept.without_held n.queues })
     (record { same = refl; all = ap (λ (ms : List Message). all_wait c n.parts.holds ms) (no-held n.queues.lanes) }) in
-    ap (λ (t : HoldTable). all_wait c t (kept.held (release kept c n).queues)) w.same ∙ w.all
+    ap (λ (t : HoldSet). all_wait c t (kept.held (release kept c n).queues)) w.same ∙ w.all
 
 -- the node with these messages in Held, and these lists behind it
 abbrev with_lists : List Message → List (List Message) → Node KeptQueues → Node KeptQueues
@@ -166,55 +83,3 @@ nothing_released_kept c n e = stay-by c n.queues.lanes n refl e
 pub or-true : (b d : Bool) → b ≡ false → (b || d) ≡ true → d ≡ true
 or-true true d e f = absurd cc
 or-true false d e f = f
-
--- ---- what is told leaves Held and the holds as they are
-
-module _ (c : Configuration) (holds : HoldTable) where
-  send-waits : (room : Option Cause) (link : Option ℕ) (m : Message) (n : Node WholeQueues) → Waits c holds n → Waits c holds (send whole c room link m n)
-  send-waits (Some cause) link m n w = record { same = w.same; all = w.all }
-  send-waits None None m n w = record { same = w.same; all = w.all }
-  send-waits None (Some l) m n w = record { same = w.same; all = w.all }
-
-  send_routed-waits : (m : Message) (n : Node WholeQueues) → Waits c holds n → Waits c holds (send_routed whole c m n)
-  send_routed-waits m n w = send-waits (no_room whole c m n.queues) (link_of c n.parts (flow_of m)) m n w
-
-  either-waits : (b : Bool) (n o : Node WholeQueues) → Waits c holds n → Waits c holds o → Waits c holds (if b then n else o)
-  either-waits true n o v w = v
-  either-waits false n o v w = w
-
-  tell-waits : (o : Owed) (n : Node WholeQueues) → Waits c holds n → Waits c holds (tell whole c o n)
-  tell-waits o n w =
-      send_routed-waits (route_message c o.set o.destination o.status) (with_parts n (told_parts c o n.parts)) (record { same = w.same; all = w.all })
-
-  tell_each-waits : (os : List Owed) (n : Node WholeQueues) → Waits c holds n → Waits c holds (tell_each whole c os n)
-  tell_each-waits [] n w = w
-  tell_each-waits (o ∷ os) n w =
-      tell_each-waits os (tell_if whole c o n) (either-waits (may_tell whole c n) (tell whole c o n) n (tell-waits o n w) w)
-
-  prohibit_if-waits : (place destination : ℕ) (n : Node WholeQueues) → Waits c holds n → Waits c holds (prohibit_if whole c place destination n)
-  prohibit_if-waits place destination n w =
-      either-waits (may_tell whole c n && not (is_inhibited place destination n.parts)) (prohibit whole c place destination n) n
-      (send_routed-waits (route_message c place destination Prohibited) (with_parts n (inhibited c place destination n.parts))
-      (record { same = w.same; all = w.all })) w
-
-  turned_away-waits : (link destination : Option ℕ) (n : Node WholeQueues) → Waits c holds n → Waits c holds (answer_no_route whole c link destination n)
-  turned_away-waits (Some link) (Some destination) n w = prohibit_if-waits (set_of c link) destination n w
-  turned_away-waits (Some link) None n w = w
-  turned_away-waits None destination n w = w
-
--- each message of Held waits, by the holds that the node has
-waits-by : (c : Configuration) (holds : HoldTable) (n : Node WholeQueues) → Waits c holds n → all_wait c n.parts.holds n.queues.held ≡ true
-waits-by c holds n w = ap (λ (t : HoldTable). all_wait c t n.queues.held) w.same ∙ w.all
-
-pub tell_owed-waits : (c : Configuration) (n : Node WholeQueues) → all_wait c n.parts.holds n.queues.held ≡ true
-    → all_wait c (tell_owed whole c n).parts.holds (tell_owed whole c n).queues.held ≡ true
-unfolding tell_owed
-tell_owed-waits c n e =
-    let os : List Owed = owed (facts c n.parts) n.parts.told in
-    waits-by c n.parts.holds (tell_each whole c os n) (tell_each-waits c n.parts.holds os n (record { same = refl; all = e }))
-
-pub answer_no_route-waits : (c : Configuration) (link destination : Option ℕ) (n : Node WholeQueues) → all_wait c n.parts.holds n.queues.held ≡ true
-    → all_wait c (answer_no_route whole c link destination n).parts.holds (answer_no_route whole c link destination n).queues.held ≡ true
-answer_no_route-waits c link destination n e =
-    waits-by c n.parts.holds (answer_no_route whole c link destination n)
-    (turned_away-waits c n.parts.holds link destination n (record { same = refl; all = e }))

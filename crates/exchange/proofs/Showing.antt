@@ -2,10 +2,12 @@
 use Rattle.std.proofs.Common.{◌≡◌, ◌∙◌, ℕ, Bool, true, false, refl, ap}
 use Rattle.std.specs.Prelude.{Some, None, if◌then◌else◌}
 use Rattle.exchange.specs.declared.view.LinkView.{LinkView}
-use Rattle.exchange.specs.State.{Node, keep}
-use Rattle.exchange.specs.Links.{is_link}
-use Rattle.exchange.specs.Stands.{Abstract, Kept, AreQueues, StandsFor, kept_queues_of}
-use Rattle.exchange.specs.Queues.{WholeQueues, kept, whole}
+use Rattle.exchange_rules.specs.State.{Node, keep}
+use Rattle.exchange_rules.specs.Links.{is_link}
+use Rattle.exchange_rules.specs.Sound.{Abstract, AreQueues}
+use Rattle.exchange.specs.Stands.{Kept, StandsFor, kept_queues_of}
+use Rattle.exchange_rules.specs.Queues.{WholeQueues, whole}
+use Rattle.exchange.specs.KeptQueues.{kept}
 use Rattle.exchange.specs.Views.{link_shown, link_view, route_view}
 use Rattle.exchange.proofs.KeptQueues.{keeps_whole}
 

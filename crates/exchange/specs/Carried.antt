@@ -1,7 +1,7 @@
 -- User Data as the code hands it on: its message is lent.
 use Rattle.std.specs.Option.{option_map}
 use Rattle.signalling_types.specs.Lent.{lent}
-use Rattle.exchange.specs.Frames.{Carrying}
+use Rattle.exchange_rules.specs.Frames.{Carrying}
 use Rattle.exchange.specs.declared.exchange.frames.UserData.{UserData}
 
 abbrev pub carrying : UserData → Carrying

@@ -9,12 +9,12 @@ use Rattle.cell_pool.specs.Moves.{first_behind}
 use Rattle.link_sequence.specs.Counts.{kept_emptied}
 use Rattle.changeover.specs.Kept.{kept_done_with}
 use Rattle.changeover.specs.Lanes.{spliced}
-use Rattle.exchange.specs.State.{Parts, Node, with_parts}
-use Rattle.exchange.specs.Queues.{KeptQueues, held_lane, lane_of, counts_at}
-use Rattle.exchange.specs.Routing.{link_of}
-use Rattle.exchange.specs.Holding.{waits}
-use Rattle.exchange.specs.Made.{unsent}
-use Rattle.exchange.specs.ChangingOver.{lose}
+use Rattle.exchange_rules.specs.State.{Parts, Node, with_parts}
+use Rattle.exchange.specs.KeptQueues.{KeptQueues, held_lane, lane_of, counts_at}
+use Rattle.exchange_rules.specs.Routing.{link_of}
+use Rattle.exchange_rules.specs.Holding.{waits}
+use Rattle.exchange_rules.specs.Made.{unsent}
+use Rattle.exchange_rules.specs.ChangingOver.{lose}
 
 -- a message goes to the end of a list, or is dropped, which changes the parts
 pub data Fate : Type 0 where

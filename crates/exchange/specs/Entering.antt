@@ -3,11 +3,13 @@ use Rattle.std.specs.Prelude.{ℕ, Bool, false, not}
 use Rattle.settings_rows.specs.Configuration.{Configuration}
 use Rattle.linkset.specs.Preference.{has_link}
 use Rattle.route_table.specs.Facts.{Facts, set_at, with_link}
-use Rattle.exchange.specs.State.{QueueKind, Parts, Node, with_parts}
-use Rattle.exchange.specs.Routing.{facts}
-use Rattle.exchange.specs.Points.{set_of}
-use Rattle.exchange.specs.Statuses.{begun_anew_if}
-use Rattle.exchange.specs.ChangingBack.{take_back}
+use Rattle.exchange_rules.specs.State.{QueueKind, Parts, Node, with_parts}
+use Rattle.exchange_rules.specs.Routing.{facts}
+use Rattle.exchange_rules.specs.Points.{set_of}
+use Rattle.link_alignment.specs.declared.action.Action.{Action}
+use Rattle.link_alignment.specs.declared.action.Action.TheVariants as act
+use Rattle.exchange_rules.specs.Statuses.{begun_anew_if, step_on}
+use Rattle.exchange_rules.specs.ChangingBack.{change_back}
 
 -- whether no link of a set is in service
 abbrev pub is_first_in : Facts → (set : ℕ) → Bool
@@ -21,4 +23,10 @@ begun_anew c link p = begun_anew_if (is_first_in (with_link link false (facts c 
 abbrev pub entered : {Q : Type 0} → QueueKind Q → Configuration → (link : ℕ) → Node Q → Node Q
 entered q c link node =
     let anew : Parts = begun_anew c link node.parts in
-    take_back q c link (with_link link false (facts c anew)) (with_parts node anew)
+    change_back q c link (with_link link false (facts c anew)) (with_parts node anew)
+
+-- what a link's alignment does about an input, before its entry into service is looked at
+abbrev pub stepped_by : {Q : Type 0} → Configuration → Action → ℕ → Node Q → Node Q
+stepped_by c act.Ignored link node = node
+stepped_by c act.Fail link node = node
+stepped_by c (act.Go step) link node = with_parts node (step_on c link step node.parts)

@@ -4,32 +4,32 @@ use Rattle.signalling_types.specs.Message.{Message, is_management}
 use Rattle.settings_rows.specs.Configuration.{Configuration}
 use Rattle.stp_types.specs.Readings.{destination_place}
 use Rattle.routing_label.specs.Label.{label_at}
-use Rattle.flow_hold.specs.Holds.{HoldTable}
+use Rattle.flow_hold.specs.Holds.{HoldSet}
 use Rattle.exchange.specs.declared.exchange.head.Head.{Head}
-use Rattle.exchange.specs.State.{State, with_node, with_parts}
-use Rattle.exchange.specs.Queues.{KeptQueues}
-use Rattle.exchange.specs.Holding.{is_held_at}
+use Rattle.exchange_rules.specs.State.{State, with_node, with_parts}
+use Rattle.exchange.specs.KeptQueues.{KeptQueues}
+use Rattle.exchange_rules.specs.Holding.{is_held_at}
 use Rattle.exchange.specs.Suspending.{with_flow_to, with_message}
 
 abbrev pub head_of : Message → Head
 head_of m = record { label = label_at m.sif; is_management = is_management m }
 
 -- the same state with other holds
-abbrev pub with_holds : State KeptQueues → HoldTable → State KeptQueues
+abbrev pub with_holds : State KeptQueues → HoldSet → State KeptQueues
 with_holds s holds = with_node s (with_parts s.node (record s.node.parts { holds = holds }))
 
 -- the flow of a message is held, by what is read of it
-abbrev pub with_read : Configuration → ℕ → Head → HoldTable → HoldTable
+abbrev pub with_read : Configuration → ℕ → Head → HoldSet → HoldSet
 with_read c link head holds =
     if head.is_management then holds
     else with_flow_to c link (destination_place c head.label.dpc) head.label.sls holds
 
 -- the flow of a message is held, where there is one
-abbrev pub with_head : Configuration → ℕ → Option Message → HoldTable → HoldTable
+abbrev pub with_head : Configuration → ℕ → Option Message → HoldSet → HoldSet
 with_head c link (Some m) holds = with_message c link m holds
 with_head c link None holds = holds
 
 -- whether a message waits, by what is read of it
-abbrev pub waits_by : Configuration → HoldTable → Head → Bool
+abbrev pub waits_by : Configuration → HoldSet → Head → Bool
 waits_by c holds head =
     not head.is_management && is_held_at holds (destination_place c head.label.dpc) head.label.sls

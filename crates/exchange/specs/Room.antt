@@ -5,11 +5,11 @@ use Rattle.cell_pool.specs.Lanes.{lane_at}
 use Rattle.node_links.specs.Network.{facts_of}
 use Rattle.route_management.specs.Told.{shape_of}
 use Rattle.route_management.specs.Owed.{owes_nothing}
-use Rattle.exchange.specs.Holding.{all_wait}
-use Rattle.exchange.specs.State.{State}
-use Rattle.exchange.specs.Places.{HasHoldsFor, HasCodes}
-use Rattle.exchange.specs.Routing.{sets_in}
-use Rattle.exchange.specs.Queues.{KeptQueues, held_lane}
+use Rattle.exchange_rules.specs.Holding.{all_wait}
+use Rattle.exchange_rules.specs.State.{State}
+use Rattle.exchange_rules.specs.Places.{HasHoldsFor, HasCodes}
+use Rattle.exchange_rules.specs.Routing.{sets_in}
+use Rattle.exchange.specs.KeptQueues.{KeptQueues, held_lane}
 use Rattle.exchange.specs.declared.exchange.Exchange.TheInside.{Inside}
 
 abbrev pub kept_in : Inside → State KeptQueues
@@ -24,6 +24,7 @@ kept_in e = record {
       changeovers = e.changeovers;
       codes = e.changeback;
       holds = e.holds;
+      titles = e.titles;
       timers = e.timers;
       notices = e.notices.items;
       lost_any = e.lost_any;
@@ -47,7 +48,7 @@ pub record HasRoom (e : Inside) : Type 0 where
   pub told : shape_of e.told ≡ replicate (length e.settings.sets) (length e.settings.destinations)
   pub few_links : length e.settings.links ≤ LINKS
   pub routes : length e.links.routes ≡ length e.settings.destinations
-  pub codes : HasCodes e.changeback
+  pub codes : HasCodes (length e.settings.sets) e.changeback
   pub holds : HasHoldsFor e.settings e.holds
   pub waiting : (e.release_due || all_wait e.settings e.holds (lane_at e.lanes.lists held_lane)) ≡ true
   pub telling : (e.telling_due || owes_nothing (facts_of e.links) e.told) ≡ true

@@ -4,9 +4,9 @@ use Rattle.std.specs.Option.{option_map}
 use Rattle.m2pa_codec.specs.Frames.{spelled}
 use Rattle.exchange.specs.declared.event.Answer.{Answer}
 use Rattle.exchange.specs.declared.event.Answer.TheVariants.{Stepped, Taken, Wanted}
-use Rattle.exchange.specs.State.{State, QueueKind}
-use Rattle.exchange.specs.Happening.{Asking, Happens, Takes, AsksWants}
-use Rattle.exchange.specs.Exchange.{outcome_of, after, frame_to_take, taken, wants_of}
+use Rattle.exchange_rules.specs.State.{State, QueueKind}
+use Rattle.exchange_rules.specs.Happening.{Asking, Happens, Takes, AsksWants}
+use Rattle.exchange_rules.specs.Exchange.{outcome_of, after, frame_to_take, taken, wants_of}
 
 -- the answer to one call, and the state after it
 abbrev pub answer_to_call : {Q : Type 0} → QueueKind Q → Asking → State Q → Answer

@@ -1,55 +1,43 @@
--- The flows that a changeover holds (Q.704 §5.3).
-use Rattle.std.specs.Prelude.{ℕ, zero, suc, List, [], ◌∷◌, length, Option, Some, None, if◌then◌else◌}
+-- How the code finds the flows that a changeover holds: it walks all flows, and then the messages of the link.
+use Rattle.std.specs.Prelude.{ℕ, zero, suc, List, [], ◌∷◌, Option, Some, None, if◌then◌else◌}
 use Rattle.signalling_types.specs.Message.{Message, flow_of, is_management}
 use Rattle.settings_rows.specs.Configuration.{Configuration}
 use Rattle.stp_types.specs.Readings.{destination_place}
 use Rattle.route_table.specs.Facts.{Facts}
 use Rattle.route_table.specs.Chosen.{chosen_link}
 use Rattle.flow_hold.specs.declared.procedure.Procedure.TheVariants.{Changeover}
-use Rattle.flow_hold.specs.Holds.{HoldTable, with_hold}
-use Rattle.changeover.specs.Failure.{goes_by}
-use Rattle.exchange.specs.State.{Parts}
-use Rattle.exchange.specs.Routing.{facts}
-
--- how many selections a flow can have
-abbrev pub selections : ℕ
-selections = 16
+use Rattle.flow_hold.specs.Holds.{HoldSet, selections, with_hold}
+use Rattle.exchange_rules.specs.Routing.{goes_by}
 
 module _ (f : Facts) (link : ℕ) where
   -- a flow is held where it goes by the link
-  abbrev pub with_flow : (place sls : ℕ) → HoldTable → HoldTable
+  abbrev pub with_flow : (place sls : ℕ) → HoldSet → HoldSet
   with_flow place sls holds =
       if goes_by (chosen_link f place sls) link then with_hold holds (Changeover link) place sls else holds
 
   -- so are the flows of the first so many selections to a destination
-  unfoldable pub with_selections : (place count : ℕ) → HoldTable → HoldTable
+  unfoldable pub with_selections : (place count : ℕ) → HoldSet → HoldSet
   with_selections place zero holds = holds
   with_selections place (suc count) holds = with_flow place count (with_selections place count holds)
 
   -- and those to the first so many destinations
-  unfoldable pub with_destinations : (count : ℕ) → HoldTable → HoldTable
+  unfoldable pub with_destinations : (count : ℕ) → HoldSet → HoldSet
   with_destinations zero holds = holds
   with_destinations (suc count) holds = with_selections count selections (with_destinations count holds)
 
 module _ (c : Configuration) (link : ℕ) where
   -- a flow to a destination that is there is held
-  abbrev pub with_flow_to : Option ℕ → (sls : ℕ) → HoldTable → HoldTable
+  abbrev pub with_flow_to : Option ℕ → (sls : ℕ) → HoldSet → HoldSet
   with_flow_to (Some place) sls holds = with_hold holds (Changeover link) place sls
   with_flow_to None sls holds = holds
 
   -- the flow of a user message is held
-  abbrev pub with_message : Message → HoldTable → HoldTable
+  abbrev pub with_message : Message → HoldSet → HoldSet
   with_message m holds =
       if is_management m then holds
       else with_flow_to (destination_place c (flow_of m).point) (flow_of m).sls holds
 
   -- so are those of several messages
-  abbrev pub with_messages : List Message → HoldTable → HoldTable
+  abbrev pub with_messages : List Message → HoldSet → HoldSet
   with_messages [] holds = holds
   with_messages (m ∷ ms) holds = with_messages ms (with_message m holds)
-
--- the changeover of a link holds each flow that goes by it, and each that has a user message there that isn't confirmed
-abbrev pub suspended : Configuration → ℕ → (unconfirmed : List Message) → Parts → Parts
-suspended c link unconfirmed p = record p {
-  holds = with_messages c link unconfirmed (with_destinations (facts c p) link (length c.destinations) p.holds);
-}

@@ -10,9 +10,9 @@ use Rattle.exchange.specs.declared.view.LinkStanding.{LinkStanding}
 use Rattle.exchange.specs.declared.view.LinkStanding.TheVariants as standing
 use Rattle.exchange.specs.declared.view.LinkView.{LinkView}
 use Rattle.exchange.specs.declared.view.RouteView.{RouteView}
-use Rattle.exchange.specs.State.{QueueKind, Node, State}
-use Rattle.exchange.specs.Links.{is_link, link_at}
-use Rattle.exchange.specs.Routing.{facts}
+use Rattle.exchange_rules.specs.State.{QueueKind, Node, State}
+use Rattle.exchange_rules.specs.Links.{is_link, link_at}
+use Rattle.exchange_rules.specs.Routing.{facts}
 
 -- where a link stands; what it remembers in Proving isn't shown
 abbrev pub standing_of : Alignment → LinkStanding

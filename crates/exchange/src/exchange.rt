@@ -1,13 +1,15 @@
 //! The exchange.
 
 ghost use Rattle.std.specs.Prelude.{◌≡◌, ◌≤◌, IfSome};
-ghost use Rattle.exchange.specs.State.{State};
-ghost use Rattle.exchange.specs.Queues.{KeptQueues, kept, whole};
-ghost use Rattle.exchange.specs.Happening.{happened};
-ghost use Rattle.exchange.specs.Exchange.{Ends, outcome_of, after, frame_to_take, taken};
-ghost use Rattle.exchange.specs.Exchange as rule;
+ghost use Rattle.exchange_rules.specs.State.{State};
+ghost use Rattle.exchange.specs.KeptQueues.{KeptQueues, kept};
+ghost use Rattle.exchange_rules.specs.Queues.{whole};
+ghost use Rattle.exchange.specs.Calls.{happened};
+ghost use Rattle.exchange_rules.specs.Exchange.{Ends, outcome_of, after, frame_to_take, taken};
+ghost use Rattle.exchange_rules.specs.Exchange as rule;
 ghost use Rattle.exchange.specs.Taking.{Writes};
-ghost use Rattle.exchange.specs.Stands.{Abstract, StandsFor};
+ghost use Rattle.exchange_rules.specs.Sound.{Abstract};
+ghost use Rattle.exchange.specs.Stands.{StandsFor};
 
 mod arrival;
 mod boot;
@@ -23,6 +25,8 @@ mod made;
 mod messages;
 mod noting;
 mod opening;
+mod points;
+mod relaying;
 mod releasing;
 mod rerouting;
 mod runs;
@@ -40,6 +44,7 @@ use changeback::Changeback;
 use changeover::Changeover;
 use circular_buffer::HeapCircularBuffer;
 use flow_hold::Holds;
+use global_title::Translations;
 use link_sequence::Sequence;
 use m2pa_codec::BUFFER_OCTETS;
 use node_links::NodeLinks;
@@ -51,7 +56,7 @@ use timer_wheel::Timers;
 /// The links, queues and messages of one node.
 ///
 /// It has no clock, no socket and no thread: what happens is handed in by `step`, and frames are
-/// fetched by `take`. All memory is taken by `boot`.
+/// fetched by `take`. All memory is taken by `boot`, but for the translation rows that an operator adds.
 #[derive(Drop)]
 pub struct Exchange {
     settings: Settings,
@@ -62,6 +67,7 @@ pub struct Exchange {
     changeovers: Changeover,
     changeback: Changeback,
     holds: Holds,
+    titles: Translations,
     timers: Timers,
     notices: HeapCircularBuffer<Notice>,
     lost_any: bool,
@@ -73,10 +79,16 @@ pub struct Exchange {
 }
 
 impl Model for Exchange {
-    ghost use Rattle.exchange.specs.State.{State};
-    ghost use Rattle.exchange.specs.Queues.{KeptQueues};
+    ghost use Rattle.exchange_rules.specs.State.{State};
+    ghost use Rattle.exchange.specs.KeptQueues.{KeptQueues};
 
     ghost Value = { State KeptQueues };
+
+    ghost use Rattle.std.specs.Coded.{codes};
+    ghost use Rattle.flow_hold.specs.Stored.{hold_set_code};
+    ghost use Rattle.timer_wheel.specs.OneMap.{running_code};
+
+    ghost coded = { Prim.hlevel (codes, hold_set_code, running_code) };
 
     ghost use Rattle.exchange.specs.Room.{kept_in, HasRoom};
 
@@ -86,26 +98,28 @@ impl Model for Exchange {
 }
 
 impl Exchange {
-    /// Takes in what happened, and says what became of it.
+    /// Takes in what happened, and says what became of it. Only the order that adds a translation row takes memory, and
+    /// only it can be refused NoMemory: then nothing changed.
     #[inline(always)]
     pub fn step(&mut self, event: &Event<'_>) -> Outcome
         // For every abstract state that the exchange stood for, the outcome is that of the abstract step,
         ensures outcome { (a : Abstract) → StandsFor self.old a →
-            result ≡ outcome_of whole (happened event.now) a }
+            result ≡ outcome_of whole (happened event.now result) a }
         // and the exchange stands for the state after it.
         ensures state { (a : Abstract) → StandsFor self.old a →
-            StandsFor self.new (after whole (happened event.now) a) }
+            StandsFor self.new (after whole (happened event.now result) a) }
 
         // The same on what is kept.
-        ensures kept_outcome { result ≡ outcome_of kept (happened event.now) self.old }
-        ensures kept_state { self.new ≡ after kept (happened event.now) self.old }
+        ensures kept_outcome { result ≡ outcome_of kept (happened event.now result) self.old }
+        ensures kept_state { self.new ≡ after kept (happened event.now result) self.old }
     {
         self.apply(event)
     }
 
     /// Writes the next frame that goes out on a link to the front of `buffer`, and answers its length in
     /// octets: a status that waits, else the next message while the window allows and the peer isn't busy, else the
-    /// acknowledgement that is owed (RFC 4165 §4).
+    /// acknowledgement that is owed (RFC 4165 §4). A message that it gives counts as sent: send it behind those given
+    /// before, or hand in AssociationDown.
     ///
     /// None, and nothing is written, where the link isn't there or has nothing to send.
     #[inline(always)]
@@ -121,7 +135,7 @@ impl Exchange {
         ensures kept_state { self.new ≡ taken kept self.old link }
         ensures fits { IfSome result (λ count. count ≤ BUFFER_OCTETS) }
     {
-        self.take_frame(link, buffer)
+        self.write_next_frame(link, buffer)
     }
 }
 
@@ -131,10 +145,10 @@ impl Exchange {
     #[inline(always)]
     fn apply(&mut self, event: &Event<'_>) -> Outcome
         ensures { Ends self.old result self.new
-            (rule.apply kept self.old.settings (happened event.now) self.old.node) }
+            (rule.apply kept self.old.settings (happened event.now result) self.old.node) }
     {
         let outcome = self.handle_event(event);
-        self.let_go();
+        self.release_if_due();
         self.tell_owed();
         outcome
     }
@@ -143,16 +157,21 @@ impl Exchange {
     #[inline(always)]
     fn handle_event(&mut self, event: &Event<'_>) -> Outcome
         ensures { Ends self.old result self.new
-            (rule.handle_event kept self.old.settings (happened event.now) self.old.node) }
+            (rule.handle_event kept self.old.settings (happened event.now result) self.old.node) }
     {
         match event {
-            Event::AssociationUp(link) => self.associate(*link),
-            Event::AssociationDown(link) => self.dissociate(*link),
+            Event::AssociationUp(link) => self.association_up(*link),
+            Event::AssociationDown(link) => self.association_down(*link),
             Event::Frame(link, octets) => self.receive(*link, octets),
             Event::Tick => self.tick(),
             Event::Submit(message) => self.submit(message.lend()),
             Event::Order(Order::Activate(link)) => self.activate(*link),
             Event::Order(Order::Deactivate(link)) => self.deactivate(*link),
+            Event::Order(Order::AddTitle(row)) => self.add_title(*row),
+            Event::Order(Order::RemoveTitle(key, digits)) => self.remove_title(
+                *key,
+                digits.as_slice(),
+            ),
         }
     }
 }

@@ -5,14 +5,21 @@
 pub mod event;
 pub mod exchange;
 pub mod frame_text;
-pub mod laws;
 pub mod memory;
 pub mod view;
 
-pub use event::{Answer, Call, Event, Order, Wants};
+pub use event::{Answer, Call, Event, Order, TitleDigits};
 pub use exchange::Exchange;
+pub use exchange_rules::Wants;
 pub use frame_text::FrameText;
-pub use m2pa_codec::BUFFER_OCTETS;
+pub use global_title::TitleKey;
+pub use m2pa_codec::{BUFFER_OCTETS, Frame, Framer, Next, decode};
 pub use memory::NoMemory;
 pub use route_table::RouteStatus;
+pub use routing_label::Label;
+pub use stp_types::{
+    Cause, ChangeoverTimer, DestinationDraft, Draft, DraftFault, FailureReason, FaultKind,
+    FrameFault, Key, LateTimer, Limits, LinkDraft, LinkId, Msu, Notice, Outcome, PointCode, Route,
+    SetDraft, SetId, Settings, Sls, Ssn, TimersDraft, TitleDraft, TitleRow,
+};
 pub use view::{LinkStanding, LinkView, RouteView};

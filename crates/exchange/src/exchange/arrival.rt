@@ -3,16 +3,17 @@
 ghost use Rattle.std.specs.Prelude.{◌≡◌, ◌<◌, ◌≤◌, ◌&&◌, None, Some, true, false, not, length, IfSome};
 ghost use Rattle.signalling_types.specs.Lent.{lent};
 ghost use Rattle.signalling_types.specs.Message.{is_management, dpc_of};
+ghost use Rattle.routing_label.specs.Label.{label_at};
 ghost use Rattle.stp_types.specs.Readings.{destination_place};
 ghost use Rattle.flow_hold.specs.Holds.{is_held};
-ghost use Rattle.exchange.specs.Holding as holding;
+ghost use Rattle.exchange_rules.specs.Holding as holding;
 ghost use Rattle.route_table.specs.Chosen.{chosen_link};
-ghost use Rattle.exchange.specs.Queues.{kept};
-ghost use Rattle.exchange.specs.Exchange.{Ends};
-ghost use Rattle.exchange.specs.Routing as routing;
-ghost use Rattle.exchange.specs.Routing.{facts};
-ghost use Rattle.exchange.specs.Queueing.{no_room};
-ghost use Rattle.exchange.specs.Arrival as rule;
+ghost use Rattle.exchange.specs.KeptQueues.{kept};
+ghost use Rattle.exchange_rules.specs.Exchange.{Ends};
+ghost use Rattle.exchange_rules.specs.Routing as routing;
+ghost use Rattle.exchange_rules.specs.Routing.{facts};
+ghost use Rattle.exchange_rules.specs.Queueing.{no_room};
+ghost use Rattle.exchange_rules.specs.Arrival as rule;
 
 use super::Exchange;
 use cell_pool::Lanes;
@@ -20,19 +21,21 @@ use routing_label::Label;
 use stp_types::{Cause, Limits, LinkId, MsuRef, Outcome, Sls};
 
 impl Exchange {
-    /// A message for another point, with the link that it came by, if it came by one: a known destination, then room,
-    /// then no hold, then a route.
+    /// A message of this label for another point, with the link that it came by, if it came by one: a known
+    /// destination, then room, then no hold, then a route.
     #[inline(always)]
-    pub(super) fn transfer(&mut self, from: Option<LinkId>, message: MsuRef<'_>) -> Outcome
+    pub(super) fn transfer(
+        &mut self,
+        from: Option<LinkId>,
+        label: Label,
+        message: MsuRef<'_>,
+    ) -> Outcome
         requires from { IfSome from (λ link. link < length self.old.settings.links) }
-        requires label { 4 ≤ length message.sif.now }
+        requires label { label ≡ label_at message.sif.now }
         requires fits { length message.sif.now ≤ Limits.SIF_OCTETS }
         ensures { Ends self.old result self.new
             (rule.transfer kept self.old.settings from (lent message.entry) self.old.node) }
     {
-        let Some(label) = Label::read(message.sif) else {
-            unreachable!()
-        };
         let Some(destination) = self.settings.destination(label.dpc) else {
             return Outcome::Refused(Cause::UnknownDestination);
         };
@@ -57,6 +60,7 @@ impl Exchange {
     }
 
     /// A message that waits stands at the end of Held, where it has room.
+    #[inline(never)]
     fn offer_held(&mut self, message: MsuRef<'_>) -> Outcome
         requires fits { length message.sif.now ≤ Limits.SIF_OCTETS }
         requires waits { holding.waits self.old.settings self.old.node.parts.holds (lent message) ≡ true }

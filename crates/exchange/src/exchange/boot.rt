@@ -4,9 +4,11 @@ ghost use Rattle.std.specs.Prelude.{◌≡◌, ◌≤◌, length, replicate, IfO
 ghost use Rattle.changeback.specs.Codes.{no_codes};
 ghost use Rattle.route_management.specs.Told.{first_told, shape_of};
 ghost use Rattle.flow_hold.specs.Holds.{no_holds};
+ghost use Rattle.global_title.specs.Rows.{table_of};
 ghost use Rattle.link_sequence.specs.Counts.{kept_first};
-ghost use Rattle.exchange.specs.Stands.{StandsFor, kept_of, first_state, counts_in};
-ghost use Rattle.exchange.specs.Routing.{first_network_of};
+ghost use Rattle.exchange.specs.Stands.{StandsFor, kept_of};
+ghost use Rattle.exchange_rules.specs.First.{first_state, counts_in};
+ghost use Rattle.exchange_rules.specs.Routing.{first_network_of};
 
 use super::Exchange;
 use crate::memory::NoMemory;
@@ -15,6 +17,7 @@ use changeback::Changeback;
 use changeover::Changeover;
 use circular_buffer::HeapCircularBuffer;
 use flow_hold::Holds;
+use global_title::Translations;
 use link_sequence::Sequence;
 use node_links::NodeLinks;
 use route_management::Told;
@@ -23,9 +26,10 @@ use stp_types::{Limits, Settings};
 use timer_wheel::{NodeCounts, Timers};
 
 impl Exchange {
-    /// An exchange with these settings, whose links are all down.
+    /// An exchange with these settings, whose links are all down and want Open.
     ///
-    /// Takes all the memory that the exchange will ever use; NoMemory comes only where a growth was refused.
+    /// Takes all the memory that the exchange will ever use, but for translation rows that are added to those of the
+    /// settings; NoMemory comes only where a growth was refused.
     pub fn boot(alloc: Global, settings: Settings) -> Result<Exchange, NoMemory>
         // What is kept is that of the first state,
         ensures exact { IfOk result (λ exchange. exchange ≡ kept_of (first_state settings)) }
@@ -41,6 +45,7 @@ impl Exchange {
         let changeovers = Changeover::new(alloc, count)?;
         let changeback = no_changebacks(alloc, &settings)?;
         let holds = no_holds(alloc, &settings)?;
+        let titles = first_titles(alloc, &settings)?;
         let timers = Timers::new(alloc, counts_in(&settings))?;
         let notices = HeapCircularBuffer::with_capacity(alloc, Limits::NOTICES)?;
         Ok(Exchange {
@@ -52,6 +57,7 @@ impl Exchange {
             changeovers,
             changeback,
             holds,
+            titles,
             timers,
             notices,
             lost_any: false,
@@ -108,6 +114,13 @@ fn no_holds(alloc: Global, settings: &Settings) -> Result<Holds, AllocError>
     let sets = settings.sets().len();
     let destinations = settings.destinations().len();
     Holds::new(alloc, settings.links().len(), sets, destinations)
+}
+
+/// The translation rows of these settings, in their order.
+fn first_titles(alloc: Global, settings: &Settings) -> Result<Translations, AllocError>
+    ensures { IfOk result (λ titles. titles ≡ table_of settings.now.titles) }
+{
+    Translations::of_rows(alloc, settings.titles())
 }
 
 /// How many links, sets and destinations the settings have.

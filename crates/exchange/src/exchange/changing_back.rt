@@ -4,15 +4,17 @@ ghost use Rattle.std.specs.Prelude.{◌≡◌, ◌<◌, ℕ, None, Some, false, 
 ghost use Rattle.std.specs.Prelude.{IfErr, OnOk, is_ok, if◌then◌else◌};
 ghost use Rattle.route_table.specs.Facts.{with_link};
 ghost use Rattle.changeback.specs.Return.{returned, gives_up, held_by};
-ghost use Rattle.exchange.specs.State.{with_node, with_parts};
+ghost use Rattle.exchange_rules.specs.State.{with_node, with_parts};
 ghost use Rattle.exchange.specs.Head.{with_holds};
-ghost use Rattle.exchange.specs.Links.{in_service};
-ghost use Rattle.exchange.specs.Queues.{kept};
-ghost use Rattle.exchange.specs.Routing.{facts};
-ghost use Rattle.exchange.specs.Queueing.{no_room, queue_on};
+ghost use Rattle.exchange_rules.specs.Links.{in_service};
+ghost use Rattle.exchange.specs.KeptQueues.{kept};
+ghost use Rattle.exchange_rules.specs.Routing.{facts};
+ghost use Rattle.exchange_rules.specs.Queueing.{no_room, queue_on};
 ghost use Rattle.signalling_types.specs.declared.limits.TheConstants.Limits.{LINKS};
-ghost use Rattle.exchange.specs.Exchange.{Ends};
-ghost use Rattle.exchange.specs.ChangingBack as rule;
+ghost use Rattle.exchange_rules.specs.Exchange.{Ends};
+ghost use Rattle.exchange_rules.specs.Places.{HasPlacesFor};
+ghost use Rattle.exchange_rules.specs.ChangingBack as rule;
+ghost use Rattle.exchange.specs.TakingOver as walk;
 
 use super::Exchange;
 use changeback::{hold_changes, losing};
@@ -24,10 +26,10 @@ use timer_wheel::TimerName;
 impl Exchange {
     /// A link that entered service takes back the flows that went by other links before. Those flows are held until the
     /// declaration is acknowledged or a timer runs out (Q.704 §6.3, §6.4).
-    pub(super) fn take_back(&mut self, link: LinkId)
+    pub(super) fn change_back(&mut self, link: LinkId)
         requires link { link < length self.old.settings.links }
         requires serves { in_service self.old.node.parts link ≡ true }
-        ensures { self.new ≡ with_node self.old (rule.take_back kept self.old.settings link
+        ensures { self.new ≡ with_node self.old (rule.change_back kept self.old.settings link
             (with_link link false (facts self.old.settings self.old.node.parts)) self.old.node) }
     {
         let loses = self.losing(link);
@@ -42,6 +44,7 @@ impl Exchange {
         ensures losing { (other : ℕ) → slice_index_or result other false ≡ gives_up (returned link
             (with_link link false (facts self.old.settings self.old.node.parts))
             (facts self.old.settings self.old.node.parts)) other }
+        ensures places { HasPlacesFor self.old.settings self.old.node.parts }
         ensures state { self.new ≡ self.old }
     {
         prove!(self.settings.link_count() <= Limits::LINKS);
@@ -69,9 +72,9 @@ impl Exchange {
         loses: &[bool; Limits::LINKS],
     ) -> [Option<Procedure>; Limits::LINKS]
         requires { link < length self.old.settings.links }
-        ensures holders { result ≡ rule.holders kept self.old.settings link
+        ensures holders { result ≡ walk.holders kept self.old.settings link
             (λ other. slice_index_or loses.now other false) (length self.old.settings.links) self.old.node }
-        ensures state { self.new ≡ with_node self.old (rule.declare_each kept self.old.settings link
+        ensures state { self.new ≡ with_node self.old (walk.declare_each kept self.old.settings link
             (λ other. slice_index_or loses.now other false) (length self.old.settings.links) self.old.node) }
     {
         let mut holders = no_holders();
@@ -91,9 +94,9 @@ impl Exchange {
     ) -> Option<Procedure>
         requires link { link < length self.old.settings.links }
         requires other { other < length self.old.settings.links }
-        ensures holder { result ≡ rule.holder kept self.old.settings link (λ any. slice_index_or loses.now any false)
+        ensures holder { result ≡ walk.holder kept self.old.settings link (λ any. slice_index_or loses.now any false)
             other self.old.node }
-        ensures state { self.new ≡ with_node self.old (rule.declare kept self.old.settings link
+        ensures state { self.new ≡ with_node self.old (walk.declare kept self.old.settings link
             (λ any. slice_index_or loses.now any false) other self.old.node) }
     {
         prove!(self.settings.link_count() <= Limits::LINKS);
@@ -165,9 +168,14 @@ impl Exchange {
     }
 
     /// Answers a declaration, whatever link it is about.
-    pub(super) fn confirm(&mut self, point: PointCode, slc: Sls, code: u8) -> Outcome
+    pub(super) fn on_changeback_declaration(
+        &mut self,
+        point: PointCode,
+        slc: Sls,
+        code: u8,
+    ) -> Outcome
         ensures { Ends self.old result self.new
-            (rule.confirm kept self.old.settings point slc code self.old.node) }
+            (rule.on_changeback_declaration kept self.old.settings point slc code self.old.node) }
     {
         let answer = Management::ChangebackAcknowledgement(slc, code);
         self.send_management(point, &answer);
@@ -176,14 +184,14 @@ impl Exchange {
 
     /// An answer from the point of a set: what its code holds is held no longer, T4 stops, and the code is free.
     /// Ignored, and nothing changes, where the code waits for none.
-    pub(super) fn end_hold(&mut self, set: Option<SetId>, code: u8) -> Outcome
+    pub(super) fn on_changeback_acknowledgement(&mut self, set: Option<SetId>, code: u8) -> Outcome
         ensures { Ends self.old result self.new
-            (rule.end_hold kept self.old.settings set code self.old.node) }
+            (rule.on_changeback_acknowledgement kept self.old.settings set code self.old.node) }
     {
         let Some(set) = set else {
             return Outcome::Ignored;
         };
-        if !self.changeback.answer(set, code, &mut self.holds) {
+        if !self.changeback.acknowledge(set, code, &mut self.holds) {
             return Outcome::Ignored;
         }
         self.release_due = true;
@@ -216,7 +224,7 @@ impl Exchange {
     {
         self.release_due = true;
         self.late_any = true;
-        self.changeback.expired(procedure, &mut self.holds);
+        self.holds.lift(procedure);
         self.note(notice);
     }
 }

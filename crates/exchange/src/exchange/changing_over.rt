@@ -3,30 +3,33 @@
 ghost use Rattle.std.specs.Prelude.{◌≡◌, ◌<◌, Some, true, length, slice_get};
 ghost use Rattle.std.specs.Option.{option_map};
 ghost use Rattle.changeover.specs.Kept.{kept_accepted_count, kept_doubted};
-ghost use Rattle.exchange.specs.State.{with_node, with_parts};
-ghost use Rattle.exchange.specs.Queues as queues;
-ghost use Rattle.exchange.specs.Queues.{kept, link_lane};
-ghost use Rattle.exchange.specs.Exchange.{Ends};
-ghost use Rattle.exchange.specs.Failing as failing;
+ghost use Rattle.exchange_rules.specs.State.{with_node, with_parts};
+ghost use Rattle.exchange.specs.KeptQueues as queues;
+ghost use Rattle.exchange.specs.KeptQueues.{kept, link_lane};
+ghost use Rattle.exchange_rules.specs.Exchange.{Ends};
+ghost use Rattle.exchange_rules.specs.Noting.{note, flagged};
+ghost use Rattle.exchange_rules.specs.Failing as failing;
 ghost use Rattle.exchange.specs.Draining as draining;
-ghost use Rattle.exchange.specs.ChangingOver as rule;
+ghost use Rattle.exchange_rules.specs.ChangingOver as rule;
+ghost use Rattle.signalling_types.specs.declared.notice.Notice.TheVariants as notices;
 
 use super::Exchange;
 use super::lanes::{HELD, lane_of};
 use cell_pool::Lanes;
-use changeover::{complete, in_doubt};
+use changeover::{complete, count_in_doubt};
 use flow_hold::Procedure;
 use link_number::Number24;
 use mgmt_codec::Management;
+use routing_label::Label;
 use stp_types::{Cause, ChangeoverTimer, LinkId, Notice, Outcome};
 use timer_wheel::TimerName;
 
 impl Exchange {
     /// The peer orders a changeover of a link, with the number of the last message that it accepted there, or without
     /// one. It is answered in every case.
-    pub(super) fn order(&mut self, link: LinkId, number: Option<Number24>) -> Outcome
+    pub(super) fn on_changeover_order(&mut self, link: LinkId, number: Option<Number24>) -> Outcome
         requires { link < length self.old.settings.links }
-        ensures { Ends self.old result self.new (rule.order kept self.old.settings link number self.old.node) }
+        ensures { Ends self.old result self.new (rule.on_changeover_order kept self.old.settings link number self.old.node) }
     {
         if !self.links.state(link).is_down() {
             self.fail_by_peer(link);
@@ -34,14 +37,14 @@ impl Exchange {
         if self.changeovers.order(link) {
             self.conclude(link, number);
         }
-        self.answer_about(link);
+        self.acknowledge_changeover(link);
         Outcome::Handled
     }
 
     /// Tells the peer the number of the last message that was accepted on a link.
-    fn answer_about(&mut self, link: LinkId)
+    fn acknowledge_changeover(&mut self, link: LinkId)
         requires { link < length self.old.settings.links }
-        ensures { self.new ≡ with_node self.old (rule.answer_about kept self.old.settings link self.old.node) }
+        ensures { self.new ≡ with_node self.old (rule.acknowledge_changeover kept self.old.settings link self.old.node) }
     {
         let number = self.sequences[link.index()].last_accepted();
         let answer = Management::ExtendedChangeoverAcknowledgement(self.code_of(link), number);
@@ -49,12 +52,16 @@ impl Exchange {
     }
 
     /// The peer answers an order about a link; ignored where no answer is awaited.
-    pub(super) fn acknowledge(&mut self, link: LinkId, number: Option<Number24>) -> Outcome
+    pub(super) fn on_changeover_acknowledgement(
+        &mut self,
+        link: LinkId,
+        number: Option<Number24>,
+    ) -> Outcome
         requires { link < length self.old.settings.links }
         ensures { Ends self.old result self.new
-            (rule.acknowledge kept self.old.settings link number self.old.node) }
+            (rule.on_changeover_acknowledgement kept self.old.settings link number self.old.node) }
     {
-        let Some(incomplete) = self.changeovers.answer(link) else {
+        let Some(incomplete) = self.changeovers.acknowledge(link) else {
             return Outcome::Ignored;
         };
         self.timers.clear(TimerName::T2(link));
@@ -65,8 +72,8 @@ impl Exchange {
     }
 
     /// A timer of a link's changeover ran out: it is completed without a number.
-    pub(super) fn expire(&mut self, timer: ChangeoverTimer, link: LinkId)
-        ensures { self.new ≡ with_node self.old (rule.expire kept self.old.settings timer link self.old.node) }
+    pub(super) fn on_changeover_timer(&mut self, timer: ChangeoverTimer, link: LinkId)
+        ensures { self.new ≡ with_node self.old (rule.on_changeover_timer kept self.old.settings timer link self.old.node) }
     {
         if !self.links.has(link) {
             return;
@@ -100,19 +107,19 @@ impl Exchange {
         ensures { self.new ≡ with_node self.old (with_parts self.old.node
             (rule.with_losses (kept.found self.old.node.queues link number.now) self.old.node.parts)) }
     {
-        if let Some(count) = self.in_doubt(link, number) {
+        if let Some(count) = self.count_in_doubt(link, number) {
             self.lose_first(link, count);
             self.flag_loss();
         }
     }
 
     /// Without a reasonable number, how many messages of a link were sent and aren't confirmed.
-    fn in_doubt(&self, link: LinkId, number: &Option<Number24>) -> Option<usize>
+    fn count_in_doubt(&self, link: LinkId, number: &Option<Number24>) -> Option<usize>
         requires { link < length self.now.settings.links }
         ensures { result ≡ kept_doubted (queues.counts_at self.now.node.queues.counts link)
             (kept_accepted_count (queues.counts_at self.now.node.queues.counts link) number.now) }
     {
-        in_doubt(&self.sequences[link.index()], *number)
+        count_in_doubt(&self.sequences[link.index()], *number)
     }
 
     /// The user messages among the first so many of a link's list are lost.
@@ -137,6 +144,15 @@ impl Exchange {
         {
             self.lose(Cause::LostUnconfirmed, &head.label);
         }
+    }
+
+    /// A user message is lost: that is noted.
+    pub(super) fn lose(&mut self, cause: Cause, label: &Label)
+        ensures { self.new ≡ with_node self.old (with_parts self.old.node
+            (flagged (note (notices.Lost cause label.now.dpc label.now.sls) self.old.node.parts))) }
+    {
+        self.note(Notice::Lost(cause, label.dpc, label.sls));
+        self.flag_loss();
     }
 
     /// The changeover of a link holds nothing any more, and T1 stops.

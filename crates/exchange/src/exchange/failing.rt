@@ -1,19 +1,17 @@
 //! The failure of a link, and the changeover that it begins.
 
 ghost use Rattle.std.specs.Prelude.{◌≡◌, ◌<◌, length, true};
-ghost use Rattle.exchange.specs.State.{with_node, with_parts};
-ghost use Rattle.exchange.specs.Links.{in_service};
-ghost use Rattle.exchange.specs.Queues.{kept};
-ghost use Rattle.exchange.specs.Made as made;
-ghost use Rattle.exchange.specs.Points.{entry_of, peer_of, set_of};
-ghost use Rattle.exchange.specs.Failing as rule;
+ghost use Rattle.exchange_rules.specs.State.{with_node, with_parts};
+ghost use Rattle.exchange_rules.specs.Links.{in_service};
+ghost use Rattle.exchange.specs.KeptQueues.{kept};
+ghost use Rattle.exchange_rules.specs.Made as made;
+ghost use Rattle.exchange_rules.specs.Failing as rule;
 
 use super::Exchange;
 use changeover::Beginning;
 use link_number::Number24;
 use mgmt_codec::Management;
-use settings_rows::LinkRow;
-use stp_types::{FailureReason, LinkId, Notice, PointCode, SetId, Sls};
+use stp_types::{FailureReason, LinkId, Notice};
 use timer_wheel::{RouteTimer, TimerName};
 
 impl Exchange {
@@ -22,7 +20,7 @@ impl Exchange {
         requires { link < length self.old.settings.links }
         ensures { self.new ≡ with_node self.old (rule.fail kept self.old.settings link why self.old.node) }
     {
-        if self.drop_out(link, why) {
+        if self.make_unavailable(link, why) {
             self.change_over(link);
         }
     }
@@ -32,36 +30,36 @@ impl Exchange {
         requires { link < length self.old.settings.links }
         ensures { self.new ≡ with_node self.old (rule.fail_by_peer kept self.old.settings link self.old.node) }
     {
-        if self.drop_out(link, FailureReason::Changeover) {
+        if self.make_unavailable(link, FailureReason::Changeover) {
             self.changeovers.failed_by_peer(link);
         }
     }
 
     /// A link goes down, and says whether it was in service. Then the flows that its changeover is to hold are held
     /// first: until then it is their link.
-    fn drop_out(&mut self, link: LinkId, why: FailureReason) -> bool
+    fn make_unavailable(&mut self, link: LinkId, why: FailureReason) -> bool
         requires { link < length self.old.settings.links }
         ensures served { result ≡ in_service self.old.node.parts link }
-        ensures state { self.new ≡ with_node self.old (rule.drop_out kept self.old.settings
+        ensures state { self.new ≡ with_node self.old (rule.make_unavailable kept self.old.settings
             (in_service self.old.node.parts link) link why self.old.node) }
     {
         let served = self.links.state(link).is_in_service();
         if served {
             self.suspend(link);
         }
-        self.fall(link, why);
+        self.fail_link(link, why);
         if served {
-            self.quieten(link);
+            self.stop_tests_if_last(link);
         }
         served
     }
 
     /// Where no link of its set is left, the point that a link leads to is tested about no route any more
     /// (Q.704 §13.5).
-    fn quieten(&mut self, link: LinkId)
+    fn stop_tests_if_last(&mut self, link: LinkId)
         requires { link < length self.old.settings.links }
         ensures { self.new ≡ with_node self.old
-            (with_parts self.old.node (rule.quietened self.old.settings link self.old.node.parts)) }
+            (with_parts self.old.node (rule.without_tests_if_last self.old.settings link self.old.node.parts)) }
     {
         if !self.has_other(link) {
             let set = self.set_of(link);
@@ -70,11 +68,11 @@ impl Exchange {
     }
 
     /// A link is down, its timers don't run, and that is noted.
-    fn fall(&mut self, link: LinkId, why: FailureReason)
+    fn fail_link(&mut self, link: LinkId, why: FailureReason)
         requires { link < length self.old.settings.links }
-        ensures { self.new ≡ with_node self.old (with_parts self.old.node (rule.fall link why self.old.node.parts)) }
+        ensures { self.new ≡ with_node self.old (with_parts self.old.node (rule.fail_link link why self.old.node.parts)) }
     {
-        self.go_down(link);
+        self.fail_state(link);
         self.stop_all(link);
         self.note(Notice::Failed(link, why));
     }
@@ -90,7 +88,7 @@ impl Exchange {
             Beginning::Orders(number) => {
                 self.timers
                     .set(TimerName::T2(link), self.settings.timers().t2);
-                self.order_about(link, number);
+                self.send_changeover_order(link, number);
             }
             Beginning::Waits => {
                 self.timers
@@ -100,10 +98,10 @@ impl Exchange {
     }
 
     /// Orders the peer to change over from a link, with the number of the last message that was accepted on it.
-    fn order_about(&mut self, link: LinkId, number: Number24)
+    fn send_changeover_order(&mut self, link: LinkId, number: Number24)
         requires { link < length self.old.settings.links }
         ensures { self.new ≡ with_node self.old (made.send_routed kept self.old.settings
-            (rule.order_about self.old.settings link number) self.old.node) }
+            (rule.changeover_order self.old.settings link number) self.old.node) }
     {
         let order = Management::ExtendedChangeoverOrder(self.code_of(link), number);
         self.send_management(self.peer_of(link), &order);
@@ -115,42 +113,5 @@ impl Exchange {
         ensures { result ≡ rule.has_other self.now.settings link self.now.node.parts }
     {
         self.links.has_link(self.set_of(link))
-    }
-
-    /// The signalling link code of a link.
-    pub(super) fn code_of(&self, link: LinkId) -> Sls
-        requires { link < length self.now.settings.links }
-        ensures { result ≡ (entry_of self.now.settings link).slc }
-    {
-        let Some(code) = Sls::new(self.row_of(link).slc()) else {
-            unreachable!()
-        };
-        code
-    }
-
-    /// The point that a link leads to.
-    pub(super) fn peer_of(&self, link: LinkId) -> PointCode
-        requires { link < length self.now.settings.links }
-        ensures { result ≡ peer_of self.now.settings link }
-    {
-        self.adjacent_of(self.set_of(link))
-    }
-
-    /// The set of a link.
-    pub(super) fn set_of(&self, link: LinkId) -> SetId
-        requires { link < length self.now.settings.links }
-        ensures set { result ≡ set_of self.now.settings link }
-        ensures fits { result < length self.now.settings.sets }
-    {
-        self.row_of(link).set()
-    }
-
-    /// The row of a link in the settings.
-    pub(super) fn row_of(&self, link: LinkId) -> &LinkRow
-        requires { link < length self.now.settings.links }
-        ensures row { result.now ≡ entry_of self.now.settings link }
-        ensures set { (entry_of self.now.settings link).set < length self.now.settings.sets }
-    {
-        &self.settings.links()[link.index()]
     }
 }

@@ -2,17 +2,17 @@
 
 ghost use Rattle.std.specs.Prelude.{◌≡◌, ◌<◌, length};
 ghost use Rattle.m2pa_codec.specs.Values.{value_of};
-ghost use Rattle.exchange.specs.State.{with_node, with_parts};
+ghost use Rattle.exchange_rules.specs.State.{with_node, with_parts};
 ghost use Rattle.std.specs.Option.{option_map};
 ghost use Rattle.signalling_types.specs.Lent.{lent};
-ghost use Rattle.exchange.specs.Queues.{kept};
-ghost use Rattle.exchange.specs.Exchange.{Ends};
-ghost use Rattle.exchange.specs.Ticking.{with_timers};
-ghost use Rattle.exchange.specs.Timing.{timed_confirming};
+ghost use Rattle.exchange.specs.KeptQueues.{kept};
+ghost use Rattle.exchange_rules.specs.Exchange.{Ends};
+ghost use Rattle.exchange_rules.specs.Ticking.{with_timers};
+ghost use Rattle.exchange_rules.specs.Timing.{timed_confirming};
 ghost use Rattle.exchange.specs.Carried.{carrying};
-ghost use Rattle.exchange.specs.Links.{link_at};
-ghost use Rattle.exchange.specs.Frames.{owing};
-ghost use Rattle.exchange.specs.Frames as rule;
+ghost use Rattle.exchange_rules.specs.Links.{link_at};
+ghost use Rattle.exchange_rules.specs.Frames.{owing};
+ghost use Rattle.exchange_rules.specs.Frames as rule;
 
 use super::Exchange;
 use link_alignment::{Action, Alignment, Input, LinkTimer, Transition};
@@ -46,6 +46,7 @@ impl Exchange {
     }
 
     /// A frame that can't be read: a wrong length fails the link, any other fault is noted.
+    #[inline(never)]
     fn leave_aside(&mut self, link: LinkId, fault: FrameFault) -> Outcome
         requires { link < length self.old.settings.links }
         ensures { Ends self.old result self.new (rule.leave_aside kept self.old.settings link fault self.old.node) }
@@ -67,43 +68,49 @@ impl Exchange {
         match frame {
             Frame::Empty { bsn, fsn } => {
                 let message = None;
-                self.take_in(link, &UserData { fsn, bsn, message })
+                self.receive_data(link, &UserData { fsn, bsn, message })
             }
             Frame::Message { bsn, fsn, sio, sif } => {
                 let message = Some(MsuRef { sio, sif });
-                self.take_in(link, &UserData { fsn, bsn, message })
+                self.receive_data(link, &UserData { fsn, bsn, message })
             }
-            Frame::Status { status, .. } => self.hear(link, status),
+            Frame::Status { status, .. } => self.on_link_status(link, status),
         }
     }
 
     /// User Data, by the state of its link. On a link in service the alignment would change nothing, and isn't asked.
     #[inline(always)]
-    fn take_in(&mut self, link: LinkId, data: &UserData<'_>) -> Outcome
+    fn receive_data(&mut self, link: LinkId, data: &UserData<'_>) -> Outcome
         requires { link < length self.old.settings.links }
         ensures { Ends self.old result self.new
-            (rule.take_in kept self.old.settings link (carrying data.now) self.old.node) }
+            (rule.receive_data kept self.old.settings link (carrying data.now) self.old.node) }
     {
         if self.serves(link) {
             return self.handle(link, data);
         }
-        self.enter_by(link, data)
+        self.enter_by(link, data.fsn, data.bsn, data.message)
     }
 
     /// User Data on a link that isn't in service: one that expects it enters service, and takes the message.
     #[inline(never)]
-    fn enter_by(&mut self, link: LinkId, data: &UserData<'_>) -> Outcome
+    fn enter_by(
+        &mut self,
+        link: LinkId,
+        fsn: Number24,
+        bsn: Number24,
+        message: Option<MsuRef<'_>>,
+    ) -> Outcome
         requires { link < length self.old.settings.links }
-        ensures { Ends self.old result self.new
-            (rule.take_in kept self.old.settings link (carrying data.now) self.old.node) }
+        ensures { Ends self.old result self.new (rule.receive_data kept self.old.settings link
+            (record { fsn = fsn; bsn = bsn; message = option_map lent message.entry }) self.old.node) }
     {
-        match self.act(link, Input::UserData) {
+        match self.act_by(link, Input::UserData) {
             Action::Ignored => Outcome::Ignored,
             Action::Fail => {
                 self.fail(link, FailureReason::Sequence);
                 Outcome::Handled
             }
-            Action::Go(_) => self.handle(link, data),
+            Action::Go(_) => self.handle(link, &UserData { fsn, bsn, message }),
         }
     }
 

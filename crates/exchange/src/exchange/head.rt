@@ -5,7 +5,7 @@ ghost use Rattle.std.specs.Option.{option_map};
 ghost use Rattle.routing_label.specs.Label.{label_at};
 ghost use Rattle.signalling_types.specs.Message.{label_number};
 ghost use Rattle.cell_pool.specs.Lanes.{lane_at};
-ghost use Rattle.exchange.specs.Queues.{kept, link_lane};
+ghost use Rattle.exchange.specs.KeptQueues.{kept, link_lane};
 ghost use Rattle.exchange.specs.Head.{head_of};
 
 use super::Exchange;

@@ -2,11 +2,11 @@
 
 ghost use Rattle.std.specs.Prelude.{◌≡◌, ◌<◌, ◌≤◌, length, None, Some, true, IfErr, OnOk, is_ok, if◌then◌else◌};
 ghost use Rattle.signalling_types.specs.Lent.{lent};
-ghost use Rattle.exchange.specs.State.{with_node};
-ghost use Rattle.exchange.specs.Queueing.{no_room, queue_on};
-ghost use Rattle.exchange.specs.Holding as holding;
-ghost use Rattle.exchange.specs.Queues as queues;
-ghost use Rattle.exchange.specs.Queues.{kept, link_lane, without_lane};
+ghost use Rattle.exchange_rules.specs.State.{with_node};
+ghost use Rattle.exchange_rules.specs.Queueing.{no_room, queue_on};
+ghost use Rattle.exchange_rules.specs.Holding as holding;
+ghost use Rattle.exchange.specs.KeptQueues as queues;
+ghost use Rattle.exchange.specs.KeptQueues.{kept, link_lane, without_lane};
 
 use super::Exchange;
 use cell_pool::Lanes;

@@ -1,10 +1,10 @@
 //! Links that change. As long as none enters or leaves service, what is known of routes stays, and telling isn't due.
 
 ghost use Rattle.std.specs.Prelude.{◌≡◌, ◌<◌, drop, length, not, false, if◌then◌else◌};
-ghost use Rattle.exchange.specs.State.{with_node, with_parts};
-ghost use Rattle.exchange.specs.Links.{link_at, with_link};
+ghost use Rattle.exchange_rules.specs.State.{with_node, with_parts};
+ghost use Rattle.exchange_rules.specs.Links.{link_at, with_link};
 ghost use Rattle.link_alignment.specs.Table.{action_at};
-ghost use Rattle.node_links.specs.LinkState.{acted, fallen, opened};
+ghost use Rattle.node_links.specs.LinkState.{after_action, after_failure, opened};
 
 use super::Exchange;
 use link_alignment::{Action, Input};
@@ -42,16 +42,16 @@ impl Exchange {
     }
 
     /// A link loses its association.
-    pub(super) fn part(&mut self, link: LinkId)
+    pub(super) fn end_association(&mut self, link: LinkId)
         requires { link < length self.old.settings.links }
         ensures { self.new ≡ with_node self.old (with_parts self.old.node (with_link self.old.node.parts link
             (record (link_at self.old.node.parts link) { association = false }))) }
     {
-        self.links.part(link);
+        self.links.lose_association(link);
     }
 
     /// A link may open from now on, or not.
-    pub(super) fn allow(&mut self, link: LinkId, active: bool)
+    pub(super) fn set_active(&mut self, link: LinkId, active: bool)
         requires { link < length self.old.settings.links }
         ensures { self.new ≡ with_node self.old (with_parts self.old.node (with_link self.old.node.parts link
             (record (link_at self.old.node.parts link) { active = active }))) }
@@ -70,13 +70,13 @@ impl Exchange {
     }
 
     /// A link is down. Its association stays.
-    pub(super) fn go_down(&mut self, link: LinkId)
+    pub(super) fn fail_state(&mut self, link: LinkId)
         requires { link < length self.old.settings.links }
         ensures { self.new ≡ with_node self.old (with_parts self.old.node
-            (with_link self.old.node.parts link (fallen (link_at self.old.node.parts link)))) }
+            (with_link self.old.node.parts link (after_failure (link_at self.old.node.parts link)))) }
     {
         self.telling_due |= self.links.state(link).is_in_service();
-        self.links.fall(link);
+        self.links.fail(link);
     }
 
     /// A link does what its alignment does about an input, and says what that is.
@@ -85,7 +85,7 @@ impl Exchange {
         requires { link < length self.old.settings.links }
         ensures action { result ≡ action_at (link_at self.old.node.parts link).alignment input }
         ensures state { self.new ≡ with_node self.old (with_parts self.old.node
-            (with_link self.old.node.parts link (acted result (link_at self.old.node.parts link)))) }
+            (with_link self.old.node.parts link (after_action result (link_at self.old.node.parts link)))) }
     {
         let served = self.links.state(link).is_in_service();
         let action = self.links.on(link, input);

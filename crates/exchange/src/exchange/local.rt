@@ -2,14 +2,15 @@
 
 ghost use Rattle.std.specs.Prelude.{◌≡◌, ◌<◌, ◌≤◌, ◌&&◌, length, position, nat_eq, IfSome};
 ghost use Rattle.signalling_types.specs.Lent.{lent};
+ghost use Rattle.routing_label.specs.Label.{label_at};
 ghost use Rattle.mgmt_codec.specs.LinkTests.{read_link_test};
 ghost use Rattle.mgmt_codec.specs.Management.{read_management};
 ghost use Rattle.mgmt_codec.specs.Values.{test_value};
-ghost use Rattle.exchange.specs.State.{with_node};
-ghost use Rattle.exchange.specs.Queues.{kept};
-ghost use Rattle.exchange.specs.Made.{send_on};
-ghost use Rattle.exchange.specs.Exchange.{Ends};
-ghost use Rattle.exchange.specs.Local as rule;
+ghost use Rattle.exchange_rules.specs.State.{with_node};
+ghost use Rattle.exchange.specs.KeptQueues.{kept};
+ghost use Rattle.exchange_rules.specs.Made.{send_on};
+ghost use Rattle.exchange_rules.specs.Exchange.{Ends};
+ghost use Rattle.exchange_rules.specs.Local as rule;
 
 use super::Exchange;
 use link_number::Number24;
@@ -27,27 +28,52 @@ const TESTING: u8 = 1;
 const SCCP: u8 = 3;
 
 impl Exchange {
-    /// A message for this point, by the link that it came by.
-    pub(super) fn hand_over(&mut self, link: LinkId, message: MsuRef<'_>) -> Outcome
+    /// A message of this label for this point, by the link that it came by.
+    #[inline(always)]
+    pub(super) fn distribute(&mut self, link: LinkId, label: Label, message: MsuRef<'_>) -> Outcome
         requires link { link < length self.old.settings.links }
-        requires label { 4 ≤ length message.sif.now }
+        requires label { label ≡ label_at message.sif.now }
+        requires whole { 4 ≤ length message.sif.now }
         ensures { Ends self.old result self.new
-            (rule.hand_over kept self.old.settings link (lent message.entry) self.old.node) }
+            (rule.distribute kept self.old.settings link (lent message.entry) self.old.node) }
+    {
+        if message.is_management() || message.service_indicator() == SCCP {
+            return self.distribute_to_mtp_or_sccp(link, label, message);
+        }
+        self.local(message)
+    }
+
+    /// A message that is no user part's, apart from the path of those that are.
+    #[inline(never)]
+    fn distribute_to_mtp_or_sccp(
+        &mut self,
+        link: LinkId,
+        label: Label,
+        message: MsuRef<'_>,
+    ) -> Outcome
+        requires link { link < length self.old.settings.links }
+        requires label { label ≡ label_at message.sif.now }
+        requires whole { 4 ≤ length message.sif.now }
+        ensures { Ends self.old result self.new
+            (rule.distribute kept self.old.settings link (lent message.entry) self.old.node) }
     {
         if message.is_management() {
-            self.manage(link, message)
+            self.manage(link, label, message)
         } else {
             self.local(message)
         }
     }
 
-    /// A message for a user part of this node.
+    /// A message for SCCP, or for a user part of this node.
+    #[inline(always)]
     pub(super) fn local(&mut self, message: MsuRef<'_>) -> Outcome
-        ensures { Ends self.old result self.new (rule.local self.old.settings (lent message.entry) self.old.node) }
+        requires { 4 ≤ length message.sif.now }
+        ensures { Ends self.old result self.new
+            (rule.local kept self.old.settings (lent message.entry) self.old.node) }
     {
         let service_indicator = message.service_indicator();
         if service_indicator == SCCP {
-            Outcome::Refused(Cause::NotInProfile)
+            self.on_unitdata(message)
         } else if self.settings.is_user(service_indicator) {
             Outcome::Local
         } else {
@@ -56,15 +82,12 @@ impl Exchange {
     }
 
     /// A management or test message, by the link that it came by. Only an adjacent point is heard.
-    fn manage(&mut self, link: LinkId, message: MsuRef<'_>) -> Outcome
+    fn manage(&mut self, link: LinkId, label: Label, message: MsuRef<'_>) -> Outcome
         requires link { link < length self.old.settings.links }
-        requires label { 4 ≤ length message.sif.now }
+        requires label { label ≡ label_at message.sif.now }
         ensures { Ends self.old result self.new
             (rule.manage kept self.old.settings link (lent message.entry) self.old.node) }
     {
-        let Some(label) = Label::read(message.sif) else {
-            unreachable!()
-        };
         if self.settings.set_to(label.opc).is_none() {
             return Outcome::Refused(Cause::NotFromAdjacent);
         }
@@ -114,14 +137,14 @@ impl Exchange {
     {
         match Management::read(sif) {
             Err(fault) => Outcome::Refused(cause_of(fault)),
-            Ok(message) => self.obey(point, message),
+            Ok(message) => self.on_management(point, message),
         }
     }
 
     /// Does what a management message from an adjacent point asks; that it has restarted asks nothing.
-    fn obey(&mut self, point: PointCode, message: Management) -> Outcome
+    fn on_management(&mut self, point: PointCode, message: Management) -> Outcome
         ensures { Ends self.old result self.new
-            (rule.obey kept self.old.settings message point self.old.node) }
+            (rule.on_management kept self.old.settings message point self.old.node) }
     {
         match message {
             Management::TrafficRestartAllowed => Outcome::Ignored,
@@ -141,25 +164,27 @@ impl Exchange {
                 let link = self.link_with_code(point, slc);
                 self.do_acknowledgement(link, None)
             }
-            Management::ChangebackDeclaration(slc, code) => self.confirm(point, slc, code),
+            Management::ChangebackDeclaration(slc, code) => self.on_changeback_declaration(
+                point, slc, code,
+            ),
             Management::ChangebackAcknowledgement(_, code) => {
                 let set = self.settings.set_to(point);
-                self.end_hold(set, code)
+                self.on_changeback_acknowledgement(set, code)
             }
             Management::TransferProhibited(about) => {
-                self.hear_status(RouteStatus::Prohibited, point, about)
+                self.on_route_status(RouteStatus::Prohibited, point, about)
             }
             Management::TransferRestricted(about) => {
-                self.hear_status(RouteStatus::Restricted, point, about)
+                self.on_route_status(RouteStatus::Restricted, point, about)
             }
             Management::TransferAllowed(about) => {
-                self.hear_status(RouteStatus::Allowed, point, about)
+                self.on_route_status(RouteStatus::Allowed, point, about)
             }
             Management::RouteSetTestProhibited(about) => {
-                self.be_tested(RouteTest::Prohibited, point, about)
+                self.on_route_test(RouteTest::Prohibited, point, about)
             }
             Management::RouteSetTestRestricted(about) => {
-                self.be_tested(RouteTest::Restricted, point, about)
+                self.on_route_test(RouteTest::Restricted, point, about)
             }
         }
     }
@@ -170,7 +195,7 @@ impl Exchange {
         ensures { Ends self.old result self.new (rule.do_order kept self.old.settings link number self.old.node) }
     {
         match link {
-            Some(link) => self.order(link, number),
+            Some(link) => self.on_changeover_order(link, number),
             None => Outcome::Refused(Cause::BadManagement),
         }
     }
@@ -182,7 +207,7 @@ impl Exchange {
             (rule.do_acknowledgement kept self.old.settings link number self.old.node) }
     {
         match link {
-            Some(link) => self.acknowledge(link, number),
+            Some(link) => self.on_changeover_acknowledgement(link, number),
             None => Outcome::Refused(Cause::BadManagement),
         }
     }

@@ -2,10 +2,12 @@
 
 ghost use Rattle.std.specs.Prelude.{◌≡◌, ◌<◌, ◌≤◌, length};
 ghost use Rattle.signalling_types.specs.Lent.{lent};
+ghost use Rattle.routing_label.specs.Label.{label_at};
 ghost use Rattle.routing_label.specs.declared.discrimination.Discrimination.{Discrimination};
-ghost use Rattle.exchange.specs.Queues.{kept};
-ghost use Rattle.exchange.specs.Exchange.{Ends};
-ghost use Rattle.exchange.specs.Messages as rule;
+ghost use Rattle.routing_label.specs.declared.label.Label.{Label};
+ghost use Rattle.exchange.specs.KeptQueues.{kept};
+ghost use Rattle.exchange_rules.specs.Exchange.{Ends};
+ghost use Rattle.exchange_rules.specs.Messages as rule;
 
 use super::Exchange;
 use routing_label::{Discrimination, discriminate};
@@ -36,8 +38,8 @@ impl Exchange {
     {
         match self.whither_goes(message) {
             Discrimination::Refused(cause) => Outcome::Refused(cause),
-            Discrimination::Here => self.hand_over(link, message),
-            Discrimination::Transfer => self.transfer(Some(link), message),
+            Discrimination::Here(label) => self.distribute(link, label, message),
+            Discrimination::Transfer(label) => self.transfer(Some(link), label, message),
         }
     }
 
@@ -49,17 +51,22 @@ impl Exchange {
         match self.whither_goes(message) {
             Discrimination::Refused(cause) => Outcome::Refused(cause),
             _ if message.is_management() => Outcome::Refused(Cause::NotInProfile),
-            Discrimination::Here => self.local(message),
-            Discrimination::Transfer => self.transfer(None, message),
+            Discrimination::Here(_) => self.local(message),
+            Discrimination::Transfer(label) => self.transfer(None, label, message),
         }
     }
 
     /// Where a message goes: its length, then its label, then its network, then its destination.
     fn whither_goes(&self, message: MsuRef<'_>) -> Discrimination
         ensures whither { result ≡ rule.whither_goes self.now.settings (lent message.entry) }
-        ensures fits { result ≡ Discrimination.Transfer → length message.entry.sif.now ≤ Limits.SIF_OCTETS }
-        ensures label { result ≡ Discrimination.Transfer → 4 ≤ length message.entry.sif.now }
-        ensures here { result ≡ Discrimination.Here → 4 ≤ length message.entry.sif.now }
+        ensures here { (label : Label) → result ≡ Discrimination.Here label →
+            label ≡ label_at message.entry.sif.now }
+        ensures onward { (label : Label) → result ≡ Discrimination.Transfer label →
+            label ≡ label_at message.entry.sif.now }
+        ensures whole { (label : Label) → result ≡ Discrimination.Here label →
+            4 ≤ length message.entry.sif.now }
+        ensures fits { (label : Label) → result ≡ Discrimination.Transfer label →
+            length message.entry.sif.now ≤ Limits.SIF_OCTETS }
     {
         if message.sif.len() > Limits::SIF_OCTETS {
             return Discrimination::Refused(Cause::TooLong);

@@ -1,8 +1,8 @@
 //! Notices: what an operator is told.
 
 ghost use Rattle.std.specs.Prelude.{◌≡◌};
-ghost use Rattle.exchange.specs.State.{with_node, with_parts};
-ghost use Rattle.exchange.specs.Noting as rule;
+ghost use Rattle.exchange_rules.specs.State.{with_node, with_parts};
+ghost use Rattle.exchange_rules.specs.Noting as rule;
 
 use super::Exchange;
 use stp_types::Notice;
@@ -16,6 +16,7 @@ impl Exchange {
     }
 
     /// Keeps a notice. Of more than 64 the oldest is forgotten.
+    #[inline(never)]
     pub(super) fn note(&mut self, notice: Notice)
         ensures { self.new ≡ with_node self.old (with_parts self.old.node (rule.note notice self.old.node.parts)) }
     {

@@ -1,14 +1,15 @@
 //! Associations that come and go, and the operator's word on a link.
 
 ghost use Rattle.std.specs.Prelude.{◌≡◌, ◌<◌, length};
-ghost use Rattle.exchange.specs.State.{with_node};
-ghost use Rattle.exchange.specs.Queues.{kept};
-ghost use Rattle.exchange.specs.Exchange.{Ends, wants_of};
-ghost use Rattle.exchange.specs.Stands.{Abstract, StandsFor};
-ghost use Rattle.exchange.specs.Opening as rule;
+ghost use Rattle.exchange_rules.specs.State.{with_node};
+ghost use Rattle.exchange.specs.KeptQueues.{kept};
+ghost use Rattle.exchange_rules.specs.Exchange.{Ends, wants_of};
+ghost use Rattle.exchange_rules.specs.Sound.{Abstract};
+ghost use Rattle.exchange.specs.Stands.{StandsFor};
+ghost use Rattle.exchange_rules.specs.Opening as rule;
 
 use super::Exchange;
-use crate::event::Wants;
+use exchange_rules::Wants;
 use link_alignment::Alignment;
 use link_sequence::Sequence;
 use stp_types::{Cause, FailureReason, LinkId, Outcome};
@@ -38,8 +39,8 @@ impl Exchange {
     }
 
     /// An association comes up.
-    pub(super) fn associate(&mut self, link: LinkId) -> Outcome
-        ensures { Ends self.old result self.new (rule.associate kept self.old.settings link self.old.node) }
+    pub(super) fn association_up(&mut self, link: LinkId) -> Outcome
+        ensures { Ends self.old result self.new (rule.association_up kept self.old.settings link self.old.node) }
     {
         if !self.links.has(link) {
             return Outcome::Refused(Cause::NoSuchName);
@@ -67,8 +68,8 @@ impl Exchange {
     }
 
     /// An association goes down.
-    pub(super) fn dissociate(&mut self, link: LinkId) -> Outcome
-        ensures { Ends self.old result self.new (rule.dissociate kept self.old.settings link self.old.node) }
+    pub(super) fn association_down(&mut self, link: LinkId) -> Outcome
+        ensures { Ends self.old result self.new (rule.association_down kept self.old.settings link self.old.node) }
     {
         if !self.links.has(link) {
             return Outcome::Refused(Cause::NoSuchName);
@@ -76,15 +77,15 @@ impl Exchange {
         if !self.links.state(link).has_association() {
             return Outcome::Ignored;
         }
-        self.bring_down(link, FailureReason::Association);
-        self.part(link);
+        self.fail_if_up(link, FailureReason::Association);
+        self.end_association(link);
         Outcome::Handled
     }
 
     /// A link that isn't down fails.
-    fn bring_down(&mut self, link: LinkId, why: FailureReason)
+    fn fail_if_up(&mut self, link: LinkId, why: FailureReason)
         requires { link < length self.old.settings.links }
-        ensures { self.new ≡ with_node self.old (rule.bring_down kept self.old.settings link why self.old.node) }
+        ensures { self.new ≡ with_node self.old (rule.fail_if_up kept self.old.settings link why self.old.node) }
     {
         if !self.links.state(link).is_down() {
             self.fail(link, why);
@@ -98,7 +99,7 @@ impl Exchange {
         if !self.links.has(link) {
             return Outcome::Refused(Cause::NoSuchName);
         }
-        self.allow(link, true);
+        self.set_active(link, true);
         Outcome::Handled
     }
 
@@ -109,8 +110,8 @@ impl Exchange {
         if !self.links.has(link) {
             return Outcome::Refused(Cause::NoSuchName);
         }
-        self.bring_down(link, FailureReason::Operator);
-        self.allow(link, false);
+        self.fail_if_up(link, FailureReason::Operator);
+        self.set_active(link, false);
         Outcome::Handled
     }
 }

@@ -1,26 +1,23 @@
 //! The end of each event: the messages of Held whose flows have no hold any more go on.
 
 ghost use Rattle.std.specs.Prelude.{◌≡◌, length};
-ghost use Rattle.exchange.specs.State.{with_node, with_parts};
-ghost use Rattle.exchange.specs.Noting.{note, flagged};
-ghost use Rattle.exchange.specs.Queues.{kept, held_lane};
+ghost use Rattle.exchange_rules.specs.State.{with_node, with_parts};
+ghost use Rattle.exchange.specs.KeptQueues.{kept, held_lane};
 ghost use Rattle.exchange.specs.Head as heads;
 ghost use Rattle.exchange.specs.Draining as draining;
-ghost use Rattle.exchange.specs.Releasing as rule;
-ghost use Rattle.signalling_types.specs.declared.notice.Notice.TheVariants as notices;
+ghost use Rattle.exchange_rules.specs.Releasing as rule;
 
 use super::Exchange;
 use super::head::Head;
 use super::lanes::{HELD, lane_of};
 use cell_pool::Lanes;
-use routing_label::Label;
-use stp_types::{Cause, Notice};
+use stp_types::Cause;
 
 impl Exchange {
     /// Lets go what is held no longer. Unless a hold changed in the event, each message of Held waits, and nothing is
     /// to be done.
     #[inline(always)]
-    pub(super) fn let_go(&mut self)
+    pub(super) fn release_if_due(&mut self)
         ensures { self.new ≡ with_node self.old (rule.release kept self.old.settings self.old.node) }
     {
         if self.release_due {
@@ -78,14 +75,5 @@ impl Exchange {
             Some(destination) => self.holds.is_held(destination, head.label.sls),
             None => false,
         }
-    }
-
-    /// A user message is lost: that is noted.
-    pub(super) fn lose(&mut self, cause: Cause, label: &Label)
-        ensures { self.new ≡ with_node self.old (with_parts self.old.node
-            (flagged (note (notices.Lost cause label.now.dpc label.now.sls) self.old.node.parts))) }
-    {
-        self.note(Notice::Lost(cause, label.dpc, label.sls));
-        self.flag_loss();
     }
 }

@@ -1,17 +1,17 @@
 //! What adjacent points say of routes, and what that does to flows.
 
-ghost use Rattle.std.specs.Prelude.{◌≡◌, ◌<◌, length, IfOk};
+ghost use Rattle.std.specs.Prelude.{◌≡◌, ◌<◌, length};
 ghost use Rattle.stp_types.specs.Readings.{destination_place, set_place};
-ghost use Rattle.exchange.specs.State.{with_node, with_parts};
-ghost use Rattle.exchange.specs.Queues.{kept};
-ghost use Rattle.exchange.specs.Exchange.{Ends};
-ghost use Rattle.exchange.specs.Routing.{facts};
-ghost use Rattle.exchange.specs.Ticking.{with_timers};
-ghost use Rattle.exchange.specs.Made.{management_to};
-ghost use Rattle.exchange.specs.Points.{adjacent_of, route_about};
+ghost use Rattle.exchange_rules.specs.State.{with_node, with_parts};
+ghost use Rattle.exchange.specs.KeptQueues.{kept};
+ghost use Rattle.exchange_rules.specs.Exchange.{Ends};
+ghost use Rattle.exchange_rules.specs.Routing.{facts};
+ghost use Rattle.exchange_rules.specs.Ticking.{with_timers};
+ghost use Rattle.exchange_rules.specs.Made.{management_to};
+ghost use Rattle.exchange_rules.specs.Points.{adjacent_of, route_about};
 ghost use Rattle.route_table.specs.Statuses.{status_of};
 ghost use Rattle.route_management.specs.Hearing.{heard};
-ghost use Rattle.exchange.specs.Rerouting as rule;
+ghost use Rattle.exchange_rules.specs.Rerouting as rule;
 
 use super::Exchange;
 use changeback::reroute;
@@ -19,54 +19,33 @@ use flow_hold::Procedure;
 use mgmt_codec::Management;
 use route_management::Heard;
 use route_table::RouteStatus;
-use stp_types::{Cause, Outcome, PointCode, SetId};
+use stp_types::{Outcome, PointCode, SetId};
 use timer_wheel::{RouteTimer, TimerName};
 
 impl Exchange {
-    /// The route that an adjacent point speaks of: the set that leads to that point, and the destination. Refused
-    /// UnknownDestination where it speaks of no destination; ignored where no set leads to it.
-    pub(super) fn route_about(
-        &self,
-        point: PointCode,
-        about: PointCode,
-    ) -> Result<(SetId, usize), Outcome>
-        ensures route { result ≡
-            route_about (set_place self.now.settings point) (destination_place self.now.settings about) }
-        ensures set { IfOk result (λ route. route.0 < length self.now.settings.sets) }
-        ensures destination { IfOk result (λ route. route.1 < length self.now.settings.destinations) }
-    {
-        let Some(destination) = self.settings.destination(about) else {
-            return Err(Outcome::Refused(Cause::UnknownDestination));
-        };
-        match self.settings.set_to(point) {
-            Some(set) => Ok((set, destination)),
-            None => Err(Outcome::Ignored),
-        }
-    }
-
     /// A status that an adjacent point tells of another (Q.704 §13.2 to §13.4). It is ignored where the other is that
     /// very point, or isn't reached by its set.
-    pub(super) fn hear_status(
+    pub(super) fn on_route_status(
         &mut self,
         status: RouteStatus,
         point: PointCode,
         about: PointCode,
     ) -> Outcome
-        ensures { Ends self.old result self.new (rule.hear_status kept self.old.settings status
+        ensures { Ends self.old result self.new (rule.on_route_status kept self.old.settings status
             (route_about (set_place self.old.settings point) (destination_place self.old.settings about))
             self.old.node) }
     {
         match self.route_about(point, about) {
-            Ok((set, destination)) => self.heed_status(set, destination, status),
+            Ok((set, destination)) => self.apply_route_status(set, destination, status),
             Err(outcome) => outcome,
         }
     }
 
     /// A status that the adjacent point of this set tells of this destination.
-    fn heed_status(&mut self, set: SetId, destination: usize, status: RouteStatus) -> Outcome
+    fn apply_route_status(&mut self, set: SetId, destination: usize, status: RouteStatus) -> Outcome
         requires set { set < length self.old.settings.sets }
         requires destination { destination < length self.old.settings.destinations }
-        ensures { Ends self.old result self.new (rule.heed_status kept self.old.settings
+        ensures { Ends self.old result self.new (rule.apply_route_status kept self.old.settings
             (heard (facts self.old.settings self.old.node.parts) self.old.node.parts.told set destination status)
             set destination status self.old.node) }
     {

@@ -1,13 +1,15 @@
 //! Calls in a row.
 
-ghost use Rattle.std.specs.Prelude.{◌≡◌, map, IfOk, OnOk, OnErr};
+ghost use Rattle.std.specs.Prelude.{◌≡◌, length, IfOk, OnErr};
 ghost use Rattle.std.specs.Option.{option_map};
 ghost use Rattle.m2pa_codec.specs.Frames.{spelled};
-ghost use Rattle.exchange.specs.Queues.{kept, whole};
-ghost use Rattle.exchange.specs.Happening.{asked};
-ghost use Rattle.exchange.specs.Exchange.{frame_to_take, taken};
+ghost use Rattle.exchange.specs.KeptQueues.{kept};
+ghost use Rattle.exchange_rules.specs.Queues.{whole};
+ghost use Rattle.exchange.specs.Calls.{asked, asked_each};
+ghost use Rattle.exchange_rules.specs.Exchange.{frame_to_take, taken};
 ghost use Rattle.exchange.specs.Runs.{answer_to_call, after_call, answers_to, after_calls};
-ghost use Rattle.exchange.specs.Stands.{Abstract, StandsFor};
+ghost use Rattle.exchange_rules.specs.Sound.{Abstract};
+ghost use Rattle.exchange.specs.Stands.{StandsFor};
 
 use super::Exchange;
 use crate::event::{Answer, Call};
@@ -24,14 +26,18 @@ impl Exchange {
     pub fn run(&mut self, alloc: Global, calls: &[Call<'_>]) -> Result<Vec<Answer>, NoMemory>
         // For every abstract state that the exchange stood for, the answers are those of the abstract exchange,
         ensures answers { (a : Abstract) → StandsFor self.old a →
-            IfOk result (λ answers. answers.items ≡ answers_to whole (map asked calls.now) a) }
+            IfOk result (λ answers. answers.items ≡ answers_to whole (asked_each calls.now answers.items) a) }
         // and the exchange stands for the state after all calls.
         ensures state { (a : Abstract) → StandsFor self.old a →
-            OnOk result (StandsFor self.new (after_calls whole (map asked calls.now) a)) }
+            IfOk result (λ answers. StandsFor self.new (after_calls whole (asked_each calls.now answers.items) a)) }
 
         // The same on what is kept.
-        ensures kept_answers { IfOk result (λ answers. answers.items ≡ answers_to kept (map asked calls.now) self.old) }
-        ensures kept_state { OnOk result (self.new ≡ after_calls kept (map asked calls.now) self.old) }
+        ensures kept_answers { IfOk result (λ answers.
+            answers.items ≡ answers_to kept (asked_each calls.now answers.items) self.old) }
+        ensures kept_state { IfOk result (λ answers.
+            self.new ≡ after_calls kept (asked_each calls.now answers.items) self.old) }
+        // There is an answer to each call.
+        ensures count { IfOk result (λ answers. length answers.items ≡ length calls.now) }
         ensures err { OnErr result (self.new ≡ self.old) }
     {
         let mut answers = Vec::with_capacity(alloc, calls.len())?;
@@ -43,8 +49,8 @@ impl Exchange {
 
     /// Makes one call.
     fn answer(&mut self, call: &Call<'_>) -> Answer
-        ensures answer { result ≡ answer_to_call kept (asked call.now) self.old }
-        ensures state { self.new ≡ after_call kept (asked call.now) self.old }
+        ensures answer { result ≡ answer_to_call kept (asked call.now result) self.old }
+        ensures state { self.new ≡ after_call kept (asked call.now result) self.old }
     {
         match call {
             Call::Step(event) => Answer::Stepped(self.apply(event)),
@@ -59,7 +65,7 @@ impl Exchange {
         ensures state { self.new ≡ taken kept self.old link }
     {
         let mut buffer = [0; BUFFER_OCTETS];
-        let count = self.take_frame(link, &mut buffer)?;
+        let count = self.write_next_frame(link, &mut buffer)?;
         Some(FrameText::new(&buffer[..count]))
     }
 }

@@ -5,10 +5,10 @@ ghost use Rattle.cell_pool.specs.Lanes.{lane_at};
 ghost use Rattle.link_sequence.specs.Counts.{kept_last_accepted, kept_last_sent, kept_to_send, kept_sent_one};
 ghost use Rattle.m2pa_codec.specs.Frames.{sif_of};
 ghost use Rattle.m2pa_codec.specs.Values.{value_of};
-ghost use Rattle.exchange.specs.State.{with_node, with_parts};
-ghost use Rattle.exchange.specs.Queues.{kept};
-ghost use Rattle.exchange.specs.Exchange.{frame_to_take, taken};
-ghost use Rattle.exchange.specs.Sending as rule;
+ghost use Rattle.exchange_rules.specs.State.{with_node, with_parts};
+ghost use Rattle.exchange.specs.KeptQueues.{kept};
+ghost use Rattle.exchange_rules.specs.Exchange.{frame_to_take, taken};
+ghost use Rattle.exchange_rules.specs.Sending as rule;
 ghost use Rattle.exchange.specs.Taking.{Writes, frame_of, message_out, owed_out, data_out, sent};
 
 use super::Exchange;
@@ -21,7 +21,7 @@ use stp_types::{Limits, LinkId};
 
 impl Exchange {
     /// The next frame that goes out on a link, written to the front of `buffer`.
-    pub(super) fn take_frame(
+    pub(super) fn write_next_frame(
         &mut self,
         link: LinkId,
         buffer: &mut [u8; BUFFER_OCTETS],
@@ -34,15 +34,15 @@ impl Exchange {
             return None;
         }
         match self.links.state(link).next_status() {
-            Some(status) => Some(self.take_status(link, status, buffer)),
-            None => self.take_data(link, buffer),
+            Some(status) => Some(self.write_status(link, status, buffer)),
+            None => self.write_data(link, buffer),
         }
     }
 }
 
 impl Exchange {
     /// The status that waited longest goes out.
-    fn take_status(
+    fn write_status(
         &mut self,
         link: LinkId,
         status: LinkStatus,
@@ -63,20 +63,24 @@ impl Exchange {
     }
 
     /// The next message goes out, else the acknowledgement that is owed.
-    fn take_data(&mut self, link: LinkId, buffer: &mut [u8; BUFFER_OCTETS]) -> Option<usize>
+    fn write_data(&mut self, link: LinkId, buffer: &mut [u8; BUFFER_OCTETS]) -> Option<usize>
         requires { link < length self.old.settings.links }
         ensures frame { Writes (frame_of self.old link (data_out self.old link)) result buffer.old buffer.new }
         ensures state { self.new ≡ sent self.old link (data_out self.old link) }
         ensures fits { IfSome result (λ count. count ≤ BUFFER_OCTETS) }
     {
-        match self.take_message(link, buffer) {
+        match self.write_next_message(link, buffer) {
             Some(count) => Some(count),
-            None => self.take_acknowledgement(link, buffer),
+            None => self.write_acknowledgement(link, buffer),
         }
     }
 
     /// The next message goes out, where the window allows and the peer isn't busy.
-    fn take_message(&mut self, link: LinkId, buffer: &mut [u8; BUFFER_OCTETS]) -> Option<usize>
+    fn write_next_message(
+        &mut self,
+        link: LinkId,
+        buffer: &mut [u8; BUFFER_OCTETS],
+    ) -> Option<usize>
         requires { link < length self.old.settings.links }
         ensures frame { Writes (frame_of self.old link (message_out self.old link)) result buffer.old buffer.new }
         ensures state { self.new ≡ sent self.old link (message_out self.old link) }
@@ -89,17 +93,14 @@ impl Exchange {
         }
         let window = self.settings.window();
         let sequence = &mut self.sequences[index];
-        let outstanding = sequence.outstanding();
         let count = write_message(sequence, &self.lanes, lane_of(link), window, buffer)?;
         self.set_owed(link, false);
-        if outstanding == 0 {
-            self.start(link, LinkTimer::L7);
-        }
+        self.start_unless_running(link, LinkTimer::L7);
         Some(count)
     }
 
     /// An empty User Data goes out, where an acknowledgement is owed.
-    fn take_acknowledgement(
+    fn write_acknowledgement(
         &mut self,
         link: LinkId,
         buffer: &mut [u8; BUFFER_OCTETS],

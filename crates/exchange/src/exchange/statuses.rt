@@ -1,16 +1,16 @@
 //! Link Status, and the timers of a link that run out, by the table of the alignment.
 
 ghost use Rattle.std.specs.Prelude.{◌≡◌, ◌<◌, length, true, false};
-ghost use Rattle.exchange.specs.State.{with_node, with_parts};
-ghost use Rattle.exchange.specs.Queues.{kept};
-ghost use Rattle.exchange.specs.Exchange.{Ends};
+ghost use Rattle.exchange_rules.specs.State.{with_node, with_parts};
+ghost use Rattle.exchange.specs.KeptQueues.{kept};
+ghost use Rattle.exchange_rules.specs.Exchange.{Ends};
 ghost use Rattle.route_table.specs.Facts.{with_link};
-ghost use Rattle.exchange.specs.Links.{link_at, in_service};
-ghost use Rattle.exchange.specs.Points.{set_of};
-ghost use Rattle.exchange.specs.Routing.{facts};
-ghost use Rattle.exchange.specs.Entering.{entered, is_first_in};
+ghost use Rattle.exchange_rules.specs.Links.{link_at, in_service};
+ghost use Rattle.exchange_rules.specs.Points.{set_of};
+ghost use Rattle.exchange_rules.specs.Routing.{facts};
+ghost use Rattle.exchange.specs.Entering.{entered, is_first_in, stepped_by};
 ghost use Rattle.link_alignment.specs.Table.{action_at};
-ghost use Rattle.exchange.specs.Statuses as rule;
+ghost use Rattle.exchange_rules.specs.Statuses as rule;
 
 use super::Exchange;
 use link_alignment::{Action, Alignment, Input, LinkTimer, Transition};
@@ -22,14 +22,14 @@ impl Exchange {
     /// enter service, all that is known over that set begins anew; where it enters service, it takes its flows back;
     /// where it is to fail, nothing changes here.
     #[inline(always)]
-    pub(super) fn act(&mut self, link: LinkId, input: Input) -> Action
+    pub(super) fn act_by(&mut self, link: LinkId, input: Input) -> Action
         requires { link < length self.old.settings.links }
         ensures action { result ≡ action_at (link_at self.old.node.parts link).alignment input }
         ensures state { self.new ≡
-            with_node self.old (rule.acted kept self.old.settings result link self.old.node) }
+            with_node self.old (rule.act_by kept self.old.settings result link self.old.node) }
     {
         let served = self.serves(link);
-        let action = self.take_step(link, input);
+        let action = self.step_alignment(link, input);
         if !served && self.serves(link) {
             self.enter_service(link);
         }
@@ -47,7 +47,7 @@ impl Exchange {
         if self.is_first(link) {
             self.reset_set(self.set_of(link));
         }
-        self.take_back(link);
+        self.change_back(link);
     }
 
     /// Whether no other link of its set is in service beside a link: that is taken out of service to see it, and put
@@ -74,11 +74,11 @@ impl Exchange {
 
     /// A link does what its alignment does about an input, and its timers follow.
     #[inline(always)]
-    fn take_step(&mut self, link: LinkId, input: Input) -> Action
+    fn step_alignment(&mut self, link: LinkId, input: Input) -> Action
         requires { link < length self.old.settings.links }
         ensures action { result ≡ action_at (link_at self.old.node.parts link).alignment input }
         ensures state { self.new ≡
-            with_node self.old (rule.stepped_by self.old.settings result link self.old.node) }
+            with_node self.old (stepped_by self.old.settings result link self.old.node) }
     {
         let action = self.align(link, input);
         if let Action::Go(step) = action {
@@ -88,11 +88,12 @@ impl Exchange {
     }
 
     /// A status that the peer tells.
-    pub(super) fn hear(&mut self, link: LinkId, status: LinkStatus) -> Outcome
+    #[inline(never)]
+    pub(super) fn on_link_status(&mut self, link: LinkId, status: LinkStatus) -> Outcome
         requires { link < length self.old.settings.links }
-        ensures { Ends self.old result self.new (rule.hear kept self.old.settings link status self.old.node) }
+        ensures { Ends self.old result self.new (rule.on_link_status kept self.old.settings link status self.old.node) }
     {
-        match self.act(link, Input::Status(status)) {
+        match self.act_by(link, Input::Status(status)) {
             Action::Ignored => Outcome::Ignored,
             Action::Fail => {
                 self.fail(link, FailureReason::Status);
@@ -157,7 +158,7 @@ impl Exchange {
         if !self.links.has(link) {
             return;
         }
-        if let Action::Fail = self.act(link, Input::Expiry(timer)) {
+        if let Action::Fail = self.act_by(link, Input::Expiry(timer)) {
             self.fail(link, FailureReason::Timer);
         }
     }

@@ -2,28 +2,27 @@
 
 ghost use Rattle.std.specs.Prelude.{◌≡◌, ◌<◌, length, slice_get};
 ghost use Rattle.std.specs.Option.{option_map};
-ghost use Rattle.exchange.specs.State.{with_node, with_parts};
-ghost use Rattle.exchange.specs.Queues.{kept};
-ghost use Rattle.exchange.specs.Routing.{facts};
+ghost use Rattle.exchange_rules.specs.State.{with_node, with_parts};
+ghost use Rattle.exchange.specs.KeptQueues.{kept};
+ghost use Rattle.exchange_rules.specs.Routing.{facts};
 ghost use Rattle.flow_hold.specs.declared.procedure.Procedure.TheVariants as holder;
-ghost use Rattle.flow_hold.specs.Holds.{with_hold};
+ghost use Rattle.flow_hold.specs.Holds.{selections, with_hold};
 ghost use Rattle.exchange.specs.Head.{with_holds, with_head, with_read};
-ghost use Rattle.exchange.specs.Suspending as rule;
+ghost use Rattle.exchange.specs.Suspending as walk;
+ghost use Rattle.exchange_rules.specs.Places.{HasPlacesFor};
+ghost use Rattle.exchange_rules.specs.Suspending.{suspended};
 
 use super::Exchange;
 use super::head::Head;
-use flow_hold::Procedure;
+use flow_hold::{Procedure, SELECTIONS};
 use stp_types::{LinkId, Sls};
-
-/// How many selections a flow can have (Q.704 §2.2.4).
-const SELECTIONS: u8 = 16;
 
 impl Exchange {
     /// The changeover of a link holds each flow that goes by it, and each that has a user message there that isn't
     /// confirmed.
     pub(super) fn suspend(&mut self, link: LinkId)
         requires { link < length self.old.settings.links }
-        ensures { self.new ≡ with_node self.old (with_parts self.old.node (rule.suspended self.old.settings link
+        ensures { self.new ≡ with_node self.old (with_parts self.old.node (suspended self.old.settings link
             (kept.unconfirmed self.old.node.queues link) self.old.node.parts)) }
     {
         self.hold_destinations(link);
@@ -32,7 +31,8 @@ impl Exchange {
 
     /// Holds the flows to all destinations that go by a link.
     fn hold_destinations(&mut self, link: LinkId)
-        ensures { self.new ≡ with_holds self.old (rule.with_destinations
+        ensures places { HasPlacesFor self.old.settings self.old.node.parts }
+        ensures holds { self.new ≡ with_holds self.old (walk.with_destinations
             (facts self.old.settings self.old.node.parts) link (length self.old.settings.destinations)
             self.old.node.parts.holds) }
     {
@@ -43,8 +43,8 @@ impl Exchange {
 
     /// Holds the flows to one destination that go by a link.
     fn hold_destination(&mut self, link: LinkId, destination: usize)
-        ensures { self.new ≡ with_holds self.old (rule.with_selections
-            (facts self.old.settings self.old.node.parts) link destination rule.selections
+        ensures { self.new ≡ with_holds self.old (walk.with_selections
+            (facts self.old.settings self.old.node.parts) link destination selections
             self.old.node.parts.holds) }
     {
         for selection in 0..SELECTIONS {
@@ -54,8 +54,8 @@ impl Exchange {
 
     /// Holds one flow, where it goes by a link.
     fn hold_selection(&mut self, link: LinkId, destination: usize, selection: u8)
-        requires { selection < rule.selections }
-        ensures { self.new ≡ with_holds self.old (rule.with_flow
+        requires { selection < selections }
+        ensures { self.new ≡ with_holds self.old (walk.with_flow
             (facts self.old.settings self.old.node.parts) link destination selection self.old.node.parts.holds) }
     {
         let Some(sls) = Sls::new(selection) else {
@@ -69,7 +69,7 @@ impl Exchange {
     /// Holds the flows of the user messages in the list of a link.
     fn hold_messages(&mut self, link: LinkId)
         requires { link < length self.old.settings.links }
-        ensures { self.new ≡ with_holds self.old (rule.with_messages self.old.settings link
+        ensures { self.new ≡ with_holds self.old (walk.with_messages self.old.settings link
             (kept.unconfirmed self.old.node.queues link) self.old.node.parts.holds) }
     {
         for place in 0..self.count_on(link) {

@@ -3,22 +3,22 @@
 ghost use Rattle.std.specs.Prelude.{◌≡◌, ◌<◌, length, Some, IfSome};
 ghost use Rattle.stp_types.specs.Readings.{destination_place, set_place};
 ghost use Rattle.route_management.specs.Hearing as hearing;
-ghost use Rattle.route_management.specs.Owed.{owed_at, owed_to, should};
-ghost use Rattle.exchange.specs.State.{with_node, with_parts};
-ghost use Rattle.exchange.specs.Queues.{kept};
-ghost use Rattle.exchange.specs.Exchange.{Ends};
-ghost use Rattle.exchange.specs.Made.{send_routed};
-ghost use Rattle.exchange.specs.Routing.{facts};
-ghost use Rattle.exchange.specs.Points as points;
-ghost use Rattle.exchange.specs.Points.{route_about};
-ghost use Rattle.exchange.specs.Telling as rule;
+ghost use Rattle.route_management.specs.Owed.{owed_at, owed_to, status_to_advertise};
+ghost use Rattle.exchange_rules.specs.State.{with_node, with_parts};
+ghost use Rattle.exchange.specs.KeptQueues.{kept};
+ghost use Rattle.exchange_rules.specs.Exchange.{Ends};
+ghost use Rattle.exchange_rules.specs.Made.{send_routed};
+ghost use Rattle.exchange_rules.specs.Routing.{facts};
+ghost use Rattle.exchange_rules.specs.Points.{route_about};
+ghost use Rattle.exchange_rules.specs.Telling as rule;
+ghost use Rattle.exchange.specs.Telling as one;
 
 use super::Exchange;
 use cell_pool::Lanes;
 use mgmt_codec::Management;
 use route_management::RouteTest;
 use route_table::RouteStatus;
-use stp_types::{Limits, LinkId, Outcome, PointCode, SetId};
+use stp_types::{LinkId, Outcome, PointCode, SetId};
 use timer_wheel::TimerName;
 
 /// What is owed is told while fewer management messages than this stand in the node.
@@ -81,7 +81,7 @@ impl Exchange {
     fn tell_at(&mut self, set: SetId, destination: usize)
         requires set { set < length self.old.settings.sets }
         requires destination { destination < length self.old.settings.destinations }
-        ensures { self.new ≡ with_node self.old (rule.tell_at kept self.old.settings set destination
+        ensures { self.new ≡ with_node self.old (one.tell_at kept self.old.settings set destination
             (owed_at (facts self.old.settings self.old.node.parts) self.old.node.parts.told set destination)
             self.old.node) }
     {
@@ -165,47 +165,47 @@ impl Exchange {
         ensures { result ≡ rule.is_inhibited set destination self.now.node.parts }
     {
         let timer = TimerName::T8(set, self.number_of(destination));
-        self.timers.is_running(timer) || self.told.is_adjacent(set, destination)
+        self.timers.is_running(timer) || self.told.is_own_point(set, destination)
     }
 
     /// A test of an adjacent point about another (Q.704 §13.5). It is ignored where the other is that very point. It is
     /// answered where the point is to be told something else than it asks about.
-    pub(super) fn be_tested(
+    pub(super) fn on_route_test(
         &mut self,
         test: RouteTest,
         point: PointCode,
         about: PointCode,
     ) -> Outcome
-        ensures { Ends self.old result self.new (rule.be_tested kept self.old.settings test
+        ensures { Ends self.old result self.new (rule.on_route_test kept self.old.settings test
             (route_about (set_place self.old.settings point) (destination_place self.old.settings about))
             self.old.node) }
     {
         match self.route_about(point, about) {
-            Ok((set, destination)) => self.test_by(test, set, destination),
+            Ok((set, destination)) => self.answer_route_test(test, set, destination),
             Err(outcome) => outcome,
         }
     }
 
     /// A test of the adjacent point of this set about this destination.
-    fn test_by(&mut self, test: RouteTest, set: SetId, destination: usize) -> Outcome
+    fn answer_route_test(&mut self, test: RouteTest, set: SetId, destination: usize) -> Outcome
         requires set { set < length self.old.settings.sets }
         requires destination { destination < length self.old.settings.destinations }
         ensures { Ends self.old result self.new
-            (rule.test_by kept self.old.settings test set destination self.old.node) }
+            (rule.answer_route_test kept self.old.settings test set destination self.old.node) }
     {
-        if self.told.is_adjacent(set, destination) {
+        if self.told.is_own_point(set, destination) {
             return Outcome::Ignored;
         }
-        self.answer_with(test, set, destination);
+        self.send_route_status(test, set, destination);
         Outcome::Handled
     }
 
     /// Answers a test, where it is to be answered. What it is answered with counts as told.
-    fn answer_with(&mut self, test: RouteTest, set: SetId, destination: usize)
+    fn send_route_status(&mut self, test: RouteTest, set: SetId, destination: usize)
         requires set { set < length self.old.settings.sets }
         requires destination { destination < length self.old.settings.destinations }
-        ensures { self.new ≡ with_node self.old (rule.answer_with kept self.old.settings
-            (hearing.answer (facts self.old.settings self.old.node.parts) self.old.node.parts.told set destination test)
+        ensures { self.new ≡ with_node self.old (rule.send_route_status kept self.old.settings
+            (hearing.answer_to_test (facts self.old.settings self.old.node.parts) self.old.node.parts.told set destination test)
             set destination self.old.node) }
     {
         let answer = self
@@ -219,7 +219,7 @@ impl Exchange {
 
     /// The adjacent point of a set was told what it is to be told of a destination. That makes nothing due.
     fn record_answer(&mut self, set: SetId, destination: usize, status: RouteStatus)
-        requires { status ≡ should (facts self.old.settings self.old.node.parts) set destination }
+        requires { status ≡ status_to_advertise (facts self.old.settings self.old.node.parts) set destination }
         ensures { self.new ≡ with_node self.old (with_parts self.old.node
             (rule.answered_parts set destination status self.old.node.parts)) }
     {
@@ -231,31 +231,6 @@ impl Exchange {
         ensures { result ≡ rule.may_tell kept self.now.settings self.now.node }
     {
         self.lanes.managements() < TOLD_BELOW
-    }
-
-    /// The number of a destination, as timers are named by it.
-    pub(super) fn number_of(&self, destination: usize) -> u16
-        requires { destination < length self.now.settings.destinations }
-        ensures { result ≡ destination }
-    {
-        prove!(self.settings.destinations().len() <= Limits::DESTINATIONS);
-        destination as u16
-    }
-
-    /// The point of a destination.
-    pub(super) fn point_of(&self, destination: usize) -> PointCode
-        requires { destination < length self.now.settings.destinations }
-        ensures { result ≡ points.point_of self.now.settings destination }
-    {
-        self.settings.destinations()[destination].point()
-    }
-
-    /// The point that the links of a set lead to.
-    pub(super) fn adjacent_of(&self, set: SetId) -> PointCode
-        requires { set < length self.now.settings.sets }
-        ensures { result ≡ points.adjacent_of self.now.settings set }
-    {
-        self.settings.sets()[set.index()].adjacent()
     }
 }
 

@@ -1,10 +1,10 @@
 //! A tick, and the timers that run in it.
 
 ghost use Rattle.std.specs.Prelude.{◌≡◌};
-ghost use Rattle.exchange.specs.State.{with_node};
-ghost use Rattle.exchange.specs.Queues.{kept};
-ghost use Rattle.exchange.specs.Exchange.{Ends};
-ghost use Rattle.exchange.specs.Ticking as rule;
+ghost use Rattle.exchange_rules.specs.State.{with_node};
+ghost use Rattle.exchange.specs.KeptQueues.{kept};
+ghost use Rattle.exchange_rules.specs.Exchange.{Ends};
+ghost use Rattle.exchange_rules.specs.Ticking as rule;
 
 use super::Exchange;
 use link_alignment::LinkTimer;
@@ -50,8 +50,8 @@ impl Exchange {
             TimerName::L4(link) => self.run_out(link, LinkTimer::L4),
             TimerName::L6(link) => self.run_out(link, LinkTimer::L6),
             TimerName::L7(link) => self.run_out(link, LinkTimer::L7),
-            TimerName::T1(link) => self.expire(ChangeoverTimer::T1, link),
-            TimerName::T2(link) => self.expire(ChangeoverTimer::T2, link),
+            TimerName::T1(link) => self.on_changeover_timer(ChangeoverTimer::T1, link),
+            TimerName::T2(link) => self.on_changeover_timer(ChangeoverTimer::T2, link),
             TimerName::T3(link) => self.expire_time(link),
             TimerName::T4(set, code) => self.expire_code(set, code),
             TimerName::T6(destination) => self.end_rerouting(destination),

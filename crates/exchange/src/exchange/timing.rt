@@ -1,9 +1,10 @@
 //! The timers of links.
 
 ghost use Rattle.std.specs.Prelude.{◌≡◌};
-ghost use Rattle.exchange.specs.State.{with_node};
-ghost use Rattle.exchange.specs.Ticking.{with_timers};
-ghost use Rattle.exchange.specs.Timing as rule;
+ghost use Rattle.timer_wheel.specs.Timers.{start_unless_running};
+ghost use Rattle.exchange_rules.specs.State.{with_node};
+ghost use Rattle.exchange_rules.specs.Ticking.{with_timers};
+ghost use Rattle.exchange_rules.specs.Timing as rule;
 
 use super::Exchange;
 use link_alignment::{LinkTimer, Transition};
@@ -31,6 +32,17 @@ impl Exchange {
     {
         let ticks = ticks_of(&self.settings.timers(), timer);
         self.timers.set(timer_name(link, timer), ticks);
+    }
+
+    /// Starts a timer of a link where it doesn't run.
+    pub(super) fn start_unless_running(&mut self, link: LinkId, timer: LinkTimer)
+        ensures { self.new ≡ with_node self.old (with_timers self.old.node (start_unless_running
+            (rule.timer_name link timer) (rule.ticks_of self.old.settings.timers timer)
+            self.old.node.parts.timers)) }
+    {
+        let ticks = ticks_of(&self.settings.timers(), timer);
+        self.timers
+            .start_unless_running(timer_name(link, timer), ticks);
     }
 
     /// Stops a timer of a link.

@@ -1,15 +1,19 @@
-//! What an exchange shows: its settings, its flags and notices, its links and its routes; and the places that it has.
+//! What an exchange shows: its settings, its flags and notices, its links, routes and translation rows; and the places
+//! that it has.
 
-ghost use Rattle.std.specs.Prelude.{◌≡◌};
-ghost use Rattle.exchange.specs.Stands.{Abstract, StandsFor};
-ghost use Rattle.exchange.specs.Queues.{kept, whole};
-ghost use Rattle.exchange.specs.Places.{HasPlacesFor};
+ghost use Rattle.std.specs.Prelude.{◌≡◌, length, slice_get};
+ghost use Rattle.exchange_rules.specs.Sound.{Abstract};
+ghost use Rattle.exchange.specs.Stands.{StandsFor};
+ghost use Rattle.exchange.specs.KeptQueues.{kept};
+ghost use Rattle.exchange_rules.specs.Queues.{whole};
+ghost use Rattle.exchange_rules.specs.Places.{HasPlacesFor};
+ghost use Rattle.global_title.specs.Rows.{IsOrdered};
 ghost use Rattle.exchange.specs.Views.{link_view, route_view};
 
 use super::Exchange;
 use crate::view::{LinkStanding, LinkView, RouteView};
 use circular_buffer::HeapCircularBuffer;
-use stp_types::{LinkId, Notice, Settings};
+use stp_types::{LinkId, Notice, Settings, TitleRow};
 
 impl Exchange {
     /// The settings that the exchange was booted with.
@@ -21,7 +25,7 @@ impl Exchange {
     }
 
     /// Whether a message may have been lost since `boot`: a notice of a lost message or of a dropped management message
-    /// fell, a changeover ended without a reasonable number, or T2 ran out. It never falls back to false.
+    /// was made, a changeover ended without a reasonable number, or T2 ran out. Once true it stays true.
     pub fn lost_any(&self) -> bool
         ensures lost { (a : Abstract) → StandsFor self.now a → result ≡ a.node.parts.lost_any }
         ensures kept_lost { result ≡ self.now.node.parts.lost_any }
@@ -30,7 +34,7 @@ impl Exchange {
     }
 
     /// Whether messages of a flow may have gone out of order since `boot`: T3 or T4 ran out, so that what a changeback
-    /// held went on before the answer came. It never falls back to false.
+    /// held went on before the answer came. Once true it stays true.
     pub fn late_any(&self) -> bool
         ensures late { (a : Abstract) → StandsFor self.now a → result ≡ a.node.parts.late_any }
         ensures kept_late { result ≡ self.now.node.parts.late_any }
@@ -38,7 +42,8 @@ impl Exchange {
         self.late_any
     }
 
-    /// The last 64 notices, the oldest first.
+    /// The last 64 notices, the oldest first. Reading removes none; once there are 64, each new one drops the oldest, and
+    /// nothing tells how many were made.
     pub fn notices(&self) -> &HeapCircularBuffer<Notice>
         ensures notices { (a : Abstract) → StandsFor self.now a → result.now.items ≡ a.node.parts.notices }
         ensures kept_notices { result.now.items ≡ self.now.node.parts.notices }
@@ -70,6 +75,24 @@ impl Exchange {
     {
         let row = self.settings.destinations().get(destination)?;
         Some(RouteView::of(row.point(), self.links.route_of(destination)))
+    }
+
+    /// A translation row, by its number in the order of the rows: by translation type, plan, nature, then digit by
+    /// digit, a prefix before what it begins. `None` past the last.
+    pub fn title(&self, index: usize) -> Option<TitleRow>
+        ensures title { (a : Abstract) → StandsFor self.now a → result ≡ slice_get a.node.parts.titles index }
+        ensures kept_title { result ≡ slice_get self.now.node.parts.titles index }
+        ensures order { IsOrdered self.now.node.parts.titles }
+    {
+        self.titles.row(index)
+    }
+
+    /// How many translation rows there are.
+    pub fn title_count(&self) -> usize
+        ensures count { (a : Abstract) → StandsFor self.now a → result ≡ length a.node.parts.titles }
+        ensures kept_count { result ≡ length self.now.node.parts.titles }
+    {
+        self.titles.len()
     }
 
     /// Every exchange has a place for each link, set and destination of its settings, whatever happened to it.

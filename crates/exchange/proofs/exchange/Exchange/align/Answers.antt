@@ -1,10 +1,10 @@
 -- Where the link entered or left service, telling is due.
 use Rattle.std.proofs.Common.{◌<◌, length, arith, ap, ◌∙◌}
 use Rattle.node_links.specs.Link.{Link}
-use Rattle.node_links.specs.LinkState.{acted, is_in_service}
+use Rattle.node_links.specs.LinkState.{after_action, is_in_service}
 use Rattle.node_links.specs.Network.{link_in}
-use Rattle.exchange.specs.State.{State}
-use Rattle.exchange.specs.Queues.{KeptQueues}
+use Rattle.exchange_rules.specs.State.{State}
+use Rattle.exchange.specs.KeptQueues.{KeptQueues}
 use Rattle.exchange.proofs.Rooms.{moved_room}
 use Rattle.exchange.proofs.exchange.Exchange.align.Goals as goal
 
@@ -12,7 +12,7 @@ pub invariant_of-self : goal.invariant_of-self
 invariant_of-self c =
     let there : c.args.link < length c.self.inside.links.links =
     omega (arith, c.requires, c.self.invariant.links, ap (λ (s : State KeptQueues). length s.settings.links) c.self.view_is) in
-    moved_room c.self.inside c.on-action.new.self c.args.link (acted c.on-action.result (link_in c.self.inside.links.links c.args.link))
+    moved_room c.self.inside c.on-action.new.self c.args.link (after_action c.on-action.result (link_in c.self.inside.links.links c.args.link))
     c.is_in_service-served.result c.is_in_service-serves.result c.has_changed.result c.self.invariant c.on-action.ensures.state
     (c.is_in_service-served.ensures ∙ ap (λ (l : Link). is_in_service l.alignment) c.state.ensures)
     (c.is_in_service-serves.ensures ∙ ap (λ (l : Link). is_in_service l.alignment) c.state-2.ensures) c.has_changed.ensures there

@@ -1,14 +1,14 @@
 -- An event is handled, then what is held no longer goes on, and adjacent points are told what they are owed.
 use Rattle.std.proofs.Common.{ap, ◌∙◌}
-use Rattle.exchange.specs.State.{State, with_node}
-use Rattle.exchange.specs.Queues.{KeptQueues, kept}
-use Rattle.exchange.specs.Releasing.{release}
-use Rattle.exchange.specs.Telling.{tell_owed}
-use Rattle.exchange.specs.Exchange.{apply}
+use Rattle.exchange_rules.specs.State.{State, with_node}
+use Rattle.exchange.specs.KeptQueues.{KeptQueues, kept}
+use Rattle.exchange_rules.specs.Releasing.{release}
+use Rattle.exchange_rules.specs.Telling.{tell_owed}
+use Rattle.exchange_rules.specs.Exchange.{apply}
 use Rattle.exchange.proofs.exchange.Exchange.apply.Goals as goal
 
-abbrev let_go : State KeptQueues → State KeptQueues
-let_go s = with_node s (release kept s.settings s.node)
+abbrev release_if_due : State KeptQueues → State KeptQueues
+release_if_due s = with_node s (release kept s.settings s.node)
 
 abbrev told : State KeptQueues → State KeptQueues
 told s = with_node s (tell_owed kept s.settings s.node)
@@ -17,5 +17,5 @@ pub returns : goal.returns
 unfolding apply
 returns c = (
   c.handle_event-outcome.ensures.0,
-  c.tell_owed.ensures ∙ ap told c.let_go.ensures ∙ ap (λ (s : State KeptQueues). told (let_go s)) c.handle_event-outcome.ensures.1,
+  c.tell_owed.ensures ∙ ap told c.release_if_due.ensures ∙ ap (λ (s : State KeptQueues). told (release_if_due s)) c.handle_event-outcome.ensures.1,
 )

@@ -7,14 +7,14 @@ use Rattle.changeover.specs.Standing.{no_changeover}
 use Rattle.node_links.specs.LinkState.{down_link}
 use Rattle.node_links.specs.Network.{Network}
 use Rattle.cell_pool.specs.Lanes.{lane_at}
-use Rattle.exchange.specs.Queues.{held_lane}
-use Rattle.exchange.specs.Holding.{all_wait}
+use Rattle.exchange.specs.KeptQueues.{held_lane}
+use Rattle.exchange_rules.specs.Holding.{all_wait}
 use Rattle.flow_hold.specs.Holds.{no_holds}
 use Rattle.timer_wheel.specs.Timers.{none_running}
 use Rattle.cell_pool.specs.Stored.{Stored}
 use Rattle.route_table.specs.Facts.{first_routes}
-use Rattle.exchange.specs.Places.{HasHoldsFor, HasCodes}
-use Rattle.exchange.proofs.Places.{no_codes-fits, no_holds-fits}
+use Rattle.exchange_rules.specs.Places.{HasHoldsFor, HasCodes}
+use Rattle.exchange_rules.proofs.Places.{no_codes-fits, no_holds-fits}
 use Rattle.exchange.proofs.Standing.{first-kept, stands-first}
 use Rattle.exchange.proofs.exchange.Exchange.boot.Goals as goal
 
@@ -23,8 +23,9 @@ one_more n = omega arith
 
 pub returns-clause-exact : goal.returns-clause-exact
 returns-clause-exact c =
-    first-kept c.args.settings c.link_count-count.result _ _ _ _ _ _ _ _ _ c.link_count-count.ensures.value (ap (λ (x : Stored). x.lists) c.in_ok-lanes.ensures ∙ ap (λ (n : ℕ). replicate n []) (one_more c.link_count-count.result)) c.in_ok-sequences.ensures c.in_ok-links.ensures c.in_ok-told.ensures.told c.in_ok-changeovers.ensures c.in_ok-changeback.ensures
+    first-kept c.args.settings c.link_count-count.result _ _ _ _ _ _ _ _ _ _ c.link_count-count.ensures.value (ap (λ (x : Stored). x.lists) c.in_ok-lanes.ensures ∙ ap (λ (n : ℕ). replicate n []) (one_more c.link_count-count.result)) c.in_ok-sequences.ensures c.in_ok-links.ensures c.in_ok-told.ensures.told c.in_ok-changeovers.ensures c.in_ok-changeback.ensures
     (c.in_ok-holds.ensures ∙ ap (λ (n : ℕ). no_holds n (length c.args.settings.sets) (length c.args.settings.destinations)) (sym c.link_count-count.ensures.value))
+    c.in_ok-titles.ensures
     (c.in_ok-timers.ensures ∙ ap none_running c.counts_in.ensures) (ap (λ x. x.items) c.in_ok-notices.ensures)
 
 pub returns-clause-first : goal.returns-clause-first
@@ -48,7 +49,7 @@ invariant_of-result c =
       told = c.in_ok-told.ensures.shape;
       few_links = c.link_count-count.ensures.fits;
       routes = ap (λ (n : Network). length n.routes) c.in_ok-links.ensures ∙ length-map c.args.settings.destinations first_routes;
-      codes = subst HasCodes (sym c.in_ok-changeback.ensures) (no_codes-fits (length c.args.settings.sets));
+      codes = subst (HasCodes (length c.args.settings.sets)) (sym c.in_ok-changeback.ensures) (no_codes-fits (length c.args.settings.sets));
       holds = subst (HasHoldsFor c.args.settings) (sym c.in_ok-holds.ensures) (no_holds-fits c.args.settings);
       waiting = ap (λ (ls : List (List Message)). all_wait c.args.settings c.in_ok-holds.holds (lane_at ls held_lane)) lists;
       telling = refl;

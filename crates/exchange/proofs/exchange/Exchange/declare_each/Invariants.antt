@@ -1,8 +1,8 @@
 -- As many links are looked at as the loop has gone round.
 use Rattle.std.proofs.Common.{◌≡◌, false, slice_index_or}
-use Rattle.exchange.specs.State.{with_node}
-use Rattle.exchange.specs.Queues.{kept}
-use Rattle.exchange.specs.ChangingBack.{declare_each, holders}
+use Rattle.exchange_rules.specs.State.{with_node}
+use Rattle.exchange.specs.KeptQueues.{kept}
+use Rattle.exchange.specs.TakingOver.{declare_each, holders}
 use Rattle.exchange.proofs.exchange.Exchange.declare_each.Given as goal
 
 abbrev pub invariant-loop-other : goal.invariant-loop-other

@@ -1,12 +1,12 @@
 -- Each link, set and destination has its places still.
 use Rattle.std.proofs.Common.{true, refl, sym, subst}
-use Rattle.exchange.specs.Places.{HasHoldsFor}
-use Rattle.exchange.proofs.Places.{lifted-fits}
+use Rattle.exchange_rules.specs.Places.{HasHoldsFor}
+use Rattle.exchange_rules.proofs.Places.{lifted-fits}
 use Rattle.exchange.proofs.Rooms.{held_room}
 use Rattle.exchange.proofs.exchange.Exchange.end_late.Goals as goal
 
 pub invariant_of-self : goal.invariant_of-self
 invariant_of-self c =
-    held_room c.self.inside c.self.inside.links c.self.inside.changeback c.expired.new.holds c.self.inside.timers true c.self.invariant
+    held_room c.self.inside c.self.inside.links c.self.inside.changeback c.lift.new.self c.self.inside.timers true c.self.invariant
     refl c.self.invariant.codes
-    (subst (HasHoldsFor c.self.inside.settings) (sym c.expired.ensures) (lifted-fits c.self.inside.settings c.self.inside.holds c.args.procedure c.self.invariant.holds))
+    (subst (HasHoldsFor c.self.inside.settings) (sym c.lift.ensures) (lifted-fits c.self.inside.settings c.self.inside.holds c.args.procedure c.self.invariant.holds))

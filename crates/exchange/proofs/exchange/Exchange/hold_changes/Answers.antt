@@ -3,9 +3,8 @@ use Rattle.std.proofs.Common.{false, sym, subst}
 use Rattle.route_table.specs.Facts.{with_link}
 use Rattle.node_links.specs.Network.{facts_of}
 use Rattle.changeback.specs.Return.{returned}
-use Rattle.exchange.specs.Places.{HasHoldsFor}
-use Rattle.exchange.proofs.Places.{held_by-fits}
-use Rattle.exchange.proofs.Rooms.{held_room}
+use Rattle.exchange_rules.specs.Places.{HasHoldsFor}
+use Rattle.exchange.proofs.Rooms.{held_by-fits, held_room}
 use Rattle.exchange.proofs.exchange.Exchange.hold_changes.Goals as goal
 
 pub invariant_of-self : goal.invariant_of-self

@@ -1,9 +1,9 @@
 -- One more flow is looked at.
 use Rattle.std.proofs.Common.{ap, ◌∙◌}
-use Rattle.flow_hold.specs.Holds.{HoldTable}
-use Rattle.exchange.specs.State.{State}
-use Rattle.exchange.specs.Queues.{KeptQueues}
-use Rattle.exchange.specs.Routing.{facts}
+use Rattle.flow_hold.specs.Holds.{HoldSet}
+use Rattle.exchange_rules.specs.State.{State}
+use Rattle.exchange.specs.KeptQueues.{KeptQueues}
+use Rattle.exchange_rules.specs.Routing.{facts}
 use Rattle.exchange.specs.Head.{with_holds}
 use Rattle.exchange.specs.Suspending.{with_flow}
 use Rattle.exchange.proofs.Suspending.{no_selections, more_selections}
@@ -11,12 +11,12 @@ use Rattle.exchange.proofs.exchange.Exchange.hold_destination.Goals as goal
 
 pub loop-selection-init : goal.loop-selection-init
 loop-selection-init c =
-    ap (λ (t : HoldTable). with_holds c.args.self.now t)
+    ap (λ (t : HoldSet). with_holds c.args.self.now t)
     (no_selections (facts c.args.self.now.settings c.args.self.now.node.parts) c.args.link c.args.destination c.args.self.now.node.parts.holds)
 
 pub loop-selection-preserved : goal.loop-selection-preserved
 loop-selection-preserved c =
     c.hold_selection.ensures
     ∙ ap (λ (s : State KeptQueues). with_holds s (with_flow (facts s.settings s.node.parts) c.args.link c.args.destination c.loop-selection.selection s.node.parts.holds)) c.loop-selection.invariant
-    ∙ ap (λ (t : HoldTable). with_holds c.args.self.now t)
+    ∙ ap (λ (t : HoldSet). with_holds c.args.self.now t)
     (more_selections (facts c.args.self.now.settings c.args.self.now.node.parts) c.args.link c.args.destination c.loop-selection.selection c.args.self.now.node.parts.holds)

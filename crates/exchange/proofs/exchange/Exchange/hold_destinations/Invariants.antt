@@ -1,6 +1,6 @@
 -- The flows to as many destinations are held as the loop has gone round.
 use Rattle.std.proofs.Common.{◌≡◌}
-use Rattle.exchange.specs.Routing.{facts}
+use Rattle.exchange_rules.specs.Routing.{facts}
 use Rattle.exchange.specs.Head.{with_holds}
 use Rattle.exchange.specs.Suspending.{with_destinations}
 use Rattle.exchange.proofs.exchange.Exchange.hold_destinations.Given as goal

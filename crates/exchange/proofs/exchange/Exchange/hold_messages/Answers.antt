@@ -2,9 +2,9 @@
 use Rattle.std.proofs.Common.{◌≡◌, ◌+◌, [], List, drop, arith, ap, sym, ◌∙◌, slice_get}
 use Rattle.std.proofs.lemmas.List.{drop_all}
 use Rattle.signalling_types.specs.Message.{Message}
-use Rattle.flow_hold.specs.Holds.{HoldTable}
-use Rattle.exchange.specs.State.{State}
-use Rattle.exchange.specs.Queues.{KeptQueues, link_lane}
+use Rattle.flow_hold.specs.Holds.{HoldSet}
+use Rattle.exchange_rules.specs.State.{State}
+use Rattle.exchange.specs.KeptQueues.{KeptQueues, link_lane}
 use Rattle.exchange.specs.Head.{with_holds, with_head}
 use Rattle.exchange.specs.Suspending.{with_messages}
 use Rattle.exchange.proofs.Passing.{next_held}
@@ -16,8 +16,8 @@ loop-place-preserved c =
     ∙ ap (λ (s : State KeptQueues). with_holds s (with_head s.settings c.args.link (slice_get (link_lane s.node.queues c.args.link) c.loop-place.place) c.loop-place.self.node.parts.holds)) c.loop-place.invariant.same in
     let holds = ap (λ (s : State KeptQueues). s.node.parts.holds) did in
     record {
-      same = did ∙ ap (λ (t : HoldTable). with_holds c.args.self.now t) (sym holds);
-      rest = ap (λ (t : HoldTable). with_messages c.args.self.now.settings c.args.link (drop (c.loop-place.place + 1) (link_lane c.args.self.now.node.queues c.args.link)) t) holds
+      same = did ∙ ap (λ (t : HoldSet). with_holds c.args.self.now t) (sym holds);
+      rest = ap (λ (t : HoldSet). with_messages c.args.self.now.settings c.args.link (drop (c.loop-place.place + 1) (link_lane c.args.self.now.node.queues c.args.link)) t) holds
           ∙ next_held c.args.self.now.settings c.args.link c.loop-place.place (link_lane c.args.self.now.node.queues c.args.link) c.loop-place.self.node.parts.holds
           ∙ c.loop-place.invariant.rest;
     }
@@ -27,5 +27,5 @@ returns c =
     let lane : List Message = link_lane c.args.self.now.node.queues c.args.link in
     let none : drop c.loop-place.place lane ≡ [] = drop_all c.loop-place.place lane (omega (arith, c.loop-place-test.false, c.count_on-place-end.ensures)) in
     c.loop-place.invariant.same
-    ∙ ap (λ (t : HoldTable). with_holds c.args.self.now t)
+    ∙ ap (λ (t : HoldSet). with_holds c.args.self.now t)
     (sym (ap (λ (ms : List Message). with_messages c.args.self.now.settings c.args.link ms c.loop-place.self.node.parts.holds) none) ∙ c.loop-place.invariant.rest)

@@ -1,8 +1,8 @@
 -- What is in doubt is what is lost.
 use Rattle.std.proofs.Common.{ap, sym, ◌∙◌}
-use Rattle.exchange.specs.State.{State, Parts, with_node, with_parts}
-use Rattle.exchange.specs.Queues.{KeptQueues}
-use Rattle.exchange.specs.Noting.{flagged}
+use Rattle.exchange_rules.specs.State.{State, Parts, with_node, with_parts}
+use Rattle.exchange.specs.KeptQueues.{KeptQueues}
+use Rattle.exchange_rules.specs.Noting.{flagged}
 use Rattle.exchange.proofs.Passing.{doubtful}
 use Rattle.exchange.proofs.exchange.Exchange.lose_doubtful.Goals as goal
 

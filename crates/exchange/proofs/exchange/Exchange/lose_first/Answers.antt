@@ -2,8 +2,8 @@
 use Rattle.std.proofs.Common.{◌≡◌, ◌+◌, [], List, drop, take, arith, ap, sym, ◌∙◌, slice_get}
 use Rattle.std.proofs.lemmas.List.{drop_all}
 use Rattle.signalling_types.specs.Message.{Message}
-use Rattle.exchange.specs.State.{State, Parts, with_node, with_parts}
-use Rattle.exchange.specs.Queues.{KeptQueues, link_lane}
+use Rattle.exchange_rules.specs.State.{State, Parts, with_node, with_parts}
+use Rattle.exchange.specs.KeptQueues.{KeptQueues, link_lane}
 use Rattle.exchange.specs.Draining.{lose_one, lose_users}
 use Rattle.exchange.proofs.Passing.{next_lost, shorter}
 use Rattle.exchange.proofs.exchange.Exchange.lose_first.Goals as goal

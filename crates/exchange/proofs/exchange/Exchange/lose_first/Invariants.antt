@@ -1,7 +1,7 @@
 -- What is lost so far, and what is to be lost of the messages that are left, are all that is lost.
 use Rattle.std.proofs.Common.{◌≡◌, drop, take}
-use Rattle.exchange.specs.State.{with_node, with_parts}
-use Rattle.exchange.specs.Queues.{link_lane}
+use Rattle.exchange_rules.specs.State.{with_node, with_parts}
+use Rattle.exchange.specs.KeptQueues.{link_lane}
 use Rattle.exchange.specs.Draining.{lose_users}
 use Rattle.exchange.proofs.exchange.Exchange.lose_first.Given as goal
 

@@ -2,8 +2,8 @@
 use Rattle.std.proofs.Common.{ap, sym, subst}
 use Rattle.node_links.specs.Network.{Network, facts_of}
 use Rattle.changeback.specs.Rerouting.{rerouted}
-use Rattle.exchange.specs.Places.{HasHoldsFor}
-use Rattle.exchange.proofs.Places.{held_for-fits}
+use Rattle.exchange_rules.specs.Places.{HasHoldsFor}
+use Rattle.exchange_rules.proofs.Places.{held_for-fits}
 use Rattle.exchange.proofs.Rooms.{rerouted_room, status_routes}
 use Rattle.exchange.proofs.exchange.Exchange.reroute.Goals as goal
 

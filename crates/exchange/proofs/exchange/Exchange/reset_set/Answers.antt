@@ -13,5 +13,5 @@ pub invariant_of-self : goal.invariant_of-self
 invariant_of-self c =
     changed_room c.self.inside c.reset_statuses.new.self c.reset.new.self c.clear_set-2.new.self true c.self.invariant
     (ap (λ (n : Network). length n.links) c.reset_statuses.ensures) (ap (λ (n : Network). n.sets) c.reset_statuses.ensures)
-    (ap (λ (n : Network). length n.routes) c.reset_statuses.ensures ∙ length-map c.self.inside.links.routes (map (facts.told c.args.set Allowed)))
+    (ap (λ (n : Network). length n.routes) c.reset_statuses.ensures ∙ length-map c.self.inside.links.routes (map (facts.with_status_over c.args.set Allowed)))
     (ap shape_of c.reset.ensures ∙ reset_shape c.self.inside.told c.args.set) refl

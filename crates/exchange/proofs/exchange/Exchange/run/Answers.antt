@@ -1,18 +1,38 @@
 -- The answers are those on what is kept, and these are those of the whole.
-use Rattle.std.proofs.Common.{◌≡◌, arith, map, ◌∙◌}
-use Rattle.std.proofs.lemmas.Grind.{common_steps}
-use Rattle.exchange.specs.Happening.{asked}
-use Rattle.exchange.specs.Queues.{kept}
-use Rattle.exchange.specs.Runs.{answers_to, after_calls}
-use Rattle.exchange.proofs.Calls.{stands-answers, stands-calls}
+use Rattle.std.proofs.Common.{◌∙◌, arith}
+use Rattle.exchange.specs.Calls.{asked_each}
+use Rattle.exchange.proofs.Calls.{IsAnswered, answered_at, all_answered, stands-answers, stands-calls}
 use Rattle.exchange.proofs.exchange.Exchange.run.Goals as goal
+
+pub loop-call-preserved : goal.loop-call-preserved
+loop-call-preserved c = record {
+  answered = rw c.push_reserved.ensures.items
+      (answered_at c.args.calls.now c.loop-call.call-index c.loop-call.answers.items c.call-item.result c.answer.result c.args.self.now c.loop-call.self c.answer.new.self
+      c.loop-call-test.true c.call-item.is c.loop-call.invariant.answered c.answer.ensures.answer c.answer.ensures.state);
+  room = omega (arith, c.loop-call.invariant.room, c.push_reserved.ensures.capacity);
+}
 
 pub returns-clause-answers : goal.returns-clause-answers
 returns-clause-answers c = λ a s.
-    let told : c.loop-call.answers.items ≡ answers_to kept (map asked c.args.calls.now) c.args.self.now = grind (arith, common_steps) in
-    told ∙ stands-answers (map asked c.args.calls.now) c.args.self.now a s
+    let all = all_answered c.args.calls.now c.loop-call.call-index c.loop-call.answers.items c.args.self.now c.loop-call.self (omega (arith, c.loop-call-test.false)) c.loop-call.invariant.answered in
+    all.told ∙ stands-answers (asked_each c.args.calls.now c.loop-call.answers.items) c.args.self.now a s
 
 pub returns-clause-state : goal.returns-clause-state
 returns-clause-state c = λ a s.
-    let rest : c.loop-call.self ≡ after_calls kept (map asked c.args.calls.now) c.args.self.now = grind (arith, common_steps) in
-    rw rest (stands-calls (map asked c.args.calls.now) c.args.self.now a s)
+    let all = all_answered c.args.calls.now c.loop-call.call-index c.loop-call.answers.items c.args.self.now c.loop-call.self (omega (arith, c.loop-call-test.false)) c.loop-call.invariant.answered in
+    rw all.rest (stands-calls (asked_each c.args.calls.now c.loop-call.answers.items) c.args.self.now a s)
+
+pub returns-clause-kept_answers : goal.returns-clause-kept_answers
+returns-clause-kept_answers c =
+    let all = all_answered c.args.calls.now c.loop-call.call-index c.loop-call.answers.items c.args.self.now c.loop-call.self (omega (arith, c.loop-call-test.false)) c.loop-call.invariant.answered in
+    all.told
+
+pub returns-clause-kept_state : goal.returns-clause-kept_state
+returns-clause-kept_state c =
+    let all = all_answered c.args.calls.now c.loop-call.call-index c.loop-call.answers.items c.args.self.now c.loop-call.self (omega (arith, c.loop-call-test.false)) c.loop-call.invariant.answered in
+    all.rest
+
+pub returns-clause-count : goal.returns-clause-count
+returns-clause-count c =
+    let all = all_answered c.args.calls.now c.loop-call.call-index c.loop-call.answers.items c.args.self.now c.loop-call.self (omega (arith, c.loop-call-test.false)) c.loop-call.invariant.answered in
+    all.count

@@ -1,11 +1,11 @@
 -- What a handler leaves is what the rule leaves of what is kept, and so stands for what it leaves of the whole.
 use Rattle.std.proofs.Common.{◌∙◌}
-use Rattle.exchange.specs.Happening.{happened}
+use Rattle.exchange.specs.Calls.{happened}
 use Rattle.exchange.proofs.Standing.{stands-outcome, stands-after}
 use Rattle.exchange.proofs.exchange.Exchange.step.Goals as goal
 
 pub returns-clause-outcome : goal.returns-clause-outcome
-returns-clause-outcome c = λ a s. c.apply.ensures.0 ∙ stands-outcome (happened c.args.event.now) _ a s
+returns-clause-outcome c = λ a s. c.apply.ensures.0 ∙ stands-outcome (happened c.args.event.now c.apply.result) _ a s
 
 pub returns-clause-state : goal.returns-clause-state
-returns-clause-state c = λ a s. rw c.apply.ensures.1 (stands-after (happened c.args.event.now) _ a s)
+returns-clause-state c = λ a s. rw c.apply.ensures.1 (stands-after (happened c.args.event.now c.apply.result) _ a s)

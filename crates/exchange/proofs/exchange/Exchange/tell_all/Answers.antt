@@ -1,9 +1,9 @@
 -- Once all was told that finds room, telling is due only where there is no room.
 use Rattle.std.proofs.Common.{◌≡◌, true, sym, subst}
-use Rattle.exchange.specs.State.{State}
-use Rattle.exchange.specs.Queues.{KeptQueues, kept}
-use Rattle.exchange.specs.Telling.{is_all_told}
-use Rattle.exchange.proofs.Telling.{all_is_told}
+use Rattle.exchange_rules.specs.State.{State}
+use Rattle.exchange.specs.KeptQueues.{KeptQueues, kept}
+use Rattle.exchange_rules.specs.Telling.{is_all_told}
+use Rattle.exchange_rules.proofs.Telling.{all_is_told}
 use Rattle.exchange.proofs.Rooms.{told_room}
 use Rattle.exchange.proofs.exchange.Exchange.tell_all.Goals as goal
 

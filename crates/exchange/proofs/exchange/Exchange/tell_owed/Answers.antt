@@ -1,8 +1,8 @@
 -- Unless telling is due, nothing is owed; where there is no room, nothing is told.
 use Rattle.std.proofs.Common.{ap, sym, ◌∙◌}
-use Rattle.exchange.specs.State.{State, Node, with_node}
-use Rattle.exchange.specs.Queues.{KeptQueues, kept}
-use Rattle.exchange.proofs.Telling.{nothing_told, no_room_told}
+use Rattle.exchange_rules.specs.State.{State, Node, with_node}
+use Rattle.exchange.specs.KeptQueues.{KeptQueues, kept}
+use Rattle.exchange_rules.proofs.Telling.{nothing_told, no_room_told}
 use Rattle.exchange.proofs.Rooms.{view_telling}
 use Rattle.exchange.proofs.exchange.Exchange.tell_owed.Goals as goal
 use Rattle.exchange.proofs.exchange.Exchange.tell_owed.Goals.{else-self-via-then-self+else-may_tell, else-self-via-else-self}

@@ -1,7 +1,7 @@
 -- One destination after the other.
 use Rattle.std.proofs.Common.{◌≡◌, ◌<◌, ◌≤◌, length, arith, ap, sym, ◌∙◌}
-use Rattle.exchange.specs.State.{State}
-use Rattle.exchange.specs.Queues.{KeptQueues}
+use Rattle.exchange_rules.specs.State.{State}
+use Rattle.exchange.specs.KeptQueues.{KeptQueues}
 use Rattle.exchange.proofs.Telling.{row_step, row_end, row_whole}
 use Rattle.exchange.proofs.Rooms.{view_shape}
 use Rattle.exchange.proofs.exchange.Exchange.tell_row.Goals as goal

@@ -4,10 +4,10 @@ use Rattle.linkset.specs.Preference.{has_link}
 use Rattle.route_table.specs.Facts.{Facts, set_at}
 use Rattle.route_management.specs.Owed.{Owed}
 use Rattle.route_management.proofs.Walking.{unreached_is_owed_nothing}
-use Rattle.exchange.specs.State.{State, with_node}
-use Rattle.exchange.specs.Queues.{KeptQueues, kept}
-use Rattle.exchange.specs.Routing.{facts}
-use Rattle.exchange.specs.Telling.{tell_each}
+use Rattle.exchange_rules.specs.State.{State, with_node}
+use Rattle.exchange.specs.KeptQueues.{KeptQueues, kept}
+use Rattle.exchange_rules.specs.Routing.{facts}
+use Rattle.exchange_rules.specs.Telling.{tell_each}
 use Rattle.exchange.proofs.Rooms.{view_facts}
 use Rattle.exchange.proofs.exchange.Exchange.tell_set.Goals as goal
 

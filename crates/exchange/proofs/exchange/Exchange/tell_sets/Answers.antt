@@ -1,7 +1,7 @@
 -- One set after the other.
 use Rattle.std.proofs.Common.{◌≡◌, ◌<◌, ◌≤◌, ℕ, length, arith, ap, sym, ◌∙◌}
-use Rattle.exchange.specs.State.{State}
-use Rattle.exchange.specs.Queues.{KeptQueues}
+use Rattle.exchange_rules.specs.State.{State}
+use Rattle.exchange.specs.KeptQueues.{KeptQueues}
 use Rattle.exchange.proofs.Telling.{told_set, set_step, sets_end, sets_whole}
 use Rattle.exchange.proofs.Rooms.{view_shape}
 use Rattle.exchange.proofs.exchange.Exchange.tell_sets.Goals as goal

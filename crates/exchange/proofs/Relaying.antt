@@ -1,0 +1,39 @@
+-- What the table of translation rows answers to an order, and what it leaves, is what the rule does.
+use Rattle.std.proofs.Common.{◌≡◌, Bool, true, false, List, Option, Some, None, Result, Ok, Err, refl, ap, sym, ◌∙◌}
+use Rattle.std.specs.Prelude.{OnOk, OnErr, IfErr, if◌then◌else◌}
+use Rattle.std.specs.Option.{option_or}
+use Rattle.settings_rows.specs.Configuration.{TitleEntry}
+use Rattle.signalling_types.specs.declared.cause.Cause.{Cause}
+use Rattle.signalling_types.specs.declared.cause.Cause.TheVariants.{NoMemory}
+use Rattle.signalling_types.specs.declared.outcome.Outcome.{Outcome}
+use Rattle.signalling_types.specs.declared.outcome.Outcome.TheVariants.{Refused}
+use Rattle.global_title.specs.Rows.{with_row}
+use Rattle.exchange_rules.specs.State.{State, Node, Done, with_node, with_parts}
+use Rattle.exchange_rules.specs.Exchange.{Ends}
+use Rattle.exchange_rules.specs.Relaying.{with_titles, add_title_unless}
+use Rattle.exchange.specs.Calls.{is_memory_refused}
+use Rattle.exchange.specs.Relaying.{handled_or_refused}
+
+-- the state with other rows
+abbrev pub titled : {Q : Type 0} → State Q → List TitleEntry → State Q
+titled s titles = with_node s (with_parts s.node (with_titles titles s.node.parts))
+
+-- why a row isn't added, by what was answered
+abbrev refusal_by : Option Cause → Outcome → Option Cause
+refusal_by refusal outcome = option_or refusal (if is_memory_refused outcome then Some NoMemory else None)
+
+abbrev cause_of : {T : Type 0} → Cause → Result T Cause → Cause
+cause_of other (Ok done) = other
+cause_of other (Err cause) = cause
+
+pub adding : {T Q : Type 0} (s : State Q) (row : TitleEntry) (refusal : Option Cause) (r : Result T Cause) (new : List TitleEntry)
+    → OnOk r (new ≡ with_row row s.node.parts.titles) → OnErr r (new ≡ s.node.parts.titles) → ((cause : Cause) → refusal ≡ Some cause → r ≡ Err cause)
+    → (refusal ≡ None → IfErr r (λ cause. cause ≡ NoMemory))
+    → Ends s (handled_or_refused r) (titled s new) (add_title_unless (refusal_by refusal (handled_or_refused r)) row s.node)
+adding s row None (Ok done) new added unchanged refused memory = (refl, ap (titled s) added)
+adding s row (Some cause) (Ok done) new added unchanged refused memory = let wrong = refused cause refl in absurd cc
+adding s row (Some cause) (Err other) new added unchanged refused memory =
+    (ap (λ r. Refused (cause_of other r)) (refused cause refl), ap (titled s) unchanged)
+adding s row None (Err other) new added unchanged refused memory =
+    let only : other ≡ NoMemory = memory refl in
+    rw only (refl, ap (titled s) unchanged)

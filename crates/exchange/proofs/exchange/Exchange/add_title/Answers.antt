@@ -1,0 +1,10 @@
+-- The table's answer and the rule's are the same, by the answer.
+use Rattle.global_title.specs.Rows.{add_refusal}
+use Rattle.exchange.specs.Room.{kept_in}
+use Rattle.exchange.proofs.Relaying.{adding}
+use Rattle.exchange.proofs.exchange.Exchange.add_title.Goals as goal
+
+pub returns : goal.returns
+returns c = rw (← c.self.view_is, c.handled_or_refused.ensures)
+    (adding (kept_in c.self.inside) c.args.row (add_refusal c.self.inside.titles c.args.row) c.add.result c.add.new.self
+    c.add.ensures.added c.add.ensures.unchanged c.add.ensures.refused c.add.ensures.memory)

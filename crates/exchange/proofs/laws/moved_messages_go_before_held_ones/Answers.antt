@@ -1,5 +1,0 @@
-use Rattle.exchange.proofs.Releasing.{moved_first}
-use Rattle.exchange.proofs.laws.moved_messages_go_before_held_ones.Goals as goal
-
-pub returns : goal.returns
-returns c = moved_first

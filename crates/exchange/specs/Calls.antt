@@ -1,0 +1,54 @@
+-- What the events and the calls of the code tell of, with what was answered: that says whether memory was refused.
+use Rattle.std.specs.Prelude.{Bool, true, false, List, [], ◌∷◌}
+use Rattle.signalling_types.specs.declared.cause.Cause.TheVariants.{NoMemory}
+use Rattle.signalling_types.specs.declared.outcome.Outcome.{Outcome}
+use Rattle.signalling_types.specs.declared.outcome.Outcome.TheVariants.{Refused, Handled}
+use Rattle.exchange.specs.declared.event.Answer.{Answer}
+use Rattle.exchange.specs.declared.event.Answer.TheVariants as answer
+use Rattle.exchange.specs.declared.event.Event.{Event}
+use Rattle.exchange.specs.declared.event.Event.TheVariants as event
+use Rattle.exchange.specs.declared.event.Order.{Order}
+use Rattle.exchange.specs.declared.event.Order.TheVariants.{Activate, Deactivate, AddTitle, RemoveTitle}
+use Rattle.exchange.specs.declared.event.Call.{Call}
+use Rattle.exchange.specs.declared.event.Call.TheVariants as call
+use Rattle.exchange_rules.specs.Happening.{Happening, CameUp, WentDown, FrameCame, Ticked, Submitted}
+use Rattle.exchange_rules.specs.Happening.{Activated, Deactivated, TitleAdded, TitleRemoved}
+use Rattle.exchange_rules.specs.Happening.{Asking, Happens, Takes, AsksWants}
+
+-- whether memory was refused
+abbrev pub is_memory_refused : Outcome → Bool
+is_memory_refused (Refused NoMemory) = true
+is_memory_refused outcome = false
+
+-- what an order tells of
+abbrev pub ordered : Order → (lacks_memory : Bool) → Happening
+ordered (Activate link) lacks_memory = Activated link
+ordered (Deactivate link) lacks_memory = Deactivated link
+ordered (AddTitle row) lacks_memory = TitleAdded row lacks_memory
+ordered (RemoveTitle key digits) lacks_memory = TitleRemoved key digits.items
+
+-- what an event tells of that was answered so
+abbrev pub happened : Event → Outcome → Happening
+happened (event.AssociationUp link) outcome = CameUp link
+happened (event.AssociationDown link) outcome = WentDown link
+happened (event.Frame link octets) outcome = FrameCame link octets.now
+happened event.Tick outcome = Ticked
+happened (event.Submit message) outcome = Submitted message
+happened (event.Order order) outcome = ordered order (is_memory_refused outcome)
+
+-- what became of an event, by the answer to the call
+abbrev pub outcome_in : Answer → Outcome
+outcome_in (answer.Stepped outcome) = outcome
+outcome_in (answer.Taken text) = Handled
+outcome_in (answer.Wanted wants) = Handled
+
+-- what a call asks that was answered so
+abbrev pub asked : Call → Answer → Asking
+asked (call.Step event) answer = Happens (happened event (outcome_in answer))
+asked (call.Take link) answer = Takes link
+asked (call.Wants link) answer = AsksWants link
+
+-- what calls in a row ask, each with its answer
+abbrev pub asked_each : List Call → List Answer → List Asking
+asked_each (call ∷ calls) (answer ∷ answers) = asked call answer ∷ asked_each calls answers
+asked_each calls answers = []

@@ -1,0 +1,124 @@
+//! SCCP messages for this point, and the translation rows that lead them on.
+
+ghost use Rattle.std.specs.Prelude.{◌≡◌, ◌≤◌, length};
+ghost use Rattle.signalling_types.specs.Lent.{lent};
+ghost use Rattle.sccp_relay.specs.Relay.{relay};
+ghost use Rattle.sccp_relay.specs.Values.{own_of};
+ghost use Rattle.exchange_rules.specs.State.{with_node};
+ghost use Rattle.exchange.specs.KeptQueues.{kept};
+ghost use Rattle.exchange.specs.Calls.{is_memory_refused};
+ghost use Rattle.exchange.specs.Relaying.{handled_or_refused};
+ghost use Rattle.exchange_rules.specs.Arrival.{transfer};
+ghost use Rattle.exchange_rules.specs.Exchange.{Ends};
+ghost use Rattle.exchange_rules.specs.Relaying as rule;
+
+use super::Exchange;
+use global_title::TitleKey;
+use routing_label::Label;
+use sccp_relay::{Own, Relayed, relay, returned};
+use stp_types::{Cause, Limits, MsuRef, Outcome, TitleRow};
+
+impl Exchange {
+    /// An SCCP message for this point: a subsystem here gets it, or it goes on by the title of its called address. One
+    /// that is refused is returned where it asks for that (Q.714 §2.3, §4.2).
+    #[inline(never)]
+    pub(super) fn on_unitdata(&mut self, message: MsuRef<'_>) -> Outcome
+        requires { 4 ≤ length message.sif.now }
+        ensures { Ends self.old result self.new
+            (rule.on_unitdata kept self.old.settings (lent message.entry) self.old.node) }
+    {
+        let outcome = self.relay(message);
+        if let Outcome::Refused(cause) = outcome {
+            self.return_unitdata(cause, message);
+        }
+        outcome
+    }
+
+    /// What becomes of an SCCP message, before it is returned. One that goes on is written anew, and goes the way of any
+    /// message for another point.
+    fn relay(&mut self, message: MsuRef<'_>) -> Outcome
+        requires { 4 ≤ length message.sif.now }
+        ensures { Ends self.old result self.new (rule.relay_by kept self.old.settings
+            (relay (rule.own_of self.old.settings) self.old.node.parts.titles message.entry.sif.now)
+            (lent message.entry) self.old.node) }
+    {
+        let mut field = [0; Limits::SIF_OCTETS];
+        match relay(message.sif, &self.titles, &self.own(), &mut field) {
+            Relayed::Delivered => Outcome::Local,
+            Relayed::Onward(count) => {
+                let onward = MsuRef {
+                    sio: message.sio,
+                    sif: &field[..count],
+                };
+                self.transfer_written(onward)
+            }
+            Relayed::Refused(cause) => Outcome::Refused(cause),
+        }
+    }
+
+    /// Returns an SCCP message that was refused for this cause, if it is to be: the UDTS goes the way of any message for
+    /// another point, and is dropped where it finds none.
+    fn return_unitdata(&mut self, cause: Cause, message: MsuRef<'_>)
+        requires { 4 ≤ length message.sif.now }
+        ensures { self.new ≡ with_node self.old (rule.return_unitdata kept self.old.settings cause
+            (lent message.entry) self.old.node) }
+    {
+        let mut field = [0; Limits::SIF_OCTETS];
+        if let Some(count) = returned(message.sif, cause, &self.titles, &self.own(), &mut field) {
+            let udts = MsuRef {
+                sio: message.sio,
+                sif: &field[..count],
+            };
+            self.transfer_written(udts);
+        }
+    }
+
+    /// An SCCP message that this node wrote goes the way of any message for another point.
+    fn transfer_written(&mut self, message: MsuRef<'_>) -> Outcome
+        requires whole { 4 ≤ length message.sif.now }
+        requires fits { length message.sif.now ≤ Limits.SIF_OCTETS }
+        ensures { Ends self.old result self.new
+            (transfer kept self.old.settings None (lent message.entry) self.old.node) }
+    {
+        let Some(label) = Label::read(message.sif) else {
+            unreachable!()
+        };
+        self.transfer(None, label, message)
+    }
+
+    /// The point that this node is, and its subsystems.
+    fn own(&self) -> Own<'_>
+        ensures { own_of result ≡ rule.own_of self.now.settings }
+    {
+        Own {
+            point: self.settings.own(),
+            subsystems: self.settings.subsystems(),
+        }
+    }
+
+    /// An operator adds a translation row. Nothing changes where it is refused: DuplicateRow where a row of its key and
+    /// digits is there, else TableFull, else NoMemory where a growth was refused.
+    pub(super) fn add_title(&mut self, row: TitleRow) -> Outcome
+        ensures { Ends self.old result self.new
+            (rule.add_title row (is_memory_refused result) self.old.node) }
+    {
+        handled_or_refused(self.titles.add(row))
+    }
+
+    /// An operator removes the translation row of this key and these digits; NoSuchName where there is none.
+    pub(super) fn remove_title(&mut self, key: TitleKey, digits: &[u8]) -> Outcome
+        ensures { Ends self.old result self.new (rule.remove_title key digits.now self.old.node) }
+    {
+        handled_or_refused(self.titles.remove(key, digits))
+    }
+}
+
+/// What an order is answered that the table did, or refused.
+fn handled_or_refused(answer: Result<(), Cause>) -> Outcome
+    ensures { result ≡ handled_or_refused answer }
+{
+    match answer {
+        Ok(()) => Outcome::Handled,
+        Err(cause) => Outcome::Refused(cause),
+    }
+}

@@ -1,0 +1,166 @@
+-- The link that a flow takes is one of the settings, and so are its set and its destination.
+use Rattle.std.proofs.Common.{◌≡◌, ◌<◌, ◌≤◌, ℕ, zero, suc, ◌-◌, Bool, true, false, ◌&&◌, cond, List, [], ◌∷◌, length, nat_eq, refl, ap, ◌∙◌, subst, arith, inl, inr}
+use Rattle.std.specs.Prelude.{Option, Some, None, Contains, find, position, slice_index_or}
+use Rattle.std.specs.Option.{option_map, option_or, option_and_then, option_to_list}
+use Rattle.std.proofs.Math.Logic.{⊎_elim}
+use Rattle.std.proofs.lemmas.Bool.{cases_lt}
+use Rattle.std.proofs.lemmas.Bool.Decides.{nat_tests}
+use Rattle.std.proofs.lemmas.List.{get_or_past, get_or_append_left, get_or-append_right, length-append}
+use Rattle.std.proofs.lemmas.List.Elements.{Contains-append_right, Contains-append_cases}
+use Rattle.std.proofs.lemmas.List.Quantifiers.{position-Some}
+use Rattle.std.proofs.lemmas.List.Sorted.{Contains-permutation, IsPermutation-sym}
+use Rattle.settings_rows.specs.Configuration.{Configuration, LinkEntry}
+use Rattle.linkset.specs.declared.link_set.SetLink.{SetLink}
+use Rattle.linkset.specs.Members.{has_code, links_below, links_of}
+use Rattle.linkset.specs.Preference.{is_in_service, preference, first_in_service}
+use Rattle.linkset.proofs.Preference.{preference-permutation}
+use Rattle.route_table.specs.declared.route.Route.{Route}
+use Rattle.route_table.specs.declared.route.RouteStatus.TheVariants.{Allowed, Restricted}
+use Rattle.route_table.specs.Facts.{Facts, first_sets, set_at}
+use Rattle.route_table.specs.Chosen.{is_open, chosen_set, chosen_link}
+use Rattle.exchange_rules.specs.State.{Parts}
+use Rattle.signalling_types.specs.declared.point.Flow.{Flow}
+use Rattle.stp_types.specs.Readings.{destination_place}
+use Rattle.exchange_rules.specs.Routing.{facts, link_of}
+use Rattle.exchange_rules.specs.Points.{set_of}
+
+-- ---- the links of a set
+
+abbrev no_entry : LinkEntry
+no_entry = record { name = []; set = 0; slc = 0 }
+
+-- a link that is there, of a set
+record IsLinkOf (links : List LinkEntry) (set link : ℕ) : Type 0 where
+  pub there : link < length links
+  pub of_set : (slice_index_or links link no_entry).set ≡ set
+
+only : (x l : SetLink) → Contains (x ∷ []) l → x ≡ l
+only x l (zero, h, e) = e
+only x l (suc k, h, e) = absurd (omega (arith, h))
+
+none : (l : SetLink) → Contains {X = SetLink} [] l → ⊥
+none l (k, h, e) = omega (arith, h)
+
+first-same : (a b : ℕ) (other : Bool) → (nat_eq a b && other) ≡ true → a ≡ b
+first-same a b other e = grind (arith, nat_tests, e)
+
+with_code-of : (links : List LinkEntry) (set code : ℕ) (at : Option ℕ) → position (has_code set code) links ≡ at
+    → (l : SetLink) → Contains (option_to_list (option_map (λ number. record { slc = code; link = number }) at)) l → IsLinkOf links set l.link
+with_code-of links set code (Some number) e l h =
+    let found = position-Some (has_code set code) links number no_entry e in
+    subst (λ (l : SetLink). IsLinkOf links set l.link) (only (record { slc = code; link = number }) l h) (record {
+      there = found.0;
+      of_set = first-same (slice_index_or links number no_entry).set set (nat_eq (slice_index_or links number no_entry).slc code) found.1;
+    })
+with_code-of links set code None e l h = absurd (none l h)
+
+below-of : (links : List LinkEntry) (set limit : ℕ) (l : SetLink) → Contains (links_below limit links set) l → IsLinkOf links set l.link
+unfolding links_below
+below-of links set zero l h = absurd (none l h)
+below-of links set (suc code) l h =
+    elim (Contains-append_cases (links_below code links set) _ l h) [
+      | inl earlier ↦ below-of links set code l earlier
+      | inr last ↦ with_code-of links set code _ refl l last
+    ]
+
+-- ---- the sets
+
+-- a link that is there, of a set that is there
+record IsLinkIn (sets : ℕ) (links : List LinkEntry) (link : ℕ) : Type 0 where
+  pub there : link < length links
+  pub set : (slice_index_or links link no_entry).set < sets
+
+length-sets : (sets : ℕ) (links : List LinkEntry) → length (first_sets sets links) ≡ sets
+unfolding first_sets
+length-sets zero links = refl
+length-sets (suc sets) links =
+    length-append (first_sets sets links) (links_of links sets ∷ []) ∙ omega (arith, length-sets sets links)
+
+last-of : (links : List LinkEntry) (set place : ℕ) (l : SetLink) → Contains (slice_index_or (links_of links set ∷ []) place []) l → IsLinkIn (suc set) links l.link
+last-of links set zero l h =
+    let one : IsLinkOf links set l.link = below-of links set 16 l h in
+    record { there = one.there; set = omega (arith, one.of_set) }
+last-of links set (suc place) l h = absurd (none l (subst (λ (xs : List SetLink). Contains xs l) (get_or_past (links_of links set ∷ []) (suc place) [] (omega arith)) h))
+
+more-sets : (sets : ℕ) (links : List LinkEntry) (link : ℕ) → IsLinkIn sets links link → IsLinkIn (suc sets) links link
+more-sets sets links link h = record { there = h.there; set = omega (arith, h.set) }
+
+set-of : (links : List LinkEntry) (sets set : ℕ) (l : SetLink) → Contains (slice_index_or (first_sets sets links) set []) l → IsLinkIn sets links l.link
+unfolding first_sets
+set-of links zero set l h = absurd (none l (subst (λ (xs : List SetLink). Contains xs l) (get_or_past [] set [] (omega arith)) h))
+set-of links (suc sets) set l h =
+    ⊎_elim
+    (λ (e : set < sets). more-sets sets links l.link (set-of links sets set l
+    (subst (λ (xs : List SetLink). Contains xs l)
+    (get_or_append_left (first_sets sets links) (links_of links sets ∷ []) [] set (omega (arith, e, length-sets sets links))) h)))
+    (λ (e : sets ≤ set). last-of links sets (set - sets) l
+    (subst (λ (xs : List SetLink). Contains xs l)
+    (get_or-append_right (first_sets sets links) (links_of links sets ∷ []) sets set [] (length-sets sets links) e) h))
+    (cases_lt set sets)
+
+-- ---- the link of a flow
+
+-- a list has a link of this number
+pub record HasNumber (links : List SetLink) (link : ℕ) : Type 0 where
+  pub member : SetLink
+  pub stands : Contains links member
+  pub number : member.link ≡ link
+
+found-by : (passes : Bool) (x : SetLink) (xs : List SetLink) (o : Option SetLink) (link : ℕ) → (option_map (λ l. l.link) o ≡ Some link → HasNumber xs link)
+    → option_map (λ l. l.link) (cond passes (Some x) o) ≡ Some link → HasNumber (x ∷ xs) link
+found-by true x xs o link rest e = record { member = x; stands = (0, omega arith, refl); number = cc }
+found-by false x xs o link rest e =
+    let found : HasNumber xs link = rest e in
+    record { member = found.member; stands = Contains-append_right (x ∷ []) xs found.member found.stands; number = found.number }
+
+found : (p : SetLink → Bool) (xs : List SetLink) (link : ℕ) → option_map (λ l. l.link) (find p xs) ≡ Some link → HasNumber xs link
+found p [] link e = absurd cc
+found p (x ∷ xs) link e = found-by (p x) x xs (find p xs) link (found p xs link) e
+
+pub first-of : (sls : ℕ) (serving : List Bool) (links : List SetLink) (link : ℕ) → first_in_service sls serving links ≡ Some link → HasNumber links link
+first-of sls serving links link e =
+    let one : HasNumber (preference sls links) link = found (λ l. is_in_service serving l.link) (preference sls links) link e in
+    record {
+      member = one.member;
+      stands = Contains-permutation (preference sls links) links one.member (IsPermutation-sym links (preference sls links) (preference-permutation sls links)) one.stands;
+      number = one.number;
+    }
+
+-- a link of the settings, of a set of the settings
+pub record IsListed (c : Configuration) (link : ℕ) : Type 0 where
+  pub there : link < length c.links
+  pub set : set_of c link < length c.sets
+
+listed-by : (c : Configuration) (p : Parts) (chosen : Option ℕ) (sls link : ℕ)
+    → option_and_then (λ set. first_in_service sls (facts c p).in_service (set_at (facts c p) set)) chosen ≡ Some link → IsListed c link
+listed-by c p None sls link e = absurd cc
+listed-by c p (Some set) sls link e =
+    let one : HasNumber (set_at (facts c p) set) link = first-of sls (facts c p).in_service (set_at (facts c p) set) link e in
+    let known : IsLinkIn (length c.sets) c.links one.member.link = set-of c.links (length c.sets) set one.member one.stands in
+    subst (IsListed c) one.number (record { there = known.there; set = known.set })
+
+pub chosen_listed : (c : Configuration) (p : Parts) (destination sls link : ℕ) → chosen_link (facts c p) destination sls ≡ Some link → IsListed c link
+chosen_listed c p destination sls link e = listed-by c p (chosen_set (facts c p) destination) sls link e
+
+-- the link by these routes
+abbrev chosen_by : Facts → (sls : ℕ) → List Route → Option ℕ
+chosen_by f sls routes =
+    option_and_then (λ set. first_in_service sls f.in_service (set_at f set))
+    (option_or (option_map (λ route. route.set) (find (is_open f Allowed) routes)) (option_map (λ route. route.set) (find (is_open f Restricted) routes)))
+
+pub chosen_there : (f : Facts) (destination sls link : ℕ) → chosen_link f destination sls ≡ Some link → destination < length f.routes
+chosen_there f destination sls link e =
+    ⊎_elim
+    (λ (there : destination < length f.routes). there)
+    (λ (past : length f.routes ≤ destination).
+    let gone : chosen_link f destination sls ≡ None = ap (chosen_by f sls) (get_or_past f.routes destination [] past) in
+    absurd cc)
+    (cases_lt destination (length f.routes))
+
+listed-at : (c : Configuration) (p : Parts) (destination : Option ℕ) (sls link : ℕ) → option_and_then (λ d. chosen_link (facts c p) d sls) destination ≡ Some link → IsListed c link
+listed-at c p None sls link e = absurd cc
+listed-at c p (Some destination) sls link e = chosen_listed c p destination sls link e
+
+-- the link of a flow is one of the settings
+pub flow_listed : (c : Configuration) (p : Parts) (f : Flow) (link : ℕ) → link_of c p f ≡ Some link → IsListed c link
+flow_listed c p f link e = listed-at c p (destination_place c f.point) f.sls link e

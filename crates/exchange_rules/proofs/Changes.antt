@@ -1,0 +1,306 @@
+-- Rules that make management alone, or change no queue: as many user messages stand after each as before.
+use Rattle.std.proofs.Common.{Bool, Err, List, None, Ok, Option, Result, Some, [], ap, arith, false, length, nat_lt, not, refl, suc, true, zero, ℕ, ◌%◌, ◌&&◌, ◌*◌, ◌+◌, ◌∙◌, ◌∷◌, ◌≡◌}
+use Rattle.std.specs.Prelude.{if◌then◌else◌}
+use Rattle.changeback.specs.Codes.{is_outstanding}
+use Rattle.changeover.specs.Completion.{managements_of}
+use Rattle.link_alignment.specs.Table.{action_at}
+use Rattle.link_alignment.specs.declared.action.Action.{Action}
+use Rattle.link_alignment.specs.declared.action.Input.TheVariants.{Expiry, Status}
+use Rattle.link_alignment.specs.declared.action.LinkTimer.{LinkTimer}
+use Rattle.link_alignment.specs.declared.action.Transition.{Transition}
+use Rattle.link_sequence.specs.Queue.{Queue, appended}
+use Rattle.m2pa_codec.specs.declared.status.LinkStatus.{LinkStatus}
+use Rattle.mgmt_codec.specs.LinkTests.{LinkTestValue}
+use Rattle.mgmt_codec.specs.declared.fault.MgmtFault.{MgmtFault}
+use Rattle.mgmt_codec.specs.declared.link_test.TestKind.{TestKind}
+use Rattle.mgmt_codec.specs.declared.link_test.TestKind.TheVariants.{Acknowledgement, Test}
+use Rattle.mgmt_codec.specs.declared.management.Management.{Management}
+use Rattle.mgmt_codec.specs.declared.management.Management.TheVariants.{ChangebackDeclaration, ExtendedChangeoverOrder, RouteSetTestProhibited, RouteSetTestRestricted}
+use Rattle.route_management.specs.Owed.{Owed, owed}
+use Rattle.route_management.specs.declared.heard.Heard.{Heard}
+use Rattle.route_management.specs.declared.heard.RouteTest.{RouteTest}
+use Rattle.route_table.specs.Facts.{Facts}
+use Rattle.route_table.specs.Statuses.{status_of}
+use Rattle.route_table.specs.declared.route.RouteStatus.{RouteStatus}
+use Rattle.route_table.specs.declared.route.RouteStatus.TheVariants.{Allowed, Prohibited, Restricted}
+use Rattle.settings_rows.specs.Configuration.{Configuration}
+use Rattle.signalling_types.specs.Message.{Message, flow_of, is_management}
+use Rattle.signalling_types.specs.declared.cause.Cause.{Cause}
+use Rattle.signalling_types.specs.declared.notice.FailureReason.{FailureReason}
+use Rattle.signalling_types.specs.declared.notice.FrameFault.{FrameFault}
+use Rattle.signalling_types.specs.declared.outcome.Outcome.{Outcome}
+use Rattle.signalling_types.specs.declared.outcome.Outcome.TheVariants.{Handled, Ignored}
+use Rattle.exchange_rules.specs.ChangingBack.{code_for, code_in_use, declaration, freed, hold_flows, loses_flows, on_changeback_acknowledgement, take_back_each}
+use Rattle.exchange_rules.specs.ChangingOver.{fail_by_order, send_each}
+use Rattle.exchange_rules.specs.Conserving.{standing}
+use Rattle.exchange_rules.specs.Failing.{begin, begin_by_peer, change_over, changing, fail, fail_by_peer, has_other, make_unavailable}
+use Rattle.exchange_rules.specs.Frames.{leave_aside}
+use Rattle.exchange_rules.specs.Links.{down, in_service, is_link, link_at}
+use Rattle.exchange_rules.specs.Local.{do_kind, do_test, test_answer}
+use Rattle.exchange_rules.specs.Made.{management_to, send, send_anew, send_routed}
+use Rattle.exchange_rules.specs.Opening.{activate, association_down, deactivate, end_association, fail_if_up, set_active}
+use Rattle.exchange_rules.specs.Points.{adjacent_of, entry_of, peer_of, point_of, set_of}
+use Rattle.exchange_rules.specs.Queueing.{no_room, queue_on}
+use Rattle.exchange_rules.specs.Queues.{WholeQueues, queue_at, whole}
+use Rattle.exchange_rules.specs.Rerouting.{apply_route_status, ask_again, ask_by, on_route_status, with_next_test}
+use Rattle.exchange_rules.specs.Routing.{facts, link_of}
+use Rattle.exchange_rules.specs.State.{Done, Node, answer, refuse, with_parts}
+use Rattle.exchange_rules.specs.Statuses.{act_by_status, act_by_timer, advance, enters, moved_on, on_link_status, return_if, run_out, serve_status}
+use Rattle.exchange_rules.specs.Telling.{answer_no_route, answered_parts, inhibited, is_inhibited, may_tell, on_route_test, prohibit, send_route_status, tell_each, tell_if, tell_owed, telling, told_parts}
+use Rattle.exchange_rules.proofs.Tallies.{no-user-behind, queue-same}
+use Rattle.link_alignment.specs.declared.action.Action.TheVariants as act
+use Rattle.signalling_types.specs.declared.cause.Cause.TheVariants as causes
+use Rattle.signalling_types.specs.declared.notice.FrameFault.TheVariants as faults
+use Rattle.route_management.specs.Hearing as hearing
+use Rattle.route_management.specs.declared.heard.Heard.TheVariants as hears
+use Rattle.signalling_types.specs.declared.notice.FailureReason.TheVariants as reasons
+use Rattle.m2pa_codec.specs.declared.status.LinkStatus.TheVariants as says
+use Rattle.route_management.specs.Told as told
+use Rattle.exchange_rules.specs.Telling as telling
+
+-- ---- what this node makes is management
+
+made-indicator : (network : ℕ) → (network * 64 + 0) % 16 ≡ 0
+made-indicator network = omega arith
+
+tested-indicator : (network : ℕ) → (network * 64 + 1) % 16 ≡ 1
+tested-indicator network = omega arith
+
+pub made-management : (c : Configuration) (point : ℕ) (message : Management) → is_management (management_to c point message) ≡ true
+made-management c point message = ap (λ (indicator : ℕ). nat_lt indicator 2) (made-indicator c.network)
+
+answer-management : (c : Configuration) (point : ℕ) (test : LinkTestValue) → is_management (test_answer c point test) ≡ true
+answer-management c point test = ap (λ (indicator : ℕ). nat_lt indicator 2) (tested-indicator c.network)
+
+-- how many stand in a node
+abbrev pub stands : (Message → Bool) → Node WholeQueues → ℕ
+stands of n = standing of n.queues
+
+module _ (of : Message → Bool) (c : Configuration) where
+  -- ---- a test decides
+
+  pub either-stand : (b : Bool) (n m : Node WholeQueues) (k : ℕ) → stands of n ≡ k → stands of m ≡ k → stands of (if b then n else m) ≡ k
+  either-stand true n m k e f = e
+  either-stand false n m k e f = f
+
+  pub either_done-stand : (b : Bool) (d e : Done WholeQueues) (k : ℕ) → stands of d.left ≡ k → stands of e.left ≡ k → stands of (if b then d else e).left ≡ k
+  either_done-stand true d e k f g = f
+  either_done-stand false d e k f g = g
+
+  -- ---- management goes out
+
+  queued-stand : (link : ℕ) (m : Message) (n : Node WholeQueues) → is_management m ≡ true → stands of (queue_on whole c link m n) ≡ stands of n
+  queued-stand link m n e =
+      let q : Queue = queue_at n.queues link in
+      queue-same of n.queues link (appended q m) (no-user-behind of q.confirmed q.all m e)
+
+  send-stand : (room : Option Cause) (link : Option ℕ) (m : Message) (n : Node WholeQueues) → is_management m ≡ true → stands of (send whole c room link m n) ≡ stands of n
+  send-stand (Some cause) link m n e = refl
+  send-stand None None m n e = refl
+  send-stand None (Some link) m n e = queued-stand link m n e
+
+  pub routed-stand : (m : Message) (n : Node WholeQueues) → is_management m ≡ true → stands of (send_routed whole c m n) ≡ stands of n
+  routed-stand m n e = send-stand (no_room whole c m n.queues) (link_of c n.parts (flow_of m)) m n e
+
+  pub made-stand : (point : ℕ) (message : Management) (n : Node WholeQueues) → stands of (send_routed whole c (management_to c point message) n) ≡ stands of n
+  made-stand point message n = routed-stand (management_to c point message) n (made-management c point message)
+
+  -- what a completion queues anew
+  pub anew-stand : (ms : List Message) (n : Node WholeQueues) → stands of (send_each whole c (managements_of ms) n) ≡ stands of n
+  anew-stand [] n = refl
+  anew-stand (m ∷ ms) n = by (is_management m) refl (anew-stand ms n) (anew-stand ms (send_anew whole c m n))
+    where
+      by : (b : Bool) → is_management m ≡ b → stands of (send_each whole c (managements_of ms) n) ≡ stands of n
+          → stands of (send_each whole c (managements_of ms) (send_anew whole c m n)) ≡ stands of (send_anew whole c m n)
+          → stands of (send_each whole c (if b then m ∷ managements_of ms else managements_of ms) n) ≡ stands of n
+      by true e rest more = more ∙ send-stand None (link_of c n.parts (flow_of m)) m n e
+      by false e rest more = rest
+
+  -- ---- what adjacent points are told
+
+  tell-stand : (o : Owed) (n : Node WholeQueues) → stands of (telling.tell whole c o n) ≡ stands of n
+  tell-stand o n = made-stand (adjacent_of c o.set) (telling.telling o.status (point_of c o.destination)) (with_parts n (told_parts c o n.parts))
+
+  tell_each-stand : (os : List Owed) (n : Node WholeQueues) → stands of (tell_each whole c os n) ≡ stands of n
+  tell_each-stand [] n = refl
+  tell_each-stand (o ∷ os) n =
+      tell_each-stand os (tell_if whole c o n) ∙ either-stand (may_tell whole c n) (telling.tell whole c o n) n (stands of n) (tell-stand o n) refl
+
+  pub tell_owed-stand : (n : Node WholeQueues) → stands of (tell_owed whole c n) ≡ stands of n
+  unfolding tell_owed
+  tell_owed-stand n = tell_each-stand (owed (facts c n.parts) n.parts.told) n
+
+  prohibit-stand : (set destination : ℕ) (n : Node WholeQueues) → stands of (prohibit whole c set destination n) ≡ stands of n
+  prohibit-stand set destination n =
+      made-stand (adjacent_of c set) (telling.telling Prohibited (point_of c destination)) (with_parts n (inhibited c set destination n.parts))
+
+  pub answer_no_route-stand : (link destination : Option ℕ) (n : Node WholeQueues) → stands of (answer_no_route whole c link destination n) ≡ stands of n
+  answer_no_route-stand (Some link) (Some destination) n =
+      let set : ℕ = set_of c link in
+      either-stand (may_tell whole c n && not (is_inhibited set destination n.parts)) (prohibit whole c set destination n) n (stands of n)
+      (prohibit-stand set destination n) refl
+  answer_no_route-stand (Some link) None n = refl
+  answer_no_route-stand None destination n = refl
+
+  send_route_status-stand : (status : Option RouteStatus) (set destination : ℕ) (n : Node WholeQueues) → stands of (send_route_status whole c status set destination n) ≡ stands of n
+  send_route_status-stand (Some status) set destination n =
+      made-stand (adjacent_of c set) (telling.telling status (point_of c destination)) (with_parts n (answered_parts set destination status n.parts))
+  send_route_status-stand None set destination n = refl
+
+  pub on_route_test-stand : (test : RouteTest) (route : Result (ℕ × ℕ) Outcome) (n : Node WholeQueues) → stands of (on_route_test whole c test route n).left ≡ stands of n
+  on_route_test-stand test (Ok (set, destination)) n =
+      let status : Option RouteStatus = hearing.answer_to_test (facts c n.parts) n.parts.told set destination test in
+      either_done-stand (told.is_own_point n.parts.told set destination) (answer Ignored n) (answer Handled (send_route_status whole c status set destination n)) (stands of n)
+      refl (send_route_status-stand status set destination n)
+  on_route_test-stand test (Err outcome) n = refl
+
+  apply_route_status-stand : (x : Heard) (set destination : ℕ) (status : RouteStatus) (n : Node WholeQueues)
+      → stands of (apply_route_status whole c x set destination status n).left ≡ stands of n
+  apply_route_status-stand hears.Ignored set destination status n = refl
+  apply_route_status-stand hears.Unchanged set destination status n = refl
+  apply_route_status-stand hears.Changed set destination status n = refl
+
+  pub on_route_status-stand : (status : RouteStatus) (route : Result (ℕ × ℕ) Outcome) (n : Node WholeQueues) → stands of (on_route_status whole c status route n).left ≡ stands of n
+  on_route_status-stand status (Ok (set, destination)) n =
+      apply_route_status-stand (hearing.heard (facts c n.parts) n.parts.told set destination status) set destination status n
+  on_route_status-stand status (Err outcome) n = refl
+
+  ask_by-stand : (status : Option RouteStatus) (set destination : ℕ) (n : Node WholeQueues) → stands of (ask_by whole c status set destination n) ≡ stands of n
+  ask_by-stand (Some Prohibited) set destination n =
+      made-stand (adjacent_of c set) (RouteSetTestProhibited (point_of c destination)) (with_parts n (with_next_test whole c set destination n.parts))
+  ask_by-stand (Some Restricted) set destination n =
+      made-stand (adjacent_of c set) (RouteSetTestRestricted (point_of c destination)) (with_parts n (with_next_test whole c set destination n.parts))
+  ask_by-stand (Some Allowed) set destination n = refl
+  ask_by-stand None set destination n = refl
+
+  pub ask_again-stand : (set destination : ℕ) (n : Node WholeQueues) → stands of (ask_again whole c set destination n) ≡ stands of n
+  ask_again-stand set destination n =
+      let status : Option RouteStatus = status_of (facts c n.parts) destination set in
+      either-stand (nat_lt set (length c.sets) && nat_lt destination (length c.destinations)) (ask_by whole c status set destination n) n (stands of n)
+      (ask_by-stand status set destination n) refl
+
+  -- ---- links fail
+
+  begin-stand : (ordered : Bool) (link : ℕ) (n : Node WholeQueues) → stands of (begin whole c ordered link n) ≡ stands of n
+  begin-stand true link n =
+      made-stand (peer_of c link) (ExtendedChangeoverOrder (entry_of c link).slc (whole.last_accepted n.queues link)) (with_parts n (changing c true link n.parts))
+  begin-stand false link n = refl
+
+  failing-stand : (served : Bool) (link : ℕ) (why : FailureReason) (n : Node WholeQueues)
+      → stands of (change_over whole c served link (make_unavailable whole c served link why n)) ≡ stands of n
+  failing-stand true link why n =
+      let gone : Node WholeQueues = make_unavailable whole c true link why n in
+      begin-stand (has_other c link gone.parts) link gone
+  failing-stand false link why n = refl
+
+  pub fail-stand : (link : ℕ) (why : FailureReason) (n : Node WholeQueues) → stands of (fail whole c link why n) ≡ stands of n
+  fail-stand link why n = failing-stand (in_service n.parts link) link why n
+
+  fail_if_up-stand : (link : ℕ) (why : FailureReason) (n : Node WholeQueues) → stands of (fail_if_up whole c link why n) ≡ stands of n
+  fail_if_up-stand link why n = either-stand (down n.parts link) n (fail whole c link why n) (stands of n) refl (fail-stand link why n)
+
+  -- a link that fails by its peer's order changes no queue
+  by_peer-queues : (served : Bool) (link : ℕ) (n : Node WholeQueues) → (begin_by_peer whole c served link (make_unavailable whole c served link reasons.Changeover n)).queues ≡ n.queues
+  by_peer-queues true link n = refl
+  by_peer-queues false link n = refl
+
+  by_order-queues : (is_down : Bool) (link : ℕ) (n : Node WholeQueues) → (if is_down then n else fail_by_peer whole c link n).queues ≡ n.queues
+  by_order-queues true link n = refl
+  by_order-queues false link n = by_peer-queues (in_service n.parts link) link n
+
+  pub fail_by_order-queues : (link : ℕ) (n : Node WholeQueues) → (fail_by_order whole c link n).queues ≡ n.queues
+  fail_by_order-queues link n = by_order-queues (down n.parts link) link n
+
+  pub association_down-stand : (link : ℕ) (n : Node WholeQueues) → stands of (association_down whole c link n).left ≡ stands of n
+  association_down-stand link n =
+      let ended : Done WholeQueues = answer Handled (end_association whole c link (fail_if_up whole c link reasons.Association n)) in
+      either_done-stand (is_link n.parts link) (if (link_at n.parts link).association then ended else answer Ignored n) (refuse causes.NoSuchName n) (stands of n)
+      (either_done-stand (link_at n.parts link).association ended (answer Ignored n) (stands of n) (fail_if_up-stand link reasons.Association n) refl) refl
+
+  pub activate-stand : (link : ℕ) (n : Node WholeQueues) → stands of (activate whole c link n).left ≡ stands of n
+  activate-stand link n = either_done-stand (is_link n.parts link) (answer Handled (set_active whole c true link n)) (refuse causes.NoSuchName n) (stands of n) refl refl
+
+  pub deactivate-stand : (link : ℕ) (n : Node WholeQueues) → stands of (deactivate whole c link n).left ≡ stands of n
+  deactivate-stand link n =
+      either_done-stand (is_link n.parts link) (answer Handled (set_active whole c false link (fail_if_up whole c link reasons.Operator n))) (refuse causes.NoSuchName n) (stands of n)
+      (fail_if_up-stand link reasons.Operator n) refl
+
+  -- ---- links return
+
+  hold_flows-stand : (before after : Facts) (code : Option ℕ) (link other : ℕ) (n : Node WholeQueues) → stands of (hold_flows whole c before after code link other n) ≡ stands of n
+  hold_flows-stand before after (Some code) link other n =
+      queued-stand other (declaration c link code) (with_parts n (code_in_use c (set_of c link) code n.parts))
+      (made-management c (peer_of c link) (ChangebackDeclaration (entry_of c link).slc code))
+  hold_flows-stand before after None link other n = refl
+
+  take_back_each-stand : (before after : Facts) (link many : ℕ) (n : Node WholeQueues) → stands of (take_back_each whole c before after link many n) ≡ stands of n
+  unfolding take_back_each
+  take_back_each-stand before after link zero n = refl
+  take_back_each-stand before after link (suc other) n =
+      let one : Node WholeQueues = take_back_each whole c before after link other n in
+      let code : Option ℕ = code_for whole c link other one in
+      either-stand (loses_flows c before after other link) (hold_flows whole c before after code link other one) one (stands of one)
+      (hold_flows-stand before after code link other one) refl
+      ∙ take_back_each-stand before after link other n
+
+  return-stand : (entered : Bool) (link : ℕ) (before : Facts) (n : Node WholeQueues) → stands of (return_if whole c entered link before n) ≡ stands of n
+  return-stand true link before n = take_back_each-stand before (facts c n.parts) link (length c.links) n
+  return-stand false link before n = refl
+
+  pub advance-stand : (link : ℕ) (step : Transition) (n : Node WholeQueues) → stands of (advance whole c link step n) ≡ stands of n
+  advance-stand link step n = return-stand (enters link step n.parts) link (facts c n.parts) (with_parts n (moved_on c link step n.parts))
+
+  -- ---- statuses and timers of links
+
+  serve_status-stand : (link : ℕ) (status : LinkStatus) (n : Node WholeQueues) → stands of (serve_status whole c link status n) ≡ stands of n
+  serve_status-stand link says.Busy n = refl
+  serve_status-stand link says.BusyEnded n = refl
+  serve_status-stand link says.Alignment n = refl
+  serve_status-stand link says.ProvingNormal n = refl
+  serve_status-stand link says.ProvingEmergency n = refl
+  serve_status-stand link says.Ready n = refl
+  serve_status-stand link says.ProcessorOutage n = refl
+  serve_status-stand link says.ProcessorRecovered n = refl
+  serve_status-stand link says.OutOfService n = refl
+
+  act_by_status-stand : (a : Action) (link : ℕ) (status : LinkStatus) (n : Node WholeQueues) → stands of (act_by_status whole c a link status n).left ≡ stands of n
+  act_by_status-stand act.Ignored link status n = refl
+  act_by_status-stand act.Fail link status n = fail-stand link reasons.Status n
+  act_by_status-stand (act.Go step) link status n =
+      let moved : Node WholeQueues = advance whole c link step n in
+      either-stand step.serve (serve_status whole c link status moved) moved (stands of moved) (serve_status-stand link status moved) refl
+      ∙ advance-stand link step n
+
+  pub on_link_status-stand : (link : ℕ) (status : LinkStatus) (n : Node WholeQueues) → stands of (on_link_status whole c link status n).left ≡ stands of n
+  on_link_status-stand link status n = act_by_status-stand (action_at (link_at n.parts link).alignment (Status status)) link status n
+
+  act_by_timer-stand : (a : Action) (link : ℕ) (n : Node WholeQueues) → stands of (act_by_timer whole c a link n) ≡ stands of n
+  act_by_timer-stand act.Ignored link n = refl
+  act_by_timer-stand act.Fail link n = fail-stand link reasons.Timer n
+  act_by_timer-stand (act.Go step) link n = advance-stand link step n
+
+  pub run_out-stand : (link : ℕ) (its : LinkTimer) (n : Node WholeQueues) → stands of (run_out whole c link its n) ≡ stands of n
+  run_out-stand link its n = act_by_timer-stand (action_at (link_at n.parts link).alignment (Expiry its)) link n
+
+  pub leave_aside-stand : (link : ℕ) (fault : FrameFault) (n : Node WholeQueues) → stands of (leave_aside whole c link fault n).left ≡ stands of n
+  leave_aside-stand link faults.Length n = fail-stand link reasons.Length n
+  leave_aside-stand link faults.Short n = refl
+  leave_aside-stand link faults.Version n = refl
+  leave_aside-stand link faults.Unknown n = refl
+
+  -- ---- tests and words that complete no changeover
+
+  do_kind-stand : (kind : TestKind) (link point : ℕ) (test : LinkTestValue) (n : Node WholeQueues) → stands of (do_kind whole c kind link point test n).left ≡ stands of n
+  do_kind-stand Test link point test n =
+      let m : Message = test_answer c point test in
+      send-stand (no_room whole c m n.queues) (Some link) m n (answer-management c point test)
+  do_kind-stand Acknowledgement link point test n = refl
+
+  pub do_test-stand : (r : Result LinkTestValue MgmtFault) (link point : ℕ) (n : Node WholeQueues) → stands of (do_test whole c r link point n).left ≡ stands of n
+  do_test-stand (Err fault) link point n = refl
+  do_test-stand (Ok test) link point n = do_kind-stand test.kind link point test n
+
+  pub answered_back-stand : (set : Option ℕ) (code : ℕ) (n : Node WholeQueues) → stands of (on_changeback_acknowledgement whole c set code n).left ≡ stands of n
+  answered_back-stand (Some set) code n =
+      either_done-stand (is_outstanding n.parts.codes set code) (answer Handled (with_parts n (freed set code n.parts))) (answer Ignored n) (stands of n) refl refl
+  answered_back-stand None code n = refl

@@ -1,0 +1,299 @@
+-- Every event conserves user messages, and every take leaves them.
+use Rattle.std.proofs.Common.{Bool, Err, List, None, Ok, Option, Result, Some, [], ap, arith, drop, false, nat_eq, not, refl, suc, sym, true, zero, ℕ, ◌&&◌, ◌+◌, ◌∙◌, ◌≡◌}
+use Rattle.std.proofs.lemmas.List.{take-append-drop}
+use Rattle.std.specs.Prelude.{if◌then◌else◌, take}
+use Rattle.changeover.specs.Standing.{Standing, may_restart}
+use Rattle.global_title.specs.Rows.{has_row, place_of, without_row}
+use Rattle.link_alignment.specs.Table.{action_at}
+use Rattle.link_alignment.specs.declared.action.Action.{Action}
+use Rattle.link_alignment.specs.declared.action.Input.TheVariants.{UserData}
+use Rattle.link_alignment.specs.declared.alignment.Alignment.{Alignment}
+use Rattle.link_sequence.proofs.Kept.{unconfirmed-accepted, unconfirmed-sent_one}
+use Rattle.link_sequence.specs.Queue.{Queue, count_confirmed, first_queue, unconfirmed}
+use Rattle.link_sequence.specs.declared.fault.SeqFault.{SeqFault}
+use Rattle.m2pa_codec.specs.Frames.{EmptyFrame, FrameValue, MessageFrame, StatusFrame}
+use Rattle.m2pa_codec.specs.Reading.{read_frame}
+use Rattle.mgmt_codec.specs.Management.{read_management}
+use Rattle.node_links.specs.Link.{Link}
+use Rattle.node_links.specs.LinkState.{is_down, is_in_service}
+use Rattle.routing_label.specs.declared.discrimination.Discrimination.{Discrimination}
+use Rattle.settings_rows.specs.Configuration.{Configuration, TitleEntry}
+use Rattle.signalling_types.specs.Message.{Message, is_management, opc_of, service_indicator}
+use Rattle.signalling_types.specs.declared.cause.Cause.{Cause}
+use Rattle.signalling_types.specs.declared.notice.FrameFault.{FrameFault}
+use Rattle.signalling_types.specs.declared.outcome.Outcome.TheVariants.{Handled, Ignored}
+use Rattle.exchange_rules.specs.Arrival.{transfer}
+use Rattle.exchange_rules.specs.Conserving.{Gone, both_gone, brought_by, brought_here, brought_in, brought_to, confirmed_at, confirmed_by, confirmed_in, confirmed_of, gone, gone_by, gone_by_message, gone_by_new, gone_by_release, gone_by_tick, gone_by_word, gone_that, nothing_gone, taken_in, users_that}
+use Rattle.exchange_rules.specs.LawsOfMessages.{takes_leave_user_messages, user_messages_are_conserved}
+use Rattle.exchange_rules.specs.Exchange.{apply, handle_event}
+use Rattle.exchange_rules.specs.Failing.{changeover_of}
+use Rattle.exchange_rules.specs.Frames.{Carrying, accept, act_by_data, carries, carry, empty_data, handle_by, message_data, numbers, read, receive_data}
+use Rattle.exchange_rules.specs.Happening.{Activated, CameUp, Deactivated, FrameCame, Happening, Submitted, Ticked, TitleAdded, TitleRemoved, WentDown}
+use Rattle.exchange_rules.specs.LastingLinks.{AreLinksSteady, IsSteady, is_l7_running}
+use Rattle.exchange_rules.specs.Laws.{accept_data, accept_frame, accept_text}
+use Rattle.exchange_rules.specs.Links.{down, in_service, is_link, link_at}
+use Rattle.exchange_rules.specs.Local.{is_adjacent, local, manage, testing}
+use Rattle.exchange_rules.specs.Messages.{deliver_to, submit, whither_goes}
+use Rattle.exchange_rules.specs.Opening.{may_open, open_link}
+use Rattle.exchange_rules.specs.Queues.{WholeQueues, queue_at, whole}
+use Rattle.exchange_rules.specs.Receiving.{new_at, new_by, new_in, new_of}
+use Rattle.exchange_rules.specs.Relaying.{add_title_unless, title_refusal, with_titles}
+use Rattle.exchange_rules.specs.Releasing.{release}
+use Rattle.exchange_rules.specs.Sending.{Acknowledges, Outgoing, SendsMessage, SendsNothing, SendsStatus, after_sending, goes_out}
+use Rattle.exchange_rules.specs.Sound.{Abstract}
+use Rattle.exchange_rules.specs.State.{Done, Node, answer, refuse, with_parts}
+use Rattle.exchange_rules.specs.Statuses.{advance}
+use Rattle.exchange_rules.specs.Telling.{tell_owed}
+use Rattle.exchange_rules.specs.Ticking.{tick}
+use Rattle.exchange_rules.proofs.Changes.{activate-stand, advance-stand, association_down-stand, deactivate-stand, either_done-stand, fail-stand, leave_aside-stand, on_link_status-stand, stands, tell_owed-stand}
+use Rattle.exchange_rules.proofs.Departing.{both-that, manage-lets, release-lets, tick-lets}
+use Rattle.exchange_rules.proofs.Fitting.{Fits, event-fit, fit-steps}
+use Rattle.exchange_rules.proofs.Moves.{local-brings, nothing-here, submit-brings, transfer-brings}
+use Rattle.exchange_rules.proofs.Serving.{data-serves}
+use Rattle.exchange_rules.proofs.SteppingEvents.{owing-steps}
+use Rattle.exchange_rules.proofs.SteppingLinks.{advance-serves, advance-steps}
+use Rattle.exchange_rules.proofs.Steps.{confirming}
+use Rattle.exchange_rules.proofs.Tallies.{append, none-more, queue-less, queue-same}
+use Rattle.link_alignment.specs.declared.action.Action.TheVariants as act
+use Rattle.signalling_types.specs.declared.cause.Cause.TheVariants as causes
+use Rattle.signalling_types.specs.declared.notice.FailureReason.TheVariants as reasons
+use Rattle.routing_label.specs.declared.discrimination.Discrimination.TheVariants as whither
+use Rattle.link_alignment.specs.declared.alignment.Alignment.TheVariants as stage
+use Rattle.link_sequence.specs.Queue as queue
+
+module _ (of : Message → Bool) (c : Configuration) where
+  -- ---- a message of a frame
+
+  -- what it brings comes, and what its word completes goes
+  Moves : (m n : Node WholeQueues) → (came : List Message) → Gone → Type 0
+  Moves m n came went = stands of n + users_that of came ≡ stands of m + gone_that of went
+
+  came-alone : (n m k : ℕ) → m ≡ n + k → n + k ≡ m + 0
+  came-alone n m k e = omega (arith, e)
+
+  went-alone : (n m k a : ℕ) → n ≡ m + k → a ≡ 0 → n + a ≡ m + k
+  went-alone n m k a e f = omega (arith, e, f)
+
+  -- the test by which a message is a word, once it is known to be management
+  here-by : (b : Bool) (link : ℕ) (m : Message) (n : Node WholeQueues) → Fits c n → is_management m ≡ b
+      → stands of n + users_that of (brought_here (if b then manage whole c link m n else local whole c m n).outcome c m n)
+      ≡ stands of (if b then manage whole c link m n else local whole c m n).left
+      + gone_that of (if b && (is_adjacent c (opc_of m) && not (nat_eq (service_indicator m) testing)) then gone_by_word (read_management m.sif) (opc_of m) c n else nothing_gone)
+  here-by true link m n f e =
+      went-alone (stands of n) (stands of (manage whole c link m n).left)
+      (gone_that of (if is_adjacent c (opc_of m) && not (nat_eq (service_indicator m) testing) then gone_by_word (read_management m.sif) (opc_of m) c n else nothing_gone))
+      (users_that of (brought_here (manage whole c link m n).outcome c m n))
+      (manage-lets of c link m n f) (nothing-here of c (manage whole c link m n).outcome m n e)
+  here-by false link m n f e =
+      came-alone (stands of n) (stands of (local whole c m n).left) (users_that of (brought_here (local whole c m n).outcome c m n)) (local-brings of c m n f)
+
+  deliver_to-moves : (d : Discrimination) (link : ℕ) (m : Message) (n : Node WholeQueues) → Fits c n
+      → stands of n + users_that of (brought_to d (deliver_to whole c d link m n).outcome c m n) ≡ stands of (deliver_to whole c d link m n).left + gone_that of (gone_by_message d c m n)
+  deliver_to-moves (whither.Refused cause) link m n f = refl
+  deliver_to-moves (whither.Here label) link m n f = here-by (is_management m) link m n f refl
+  deliver_to-moves (whither.Transfer label) link m n f =
+      let d : Done WholeQueues = transfer whole c (Some link) m n in
+      came-alone (stands of n) (stands of d.left) (users_that of (taken_in d.outcome m)) (transfer-brings of c (Some link) m n f)
+
+  carry-moves : (link : ℕ) (m : Option Message) (n : Node WholeQueues) → Fits c n
+      → stands of n + users_that of (brought_by m (carry whole c link m n).outcome c n) ≡ stands of (carry whole c link m n).left + gone_that of (gone_by_new m c n)
+  carry-moves link None n f = refl
+  carry-moves link (Some m) n f = deliver_to-moves (whither_goes c m) link m n f
+
+  -- ---- a frame
+
+  -- what is confirmed leaves the queue
+  accepted-lets : (link : ℕ) (d : Carrying) (r : Result ℕ SeqFault) (n : Node WholeQueues) → numbers whole c link d n ≡ r
+      → stands of n ≡ stands of (accept whole c link d (count_confirmed r) n) + users_that of (confirmed_by r (queue_at n.queues link))
+  accepted-lets link d r n e =
+      let q : Queue = queue_at n.queues link in
+      let count : ℕ = count_confirmed r in
+      let left : users_that of (unconfirmed (queue.accepted q d.fsn d.bsn (carries d))) ≡ users_that of (drop count (unconfirmed q)) =
+      ap (users_that of) (unconfirmed-accepted q d.fsn d.bsn (carries d)) ∙ ap (λ (x : Result ℕ SeqFault). users_that of (drop (count_confirmed x) (unconfirmed q))) e in
+      let all : users_that of (unconfirmed q) ≡ users_that of (take count (unconfirmed q)) + users_that of (drop count (unconfirmed q)) =
+      ap (users_that of) (sym (take-append-drop count (unconfirmed q))) ∙ append of (take count (unconfirmed q)) (drop count (unconfirmed q)) in
+      sym (queue-less of n.queues link (queue.accepted q d.fsn d.bsn (carries d)) (users_that of (take count (unconfirmed q)))
+      (parts-of _ _ _ _ left all))
+    where
+      parts-of : (a b k all : ℕ) → a ≡ b → all ≡ k + b → a + k ≡ all
+      parts-of a b k all e f = omega (arith, e, f)
+
+  frame-sum : (n m o a k l t u : ℕ) → n ≡ m + k → m + a ≡ o + l → u ≡ (k + t) + l → t ≡ 0 → n + a ≡ o + u
+  frame-sum n m o a k l t u e f g h = omega (arith, e, f, g, h)
+
+  -- the numbers first, and then the message
+  data_gone : Result ℕ SeqFault → ℕ → Option Message → (accepts before : Node WholeQueues) → Gone
+  data_gone r link m accepts before = both_gone (record { accepted = confirmed_by r (queue_at before.queues link); lost = [] }) (gone_by_new m c accepts)
+
+  data-that : (ms : List Message) (g : Gone) → gone_that of (both_gone (record { accepted = ms; lost = [] }) g) ≡ users_that of ms + gone_that of g
+  data-that ms g = both-that of (record { accepted = ms; lost = [] }) g ∙ ap (λ (k : ℕ). k + gone_that of g) (sym (none-more (users_that of ms)))
+
+  then-sum : (n m o a k l u : ℕ) → n ≡ m + k → m + a ≡ o + l → u ≡ k + l → n + a ≡ o + u
+  then-sum n m o a k l u e f g = omega (arith, e, f, g)
+
+  accept-fits : (link : ℕ) (d : Carrying) (count : ℕ) (n : Node WholeQueues) → in_service n.parts link ≡ true → numbers whole c link d n ≡ Ok count → Fits c n → Fits c (accept whole c link d count n)
+  accept-fits link d count n serves e f =
+      (owing-steps (fit-steps c) link d.message (confirming c link d count n)).stay (((fit-steps c).accepted link d count n tt serves e).stay f)
+
+  handle-moves : (r : Result ℕ SeqFault) (link : ℕ) (d : Carrying) (n : Node WholeQueues) → Fits c n → in_service n.parts link ≡ true → numbers whole c link d n ≡ r
+      → stands of n + users_that of (brought_by (new_by r d) (handle_by whole c r link d n).outcome c (accept whole c link d (count_confirmed r) n))
+      ≡ stands of (handle_by whole c r link d n).left
+      + gone_that of (both_gone (record { accepted = confirmed_by r (queue_at n.queues link); lost = [] }) (gone_by_new (new_by r d) c (accept whole c link d (count_confirmed r) n)))
+  handle-moves (Ok count) link d n f serves e =
+      let took : Node WholeQueues = accept whole c link d count n in
+      let ms : List Message = confirmed_by (Ok count) (queue_at n.queues link) in
+      then-sum (stands of n) (stands of took) (stands of (carry whole c link d.message took).left) (users_that of (brought_by d.message (carry whole c link d.message took).outcome c took))
+      (users_that of ms) (gone_that of (gone_by_new d.message c took)) _
+      (accepted-lets link d (Ok count) n e) (carry-moves link d.message took (accept-fits link d count n serves e f)) (data-that ms (gone_by_new d.message c took))
+  handle-moves (Err fault) link d n f serves e = ap (λ (k : ℕ). k + 0) (sym (fail-stand of c link reasons.Sequence n))
+
+  act-moves : (a : Action) (link : ℕ) (d : Carrying) (n : Node WholeQueues) → Fits c n → action_at (link_at n.parts link).alignment UserData ≡ a
+      → stands of n + users_that of (brought_by (new_at a link d c n) (act_by_data whole c a link d n).outcome c (accept_data a link d c n))
+      ≡ stands of (act_by_data whole c a link d n).left
+      + gone_that of (both_gone (record { accepted = confirmed_at a link d c n; lost = [] }) (gone_by_new (new_at a link d c n) c (accept_data a link d c n)))
+  act-moves act.Ignored link d n f e = refl
+  act-moves act.Fail link d n f e = ap (λ (k : ℕ). k + 0) (sym (fail-stand of c link reasons.Sequence n))
+  act-moves (act.Go step) link d n f e =
+      let next : Node WholeQueues = advance whole c link step n in
+      let r : Result ℕ SeqFault = numbers whole c link d next in
+      let took : Node WholeQueues = accept whole c link d (count_confirmed r) next in
+      ap (λ (k : ℕ). k + users_that of (brought_by (new_by r d) (handle_by whole c r link d next).outcome c took)) (sym (advance-stand of c link step n))
+      ∙ handle-moves r link d next ((advance-steps (fit-steps c) link UserData step n tt e).stay f)
+      (advance-serves c link UserData step n e ∙ data-serves (link_at n.parts link).alignment step e) refl
+
+  data-moves : (link : ℕ) (d : Carrying) (n : Node WholeQueues) → Fits c n
+      → stands of n + users_that of (brought_by (new_in (Some d) link c n) (receive_data whole c link d n).outcome c (accept_frame (Some d) link c n))
+      ≡ stands of (receive_data whole c link d n).left
+      + gone_that of (both_gone (record { accepted = confirmed_in (Some d) link c n; lost = [] }) (gone_by_new (new_in (Some d) link c n) c (accept_frame (Some d) link c n)))
+  data-moves link d n f = act-moves (action_at (link_at n.parts link).alignment UserData) link d n f refl
+
+-- what a frame brings and lets go, by what it reads as
+module _ (of : Message → Bool) (a : Abstract) where
+  abbrev was : Node WholeQueues
+  was = a.node
+
+  abbrev set : Configuration
+  set = a.settings
+
+  frame-moves : (link : ℕ) (r : Result FrameValue FrameFault) → Fits set was
+      → stands of was + users_that of (brought_by (new_of r link set was) (read whole set link r was).outcome set (accept_text link r a))
+      ≡ stands of (read whole set link r was).left
+      + gone_that of (both_gone (record { accepted = confirmed_of r link set was; lost = [] }) (gone_by_new (new_of r link set was) set (accept_text link r a)))
+  frame-moves link (Ok (EmptyFrame bsn fsn)) f = data-moves of set link (empty_data bsn fsn) was f
+  frame-moves link (Ok (MessageFrame bsn fsn sio sif)) f = data-moves of set link (message_data bsn fsn sio sif) was f
+  frame-moves link (Ok (StatusFrame bsn fsn status)) f = ap (λ (k : ℕ). k + 0) (sym (on_link_status-stand of set link status was))
+  frame-moves link (Err fault) f = ap (λ (k : ℕ). k + 0) (sym (leave_aside-stand of set link fault was))
+
+  -- where the link is there, and isn't down
+  receive-moves : (is_there is_down : Bool) (link : ℕ) (r : Result FrameValue FrameFault) → Fits set was
+      → stands of was
+      + users_that of (brought_by (if is_there && not is_down then new_of r link set was else None)
+      (if is_there then (if is_down then answer Ignored was else read whole set link r was) else refuse causes.NoSuchName was).outcome set (accept_text link r a))
+      ≡ stands of (if is_there then (if is_down then answer Ignored was else read whole set link r was) else refuse causes.NoSuchName was).left
+      + gone_that of (both_gone (record { accepted = if is_there && not is_down then confirmed_of r link set was else []; lost = [] })
+      (gone_by_new (if is_there && not is_down then new_of r link set was else None) set (accept_text link r a)))
+  receive-moves false is_down link r f = refl
+  receive-moves true true link r f = refl
+  receive-moves true false link r f = frame-moves link r f
+
+  -- ---- a link opens
+
+  -- it is down without an association, so nothing stands in its queue
+  not-serving : (state : Alignment) → is_down state ≡ true → is_in_service state ≡ false
+  not-serving stage.Down e = refl
+  not-serving state e = absurd cc
+
+  no-association : (l : Link) → may_open l ≡ true → l.association ≡ false
+  no-association l e = by l.association e
+    where
+      by : (association : Bool) → (not association && l.active) ≡ true → association ≡ false
+      by true h = absurd cc
+      by false h = refl
+
+  complete : (s : Standing) → may_restart s ≡ true → s.incomplete ≡ false
+  complete s e = by s.incomplete e
+    where
+      by : (incomplete : Bool) → (not incomplete && not s.awaited) ≡ true → incomplete ≡ false
+      by true h = absurd cc
+      by false h = refl
+
+  opened-stand : (link : ℕ) → AreLinksSteady set.window was → may_open (link_at was.parts link) ≡ true → may_restart (changeover_of was.parts link) ≡ true
+      → stands of (open_link whole set link was) ≡ stands of was
+  opened-stand link h e f =
+      let steady : IsSteady set.window (link_at was.parts link) (changeover_of was.parts link) (queue_at was.queues link) (is_l7_running was link) = h.each link in
+      let q : Queue = queue_at was.queues link in
+      let empty : q.all ≡ [] =
+      steady.moved (not-serving (link_at was.parts link).alignment (steady.associated (no-association (link_at was.parts link) e))) (complete (changeover_of was.parts link) f) in
+      queue-same of was.queues link first_queue (sym (ap (λ (ms : List Message). users_that of (drop q.confirmed ms)) empty ∙ none-dropped q.confirmed))
+    where
+      none-dropped : (k : ℕ) → users_that of (drop k []) ≡ 0
+      none-dropped zero = refl
+      none-dropped (suc k) = refl
+
+  up-by : (is_there opens restarts : Bool) (link : ℕ) → AreLinksSteady set.window was → may_open (link_at was.parts link) ≡ opens → may_restart (changeover_of was.parts link) ≡ restarts
+      → stands of (if is_there then (if opens then (if restarts then answer Handled (open_link whole set link was) else refuse causes.ChangeoverPending was) else refuse causes.LinkNotReady was)
+      else refuse causes.NoSuchName was).left ≡ stands of was
+  up-by true true true link h e f = opened-stand link h e f
+  up-by true true false link h e f = refl
+  up-by true false restarts link h e f = refl
+  up-by false opens restarts link h e f = refl
+
+  -- ---- events
+
+  quiet : {k l : ℕ} → l ≡ k → k + 0 ≡ l + 0
+  quiet e = ap (λ (k : ℕ). k + 0) (sym e)
+
+  went : (n m k : ℕ) → n ≡ m + k → n + 0 ≡ m + k
+  went n m k e = omega (arith, e)
+
+  titled-stand : (refusal : Option Cause) (row : TitleEntry) → stands of (add_title_unless refusal row was).left ≡ stands of was
+  titled-stand (Some cause) row = refl
+  titled-stand None row = refl
+
+  rule-moves : (what : Happening) → Fits set was → AreLinksSteady set.window was
+      → stands of was + users_that of (brought_in what a) ≡ stands of (handle_event whole set what was).left + gone_that of (gone_by what a)
+  unfolding apply
+  rule-moves (CameUp link) f h = quiet (up-by (is_link was.parts link) (may_open (link_at was.parts link)) (may_restart (changeover_of was.parts link)) link h refl refl)
+  rule-moves (WentDown link) f h = quiet (association_down-stand of set link was)
+  rule-moves (FrameCame link text) f h = receive-moves (is_link was.parts link) (down was.parts link) link (read_frame text) f
+  rule-moves Ticked f h = went (stands of was) (stands of (tick whole set was).left) (gone_that of (gone_by_tick set was)) (tick-lets of set was f)
+  rule-moves (Submitted m) f h =
+      let d : Done WholeQueues = submit whole set m was in
+      came-alone of set (stands of was) (stands of d.left) (users_that of (brought_to (whither_goes set m) d.outcome set m was)) (submit-brings of set m was f)
+  rule-moves (Activated link) f h = quiet (activate-stand of set link was)
+  rule-moves (Deactivated link) f h = quiet (deactivate-stand of set link was)
+  rule-moves (TitleAdded row refused) f h = quiet (titled-stand (title_refusal was.parts.titles row refused) row)
+  rule-moves (TitleRemoved key digits) f h =
+      quiet (either_done-stand of set (has_row was.parts.titles (place_of key digits)) (answer Handled (with_parts was (with_titles (without_row (place_of key digits) was.parts.titles) was.parts)))
+      (refuse causes.NoSuchName was) (stands of was) refl refl)
+
+  whole-sum : (n a m g o h u : ℕ) → n + a ≡ m + g → m ≡ o + h → u ≡ g + h → n + a ≡ o + u
+  whole-sum n a m g o h u e f i = omega (arith, e, f, i)
+
+  event-moves : (what : Happening) → Fits set was → AreLinksSteady set.window was
+      → stands of was + users_that of (brought_in what a) ≡ stands of (apply whole set what was).left + gone_that of (gone what a)
+  unfolding apply
+  event-moves what f h =
+      let ruled : Node WholeQueues = (handle_event whole set what was).left in
+      let g : Gone = gone_by what a in
+      let r : Gone = gone_by_release set ruled in
+      whole-sum (stands of was) (users_that of (brought_in what a)) (stands of ruled) (gone_that of g) (stands of (tell_owed whole set (release whole set ruled))) (gone_that of r) (gone_that of (both_gone g r))
+      (rule-moves what f h)
+      (release-lets of set ruled ((event-fit set what was).stay f) ∙ ap (λ (k : ℕ). k + gone_that of r) (sym (tell_owed-stand of set (release whole set ruled))))
+      (both-that of g r)
+
+pub conserved : user_messages_are_conserved
+conserved what a of places h = event-moves of a what (record { places = places; queues = record { each = λ link. (h.each link).queue } }) h
+
+-- ---- takes
+
+sending-stands : (of : Message → Bool) (c : Configuration) (link : ℕ) (out : Outgoing) (n : Node WholeQueues) → stands of (after_sending whole c link n out) ≡ stands of n
+sending-stands of c link (SendsStatus status) n = refl
+sending-stands of c link (SendsMessage next) n =
+    let q : Queue = queue_at n.queues link in
+    queue-same of n.queues link (queue.sent_one q c.window) (ap (users_that of) (unconfirmed-sent_one q c.window))
+sending-stands of c link Acknowledges n = refl
+sending-stands of c link SendsNothing n = refl
+
+pub take-leaves : takes_leave_user_messages
+take-leaves a link of = sending-stands of a.settings link (goes_out whole a.settings link a.node) a.node

@@ -1,0 +1,33 @@
+-- What was known of routes before a link entered service.
+use Rattle.std.proofs.Common.{◌≡◌, ℕ, Bool, true, false, List, refl, ap, ◌∙◌}
+use Rattle.settings_rows.specs.Configuration.{Configuration}
+use Rattle.link_alignment.specs.declared.action.Transition.{Transition}
+use Rattle.route_table.specs.Facts.{Facts, with_link}
+use Rattle.route_table.specs.Statuses.{with_statuses_reset}
+use Rattle.route_table.specs.Chosen.{chosen_link}
+use Rattle.route_table.proofs.Resetting.{reset_link}
+use Rattle.node_links.specs.LinkState.{stepped}
+use Rattle.node_links.proofs.Serving.{serving_without}
+use Rattle.exchange_rules.specs.State.{Parts}
+use Rattle.exchange_rules.specs.Links.{link_at, in_service}
+use Rattle.exchange_rules.specs.Routing.{sets_in, facts}
+use Rattle.exchange_rules.specs.Points.{set_of}
+use Rattle.exchange_rules.specs.Failing.{has_other}
+use Rattle.exchange_rules.specs.Statuses.{begun_anew_if, step_on}
+
+-- what was known of routes before, once the link that entered is taken out again
+pub known_before : (c : Configuration) (link : ℕ) (step : Transition) (p : Parts) → in_service p link ≡ false
+    → with_link link false (facts c (step_on c link step p)) ≡ facts c p
+known_before c link step p e =
+    ap (λ (serving : List Bool). record { sets = sets_in c; in_service = serving; routes = p.routes })
+    (serving_without p.links link (stepped step (link_at p link)) e)
+
+-- once the link that entered is taken out again, each flow takes the link that it took before, also where all that is known over its
+-- set began anew: then that set had no link
+pub known_links : (c : Configuration) (link : ℕ) (step : Transition) (p : Parts) (first : Bool) → in_service p link ≡ false
+    → (first ≡ true → has_other c link p ≡ false) → (destination sls : ℕ)
+    → chosen_link (with_link link false (facts c (begun_anew_if first c link (step_on c link step p)))) destination sls ≡ chosen_link (facts c p) destination sls
+known_links c link step p true e h destination sls =
+    ap (λ (f : Facts). chosen_link (with_statuses_reset (set_of c link) f) destination sls) (known_before c link step p e)
+    ∙ reset_link (facts c p) (set_of c link) destination sls (h refl)
+known_links c link step p false e h destination sls = ap (λ (f : Facts). chosen_link f destination sls) (known_before c link step p e)

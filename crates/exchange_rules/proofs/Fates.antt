@@ -1,0 +1,122 @@
+-- Each user message that comes is queued, held, delivered or refused.
+use Rattle.std.proofs.Common.{Bool, Err, None, Ok, Option, Result, Some, ap, false, nat_eq, not, refl, true, ℕ, ◌&&◌, ◌∙◌, ◌≡◌}
+use Rattle.std.specs.Prelude.{if◌then◌else◌}
+use Rattle.link_alignment.specs.Table.{action_at}
+use Rattle.link_alignment.specs.declared.action.Action.{Action}
+use Rattle.link_alignment.specs.declared.action.Input.TheVariants.{UserData}
+use Rattle.link_sequence.specs.declared.fault.SeqFault.{SeqFault}
+use Rattle.m2pa_codec.specs.Frames.{EmptyFrame, FrameValue, MessageFrame, StatusFrame}
+use Rattle.m2pa_codec.specs.Reading.{read_frame}
+use Rattle.routing_label.specs.declared.discrimination.Discrimination.{Discrimination}
+use Rattle.sccp_relay.specs.Relay.{RelayedValue, relay}
+use Rattle.settings_rows.specs.Configuration.{Configuration}
+use Rattle.signalling_types.specs.Message.{Message, dpc_of, flow_of, is_management, service_indicator}
+use Rattle.signalling_types.specs.declared.cause.Cause.{Cause}
+use Rattle.signalling_types.specs.declared.notice.FrameFault.{FrameFault}
+use Rattle.signalling_types.specs.declared.outcome.Outcome.TheVariants.{Ignored, Local}
+use Rattle.exchange_rules.specs.Arrival.{is_destination, offer, transfer}
+use Rattle.exchange_rules.specs.LawsOfMessages.{carried_messages_have_a_fate, has_fate, submissions_have_a_fate}
+use Rattle.exchange_rules.specs.Exchange.{apply}
+use Rattle.exchange_rules.specs.Frames.{Carrying, accept, act_by_data, carry, empty_data, handle_by, message_data, numbers, read}
+use Rattle.exchange_rules.specs.Holding.{waits}
+use Rattle.exchange_rules.specs.Links.{down, is_link, link_at}
+use Rattle.exchange_rules.specs.Local.{distribute, is_user, local, manage, sccp}
+use Rattle.exchange_rules.specs.Messages.{deliver_to, submit_to, whither_goes}
+use Rattle.exchange_rules.specs.Queueing.{no_room}
+use Rattle.exchange_rules.specs.Queues.{WholeQueues, whole}
+use Rattle.exchange_rules.specs.Receiving.{new_at, new_by, new_of}
+use Rattle.exchange_rules.specs.Relaying.{in_place_of, on_unitdata, own_of, relay_by}
+use Rattle.exchange_rules.specs.Routing.{link_of}
+use Rattle.exchange_rules.specs.State.{Done, Node, answer, refuse}
+use Rattle.exchange_rules.specs.Statuses.{advance}
+use Rattle.link_alignment.specs.declared.action.Action.TheVariants as act
+use Rattle.signalling_types.specs.declared.cause.Cause.TheVariants as causes
+use Rattle.sccp_relay.specs.Relay as relays
+use Rattle.routing_label.specs.declared.discrimination.Discrimination.TheVariants as whither
+
+module _ (c : Configuration) (n : Node WholeQueues) where
+  offer-fate : (room : Option Cause) (waiting : Bool) (link from : Option ℕ) (m : Message) → has_fate (offer whole c room waiting link from m n).outcome ≡ true
+  offer-fate (Some cause) waiting link from m = refl
+  offer-fate None true link from m = refl
+  offer-fate None false None from m = refl
+  offer-fate None false (Some link) from m = refl
+
+  either-fate : (b : Bool) (d e : Done WholeQueues) → has_fate d.outcome ≡ true → has_fate e.outcome ≡ true → has_fate (if b then d else e).outcome ≡ true
+  either-fate true d e f g = f
+  either-fate false d e f g = g
+
+  transfer-fate : (from : Option ℕ) (m : Message) → has_fate (transfer whole c from m n).outcome ≡ true
+  transfer-fate from m =
+      let link : Option ℕ = link_of c n.parts (flow_of m) in
+      let offered : Done WholeQueues = offer whole c (no_room whole c m n.queues) (waits c n.parts.holds m) link from m n in
+      either-fate (is_destination c (dpc_of m)) offered (refuse causes.UnknownDestination n)
+      (offer-fate (no_room whole c m n.queues) (waits c n.parts.holds m) link from m) refl
+
+  relay-fate : (v : RelayedValue) (m : Message) → has_fate (relay_by whole c v m n).outcome ≡ true
+  relay-fate relays.Delivered m = refl
+  relay-fate (relays.Onward sif) m = transfer-fate None (in_place_of m sif)
+  relay-fate (relays.Refused cause) m = refl
+
+  local-fate : (m : Message) → has_fate (local whole c m n).outcome ≡ true
+  local-fate m =
+      let user : Done WholeQueues = if is_user c (service_indicator m) then answer Local n else refuse causes.NoUserPart n in
+      either-fate (nat_eq (service_indicator m) sccp) (on_unitdata whole c m n) user (relay-fate (relay (own_of c) n.parts.titles m.sif) m)
+      (either-fate (is_user c (service_indicator m)) (answer Local n) (refuse causes.NoUserPart n) refl refl)
+
+  here-fate : (link : ℕ) (m : Message) → is_management m ≡ false → has_fate (distribute whole c link m n).outcome ≡ true
+  here-fate link m e = ap (λ (b : Bool). has_fate (if b then manage whole c link m n else local whole c m n).outcome) e ∙ local-fate m
+
+  deliver_to-fate : (d : Discrimination) (link : ℕ) (m : Message) → is_management m ≡ false → has_fate (deliver_to whole c d link m n).outcome ≡ true
+  deliver_to-fate (whither.Refused cause) link m e = refl
+  deliver_to-fate (whither.Here label) link m e = here-fate link m e
+  deliver_to-fate (whither.Transfer label) link m e = transfer-fate (Some link) m
+
+  carry-fate : (o : Option Message) (link : ℕ) (m : Message) → o ≡ Some m → is_management m ≡ false → has_fate (carry whole c link o n).outcome ≡ true
+  carry-fate None link m e f = absurd cc
+  carry-fate (Some x) link m e f =
+      let same : x ≡ m = some-of x m e in
+      deliver_to-fate (whither_goes c x) link x (ap is_management same ∙ f)
+    where
+      as_message : Message → Option Message → Message
+      as_message other (Some its) = its
+      as_message other None = other
+
+      some-of : (x m : Message) → Some x ≡ Some m → x ≡ m
+      some-of x m g = ap (as_message x) g
+
+  submit_to-fate : (d : Discrimination) (m : Message) → has_fate (submit_to whole c d m n).outcome ≡ true
+  submit_to-fate (whither.Refused cause) m = refl
+  submit_to-fate (whither.Here label) m = either-fate (is_management m) (refuse causes.NotInProfile n) (local whole c m n) refl (local-fate m)
+  submit_to-fate (whither.Transfer label) m = either-fate (is_management m) (refuse causes.NotInProfile n) (transfer whole c None m n) refl (transfer-fate None m)
+
+-- ---- frames
+
+module _ (c : Configuration) (link : ℕ) (m : Message) (user : is_management m ≡ false) where
+  handle-fate : (r : Result ℕ SeqFault) (d : Carrying) (n : Node WholeQueues) → new_by r d ≡ Some m → has_fate (handle_by whole c r link d n).outcome ≡ true
+  handle-fate (Ok count) d n e = carry-fate c (accept whole c link d count n) d.message link m e user
+  handle-fate (Err fault) d n e = absurd cc
+
+  act-fate : (a : Action) (d : Carrying) (n : Node WholeQueues) → new_at a link d c n ≡ Some m → has_fate (act_by_data whole c a link d n).outcome ≡ true
+  act-fate act.Ignored d n e = absurd cc
+  act-fate act.Fail d n e = absurd cc
+  act-fate (act.Go step) d n e = (let next : Node WholeQueues = advance whole c link step n in handle-fate (numbers whole c link d next) d next e)
+
+  frame-fate : (r : Result FrameValue FrameFault) (n : Node WholeQueues) → new_of r link c n ≡ Some m → has_fate (read whole c link r n).outcome ≡ true
+  frame-fate (Ok (EmptyFrame bsn fsn)) n e = act-fate (action_at (link_at n.parts link).alignment UserData) (empty_data bsn fsn) n e
+  frame-fate (Ok (MessageFrame bsn fsn sio sif)) n e = act-fate (action_at (link_at n.parts link).alignment UserData) (message_data bsn fsn sio sif) n e
+  frame-fate (Ok (StatusFrame bsn fsn status)) n e = absurd cc
+  frame-fate (Err fault) n e = absurd cc
+
+  receive-fate : (is_there is_down : Bool) (r : Result FrameValue FrameFault) (n : Node WholeQueues) → (if is_there && not is_down then new_of r link c n else None) ≡ Some m
+      → has_fate (if is_there then (if is_down then answer Ignored n else read whole c link r n) else refuse causes.NoSuchName n).outcome ≡ true
+  receive-fate false is_down r n e = absurd cc
+  receive-fate true true r n e = absurd cc
+  receive-fate true false r n e = frame-fate r n e
+
+pub carried-fate : carried_messages_have_a_fate
+unfolding apply
+carried-fate a link text m e user = receive-fate a.settings link m user (is_link a.node.parts link) (down a.node.parts link) (read_frame text) a.node e
+
+pub submitted-fate : submissions_have_a_fate
+unfolding apply
+submitted-fate a m = submit_to-fate a.settings a.node (whither_goes a.settings m) m

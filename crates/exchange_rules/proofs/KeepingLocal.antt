@@ -1,0 +1,101 @@
+-- Messages for this point, and those that are delivered or submitted: what is kept of the node that a rule leaves is what the rule leaves of
+-- what was kept, and it stays sound. Over any two kinds of queues P and Q of which h keeps one as the other.
+use Rattle.std.proofs.Common.{ℕ, Option, Some, None, Result, Ok, Err, ap}
+use Rattle.std.specs.Prelude.{if◌then◌else◌, nat_eq}
+use Rattle.signalling_types.specs.Message.{Message, opc_of, is_management, service_indicator}
+use Rattle.settings_rows.specs.Configuration.{Configuration}
+use Rattle.signalling_types.specs.declared.cause.Cause.TheVariants as causes
+use Rattle.signalling_types.specs.declared.outcome.Outcome.TheVariants.{Local}
+use Rattle.mgmt_codec.specs.declared.fault.MgmtFault.{MgmtFault}
+use Rattle.mgmt_codec.specs.declared.link_test.TestKind.{TestKind}
+use Rattle.mgmt_codec.specs.declared.link_test.TestKind.TheVariants.{Test, Acknowledgement}
+use Rattle.mgmt_codec.specs.declared.management.Management.{Management}
+use Rattle.mgmt_codec.specs.declared.management.Management.TheVariants.{TrafficRestartAllowed, TransferProhibited, TransferRestricted, TransferAllowed, RouteSetTestProhibited, RouteSetTestRestricted, ChangebackDeclaration, ChangebackAcknowledgement, ExtendedChangeoverOrder, ExtendedChangeoverAcknowledgement, EmergencyChangeoverOrder, EmergencyChangeoverAcknowledgement}
+use Rattle.mgmt_codec.specs.LinkTests.{LinkTestValue, read_link_test}
+use Rattle.mgmt_codec.specs.Management.{read_management}
+use Rattle.routing_label.specs.declared.discrimination.Discrimination.{Discrimination}
+use Rattle.routing_label.specs.declared.discrimination.Discrimination.TheVariants as whither
+use Rattle.stp_types.specs.Readings.{set_place, destination_place}
+use Rattle.route_table.specs.declared.route.RouteStatus.TheVariants.{Allowed, Restricted, Prohibited}
+use Rattle.route_management.specs.declared.heard.RouteTest.TheVariants as tests
+use Rattle.exchange_rules.specs.State.{Node, Done, QueueKind, keep, answer, refuse}
+use Rattle.exchange_rules.specs.Noting.{note_refusal}
+use Rattle.exchange_rules.specs.Points.{route_about}
+use Rattle.exchange_rules.specs.Arrival.{transfer}
+use Rattle.exchange_rules.specs.Local.{sccp, is_user, is_adjacent, link_with_code, test_answer, local, do_order, do_acknowledgement, do_management, do_kind, do_test, manage, distribute}
+use Rattle.exchange_rules.specs.Relaying.{on_unitdata}
+use Rattle.exchange_rules.specs.Messages.{whither_goes, deliver_to, deliver, submit_to}
+use Rattle.exchange_rules.specs.ChangingBack.{changeback_acknowledgement}
+use Rattle.exchange_rules.proofs.Combining.{IsKeeping, Keeps, answered, parted, either}
+use Rattle.exchange_rules.proofs.KeepingMessages.{send_on-kept, send_routed-kept, on_route_test-kept, on_route_status-kept, transfer-kept}
+use Rattle.exchange_rules.proofs.KeepingRelaying.{on_unitdata-kept}
+use Rattle.exchange_rules.proofs.KeepingChangeover.{on_changeover_order-kept, on_changeover_acknowledgement-kept, on_changeback_acknowledgement-kept}
+
+module _ {P Q : Type 0} (p : QueueKind P) (q : QueueKind Q) (h : P → Q) (IsFit : P → Type 0) (c : Configuration) (k : IsKeeping p q h IsFit c.window) where
+  do_kind-kept : (t : TestKind) (l z : ℕ) (v : LinkTestValue) (n : Node P) → IsFit n.queues → Keeps h IsFit (do_kind q c t l z v (keep h n)) (do_kind p c t l z v n)
+  do_kind-kept Test l z v n f = answered _ _ _ (send_on-kept p q h IsFit c k l (test_answer c z v) n f)
+  do_kind-kept Acknowledgement l z v n f = parted _ n.parts n.queues f
+
+  do_test-kept : (r : Result LinkTestValue MgmtFault) (l z : ℕ) (n : Node P) → IsFit n.queues → Keeps h IsFit (do_test q c r l z (keep h n)) (do_test p c r l z n)
+  do_test-kept (Err fault) l z n f = parted _ n.parts n.queues f
+  do_test-kept (Ok v) l z n f = do_kind-kept v.kind l z v n f
+
+  do_order-kept : (link : Option ℕ) (number : Option ℕ) (n : Node P) → IsFit n.queues → Keeps h IsFit (do_order q c link number (keep h n)) (do_order p c link number n)
+  do_order-kept (Some l) number n f = on_changeover_order-kept p q h IsFit c k l number n f
+  do_order-kept None number n f = parted _ n.parts n.queues f
+
+  do_acknowledgement-kept : (link : Option ℕ) (number : Option ℕ) (n : Node P) → IsFit n.queues
+      → Keeps h IsFit (do_acknowledgement q c link number (keep h n)) (do_acknowledgement p c link number n)
+  do_acknowledgement-kept (Some l) number n f = on_changeover_acknowledgement-kept p q h IsFit c k l number n f
+  do_acknowledgement-kept None number n f = parted _ n.parts n.queues f
+
+  do_management-kept : (r : Result Management MgmtFault) (z : ℕ) (n : Node P) → IsFit n.queues → Keeps h IsFit (do_management q c r z (keep h n)) (do_management p c r z n)
+  do_management-kept (Err fault) z n f = parted _ n.parts n.queues f
+  do_management-kept (Ok TrafficRestartAllowed) z n f = parted _ n.parts n.queues f
+  do_management-kept (Ok (ExtendedChangeoverOrder slc number)) z n f = do_order-kept (link_with_code c z slc) (Some number) n f
+  do_management-kept (Ok (ExtendedChangeoverAcknowledgement slc number)) z n f = do_acknowledgement-kept (link_with_code c z slc) (Some number) n f
+  do_management-kept (Ok (EmergencyChangeoverOrder slc)) z n f = do_order-kept (link_with_code c z slc) None n f
+  do_management-kept (Ok (EmergencyChangeoverAcknowledgement slc)) z n f = do_acknowledgement-kept (link_with_code c z slc) None n f
+  do_management-kept (Ok (ChangebackDeclaration slc code)) z n f = answered _ _ _ (send_routed-kept p q h IsFit c k (changeback_acknowledgement c z slc code) n f)
+  do_management-kept (Ok (ChangebackAcknowledgement slc code)) z n f = on_changeback_acknowledgement-kept p q h IsFit c k (set_place c z) code n f
+  do_management-kept (Ok (TransferProhibited about)) z n f = on_route_status-kept p q h IsFit c k Prohibited (route_about (set_place c z) (destination_place c about)) n f
+  do_management-kept (Ok (TransferRestricted about)) z n f = on_route_status-kept p q h IsFit c k Restricted (route_about (set_place c z) (destination_place c about)) n f
+  do_management-kept (Ok (TransferAllowed about)) z n f = on_route_status-kept p q h IsFit c k Allowed (route_about (set_place c z) (destination_place c about)) n f
+  do_management-kept (Ok (RouteSetTestProhibited about)) z n f = on_route_test-kept p q h IsFit c k tests.Prohibited (route_about (set_place c z) (destination_place c about)) n f
+  do_management-kept (Ok (RouteSetTestRestricted about)) z n f = on_route_test-kept p q h IsFit c k tests.Restricted (route_about (set_place c z) (destination_place c about)) n f
+
+  manage-kept : (l : ℕ) (m : Message) (n : Node P) → IsFit n.queues → Keeps h IsFit (manage q c l m (keep h n)) (manage p c l m n)
+  manage-kept l m n f =
+      let t : Done P = do_test p c (read_link_test m.sif) l (opc_of m) n in
+      let r : Done P = do_management p c (read_management m.sif) (opc_of m) n in
+      either (is_adjacent c (opc_of m)) _ _ (if nat_eq (service_indicator m) 1 then t else r) (refuse causes.NotFromAdjacent n)
+      (either (nat_eq (service_indicator m) 1) _ _ t r (do_test-kept (read_link_test m.sif) l (opc_of m) n f) (do_management-kept (read_management m.sif) (opc_of m) n f))
+      (parted _ n.parts n.queues f)
+
+  local-kept : (m : Message) (n : Node P) → IsFit n.queues → Keeps h IsFit (local q c m (keep h n)) (local p c m n)
+  local-kept m n f =
+      let user : Done P = if is_user c (service_indicator m) then answer Local n else refuse causes.NoUserPart n in
+      either (nat_eq (service_indicator m) sccp) _ _ (on_unitdata p c m n) user (on_unitdata-kept p q h IsFit c k m n f)
+      (either (is_user c (service_indicator m)) _ _ (answer Local n) (refuse causes.NoUserPart n) (parted _ n.parts n.queues f) (parted _ n.parts n.queues f))
+
+  distribute-kept : (l : ℕ) (m : Message) (n : Node P) → IsFit n.queues → Keeps h IsFit (distribute q c l m (keep h n)) (distribute p c l m n)
+  distribute-kept l m n f =
+      either (is_management m) _ _ (manage p c l m n) (local p c m n) (manage-kept l m n f) (local-kept m n f)
+
+  deliver_to-kept : (d : Discrimination) (l : ℕ) (m : Message) (n : Node P) → IsFit n.queues → Keeps h IsFit (deliver_to q c d l m (keep h n)) (deliver_to p c d l m n)
+  deliver_to-kept (whither.Refused cause) l m n f = parted _ n.parts n.queues f
+  deliver_to-kept (whither.Here label) l m n f = distribute-kept l m n f
+  deliver_to-kept (whither.Transfer label) l m n f = transfer-kept p q h IsFit c k (Some l) m n f
+
+  noted-kept : (l : ℕ) (t : Done Q) (s : Done P) → Keeps h IsFit t s → Keeps h IsFit (note_refusal l t) (note_refusal l s)
+  noted-kept l t s e = record { same = ap (λ (d : Done Q). note_refusal l d) e.same; fit = e.fit }
+
+  pub deliver-kept : (l : ℕ) (m : Message) (n : Node P) → IsFit n.queues → Keeps h IsFit (deliver q c l m (keep h n)) (deliver p c l m n)
+  deliver-kept l m n f = noted-kept l _ (deliver_to p c (whither_goes c m) l m n) (deliver_to-kept (whither_goes c m) l m n f)
+
+  pub submit_to-kept : (d : Discrimination) (m : Message) (n : Node P) → IsFit n.queues → Keeps h IsFit (submit_to q c d m (keep h n)) (submit_to p c d m n)
+  submit_to-kept (whither.Refused cause) m n f = parted _ n.parts n.queues f
+  submit_to-kept (whither.Here label) m n f =
+      either (is_management m) _ _ (refuse causes.NotInProfile n) (local p c m n) (parted _ n.parts n.queues f) (local-kept m n f)
+  submit_to-kept (whither.Transfer label) m n f =
+      either (is_management m) _ _ (refuse causes.NotInProfile n) (transfer p c None m n) (parted _ n.parts n.queues f) (transfer-kept p q h IsFit c k None m n f)

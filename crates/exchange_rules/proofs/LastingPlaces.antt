@@ -1,0 +1,270 @@
+-- A node keeps a place for all that its settings name.
+use Rattle.std.proofs.Common.{◌≡◌, ℕ, Bool, true, List, length, refl, ap, ◌∙◌, false}
+use Rattle.std.specs.Prelude.{slice_set}
+use Rattle.signalling_types.specs.Message.{Message}
+use Rattle.signalling_types.specs.declared.notice.Notice.TheVariants as notices
+use Rattle.signalling_types.specs.declared.notice.FailureReason.{FailureReason}
+use Rattle.std.proofs.lemmas.List.{length-set, length-replicate, length-map}
+use Rattle.settings_rows.specs.Configuration.{Configuration, TitleEntry}
+use Rattle.signalling_types.specs.declared.notice.Notice.{Notice}
+use Rattle.link_alignment.specs.Table.{opening}
+use Rattle.link_sequence.specs.Queue as queue
+use Rattle.link_sequence.specs.Queue.{Queue, first_queue, appended, emptied}
+use Rattle.node_links.specs.LinkState.{down_link, after_failure}
+use Rattle.changeback.specs.Codes.{with_code}
+use Rattle.flow_hold.specs.Holds.{HoldSet}
+use Rattle.timer_wheel.specs.declared.name.NodeCounts.{NodeCounts}
+use Rattle.timer_wheel.specs.Timers.{Running, ticked, after_due}
+use Rattle.timer_wheel.proofs.Dues.{counts-after}
+use Rattle.route_table.specs.declared.route.Route.{Route}
+use Rattle.route_table.specs.Facts.{first_routes}
+use Rattle.route_management.specs.Told.{ToldTable, shape_of}
+use Rattle.route_management.proofs.Shape.{first_shape}
+use Rattle.node_links.specs.Link.{Link}
+use Rattle.changeover.specs.Standing.{Standing, no_changeover}
+use Rattle.exchange_rules.specs.State.{Node, with_parts}
+use Rattle.exchange_rules.specs.Links.{link_at, links_with}
+use Rattle.exchange_rules.specs.Noting.{note}
+use Rattle.exchange_rules.specs.Timing.{without_timers}
+use Rattle.exchange_rules.specs.Failing.{with_changeover, fail_link}
+use Rattle.exchange_rules.specs.ChangingBack.{declaration}
+use Rattle.exchange_rules.specs.Local.{test_answer}
+use Rattle.exchange_rules.specs.Frames.{carries}
+use Rattle.exchange_rules.specs.Queues.{WholeQueues, queue_at, whole}
+use Rattle.exchange_rules.specs.Relaying.{with_titles}
+use Rattle.exchange_rules.specs.Lasting.{HasTimersFor, HasAllPlaces, places_at_first, places_stay}
+use Rattle.exchange_rules.proofs.Places.{with_code-fits, no_codes-fits, no_holds-fits}
+use Rattle.exchange_rules.proofs.LinkTimers.{without_timers-for, timed-for, timed_sending-for, timed_confirming-for, timed_busy-for, timed_busy_ended-for}
+use Rattle.exchange_rules.proofs.Steps.{AreHeld, IsOfSteps}
+use Rattle.exchange_rules.proofs.Asked.{any, IsOfAll, all-of, asked-all}
+
+-- from one node to another the places stay
+pub record Keeps (c : Configuration) (n m : Node WholeQueues) : Type 0 where
+  pub stay : HasAllPlaces c n → HasAllPlaces c m
+
+module _ (c : Configuration) where
+  both-keep : (n m o : Node WholeQueues) → Keeps c n m → Keeps c m o → Keeps c n o
+  both-keep n m o e f = record { stay = λ h. f.stay (e.stay h) }
+
+  -- as many names
+  timers-fit : (r s : Running) → r.counts ≡ s.counts → HasTimersFor c s → HasTimersFor c r
+  timers-fit r s e h = record {
+    links = ap (λ (n : NodeCounts). n.links) e ∙ h.links;
+    sets = ap (λ (n : NodeCounts). n.sets) e ∙ h.sets;
+    destinations = ap (λ (n : NodeCounts). n.destinations) e ∙ h.destinations;
+  }
+
+  -- as many queues
+  queues-keep : (qs : WholeQueues) (n : Node WholeQueues) → length qs.links ≡ length n.queues.links → Keeps c n (record n { queues = qs })
+  queues-keep qs n e = record { stay = λ h. record { parts = h.parts; queues = e ∙ h.queues; timers = h.timers } }
+
+  queue-keeps : (held : List Message) (link : ℕ) (q : Queue) (n : Node WholeQueues) → Keeps c n (record n { queues = record { held = held; links = slice_set n.queues.links link q } })
+  queue-keeps held link q n = queues-keep (record { held = held; links = slice_set n.queues.links link q }) n (length-set n.queues.links link q)
+
+  -- notices and flags are no places
+  notices-keep : (notices : List Notice) (lost late : Bool) (n : Node WholeQueues)
+      → Keeps c n (with_parts n (record n.parts { notices = notices; lost_any = lost; late_any = late }))
+  notices-keep notices lost late n = record {
+    stay = λ h. record {
+      parts = record {
+        few_links = h.parts.few_links;
+        links = h.parts.links;
+        changeovers = h.parts.changeovers;
+        routes = h.parts.routes;
+        told = h.parts.told;
+        codes = h.parts.codes;
+        holds = h.parts.holds;
+      };
+      queues = h.queues;
+      timers = h.timers;
+    };
+  }
+
+  -- nor are translation rows
+  titles-keep : (rows : List TitleEntry) (n : Node WholeQueues) → Keeps c n (with_parts n (with_titles rows n.parts))
+  titles-keep rows n = record {
+    stay = λ h. record {
+      parts = record {
+        few_links = h.parts.few_links;
+        links = h.parts.links;
+        changeovers = h.parts.changeovers;
+        routes = h.parts.routes;
+        told = h.parts.told;
+        codes = h.parts.codes;
+        holds = h.parts.holds;
+      };
+      queues = h.queues;
+      timers = h.timers;
+    };
+  }
+
+  -- a link changes, and timers with it
+  link-keeps : (link : ℕ) (x : Link) (r : Running) (n : Node WholeQueues) → r.counts ≡ n.parts.timers.counts
+      → Keeps c n (with_parts n (record n.parts { links = links_with n.parts link x; timers = r }))
+  link-keeps link x r n e = record {
+    stay = λ h. record {
+      parts = record {
+        few_links = h.parts.few_links;
+        links = length-set n.parts.links link x ∙ h.parts.links;
+        changeovers = h.parts.changeovers;
+        routes = h.parts.routes;
+        told = h.parts.told;
+        codes = h.parts.codes;
+        holds = h.parts.holds;
+      };
+      queues = h.queues;
+      timers = timers-fit r n.parts.timers e h.timers;
+    };
+  }
+
+  pub timers-keep : (r : Running) (n : Node WholeQueues) → r.counts ≡ n.parts.timers.counts → Keeps c n (with_parts n (record n.parts { timers = r }))
+  timers-keep r n e = record {
+    stay = λ h. record {
+      parts = record {
+        few_links = h.parts.few_links;
+        links = h.parts.links;
+        changeovers = h.parts.changeovers;
+        routes = h.parts.routes;
+        told = h.parts.told;
+        codes = h.parts.codes;
+        holds = h.parts.holds;
+      };
+      queues = h.queues;
+      timers = timers-fit r n.parts.timers e h.timers;
+    };
+  }
+
+  changeover-keeps : (link : ℕ) (s : Standing) (n : Node WholeQueues) → Keeps c n (with_parts n (with_changeover link s n.parts))
+  changeover-keeps link s n = record {
+    stay = λ h. record {
+      parts = record {
+        few_links = h.parts.few_links;
+        links = h.parts.links;
+        changeovers = length-set n.parts.changeovers link s ∙ h.parts.changeovers;
+        routes = h.parts.routes;
+        told = h.parts.told;
+        codes = h.parts.codes;
+        holds = h.parts.holds;
+      };
+      queues = h.queues;
+      timers = h.timers;
+    };
+  }
+
+  holds-keep : (t : HoldSet) (n : Node WholeQueues) → AreHeld c n.parts.holds t → Keeps c n (with_parts n (record n.parts { holds = t }))
+  holds-keep t n e = record {
+    stay = λ h. record {
+      parts = record {
+        few_links = h.parts.few_links;
+        links = h.parts.links;
+        changeovers = h.parts.changeovers;
+        routes = h.parts.routes;
+        told = h.parts.told;
+        codes = h.parts.codes;
+        holds = e.fits h.parts.holds;
+      };
+      queues = h.queues;
+      timers = h.timers;
+    };
+  }
+
+  codes-keep : (set code : ℕ) (awaited : Bool) (n : Node WholeQueues) → Keeps c n (with_parts n (record n.parts { codes = with_code n.parts.codes set code awaited }))
+  codes-keep set code awaited n = record {
+    stay = λ h. record {
+      parts = record {
+        few_links = h.parts.few_links;
+        links = h.parts.links;
+        changeovers = h.parts.changeovers;
+        routes = h.parts.routes;
+        told = h.parts.told;
+        codes = with_code-fits (length c.sets) n.parts.codes set code awaited h.parts.codes;
+        holds = h.parts.holds;
+      };
+      queues = h.queues;
+      timers = h.timers;
+    };
+  }
+
+  routes-keep : (routes : List (List Route)) (t : ToldTable) (n : Node WholeQueues) → length routes ≡ length n.parts.routes → shape_of t ≡ shape_of n.parts.told
+      → Keeps c n (with_parts n (record n.parts { routes = routes; told = t }))
+  routes-keep routes t n e f = record {
+    stay = λ h. record {
+      parts = record {
+        few_links = h.parts.few_links;
+        links = h.parts.links;
+        changeovers = h.parts.changeovers;
+        routes = e ∙ h.parts.routes;
+        told = f ∙ h.parts.told;
+        codes = h.parts.codes;
+        holds = h.parts.holds;
+      };
+      queues = h.queues;
+      timers = h.timers;
+    };
+  }
+
+  fallen-keeps : (link : ℕ) (why : FailureReason) (n : Node WholeQueues) → Keeps c n (with_parts n (fail_link link why n.parts))
+  fallen-keeps link why n =
+      both-keep _ _ _ (link-keeps link (after_failure (link_at n.parts link)) (without_timers link n.parts.timers) n (without_timers-for link n.parts.timers).counts)
+      (notices-keep (note (notices.Failed link why) n.parts).notices n.parts.lost_any n.parts.late_any _)
+
+pub places-steps : (c : Configuration) → IsOfSteps c any any (Keeps c)
+places-steps c = record {
+  none = λ n. record { stay = λ h. h };
+  both = both-keep c;
+  routed = λ link m n e. queue-keeps c n.queues.held link (appended (queue_at n.queues link) m) n;
+  declared = λ link other code n e f. queue-keeps c n.queues.held other (appended (queue_at n.queues other) (declaration c link code)) n;
+  tested = λ link point test n e f. queue-keeps c n.queues.held link (appended (queue_at n.queues link) (test_answer c point test)) n;
+  held = λ m n e. queues-keep c (whole.holding n.queues m) n refl;
+  taken_out = λ n. queues-keep c (whole.without_held n.queues) n refl;
+  noted = λ notice n e. notices-keep c (note notice n.parts).notices n.parts.lost_any n.parts.late_any n;
+  lost = λ n. notices-keep c n.parts.notices true n.parts.late_any n;
+  late = λ n. notices-keep c n.parts.notices n.parts.lost_any true n;
+  timed = λ r n e. timers-keep c r n e.counts;
+  holding = λ h n e. holds-keep c h n e;
+  coded = codes-keep c;
+  rerouted = λ routes n e. routes-keep c routes n.parts.told n e.size refl;
+  told = λ t n e. routes-keep c n.parts.routes t n refl e.shape;
+  titled = titles-keep c;
+  failed = λ link why st n e f. both-keep c _ _ _ (fallen-keeps c link why n) (changeover-keeps c link st (with_parts n (fail_link link why n.parts)));
+  dropped = λ link why n e. fallen-keeps c link why n;
+  completed = λ link number st n e f.
+      both-keep c _ _ _ (queue-keeps c (whole.completed n.queues link number).held link (emptied (queue_at n.queues link)) n) (changeover-keeps c link st _);
+  answered = λ link st n e f. changeover-keeps c link st n;
+  linked = λ link x n e. link-keeps c link x n.parts.timers n refl;
+  parted = λ link n e. link-keeps c link (record (link_at n.parts link) { association = false }) n.parts.timers n refl;
+  opened = λ link n own e f g.
+      both-keep c _ _ _ (queue-keeps c n.queues.held link first_queue n) (link-keeps c link _ _ _ (timed-for link c opening n.parts.timers).counts);
+  stepped = λ link input step n own e. link-keeps c link _ _ n (timed-for link c step n.parts.timers).counts;
+  busied = λ link n own e f. link-keeps c link _ _ n (timed_busy-for link c n.parts.timers).counts;
+  resumed = λ link n own e f. link-keeps c link _ _ n (timed_busy_ended-for link c (whole.outstanding n.queues link) n.parts.timers).counts;
+  accepted = λ link d confirmed n own e f.
+      let qs : WholeQueues = whole.accepted n.queues link d.fsn d.bsn (carries d) in
+      both-keep c _ _ _ (queues-keep c qs n (length-set n.queues.links link (queue.accepted (queue_at n.queues link) d.fsn d.bsn (carries d))))
+      (timers-keep c _ _ (timed_confirming-for link c (link_at n.parts link).peer_busy confirmed (whole.outstanding qs link) n.parts.timers).counts);
+  sent = λ link next n own e.
+      both-keep c _ _ _ (queue-keeps c n.queues.held link (queue.sent_one (queue_at n.queues link) c.window) n)
+      (link-keeps c link _ _ _ (timed_sending-for link c n.parts.timers).counts);
+}
+
+places-all : (c : Configuration) → IsOfAll c (Keeps c)
+places-all c =
+    all-of (places-steps c) (λ n. timers-keep c (ticked n.parts.timers) n refl) (λ n. timers-keep c (after_due n.parts.timers) n (counts-after n.parts.timers))
+
+pub places-stay : places_stay
+places-stay asked a = (asked-all (places-all a.settings) asked a refl).stay
+
+pub places-first : places_at_first
+places-first c few = record {
+  parts = record {
+    few_links = few;
+    links = length-replicate (length c.links) down_link;
+    changeovers = length-replicate (length c.links) no_changeover;
+    routes = length-map c.destinations first_routes;
+    told = first_shape c.sets c.destinations;
+    codes = no_codes-fits (length c.sets);
+    holds = no_holds-fits c;
+  };
+  queues = length-replicate (length c.links) first_queue;
+  timers = record { links = refl; sets = refl; destinations = refl };
+}

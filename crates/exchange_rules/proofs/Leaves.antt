@@ -1,0 +1,105 @@
+-- What a rule leaves where it refuses, by the cause of the refusal, and which link it queues on: said of plain answers, and of tests between two.
+use Rattle.std.proofs.Common.{◌≡◌, ℕ, Bool, true, false, Option, Some, None, refl, ap, ◌∙◌}
+use Rattle.std.specs.Prelude.{if◌then◌else◌, nat_le}
+use Rattle.signalling_types.specs.Message.{Message, is_management}
+use Rattle.settings_rows.specs.Configuration.{Configuration}
+use Rattle.signalling_types.specs.declared.cause.Cause.{Cause}
+use Rattle.signalling_types.specs.declared.cause.Cause.TheVariants as causes
+use Rattle.signalling_types.specs.declared.limits.TheConstants.Limits.{MANAGEMENT_MESSAGES}
+use Rattle.signalling_types.specs.declared.outcome.Outcome.{Outcome}
+use Rattle.signalling_types.specs.declared.outcome.Outcome.TheVariants.{Queued, Held, Local, Handled, Ignored, Refused}
+use Rattle.mgmt_codec.specs.declared.fault.MgmtFault.{MgmtFault}
+use Rattle.mgmt_codec.specs.declared.fault.MgmtFault.TheVariants as mgmt
+use Rattle.exchange_rules.specs.State.{Node, Done, answer, refuse}
+use Rattle.exchange_rules.specs.Links.{in_service}
+use Rattle.exchange_rules.specs.Queueing.{no_room}
+use Rattle.exchange_rules.specs.Local.{cause_of}
+use Rattle.exchange_rules.specs.Queues.{WholeQueues, whole}
+
+-- where a rule refuses, it leaves the node of the cause; where it queues a message, it does so on a link in service
+pub record Leaves (d : Done WholeQueues) (by : Cause → Node WholeQueues) : Type 0 where
+  pub left : (cause : Cause) → d.outcome ≡ Refused cause → d.left ≡ by cause
+  pub served : (l : ℕ) → d.outcome ≡ Queued l → in_service d.left.parts l ≡ true
+
+-- the link that an outcome names
+abbrev pub queued_on : Outcome → Option ℕ
+queued_on (Queued l) = Some l
+queued_on Held = None
+queued_on Local = None
+queued_on Handled = None
+queued_on Ignored = None
+queued_on (Refused cause) = None
+
+-- and the cause
+abbrev cause_in : Cause → Outcome → Cause
+cause_in other (Queued l) = other
+cause_in other Held = other
+cause_in other Local = other
+cause_in other Handled = other
+cause_in other Ignored = other
+cause_in other (Refused cause) = cause
+
+-- ---- causes
+
+-- whether a cause isn't that a message found no route
+abbrev pub is_other : Cause → Bool
+is_other causes.NoRoute = false
+is_other cause = true
+
+-- whether a refusal, if it is one, has such a cause
+abbrev pub refuses_other : Option Cause → Bool
+refuses_other (Some cause) = is_other cause
+refuses_other None = true
+
+either_so : {A : Type 0} (f : A → Bool) (b : Bool) (x y : A) → f x ≡ true → f y ≡ true → f (if b then x else y) ≡ true
+either_so f true x y e g = e
+either_so f false x y e g = g
+
+pub room_so : (c : Configuration) (m : Message) (qs : WholeQueues) → refuses_other (no_room whole c m qs) ≡ true
+room_so c m qs =
+    let management : Option Cause = if nat_le MANAGEMENT_MESSAGES (whole.managements qs) then Some causes.ManagementFull else None in
+    let user : Option Cause = if nat_le c.pool (whole.users qs) then Some causes.PoolFull else None in
+    either_so refuses_other (is_management m) management user
+    (either_so refuses_other (nat_le MANAGEMENT_MESSAGES (whole.managements qs)) (Some causes.ManagementFull) None refl refl)
+    (either_so refuses_other (nat_le c.pool (whole.users qs)) (Some causes.PoolFull) None refl refl)
+
+pub fault_so : (fault : MgmtFault) → is_other (cause_of fault) ≡ true
+fault_so mgmt.Short = refl
+fault_so mgmt.NotInProfile = refl
+
+-- where any cause but that one leaves a node as it was
+pub record Stays (by : Cause → Node WholeQueues) (n : Node WholeQueues) : Type 0 where
+  pub others : (cause : Cause) → is_other cause ≡ true → n ≡ by cause
+
+-- ---- answers
+
+pub left_by : (cause : Cause) (n : Node WholeQueues) (by : Cause → Node WholeQueues) → n ≡ by cause → Leaves (refuse cause n) by
+left_by cause n by e = record {
+  left = λ other o. e ∙ ap (λ (x : Outcome). by (cause_in cause x)) o;
+  served = λ l o. cc;
+}
+
+pub stayed : (n : Node WholeQueues) (by : Cause → Node WholeQueues) → Leaves (answer Local n) by
+stayed n by = record { left = λ cause e. cc; served = λ l e. cc }
+
+pub waited : (n : Node WholeQueues) (by : Cause → Node WholeQueues) → Leaves (answer Held n) by
+waited n by = record { left = λ cause e. cc; served = λ l e. cc }
+
+pub handled : (n : Node WholeQueues) (by : Cause → Node WholeQueues) → Leaves (answer Handled n) by
+handled n by = record { left = λ cause e. cc; served = λ l e. cc }
+
+pub ignored : (n : Node WholeQueues) (by : Cause → Node WholeQueues) → Leaves (answer Ignored n) by
+ignored n by = record { left = λ cause e. cc; served = λ l e. cc }
+
+pub either : (b : Bool) (d e : Done WholeQueues) (by : Cause → Node WholeQueues) → Leaves d by → Leaves e by → Leaves (if b then d else e) by
+either true d e by f g = f
+either false d e by f g = g
+
+-- each branch may take for granted that the test goes its way
+pub either_by : (b : Bool) (d e : Done WholeQueues) (by : Cause → Node WholeQueues) → (b ≡ true → Leaves d by) → (b ≡ false → Leaves e by) → Leaves (if b then d else e) by
+either_by true d e by f g = f refl
+either_by false d e by f g = g refl
+
+-- the same node for each cause
+pub left_as : (d : Done WholeQueues) (by other : Cause → Node WholeQueues) → ((cause : Cause) → other cause ≡ by cause) → Leaves d other → Leaves d by
+left_as d by other e f = record { left = λ cause o. f.left cause o ∙ e cause; served = f.served }

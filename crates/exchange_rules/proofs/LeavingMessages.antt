@@ -1,0 +1,276 @@
+-- A message or a command that is refused leaves what its cause is to leave, and a message is queued on a link in service.
+use Rattle.std.proofs.Common.{◌≡◌, ℕ, Bool, true, false, List, Option, Some, None, Result, Ok, Err, refl, ap, sym, ◌∙◌, arith}
+use Rattle.std.specs.Prelude.{if◌then◌else◌, nat_eq, nat_lt}
+use Rattle.std.proofs.lemmas.Bool.Decides.{nat_tests}
+use Rattle.signalling_types.specs.Message.{Message, dpc_of, opc_of, flow_of, is_management, service_indicator}
+use Rattle.signalling_types.specs.declared.point.Flow.{Flow}
+use Rattle.std.specs.Option.{option_and_then}
+use Rattle.settings_rows.specs.Configuration.{Configuration, TitleEntry}
+use Rattle.signalling_types.specs.declared.cause.Cause.{Cause}
+use Rattle.signalling_types.specs.declared.cause.Cause.TheVariants as causes
+use Rattle.signalling_types.specs.declared.outcome.Outcome.{Outcome}
+use Rattle.signalling_types.specs.declared.outcome.Outcome.TheVariants.{Local, Handled, Ignored}
+use Rattle.stp_types.specs.Readings.{destination_place, set_place}
+use Rattle.route_table.specs.declared.route.RouteStatus.{RouteStatus}
+use Rattle.route_table.specs.declared.route.RouteStatus.TheVariants.{Allowed, Restricted, Prohibited}
+use Rattle.route_management.specs.declared.heard.Heard.{Heard}
+use Rattle.route_management.specs.declared.heard.Heard.TheVariants as hears
+use Rattle.route_management.specs.declared.heard.RouteTest.{RouteTest}
+use Rattle.route_management.specs.declared.heard.RouteTest.TheVariants as tests
+use Rattle.route_management.specs.Hearing as hearing
+use Rattle.route_management.specs.Told as told
+use Rattle.route_table.specs.Chosen.{chosen_link}
+use Rattle.node_links.proofs.Chosen.{chosen_serving}
+use Rattle.exchange_rules.specs.Routing.{facts}
+use Rattle.mgmt_codec.specs.declared.fault.MgmtFault.{MgmtFault}
+use Rattle.mgmt_codec.specs.declared.link_test.TestKind.{TestKind}
+use Rattle.mgmt_codec.specs.declared.link_test.TestKind.TheVariants.{Test, Acknowledgement}
+use Rattle.mgmt_codec.specs.declared.management.Management.{Management}
+use Rattle.mgmt_codec.specs.declared.management.Management.TheVariants.{TrafficRestartAllowed, TransferProhibited, TransferRestricted, TransferAllowed, RouteSetTestProhibited, RouteSetTestRestricted, ChangebackDeclaration, ChangebackAcknowledgement, ExtendedChangeoverOrder, ExtendedChangeoverAcknowledgement, EmergencyChangeoverOrder, EmergencyChangeoverAcknowledgement}
+use Rattle.mgmt_codec.specs.LinkTests.{LinkTestValue, read_link_test}
+use Rattle.mgmt_codec.specs.Management.{read_management}
+use Rattle.routing_label.specs.Label.{label_at}
+use Rattle.routing_label.specs.declared.discrimination.Discrimination.{Discrimination}
+use Rattle.routing_label.specs.declared.discrimination.Discrimination.TheVariants as whither
+use Rattle.signalling_types.specs.declared.notice.FailureReason.TheVariants as reasons
+use Rattle.exchange_rules.specs.State.{Parts, Node, Done, with_parts, answer, refuse}
+use Rattle.exchange_rules.specs.Links.{is_link, link_at, in_service}
+use Rattle.exchange_rules.specs.Routing.{network_of, link_of}
+use Rattle.exchange_rules.specs.Queueing.{no_room}
+use Rattle.exchange_rules.specs.Arrival.{is_destination, offer, transfer}
+use Rattle.exchange_rules.specs.Made.{send_on, send_routed}
+use Rattle.exchange_rules.specs.Points.{route_about}
+use Rattle.exchange_rules.specs.Rerouting.{apply_route_status, on_route_status}
+use Rattle.exchange_rules.specs.Telling.{answer_no_route, send_route_status, answer_route_test, on_route_test}
+use Rattle.exchange_rules.specs.ChangingBack.{changeback_acknowledgement, freed, on_changeback_acknowledgement}
+use Rattle.changeback.specs.Codes.{is_outstanding}
+use Rattle.exchange_rules.specs.Local.{sccp, is_user, is_adjacent, cause_of, test_answer, link_with_code, local, do_order, do_acknowledgement, do_management, do_kind, do_test, manage, distribute}
+use Rattle.exchange_rules.specs.Messages.{deliver_to, submit_to}
+use Rattle.sccp_codec.specs.declared.title.TitleKey.{TitleKey}
+use Rattle.global_title.specs.Rows.{place_of, has_row, without_row}
+use Rattle.sccp_relay.specs.Relay.{RelayedValue, relay}
+use Rattle.sccp_relay.specs.Relay as relays
+use Rattle.exchange_rules.specs.Relaying.{own_of, in_place_of, return_unitdata, return_outcome, relay_by, on_unitdata, with_titles, title_refusal, add_title_unless, add_title, remove_title}
+use Rattle.exchange_rules.specs.Laws.{answered_by}
+use Rattle.exchange_rules.specs.Opening.{may_open, open_link, association_up, fail_if_up, end_association, association_down, set_active, activate, deactivate}
+use Rattle.exchange_rules.specs.Queues.{WholeQueues, whole}
+use Rattle.exchange_rules.specs.Holding.{waits}
+use Rattle.exchange_rules.specs.ChangingOver.{on_changeover_acknowledgement, complete_if, with_changeover_acknowledged, fail_by_order, complete_by_order, acknowledge_changeover}
+use Rattle.exchange_rules.specs.Failing.{changeover_of}
+use Rattle.changeover.specs.Standing.{may_restart}
+use Rattle.exchange_rules.proofs.Leaves.{Leaves, queued_on, is_other, refuses_other, room_so, fault_so, Stays, left_by, left_as, stayed, waited, handled, ignored, either, either_by}
+
+-- ---- links
+
+chosen_at : (c : Configuration) (p : Parts) (place : Option ℕ) (selection l : ℕ)
+    → option_and_then (λ d. chosen_link (facts c p) d selection) place ≡ Some l → in_service p l ≡ true
+chosen_at c p None selection l e = absurd cc
+chosen_at c p (Some d) selection l e = chosen_serving (network_of c p) d selection l e
+
+pub chosen_serves : (c : Configuration) (p : Parts) (f : Flow) (l : ℕ) → link_of c p f ≡ Some l → in_service p l ≡ true
+chosen_serves c p f l e = chosen_at c p (destination_place c f.point) f.sls l e
+
+-- ---- messages and commands
+
+module _ (c : Configuration) (n : Node WholeQueues) (by : Cause → Node WholeQueues) (s : Stays by n) where
+  refused : (cause : Cause) → is_other cause ≡ true → Leaves (refuse cause n) by
+  refused cause e = left_by cause n by (s.others cause e)
+
+  offer-leaves : (room : Option Cause) (is_waiting : Bool) (link from : Option ℕ) (m : Message) → refuses_other room ≡ true
+      → ((l : ℕ) → link ≡ Some l → in_service n.parts l ≡ true) → answer_no_route whole c from (destination_place c (dpc_of m)) n ≡ by causes.NoRoute
+      → Leaves (offer whole c room is_waiting link from m n) by
+  offer-leaves (Some cause) w link from m o f away = refused cause o
+  offer-leaves None true link from m o f away = waited _ by
+  offer-leaves None false None from m o f away = left_by _ (answer_no_route whole c from (destination_place c (dpc_of m)) n) by away
+  offer-leaves None false (Some link) from m o f away = record { left = λ cause e. cc; served = λ l e. f l (ap queued_on e) }
+
+  transfer-leaves : (from : Option ℕ) (m : Message) → answer_no_route whole c from (destination_place c (dpc_of m)) n ≡ by causes.NoRoute → Leaves (transfer whole c from m n) by
+  transfer-leaves from m away =
+      let held : Bool = waits c n.parts.holds m in
+      let link : Option ℕ = link_of c n.parts (flow_of m) in
+      either (is_destination c (dpc_of m)) (offer whole c (no_room whole c m n.queues) held link from m n) (refuse causes.UnknownDestination n) by
+      (offer-leaves (no_room whole c m n.queues) held link from m (room_so c m n.queues) (λ l e. chosen_serves c n.parts (flow_of m) l e) away) (refused _ refl)
+
+  do_kind-leaves : (t : TestKind) (link z : ℕ) (v : LinkTestValue) → Leaves (do_kind whole c t link z v n) by
+  do_kind-leaves Test link z v = handled (send_on whole c link (test_answer c z v) n) by
+  do_kind-leaves Acknowledgement link z v = ignored n by
+
+  do_test-leaves : (r : Result LinkTestValue MgmtFault) (link z : ℕ) → Leaves (do_test whole c r link z n) by
+  do_test-leaves (Err fault) link z = refused (cause_of fault) (fault_so fault)
+  do_test-leaves (Ok v) link z = do_kind-leaves v.kind link z v
+
+  do_order-leaves : (link : Option ℕ) (number : Option ℕ) → Leaves (do_order whole c link number n) by
+  do_order-leaves (Some link) number = handled (acknowledge_changeover whole c link (complete_by_order whole c link number (fail_by_order whole c link n))) by
+  do_order-leaves None number = refused causes.BadManagement refl
+
+  on_changeover_acknowledgement-leaves : (link : ℕ) (number : Option ℕ) → Leaves (on_changeover_acknowledgement whole c link number n) by
+  on_changeover_acknowledgement-leaves link number =
+      let done : Node WholeQueues = complete_if whole c (changeover_of n.parts link).incomplete link number (with_parts n (with_changeover_acknowledged link n.parts)) in
+      either (changeover_of n.parts link).awaited (answer Handled done) (answer Ignored n) by (handled done by) (ignored n by)
+
+  do_acknowledgement-leaves : (link : Option ℕ) (number : Option ℕ) → Leaves (do_acknowledgement whole c link number n) by
+  do_acknowledgement-leaves (Some link) number = on_changeover_acknowledgement-leaves link number
+  do_acknowledgement-leaves None number = refused causes.BadManagement refl
+
+  on_changeback_acknowledgement-leaves : (set : Option ℕ) (code : ℕ) → Leaves (on_changeback_acknowledgement whole c set code n) by
+  on_changeback_acknowledgement-leaves (Some set) code =
+      either (is_outstanding n.parts.codes set code) (answer Handled (with_parts n (freed set code n.parts))) (answer Ignored n) by
+      (handled (with_parts n (freed set code n.parts)) by) (ignored n by)
+  on_changeback_acknowledgement-leaves None code = ignored n by
+
+  apply_route_status-leaves : (x : Heard) (set destination : ℕ) (status : RouteStatus) → Leaves (apply_route_status whole c x set destination status n) by
+  apply_route_status-leaves hears.Ignored set destination status = ignored n by
+  apply_route_status-leaves hears.Unchanged set destination status = handled n by
+  apply_route_status-leaves hears.Changed set destination status = handled _ by
+
+  on_route_status-leaves : (status : RouteStatus) (set place : Option ℕ) → Leaves (on_route_status whole c status (route_about set place) n) by
+  on_route_status-leaves status (Some set) (Some place) = apply_route_status-leaves (hearing.heard (facts c n.parts) n.parts.told set place status) set place status
+  on_route_status-leaves status None (Some place) = ignored n by
+  on_route_status-leaves status set None = refused causes.UnknownDestination refl
+
+  answer_route_test-leaves : (test : RouteTest) (set place : ℕ) → Leaves (answer_route_test whole c test set place n) by
+  answer_route_test-leaves test set place =
+      let answered : Node WholeQueues = send_route_status whole c (hearing.answer_to_test (facts c n.parts) n.parts.told set place test) set place n in
+      either (told.is_own_point n.parts.told set place) (answer Ignored n) (answer Handled answered) by (ignored n by) (handled answered by)
+
+  on_route_test-leaves : (test : RouteTest) (set place : Option ℕ) → Leaves (on_route_test whole c test (route_about set place) n) by
+  on_route_test-leaves test (Some set) (Some place) = answer_route_test-leaves test set place
+  on_route_test-leaves test None (Some place) = ignored n by
+  on_route_test-leaves test set None = refused causes.UnknownDestination refl
+
+  do_management-leaves : (r : Result Management MgmtFault) (z : ℕ) → Leaves (do_management whole c r z n) by
+  do_management-leaves (Err fault) z = refused (cause_of fault) (fault_so fault)
+  do_management-leaves (Ok TrafficRestartAllowed) z = ignored n by
+  do_management-leaves (Ok (ExtendedChangeoverOrder slc number)) z = do_order-leaves (link_with_code c z slc) (Some number)
+  do_management-leaves (Ok (ExtendedChangeoverAcknowledgement slc number)) z = do_acknowledgement-leaves (link_with_code c z slc) (Some number)
+  do_management-leaves (Ok (EmergencyChangeoverOrder slc)) z = do_order-leaves (link_with_code c z slc) None
+  do_management-leaves (Ok (EmergencyChangeoverAcknowledgement slc)) z = do_acknowledgement-leaves (link_with_code c z slc) None
+  do_management-leaves (Ok (ChangebackDeclaration slc code)) z = handled (send_routed whole c (changeback_acknowledgement c z slc code) n) by
+  do_management-leaves (Ok (ChangebackAcknowledgement slc code)) z = on_changeback_acknowledgement-leaves (set_place c z) code
+  do_management-leaves (Ok (TransferProhibited about)) z = on_route_status-leaves Prohibited (set_place c z) (destination_place c about)
+  do_management-leaves (Ok (TransferRestricted about)) z = on_route_status-leaves Restricted (set_place c z) (destination_place c about)
+  do_management-leaves (Ok (TransferAllowed about)) z = on_route_status-leaves Allowed (set_place c z) (destination_place c about)
+  do_management-leaves (Ok (RouteSetTestProhibited about)) z = on_route_test-leaves tests.Prohibited (set_place c z) (destination_place c about)
+  do_management-leaves (Ok (RouteSetTestRestricted about)) z = on_route_test-leaves tests.Restricted (set_place c z) (destination_place c about)
+
+  manage-leaves : (link : ℕ) (m : Message) → Leaves (manage whole c link m n) by
+  manage-leaves link m =
+      let t : Done WholeQueues = do_test whole c (read_link_test m.sif) link (opc_of m) n in
+      let r : Done WholeQueues = do_management whole c (read_management m.sif) (opc_of m) n in
+      either (is_adjacent c (opc_of m)) (if nat_eq (service_indicator m) 1 then t else r) (refuse causes.NotFromAdjacent n) by
+      (either (nat_eq (service_indicator m) 1) t r by (do_test-leaves (read_link_test m.sif) link (opc_of m)) (do_management-leaves (read_management m.sif) (opc_of m)))
+      (refused _ refl)
+
+  pub association_up-leaves : (link : ℕ) → Leaves (association_up whole c link n) by
+  association_up-leaves link =
+      let opened : Done WholeQueues = answer Handled (open_link whole c link n) in
+      let restarted : Done WholeQueues = if may_restart (changeover_of n.parts link) then opened else refuse causes.ChangeoverPending n in
+      either (is_link n.parts link) (if may_open (link_at n.parts link) then restarted else refuse causes.LinkNotReady n) (refuse causes.NoSuchName n) by
+      (either (may_open (link_at n.parts link)) restarted (refuse causes.LinkNotReady n) by
+      (either (may_restart (changeover_of n.parts link)) opened (refuse causes.ChangeoverPending n) by (handled _ by) (refused _ refl)) (refused _ refl))
+      (refused _ refl)
+
+  pub association_down-leaves : (link : ℕ) → Leaves (association_down whole c link n) by
+  association_down-leaves link =
+      let gone : Done WholeQueues = answer Handled (end_association whole c link (fail_if_up whole c link reasons.Association n)) in
+      either (is_link n.parts link) (if (link_at n.parts link).association then gone else answer Ignored n) (refuse causes.NoSuchName n) by
+      (either (link_at n.parts link).association gone (answer Ignored n) by (handled _ by) (ignored n by)) (refused _ refl)
+
+  pub activate-leaves : (link : ℕ) → Leaves (activate whole c link n) by
+  activate-leaves link =
+      either (is_link n.parts link) (answer Handled (set_active whole c true link n)) (refuse causes.NoSuchName n) by (handled _ by) (refused _ refl)
+
+  pub deactivate-leaves : (link : ℕ) → Leaves (deactivate whole c link n) by
+  deactivate-leaves link =
+      either (is_link n.parts link) (answer Handled (set_active whole c false link (fail_if_up whole c link reasons.Operator n))) (refuse causes.NoSuchName n) by (handled _ by) (refused _ refl)
+
+-- ---- messages by where they go
+
+-- a refusal that leaves nothing behind
+abbrev as_it_was : Node WholeQueues → Cause → Node WholeQueues
+as_it_was n cause = n
+
+untouched : (n : Node WholeQueues) → Stays (as_it_was n) n
+untouched n = record { others = λ cause e. refl }
+
+-- a test of service indicators that can't both be
+apart : (indicator : ℕ) → nat_lt indicator 2 ≡ true → nat_eq indicator sccp ≡ false
+apart indicator e = grind (arith, nat_tests, e)
+
+module _ (c : Configuration) (n : Node WholeQueues) where
+  pub relay_by-leaves : (v : RelayedValue) (m : Message) → Leaves (relay_by whole c v m n) (as_it_was n)
+  relay_by-leaves relays.Delivered m = stayed n (as_it_was n)
+  relay_by-leaves (relays.Onward sif) m = transfer-leaves c n (as_it_was n) (untouched n) None (in_place_of m sif) refl
+  relay_by-leaves (relays.Refused cause) m = left_by cause n (as_it_was n) refl
+
+  -- a refused one is returned
+  on_unitdata-leaves : (m : Message) → Leaves (on_unitdata whole c m n) (λ cause. return_unitdata whole c cause m n)
+  on_unitdata-leaves m =
+      let d : Done WholeQueues = relay_by whole c (relay (own_of c) n.parts.titles m.sif) m n in
+      let f : Leaves d (as_it_was n) = relay_by-leaves (relay (own_of c) n.parts.titles m.sif) m in
+      record {
+        left = λ cause e.
+            ap (λ (o : Outcome). return_outcome whole c o m d.left) e
+            ∙ ap (λ (x : Node WholeQueues). return_unitdata whole c cause m x) (f.left cause e);
+        served = λ l e. ap (λ (o : Outcome). in_service (return_outcome whole c o m d.left).parts l) e ∙ f.served l e;
+      }
+
+  -- what answers a message for this point
+  abbrev here : Message → (from : Option ℕ) → Cause → Node WholeQueues
+  here m from cause = answered_by (whither.Here (label_at m.sif)) cause from m c n
+
+  -- only SCCP is answered
+  as_here : (m : Message) (from : Option ℕ) (cause : Cause) → nat_eq (service_indicator m) sccp ≡ false → n ≡ here m from cause
+  as_here m from cause e = ap (λ (b : Bool). if b then return_unitdata whole c cause m n else n) (sym e)
+
+  local-leaves : (m : Message) (from : Option ℕ) → Leaves (local whole c m n) (here m from)
+  local-leaves m from =
+      let user : Done WholeQueues = if is_user c (service_indicator m) then answer Local n else refuse causes.NoUserPart n in
+      either_by (nat_eq (service_indicator m) sccp) (on_unitdata whole c m n) user (here m from)
+      (λ e. left_as (on_unitdata whole c m n) (here m from) (λ cause. return_unitdata whole c cause m n)
+      (λ cause. ap (λ (b : Bool). if b then return_unitdata whole c cause m n else n) (sym e)) (on_unitdata-leaves m))
+      (λ e. left_as user (here m from) (as_it_was n) (λ cause. as_here m from cause e)
+      (either (is_user c (service_indicator m)) (answer Local n) (refuse causes.NoUserPart n) (as_it_was n) (stayed n (as_it_was n)) (left_by _ n (as_it_was n) refl)))
+
+  distribute-leaves : (link : ℕ) (m : Message) (from : Option ℕ) → Leaves (distribute whole c link m n) (here m from)
+  distribute-leaves link m from =
+      either_by (is_management m) (manage whole c link m n) (local whole c m n) (here m from)
+      (λ e. left_as (manage whole c link m n) (here m from) (as_it_was n) (λ cause. as_here m from cause (apart (service_indicator m) e))
+      (manage-leaves c n (as_it_was n) (untouched n) link m))
+      (λ e. local-leaves m from)
+
+  -- a message for another point
+  abbrev away : Message → (from : Option ℕ) → Cause → Node WholeQueues
+  away m from cause = answered_by (whither.Transfer (label_at m.sif)) cause from m c n
+
+  still : (m : Message) (from : Option ℕ) (cause : Cause) → is_other cause ≡ true → n ≡ away m from cause
+  still m from causes.NoRoute e = absurd cc
+  still m from cause e = refl
+
+  pub deliver_to-leaves : (d : Discrimination) (link : ℕ) (m : Message) → Leaves (deliver_to whole c d link m n) (λ cause. answered_by d cause (Some link) m c n)
+  deliver_to-leaves (whither.Refused cause) link m = left_by cause n _ refl
+  deliver_to-leaves (whither.Here label) link m = distribute-leaves link m (Some link)
+  deliver_to-leaves (whither.Transfer label) link m = transfer-leaves c n (away m (Some link)) (record { others = still m (Some link) }) (Some link) m refl
+
+  pub submit_to-leaves : (d : Discrimination) (m : Message) → Leaves (submit_to whole c d m n) (λ cause. answered_by d cause None m c n)
+  submit_to-leaves (whither.Refused cause) m = left_by cause n _ refl
+  submit_to-leaves (whither.Here label) m =
+      either_by (is_management m) (refuse causes.NotInProfile n) (local whole c m n) (here m None)
+      (λ e. left_by _ n (here m None) (as_here m None causes.NotInProfile (apart (service_indicator m) e))) (λ e. local-leaves m None)
+  submit_to-leaves (whither.Transfer label) m =
+      either (is_management m) (refuse causes.NotInProfile n) (transfer whole c None m n) (away m None) (left_by _ n (away m None) refl)
+      (transfer-leaves c n (away m None) (record { others = still m None }) None m refl)
+
+-- ---- translation rows
+
+add_unless-leaves : (refusal : Option Cause) (row : TitleEntry) (n : Node WholeQueues) → Leaves (add_title_unless refusal row n) (as_it_was n)
+add_unless-leaves (Some cause) row n = left_by cause n (as_it_was n) refl
+add_unless-leaves None row n = handled _ (as_it_was n)
+
+pub add_title-leaves : (row : TitleEntry) (lacking : Bool) (n : Node WholeQueues) → Leaves (add_title row lacking n) (as_it_was n)
+add_title-leaves row lacking n = add_unless-leaves (title_refusal n.parts.titles row lacking) row n
+
+pub remove_title-leaves : (key : TitleKey) (digits : List ℕ) (n : Node WholeQueues) → Leaves (remove_title key digits n) (as_it_was n)
+remove_title-leaves key digits n =
+    either (has_row n.parts.titles (place_of key digits)) (answer Handled (with_parts n (with_titles (without_row (place_of key digits) n.parts.titles) n.parts)))
+    (refuse causes.NoSuchName n) (as_it_was n) (handled _ (as_it_was n)) (left_by _ n (as_it_was n) refl)

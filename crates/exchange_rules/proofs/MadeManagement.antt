@@ -1,0 +1,93 @@
+-- What a management message says that a node makes, and what the node does with it that it is for.
+use Rattle.std.proofs.Common.{◌≡◌, ◌<◌, ◌≤◌, ◌^◌, ℕ, true, false, Ok, length, nat_eq, nat_lt, [], refl, ap, arith}
+use Rattle.std.specs.Prelude.{slice_index_or}
+use Rattle.std.proofs.Math.Logic.{⊎_elim}
+use Rattle.std.proofs.lemmas.Bool.{cases_lt}
+use Rattle.std.proofs.lemmas.Bool.Decides.{nat_tests}
+use Rattle.std.proofs.lemmas.List.{get_or_past}
+use Rattle.signalling_types.specs.Message.{Message, dpc_of, opc_of, sls_of, service_indicator, network_indicator, is_management, flow_of}
+use Rattle.signalling_types.specs.declared.point.Flow.{Flow}
+use Rattle.signalling_types.specs.declared.limits.TheConstants.Limits.{SIF_OCTETS}
+use Rattle.settings_rows.specs.Configuration.{Configuration, LinkEntry}
+use Rattle.stp_types.specs.Well.{IsWell, IsLink}
+use Rattle.routing_label.specs.declared.label.Label.{Label}
+use Rattle.routing_label.specs.Label.{label_at}
+use Rattle.routing_label.specs.declared.discrimination.Discrimination.TheVariants.{Here}
+use Rattle.mgmt_codec.specs.declared.management.Management.{Management}
+use Rattle.mgmt_codec.specs.Management.{IsManagement, link_code_of, read_management}
+use Rattle.mgmt_codec.proofs.Reading.{label_of, its-label, message-back, octets-fit, octets-long}
+use Rattle.exchange_rules.specs.State.{QueueKind, Node}
+use Rattle.exchange_rules.specs.Made.{management_to}
+use Rattle.exchange_rules.specs.Points.{entry_of}
+use Rattle.exchange_rules.specs.Local.{is_adjacent, do_management, distribute}
+use Rattle.exchange_rules.specs.Messages.{whither_goes}
+
+-- ---- what it says
+
+abbrev pub flow_by : Label → Flow
+flow_by label = record { point = label.dpc; sls = label.sls }
+
+module _ (c : Configuration) (well : IsWell c) (point : ℕ) (m : Management) where
+  pub made-indicator : service_indicator (management_to c point m) ≡ 0
+  made-indicator = omega arith
+
+  pub made-management : is_management (management_to c point m) ≡ true
+  made-management = rw made-indicator refl
+
+  pub made-network : network_indicator (management_to c point m) ≡ c.network
+  made-network = omega arith
+
+  pub made-sio : (management_to c point m).sio < 2 ^ 8
+  made-sio = omega (arith, well.network)
+
+  pub made-long : 5 ≤ length (management_to c point m).sif
+  made-long = octets-long point c.own m
+
+  pub made-short : length (management_to c point m).sif ≤ 8
+  made-short = octets-fit point c.own m
+
+  module _ (fits : point < 2 ^ 14) (h : IsManagement m) where
+    pub made-label : label_at (management_to c point m).sif ≡ label_of point c.own m
+    made-label = its-label point c.own m fits well.own h
+
+    pub made-dpc : dpc_of (management_to c point m) ≡ point
+    made-dpc = ap (λ (l : Label). l.dpc) made-label
+
+    pub made-opc : opc_of (management_to c point m) ≡ c.own
+    made-opc = ap (λ (l : Label). l.opc) made-label
+
+    pub made-sls : sls_of (management_to c point m) ≡ link_code_of m
+    made-sls = ap (λ (l : Label). l.sls) made-label
+
+    pub made-flow : flow_of (management_to c point m) ≡ flow_by (label_of point c.own m)
+    made-flow = ap flow_by made-label
+
+    pub made-says : read_management (management_to c point m).sif ≡ Ok m
+    made-says = message-back point c.own m fits well.own h
+
+-- the code of a link is one that a message can name
+pub code-fits : (c : Configuration) → IsWell c → (link : ℕ) → (entry_of c link).slc < 2 ^ 4
+code-fits c well link =
+    let none : LinkEntry = record { name = []; set = 0; slc = 0 } in
+    ⊎_elim
+    (λ (there : link < length c.links). (let known : IsLink (length c.sets) (slice_index_or c.links link none) = well.links link none there in known.slc))
+    (λ (past : length c.links ≤ link). (let first : (entry_of c link).slc ≡ 0 = ap (λ (l : LinkEntry). l.slc) (get_or_past c.links link none past) in omega (arith, first)))
+    (cases_lt link (length c.links))
+
+-- ---- the node that it is for
+
+-- a message for a node comes to it, if it has a label, isn't too long, and is of its network
+pub comes-here : (c : Configuration) (m : Message) → 4 ≤ length m.sif → length m.sif ≤ SIF_OCTETS → network_indicator m ≡ c.network → dpc_of m ≡ c.own
+    → whither_goes c m ≡ Here (label_at m.sif)
+comes-here c m long short network here =
+    let fits : nat_lt SIF_OCTETS (length m.sif) ≡ false = grind (arith, nat_tests, short) in
+    let labelled : nat_lt (length m.sif) 4 ≡ false = grind (arith, nat_tests, long) in
+    let ours : nat_eq (network_indicator m) c.network ≡ true = grind (arith, nat_tests, network) in
+    let own : nat_eq (dpc_of m) c.own ≡ true = grind (arith, nat_tests, here) in
+    rw (fits, labelled, ours, own) refl
+
+module _ {Q : Type 0} (q : QueueKind Q) (c : Configuration) where
+  -- management from an adjacent point is read
+  pub management-read : (m : Message) (link : ℕ) (node : Node Q) → service_indicator m ≡ 0 → is_adjacent c (opc_of m) ≡ true
+      → distribute q c link m node ≡ do_management q c (read_management m.sif) (opc_of m) node
+  management-read m link node kind known = rw (kind, known) refl

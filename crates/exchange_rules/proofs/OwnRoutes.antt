@@ -1,0 +1,138 @@
+-- The routes to adjacent points over their own sets stay allowed, whatever other statuses change.
+use Rattle.std.proofs.Common.{◌≡◌, ◌≢◌, ◌<◌, ◌≤◌, ℕ, Bool, true, false, List, [], ◌∷◌, length, map, nat_eq, Option, Some, refl, ap, sym, subst, ◌∙◌, arith}
+use Rattle.std.specs.Prelude.{find, if◌then◌else◌, slice_index_or, slice_set}
+use Rattle.std.specs.Option.{option_map}
+use Rattle.std.proofs.Math.ListN.{get_or-map}
+use Rattle.std.proofs.Math.Logic.{⊎_elim}
+use Rattle.std.proofs.lemmas.Bool.{cases_eq, cases_lt}
+use Rattle.std.proofs.lemmas.Bool.Decides.{nat_tests}
+use Rattle.std.proofs.lemmas.List.{get_or_past, get_or-set_other, get_or-set_same, length-map, length-set}
+use Rattle.route_table.specs.declared.route.Route.{Route}
+use Rattle.route_table.specs.declared.route.RouteStatus.{RouteStatus}
+use Rattle.route_table.specs.declared.route.RouteStatus.TheVariants.{Allowed}
+use Rattle.route_table.specs.Facts.{first_route, with_status_over}
+use Rattle.route_table.specs.Statuses.{leads_by}
+use Rattle.route_management.specs.Told.{ToldTable, is_own_point}
+use Rattle.exchange_rules.proofs.Lists.{map-set_alike}
+use Rattle.exchange_rules.proofs.Steps.{status_over, AreOwnAllowed, AreRerouted, sets_of}
+
+no : {A : Type 0} → false ≡ true → A
+no e = absurd cc
+
+-- ---- the status over a set among the routes to one destination
+
+abbrev status : Option Route → Option RouteStatus
+status o = option_map (λ route. route.status) o
+
+abbrev pub over : ℕ → List Route → Option RouteStatus
+over set routes = status (find (leads_by set) routes)
+
+pub first-allowed : (sets : List ℕ) (set : ℕ) (s : RouteStatus) → over set (map first_route sets) ≡ Some s → s ≡ Allowed
+first-allowed [] set s e = absurd cc
+first-allowed (x ∷ xs) set s e = by (nat_eq x set) e (first-allowed xs set s)
+  where
+    by : (b : Bool) → status (if b then Some (first_route x) else find (leads_by set) (map first_route xs)) ≡ Some s → (over set (map first_route xs) ≡ Some s → s ≡ Allowed) → s ≡ Allowed
+    by true f more = cc
+    by false f more = more f
+
+-- the routes by that set get a status
+own-status : (routes : List Route) (set : ℕ) (given s : RouteStatus) → over set (map (with_status_over set given) routes) ≡ Some s → s ≡ given
+own-status [] set given s e = absurd cc
+own-status (r ∷ rs) set given s e = by (nat_eq r.set set) refl e (own-status rs set given s)
+  where
+    rest : Option Route
+    rest = find (leads_by set) (map (with_status_over set given) rs)
+
+    by : (b : Bool) → nat_eq r.set set ≡ b
+        → status (if nat_eq (if b then record r { status = given } else r).set set then Some (if b then record r { status = given } else r) else rest) ≡ Some s
+        → (status rest ≡ Some s → s ≡ given) → s ≡ given
+    by true f h more = (let its : Some given ≡ Some s = sym (ap (λ (t : Bool). status (if t then Some (record r { status = given }) else rest)) f) ∙ h in cc)
+    by false f h more = more (sym (ap (λ (t : Bool). status (if t then Some r else rest)) f) ∙ h)
+
+-- those by other sets keep theirs
+other-status : (routes : List Route) (set other : ℕ) (given : RouteStatus) → other ≢ set → over other (map (with_status_over set given) routes) ≡ over other routes
+other-status [] set other given apart = refl
+other-status (r ∷ rs) set other given apart = by (nat_eq r.set set) (nat_eq r.set other) refl refl (other-status rs set other given apart)
+  where
+    rest : Option Route
+    rest = find (leads_by other) (map (with_status_over set given) rs)
+
+    both : nat_eq r.set set ≡ true → nat_eq r.set other ≡ true → other ≡ set
+    both e f = grind (arith, nat_tests, e, f)
+
+    by : (b d : Bool) → nat_eq r.set set ≡ b → nat_eq r.set other ≡ d → status rest ≡ over other rs
+        → status (if nat_eq (if b then record r { status = given } else r).set other then Some (if b then record r { status = given } else r) else rest)
+        ≡ status (if d then Some r else find (leads_by other) rs)
+    by true true e f more = absurd (apart (both e f))
+    by true false e f more = ap (λ (t : Bool). status (if t then Some (record r { status = given }) else rest)) f ∙ more
+    by false true e f more = ap (λ (t : Bool). status (if t then Some r else rest)) f
+    by false false e f more = ap (λ (t : Bool). status (if t then Some r else rest)) f ∙ more
+
+-- ---- those to all destinations
+
+-- a status that is given leaves the sets
+given-set : (set : ℕ) (given : RouteStatus) (b : Bool) (r : Route) → (if b then record r { status = given } else r).set ≡ r.set
+given-set set given true r = refl
+given-set set given false r = refl
+
+given-sets : (set : ℕ) (given : RouteStatus) (rs : List Route) → map (λ (r : Route). r.set) (map (with_status_over set given) rs) ≡ map (λ (r : Route). r.set) rs
+given-sets set given [] = refl
+given-sets set given (r ∷ rs) =
+    ap (λ (s : ℕ). s ∷ map (λ (r : Route). r.set) (map (with_status_over set given) rs)) (given-set set given (nat_eq r.set set) r)
+    ∙ ap (λ (sets : List ℕ). r.set ∷ sets) (given-sets set given rs)
+
+all-given : (set : ℕ) (given : RouteStatus) (routes : List (List Route)) → sets_of (map (map (with_status_over set given)) routes) ≡ sets_of routes
+all-given set given [] = refl
+all-given set given (rs ∷ routes) =
+    ap (λ (sets : List ℕ). sets ∷ sets_of (map (map (with_status_over set given)) routes)) (given-sets set given rs)
+    ∙ ap (λ (more : List (List ℕ)). map (λ (r : Route). r.set) rs ∷ more) (all-given set given routes)
+
+-- one route gets a status, but not that of a point over its own set
+pub rerouted-one : (t : ToldTable) (routes : List (List Route)) (set destination : ℕ) (given : RouteStatus) → is_own_point t set destination ≡ false
+    → AreRerouted t routes (slice_set routes destination (map (with_status_over set given) (slice_index_or routes destination [])))
+rerouted-one t routes set destination given away = record {
+  size = length-set routes destination changed;
+  sets = sym (map-set_alike (map (λ (r : Route). r.set)) routes destination changed [] (given-sets set given (slice_index_or routes destination [])));
+  own = λ h. record { each = λ other place s is e. h.each other place s is (sym (same other place is) ∙ e) };
+}
+  where
+    changed : List Route
+    changed = map (with_status_over set given) (slice_index_or routes destination [])
+
+    apart : (other : ℕ) → is_own_point t other destination ≡ true → other ≢ set
+    apart other is e = no (sym away ∙ ap (λ (k : ℕ). is_own_point t k destination) (sym e) ∙ is)
+
+    here : (other : ℕ) → is_own_point t other destination ≡ true → status_over other destination (slice_set routes destination changed) ≡ status_over other destination routes
+    here other is =
+        ⊎_elim
+        (λ (there : destination < length routes).
+        ap (over other) (get_or-set_same routes destination changed [] there) ∙ other-status (slice_index_or routes destination []) set other given (apart other is))
+        (λ (past : length routes ≤ destination).
+        ap (over other)
+        (get_or_past (slice_set routes destination changed) destination [] (omega (arith, past, length-set routes destination changed)) ∙ sym (get_or_past routes destination [] past)))
+        (cases_lt destination (length routes))
+
+    same : (other place : ℕ) → is_own_point t other place ≡ true → status_over other place (slice_set routes destination changed) ≡ status_over other place routes
+    same other place is =
+        ⊎_elim
+        (λ (e : place ≡ destination).
+        subst (λ (k : ℕ). status_over other k (slice_set routes destination changed) ≡ status_over other k routes) (sym e)
+        (here other (subst (λ (k : ℕ). is_own_point t other k ≡ true) e is)))
+        (λ (d : place ≢ destination). ap (over other) (get_or-set_other routes destination place changed [] d))
+        (cases_eq place destination)
+
+-- all routes of a set become allowed
+pub rerouted-reset : (t : ToldTable) (routes : List (List Route)) (set : ℕ) → AreRerouted t routes (map (map (with_status_over set Allowed)) routes)
+rerouted-reset t routes set = record {
+  size = length-map routes (map (with_status_over set Allowed));
+  sets = all-given set Allowed routes;
+  own = λ h. record { each = λ other place s is e. allowed h other place s is (sym (ap (over other) (get_or-map (map (with_status_over set Allowed)) routes place [])) ∙ e) };
+}
+  where
+    allowed : AreOwnAllowed t routes → (other place : ℕ) (s : RouteStatus) → is_own_point t other place ≡ true
+        → over other (map (with_status_over set Allowed) (slice_index_or routes place [])) ≡ Some s → s ≡ Allowed
+    allowed h other place s is e =
+        ⊎_elim
+        (λ (its : other ≡ set). own-status (slice_index_or routes place []) set Allowed s (subst (λ (k : ℕ). over k (map (with_status_over set Allowed) (slice_index_or routes place [])) ≡ Some s) its e))
+        (λ (d : other ≢ set). h.each other place s is (sym (other-status (slice_index_or routes place []) set other Allowed d) ∙ e))
+        (cases_eq other set)

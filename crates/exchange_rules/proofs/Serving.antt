@@ -1,0 +1,187 @@
+-- By the table of the alignment: a step about which the rules of a link in service have something to do leads into service, or stays there; a link in
+-- service leaves it by no step; and no step sets or stops L7.
+use Rattle.std.proofs.Common.{◌≡◌, ℕ, ◌==◌, Bool, true, false, ◌&&◌, not, List, [], ◌∷◌, Option, Some, None, refl, ap, sym, subst, ◌∙◌, arith}
+use Rattle.std.specs.Prelude.{if◌then◌else◌}
+use Rattle.std.specs.List.{list_all}
+use Rattle.std.proofs.lemmas.Bool.Decides.{nat_tests}
+use Rattle.link_alignment.specs.declared.alignment.Alignment.{Alignment}
+use Rattle.link_alignment.specs.declared.alignment.Alignment.TheVariants.{Down, NotAligned, Aligned, Proving, AlignedReady, InService}
+use Rattle.link_alignment.specs.declared.action.Action.{Action}
+use Rattle.link_alignment.specs.declared.action.Action.TheVariants.{Ignored, Fail, Go}
+use Rattle.link_alignment.specs.declared.action.Input.{Input}
+use Rattle.link_alignment.specs.declared.action.Input.TheVariants.{UserData}
+use Rattle.link_alignment.specs.declared.action.LinkTimer.{LinkTimer}
+use Rattle.link_alignment.specs.declared.action.LinkTimer.TheVariants.{L1, L2, L3, L4, L6, L7}
+use Rattle.link_alignment.specs.declared.action.Transition.{Transition}
+use Rattle.link_alignment.specs.Table.{Effect, Fails, Remembers, Enters, EntersServing, Serves, Cell, table, timer_of, state_number, is_same_input, effect_in, action_of, action_at, staying}
+use Rattle.node_links.specs.LinkState.{is_down, is_in_service}
+
+-- ---- states by their numbers
+
+pub down-is : (a : Alignment) → is_down a ≡ true → a ≡ Down
+down-is Down e = refl
+down-is NotAligned e = absurd cc
+down-is Aligned e = absurd cc
+down-is (Proving ready) e = absurd cc
+down-is AlignedReady e = absurd cc
+down-is InService e = absurd cc
+
+pub serving-is : (a : Alignment) → is_in_service a ≡ true → a ≡ InService
+serving-is Down e = absurd cc
+serving-is NotAligned e = absurd cc
+serving-is Aligned e = absurd cc
+serving-is (Proving ready) e = absurd cc
+serving-is AlignedReady e = absurd cc
+serving-is InService e = refl
+
+serving-number : (a : Alignment) → is_in_service a ≡ (state_number a == 6)
+serving-number Down = refl
+serving-number NotAligned = refl
+serving-number Aligned = refl
+serving-number (Proving true) = refl
+serving-number (Proving false) = refl
+serving-number AlignedReady = refl
+serving-number InService = refl
+
+-- ---- cells
+
+front : (a b : Bool) → (a && b) ≡ true → a ≡ true
+front true b e = refl
+front false b e = absurd cc
+
+rest : (a b : Bool) → (a && b) ≡ true → b ≡ true
+rest true b e = e
+rest false b e = absurd cc
+
+-- of a cell for a state: whether that is in service, and its effect
+record IsCell (P : Bool → Effect → Bool) (a : Alignment) (found : Option Effect) : Type 0 where
+  pub holds : (effect : Effect) → found ≡ Some effect → P (is_in_service a) effect ≡ true
+
+one_number : (m n : ℕ) → (m == n) ≡ true → (m == 6) ≡ (n == 6)
+one_number m n e = (let same : m ≡ n = grind (arith, nat_tests, e) in ap (λ (k : ℕ). k == 6) same)
+
+abbrev effect_or : Effect → Option Effect → Effect
+effect_or other (Some effect) = effect
+effect_or other None = other
+
+-- what holds of each cell holds of the one that is found
+found-in : (P : Bool → Effect → Bool) (cells : List Cell) (a : Alignment) (input : Input) → list_all (λ (c : Cell). P (state_number c.state == 6) c.effect) cells ≡ true
+    → IsCell P a (effect_in cells a input)
+found-in P [] a input e = record { holds = λ effect h. absurd cc }
+found-in P (c ∷ cells) a input e =
+    let all : Cell → Bool = λ (c : Cell). P (state_number c.state == 6) c.effect in
+    elim ((state_number c.state == state_number a) && is_same_input c.input input) as
+    (λ b. ((state_number c.state == state_number a) && is_same_input c.input input) ≡ b → IsCell P a (if b then Some c.effect else effect_in cells a input)) [
+      | true ↦ λ same. record {
+        holds = λ effect h.
+            let number : (state_number c.state == 6) ≡ is_in_service a =
+            one_number (state_number c.state) (state_number a) (front (state_number c.state == state_number a) (is_same_input c.input input) same) ∙ sym (serving-number a) in
+            ap (λ (x : Effect). P (is_in_service a) x) (sym (ap (effect_or effect) h)) ∙ ap (λ (b : Bool). P b c.effect) (sym number) ∙ front (all c) (list_all all cells) e;
+      }
+      | false ↦ λ other. found-in P cells a input (rest (all c) (list_all all cells) e)
+    ] refl
+
+-- ---- what each cell is
+
+-- the input is handled in service alone
+abbrev serves_there : Bool → Effect → Bool
+serves_there serving Serves = serving
+serves_there serving effect = true
+
+-- a link in service stays there
+abbrev stays_there : Bool → Effect → Bool
+stays_there false effect = true
+stays_there true Fails = true
+stays_there true Serves = true
+stays_there true Remembers = false
+stays_there true (Enters state sent started) = false
+stays_there true EntersServing = false
+
+abbrev pub is_l7 : Option LinkTimer → Bool
+is_l7 (Some L7) = true
+is_l7 (Some L1) = false
+is_l7 (Some L2) = false
+is_l7 (Some L3) = false
+is_l7 (Some L4) = false
+is_l7 (Some L6) = false
+is_l7 None = false
+
+-- L7 isn't started
+abbrev starts_no_l7 : Bool → Effect → Bool
+starts_no_l7 serving (Enters state sent started) = not (is_l7 started)
+starts_no_l7 serving Fails = true
+starts_no_l7 serving Serves = true
+starts_no_l7 serving Remembers = true
+starts_no_l7 serving EntersServing = true
+
+cell-of : (P : Bool → Effect → Bool) (a : Alignment) (input : Input) (effect : Effect) → list_all (λ (c : Cell). P (state_number c.state == 6) c.effect) table ≡ true
+    → effect_in table a input ≡ Some effect → P (is_in_service a) effect ≡ true
+cell-of P a input effect e h = (found-in P table a input e).holds effect h
+
+-- ---- steps
+
+abbrev step_in : Action → Transition
+step_in Ignored = staying Down
+step_in Fail = staying Down
+step_in (Go step) = step
+
+-- what is known of a step
+pub record IsStep (a : Alignment) (step : Transition) : Type 0 where
+  pub serves : step.serve ≡ true → is_in_service step.state ≡ true
+  pub stays : is_in_service a ≡ true → is_in_service step.state ≡ true
+  pub stop : is_l7 step.stop ≡ false
+  pub start : is_l7 step.start ≡ false
+
+no_l7_of : (a : Alignment) → is_l7 (timer_of a) ≡ false
+no_l7_of Down = refl
+no_l7_of NotAligned = refl
+no_l7_of Aligned = refl
+no_l7_of (Proving ready) = refl
+no_l7_of AlignedReady = refl
+no_l7_of InService = refl
+
+not-so : (b : Bool) → not b ≡ true → b ≡ false
+not-so false e = refl
+not-so true e = absurd cc
+
+-- that of an effect
+effect-step : (effect : Option Effect) (a : Alignment) (input : Input) (step : Transition) → effect_in table a input ≡ effect → action_of a effect ≡ Go step
+    → IsStep a (step_in (action_of a effect))
+effect-step None a input step f e = absurd cc
+effect-step (Some Fails) a input step f e = absurd cc
+effect-step (Some Remembers) a input step f e = record {
+  serves = λ h. absurd cc;
+  stays = λ h. (let no : false ≡ true = sym (ap (λ (b : Bool). stays_there b Remembers) h) ∙ cell-of stays_there a input Remembers refl f in absurd cc);
+  stop = refl;
+  start = refl;
+}
+effect-step (Some (Enters state sent started)) a input step f e = record {
+  serves = λ h. absurd cc;
+  stays = λ h.
+      (let no : false ≡ true = sym (ap (λ (b : Bool). stays_there b (Enters state sent started)) h) ∙ cell-of stays_there a input (Enters state sent started) refl f in absurd cc);
+  stop = no_l7_of a;
+  start = not-so (is_l7 started) (cell-of starts_no_l7 a input (Enters state sent started) refl f);
+}
+effect-step (Some EntersServing) a input step f e = record { serves = λ h. refl; stays = λ h. refl; stop = no_l7_of a; start = refl }
+effect-step (Some Serves) a input step f e = record {
+  serves = λ h. cell-of serves_there a input Serves refl f;
+  stays = λ h. h;
+  stop = refl;
+  start = refl;
+}
+
+pub each-step : (a : Alignment) (input : Input) (step : Transition) → action_at a input ≡ Go step → IsStep a step
+each-step a input step e = subst (IsStep a) (ap step_in e) (effect-step (effect_in table a input) a input step refl e)
+
+pub serves-in : (a : Alignment) (input : Input) (step : Transition) → action_at a input ≡ Go step → step.serve ≡ true → is_in_service step.state ≡ true
+serves-in a input step e h = (each-step a input step e).serves h
+
+-- User Data leads into service, or stays there
+pub data-serves : (a : Alignment) (step : Transition) → action_at a UserData ≡ Go step → is_in_service step.state ≡ true
+data-serves Down step e = absurd cc
+data-serves NotAligned step e = absurd cc
+data-serves Aligned step e = absurd cc
+data-serves (Proving true) step e = absurd cc
+data-serves (Proving false) step e = absurd cc
+data-serves AlignedReady step e = sym (ap (λ (x : Action). is_in_service (step_in x).state) e)
+data-serves InService step e = sym (ap (λ (x : Action). is_in_service (step_in x).state) e)

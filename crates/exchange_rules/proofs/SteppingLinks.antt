@@ -1,0 +1,240 @@
+-- Links that open, align, fail and go, and a tick: each rule is made of steps.
+use Rattle.std.proofs.Common.{◌≡◌, ◌≢◌, ◌<◌, ◌≤◌, ℕ, Bool, true, false, ◌&&◌, not, List, length, refl, ap, ◌∙◌, arith}
+use Rattle.std.specs.Prelude.{if◌then◌else◌}
+use Rattle.std.proofs.Math.Logic.{⊎_elim}
+use Rattle.std.proofs.lemmas.Bool.{cases_lt}
+use Rattle.std.proofs.lemmas.List.{get_or_past, get_or-set_same, get_or-set_other, length-set}
+use Rattle.settings_rows.specs.Configuration.{Configuration}
+use Rattle.signalling_types.specs.declared.cause.Cause.TheVariants as causes
+use Rattle.signalling_types.specs.declared.outcome.Outcome.TheVariants.{Handled, Ignored}
+use Rattle.signalling_types.specs.declared.notice.FailureReason.{FailureReason}
+use Rattle.signalling_types.specs.declared.notice.FailureReason.TheVariants as reasons
+use Rattle.m2pa_codec.specs.declared.status.LinkStatus.{LinkStatus}
+use Rattle.m2pa_codec.specs.declared.status.LinkStatus.TheVariants as says
+use Rattle.link_alignment.specs.declared.alignment.Alignment.TheVariants.{Down}
+use Rattle.link_alignment.specs.declared.action.Action.{Action}
+use Rattle.link_alignment.specs.declared.action.Action.TheVariants as act
+use Rattle.link_alignment.specs.declared.action.Input.{Input}
+use Rattle.link_alignment.specs.declared.action.Input.TheVariants.{Status, Expiry}
+use Rattle.link_alignment.specs.declared.action.LinkTimer.{LinkTimer}
+use Rattle.link_alignment.specs.declared.action.Transition.{Transition}
+use Rattle.link_alignment.specs.Table.{action_at}
+use Rattle.node_links.specs.Link.{Link}
+use Rattle.node_links.specs.LinkState.{down_link, is_down, is_in_service, stepped, after_failure}
+use Rattle.timer_wheel.specs.declared.name.RouteTimer.TheVariants as of_set
+use Rattle.timer_wheel.specs.Timers.{clear_set}
+use Rattle.route_management.proofs.Shape.{reset_shape}
+use Rattle.changeover.specs.Standing.{Standing, may_restart}
+use Rattle.node_links.specs.Network.{link_in}
+use Rattle.route_table.specs.Facts.{Facts}
+use Rattle.exchange_rules.specs.Opening.{may_open, open_link, association_up, fail_if_up, end_association, association_down, set_active, activate, deactivate}
+use Rattle.exchange_rules.specs.State.{Parts, Node, Done, with_parts, answer, refuse}
+use Rattle.exchange_rules.specs.Links.{is_link, link_at, links_with, down, in_service}
+use Rattle.exchange_rules.specs.Routing.{facts}
+use Rattle.exchange_rules.specs.Points.{set_of}
+use Rattle.exchange_rules.specs.Rerouting.{with_set_reset}
+use Rattle.exchange_rules.specs.Failing.{has_other, changeover_of, fail}
+use Rattle.exchange_rules.specs.Statuses.{step_on, enters, begun_anew_if, moved_on, return_if, advance, serve_status, act_by_status, on_link_status, act_by_timer, run_out}
+use Rattle.exchange_rules.specs.Queues.{WholeQueues, whole}
+use Rattle.exchange_rules.proofs.TakenPairs.{take_back_each-alike}
+use Rattle.exchange_rules.proofs.Serving.{serves-in}
+use Rattle.exchange_rules.proofs.Steps.{IsOfSteps, with_busy, without_busy, either-steps, either_done-steps}
+use Rattle.exchange_rules.proofs.OwnRoutes.{rerouted-reset}
+use Rattle.exchange_rules.proofs.SteppingTimers.{both-timed, clear_set-timed}
+use Rattle.exchange_rules.proofs.SteppingFailures.{fail-links, fail-steps}
+use Rattle.exchange_rules.proofs.SteppingReturns.{change_back-steps}
+
+-- ---- a link that takes a step of its alignment is there
+
+down-ignores : (input : Input) → action_at Down input ≡ act.Ignored
+down-ignores input = refl
+
+pub stepping-there : (p : Parts) (link : ℕ) (input : Input) (step : Transition) → action_at (link_at p link).alignment input ≡ act.Go step → link < length p.links
+stepping-there p link input step e =
+    ⊎_elim
+    (λ (there : link < length p.links). there)
+    (λ (past : length p.links ≤ link).
+    let gone : action_at (link_at p link).alignment input ≡ act.Ignored = ap (λ (l : Link). action_at l.alignment input) (get_or_past p.links link down_link past) in
+    absurd cc)
+    (cases_lt link (length p.links))
+
+-- it has the state that the step leads to
+pub stepped-at : (c : Configuration) (link : ℕ) (step : Transition) (p : Parts) → link < length p.links → link_at (step_on c link step p) link ≡ stepped step (link_at p link)
+stepped-at c link step p there = get_or-set_same p.links link (stepped step (link_at p link)) down_link there
+
+-- and no other link changes
+pub stepped-other : (c : Configuration) (link other : ℕ) (step : Transition) (p : Parts) → other ≢ link → link_at (step_on c link step p) other ≡ link_at p other
+stepped-other c link other step p apart = get_or-set_other p.links link other (stepped step (link_at p link)) down_link apart
+
+-- links are what they are where all that is known over a set begins anew
+anew-link : (first : Bool) (c : Configuration) (link other : ℕ) (p : Parts) → link_at (begun_anew_if first c link p) other ≡ link_at p other
+anew-link true c link other p = refl
+anew-link false c link other p = refl
+
+pub moved-at : (c : Configuration) (link other : ℕ) (step : Transition) (p : Parts) → link_at (moved_on c link step p) other ≡ link_at (step_on c link step p) other
+moved-at c link other step p = anew-link (enters link step p && not (has_other c link p)) c link other (step_on c link step p)
+
+front : (a b : Bool) → (a && b) ≡ true → a ≡ true
+front true b e = refl
+front false b e = absurd cc
+
+-- it carries messages as the step says, also once it has taken its flows back
+returned-links : (entered : Bool) (c : Configuration) (link : ℕ) (before : Facts) (n : Node WholeQueues) → (return_if whole c entered link before n).parts.links ≡ n.parts.links
+returned-links true c link before n = (take_back_each-alike whole c before (facts c n.parts) link (length c.links) n).links
+returned-links false c link before n = refl
+
+pub advance-serves : (c : Configuration) (link : ℕ) (input : Input) (step : Transition) (n : Node WholeQueues) → action_at (link_at n.parts link).alignment input ≡ act.Go step
+    → in_service (advance whole c link step n).parts link ≡ is_in_service step.state
+advance-serves c link input step n e =
+    ap (λ (links : List Link). is_in_service (link_in links link).alignment)
+    (returned-links (enters link step n.parts) c link (facts c n.parts) (with_parts n (moved_on c link step n.parts)))
+    ∙ ap (λ (l : Link). is_in_service l.alignment) (moved-at c link link step n.parts ∙ stepped-at c link step n.parts (stepping-there n.parts link input step e))
+
+-- a link that fails is down
+failed-down : (c : Configuration) (link : ℕ) (why : FailureReason) (n : Node WholeQueues) → down (fail whole c link why n).parts link ≡ true
+failed-down c link why n =
+    ap (λ (links : List Link). is_down (link_in links link).alignment) (fail-links c link why n)
+    ∙ ⊎_elim
+    (λ (there : link < length n.parts.links).
+    ap (λ (l : Link). is_down l.alignment) (get_or-set_same n.parts.links link (after_failure (link_at n.parts link)) down_link there))
+    (λ (past : length n.parts.links ≤ link).
+    ap (λ (l : Link). is_down l.alignment)
+    (get_or_past (links_with n.parts link (after_failure (link_at n.parts link))) link down_link
+    (omega (arith, past, length-set n.parts.links link (after_failure (link_at n.parts link))))))
+    (cases_lt link (length n.parts.links))
+
+pub failed_if_up-down : (c : Configuration) (is : Bool) (link : ℕ) (why : FailureReason) (n : Node WholeQueues) → down n.parts link ≡ is
+    → down (if is then n else fail whole c link why n).parts link ≡ true
+failed_if_up-down c true link why n e = e
+failed_if_up-down c false link why n e = failed-down c link why n
+
+complete : (st : Standing) → may_restart st ≡ true → st.incomplete ≡ false
+complete st e = by st.incomplete st.awaited e
+  where
+    by : (incomplete awaited : Bool) → (not incomplete && not awaited) ≡ true → incomplete ≡ false
+    by true awaited h = absurd cc
+    by false awaited h = refl
+
+module _ {c : Configuration} {Own Counts : ℕ → Type 0} {R : Node WholeQueues → Node WholeQueues → Type 0} (s : IsOfSteps c Own Counts R) where
+  -- ---- a step of an alignment
+
+  set_reset-steps : (set : ℕ) (n : Node WholeQueues) → R n (with_parts n (with_set_reset c set n.parts))
+  set_reset-steps set n =
+      let reset : Parts = with_set_reset c set n.parts in
+      s.both _ _ _ (s.rerouted reset.routes n (rerouted-reset n.parts.told n.parts.routes set))
+      (s.both _ _ _ (s.told reset.told _ (record { shape = reset_shape n.parts.told set; adjacents = refl }))
+      (s.timed reset.timers _ (both-timed _ _ _ (clear_set-timed of_set.T8 set n.parts.timers) (clear_set-timed of_set.T10 set (clear_set of_set.T8 set n.parts.timers)))))
+
+  pub anew-steps : (first : Bool) (link : ℕ) (n : Node WholeQueues) → R n (with_parts n (begun_anew_if first c link n.parts))
+  anew-steps true link n = set_reset-steps (set_of c link) n
+  anew-steps false link n = s.none n
+
+  -- a link that entered service takes its flows back
+  entered-steps : (entered : Bool) (link : ℕ) (step : Transition) (n : Node WholeQueues) → link < length n.parts.links → enters link step n.parts ≡ entered
+      → R (with_parts n (moved_on c link step n.parts)) (return_if whole c entered link (facts c n.parts) (with_parts n (moved_on c link step n.parts)))
+  entered-steps true link step n there e =
+      let moved : Parts = moved_on c link step n.parts in
+      change_back-steps s link n.parts (with_parts n moved)
+      (ap (λ (l : Link). is_in_service l.alignment) (moved-at c link link step n.parts ∙ stepped-at c link step n.parts there) ∙ front (is_in_service step.state) _ e)
+      (λ other apart serves. ap (λ (l : Link). is_in_service l.alignment) (moved-at c link other step n.parts ∙ stepped-other c link other step n.parts apart) ∙ serves)
+  entered-steps false link step n there e = s.none (with_parts n (moved_on c link step n.parts))
+
+  pub advance-steps : (link : ℕ) (input : Input) (step : Transition) (n : Node WholeQueues) → Own link → action_at (link_at n.parts link).alignment input ≡ act.Go step
+      → R n (advance whole c link step n)
+  advance-steps link input step n own e =
+      let first : Bool = enters link step n.parts && not (has_other c link n.parts) in
+      s.both _ _ _ (s.both _ _ _ (s.stepped link input step n own e) (anew-steps first link (with_parts n (step_on c link step n.parts))))
+      (entered-steps (enters link step n.parts) link step n (stepping-there n.parts link input step e) refl)
+
+  -- ---- statuses and timers of a link
+
+  busy-steps : (busy : Bool) (link : ℕ) (n : Node WholeQueues) → Own link → in_service n.parts link ≡ true → (link_at n.parts link).peer_busy ≡ busy
+      → R n (with_parts n (if busy then n.parts else with_busy c link n.parts))
+  busy-steps true link n own e f = s.none n
+  busy-steps false link n own e f = s.busied link n own e f
+
+  resuming-steps : (busy : Bool) (link : ℕ) (n : Node WholeQueues) → Own link → in_service n.parts link ≡ true → (link_at n.parts link).peer_busy ≡ busy
+      → R n (with_parts n (if busy then without_busy c link (whole.outstanding n.queues link) n.parts else n.parts))
+  resuming-steps true link n own e f = s.resumed link n own e f
+  resuming-steps false link n own e f = s.none n
+
+  serve_status-steps : (link : ℕ) (status : LinkStatus) (n : Node WholeQueues) → Own link → in_service n.parts link ≡ true → R n (serve_status whole c link status n)
+  serve_status-steps link says.Busy n own e = busy-steps (link_at n.parts link).peer_busy link n own e refl
+  serve_status-steps link says.BusyEnded n own e = resuming-steps (link_at n.parts link).peer_busy link n own e refl
+  serve_status-steps link says.Alignment n own e = s.none n
+  serve_status-steps link says.ProvingNormal n own e = s.none n
+  serve_status-steps link says.ProvingEmergency n own e = s.none n
+  serve_status-steps link says.Ready n own e = s.none n
+  serve_status-steps link says.ProcessorOutage n own e = s.none n
+  serve_status-steps link says.ProcessorRecovered n own e = s.none n
+  serve_status-steps link says.OutOfService n own e = s.none n
+
+  served-steps : (serve : Bool) (link : ℕ) (status : LinkStatus) (n : Node WholeQueues) → Own link → (serve ≡ true → in_service n.parts link ≡ true)
+      → R n (if serve then serve_status whole c link status n else n)
+  served-steps true link status n own e = serve_status-steps link status n own (e refl)
+  served-steps false link status n own e = s.none n
+
+  act_by_status-steps : (a : Action) (link : ℕ) (status : LinkStatus) (n : Node WholeQueues) → Own link → action_at (link_at n.parts link).alignment (Status status) ≡ a
+      → R n (act_by_status whole c a link status n).left
+  act_by_status-steps act.Ignored link status n own e = s.none n
+  act_by_status-steps act.Fail link status n own e = fail-steps s link reasons.Status n
+  act_by_status-steps (act.Go step) link status n own e =
+      s.both _ _ _ (advance-steps link (Status status) step n own e)
+      (served-steps step.serve link status (advance whole c link step n) own
+      (λ h. advance-serves c link (Status status) step n e ∙ serves-in (link_at n.parts link).alignment (Status status) step e h))
+
+  pub on_link_status-steps : (link : ℕ) (status : LinkStatus) (n : Node WholeQueues) → Own link → R n (on_link_status whole c link status n).left
+  on_link_status-steps link status n own = act_by_status-steps (action_at (link_at n.parts link).alignment (Status status)) link status n own refl
+
+  act_by_timer-steps : (a : Action) (link : ℕ) (timer : LinkTimer) (n : Node WholeQueues) → Own link → action_at (link_at n.parts link).alignment (Expiry timer) ≡ a
+      → R n (act_by_timer whole c a link n)
+  act_by_timer-steps act.Ignored link timer n own e = s.none n
+  act_by_timer-steps act.Fail link timer n own e = fail-steps s link reasons.Timer n
+  act_by_timer-steps (act.Go step) link timer n own e = advance-steps link (Expiry timer) step n own e
+
+  pub run_out-steps : (link : ℕ) (timer : LinkTimer) (n : Node WholeQueues) → Own link → R n (run_out whole c link timer n)
+  run_out-steps link timer n own = act_by_timer-steps (action_at (link_at n.parts link).alignment (Expiry timer)) link timer n own refl
+
+  -- ---- associations, and the operator's word
+
+  opened-steps : (opens restarts : Bool) (link : ℕ) (n : Node WholeQueues) → Counts link → is_link n.parts link ≡ true → may_open (link_at n.parts link) ≡ opens
+      → may_restart (changeover_of n.parts link) ≡ restarts
+      → R n (if opens then (if restarts then answer Handled (open_link whole c link n) else refuse causes.ChangeoverPending n) else refuse causes.LinkNotReady n).left
+  opened-steps true true link n own there e f = s.opened link n own there e (complete (changeover_of n.parts link) f)
+  opened-steps true false link n own there e f = s.none n
+  opened-steps false restarts link n own there e f = s.none n
+
+  known-steps : (there : Bool) (link : ℕ) (n : Node WholeQueues) → Counts link → is_link n.parts link ≡ there
+      → R n (if there then (if may_open (link_at n.parts link)
+      then (if may_restart (changeover_of n.parts link) then answer Handled (open_link whole c link n) else refuse causes.ChangeoverPending n)
+      else refuse causes.LinkNotReady n) else refuse causes.NoSuchName n).left
+  known-steps true link n own e = opened-steps (may_open (link_at n.parts link)) (may_restart (changeover_of n.parts link)) link n own e refl refl
+  known-steps false link n own e = s.none n
+
+  pub association_up-steps : (link : ℕ) (n : Node WholeQueues) → Counts link → R n (association_up whole c link n).left
+  association_up-steps link n own = known-steps (is_link n.parts link) link n own refl
+
+  fail_if_up-steps : (link : ℕ) (why : FailureReason) (n : Node WholeQueues) → R n (fail_if_up whole c link why n)
+  fail_if_up-steps link why n = either-steps s (down n.parts link) n n (fail whole c link why n) (s.none n) (fail-steps s link why n)
+
+  pub association_down-steps : (link : ℕ) (n : Node WholeQueues) → R n (association_down whole c link n).left
+  association_down-steps link n =
+      let gone : Node WholeQueues = fail_if_up whole c link reasons.Association n in
+      let ended : Done WholeQueues = answer Handled (end_association whole c link gone) in
+      either_done-steps s (is_link n.parts link) n (if (link_at n.parts link).association then ended else answer Ignored n) (refuse causes.NoSuchName n)
+      (either_done-steps s (link_at n.parts link).association n ended (answer Ignored n)
+      (s.both _ _ _ (fail_if_up-steps link reasons.Association n)
+      (s.parted link gone (failed_if_up-down c (down n.parts link) link reasons.Association n refl))) (s.none n)) (s.none n)
+
+  pub set_active-steps : (active : Bool) (link : ℕ) (n : Node WholeQueues) → R n (set_active whole c active link n)
+  set_active-steps active link n = s.linked link (record (link_at n.parts link) { active = active }) n (record { alignment = refl; association = refl; busy = refl })
+
+  pub activate-steps : (link : ℕ) (n : Node WholeQueues) → R n (activate whole c link n).left
+  activate-steps link n =
+      either_done-steps s (is_link n.parts link) n (answer Handled (set_active whole c true link n)) (refuse causes.NoSuchName n) (set_active-steps true link n) (s.none n)
+
+  pub deactivate-steps : (link : ℕ) (n : Node WholeQueues) → R n (deactivate whole c link n).left
+  deactivate-steps link n =
+      let gone : Node WholeQueues = fail_if_up whole c link reasons.Operator n in
+      either_done-steps s (is_link n.parts link) n (answer Handled (set_active whole c false link gone)) (refuse causes.NoSuchName n)
+      (s.both _ _ _ (fail_if_up-steps link reasons.Operator n) (set_active-steps false link gone)) (s.none n)

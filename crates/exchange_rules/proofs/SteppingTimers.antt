@@ -1,0 +1,89 @@
+-- Timers other than L7 that are set and stopped: no timer that watches a link changes, and none becomes due.
+use Rattle.std.proofs.Common.{◌≡◌, ◌≢◌, ℕ, Bool, true, false, cond, refl, sym, ap, ◌∙◌, arith}
+use Rattle.std.specs.Prelude.{Option, Some, None, max, is_some}
+use Rattle.std.proofs.lemmas.Bool.Decides.{nat_tests}
+use Rattle.timer_wheel.specs.declared.name.TimerName.{TimerName}
+use Rattle.timer_wheel.specs.declared.name.TimerName.TheVariants.{L7}
+use Rattle.timer_wheel.specs.declared.name.RouteTimer.{RouteTimer}
+use Rattle.timer_wheel.specs.declared.name.RouteTimer.TheVariants as route
+use Rattle.timer_wheel.specs.Names.{has_name, is_same, is_of_set}
+use Rattle.timer_wheel.specs.Timers.{Running, set_timer, clear_timer, clear_set, is_due, no_tick_left}
+use Rattle.timer_wheel.proofs.Maps.{left-set_other, left-clear_other, left-clear_set_other, counts-set, counts-clear, counts-clear_set}
+use Rattle.exchange_rules.proofs.Steps.{AreTimed}
+
+-- where a timer that is due is due still, or has what is never due
+due-of : (b : Bool) (o p q : Option ℕ) → no_tick_left p ≡ false → no_tick_left (cond b (cond true p o) None) ≡ true → no_tick_left q ≡ true
+due-of true o p q never e = (let goal = sym never ∙ e in absurd cc)
+due-of false o p q never e = absurd cc
+
+not_due : (ticks : ℕ) → no_tick_left (Some (max 1 ticks)) ≡ false
+not_due ticks = grind (arith, nat_tests)
+
+-- what is due once a timer is set was due before
+pub due-set : (name other : TimerName) (ticks : ℕ) (r : Running) → is_due (set_timer name ticks r) other ≡ true → is_due r other ≡ true
+unfolding set_timer
+due-set name other ticks r e =
+    elim (is_same name other) as (λ b. is_same name other ≡ b
+    → no_tick_left (cond (has_name r.counts other) (cond b (Some (max 1 ticks)) (r.left other)) None) ≡ true → is_due r other ≡ true) [
+      | true ↦ λ same d. due-of (has_name r.counts other) (r.left other) (Some (max 1 ticks)) (r.left other) (not_due ticks) d
+      | false ↦ λ apart d. kept (has_name r.counts other) d
+    ] refl e
+  where
+    kept : (b : Bool) → no_tick_left (cond b (r.left other) None) ≡ true → is_due r other ≡ true
+    kept true d = d
+    kept false d = absurd cc
+
+pub due-clear : (name other : TimerName) (r : Running) → is_due (clear_timer name r) other ≡ true → is_due r other ≡ true
+unfolding clear_timer
+due-clear name other r e = kept (has_name r.counts other) (is_same name other) e
+  where
+    kept : (b d : Bool) → no_tick_left (cond b (cond d None (r.left other)) None) ≡ true → is_due r other ≡ true
+    kept true true h = absurd cc
+    kept true false h = h
+    kept false d h = absurd cc
+
+pub due-clear_set : (timer : RouteTimer) (set : ℕ) (other : TimerName) (r : Running) → is_due (clear_set timer set r) other ≡ true → is_due r other ≡ true
+unfolding clear_set
+due-clear_set timer set other r e = kept (has_name r.counts other) (is_of_set timer set other) e
+  where
+    kept : (b d : Bool) → no_tick_left (cond b (cond d None (r.left other)) None) ≡ true → is_due r other ≡ true
+    kept true true h = absurd cc
+    kept true false h = h
+    kept false d h = absurd cc
+
+-- ---- timers that aren't an L7
+
+pub same-timed : (r : Running) → AreTimed r r
+same-timed r = record { counts = refl; watching = λ link. refl; due = λ name e. e }
+
+pub both-timed : (r s t : Running) → AreTimed r s → AreTimed s t → AreTimed r t
+both-timed r s t e f = record {
+  counts = f.counts ∙ e.counts;
+  watching = λ link. f.watching link ∙ e.watching link;
+  due = λ name h. e.due name (f.due name h);
+}
+
+pub set-timed : (name : TimerName) (ticks : ℕ) (r : Running) → ((link : ℕ) → name ≢ L7 link) → AreTimed r (set_timer name ticks r)
+set-timed name ticks r other = record {
+  counts = counts-set name ticks r;
+  watching = λ link. ap is_some (left-set_other name (L7 link) ticks r (other link));
+  due = λ it e. due-set name it ticks r e;
+}
+
+pub clear-timed : (name : TimerName) (r : Running) → ((link : ℕ) → name ≢ L7 link) → AreTimed r (clear_timer name r)
+clear-timed name r other = record {
+  counts = counts-clear name r;
+  watching = λ link. ap is_some (left-clear_other name (L7 link) r (other link));
+  due = λ it e. due-clear name it r e;
+}
+
+pub clear_set-timed : (timer : RouteTimer) (set : ℕ) (r : Running) → AreTimed r (clear_set timer set r)
+clear_set-timed timer set r = record {
+  counts = counts-clear_set timer set r;
+  watching = λ link. ap is_some (left-clear_set_other timer set (L7 link) r (of_route timer link));
+  due = λ it e. due-clear_set timer set it r e;
+}
+  where
+    of_route : (timer : RouteTimer) (link : ℕ) → is_of_set timer set (L7 link) ≡ false
+    of_route route.T8 link = refl
+    of_route route.T10 link = refl

@@ -1,0 +1,168 @@
+-- The steps that rules are made of: each change of a node that a rule makes, with what stands when it makes it. A relation between two nodes that
+-- holds of each step, and of one behind another, holds of every rule, every event and every take (`Stepping..`).
+use Rattle.std.proofs.Common.{◌≡◌, ℕ, Bool, true, false, List, [], length, Option, Some}
+use Rattle.std.specs.Prelude.{find, if◌then◌else◌, map, slice_index_or, Ok}
+use Rattle.std.specs.Option.{option_map}
+use Rattle.signalling_types.specs.Message.{Message, flow_of}
+use Rattle.signalling_types.specs.declared.notice.Notice.{Notice}
+use Rattle.signalling_types.specs.declared.notice.FailureReason.{FailureReason}
+use Rattle.settings_rows.specs.Configuration.{Configuration, TitleEntry}
+use Rattle.link_alignment.specs.declared.action.Input.{Input}
+use Rattle.link_alignment.specs.declared.action.Action.TheVariants.{Go}
+use Rattle.link_alignment.specs.declared.action.Transition.{Transition}
+use Rattle.link_alignment.specs.Table.{action_at}
+use Rattle.link_sequence.specs.Queue.{Sending}
+use Rattle.mgmt_codec.specs.LinkTests.{LinkTestValue}
+use Rattle.timer_wheel.specs.declared.name.TimerName.{TimerName}
+use Rattle.timer_wheel.specs.declared.name.TimerName.TheVariants.{L7}
+use Rattle.timer_wheel.specs.Timers.{Running, is_running, is_due}
+use Rattle.route_table.specs.declared.route.Route.{Route}
+use Rattle.route_table.specs.declared.route.RouteStatus.{RouteStatus}
+use Rattle.route_table.specs.declared.route.RouteStatus.TheVariants.{Allowed}
+use Rattle.route_table.specs.Statuses.{leads_by}
+use Rattle.route_management.specs.Told.{ToldTable, is_own_point, shape_of}
+use Rattle.node_links.specs.Link.{Link}
+use Rattle.changeover.specs.Standing.{Standing}
+use Rattle.changeback.specs.Codes.{with_code}
+use Rattle.flow_hold.specs.Holds.{HoldSet}
+use Rattle.exchange_rules.specs.State.{Parts, Node, Done, with_parts}
+use Rattle.exchange_rules.specs.Links.{is_link, link_at, links_with, with_link, down, in_service}
+use Rattle.exchange_rules.specs.Noting.{note, flagged}
+use Rattle.exchange_rules.specs.Routing.{link_of}
+use Rattle.exchange_rules.specs.Queueing.{queue_on}
+use Rattle.exchange_rules.specs.Holding.{waits, hold}
+use Rattle.exchange_rules.specs.Local.{is_adjacent, test_answer}
+use Rattle.exchange_rules.specs.Failing.{changeover_of, with_changeover, fail_link}
+use Rattle.exchange_rules.specs.ChangingBack.{declaration}
+use Rattle.exchange_rules.specs.Relaying.{with_titles}
+use Rattle.exchange_rules.specs.Statuses.{step_on}
+use Rattle.exchange_rules.specs.Timing.{timed_busy, timed_busy_ended}
+use Rattle.exchange_rules.specs.Opening.{may_open, without_association, open_link}
+use Rattle.exchange_rules.specs.Frames.{Carrying, carries, numbers, timed_parts}
+use Rattle.exchange_rules.specs.Sending.{SendsMessage, next_message, after_sending}
+use Rattle.exchange_rules.specs.Queues.{WholeQueues, whole}
+use Rattle.exchange_rules.specs.Places.{HasHoldsFor}
+use Rattle.exchange_rules.specs.Lasting.{tells_of_loss, tells_of_lateness}
+
+-- timers change, but none that watches a link: the same names exist, each L7 runs that ran, and no timer becomes due
+pub record AreTimed (r s : Running) : Type 0 where
+  pub counts : s.counts ≡ r.counts
+  pub watching : (link : ℕ) → is_running (L7 link) s ≡ is_running (L7 link) r
+  pub due : (name : TimerName) → is_due s name ≡ true → is_due r name ≡ true
+
+-- other flows are held, by procedures that are there
+pub record AreHeld (c : Configuration) (h g : HoldSet) : Type 0 where
+  pub fits : HasHoldsFor c h → HasHoldsFor c g
+
+-- a notice says of losses and of lateness what the flags say
+pub record IsTold (notice : Notice) (p : Parts) : Type 0 where
+  pub lost : tells_of_loss notice ≡ true → p.lost_any ≡ true
+  pub late : tells_of_lateness notice ≡ true → p.late_any ≡ true
+
+-- the status of the route to a destination over a set, if there is one
+abbrev pub status_over : (set destination : ℕ) → List (List Route) → Option RouteStatus
+status_over set destination routes = option_map (λ route. route.status) (find (leads_by set) (slice_index_or routes destination []))
+
+-- the route to each adjacent point over its own set is allowed
+pub record AreOwnAllowed (t : ToldTable) (routes : List (List Route)) : Type 0 where
+  pub each : (set destination : ℕ) (status : RouteStatus) → is_own_point t set destination ≡ true → status_over set destination routes ≡ Some status → status ≡ Allowed
+
+-- of each destination the sets that lead there
+abbrev pub sets_of : List (List Route) → List (List ℕ)
+sets_of routes = map (map (λ route. route.set)) routes
+
+-- routes get other statuses, and those stay allowed
+pub record AreRerouted (t : ToldTable) (old new : List (List Route)) : Type 0 where
+  pub size : length new ≡ length old
+  pub sets : sets_of new ≡ sets_of old
+  pub own : AreOwnAllowed t old → AreOwnAllowed t new
+
+-- the same points were told of as many destinations
+pub record AreToldMore (old new : ToldTable) : Type 0 where
+  pub shape : shape_of new ≡ shape_of old
+  pub adjacents : new.adjacents ≡ old.adjacents
+
+-- a link has its association, and carries messages as before
+pub record IsSameLink (l x : Link) : Type 0 where
+  pub alignment : x.alignment ≡ l.alignment
+  pub association : x.association ≡ l.association
+  pub busy : x.peer_busy ≡ l.peer_busy
+
+-- its peer becomes busy, and isn't busy any more
+abbrev pub with_busy : Configuration → ℕ → Parts → Parts
+with_busy c link p = record p {
+  links = links_with p link (record (link_at p link) { peer_busy = true });
+  timers = timed_busy c link p.timers;
+}
+
+abbrev pub without_busy : Configuration → ℕ → ℕ → Parts → Parts
+without_busy c link outstanding p = record p {
+  links = links_with p link (record (link_at p link) { peer_busy = false });
+  timers = timed_busy_ended c link outstanding p.timers;
+}
+
+-- User Data is accepted, before its message is looked at
+abbrev pub confirming : Configuration → ℕ → Carrying → ℕ → Node WholeQueues → Node WholeQueues
+confirming c link d confirmed n = record {
+  queues = whole.accepted n.queues link d.fsn d.bsn (carries d);
+  parts = timed_parts c link confirmed (whole.outstanding (whole.accepted n.queues link d.fsn d.bsn (carries d)) link) n.parts;
+}
+
+-- R holds of each step. Own are the links that may enter service by it, and send; Counts are those whose counts may begin anew, or rise as User Data
+-- is accepted
+pub record IsOfSteps (c : Configuration) (Own Counts : ℕ → Type 0) (R : Node WholeQueues → Node WholeQueues → Type 0) : Type 0 where
+  pub none : (n : Node WholeQueues) → R n n
+  pub both : (n m o : Node WholeQueues) → R n m → R m o → R n o
+  -- ---- messages: one goes to the end of the queue of its flow's link; a declaration, and the answer to a test, to that of a link in service
+  pub routed : (link : ℕ) (m : Message) (n : Node WholeQueues) → link_of c n.parts (flow_of m) ≡ Some link → R n (queue_on whole c link m n)
+  pub declared : (link other code : ℕ) (n : Node WholeQueues) → in_service n.parts link ≡ true → in_service n.parts other ≡ true
+      → R n (queue_on whole c other (declaration c link code) n)
+  pub tested : (link point : ℕ) (test : LinkTestValue) (n : Node WholeQueues) → in_service n.parts link ≡ true → is_adjacent c point ≡ true
+      → R n (queue_on whole c link (test_answer c point test) n)
+  -- one waits; all that wait are taken out, to go on
+  pub held : (m : Message) (n : Node WholeQueues) → waits c n.parts.holds m ≡ true → R n (hold whole m n)
+  pub taken_out : (n : Node WholeQueues) → R n (record n { queues = whole.without_held n.queues })
+  -- ---- parts that concern no link
+  pub noted : (notice : Notice) (n : Node WholeQueues) → IsTold notice n.parts → R n (with_parts n (note notice n.parts))
+  pub lost : (n : Node WholeQueues) → R n (with_parts n (flagged n.parts))
+  pub late : (n : Node WholeQueues) → R n (with_parts n (record n.parts { late_any = true }))
+  pub timed : (r : Running) (n : Node WholeQueues) → AreTimed n.parts.timers r → R n (with_parts n (record n.parts { timers = r }))
+  pub holding : (h : HoldSet) (n : Node WholeQueues) → AreHeld c n.parts.holds h → R n (with_parts n (record n.parts { holds = h }))
+  pub coded : (set code : ℕ) (awaited : Bool) (n : Node WholeQueues) → R n (with_parts n (record n.parts { codes = with_code n.parts.codes set code awaited }))
+  pub rerouted : (routes : List (List Route)) (n : Node WholeQueues) → AreRerouted n.parts.told n.parts.routes routes → R n (with_parts n (record n.parts { routes = routes }))
+  pub told : (t : ToldTable) (n : Node WholeQueues) → AreToldMore n.parts.told t → R n (with_parts n (record n.parts { told = t }))
+  pub titled : (rows : List TitleEntry) (n : Node WholeQueues) → R n (with_parts n (with_titles rows n.parts))
+  -- ---- a link fails: in service, so that its changeover isn't complete, or on its way there
+  pub failed : (link : ℕ) (why : FailureReason) (s : Standing) (n : Node WholeQueues) → in_service n.parts link ≡ true → s.incomplete ≡ true
+      → R n (with_parts n (with_changeover link s (fail_link link why n.parts)))
+  pub dropped : (link : ℕ) (why : FailureReason) (n : Node WholeQueues) → in_service n.parts link ≡ false → R n (with_parts n (fail_link link why n.parts))
+  -- a changeover that isn't complete is completed; the answer to another's order is awaited no more
+  pub completed : (link : ℕ) (number : Option ℕ) (s : Standing) (n : Node WholeQueues) → (changeover_of n.parts link).incomplete ≡ true → s.incomplete ≡ false
+      → R n (record { queues = whole.completed n.queues link number; parts = with_changeover link s n.parts })
+  pub answered : (link : ℕ) (s : Standing) (n : Node WholeQueues) → (changeover_of n.parts link).incomplete ≡ false → s.incomplete ≡ false
+      → R n (with_parts n (with_changeover link s n.parts))
+  -- ---- a link loses its association, opens, takes a step of its alignment, hears that its peer is busy and that it isn't, accepts User Data, and sends
+  pub linked : (link : ℕ) (x : Link) (n : Node WholeQueues) → IsSameLink (link_at n.parts link) x → R n (with_parts n (with_link n.parts link x))
+  pub parted : (link : ℕ) (n : Node WholeQueues) → down n.parts link ≡ true → R n (with_parts n (without_association link n.parts))
+  pub opened : (link : ℕ) (n : Node WholeQueues) → Counts link → is_link n.parts link ≡ true → may_open (link_at n.parts link) ≡ true
+      → (changeover_of n.parts link).incomplete ≡ false → R n (open_link whole c link n)
+  pub stepped : (link : ℕ) (input : Input) (step : Transition) (n : Node WholeQueues) → Own link → action_at (link_at n.parts link).alignment input ≡ Go step
+      → R n (with_parts n (step_on c link step n.parts))
+  pub busied : (link : ℕ) (n : Node WholeQueues) → Own link → in_service n.parts link ≡ true → (link_at n.parts link).peer_busy ≡ false
+      → R n (with_parts n (with_busy c link n.parts))
+  pub resumed : (link : ℕ) (n : Node WholeQueues) → Own link → in_service n.parts link ≡ true → (link_at n.parts link).peer_busy ≡ true
+      → R n (with_parts n (without_busy c link (whole.outstanding n.queues link) n.parts))
+  pub accepted : (link : ℕ) (d : Carrying) (confirmed : ℕ) (n : Node WholeQueues) → Counts link → in_service n.parts link ≡ true → numbers whole c link d n ≡ Ok confirmed
+      → R n (confirming c link d confirmed n)
+  pub sent : (link : ℕ) (next : Sending) (n : Node WholeQueues) → Own link → next_message whole c link n ≡ Some next
+      → R n (after_sending whole c link n (SendsMessage next))
+
+module _ {c : Configuration} {Own Counts : ℕ → Type 0} {R : Node WholeQueues → Node WholeQueues → Type 0} (s : IsOfSteps c Own Counts R) where
+  -- a test decides
+  pub either-steps : (b : Bool) (n m o : Node WholeQueues) → R n m → R n o → R n (if b then m else o)
+  either-steps true n m o e f = e
+  either-steps false n m o e f = f
+
+  pub either_done-steps : (b : Bool) (n : Node WholeQueues) (d e : Done WholeQueues) → R n d.left → R n e.left → R n (if b then d else e).left
+  either_done-steps true n d e f g = f
+  either_done-steps false n d e f g = g

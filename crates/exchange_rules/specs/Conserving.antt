@@ -1,0 +1,269 @@
+-- What user messages come in by an event, and what goes for good.
+use Rattle.std.specs.Prelude.{Bool, Err, List, None, Ok, Option, Result, Some, [], count_by, false, filter}
+use Rattle.std.specs.Prelude.{if◌then◌else◌, is_some, nat_eq, not, suc, sum_by, take, true, zero, ℕ}
+use Rattle.std.specs.Prelude.{◌&&◌, ◌++◌, ◌+◌, ◌-◌, ◌∷◌}
+use Rattle.changeover.specs.Completion.{accepted_count, users_of}
+use Rattle.changeover.specs.Laws.{count_in_the_end}
+use Rattle.link_alignment.specs.Table.{action_at}
+use Rattle.link_alignment.specs.declared.action.Action.{Action}
+use Rattle.link_alignment.specs.declared.action.Input.TheVariants.{UserData}
+use Rattle.link_sequence.specs.Queue.{Queue, count_confirmed, unconfirmed}
+use Rattle.link_sequence.specs.declared.fault.SeqFault.{SeqFault}
+use Rattle.m2pa_codec.specs.Frames.{FrameValue}
+use Rattle.m2pa_codec.specs.Reading.{read_frame}
+use Rattle.mgmt_codec.specs.Management.{read_management}
+use Rattle.mgmt_codec.specs.declared.fault.MgmtFault.{MgmtFault}
+use Rattle.mgmt_codec.specs.declared.management.Management.{Management}
+use Rattle.mgmt_codec.specs.declared.management.Management.TheVariants.{EmergencyChangeoverAcknowledgement}
+use Rattle.mgmt_codec.specs.declared.management.Management.TheVariants.{EmergencyChangeoverOrder}
+use Rattle.mgmt_codec.specs.declared.management.Management.TheVariants.{ExtendedChangeoverAcknowledgement}
+use Rattle.mgmt_codec.specs.declared.management.Management.TheVariants.{ExtendedChangeoverOrder}
+use Rattle.routing_label.specs.declared.discrimination.Discrimination.{Discrimination}
+use Rattle.sccp_relay.specs.Relay.{RelayedValue, relay}
+use Rattle.sccp_relay.specs.Return.{returned}
+use Rattle.settings_rows.specs.Configuration.{Configuration}
+use Rattle.signalling_types.specs.Message.{Message, flow_of, is_management, opc_of, service_indicator}
+use Rattle.signalling_types.specs.declared.notice.FrameFault.{FrameFault}
+use Rattle.signalling_types.specs.declared.outcome.Outcome.{Outcome}
+use Rattle.signalling_types.specs.declared.outcome.Outcome.TheVariants.{Handled, Held, Ignored, Local, Queued}
+use Rattle.signalling_types.specs.declared.outcome.Outcome.TheVariants.{Refused}
+use Rattle.timer_wheel.specs.Timers.{after_due, due_count, due_name, ticked}
+use Rattle.timer_wheel.specs.declared.name.TimerName.{TimerName}
+use Rattle.timer_wheel.specs.declared.name.TimerName.TheVariants.{T1, T2}
+use Rattle.exchange_rules.specs.Arrival.{transfer}
+use Rattle.exchange_rules.specs.ChangingOver.{fail_by_order}
+use Rattle.exchange_rules.specs.Exchange.{handle_event, outcome_of}
+use Rattle.exchange_rules.specs.Failing.{changeover_of}
+use Rattle.exchange_rules.specs.Frames.{Carrying, data_of, numbers}
+use Rattle.exchange_rules.specs.Happening.{FrameCame, Happening, Submitted, Ticked}
+use Rattle.exchange_rules.specs.Holding.{waits}
+use Rattle.exchange_rules.specs.Laws.{accept_text}
+use Rattle.exchange_rules.specs.Links.{down, is_link, link_at}
+use Rattle.exchange_rules.specs.Local.{is_adjacent, link_with_code, sccp, testing}
+use Rattle.exchange_rules.specs.Messages.{whither_goes}
+use Rattle.exchange_rules.specs.Queues.{WholeQueues, queue_at, whole}
+use Rattle.exchange_rules.specs.Receiving.{new_message}
+use Rattle.exchange_rules.specs.Relaying.{in_place_of, own_of}
+use Rattle.exchange_rules.specs.Routing.{link_of}
+use Rattle.exchange_rules.specs.Sound.{Abstract}
+use Rattle.exchange_rules.specs.State.{Node, Parts}
+use Rattle.exchange_rules.specs.Statuses.{advance}
+use Rattle.exchange_rules.specs.Ticking.{run_next, with_timers}
+use Rattle.link_alignment.specs.declared.action.Action.TheVariants as act
+use Rattle.sccp_relay.specs.Relay as relays
+use Rattle.routing_label.specs.declared.discrimination.Discrimination.TheVariants as whither
+
+-- ---- how many
+
+-- how many user messages of a list satisfy a test
+abbrev pub users_that : (of : Message → Bool) → List Message → ℕ
+users_that of ms = count_by of (users_of ms)
+
+-- how many of those that stand in Held, and of those in queues that aren't confirmed
+abbrev pub standing : (of : Message → Bool) → WholeQueues → ℕ
+standing of qs = users_that of qs.held + sum_by (λ q. users_that of (unconfirmed q)) qs.links
+
+-- ---- what comes in
+
+-- the message itself, where the outcome is that it is queued or held
+abbrev pub taken_in : Outcome → Message → List Message
+taken_in (Queued link) m = m ∷ []
+taken_in Held m = m ∷ []
+taken_in Local m = []
+taken_in Handled m = []
+taken_in Ignored m = []
+taken_in (Refused cause) m = []
+
+-- a message written here goes the way of any message for another point, and is taken in where it finds it
+abbrev pub entering : Configuration → Message → Node WholeQueues → List Message
+entering c m node = taken_in (transfer whole c None m node).outcome m
+
+-- an SCCP message for this point goes on as its relay writes it, if it goes on
+abbrev pub relayed_in : RelayedValue → Outcome → Message → List Message
+relayed_in relays.Delivered outcome m = []
+relayed_in (relays.Onward sif) outcome m = taken_in outcome (in_place_of m sif)
+relayed_in (relays.Refused cause) outcome m = []
+
+-- the UDTS that returns it, if one does
+abbrev pub returned_in : Option (List ℕ) → Configuration → Message → Node WholeQueues → List Message
+returned_in (Some sif) c m node = entering c (in_place_of m sif) node
+returned_in None c m node = []
+
+-- it is returned where it is refused
+abbrev pub answered_in : Outcome → Configuration → Message → Node WholeQueues → List Message
+answered_in (Refused cause) c m node = returned_in (returned (own_of c) node.parts.titles m.sif cause) c m node
+answered_in (Queued link) c m node = []
+answered_in Held c m node = []
+answered_in Local c m node = []
+answered_in Handled c m node = []
+answered_in Ignored c m node = []
+
+-- what an SCCP message for this point brings: itself, as it goes on, and what answers it
+abbrev pub unitdata_in : Outcome → Configuration → Message → Node WholeQueues → List Message
+unitdata_in outcome c m node =
+    relayed_in (relay (own_of c) node.parts.titles m.sif) outcome m ++ answered_in outcome c m node
+
+-- a message for this point brings only what SCCP makes of it
+abbrev pub brought_here : Outcome → Configuration → Message → Node WholeQueues → List Message
+brought_here outcome c m node = if nat_eq (service_indicator m) sccp then unitdata_in outcome c m node else []
+
+-- what a message brings, by where it goes: for another point itself, as it came
+abbrev pub brought_to : Discrimination → Outcome → Configuration → Message → Node WholeQueues → List Message
+brought_to (whither.Refused fault) outcome c m node = []
+brought_to (whither.Here label) outcome c m node = brought_here outcome c m node
+brought_to (whither.Transfer label) outcome c m node = taken_in outcome m
+
+abbrev pub brought_by : Option Message → Outcome → Configuration → Node WholeQueues → List Message
+brought_by (Some m) outcome c node = brought_to (whither_goes c m) outcome c m node
+brought_by None outcome c node = []
+
+-- what an event brings: by the message that its frame newly carries, or that was submitted
+abbrev pub brought_in : Happening → Abstract → List Message
+brought_in (FrameCame link text) a =
+    brought_by (new_message link text a) (outcome_of whole (FrameCame link text) a) a.settings
+    (accept_text link (read_frame text) a)
+brought_in (Submitted m) a = brought_by (Some m) (outcome_of whole (Submitted m) a) a.settings a.node
+brought_in what a = []
+
+-- ---- what goes for good
+
+-- the messages that the peer accepted, and those that are named as lost
+pub record Gone : Type 0 where
+  pub accepted : List Message
+  pub lost : List Message
+
+abbrev pub nothing_gone : Gone
+nothing_gone = record { accepted = []; lost = [] }
+
+abbrev pub both_gone : Gone → Gone → Gone
+both_gone one other = record { accepted = one.accepted ++ other.accepted; lost = one.lost ++ other.lost }
+
+-- as many of a queue as the numbers of User Data confirm, the oldest first
+abbrev pub confirmed_by : Result ℕ SeqFault → Queue → List Message
+confirmed_by numbers q = take (count_confirmed numbers) (unconfirmed q)
+
+-- none where the link ignores User Data, or fails by it
+abbrev pub confirmed_at : Action → ℕ → Carrying → Configuration → Node WholeQueues → List Message
+confirmed_at act.Ignored link d c node = []
+confirmed_at act.Fail link d c node = []
+confirmed_at (act.Go step) link d c node =
+    let next : Node WholeQueues = advance whole c link step node in
+    confirmed_by (numbers whole c link d next) (queue_at next.queues link)
+
+abbrev pub confirmed_in : Option Carrying → ℕ → Configuration → Node WholeQueues → List Message
+confirmed_in None link c node = []
+confirmed_in (Some d) link c node =
+    confirmed_at (action_at (link_at node.parts link).alignment UserData) link d c node
+
+abbrev pub confirmed_of : Result FrameValue FrameFault → ℕ → Configuration → Node WholeQueues → List Message
+confirmed_of (Ok frame) link c node = confirmed_in (data_of frame) link c node
+confirmed_of (Err fault) link c node = []
+
+-- what a frame confirms of the queue of its link
+abbrev pub confirmed : ℕ → List ℕ → Abstract → List Message
+confirmed link text a =
+    if is_link a.node.parts link && not (down a.node.parts link)
+    then confirmed_of (read_frame text) link a.settings a.node
+    else []
+
+-- by a completion, where the changeover isn't complete: what the peer accepted, by the number that it gave, and what is
+-- named as lost
+abbrev pub gone_by_completion : (incomplete : Bool) → ℕ → Option ℕ → WholeQueues → Gone
+gone_by_completion true link number queues =
+    let q : Queue = queue_at queues link in
+    record {
+      accepted = take (count_in_the_end q (accepted_count q number) - q.confirmed) (unconfirmed q);
+      lost = (whole.found queues link number).lost;
+    }
+gone_by_completion false link number queues = nothing_gone
+
+-- the peer orders a changeover: the link fails first, if it isn't down
+abbrev pub gone_by_order : Option ℕ → Option ℕ → Configuration → Node WholeQueues → Gone
+gone_by_order (Some link) number c node =
+    let fallen : Node WholeQueues = fail_by_order whole c link node in
+    gone_by_completion (changeover_of fallen.parts link).incomplete link number fallen.queues
+gone_by_order None number c node = nothing_gone
+
+-- the peer answers an order: only where that is awaited
+abbrev pub gone_by_answer : Option ℕ → Option ℕ → Node WholeQueues → Gone
+gone_by_answer (Some link) number node =
+    if (changeover_of node.parts link).awaited
+    then gone_by_completion (changeover_of node.parts link).incomplete link number node.queues
+    else nothing_gone
+gone_by_answer None number node = nothing_gone
+
+-- of all management only these complete changeovers
+abbrev pub gone_by_management : Management → ℕ → Configuration → Node WholeQueues → Gone
+gone_by_management (ExtendedChangeoverOrder slc number) point c node =
+    gone_by_order (link_with_code c point slc) (Some number) c node
+gone_by_management (EmergencyChangeoverOrder slc) point c node =
+    gone_by_order (link_with_code c point slc) None c node
+gone_by_management (ExtendedChangeoverAcknowledgement slc number) point c node =
+    gone_by_answer (link_with_code c point slc) (Some number) node
+gone_by_management (EmergencyChangeoverAcknowledgement slc) point c node =
+    gone_by_answer (link_with_code c point slc) None node
+gone_by_management other point c node = nothing_gone
+
+abbrev pub gone_by_word : Result Management MgmtFault → ℕ → Configuration → Node WholeQueues → Gone
+gone_by_word (Ok word) point c node = gone_by_management word point c node
+gone_by_word (Err fault) point c node = nothing_gone
+
+-- whether a message for this point is management from an adjacent one, and no test
+abbrev pub is_word : Configuration → Message → Bool
+is_word c m = is_management m && (is_adjacent c (opc_of m) && not (nat_eq (service_indicator m) testing))
+
+abbrev pub gone_by_message : Discrimination → Configuration → Message → Node WholeQueues → Gone
+gone_by_message (whither.Refused fault) c m node = nothing_gone
+gone_by_message (whither.Here label) c m node =
+    if is_word c m then gone_by_word (read_management m.sif) (opc_of m) c node else nothing_gone
+gone_by_message (whither.Transfer label) c m node = nothing_gone
+
+abbrev pub gone_by_new : Option Message → Configuration → Node WholeQueues → Gone
+gone_by_new (Some m) c node = gone_by_message (whither_goes c m) c m node
+gone_by_new None c node = nothing_gone
+
+-- T1 or T2 of a link runs out: its changeover is completed without a number
+abbrev pub gone_by_expiry : ℕ → Node WholeQueues → Gone
+gone_by_expiry link node =
+    if is_link node.parts link
+    then gone_by_completion (changeover_of node.parts link).incomplete link None node.queues
+    else nothing_gone
+
+abbrev pub gone_by_timer : Option TimerName → Node WholeQueues → Gone
+gone_by_timer (Some (T1 link)) node = gone_by_expiry link node
+gone_by_timer (Some (T2 link)) node = gone_by_expiry link node
+gone_by_timer other node = nothing_gone
+
+-- by the timers that run at a tick, each as it runs
+abbrev pub gone_by_timers : ℕ → Configuration → Node WholeQueues → Gone
+gone_by_timers zero c node = nothing_gone
+gone_by_timers (suc more) c node =
+    both_gone (gone_by_timer (due_name node.parts.timers) (with_timers node (after_due node.parts.timers)))
+    (gone_by_timers more c (run_next whole c node))
+
+abbrev pub gone_by_tick : Configuration → Node WholeQueues → Gone
+gone_by_tick c node =
+    gone_by_timers (due_count (ticked node.parts.timers)) c (with_timers node (ticked node.parts.timers))
+
+-- by an event, before the release at its end
+abbrev pub gone_by : Happening → Abstract → Gone
+gone_by (FrameCame link text) a =
+    both_gone (record { accepted = confirmed link text a; lost = [] })
+    (gone_by_new (new_message link text a) a.settings (accept_text link (read_frame text) a))
+gone_by Ticked a = gone_by_tick a.settings a.node
+gone_by what a = nothing_gone
+
+-- by the release: the messages of Held that have no hold any more, and no link; they are named as lost, too
+abbrev pub is_stranded : Configuration → Parts → Message → Bool
+is_stranded c p m = not (waits c p.holds m) && not (is_some (link_of c p (flow_of m)))
+
+abbrev pub gone_by_release : Configuration → Node WholeQueues → Gone
+gone_by_release c node =
+    record { accepted = []; lost = filter (is_stranded c node.parts) node.queues.held }
+
+abbrev pub gone : Happening → Abstract → Gone
+gone what a =
+    both_gone (gone_by what a) (gone_by_release a.settings (handle_event whole a.settings what a.node).left)
+
+abbrev pub gone_that : (of : Message → Bool) → Gone → ℕ
+gone_that of g = users_that of g.accepted + users_that of g.lost

@@ -1,0 +1,46 @@
+-- The state that an exchange has once it is booted.
+use Rattle.std.specs.Prelude.{false, [], map, length, replicate}
+use Rattle.settings_rows.specs.Configuration.{Configuration}
+use Rattle.timer_wheel.specs.declared.name.NodeCounts.{NodeCounts}
+use Rattle.timer_wheel.specs.Timers.{none_running}
+use Rattle.link_sequence.specs.Queue.{first_queue}
+use Rattle.route_table.specs.Facts.{first_routes}
+use Rattle.node_links.specs.LinkState.{down_link}
+use Rattle.changeover.specs.Standing.{no_changeover}
+use Rattle.changeback.specs.Codes.{no_codes}
+use Rattle.route_management.specs.Told.{first_told}
+use Rattle.flow_hold.specs.Holds.{no_holds}
+use Rattle.global_title.specs.Rows.{table_of}
+use Rattle.exchange_rules.specs.State.{Parts}
+use Rattle.exchange_rules.specs.Sound.{Abstract}
+
+-- how many links, sets and destinations the settings have
+abbrev pub counts_in : Configuration → NodeCounts
+counts_in c = record { links = length c.links; sets = length c.sets; destinations = length c.destinations }
+
+-- every link is down, every route is allowed, and each adjacent point takes it for allowed, no code waits for its
+-- answer, nothing is held, the translation rows are those of the settings, no timer runs, and nothing was noted
+abbrev pub first_parts : Configuration → Parts
+first_parts c = record {
+  links = replicate (length c.links) down_link;
+  routes = map first_routes c.destinations;
+  told = first_told c.sets c.destinations;
+  changeovers = replicate (length c.links) no_changeover;
+  codes = no_codes (length c.sets);
+  holds = no_holds (length c.links) (length c.sets) (length c.destinations);
+  titles = table_of c.titles;
+  timers = none_running (counts_in c);
+  notices = [];
+  lost_any = false;
+  late_any = false;
+}
+
+-- the state that boot gives: nothing stands in any queue
+abbrev pub first_state : Configuration → Abstract
+first_state c = record {
+  settings = c;
+  node = record {
+    queues = record { held = []; links = replicate (length c.links) first_queue };
+    parts = first_parts c;
+  };
+}

@@ -1,0 +1,120 @@
+-- A frame that came by a link (RFC 4165 §4.2.1).
+use Rattle.std.specs.Prelude.{ℕ, Bool, true, List, Option, Some, None, is_some, Result, Ok, Err, if◌then◌else◌}
+use Rattle.settings_rows.specs.Configuration.{Configuration}
+use Rattle.signalling_types.specs.Message.{Message}
+use Rattle.signalling_types.specs.declared.cause.Cause.TheVariants.{NoSuchName}
+use Rattle.signalling_types.specs.declared.outcome.Outcome.TheVariants.{Handled, Ignored}
+use Rattle.signalling_types.specs.declared.notice.Notice.TheVariants as notices
+use Rattle.signalling_types.specs.declared.notice.FailureReason.TheVariants as reasons
+use Rattle.signalling_types.specs.declared.notice.FrameFault.{FrameFault}
+use Rattle.signalling_types.specs.declared.notice.FrameFault.TheVariants as faults
+use Rattle.m2pa_codec.specs.Frames.{FrameValue, EmptyFrame, MessageFrame, StatusFrame}
+use Rattle.m2pa_codec.specs.Reading.{read_frame}
+use Rattle.link_alignment.specs.declared.action.Action.{Action}
+use Rattle.link_alignment.specs.declared.action.Action.TheVariants as act
+use Rattle.link_alignment.specs.declared.action.Input.TheVariants.{UserData}
+use Rattle.link_alignment.specs.Table.{action_at}
+use Rattle.link_sequence.specs.declared.fault.SeqFault.{SeqFault}
+use Rattle.exchange_rules.specs.State.{unless◌then◌else◌, QueueKind, Parts, Node, Done, with_parts, answer, refuse}
+use Rattle.exchange_rules.specs.Links.{is_link, link_at, with_link, down}
+use Rattle.exchange_rules.specs.Timing.{timed_confirming}
+use Rattle.exchange_rules.specs.Noting.{note}
+use Rattle.exchange_rules.specs.Messages.{deliver}
+use Rattle.exchange_rules.specs.Failing.{fail}
+use Rattle.exchange_rules.specs.Statuses.{advance, on_link_status}
+
+-- User Data: its numbers, and the message that it carries, if it carries one
+pub record Carrying : Type 0 where
+  pub fsn : ℕ
+  pub bsn : ℕ
+  pub message : Option Message
+
+abbrev pub carries : Carrying → Bool
+carries d = is_some d.message
+
+-- User Data without a message, and with one
+abbrev pub empty_data : (bsn fsn : ℕ) → Carrying
+empty_data bsn fsn = record { fsn = fsn; bsn = bsn; message = None }
+
+abbrev pub message_data : (bsn fsn sio : ℕ) → List ℕ → Carrying
+message_data bsn fsn sio sif = record { fsn = fsn; bsn = bsn; message = Some (record { sio = sio; sif = sif }) }
+
+-- the User Data that a frame is; nothing where it is a link status
+abbrev pub data_of : FrameValue → Option Carrying
+data_of (EmptyFrame bsn fsn) = Some (empty_data bsn fsn)
+data_of (MessageFrame bsn fsn sio sif) = Some (message_data bsn fsn sio sif)
+data_of (StatusFrame bsn fsn status) = None
+
+-- a message that came is to be acknowledged
+abbrev pub owing : ℕ → Option Message → Parts → Parts
+owing link None p = p
+owing link (Some m) p = with_link p link (record (link_at p link) { acknowledgement_owed = true })
+
+-- so many of our own messages were confirmed, and so many are left
+abbrev pub timed_parts : Configuration → ℕ → (confirmed outstanding : ℕ) → Parts → Parts
+timed_parts c link confirmed outstanding p =
+    record p { timers = timed_confirming c link (link_at p link).peer_busy confirmed outstanding p.timers }
+
+module _ {Q : Type 0} (q : QueueKind Q) (c : Configuration) where
+  -- what its numbers say: how many messages they confirm, or what is wrong with them, FSN first
+  abbrev pub numbers : ℕ → Carrying → Node Q → Result ℕ SeqFault
+  numbers link d node = q.accept_answer node.queues link d.fsn d.bsn (carries d)
+
+  -- User Data is accepted, and confirms so many messages of our own
+  abbrev pub accept : ℕ → Carrying → (confirmed : ℕ) → Node Q → Node Q
+  accept link d confirmed node =
+      let queues : Q = q.accepted node.queues link d.fsn d.bsn (carries d) in
+      record {
+        queues = queues;
+        parts = owing link d.message (timed_parts c link confirmed (q.outstanding queues link) node.parts);
+      }
+
+  -- the message that it carries
+  abbrev pub carry : ℕ → Option Message → Node Q → Done Q
+  carry link None node = answer Handled node
+  carry link (Some m) node = deliver q c link m node
+
+  -- User Data whose numbers were looked at: a wrong one fails the link, which is no refusal
+  abbrev pub handle_by : Result ℕ SeqFault → ℕ → Carrying → Node Q → Done Q
+  handle_by (Ok confirmed) link d node = carry link d.message (accept link d confirmed node)
+  handle_by (Err fault) link d node = answer Handled (fail q c link reasons.Sequence node)
+
+  -- User Data on a link in service
+  abbrev pub handle : ℕ → Carrying → Node Q → Done Q
+  handle link d node = handle_by (numbers link d node) link d node
+
+  -- User Data fails a link that doesn't expect it yet, and takes one that does into service
+  abbrev pub act_by_data : Action → ℕ → Carrying → Node Q → Done Q
+  act_by_data act.Ignored link d node = answer Ignored node
+  act_by_data act.Fail link d node = answer Handled (fail q c link reasons.Sequence node)
+  act_by_data (act.Go step) link d node = handle link d (advance q c link step node)
+
+  abbrev pub receive_data : ℕ → Carrying → Node Q → Done Q
+  receive_data link d node = act_by_data (action_at (link_at node.parts link).alignment UserData) link d node
+
+  -- a frame by its kind; the numbers of a link status are ignored
+  abbrev pub receive_frame : ℕ → FrameValue → Node Q → Done Q
+  receive_frame link (EmptyFrame bsn fsn) node = receive_data link (empty_data bsn fsn) node
+  receive_frame link (MessageFrame bsn fsn sio sif) node = receive_data link (message_data bsn fsn sio sif) node
+  receive_frame link (StatusFrame bsn fsn status) node = on_link_status q c link status node
+
+  -- a frame that can't be read: a wrong length fails the link, any other fault is noted
+  abbrev pub leave_aside : ℕ → FrameFault → Node Q → Done Q
+  leave_aside link faults.Length node = answer Handled (fail q c link reasons.Length node)
+  leave_aside link faults.Short node =
+      answer Ignored (with_parts node (note (notices.Frame faults.Short link) node.parts))
+  leave_aside link faults.Version node =
+      answer Ignored (with_parts node (note (notices.Frame faults.Version link) node.parts))
+  leave_aside link faults.Unknown node =
+      answer Ignored (with_parts node (note (notices.Frame faults.Unknown link) node.parts))
+
+  abbrev pub read : ℕ → Result FrameValue FrameFault → Node Q → Done Q
+  read link (Ok frame) node = receive_frame link frame node
+  read link (Err fault) node = leave_aside link fault node
+
+  -- a frame for a link that is down is ignored
+  abbrev pub receive : ℕ → List ℕ → Node Q → Done Q
+  receive link text node =
+      unless is_link node.parts link then refuse NoSuchName node
+      else if down node.parts link then answer Ignored node
+      else read link (read_frame text) node

@@ -1,0 +1,106 @@
+-- What lasts over every event and every take: laws.
+use Rattle.std.specs.Prelude.{◌≡◌, ◌≤◌, ℕ, Bool, true, false, length, List, [], ◌∷◌, Option}
+use Rattle.std.specs.List.{list_any}
+use Rattle.settings_rows.specs.Configuration.{Configuration}
+use Rattle.signalling_types.specs.declared.notice.Notice.{Notice}
+use Rattle.signalling_types.specs.declared.notice.Notice.TheVariants as notices
+use Rattle.signalling_types.specs.declared.notice.ChangeoverTimer.TheVariants as timer
+use Rattle.signalling_types.specs.declared.limits.TheConstants.Limits.{LINKS}
+use Rattle.timer_wheel.specs.Timers.{Running}
+use Rattle.exchange_rules.specs.Happening.{Asking, Happens, Takes, AsksWants}
+use Rattle.exchange_rules.specs.State.{Parts, Node}
+use Rattle.exchange_rules.specs.ChangingOver.{complete_if}
+use Rattle.exchange_rules.specs.Queues.{WholeQueues, whole}
+use Rattle.exchange_rules.specs.Exchange.{after, taken}
+use Rattle.exchange_rules.specs.Places.{HasPlacesFor}
+use Rattle.exchange_rules.specs.Sound.{Abstract}
+use Rattle.exchange_rules.specs.First.{first_state}
+
+-- the state after an exchange was asked this
+abbrev pub after_asking : Asking → Abstract → Abstract
+after_asking (Happens what) a = after whole what a
+after_asking (Takes link) a = taken whole a link
+after_asking (AsksWants link) a = a
+
+-- and after it was asked all of this, in order
+abbrev pub after_each : List Asking → Abstract → Abstract
+after_each [] a = a
+after_each (asking ∷ others) a = after_each others (after_asking asking a)
+
+-- ---- flags
+
+-- once a message may have been lost, that stays so, whatever happens and whatever is taken
+abbrev pub losses_stay : Type 0
+losses_stay =
+    (asked : List Asking) (a : Abstract) → a.node.parts.lost_any ≡ true →
+    (after_each asked a).node.parts.lost_any ≡ true
+
+-- and so it does once messages may have gone out of order
+abbrev pub lateness_stays : Type 0
+lateness_stays =
+    (asked : List Asking) (a : Abstract) → a.node.parts.late_any ≡ true →
+    (after_each asked a).node.parts.late_any ≡ true
+
+-- whether a notice says that a message may have been lost
+abbrev pub tells_of_loss : Notice → Bool
+tells_of_loss (notices.Lost cause point sls) = true
+tells_of_loss (notices.Unsent cause point) = true
+tells_of_loss (notices.Expired timer.T2 link) = true
+tells_of_loss (notices.Expired timer.T1 link) = false
+tells_of_loss (notices.Refused cause link) = false
+tells_of_loss (notices.Frame fault link) = false
+tells_of_loss (notices.Failed link why) = false
+tells_of_loss (notices.Late timer number) = false
+
+-- or that messages may have gone out of order
+abbrev pub tells_of_lateness : Notice → Bool
+tells_of_lateness (notices.Late timer number) = true
+tells_of_lateness (notices.Lost cause point sls) = false
+tells_of_lateness (notices.Unsent cause point) = false
+tells_of_lateness (notices.Expired timer link) = false
+tells_of_lateness (notices.Refused cause link) = false
+tells_of_lateness (notices.Frame fault link) = false
+tells_of_lateness (notices.Failed link why) = false
+
+-- while a notice says so, the flag is raised
+pub record AreFlagsRaised (p : Parts) : Type 0 where
+  pub lost : list_any tells_of_loss p.notices ≡ true → p.lost_any ≡ true
+  pub late : list_any tells_of_lateness p.notices ≡ true → p.late_any ≡ true
+
+-- in each state that comes of the first
+abbrev pub notices_raise_flags : Type 0
+notices_raise_flags =
+    (c : Configuration) (asked : List Asking) → AreFlagsRaised (after_each asked (first_state c)).node.parts
+
+-- and once a changeover was completed without a reasonable number, a message may have been lost
+abbrev pub unreasonable_numbers_raise_it : Type 0
+unreasonable_numbers_raise_it =
+    (c : Configuration) (link : ℕ) (number : Option ℕ) (node : Node WholeQueues) →
+    (whole.found node.queues link number).is_reasonable ≡ false →
+    (complete_if whole c true link number node).parts.lost_any ≡ true
+
+-- ---- places
+
+-- the timers are those of the links, sets and destinations of the settings
+pub record HasTimersFor (c : Configuration) (r : Running) : Type 0 where
+  pub links : r.counts.links ≡ length c.links
+  pub sets : r.counts.sets ≡ length c.sets
+  pub destinations : r.counts.destinations ≡ length c.destinations
+
+-- a node has a place for all that its settings name: each link, set and destination has its parts and its timers, and
+-- each link its queue
+pub record HasAllPlaces (c : Configuration) (node : Node WholeQueues) : Type 0 where
+  pub parts : HasPlacesFor c node.parts
+  pub queues : length node.queues.links ≡ length c.links
+  pub timers : HasTimersFor c node.parts.timers
+
+-- so it is at first, where there are no more links than there may be
+abbrev pub places_at_first : Type 0
+places_at_first =
+    (c : Configuration) → length c.links ≤ LINKS → HasAllPlaces c (first_state c).node
+
+-- and so it stays, whatever is asked
+abbrev pub places_stay : Type 0
+places_stay =
+    (asked : List Asking) (a : Abstract) → HasAllPlaces a.settings a.node →
+    HasAllPlaces a.settings (after_each asked a).node

@@ -1,0 +1,200 @@
+-- What the abstract exchange does whatever the event: laws.
+use Rattle.settings_rows.specs.Configuration.{Configuration}
+use Rattle.std.specs.Prelude.{◌≡◌, ◌≢◌, ◌<◌, ◌&&◌, ◌++◌, ℕ, Bool, true, not, nat_eq, length, filter}
+use Rattle.std.specs.Prelude.{Option, Some, None, Result, Ok, Err, if◌then◌else◌}
+use Rattle.signalling_types.specs.declared.cause.Cause.{Cause}
+use Rattle.signalling_types.specs.declared.cause.Cause.TheVariants.{NoRoute}
+use Rattle.signalling_types.specs.declared.notice.Notice.TheVariants as notices
+use Rattle.signalling_types.specs.declared.notice.FrameFault.{FrameFault}
+use Rattle.signalling_types.specs.declared.outcome.Outcome.TheVariants.{Queued, Refused}
+use Rattle.m2pa_codec.specs.Frames.{FrameValue}
+use Rattle.m2pa_codec.specs.Reading.{read_frame}
+use Rattle.link_alignment.specs.declared.action.Action.{Action}
+use Rattle.link_alignment.specs.declared.action.Action.TheVariants as act
+use Rattle.link_alignment.specs.declared.action.Input.TheVariants.{UserData}
+use Rattle.link_alignment.specs.Table.{action_at}
+use Rattle.link_sequence.specs.Queue.{count_confirmed}
+use Rattle.exchange_rules.specs.State.{Parts, Node, with_node, with_parts}
+use Rattle.exchange_rules.specs.Links.{is_link, link_at, in_service}
+use Rattle.exchange_rules.specs.Noting.{note}
+use Rattle.link_alignment.specs.declared.action.Transition.{Transition}
+use Rattle.exchange_rules.specs.ChangingOver.{complete_if}
+use Rattle.exchange_rules.specs.Made.{send_routed}
+use Rattle.exchange_rules.specs.Statuses.{advance}
+use Rattle.exchange_rules.specs.Frames.{Carrying, numbers, accept, data_of}
+use Rattle.exchange_rules.specs.Happening.{Happening, CameUp, WentDown, FrameCame, Ticked, Submitted, Activated}
+use Rattle.exchange_rules.specs.Happening.{Deactivated, TitleAdded, TitleRemoved}
+use Rattle.routing_label.specs.declared.discrimination.Discrimination.{Discrimination}
+use Rattle.routing_label.specs.declared.discrimination.Discrimination.TheVariants as whither
+use Rattle.exchange_rules.specs.Local.{sccp}
+use Rattle.exchange_rules.specs.Messages.{whither_goes}
+use Rattle.exchange_rules.specs.Relaying.{return_unitdata}
+use Rattle.std.specs.Option.{option_and_then}
+use Rattle.signalling_types.specs.Message.{Message, service_indicator, dpc_of, flow_of}
+use Rattle.stp_types.specs.Readings.{destination_place}
+use Rattle.changeover.specs.Completion.{moved}
+use Rattle.exchange_rules.specs.Routing.{link_of, goes_by}
+use Rattle.exchange_rules.specs.Holding.{waits}
+use Rattle.exchange_rules.specs.Releasing.{release}
+use Rattle.exchange_rules.specs.Telling.{is_all_told, answer_no_route, tell_owed}
+use Rattle.exchange_rules.specs.Queues.{WholeQueues, queue_at, whole}
+use Rattle.exchange_rules.specs.Exchange.{outcome_of, after, frame_to_take, taken}
+use Rattle.exchange_rules.specs.Sound.{Abstract, IsSound}
+use Rattle.exchange_rules.specs.First.{first_state}
+
+-- the node after User Data was accepted on a link in service
+abbrev pub accepted_here : ℕ → Carrying → Configuration → Node WholeQueues → Node WholeQueues
+accepted_here link d c node = accept whole c link d (count_confirmed (numbers whole c link d node)) node
+
+-- the node after a link did so about it: it may enter service first
+abbrev pub accept_data : Action → ℕ → Carrying → Configuration → Node WholeQueues → Node WholeQueues
+accept_data act.Ignored link d c node = node
+accept_data act.Fail link d c node = node
+accept_data (act.Go step) link d c node =
+    accepted_here link d c (advance whole c link step node)
+
+abbrev pub accept_frame : Option Carrying → ℕ → Configuration → Node WholeQueues → Node WholeQueues
+accept_frame None link c node = node
+accept_frame (Some d) link c node =
+    accept_data (action_at (link_at node.parts link).alignment UserData) link d c node
+
+-- the node after the frame of this text was accepted; a text that is no User Data is not
+abbrev pub accept_text : ℕ → Result FrameValue FrameFault → Abstract → Node WholeQueues
+accept_text link (Ok frame) a = accept_frame (data_of frame) link a.settings a.node
+accept_text link (Err fault) a = a.node
+
+-- the message that a frame of this text carries
+abbrev pub carried_message : Result FrameValue FrameFault → Option Message
+carried_message (Ok frame) = option_and_then (λ d. d.message) (data_of frame)
+carried_message (Err fault) = None
+
+-- what answers a message that was refused, by where it goes: one for SCCP here is returned, where it can be; the sender
+-- of one for another point is told where it found no route, if it came by a link; nothing answers any other
+abbrev pub answered_by : Discrimination → Cause → (from : Option ℕ) → Message → Configuration → Node WholeQueues
+    → Node WholeQueues
+answered_by (whither.Refused fault) cause from m c node = node
+answered_by (whither.Here label) cause from m c node =
+    if nat_eq (service_indicator m) sccp then return_unitdata whole c cause m node else node
+answered_by (whither.Transfer label) NoRoute from m c node =
+    answer_no_route whole c from (destination_place c (dpc_of m)) node
+answered_by (whither.Transfer label) cause from m c node = node
+
+abbrev pub answered : Cause → (from : Option ℕ) → Option Message → Configuration → Node WholeQueues → Node WholeQueues
+answered cause from (Some m) c node = answered_by (whither_goes c m) cause from m c node
+answered cause from None c node = node
+
+-- and the refusal is noted
+abbrev pub noted : Cause → ℕ → Node WholeQueues → Node WholeQueues
+noted cause link node = with_parts node (note (notices.Refused cause link) node.parts)
+
+-- the state after a refused event: a message in a frame leaves what accepting its frame did, what answered it, a
+-- notice, and what then found room to be told; a submission leaves what answered it; any other event changes nothing
+abbrev pub after_refusal : Happening → Cause → Abstract → Abstract
+after_refusal (CameUp link) cause a = a
+after_refusal (WentDown link) cause a = a
+after_refusal Ticked cause a = a
+after_refusal (Submitted message) cause a =
+    with_node a (answered cause None (Some message) a.settings a.node)
+after_refusal (Activated link) cause a = a
+after_refusal (Deactivated link) cause a = a
+after_refusal (TitleAdded row is_memory_refused) cause a = a
+after_refusal (TitleRemoved key digits) cause a = a
+after_refusal (FrameCame link text) cause a =
+    let node : Node WholeQueues = accept_text link (read_frame text) a in
+    let left : Node WholeQueues = answered cause (Some link) (carried_message (read_frame text)) a.settings node in
+    if is_link a.node.parts link
+    then with_node a (tell_owed whole a.settings (noted cause link left))
+    else a
+
+abbrev pub refusals_leave : Type 0
+refusals_leave =
+    (what : Happening) (a : Abstract) (cause : Cause) → IsSound a → outcome_of whole what a ≡ Refused cause →
+    after whole what a ≡ after_refusal what cause a
+
+-- at first, after each event and after each frame that goes out, nothing is owed that finds room
+abbrev pub first_is_told : Type 0
+first_is_told = (c : Configuration) → is_all_told whole c (first_state c).node ≡ true
+
+abbrev pub events_tell_all : Type 0
+events_tell_all =
+    (what : Happening) (a : Abstract) → is_all_told whole a.settings (after whole what a).node ≡ true
+
+abbrev pub takes_owe_nothing : Type 0
+takes_owe_nothing =
+    (a : Abstract) (link : ℕ) → is_all_told whole a.settings a.node ≡ true →
+    is_all_told whole a.settings (taken whole a link).node ≡ true
+
+-- a take that gives nothing changes nothing
+abbrev pub nothing_taken_leaves : Type 0
+nothing_taken_leaves = (a : Abstract) (link : ℕ) → frame_to_take whole a link ≡ None → taken whole a link ≡ a
+
+-- a message is queued on a link in service
+abbrev pub queued_in_service : Type 0
+queued_in_service = (what : Happening) (a : Abstract) (link : ℕ) → outcome_of whole what a ≡ Queued link →
+    in_service (after whole what a).node.parts link ≡ true
+
+-- so is every other: where a rule changes the queue of a link, that link is in service behind it
+abbrev pub GivesInService : (link : ℕ) → (before after : Node WholeQueues) → Type 0
+GivesInService link before after =
+    queue_at after.queues link ≢ queue_at before.queues link → in_service after.parts link ≡ true
+
+-- management that is made here goes out on the link of its flow
+abbrev pub routed_in_service : Type 0
+routed_in_service =
+    (c : Configuration) (m : Message) (node : Node WholeQueues) (link : ℕ) →
+    GivesInService link node (send_routed whole c m node)
+
+-- a link that takes a step of its alignment declares to others that it is back
+abbrev pub declared_in_service : Type 0
+declared_in_service =
+    (c : Configuration) (its : ℕ) (step : Transition) (node : Node WholeQueues) (link : ℕ) →
+    GivesInService link node (advance whole c its step node)
+
+-- a completion queues management of its link anew on others
+abbrev pub queued_anew_in_service : Type 0
+queued_anew_in_service =
+    (c : Configuration) (failed : ℕ) (number : Option ℕ) (node : Node WholeQueues) (link : ℕ) → link ≢ failed →
+    GivesInService link node (complete_if whole c true failed number node)
+
+-- at the end of each event what is held goes on, and adjacent points are told what they are owed
+abbrev pub settled_in_service : Type 0
+settled_in_service =
+    (c : Configuration) (node : Node WholeQueues) (link : ℕ) →
+    GivesInService link node (tell_owed whole c (release whole c node))
+
+-- ---- changeovers
+
+-- the move of a completion touches the queue of no other link, and in Held each flow has its messages that move before
+-- those that were held
+abbrev pub completion_leaves_others : Type 0
+completion_leaves_others =
+    (qs : WholeQueues) (link : ℕ) (number : Option ℕ) →
+    ((other : ℕ) → other ≢ link → queue_at (whole.completed qs link number) other ≡ queue_at qs other)
+    × ((of_flow : Message → Bool) → filter of_flow (whole.completed qs link number).held
+    ≡ filter of_flow (moved (queue_at qs link) number) ++ filter of_flow qs.held)
+
+-- whether a release sends a message to this link
+abbrev pub goes_on_by : Configuration → Parts → ℕ → Message → Bool
+goes_on_by c p link m = not (waits c p.holds m) && goes_by (link_of c p (flow_of m)) link
+
+-- a release leaves in Held what waits, and puts what goes to a link behind what stands there, each in the order of
+-- Held; so each flow keeps its order
+abbrev pub release_keeps_order : Type 0
+release_keeps_order =
+    (c : Configuration) (node : Node WholeQueues) →
+    ((release whole c node).queues.held ≡ filter (waits c node.parts.holds) node.queues.held)
+    × ((link : ℕ) → link < length node.queues.links →
+    (queue_at (release whole c node).queues link).all
+    ≡ (queue_at node.queues link).all ++ filter (goes_on_by c node.parts link) node.queues.held)
+
+-- a changeover that meets a changeback: when messages of a flow go on by a link, those that a completion moves stand
+-- before those that were held
+abbrev pub moved_before_held : Type 0
+moved_before_held =
+    (c : Configuration) (p : Parts) (qs : WholeQueues) (failed link : ℕ) (number : Option ℕ)
+    (of_flow : Message → Bool) → link ≢ failed → link < length qs.links →
+    ((m : Message) → of_flow m ≡ true → goes_on_by c p link m ≡ true) →
+    filter of_flow
+    (queue_at (release whole c (record { queues = whole.completed qs failed number; parts = p })).queues link).all
+    ≡ filter of_flow (queue_at qs link).all
+    ++ (filter of_flow (moved (queue_at qs failed) number) ++ filter of_flow qs.held)

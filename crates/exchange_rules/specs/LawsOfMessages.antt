@@ -1,0 +1,117 @@
+-- User messages are conserved: laws.
+use Rattle.std.specs.Prelude.{Bool, List, Option, Some, [], false}
+use Rattle.std.specs.Prelude.{length, map, true, ℕ}
+use Rattle.std.specs.Prelude.{◌++◌, ◌+◌, ◌∷◌, ◌≡◌, ◌≤◌}
+use Rattle.circular_buffer.specs.Buffer.{keep_last}
+use Rattle.settings_rows.specs.Configuration.{Configuration}
+use Rattle.signalling_types.specs.Message.{Message, flow_of, is_management}
+use Rattle.signalling_types.specs.declared.cause.Cause.{Cause}
+use Rattle.signalling_types.specs.declared.cause.Cause.TheVariants.{LostUnconfirmed, NoRoute}
+use Rattle.signalling_types.specs.declared.limits.TheConstants.Limits.{LINKS, NOTICES, WINDOW}
+use Rattle.signalling_types.specs.declared.notice.Notice.{Notice}
+use Rattle.signalling_types.specs.declared.notice.Notice.TheVariants as notices
+use Rattle.signalling_types.specs.declared.outcome.Outcome.{Outcome}
+use Rattle.signalling_types.specs.declared.outcome.Outcome.TheVariants.{Handled, Held, Ignored, Local, Queued}
+use Rattle.signalling_types.specs.declared.outcome.Outcome.TheVariants.{Refused}
+use Rattle.exchange_rules.specs.ChangingOver.{complete_if}
+use Rattle.exchange_rules.specs.Exchange.{after, outcome_of, taken}
+use Rattle.exchange_rules.specs.First.{first_state}
+use Rattle.exchange_rules.specs.Happening.{Asking, AsksWants, Happens, Takes}
+use Rattle.exchange_rules.specs.Happening.{FrameCame, Happening, Submitted}
+use Rattle.exchange_rules.specs.Lasting.{HasAllPlaces, after_asking, after_each}
+use Rattle.exchange_rules.specs.LastingLinks.{AreLinksSteady}
+use Rattle.exchange_rules.specs.Queues.{WholeQueues, whole}
+use Rattle.exchange_rules.specs.Receiving.{new_message}
+use Rattle.exchange_rules.specs.Releasing.{release}
+use Rattle.exchange_rules.specs.Sound.{Abstract}
+use Rattle.exchange_rules.specs.State.{Node}
+use Rattle.exchange_rules.specs.Conserving.{Gone, both_gone, brought_in, gone, gone_by_completion, gone_by_release}
+use Rattle.exchange_rules.specs.Conserving.{gone_that, nothing_gone, standing, users_that}
+
+-- By any test, as many user messages as stood before an event, and as it brings, stand after it, were accepted by a
+-- peer, or are named as lost: none is doubled, and none is gone in another way
+abbrev pub user_messages_are_conserved : Type 0
+user_messages_are_conserved =
+    (what : Happening) (a : Abstract) (of : Message → Bool) → HasAllPlaces a.settings a.node →
+    AreLinksSteady a.settings.window a.node →
+    standing of a.node.queues + users_that of (brought_in what a)
+    ≡ standing of (after whole what a).node.queues + gone_that of (gone what a)
+
+-- and a take leaves all of them
+abbrev pub takes_leave_user_messages : Type 0
+takes_leave_user_messages =
+    (a : Abstract) (link : ℕ) (of : Message → Bool) →
+    standing of (taken whole a link).node.queues ≡ standing of a.node.queues
+
+-- whether a message is queued, held, delivered or refused
+abbrev pub has_fate : Outcome → Bool
+has_fate (Queued link) = true
+has_fate Held = true
+has_fate Local = true
+has_fate (Refused cause) = true
+has_fate Handled = false
+has_fate Ignored = false
+
+-- so is each user message that a frame newly carries, and each that is submitted
+abbrev pub carried_messages_have_a_fate : Type 0
+carried_messages_have_a_fate =
+    (a : Abstract) (link : ℕ) (text : List ℕ) (m : Message) → new_message link text a ≡ Some m →
+    is_management m ≡ false → has_fate (outcome_of whole (FrameCame link text) a) ≡ true
+
+abbrev pub submissions_have_a_fate : Type 0
+submissions_have_a_fate =
+    (a : Abstract) (m : Message) → has_fate (outcome_of whole (Submitted m) a) ≡ true
+
+-- ---- over every event and every take
+
+abbrev pub brought_by_asking : Asking → Abstract → List Message
+brought_by_asking (Happens what) a = brought_in what a
+brought_by_asking (Takes link) a = []
+brought_by_asking (AsksWants link) a = []
+
+abbrev pub gone_by_asking : Asking → Abstract → Gone
+gone_by_asking (Happens what) a = gone what a
+gone_by_asking (Takes link) a = nothing_gone
+gone_by_asking (AsksWants link) a = nothing_gone
+
+-- all that came in as an exchange was asked all of this, and all that went
+abbrev pub all_brought : List Asking → Abstract → List Message
+all_brought [] a = []
+all_brought (asking ∷ others) a = brought_by_asking asking a ++ all_brought others (after_asking asking a)
+
+abbrev pub all_gone : List Asking → Abstract → Gone
+all_gone [] a = nothing_gone
+all_gone (asking ∷ others) a = both_gone (gone_by_asking asking a) (all_gone others (after_asking asking a))
+
+-- so in each state that comes of the first, all that ever came in stands, was accepted by a peer, or is named as lost
+abbrev pub all_that_came_adds_up : Type 0
+all_that_came_adds_up =
+    (c : Configuration) (asked : List Asking) (of : Message → Bool) → length c.links ≤ LINKS → c.window ≤ WINDOW →
+    users_that of (all_brought asked (first_state c))
+    ≡ standing of (after_each asked (first_state c)).node.queues + gone_that of (all_gone asked (first_state c))
+
+-- ---- what is lost is named
+
+-- the notice that names a message as lost
+abbrev pub naming : Cause → Message → Notice
+naming cause m = notices.Lost cause (flow_of m).point (flow_of m).sls
+
+-- what is kept of notices once these were noted, one after the other
+abbrev pub noted_all : List Notice → List Notice → List Notice
+noted_all [] kept = kept
+noted_all (notice ∷ others) kept = noted_all others (keep_last NOTICES (kept ++ notice ∷ []))
+
+-- a completion names each message that it loses, and then management that finds no link
+abbrev pub completions_name_what_they_lose : Type 0
+completions_name_what_they_lose =
+    (c : Configuration) (link : ℕ) (number : Option ℕ) (node : Node WholeQueues) →
+    (others : List Notice) × ((complete_if whole c true link number node).parts.notices
+    ≡ noted_all (map (naming LostUnconfirmed) (gone_by_completion true link number node.queues).lost ++ others)
+    node.parts.notices)
+
+-- a release names each message that it loses, and notes nothing else
+abbrev pub releases_name_what_they_lose : Type 0
+releases_name_what_they_lose =
+    (c : Configuration) (node : Node WholeQueues) →
+    (release whole c node).parts.notices
+    ≡ noted_all (map (naming NoRoute) (gone_by_release c node).lost) node.parts.notices

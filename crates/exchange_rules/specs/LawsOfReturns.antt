@@ -1,0 +1,126 @@
+-- What a return to service holds, and by what: laws.
+use Rattle.std.specs.Prelude.{◌≡◌, ◌≢◌, ◌<◌, ◌≤◌, ◌⊎◌, ◌++◌, ℕ, true, false, [], ◌∷◌, Some, None}
+use Rattle.settings_rows.specs.Configuration.{Configuration}
+use Rattle.signalling_types.specs.declared.limits.TheConstants.Limits.{MANAGEMENT_MESSAGES}
+use Rattle.link_alignment.specs.declared.action.Transition.{Transition}
+use Rattle.route_table.specs.Facts.{Facts}
+use Rattle.route_table.specs.Chosen.{chosen_link}
+use Rattle.flow_hold.specs.declared.procedure.Procedure.{Procedure}
+use Rattle.flow_hold.specs.declared.procedure.Procedure.TheVariants.{Code, Time}
+use Rattle.flow_hold.specs.Holds.{selections, holds, is_held}
+use Rattle.changeback.specs.Codes.{free_code, is_outstanding}
+use Rattle.exchange_rules.specs.State.{Parts, Node, with_parts}
+use Rattle.exchange_rules.specs.Points.{set_of}
+use Rattle.exchange_rules.specs.Routing.{facts}
+use Rattle.exchange_rules.specs.Queues.{WholeQueues, queue_at, whole}
+use Rattle.exchange_rules.specs.ChangingBack.{declaration, take_back_each, change_back}
+use Rattle.exchange_rules.specs.Statuses.{enters, moved_on, advance}
+use Rattle.exchange_rules.specs.Places.{HasPlacesFor}
+use Rattle.exchange_rules.specs.Lasting.{HasAllPlaces}
+
+-- ---- which flows are held
+
+-- when a link enters service, a flow whose link changed from one link to another is held
+abbrev pub entries_hold_changed_flows : Type 0
+entries_hold_changed_flows =
+    (c : Configuration) (link : ℕ) (step : Transition) (node : Node WholeQueues) (destination sls from to : ℕ) →
+    HasPlacesFor c node.parts → sls < selections → enters link step node.parts ≡ true →
+    chosen_link (facts c node.parts) destination sls ≡ Some from →
+    chosen_link (facts c (advance whole c link step node).parts) destination sls ≡ Some to → from ≢ to →
+    is_held (advance whole c link step node).parts.holds destination sls ≡ true
+
+-- and of any two states: a flow that went by another link before, and goes by the link that returned now, is held
+abbrev pub changed_flows_are_held : Type 0
+changed_flows_are_held =
+    (c : Configuration) (link : ℕ) (before : Parts) (node : Node WholeQueues) (destination sls from : ℕ) →
+    HasPlacesFor c node.parts → sls < selections → from ≢ link →
+    chosen_link (facts c before) destination sls ≡ Some from →
+    chosen_link (facts c node.parts) destination sls ≡ Some link →
+    is_held (change_back whole c link (facts c before) node).parts.holds destination sls ≡ true
+
+-- and what was held stays held
+abbrev pub returns_keep_holds : Type 0
+returns_keep_holds =
+    (c : Configuration) (link : ℕ) (before : Facts) (node : Node WholeQueues) (destination sls : ℕ) →
+    is_held node.parts.holds destination sls ≡ true →
+    is_held (change_back whole c link before node).parts.holds destination sls ≡ true
+
+-- ---- by what
+
+-- a flow went by another link before, and goes by the link now that returned
+pub record HasReturned (before after : Facts) (other link destination sls : ℕ) : Type 0 where
+  pub selection : sls < selections
+  pub was : chosen_link before destination sls ≡ Some other
+  pub is : chosen_link after destination sls ≡ Some link
+  pub apart : other ≢ link
+
+-- a link lost some flow so
+pub record HasLost (before after : Facts) (other link : ℕ) : Type 0 where
+  pub destination : ℕ
+  pub sls : ℕ
+  pub returned : HasReturned before after other link destination sls
+
+-- the node when the turn of a link comes: those before it, in the order of links, have lost their flows
+abbrev pub at_turn : Configuration → (link : ℕ) → (known : Facts) → Node WholeQueues → (other : ℕ) → Node WholeQueues
+at_turn c link known before other = take_back_each whole c known (facts c before.parts) link other before
+
+-- a code holds what comes from another link of the set: a declaration with it stands at the end of the queue of that
+-- link, the code was free, the least one that was so when the turn of that link came, and its acknowledgement is awaited
+-- now
+pub record IsByCode (c : Configuration) (link other code : ℕ) (turn before after : Node WholeQueues) : Type 0 where
+  pub set : set_of c other ≡ set_of c link
+  pub declared : (queue_at after.queues other).all ≡ (queue_at before.queues other).all ++ declaration c link code ∷ []
+  pub free : is_outstanding before.parts.codes (set_of c link) code ≡ false
+  pub least : free_code turn.parts.codes (set_of c link) ≡ Some code
+  pub awaited : is_outstanding after.parts.codes (set_of c link) code ≡ true
+
+-- it is held by time: no declaration went to the queue of that link, since it is of another set, or since no code was
+-- free or management had no room when its turn came
+pub record IsByTime (c : Configuration) (link other : ℕ) (turn before after : Node WholeQueues) : Type 0 where
+  pub left : (queue_at after.queues other).all ≡ (queue_at before.queues other).all
+  pub why : (set_of c other ≢ set_of c link)
+      ⊎ ((free_code turn.parts.codes (set_of c link) ≡ None) ⊎ (MANAGEMENT_MESSAGES ≤ whole.managements turn.queues))
+
+-- which procedure holds what comes from another link
+abbrev pub IsChosen : Configuration → (link other : ℕ) → (turn before after : Node WholeQueues) → Procedure → Type 0
+IsChosen c link other turn before after procedure =
+    ((code : ℕ) × (procedure ≡ Code (set_of c link) code) × IsByCode c link other code turn before after)
+    ⊎ ((procedure ≡ Time link) × IsByTime c link other turn before after)
+
+-- A return, of which it was known before which link each flow took, by the procedure of each other link:
+pub record IsReturn (c : Configuration) (link : ℕ) (known : Facts) (before after : Node WholeQueues)
+    (by : ℕ → Procedure) : Type 0 where
+  -- it is a code exactly where a declaration with it stands at the end of the queue, else time
+  pub chosen : (other : ℕ) → HasLost known (facts c before.parts) other link →
+      IsChosen c link other (at_turn c link known before other) before after (by other)
+  -- the codes of two links differ
+  pub differ : (one other set code : ℕ) → HasLost known (facts c before.parts) one link →
+      HasLost known (facts c before.parts) other link → by one ≡ Code set code → by other ≡ Code set code → one ≡ other
+  -- it holds each flow that came from its link
+  pub held : (other destination sls : ℕ) → HasReturned known (facts c before.parts) other link destination sls →
+      holds after.parts.holds (by other) destination sls ≡ true
+  -- every other pair stays
+  pub pairs : (procedure : Procedure) (destination sls : ℕ) →
+      ((other : ℕ) → HasReturned known (facts c before.parts) other link destination sls → by other ≢ procedure) →
+      holds after.parts.holds procedure destination sls ≡ holds before.parts.holds procedure destination sls
+  -- every other code stays as it was
+  pub codes : (set code : ℕ) →
+      ((other : ℕ) → HasLost known (facts c before.parts) other link → by other ≢ Code set code) →
+      is_outstanding after.parts.codes set code ≡ is_outstanding before.parts.codes set code
+  -- and so does the queue of each link that lost nothing
+  pub queues : (other : ℕ) → (HasLost known (facts c before.parts) other link → ⊥) →
+      queue_at after.queues other ≡ queue_at before.queues other
+
+-- so it is of any two states
+abbrev pub flows_return_by_their_procedures : Type 0
+flows_return_by_their_procedures =
+    (c : Configuration) (link : ℕ) (before : Parts) (node : Node WholeQueues) → HasAllPlaces c node →
+    (by : ℕ → Procedure) × IsReturn c link (facts c before) node (change_back whole c link (facts c before) node) by
+
+-- and when a link enters service
+abbrev pub entries_are_returns : Type 0
+entries_are_returns =
+    (c : Configuration) (link : ℕ) (step : Transition) (node : Node WholeQueues) → HasAllPlaces c node →
+    enters link step node.parts ≡ true →
+    (by : ℕ → Procedure) × IsReturn c link (facts c node.parts) (with_parts node (moved_on c link step node.parts))
+    (advance whole c link step node) by

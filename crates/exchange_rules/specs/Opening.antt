@@ -1,0 +1,92 @@
+-- Link availability control (Q.704 §3.2, block TLAC): associations that come and go, and the operator's word on a link
+-- (RFC 4165 §4.1.3).
+use Rattle.std.specs.Prelude.{ℕ, Bool, true, false, ◌&&◌, not, if◌then◌else◌}
+use Rattle.settings_rows.specs.Configuration.{Configuration}
+use Rattle.signalling_types.specs.declared.cause.Cause.TheVariants.{NoSuchName, LinkNotReady}
+use Rattle.signalling_types.specs.declared.cause.Cause.TheVariants.{ChangeoverPending}
+use Rattle.signalling_types.specs.declared.notice.FailureReason.{FailureReason}
+use Rattle.signalling_types.specs.declared.notice.FailureReason.TheVariants as reasons
+use Rattle.signalling_types.specs.declared.outcome.Outcome.TheVariants.{Handled, Ignored}
+use Rattle.link_alignment.specs.Table.{opening}
+use Rattle.node_links.specs.Link.{Link}
+use Rattle.exchange_rules.specs.declared.wants.Wants.{Wants}
+use Rattle.exchange_rules.specs.declared.wants.Wants.TheVariants.{Nothing, Open, Close}
+use Rattle.exchange_rules.specs.State.{unless◌then◌else◌, ◌▷◌, QueueKind, Parts, Node, Done, with_parts, answer, refuse}
+use Rattle.node_links.specs.LinkState.{is_down, opened}
+use Rattle.exchange_rules.specs.Links.{is_link, link_at, links_with, with_link, down}
+use Rattle.exchange_rules.specs.Timing.{timed}
+use Rattle.changeover.specs.Standing.{may_restart}
+use Rattle.exchange_rules.specs.Failing.{changeover_of, fail}
+
+-- a link opens where it has no association yet, and the operator lets it
+abbrev pub may_open : Link → Bool
+may_open l = not l.association && l.active
+
+-- what a link that is down asks of its caller; while its changeover isn't complete, or the answer to its order is
+-- awaited, it doesn't open
+abbrev pub wanted_down : (restarts : Bool) → Link → Wants
+wanted_down restarts l = if l.association then Close else if l.active && restarts then Open else Nothing
+
+-- what a link asks of its caller
+abbrev pub wanted_by : (restarts : Bool) → Link → Wants
+wanted_by restarts l = if is_down l.alignment then wanted_down restarts l else Nothing
+
+abbrev pub wanted : Parts → ℕ → Wants
+wanted p link =
+    if is_link p link then wanted_by (may_restart (changeover_of p link)) (link_at p link) else Nothing
+
+-- a link whose association is gone
+abbrev pub without_association : ℕ → Parts → Parts
+without_association link p = with_link p link (record (link_at p link) { association = false })
+
+-- a link that the operator lets open, or keeps from it
+abbrev pub with_active : Bool → ℕ → Parts → Parts
+with_active active link p = with_link p link (record (link_at p link) { active = active })
+
+-- a link that begins to align
+abbrev pub begun : Configuration → ℕ → Parts → Parts
+begun c link p =
+    record p { links = links_with p link (opened (link_at p link)); timers = timed c link opening p.timers }
+
+module _ {Q : Type 0} (q : QueueKind Q) (c : Configuration) where
+  -- a new epoch begins: the queue and its counts are empty, and the link isn't aligned yet
+  abbrev pub open_link : ℕ → Node Q → Node Q
+  open_link link node = record { queues = q.started node.queues link; parts = begun c link node.parts }
+
+  -- an association comes up; a link that has one, or that the operator keeps from opening, refuses it, and so does one
+  -- whose changeover isn't complete, or whose answer is awaited
+  abbrev pub association_up : ℕ → Node Q → Done Q
+  association_up link node =
+      unless is_link node.parts link then refuse NoSuchName node
+      else unless may_open (link_at node.parts link) then refuse LinkNotReady node
+      else unless may_restart (changeover_of node.parts link) then refuse ChangeoverPending node
+      else answer Handled (open_link link node)
+
+  -- a link that isn't down fails
+  abbrev pub fail_if_up : ℕ → FailureReason → Node Q → Node Q
+  fail_if_up link why node = if down node.parts link then node else fail q c link why node
+
+  -- the node without the association of a link
+  abbrev pub end_association : ℕ → Node Q → Node Q
+  end_association link node = with_parts node (without_association link node.parts)
+
+  -- an association goes down
+  abbrev pub association_down : ℕ → Node Q → Done Q
+  association_down link node =
+      unless is_link node.parts link then refuse NoSuchName node
+      else unless (link_at node.parts link).association then answer Ignored node
+      else answer Handled (node ▷ fail_if_up link reasons.Association ▷ end_association link)
+
+  -- the operator lets a link open, or keeps it from it
+  abbrev pub set_active : Bool → ℕ → Node Q → Node Q
+  set_active active link node = with_parts node (with_active active link node.parts)
+
+  abbrev pub activate : ℕ → Node Q → Done Q
+  activate link node =
+      unless is_link node.parts link then refuse NoSuchName node else answer Handled (set_active true link node)
+
+  -- a link that isn't down fails first
+  abbrev pub deactivate : ℕ → Node Q → Done Q
+  deactivate link node =
+      unless is_link node.parts link then refuse NoSuchName node
+      else answer Handled (node ▷ fail_if_up link reasons.Operator ▷ set_active false link)

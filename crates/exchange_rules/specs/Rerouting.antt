@@ -1,0 +1,134 @@
+-- Forced and controlled rerouting (Q.704 §7, §8, blocks TFRC and TCRC), and route set tests of this node (§13.5, block
+-- RSRT): what adjacent points say of routes, and what that does to flows.
+use Rattle.std.specs.Prelude.{ℕ, List, [], ◌∷◌, Option, Some, None, Result, Ok, Err, ◌&&◌, nat_lt, length}
+use Rattle.std.specs.Prelude.{if◌then◌else◌}
+use Rattle.settings_rows.specs.Configuration.{Configuration}
+use Rattle.signalling_types.specs.Message.{Message}
+use Rattle.signalling_types.specs.declared.outcome.Outcome.{Outcome}
+use Rattle.signalling_types.specs.declared.outcome.Outcome.TheVariants as outcomes
+use Rattle.mgmt_codec.specs.declared.management.Management.TheVariants.{RouteSetTestProhibited}
+use Rattle.mgmt_codec.specs.declared.management.Management.TheVariants.{RouteSetTestRestricted}
+use Rattle.timer_wheel.specs.declared.name.TimerName.TheVariants as name
+use Rattle.timer_wheel.specs.declared.name.RouteTimer.TheVariants as of_set
+use Rattle.timer_wheel.specs.Timers.{Running, set_timer, clear_timer, clear_set}
+use Rattle.route_table.specs.declared.route.RouteStatus.{RouteStatus}
+use Rattle.route_table.specs.declared.route.RouteStatus.TheVariants.{Allowed, Restricted, Prohibited}
+use Rattle.route_table.specs.Statuses.{status_of}
+use Rattle.node_links.specs.Statuses.{with_route_status, with_statuses_reset}
+use Rattle.flow_hold.specs.declared.procedure.Procedure.TheVariants.{Reroute}
+use Rattle.flow_hold.specs.Holds.{lifted}
+use Rattle.changeback.specs.Rerouting.{rerouted, held_for}
+use Rattle.route_management.specs.Told.{with_told_reset}
+use Rattle.route_management.specs.declared.heard.Heard.{Heard}
+use Rattle.route_management.specs.declared.heard.Heard.TheVariants.{Ignored, Unchanged, Changed}
+use Rattle.route_management.specs.Hearing.{heard}
+use Rattle.exchange_rules.specs.State.{QueueKind, Parts, Node, Done, with_parts, answer}
+use Rattle.exchange_rules.specs.Routing.{network_of, facts}
+use Rattle.exchange_rules.specs.Points.{adjacent_of, point_of}
+use Rattle.exchange_rules.specs.Made.{management_to, send_routed}
+
+-- ---- a status
+
+-- T10 runs while a route isn't allowed
+abbrev pub timed_status : Configuration → (set destination : ℕ) → RouteStatus → Running → Running
+timed_status c set destination Allowed r = clear_timer (name.T10 set destination) r
+timed_status c set destination Restricted r = set_timer (name.T10 set destination) c.timers.t10 r
+timed_status c set destination Prohibited r = set_timer (name.T10 set destination) c.timers.t10 r
+
+-- forced rerouting: a route gets another status, and the flows to its destination follow at once
+abbrev pub forced : Configuration → (set destination : ℕ) → RouteStatus → Parts → Parts
+forced c set destination status p =
+    record p { routes = (with_route_status destination set status (network_of c p)).routes }
+
+-- flows to a destination are held, and T6 runs anew; where there are none, nothing changes
+abbrev pub held_by_rerouting : Configuration → (destination : ℕ) → (selections : List ℕ) → Parts → Parts
+held_by_rerouting c destination [] p = p
+held_by_rerouting c destination (sls ∷ others) p = record p {
+  holds = held_for destination (sls ∷ others) p.holds;
+  timers = set_timer (name.T6 destination) c.timers.t6 p.timers;
+}
+
+-- controlled rerouting: the flows that so go from one link to another are held
+abbrev pub controlled : Configuration → (set destination : ℕ) → RouteStatus → Parts → Parts
+controlled c set destination status p =
+    let next : Parts = forced c set destination status p in
+    held_by_rerouting c destination (rerouted (facts c p) (facts c next) destination) next
+
+-- which of them, by the status
+abbrev pub rerouted_by : RouteStatus → Configuration → (set destination : ℕ) → Parts → Parts
+rerouted_by Prohibited c set destination p = forced c set destination Prohibited p
+rerouted_by Restricted c set destination p = controlled c set destination Restricted p
+rerouted_by Allowed c set destination p = controlled c set destination Allowed p
+
+abbrev pub with_status_heard : Configuration → (set destination : ℕ) → RouteStatus → Parts → Parts
+with_status_heard c set destination status p =
+    rerouted_by status c set destination
+    (record p { timers = timed_status c set destination status p.timers })
+
+-- T6 of a destination ran out: its rerouting holds nothing any more
+abbrev pub rerouting_ended : (destination : ℕ) → Parts → Parts
+rerouting_ended destination p = record p { holds = lifted p.holds (Reroute destination) }
+
+-- ---- a set
+
+-- when the first link of a set enters service, all that is known over it begins anew: its routes are allowed, and so
+-- they were told to its adjacent point, and T8 and T10 of the set stop
+abbrev pub with_set_reset : Configuration → (set : ℕ) → Parts → Parts
+with_set_reset c set p = record p {
+  routes = (with_statuses_reset set (network_of c p)).routes;
+  told = with_told_reset set p.told;
+  timers = clear_set of_set.T10 set (clear_set of_set.T8 set p.timers);
+}
+
+-- when its last link fails, its point is asked no more
+abbrev pub without_tests : (set : ℕ) → Parts → Parts
+without_tests set p = record p { timers = clear_set of_set.T10 set p.timers }
+
+module _ {Q : Type 0} (q : QueueKind Q) (c : Configuration) where
+  -- ---- what is heard
+
+  abbrev pub apply_route_status : Heard → (set destination : ℕ) → RouteStatus → Node Q → Done Q
+  apply_route_status Ignored set destination status node = answer outcomes.Ignored node
+  apply_route_status Unchanged set destination status node = answer outcomes.Handled node
+  apply_route_status Changed set destination status node =
+      answer outcomes.Handled (with_parts node (with_status_heard c set destination status node.parts))
+
+  -- a status that an adjacent point tells of a route
+  abbrev pub on_route_status : RouteStatus → Result (ℕ × ℕ) Outcome → Node Q → Done Q
+  on_route_status status (Ok (set, destination)) node =
+      apply_route_status (heard (facts c node.parts) node.parts.told set destination status) set destination status node
+  on_route_status status (Err outcome) node = answer outcome node
+
+  -- ---- tests of our own
+
+  -- the test that asks the adjacent point of a set of its route to a destination
+  abbrev pub prohibited_test : (set destination : ℕ) → Message
+  prohibited_test set destination =
+      management_to c (adjacent_of c set) (RouteSetTestProhibited (point_of c destination))
+
+  abbrev pub restricted_test : (set destination : ℕ) → Message
+  restricted_test set destination =
+      management_to c (adjacent_of c set) (RouteSetTestRestricted (point_of c destination))
+
+  -- T10 runs again
+  abbrev pub with_next_test : (set destination : ℕ) → Parts → Parts
+  with_next_test set destination p =
+      record p { timers = set_timer (name.T10 set destination) c.timers.t10 p.timers }
+
+  abbrev pub ask : Message → (set destination : ℕ) → Node Q → Node Q
+  ask m set destination node =
+      send_routed q c m (with_parts node (with_next_test set destination node.parts))
+
+  -- the test is that of the route's status; one that is allowed isn't tested
+  abbrev pub ask_by : Option RouteStatus → (set destination : ℕ) → Node Q → Node Q
+  ask_by (Some Prohibited) set destination node = ask (prohibited_test set destination) set destination node
+  ask_by (Some Restricted) set destination node = ask (restricted_test set destination) set destination node
+  ask_by (Some Allowed) set destination node = node
+  ask_by None set destination node = node
+
+  -- T10 of a set and a destination that are there ran out
+  abbrev pub ask_again : (set destination : ℕ) → Node Q → Node Q
+  ask_again set destination node =
+      if nat_lt set (length c.sets) && nat_lt destination (length c.destinations)
+      then ask_by (status_of (facts c node.parts) destination set) set destination node
+      else node

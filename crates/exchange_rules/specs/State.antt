@@ -1,0 +1,116 @@
+-- The state of an exchange, with queues of any kind.
+use Rattle.std.specs.Prelude.{ℕ, Bool, List, Option, Result, if◌then◌else◌}
+use Rattle.signalling_types.specs.Message.{Message}
+use Rattle.settings_rows.specs.Configuration.{Configuration, TitleEntry}
+use Rattle.signalling_types.specs.declared.cause.Cause.{Cause}
+use Rattle.signalling_types.specs.declared.notice.Notice.{Notice}
+use Rattle.signalling_types.specs.declared.outcome.Outcome.{Outcome}
+use Rattle.signalling_types.specs.declared.outcome.Outcome.TheVariants.{Refused}
+use Rattle.link_sequence.specs.Queue.{Sending}
+use Rattle.link_sequence.specs.declared.fault.SeqFault.{SeqFault}
+use Rattle.timer_wheel.specs.Timers.{Running}
+use Rattle.route_table.specs.declared.route.Route.{Route}
+use Rattle.node_links.specs.Link.{Link}
+use Rattle.changeover.specs.Standing.{Standing}
+use Rattle.changeback.specs.Codes.{Codes}
+use Rattle.route_management.specs.Told.{ToldTable}
+use Rattle.flow_hold.specs.Holds.{HoldSet}
+
+-- what happens next: `node ▷ fail link ▷ release` fails the link, and then releases what is held
+infixl 20 ◌▷◌
+abbrev pub ◌▷◌ : {A B : Type 0} → A → (A → B) → B
+x ▷ f = f x
+
+-- a guard: unless the test holds this becomes of it, and nothing behind is looked at
+infix 5 unless◌then◌else◌
+abbrev pub unless◌then◌else◌ : {A : Type 0} → Bool → A → A → A
+unless test then otherwise else next = if test then next else otherwise
+
+-- All that isn't a queue.
+pub record Parts : Type 0 where
+  pub links : List Link
+  -- of each destination the sets that lead there, each with its status
+  pub routes : List (List Route)
+  -- what the adjacent point of each set was told of each destination
+  pub told : ToldTable
+  -- of each link, how far its changeover is
+  pub changeovers : List Standing
+  -- of each set, which changeback codes wait for their answer
+  pub codes : Codes
+  pub holds : HoldSet
+  -- the translation rows, in their order
+  pub titles : List TitleEntry
+  pub timers : Running
+  pub notices : List Notice
+  -- whether a message may have been lost since the node was booted
+  pub lost_any : Bool
+  -- whether messages of a flow may have gone out of order since the node was booted
+  pub late_any : Bool
+
+-- What a completion finds on a link, by the number that its peer gave: whether that names a count, the user messages
+-- that are named as lost, and the management messages that are queued anew.
+pub record Found : Type 0 where
+  pub is_reasonable : Bool
+  pub lost : List Message
+  pub queued_anew : List Message
+
+-- What changes as a node runs. Q is Held and the queues of all links together.
+pub record Node (Q : Type 0) : Type 0 where
+  pub queues : Q
+  pub parts : Parts
+
+-- A node beside the settings that it was booted with.
+pub record State (Q : Type 0) : Type 0 where
+  pub settings : Configuration
+  pub node : Node Q
+
+-- What became of an event, and the node that it left.
+pub record Done (Q : Type 0) : Type 0 where
+  pub outcome : Outcome
+  pub left : Node Q
+
+-- What the rules ask of queues and do with them: each at one link, or in Held.
+pub record QueueKind (Q : Type 0) : Type 0 where
+  pub started : Q → ℕ → Q
+  pub appended : Q → ℕ → Message → Q
+  pub accept_answer : Q → ℕ → ℕ → ℕ → Bool → Result ℕ SeqFault
+  pub accepted : Q → ℕ → ℕ → ℕ → Bool → Q
+  pub to_send : Q → ℕ → ℕ → Option Sending
+  pub sent_one : Q → ℕ → ℕ → Q
+  -- the messages of a link that aren't confirmed, sent or not
+  pub unconfirmed : Q → ℕ → List Message
+  -- what a completion finds on a link, and what it leaves: the user messages that move stand before all of Held, and
+  -- nothing stands on the link
+  pub found : Q → ℕ → Option ℕ → Found
+  pub completed : Q → ℕ → Option ℕ → Q
+  -- the messages of Held; one more at its end; none
+  pub held : Q → List Message
+  pub holding : Q → Message → Q
+  pub without_held : Q → Q
+  -- how many messages were sent and aren't confirmed
+  pub outstanding : Q → ℕ → ℕ
+  pub last_sent : Q → ℕ → ℕ
+  pub last_accepted : Q → ℕ → ℕ
+  -- how many messages of each kind stand in all queues and in Held
+  pub users : Q → ℕ
+  pub managements : Q → ℕ
+
+-- the same settings with another node
+abbrev pub with_node : {Q : Type 0} → State Q → Node Q → State Q
+with_node s node = record s { node = node }
+
+-- the same queues with other parts
+abbrev pub with_parts : {Q : Type 0} → Node Q → Parts → Node Q
+with_parts node parts = record node { parts = parts }
+
+-- another kind of queues beside the same parts
+abbrev pub keep : {P Q : Type 0} → (P → Q) → Node P → Node Q
+keep h node = record { queues = h node.queues; parts = node.parts }
+
+-- an answer that leaves this node
+abbrev pub answer : {Q : Type 0} → Outcome → Node Q → Done Q
+answer outcome node = record { outcome = outcome; left = node }
+
+-- a refusal that leaves this node
+abbrev pub refuse : {Q : Type 0} → Cause → Node Q → Done Q
+refuse cause node = answer (Refused cause) node

@@ -1,0 +1,129 @@
+-- Transfer prohibited, restricted and allowed (Q.704 §13.2 to §13.4, blocks RTPC, RTRC and RTAC), and the answers to
+-- route set tests (§13.5, block RSRT): what adjacent points are told of routes.
+use Rattle.std.specs.Prelude.{ℕ, Bool, ◌&&◌, ◌||◌, not, nat_lt, List, [], ◌∷◌, Option, Some, None}
+use Rattle.std.specs.Prelude.{Result, Ok, Err, if◌then◌else◌}
+use Rattle.settings_rows.specs.Configuration.{Configuration}
+use Rattle.signalling_types.specs.Message.{Message}
+use Rattle.signalling_types.specs.declared.outcome.Outcome.{Outcome}
+use Rattle.signalling_types.specs.declared.outcome.Outcome.TheVariants.{Handled, Ignored}
+use Rattle.mgmt_codec.specs.declared.management.Management.{Management}
+use Rattle.mgmt_codec.specs.declared.management.Management.TheVariants.{TransferProhibited, TransferRestricted}
+use Rattle.mgmt_codec.specs.declared.management.Management.TheVariants.{TransferAllowed}
+use Rattle.timer_wheel.specs.declared.name.TimerName.TheVariants.{T8}
+use Rattle.timer_wheel.specs.Timers.{Running, set_timer, is_running}
+use Rattle.route_table.specs.declared.route.RouteStatus.{RouteStatus}
+use Rattle.route_table.specs.declared.route.RouteStatus.TheVariants.{Allowed, Restricted, Prohibited}
+use Rattle.route_management.specs.declared.heard.RouteTest.{RouteTest}
+use Rattle.route_management.specs.Told.{is_own_point, with_told}
+use Rattle.route_management.specs.Owed.{Owed, owed, owes_nothing}
+use Rattle.route_management.specs.Hearing as hearing
+use Rattle.exchange_rules.specs.State.{◌▷◌, QueueKind, Parts, Node, Done, with_parts, answer}
+use Rattle.exchange_rules.specs.Routing.{facts}
+use Rattle.exchange_rules.specs.Points.{set_of, adjacent_of, point_of}
+use Rattle.exchange_rules.specs.Made.{management_to, send_routed}
+
+-- what is owed is told while fewer management messages than this stand in the node
+abbrev pub told_below : ℕ
+told_below = 128
+
+-- the message that tells a status of a point
+abbrev pub telling : RouteStatus → (about : ℕ) → Management
+telling Prohibited about = TransferProhibited about
+telling Restricted about = TransferRestricted about
+telling Allowed about = TransferAllowed about
+
+-- the message to the adjacent point of a set that tells a status of a destination
+abbrev pub route_message : Configuration → (set destination : ℕ) → RouteStatus → Message
+route_message c set destination status =
+    management_to c (adjacent_of c set) (telling status (point_of c destination))
+
+-- after transfer-prohibited T8 runs, anew where it runs already
+abbrev pub timed_telling : Configuration → (set destination : ℕ) → RouteStatus → Running → Running
+timed_telling c set destination Prohibited r = set_timer (T8 set destination) c.timers.t8 r
+timed_telling c set destination Restricted r = r
+timed_telling c set destination Allowed r = r
+
+abbrev pub inhibited : Configuration → (set destination : ℕ) → Parts → Parts
+inhibited c set destination p = record p { timers = set_timer (T8 set destination) c.timers.t8 p.timers }
+
+-- a point was told what it was owed
+abbrev pub told_parts : Configuration → Owed → Parts → Parts
+told_parts c o p = record p {
+  told = with_told o.set o.destination o.status p.told;
+  timers = timed_telling c o.set o.destination o.status p.timers;
+}
+
+-- a point was told what answers its test
+abbrev pub answered_parts : (set destination : ℕ) → RouteStatus → Parts → Parts
+answered_parts set destination status p = record p { told = with_told set destination status p.told }
+
+-- whether no transfer-prohibited message about a destination goes out to the adjacent point of a set for now, or ever
+abbrev pub is_inhibited : (set destination : ℕ) → Parts → Bool
+is_inhibited set destination p = is_running (T8 set destination) p.timers || is_own_point p.told set destination
+
+module _ {Q : Type 0} (q : QueueKind Q) (c : Configuration) where
+  -- whether few enough management messages stand in the node
+  abbrev pub may_tell : Node Q → Bool
+  may_tell node = nat_lt (q.managements node.queues) told_below
+
+  -- ---- what is owed
+
+  -- whether nothing is owed that finds room
+  abbrev pub is_all_told : Node Q → Bool
+  is_all_told node = not (may_tell node) || owes_nothing (facts c node.parts) node.parts.told
+
+  abbrev pub tell : Owed → Node Q → Node Q
+  tell o node =
+      send_routed q c (route_message c o.set o.destination o.status) (with_parts node (told_parts c o node.parts))
+
+  -- what finds no such room stays owed
+  abbrev pub tell_if : Owed → Node Q → Node Q
+  tell_if o node = if may_tell node then tell o node else node
+
+  abbrev pub tell_each : List Owed → Node Q → Node Q
+  tell_each [] node = node
+  tell_each (o ∷ os) node = node ▷ tell_if o ▷ tell_each os
+
+  -- the end of each event: what is owed is told, by set and then by destination
+  unfoldable pub tell_owed : Node Q → Node Q
+  tell_owed node = tell_each (owed (facts c node.parts) node.parts.told) node
+
+  -- ---- a message that has no route
+
+  -- its sender is told, at the other end of the link that it came by: transfer-prohibited
+  abbrev pub prohibit : (set destination : ℕ) → Node Q → Node Q
+  prohibit set destination node =
+      send_routed q c (route_message c set destination Prohibited)
+      (with_parts node (inhibited c set destination node.parts))
+
+  abbrev pub prohibit_if : (set destination : ℕ) → Node Q → Node Q
+  prohibit_if set destination node =
+      if may_tell node && not (is_inhibited set destination node.parts) then prohibit set destination node else node
+
+  -- the link that it came by, if it came by one, and its destination
+  abbrev pub answer_no_route : (link destination : Option ℕ) → Node Q → Node Q
+  answer_no_route (Some link) (Some destination) node = prohibit_if (set_of c link) destination node
+  answer_no_route (Some link) None node = node
+  answer_no_route None destination node = node
+
+  -- ---- tests
+
+  -- a test is answered, if it is to be: that counts as told
+  abbrev pub send_route_status : Option RouteStatus → (set destination : ℕ) → Node Q → Node Q
+  send_route_status (Some status) set destination node =
+      send_routed q c (route_message c set destination status)
+      (with_parts node (answered_parts set destination status node.parts))
+  send_route_status None set destination node = node
+
+  -- one from the adjacent point of a set; about that point itself it is ignored
+  abbrev pub answer_route_test : RouteTest → (set destination : ℕ) → Node Q → Done Q
+  answer_route_test test set destination node =
+      if is_own_point node.parts.told set destination
+      then answer Ignored node
+      else answer Handled
+      (send_route_status (hearing.answer_to_test (facts c node.parts) node.parts.told set destination test) set destination node)
+
+  -- a test by which an adjacent point asks about a route
+  abbrev pub on_route_test : RouteTest → Result (ℕ × ℕ) Outcome → Node Q → Done Q
+  on_route_test test (Ok (set, destination)) node = answer_route_test test set destination node
+  on_route_test test (Err outcome) node = answer outcome node

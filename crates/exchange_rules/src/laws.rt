@@ -1,0 +1,192 @@
+//! Laws of the abstract exchange.
+
+ghost use Rattle.exchange_rules.specs.Laws.{refusals_leave, nothing_taken_leaves, queued_in_service};
+ghost use Rattle.exchange_rules.specs.Laws.{routed_in_service, declared_in_service, queued_anew_in_service};
+ghost use Rattle.exchange_rules.specs.Laws.{settled_in_service};
+ghost use Rattle.exchange_rules.specs.Laws.{first_is_told, events_tell_all, takes_owe_nothing};
+ghost use Rattle.exchange_rules.specs.Laws.{completion_leaves_others, release_keeps_order, moved_before_held};
+ghost use Rattle.exchange_rules.specs.LastingLinks.{links_first_steady, links_stay_steady, l7_watches};
+ghost use Rattle.exchange_rules.specs.Touching.{other_links_are_left, takes_leave_other_queues};
+ghost use Rattle.exchange_rules.specs.LastingMessages.{first_is_onward, messages_stay_onward};
+ghost use Rattle.exchange_rules.specs.LastingRoutes.{own_routes_stay_allowed};
+ghost use Rattle.exchange_rules.specs.Receiving.{received_is_counted, takes_receive_nothing, nothing_new_is_delivered};
+ghost use Rattle.exchange_rules.specs.LawsOfMessages.{user_messages_are_conserved, takes_leave_user_messages};
+ghost use Rattle.exchange_rules.specs.LawsOfMessages.{all_that_came_adds_up};
+ghost use Rattle.exchange_rules.specs.LawsOfMessages.{carried_messages_have_a_fate, submissions_have_a_fate};
+ghost use Rattle.exchange_rules.specs.LawsOfMessages.{completions_name_what_they_lose, releases_name_what_they_lose};
+ghost use Rattle.exchange_rules.specs.Lasting.{places_at_first, places_stay, losses_stay, lateness_stays};
+ghost use Rattle.exchange_rules.specs.Lasting.{notices_raise_flags, unreasonable_numbers_raise_it};
+ghost use Rattle.exchange_rules.specs.LawsOfFailures.{failures_hold_their_flows, failures_by_peer_hold_their_flows};
+ghost use Rattle.exchange_rules.specs.LawsOfFailures.{idle_failures_hold_nothing, idle_failures_by_peer_hold_nothing};
+ghost use Rattle.exchange_rules.specs.LawsOfReturns.{entries_hold_changed_flows, changed_flows_are_held};
+ghost use Rattle.exchange_rules.specs.LawsOfReturns.{returns_keep_holds};
+ghost use Rattle.exchange_rules.specs.LawsOfReturns.{flows_return_by_their_procedures, entries_are_returns};
+
+/// A refused event changes nothing, but that a refused message may be answered: a UDT for this point is returned, and
+/// where a message in a frame found no route the point at the other end of its link is told. Of a message in a frame
+/// also what accepting that frame did stands, with a notice, and what then found room to be told.
+pub fn refusals_change_nothing()
+    ensures { refusals_leave }
+{}
+
+/// Between two events adjacent points are owed only what finds no room: so it is at first, after each event, and after
+/// each frame that goes out.
+pub fn only_what_finds_no_room_is_owed()
+    ensures first { first_is_told }
+    ensures event { events_tell_all }
+    ensures take { takes_owe_nothing }
+{}
+
+/// A take that gives nothing changes nothing.
+pub fn taking_nothing_changes_nothing()
+    ensures { nothing_taken_leaves }
+{}
+
+/// The link that an answer Queued names is in service. So is each whose queue changes as management made here goes out,
+/// as a link declares that it is back, as a completion queues management of another link anew, and at the end of each
+/// event, as messages are released and adjacent points are told.
+pub fn only_links_in_service_are_given_messages()
+    ensures queued { queued_in_service }
+    ensures routed { routed_in_service }
+    ensures declared { declared_in_service }
+    ensures anew { queued_anew_in_service }
+    ensures settled { settled_in_service }
+{}
+
+/// The move of a completed changeover touches the queue of no other link. In Held the messages that it moves stand
+/// before those that were held, and each flow keeps its order.
+pub fn completion_leaves_other_links()
+    ensures { completion_leaves_others }
+{}
+
+/// A release leaves in Held what waits, and puts the other messages behind those of their links, each in the order of
+/// Held: each flow keeps its order.
+pub fn release_keeps_the_order_of_each_flow()
+    ensures { release_keeps_order }
+{}
+
+/// Where a changeover meets a changeback, each flow keeps its order: of its messages that go on by a link, those that
+/// the changeover moves stand before those that were held.
+pub fn moved_messages_go_before_held_ones()
+    ensures { moved_before_held }
+{}
+
+/// When a link in service fails, its changeover holds afterwards each flow that it held, each whose link that was, and
+/// each that has an unconfirmed user message there; what other procedures hold stays. When another link fails, nothing
+/// is held.
+pub fn failures_hold_the_flows_that_fail()
+    ensures own { failures_hold_their_flows }
+    ensures by_peer { failures_by_peer_hold_their_flows }
+    ensures idle { idle_failures_hold_nothing }
+    ensures idle_by_peer { idle_failures_by_peer_hold_nothing }
+{}
+
+/// When a link enters service, each flow whose link changed from one link to another is held; and what was held stays
+/// held. This holds for every node that has a place for each link, set and destination of its settings, and every
+/// exchange has (`Exchange::has_its_places`).
+pub fn flows_that_change_their_link_are_held()
+    ensures entered { entries_hold_changed_flows }
+    ensures changed { changed_flows_are_held }
+    ensures others { returns_keep_holds }
+{}
+
+/// When a link returns to service, each flow that went by another link and goes by this one now is held by the
+/// procedure of that other link. It is a code exactly where a declaration with that code stands at the end of the other
+/// link's queue: both links are of one set, and the code is the least one free when the turn of the other link comes, in
+/// the order of links, so that no two links of one return have the same. Else it is time: the other link is of another
+/// set, or when its turn comes no code is free or management has no room. Every other pair, every other code and every
+/// other queue stays. This holds for every node that has all its places.
+pub fn flows_return_by_the_procedures_of_their_links()
+    ensures returned { flows_return_by_their_procedures }
+    ensures entered { entries_are_returns }
+{}
+
+/// A node that was just booted has a place for each link, set and destination of its settings, with a queue for each
+/// link and the timers of all of them; and it keeps them, whatever happens and whatever is taken.
+pub fn nodes_have_their_places()
+    ensures first { places_at_first }
+    ensures always { places_stay }
+{}
+
+/// The flags never fall, whatever happens and whatever is taken: once a message may have been lost, or messages may
+/// have gone out of order, that stays shown. They are raised while a notice says so, and by a completion without a
+/// reasonable number.
+pub fn flags_never_fall()
+    ensures lost { losses_stay }
+    ensures late { lateness_stays }
+    ensures noted { notices_raise_flags }
+    ensures number { unreasonable_numbers_raise_it }
+{}
+
+/// Each link is steady, at first, and whatever happens and whatever is taken: its counts are in order, it is down while
+/// it has no association or its changeover isn't complete, and out of service messages stand in its queue only until
+/// its changeover is complete. L7 of it runs exactly while it is in service, its peer isn't busy, and something that
+/// was sent isn't confirmed.
+pub fn links_stay_steady()
+    ensures first { links_first_steady }
+    ensures always { links_stay_steady }
+    ensures watched { l7_watches }
+{}
+
+/// An event leaves each link that it isn't about: messages go behind the link's queue while it is in service, or a
+/// completion empties that queue, only where the link's changeover wasn't complete before, or the link fails by this
+/// event. Out of service the link stays so, and no message goes there: its queue stays as it is, unless its changeover
+/// is completed. A take touches no other link's queue.
+///
+/// An event is about a link if its association comes up, a frame came by it, or one of its timers L1 to L7 runs out:
+/// only such events take it into service.
+pub fn other_links_are_left()
+    ensures event { other_links_are_left }
+    ensures take { takes_leave_other_queues }
+{}
+
+/// No message for this point stands in Held or in a queue, at first, and whatever happens and whatever is taken: such a
+/// message is never queued as it came.
+pub fn messages_for_this_point_are_never_queued()
+    ensures first { first_is_onward }
+    ensures always { messages_stay_onward }
+{}
+
+/// The route to an adjacent point over its own set, if there is one, is allowed, at first, and whatever happens and
+/// whatever is taken: what such a point says of itself changes nothing.
+pub fn routes_to_adjacent_points_stay_allowed()
+    ensures { own_routes_stay_allowed }
+{}
+
+/// What was received on a link rises by one exactly where a frame newly carries a message there, and by nothing else. A
+/// frame newly carries none if its link is down, if it can't be read, or if one of its numbers is wrong; then it
+/// delivers none.
+pub fn what_was_received_is_counted()
+    ensures event { received_is_counted }
+    ensures take { takes_receive_nothing }
+    ensures none { nothing_new_is_delivered }
+{}
+
+/// No user message is doubled, and none goes unseen: by any test, as many as stood in Held and in queues before an
+/// event, and as it brings, stand there after it, were accepted by a peer, or are named as lost.
+///
+/// It brings the message that came or was submitted where its outcome is that this is queued or held, and no other: a
+/// message for another point as it came, an SCCP message for this point as its relay writes it. And it brings the UDTS
+/// that returns a refused one, where that finds its way. A peer accepts messages by the numbers of its User Data, oldest
+/// first, and by the number of its changeover. Those are lost that a completion leaves in doubt, and that have no route
+/// when they are released.
+///
+/// This holds of every node that has all its places and whose links are steady, so of every one that comes of the first.
+/// A take changes no such number. So whatever happens and whatever is taken, all that ever came in stands, was accepted
+/// by a peer, or is named as lost.
+///
+/// And each user message that a frame newly carries, and each that is submitted, is queued, held, delivered or refused.
+pub fn user_messages_are_conserved()
+    ensures carried { carried_messages_have_a_fate }
+    ensures submitted { submissions_have_a_fate }
+    ensures event { user_messages_are_conserved }
+    ensures take { takes_leave_user_messages }
+    ensures always { all_that_came_adds_up }
+{}
+
+/// What is lost is named: a completion notes each message that it loses, and a release each that has no route any more,
+/// and each once, in order.
+pub fn what_is_lost_is_named()
+    ensures completion { completions_name_what_they_lose }
+    ensures release { releases_name_what_they_lose }
+{}
