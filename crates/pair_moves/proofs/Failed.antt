@@ -1,0 +1,254 @@
+-- Moves of a failure and its changeover are sound.
+use Rattle.std.proofs.Common.{◌≡◌, ◌≢◌, inr, ℕ, Bool, true, false, ◌+◌, ◌≤◌, List, [], ◌∷◌, ◌++◌, drop, count_by, nat_eq, refl, sym, subst, arith}
+use Rattle.std.proofs.Math.Logic.{⊎_elim}
+use Rattle.std.proofs.lemmas.Bool.{cases_eq}
+use Rattle.signalling_types.specs.Message.{Message}
+use Rattle.link_sequence.specs.Queue.{last_accepted}
+use Rattle.pair_moves.specs.Sayings.{Saying, Order, Answer, is_user_message, is_order, is_answer, is_untrue, is_declaration, is_confirmation}
+use Rattle.pair_moves.specs.Ends.{Line, Side, Pair, turned}
+use Rattle.pair_moves.specs.Failing.{with_failure, with_completion, without_wait, users_of, managements_of, Falls, FallsWithOrder, CompletesByOrder, AnswersOrder, CompletesByAnswer, EndsWait, IgnoresAnswer}
+use Rattle.pair_moves.specs.Laws.{under_way, one_if, saying}
+use Rattle.pair_moves.proofs.Counts.{count-append, count-one, count-first}
+use Rattle.pair_moves.proofs.Words.{said, said-no_user, same-link, other-link, told-order, told-answer, told-order_elsewhere, told-answer_elsewhere}
+use Rattle.pair_moves.proofs.Lines.{IsLine, not-beside}
+use Rattle.pair_moves.proofs.Books.{untrue_of, each-line}
+use Rattle.pair_moves.proofs.Sound.{Sound, kept-sound, books-side, books-line}
+use Rattle.pair_moves.proofs.Quiet.{SameFlags, quiet-line, still-true}
+use Rattle.pair_moves.proofs.Tells.{one-said, none-said, count-beyond, Tells, order-tells, answer-tells, names-received, moved-counts}
+use Rattle.pair_moves.proofs.LinesChanged.{line-failure, line-completion, line-unawaited}
+
+module _ (read : Message → Saying) (p q : Pair) where
+  pub sound-falls : Falls read p q → Sound read p → Sound read q
+  sound-falls m h =
+      let z : Line = p.line m.link in
+      subst (Sound read) (sym m.after)
+      (quiet-line read p m.link (with_failure z z.near.awaited) m.lines m.set (record p.near { route = m.route; holds = m.holds })
+      (record { accepted = refl; received = refl; outstanding = refl })
+      (record {
+        awaited = omega arith;
+        far_awaited = omega arith;
+        truth = still-true read p m.link (with_failure z z.near.awaited).near (λ u. m.up) (inr refl) h;
+        far_truth = h.back.words m.link;
+      })
+      (line-failure z z.near.awaited m.up (h.lines m.link))
+      (λ test. omega arith) (λ test. omega arith) h)
+
+  pub sound-falls_with_order : FallsWithOrder read p q → Sound read p → Sound read q
+  sound-falls_with_order m h =
+      let z : Line = p.line m.link in
+      let y : Line = with_failure z true in
+      let s : Side = record p.near { route = m.route; holds = m.holds; loose = p.near.loose ++ m.order ∷ [] } in
+      let last : ℕ = last_accepted z.near.queue in
+      let up : z.near.up ≡ true = (h.lines m.link).near.serving m.serving in
+      let unawaited : one_if z.near.awaited ≡ 0 = none-said z.near.awaited (not-beside z.near.awaited (h.lines m.link).near.awaited up) in
+      let t : SameFlags read p m.link y = record {
+        awaited = omega (arith, unawaited);
+        far_awaited = omega arith;
+        truth = still-true read p m.link y.near (λ u. up) (inr refl) h;
+        far_truth = h.back.words m.link;
+      } in
+      let of : (test : Saying → Bool) → count_by (saying read test) (m.order ∷ []) ≡ one_if (test (Order m.link last)) = said read m.order (Order m.link last) m.says in
+      subst (Sound read) (sym m.after)
+      (kept-sound read p (record p { line = m.lines; near = s }) (m.order ∷ []) []
+      (books-line p m.link y m.lines m.set s (m.order ∷ []) []
+      (λ test. omega (arith, count-append test p.near.loose (m.order ∷ []))) (λ test. omega arith))
+      (record {
+        far = refl;
+        orders = each-line p m.link y m.lines m.set
+            (λ k x. count_by (saying read (is_order k)) (m.order ∷ []) + one_if (p.line k).near.awaited ≤ one_if x.near.awaited + 0)
+            (λ k d. omega (arith, of (is_order k), none-said (nat_eq m.link k) (other-link m.link k d)))
+            (omega (arith, of (is_order m.link), one-said (nat_eq m.link m.link) (same-link m.link), unawaited));
+        answers = each-line p m.link y m.lines m.set
+            (λ k x. count_by (saying read (is_answer k)) (m.order ∷ []) + one_if (p.line k).far.awaited ≤ one_if x.far.awaited + 0)
+            (λ k d. omega (arith, of (is_answer k))) (omega (arith, of (is_answer m.link)));
+        truth = each-line p m.link y m.lines m.set
+            (λ k x. under_way (untrue_of read k x.near) p + count_by (untrue_of read k x.near) (m.order ∷ []) ≡ 0)
+            (λ k d. omega (arith, h.there.words k, of (is_untrue k (p.line k).near.up (last_accepted (p.line k).near.queue)), told-order_elsewhere k m.link (p.line k).near.up (last_accepted (p.line k).near.queue) last d))
+            (omega (arith, t.truth, of (is_untrue m.link false last), told-order m.link m.link false last refl));
+        far_truth = each-line p m.link y m.lines m.set (λ k x. under_way (untrue_of read k x.far) (turned p) ≡ 0) (λ k d. h.back.words k) (h.back.words m.link);
+        declarations = λ code. omega (arith, of (is_declaration code));
+        confirmations = λ code. omega (arith, of (is_confirmation code));
+        accepted = λ test. omega (arith, said-no_user read m.order (Order m.link last) m.says refl test);
+        received = λ test. omega arith;
+      })
+      (each-line p m.link y m.lines m.set (λ k x. IsLine x) (λ k d. h.lines k) (line-failure z true up (h.lines m.link)))
+      h)
+
+  pub sound-completes_by_order : CompletesByOrder read p q → Sound read p → Sound read q
+  sound-completes_by_order m h =
+      let z : Line = p.line m.link in
+      let y : Line = with_completion z z.near.awaited in
+      let behind : List Message = drop m.count z.near.queue.all in
+      let s : Side = record p.near { arrived = m.heard.rest; held = users_of read behind ++ p.near.held; loose = p.near.loose ++ managements_of read behind ++ m.answer ∷ []; holds = m.holds } in
+      let last : ℕ = last_accepted z.near.queue in
+      let t : Tells p m.link m.number = order-tells read p m.link m.number m.heard.message m.heard.rest m.heard.first m.heard.says h in
+      let e : m.count ≡ z.far.queue.received = names-received read p m.link m.number m.count t m.incomplete m.named h in
+      let down : z.near.up ≡ false = (h.lines m.link).near.incomplete m.incomplete in
+      let made : (test : Saying → Bool) → count_by (saying read test) (m.answer ∷ []) ≡ one_if (test (Answer m.link last)) = said read m.answer (Answer m.link last) m.answers in
+      let looked : (test : Saying → Bool) → count_by (saying read test) (m.heard.message ∷ []) ≡ one_if (test (Order m.link m.number)) = said read m.heard.message (Order m.link m.number) m.heard.says in
+      subst (Sound read) (sym m.after)
+      (kept-sound read p (record p { line = m.lines; near = s }) (m.answer ∷ []) (m.heard.message ∷ [])
+      (books-line p m.link y m.lines m.set s (m.answer ∷ []) (m.heard.message ∷ [])
+      (λ test. omega (
+        arith,
+        count-append test (users_of read behind) p.near.held,
+        count-append test (p.near.loose ++ managements_of read behind) (m.answer ∷ []),
+        count-append test p.near.loose (managements_of read behind),
+        moved-counts read p m.link m.count e test,
+        count-beyond test z.far.queue.received,
+      ))
+      (λ test. omega (arith, count-first test p.near.arrived m.heard.message m.heard.rest m.heard.first, count-one test m.heard.message)))
+      (record {
+        far = refl;
+        orders = each-line p m.link y m.lines m.set
+            (λ k x. count_by (saying read (is_order k)) (m.answer ∷ []) + one_if (p.line k).near.awaited ≤ one_if x.near.awaited + count_by (saying read (is_answer k)) (m.heard.message ∷ []))
+            (λ k d. omega (arith, made (is_order k))) (omega (arith, made (is_order m.link)));
+        answers = each-line p m.link y m.lines m.set
+            (λ k x. count_by (saying read (is_answer k)) (m.answer ∷ []) + one_if (p.line k).far.awaited ≤ one_if x.far.awaited + count_by (saying read (is_order k)) (m.heard.message ∷ []))
+            (λ k d. omega (arith, made (is_answer k), looked (is_order k))) (omega (arith, made (is_answer m.link), looked (is_order m.link)));
+        truth = each-line p m.link y m.lines m.set
+            (λ k x. under_way (untrue_of read k x.near) p + count_by (untrue_of read k x.near) (m.answer ∷ []) ≡ 0)
+            (λ k d. omega (
+              arith,
+              h.there.words k,
+              made (is_untrue k (p.line k).near.up (last_accepted (p.line k).near.queue)),
+              told-answer_elsewhere k m.link (p.line k).near.up (last_accepted (p.line k).near.queue) last d,
+            ))
+            (omega (arith, h.there.words m.link, made (is_untrue m.link z.near.up last), told-answer m.link m.link z.near.up last down));
+        far_truth = each-line p m.link y m.lines m.set (λ k x. under_way (untrue_of read k x.far) (turned p) ≡ 0) (λ k d. h.back.words k) (h.back.words m.link);
+        declarations = λ code. omega (arith, made (is_declaration code));
+        confirmations = λ code. omega (arith, made (is_confirmation code));
+        accepted = λ test. omega (arith, said-no_user read m.answer (Answer m.link last) m.answers refl test);
+        received = λ test. omega (arith, said-no_user read m.heard.message (Order m.link m.number) m.heard.says refl test);
+      })
+      (each-line p m.link y m.lines m.set (λ k x. IsLine x) (λ k d. h.lines k) (line-completion z z.near.awaited down t.far_down (h.lines m.link)))
+      h)
+
+  pub sound-answers_order : AnswersOrder read p q → Sound read p → Sound read q
+  sound-answers_order m h =
+      let last : ℕ = last_accepted (p.line m.link).near.queue in
+      let s : Side = record p.near { arrived = m.heard.rest; loose = p.near.loose ++ m.answer ∷ [] } in
+      let made : (test : Saying → Bool) → count_by (saying read test) (m.answer ∷ []) ≡ one_if (test (Answer m.link last)) = said read m.answer (Answer m.link last) m.answers in
+      let looked : (test : Saying → Bool) → count_by (saying read test) (m.heard.message ∷ []) ≡ one_if (test (Order m.link m.number)) = said read m.heard.message (Order m.link m.number) m.heard.says in
+      subst (Sound read) (sym m.after)
+      (kept-sound read p (record p { near = s }) (m.answer ∷ []) (m.heard.message ∷ [])
+      (books-side p s (m.answer ∷ []) (m.heard.message ∷ [])
+      (λ test. omega (arith, count-append test p.near.loose (m.answer ∷ [])))
+      (λ test. omega (arith, count-first test p.near.arrived m.heard.message m.heard.rest m.heard.first, count-one test m.heard.message)))
+      (record {
+        far = refl;
+        orders = λ k. omega (arith, made (is_order k));
+        answers = λ k. omega (arith, made (is_answer k), looked (is_order k));
+        truth = λ k. ⊎_elim
+            (λ (e : k ≡ m.link). omega (
+              arith,
+              h.there.words k,
+              made (is_untrue k (p.line k).near.up (last_accepted (p.line k).near.queue)),
+              subst (λ (j : ℕ). one_if (is_untrue j (p.line j).near.up (last_accepted (p.line j).near.queue) (Answer m.link last)) ≡ 0) (sym e)
+                  (told-answer m.link m.link (p.line m.link).near.up last m.down),
+            ))
+            (λ (d : k ≢ m.link). omega (
+              arith,
+              h.there.words k,
+              made (is_untrue k (p.line k).near.up (last_accepted (p.line k).near.queue)),
+              told-answer_elsewhere k m.link (p.line k).near.up (last_accepted (p.line k).near.queue) last d,
+            ))
+            (cases_eq k m.link);
+        far_truth = λ k. h.back.words k;
+        declarations = λ code. omega (arith, made (is_declaration code));
+        confirmations = λ code. omega (arith, made (is_confirmation code));
+        accepted = λ test. omega (arith, said-no_user read m.answer (Answer m.link last) m.answers refl test);
+        received = λ test. omega (arith, said-no_user read m.heard.message (Order m.link m.number) m.heard.says refl test);
+      })
+      h.lines h)
+
+  pub sound-completes_by_answer : CompletesByAnswer read p q → Sound read p → Sound read q
+  sound-completes_by_answer m h =
+      let z : Line = p.line m.link in
+      let y : Line = with_completion z false in
+      let behind : List Message = drop m.count z.near.queue.all in
+      let s : Side = record p.near { arrived = m.heard.rest; held = users_of read behind ++ p.near.held; loose = p.near.loose ++ managements_of read behind; holds = m.holds } in
+      let t : Tells p m.link m.number = answer-tells read p m.link m.number m.heard.message m.heard.rest m.heard.first m.heard.says h in
+      let e : m.count ≡ z.far.queue.received = names-received read p m.link m.number m.count t m.incomplete m.named h in
+      let down : z.near.up ≡ false = (h.lines m.link).near.incomplete m.incomplete in
+      let looked : (test : Saying → Bool) → count_by (saying read test) (m.heard.message ∷ []) ≡ one_if (test (Answer m.link m.number)) = said read m.heard.message (Answer m.link m.number) m.heard.says in
+      subst (Sound read) (sym m.after)
+      (kept-sound read p (record p { line = m.lines; near = s }) [] (m.heard.message ∷ [])
+      (books-line p m.link y m.lines m.set s [] (m.heard.message ∷ [])
+      (λ test. omega (
+        arith,
+        count-append test (users_of read behind) p.near.held,
+        count-append test p.near.loose (managements_of read behind),
+        moved-counts read p m.link m.count e test,
+        count-beyond test z.far.queue.received,
+      ))
+      (λ test. omega (arith, count-first test p.near.arrived m.heard.message m.heard.rest m.heard.first, count-one test m.heard.message)))
+      (record {
+        far = refl;
+        orders = each-line p m.link y m.lines m.set
+            (λ k x. 0 + one_if (p.line k).near.awaited ≤ one_if x.near.awaited + count_by (saying read (is_answer k)) (m.heard.message ∷ []))
+            (λ k d. omega arith) (omega (arith, looked (is_answer m.link), one-said (nat_eq m.link m.link) (same-link m.link), one-said z.near.awaited m.awaited));
+        answers = each-line p m.link y m.lines m.set
+            (λ k x. 0 + one_if (p.line k).far.awaited ≤ one_if x.far.awaited + count_by (saying read (is_order k)) (m.heard.message ∷ []))
+            (λ k d. omega arith) (omega arith);
+        truth = each-line p m.link y m.lines m.set (λ k x. under_way (untrue_of read k x.near) p + 0 ≡ 0)
+            (λ k d. omega (arith, h.there.words k)) (omega (arith, h.there.words m.link));
+        far_truth = each-line p m.link y m.lines m.set (λ k x. under_way (untrue_of read k x.far) (turned p) ≡ 0) (λ k d. h.back.words k) (h.back.words m.link);
+        declarations = λ code. omega arith;
+        confirmations = λ code. omega arith;
+        accepted = λ test. omega arith;
+        received = λ test. omega (arith, said-no_user read m.heard.message (Answer m.link m.number) m.heard.says refl test);
+      })
+      (each-line p m.link y m.lines m.set (λ k x. IsLine x) (λ k d. h.lines k) (line-completion z false down t.far_down (h.lines m.link)))
+      h)
+
+  pub sound-ends_wait : EndsWait read p q → Sound read p → Sound read q
+  sound-ends_wait m h =
+      let z : Line = p.line m.link in
+      let y : Line = without_wait z in
+      let s : Side = record p.near { arrived = m.heard.rest } in
+      let looked : (test : Saying → Bool) → count_by (saying read test) (m.heard.message ∷ []) ≡ one_if (test (Answer m.link m.number)) = said read m.heard.message (Answer m.link m.number) m.heard.says in
+      subst (Sound read) (sym m.after)
+      (kept-sound read p (record p { line = m.lines; near = s }) [] (m.heard.message ∷ [])
+      (books-line p m.link y m.lines m.set s [] (m.heard.message ∷ []) (λ test. omega arith)
+      (λ test. omega (arith, count-first test p.near.arrived m.heard.message m.heard.rest m.heard.first, count-one test m.heard.message)))
+      (record {
+        far = refl;
+        orders = each-line p m.link y m.lines m.set
+            (λ k x. 0 + one_if (p.line k).near.awaited ≤ one_if x.near.awaited + count_by (saying read (is_answer k)) (m.heard.message ∷ []))
+            (λ k d. omega arith) (omega (arith, looked (is_answer m.link), one-said (nat_eq m.link m.link) (same-link m.link), one-said z.near.awaited m.awaited));
+        answers = each-line p m.link y m.lines m.set
+            (λ k x. 0 + one_if (p.line k).far.awaited ≤ one_if x.far.awaited + count_by (saying read (is_order k)) (m.heard.message ∷ []))
+            (λ k d. omega arith) (omega arith);
+        truth = each-line p m.link y m.lines m.set (λ k x. under_way (untrue_of read k x.near) p + 0 ≡ 0)
+            (λ k d. omega (arith, h.there.words k)) (omega (arith, h.there.words m.link));
+        far_truth = each-line p m.link y m.lines m.set (λ k x. under_way (untrue_of read k x.far) (turned p) ≡ 0) (λ k d. h.back.words k) (h.back.words m.link);
+        declarations = λ code. omega arith;
+        confirmations = λ code. omega arith;
+        accepted = λ test. omega arith;
+        received = λ test. omega (arith, said-no_user read m.heard.message (Answer m.link m.number) m.heard.says refl test);
+      })
+      (each-line p m.link y m.lines m.set (λ k x. IsLine x) (λ k d. h.lines k) (line-unawaited z (h.lines m.link)))
+      h)
+
+  -- a message that is no user message is looked at, and nothing else comes of it
+  pub sound-ignores : (m : Message) (s : Saying) (rest : List Message) → p.near.arrived ≡ m ∷ rest → read m ≡ s → is_user_message s ≡ false →
+      Sound read p → Sound read (record p { near = record p.near { arrived = rest } })
+  sound-ignores m s rest first says other h =
+      kept-sound read p (record p { near = record p.near { arrived = rest } }) [] (m ∷ [])
+      (books-side p (record p.near { arrived = rest }) [] (m ∷ []) (λ test. omega arith) (λ test. omega (arith, count-first test p.near.arrived m rest first, count-one test m)))
+      (record {
+        far = refl;
+        orders = λ k. omega arith;
+        answers = λ k. omega arith;
+        truth = λ k. omega (arith, h.there.words k);
+        far_truth = λ k. h.back.words k;
+        declarations = λ code. omega arith;
+        confirmations = λ code. omega arith;
+        accepted = λ test. omega arith;
+        received = λ test. omega (arith, said-no_user read m s says other test);
+      })
+      h.lines h
+
+  pub sound-ignores_answer : IgnoresAnswer read p q → Sound read p → Sound read q
+  sound-ignores_answer m h = subst (Sound read) (sym m.after) (sound-ignores m.heard.message (Answer m.link m.number) m.heard.rest m.heard.first m.heard.says refl h)

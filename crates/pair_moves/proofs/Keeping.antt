@@ -1,0 +1,145 @@
+-- Every list of moves keeps all laws.
+use Rattle.std.proofs.Common.{◌≡◌, ◌⊎◌, inl, inr, ℕ, true, List, [], ◌∷◌, refl, ap, ◌∙◌}
+use Rattle.signalling_types.specs.Message.{Message}
+use Rattle.signalling_types.specs.declared.point.Flow.{Flow}
+use Rattle.pair_moves.specs.Sayings.{Saying}
+use Rattle.pair_moves.specs.Ends.{Pair, turned, first_pair}
+use Rattle.pair_moves.specs.Moves as moves
+use Rattle.pair_moves.specs.Moves.{NearMove, Move, Moves, last_of}
+use Rattle.pair_moves.specs.Order.{IsInOrder}
+use Rattle.pair_moves.proofs.Lines.{line-turned}
+use Rattle.pair_moves.proofs.Sound.{Sound}
+use Rattle.pair_moves.proofs.First.{sound-first_pair, order-first_pair}
+use Rattle.pair_moves.proofs.Passed.{sound-accepts, sound-takes_out, sound-keeps, sound-places, sound-hands_over, sound-sends_status, sound-sends_message, sound-sends_empty, sound-drops, sound-takes_empty, sound-takes_message}
+use Rattle.pair_moves.proofs.Failed.{sound-falls, sound-falls_with_order, sound-completes_by_order, sound-answers_order, sound-completes_by_answer, sound-ends_wait, sound-ignores_answer}
+use Rattle.pair_moves.proofs.Returned.{sound-opens, sound-enters, sound-declares, sound-waits, sound-confirms, sound-ends_hold, sound-ignores_confirmation, sound-runs_late}
+use Rattle.pair_moves.proofs.OrderPassed as passed
+use Rattle.pair_moves.proofs.OrderPlaced as placed
+use Rattle.pair_moves.proofs.OrderFailed as failed
+use Rattle.pair_moves.proofs.OrderReturned as returned
+
+module _ (read : Message → Saying) where
+  -- each flow is in order, or a hold was ended by its timer
+  abbrev pub Ordered : Pair → Type 0
+  Ordered p = (p.near.late ≡ true) ⊎ ((flow : Flow) → IsInOrder read flow p)
+
+  pub record AllLaws (p : Pair) : Type 0 where
+    pub sound : Sound read p
+    pub there : Ordered p
+    pub back : Ordered (turned p)
+
+  -- a node lost something, or all laws hold
+  pub data IsKept (p : Pair) : Type 0 where
+    near_lost : p.near.lost ≡ true → IsKept p
+    far_lost : p.far.lost ≡ true → IsKept p
+    all_kept : AllLaws p → IsKept p
+
+  pub turned-laws : (p : Pair) → AllLaws p → AllLaws (turned p)
+  turned-laws p h = record {
+    sound = record { lines = λ link. line-turned (p.line link) (h.sound.lines link); there = h.sound.back; back = h.sound.there };
+    there = h.back;
+    back = h.there;
+  }
+
+  turned-kept : (p : Pair) → IsKept p → IsKept (turned p)
+  turned-kept p (near_lost e) = far_lost e
+  turned-kept p (far_lost e) = near_lost e
+  turned-kept p (all_kept h) = all_kept (turned-laws p h)
+
+  -- ---- one move
+
+  order-on : (p q : Pair) → q.near.late ≡ p.near.late → ((flow : Flow) → IsInOrder read flow p → IsInOrder read flow q) → Ordered p → Ordered q
+  order-on p q late step (inl e) = inl (late ∙ e)
+  order-on p q late step (inr h) = inr (λ flow. step flow (h flow))
+
+  -- a move that raises no flag
+  step : (p q x : Pair) → q ≡ x → x.near.lost ≡ p.near.lost → x.far.lost ≡ p.far.lost → x.near.late ≡ p.near.late → x.far.late ≡ p.far.late →
+      (Sound read p → Sound read q) →
+      ((flow : Flow) → Sound read p → IsInOrder read flow p → IsInOrder read flow q) →
+      ((flow : Flow) → Sound read p → IsInOrder read flow (turned p) → IsInOrder read flow (turned q)) →
+      IsKept p → IsKept q
+  step p q x after lost far_lost' late far_late sound there back (near_lost e) = near_lost (ap (λ (y : Pair). y.near.lost) after ∙ lost ∙ e)
+  step p q x after lost far_lost' late far_late sound there back (far_lost e) = far_lost (ap (λ (y : Pair). y.far.lost) after ∙ far_lost' ∙ e)
+  step p q x after lost far_lost' late far_late sound there back (all_kept h) = all_kept (record {
+    sound = sound h.sound;
+    there = order-on p q (ap (λ (y : Pair). y.near.late) after ∙ late) (λ flow. there flow h.sound) h.there;
+    back = order-on (turned p) (turned q) (ap (λ (y : Pair). y.far.late) after ∙ far_late) (λ flow. back flow h.sound) h.back;
+  })
+
+  late-step : (p q : Pair) → moves.RunsLate p q → IsKept p → IsKept q
+  late-step p q m (near_lost e) = near_lost (ap (λ (y : Pair). y.near.lost) m.after ∙ e)
+  late-step p q m (far_lost e) = far_lost (ap (λ (y : Pair). y.far.lost) m.after ∙ e)
+  late-step p q m (all_kept h) = all_kept (record {
+    sound = sound-runs_late read p q m h.sound;
+    there = inl (ap (λ (y : Pair). y.near.late) m.after);
+    back = order-on (turned p) (turned q) (ap (λ (y : Pair). y.far.late) m.after) (λ flow. returned.back-runs_late read flow p q m) h.back;
+  })
+
+  near-kept : (p q : Pair) → NearMove read p q → IsKept p → IsKept q
+  near-kept p q (moves.accepts m) =
+      step p q _ m.after refl refl refl refl (sound-accepts read p q m) (λ f s. passed.order-accepts read f p q m) (λ f s. passed.back-accepts read f p q m)
+  near-kept p q (moves.takes_out m) =
+      step p q _ m.after refl refl refl refl (sound-takes_out read p q m) (λ f s. passed.order-takes_out read f p q m) (λ f s. passed.back-takes_out read f p q m)
+  near-kept p q (moves.keeps m) =
+      step p q _ m.after refl refl refl refl (sound-keeps read p q m) (λ f s. passed.order-keeps read f p q m) (λ f s. passed.back-keeps read f p q m)
+  near-kept p q (moves.places m) =
+      step p q _ m.after refl refl refl refl (sound-places read p q m) (λ f s. placed.order-places read f p q m s) (λ f s. placed.back-places read f p q m)
+  near-kept p q (moves.hands_over m) =
+      step p q _ m.after refl refl refl refl (sound-hands_over read p q m) (λ f s. passed.order-hands_over read f p q m) (λ f s. passed.back-hands_over read f p q m)
+  near-kept p q (moves.sends_status m) =
+      step p q _ m.after refl refl refl refl (sound-sends_status read p q m) (λ f s. passed.order-sends_status read f p q m) (λ f s. passed.back-sends_status read f p q m)
+  near-kept p q (moves.sends_message m) =
+      step p q _ m.after refl refl refl refl (sound-sends_message read p q m) (λ f s. passed.order-sends_message read f p q m) (λ f s. passed.back-sends_message read f p q m)
+  near-kept p q (moves.sends_empty m) =
+      step p q _ m.after refl refl refl refl (sound-sends_empty read p q m) (λ f s. passed.order-sends_empty read f p q m) (λ f s. passed.back-sends_empty read f p q m)
+  near-kept p q (moves.drops m) =
+      step p q _ m.after refl refl refl refl (sound-drops read p q m) (λ f s. passed.order-drops read f p q m) (λ f s. passed.back-drops read f p q m)
+  near-kept p q (moves.takes_empty m) =
+      step p q _ m.after refl refl refl refl (sound-takes_empty read p q m) (λ f s. passed.order-takes_empty read f p q m) (λ f s. passed.back-takes_empty read f p q m)
+  near-kept p q (moves.takes_message m) =
+      step p q _ m.after refl refl refl refl (sound-takes_message read p q m) (λ f s. passed.order-takes_message read f p q m) (λ f s. placed.back-takes_message read f p q m s)
+  near-kept p q (moves.falls m) =
+      step p q _ m.after refl refl refl refl (sound-falls read p q m) (λ f s. failed.order-falls read f p q m s) (λ f s. failed.back-falls read f p q m)
+  near-kept p q (moves.falls_with_order m) =
+      step p q _ m.after refl refl refl refl (sound-falls_with_order read p q m) (λ f s. failed.order-falls_with_order read f p q m s) (λ f s. failed.back-falls_with_order read f p q m)
+  near-kept p q (moves.completes_by_order m) =
+      step p q _ m.after refl refl refl refl (sound-completes_by_order read p q m) (λ f s. failed.order-completes_by_order read f p q m s) (λ f s. failed.back-completes_by_order read f p q m)
+  near-kept p q (moves.answers_order m) =
+      step p q _ m.after refl refl refl refl (sound-answers_order read p q m) (λ f s. failed.order-answers_order read f p q m) (λ f s. failed.back-answers_order read f p q m)
+  near-kept p q (moves.completes_by_answer m) =
+      step p q _ m.after refl refl refl refl (sound-completes_by_answer read p q m) (λ f s. failed.order-completes_by_answer read f p q m s) (λ f s. failed.back-completes_by_answer read f p q m)
+  near-kept p q (moves.ends_wait m) =
+      step p q _ m.after refl refl refl refl (sound-ends_wait read p q m) (λ f s. failed.order-ends_wait read f p q m) (λ f s. failed.back-ends_wait read f p q m)
+  near-kept p q (moves.ignores_answer m) =
+      step p q _ m.after refl refl refl refl (sound-ignores_answer read p q m) (λ f s. failed.order-ignores_answer read f p q m) (λ f s. failed.back-ignores_answer read f p q m)
+  near-kept p q (moves.opens m) =
+      step p q _ m.after refl refl refl refl (sound-opens read p q m) (λ f s. returned.order-opens read f p q m s) (λ f s. returned.back-opens read f p q m s)
+  near-kept p q (moves.enters m) =
+      step p q _ m.after refl refl refl refl (sound-enters read p q m) (λ f s. returned.order-enters read f p q m) (λ f s. returned.back-enters read f p q m)
+  near-kept p q (moves.declares m) =
+      step p q _ m.after refl refl refl refl (sound-declares read p q m) (λ f s. returned.order-declares read f p q m s) (λ f s. returned.back-declares read f p q m)
+  near-kept p q (moves.waits_for_time m) =
+      step p q _ m.after refl refl refl refl (sound-waits read p q m) (λ f s. returned.order-waits read f p q m) (λ f s. returned.back-waits read f p q m)
+  near-kept p q (moves.confirms m) =
+      step p q _ m.after refl refl refl refl (sound-confirms read p q m) (λ f s. returned.order-confirms read f p q m) (λ f s. returned.back-confirms read f p q m)
+  near-kept p q (moves.ends_hold m) =
+      step p q _ m.after refl refl refl refl (sound-ends_hold read p q m) (λ f s. returned.order-ends_hold read f p q m s) (λ f s. returned.back-ends_hold read f p q m)
+  near-kept p q (moves.ignores_confirmation m) =
+      step p q _ m.after refl refl refl refl (sound-ignores_confirmation read p q m) (λ f s. returned.order-ignores_confirmation read f p q m) (λ f s. returned.back-ignores_confirmation read f p q m)
+  near-kept p q (moves.runs_late m) = late-step p q m
+  near-kept p q (moves.loses m) = λ h. near_lost m.lost
+
+  pub move-kept : (p q : Pair) → Move read p q → IsKept p → IsKept q
+  move-kept p q (moves.near m) h = near-kept p q m h
+  move-kept p q (moves.far m) h = turned-kept (turned q) (near-kept (turned p) (turned q) m (turned-kept p h))
+
+  -- ---- a list of moves
+
+  pub moves-kept : (p : Pair) (pairs : List Pair) → Moves read p pairs → IsKept p → IsKept (last_of p pairs)
+  moves-kept p [] m h = h
+  moves-kept p (q ∷ pairs) m h = moves-kept q pairs m.1 (move-kept p q m.0 h)
+
+  pub all-kept : (links : ℕ) (pairs : List Pair) → Moves read (first_pair links) pairs → IsKept (last_of (first_pair links) pairs)
+  all-kept links pairs m =
+      moves-kept (first_pair links) pairs m
+      (all_kept (record { sound = sound-first_pair read links; there = inr (order-first_pair read links); back = inr (order-first_pair read links) }))

@@ -1,0 +1,182 @@
+-- A line whose ends and frames agree with law (i), and what the near end's messages and frames keep
+-- of it.
+use Rattle.std.proofs.Common.{◌≡◌, ℕ, Bool, true, false, ◌+◌, ◌-◌, ◌≤◌, ◌<◌, ◌||◌, [], ◌∷◌, ◌++◌, length, slice_get, nat_lt, refl, sym, ◌∙◌, subst, arith, Option, Some, None, if◌then◌else◌}
+use Rattle.std.proofs.lemmas.Bool.Decides.{nat_tests}
+use Rattle.std.proofs.lemmas.Option.{slice_get_within}
+use Rattle.signalling_types.specs.Message.{Message}
+use Rattle.signalling_types.specs.declared.limits.TheConstants.Limits.{WINDOW}
+use Rattle.link_sequence.specs.Queue.{Queue, IsQueue, Sending, forward_number, numbered, to_send, after_sending, last_sent, last_accepted}
+use Rattle.link_sequence.proofs.Sound.{sound-appended}
+use Rattle.pair_moves.specs.Ends.{StatusFrame, EmptyFrame, MessageFrame, Line, turned_line}
+use Rattle.pair_moves.specs.Passing.{with_message}
+use Rattle.pair_moves.specs.Carrying.{with_frame, with_sent}
+use Rattle.pair_moves.specs.Flowing.{Carry, Flows, IsFlowing, IsEnd}
+use Rattle.pair_moves.proofs.Frames.{carry-appended, carry-status, carry-empty, carry-message, name-status, name-empty, name-message}
+
+pub record IsLine (z : Line) : Type 0 where
+  pub near : IsEnd z.near
+  pub far : IsEnd z.far
+  pub there : IsFlowing z
+  pub back : IsFlowing (turned_line z)
+
+pub line-turned : (z : Line) → IsLine z → IsLine (turned_line z)
+line-turned z h = record { near = h.far; far = h.near; there = h.back; back = h.there }
+
+-- ---- tests
+
+pub false_is_true : {A : Type 0} → false ≡ true → A
+false_is_true e = absurd cc
+
+pub true_is_false : {A : Type 0} → true ≡ false → A
+true_is_false e = absurd cc
+
+pub both : {A : Type 0} {b : Bool} → b ≡ true → b ≡ false → A
+both t f = true_is_false (sym t ∙ f)
+
+pub or-first : (a b c : Bool) → a ≡ true → (a || b || c) ≡ true
+or-first true b c e = refl
+or-first false b c e = false_is_true e
+
+pub or-second : (a b c : Bool) → b ≡ true → (a || b || c) ≡ true
+or-second true b c e = refl
+or-second false true c e = refl
+or-second false false c e = false_is_true e
+
+pub or-third : (a b c : Bool) → c ≡ true → (a || b || c) ≡ true
+or-third true b c e = refl
+or-third false true c e = refl
+or-third false false c e = e
+
+pub none-of : {A : Type 0} (a b c : Bool) → a ≡ false → b ≡ false → c ≡ false → (a || b || c) ≡ true → A
+none-of true b c ea eb ec e = true_is_false ea
+none-of false true c ea eb ec e = true_is_false eb
+none-of false false c ea eb ec e = both e ec
+
+pub none-first : (a b c : Bool) → (a || b || c) ≡ false → a ≡ false
+none-first true b c e = e
+none-first false b c e = refl
+
+pub none-second : (a b c : Bool) → (a || b || c) ≡ false → b ≡ false
+none-second true b c e = true_is_false e
+none-second false true c e = e
+none-second false false c e = refl
+
+pub none-of_two : (a b : Bool) → a ≡ false → b ≡ false → (a || b) ≡ false
+none-of_two true b e f = e
+none-of_two false b e f = f
+
+-- a flag that would make another true, or another false
+pub not-without : (b : Bool) {up : Bool} → (b ≡ true → up ≡ true) → up ≡ false → b ≡ false
+not-without true f down = both (f refl) down
+not-without false f down = refl
+
+pub not-beside : (b : Bool) {up : Bool} → (b ≡ true → up ≡ false) → up ≡ true → b ≡ false
+not-beside true f up = both up (f refl)
+not-beside false f up = refl
+
+pub busy : {A : Type 0} (a b : Bool) → a ≡ true → (a || b) ≡ false → A
+busy true b s e = true_is_false e
+busy false b s e = false_is_true s
+
+-- ---- the near end gets a message, and sends
+
+pub line-message : (z : Line) (m : Message) → z.near.serving ≡ true → IsLine z → IsLine (with_message z m)
+line-message z m serving h = record {
+  near = record { queue = sound-appended z.near.queue m h.near.queue; base = h.near.base; serving = h.near.serving; incomplete = h.near.incomplete; awaited = h.near.awaited; idle = busy z.near.serving z.near.incomplete serving };
+  far = h.far;
+  there = λ e. let f : Flows z = h.there e in
+      record { confirmed = f.confirmed; received = f.received; carried = λ u. carry-appended z.near.queue m z.far.queue.received z.to_far (f.carried u); named = f.named };
+  back = λ e. let f : Flows (turned_line z) = h.back e in
+      record { confirmed = f.confirmed; received = f.received; carried = f.carried; named = f.named };
+}
+
+pub line-status : (z : Line) → IsLine z → IsLine (with_frame z StatusFrame)
+line-status z h = record {
+  near = h.near;
+  far = h.far;
+  there = λ e. let f : Flows z = h.there e in
+      record { confirmed = f.confirmed; received = f.received; carried = λ u. carry-status z.near.queue z.far.queue.received z.to_far (f.carried u); named = f.named };
+  back = λ e. let f : Flows (turned_line z) = h.back e in
+      record { confirmed = f.confirmed; received = f.received; carried = f.carried; named = λ u. name-status z.far.queue.confirmed z.near.queue.received z.to_far (f.named u) };
+}
+
+pub line-empty : (z : Line) → IsLine z → IsLine (with_frame z (EmptyFrame (last_sent z.near.queue) (last_accepted z.near.queue)))
+line-empty z h = record {
+  near = h.near;
+  far = h.far;
+  there = λ e. let f : Flows z = h.there e in
+      record { confirmed = f.confirmed; received = f.received; carried = λ u. carry-empty z.near.queue (last_accepted z.near.queue) z.far.queue.received z.to_far (f.carried u); named = f.named };
+  back = λ e. let f : Flows (turned_line z) = h.back e in
+      record {
+        confirmed = f.confirmed;
+        received = f.received;
+        carried = f.carried;
+        named = λ u. name-empty (last_sent z.near.queue) z.far.queue.confirmed z.near.queue.received z.to_far f.confirmed (f.named u);
+      };
+}
+
+-- what goes out is the first message that wasn't sent
+record IsNext (q : Queue) (window : ℕ) (sending : Sending) : Type 0 where
+  pub room : q.sent - q.confirmed < window
+  pub number : forward_number q q.sent ≡ sending.number
+  pub message : slice_get q.all q.sent ≡ Some sending.message
+
+next-number : (number : ℕ) (o : Option Message) (s : Sending) → numbered number o ≡ Some s → number ≡ s.number
+next-number number (Some m) s e = grind arith
+next-number number None s e = grind arith
+
+next-message : (number : ℕ) (o : Option Message) (s : Sending) → numbered number o ≡ Some s → o ≡ Some s.message
+next-message number (Some m) s e = grind arith
+next-message number None s e = grind arith
+
+room-there : (room : Bool) (number : ℕ) (o : Option Message) (s : Sending) → (if room then numbered number o else None) ≡ Some s → room ≡ true
+room-there true number o s e = refl
+room-there false number o s e = grind arith
+
+numbered-there : (room : Bool) (number : ℕ) (o : Option Message) (s : Sending) → (if room then numbered number o else None) ≡ Some s → numbered number o ≡ Some s
+numbered-there true number o s e = e
+numbered-there false number o s e = grind arith
+
+below-window : (outstanding window : ℕ) → nat_lt outstanding window ≡ true → outstanding < window
+below-window outstanding window e = grind (arith, nat_tests)
+
+is-next : (q : Queue) (window : ℕ) (s : Sending) → to_send q window ≡ Some s → IsNext q window s
+is-next q window s e =
+    let n : numbered (forward_number q q.sent) (slice_get q.all q.sent) ≡ Some s =
+    numbered-there (nat_lt (q.sent - q.confirmed) window) (forward_number q q.sent) (slice_get q.all q.sent) s e in
+    record {
+      room = below-window (q.sent - q.confirmed) window (room-there (nat_lt (q.sent - q.confirmed) window) (forward_number q q.sent) (slice_get q.all q.sent) s e);
+      number = next-number (forward_number q q.sent) (slice_get q.all q.sent) s n;
+      message = next-message (forward_number q q.sent) (slice_get q.all q.sent) s n;
+    }
+
+queue-sent : (q : Queue) (window : ℕ) (s : Sending) → window ≤ WINDOW → IsQueue WINDOW q → IsNext q window s → IsQueue WINDOW (after_sending q (Some s))
+queue-sent q window s small h n =
+    let l : q.sent < length q.all = slice_get_within q.all q.sent s.message n.message in
+    record { confirmed = omega (arith, h.confirmed); sent = omega (arith, l); window = omega (arith, n.room, small, h.confirmed); limit = h.limit }
+
+pub line-sent : (z : Line) (window : ℕ) (s : Sending) → window ≤ WINDOW → to_send z.near.queue window ≡ Some s → z.near.serving ≡ true →
+    IsLine z → IsLine (with_sent z s)
+line-sent z window s small e serving h =
+    let n : IsNext z.near.queue window s = is-next z.near.queue window s e in
+    record {
+      near = record { queue = queue-sent z.near.queue window s small h.near.queue n; base = h.near.base; serving = h.near.serving; incomplete = h.near.incomplete; awaited = h.near.awaited; idle = h.near.idle };
+      far = h.far;
+      there = λ t. let f : Flows z = h.there t in
+          record {
+            confirmed = f.confirmed;
+            received = omega (arith, f.received);
+            named = f.named;
+            carried = λ u.
+                subst (λ number. Carry (record z.near.queue { sent = z.near.queue.sent + 1 }) z.far.queue.received
+                (z.to_far ++ MessageFrame number (last_accepted z.near.queue) s.message ∷ []))
+                n.number (carry-message z.near.queue s.message (last_accepted z.near.queue) z.far.queue.received z.to_far n.message (f.carried u));
+          };
+      back = λ t. let f : Flows (turned_line z) = h.back t in
+          record {
+            confirmed = f.confirmed;
+            received = f.received;
+            carried = f.carried;
+            named = λ u. name-message s.number s.message z.far.queue.confirmed z.near.queue.received z.to_far f.confirmed (f.named u);
+          };
+    }

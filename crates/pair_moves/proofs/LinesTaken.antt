@@ -1,0 +1,101 @@
+-- A frame that comes to the near end keeps law (i).
+use Rattle.std.proofs.Common.{◌≡◌, ◌⊎◌, inl, inr, ℕ, Bool, true, false, ◌+◌, List, ◌∷◌, slice_get, ap, sym, ◌∙◌, subst, arith, Some, Ok}
+use Rattle.signalling_types.specs.Message.{Message}
+use Rattle.signalling_types.specs.declared.limits.TheConstants.Limits.{WINDOW}
+use Rattle.link_sequence.specs.Queue.{Queue, IsQueue, accept_answer, after_answer}
+use Rattle.link_sequence.proofs.Sound.{sound-accepted}
+use Rattle.pair_moves.specs.Ends.{Frame, StatusFrame, EmptyFrame, MessageFrame, Line, turned_line}
+use Rattle.pair_moves.specs.Carrying.{with_frames_left, with_accepted}
+use Rattle.pair_moves.specs.Flowing.{Carry, Name, Flows}
+use Rattle.pair_moves.proofs.Frames.{carry-below, name-more, count-confirmed}
+use Rattle.pair_moves.proofs.Lines.{IsLine, both, or-first, or-third}
+
+pub line-left : (z : Line) (frame : Frame) (rest : List Frame) → z.to_near ≡ frame ∷ rest → (z.near.up ≡ false) ⊎ (frame ≡ StatusFrame) →
+    IsLine z → IsLine (with_frames_left z rest)
+line-left z frame rest first (inl down) h = record {
+  near = h.near;
+  far = h.far;
+  there = λ e. let f : Flows z = h.there e in
+      record { confirmed = f.confirmed; received = f.received; carried = f.carried; named = λ u. both u down };
+  back = λ e. let f : Flows (turned_line z) = h.back e in
+      record { confirmed = f.confirmed; received = f.received; carried = λ u. both u down; named = f.named };
+}
+line-left z frame rest first (inr silent) h =
+    let is : z.to_near ≡ StatusFrame ∷ rest = first ∙ ap (λ x. x ∷ rest) silent in
+    record {
+      near = h.near;
+      far = h.far;
+      there = λ e. let f : Flows z = h.there e in
+          record {
+            confirmed = f.confirmed;
+            received = f.received;
+            carried = f.carried;
+            named = λ u. subst (Name z.near.queue.confirmed z.far.queue.received) is (f.named u);
+          };
+      back = λ e. let f : Flows (turned_line z) = h.back e in
+          record {
+            confirmed = f.confirmed;
+            received = f.received;
+            named = f.named;
+            carried = λ u. subst (Carry z.far.queue z.near.queue.received) is (f.carried u);
+          };
+    }
+
+queue-accepted : (q : Queue) (fsn bsn : ℕ) (carries : Bool) (count : ℕ) → accept_answer q fsn bsn carries ≡ Ok count → IsQueue WINDOW q →
+    IsQueue WINDOW (after_answer q carries (Ok count))
+queue-accepted q fsn bsn carries count e h = subst (λ r. IsQueue WINDOW (after_answer q carries r)) e (sound-accepted q fsn bsn carries h)
+
+pub line-taken_empty : (z : Line) (fsn bsn : ℕ) (rest : List Frame) (count : ℕ) → z.to_near ≡ EmptyFrame fsn bsn ∷ rest → z.near.up ≡ true →
+    accept_answer z.near.queue fsn bsn false ≡ Ok count → IsLine z → IsLine (with_accepted z rest false count)
+line-taken_empty z fsn bsn rest count first up e h =
+    let f : Flows z = h.there (or-first z.near.up z.near.incomplete z.far.up up) in
+    let b : Flows (turned_line z) = h.back (or-third z.far.up z.far.incomplete z.near.up up) in
+    let n : Name z.near.queue.confirmed z.far.queue.received (EmptyFrame fsn bsn ∷ rest) = subst (Name z.near.queue.confirmed z.far.queue.received) first (f.named up) in
+    let c : Carry z.far.queue z.near.queue.received (EmptyFrame fsn bsn ∷ rest) = subst (Carry z.far.queue z.near.queue.received) first (b.carried up) in
+    let is : z.near.queue.confirmed + count ≡ n.0 = count-confirmed z.near.queue fsn n.0 false count h.near.queue h.near.base n.1 (omega (arith, n.2, f.received))
+    (subst (λ number. accept_answer z.near.queue fsn number false ≡ Ok count) n.3 e) in
+    record {
+      near = record { queue = queue-accepted z.near.queue fsn bsn false count e h.near.queue; base = h.near.base; serving = h.near.serving; incomplete = h.near.incomplete; awaited = h.near.awaited; idle = h.near.idle };
+      far = h.far;
+      there = λ t. record {
+        confirmed = omega (arith, is, n.2);
+        received = f.received;
+        carried = f.carried;
+        named = λ u. subst (λ from. Name from z.far.queue.received rest) (sym is) n.4;
+      };
+      back = λ t. record { confirmed = b.confirmed; received = b.received; carried = λ u. c.1; named = b.named };
+    }
+
+pub line-taken_message : (z : Line) (fsn bsn : ℕ) (m : Message) (rest : List Frame) (count : ℕ) → z.to_near ≡ MessageFrame fsn bsn m ∷ rest →
+    z.near.up ≡ true → accept_answer z.near.queue fsn bsn true ≡ Ok count → IsLine z → IsLine (with_accepted z rest true count)
+line-taken_message z fsn bsn m rest count first up e h =
+    let f : Flows z = h.there (or-first z.near.up z.near.incomplete z.far.up up) in
+    let b : Flows (turned_line z) = h.back (or-third z.far.up z.far.incomplete z.near.up up) in
+    let n : Name z.near.queue.confirmed z.far.queue.received (MessageFrame fsn bsn m ∷ rest) = subst (Name z.near.queue.confirmed z.far.queue.received) first (f.named up) in
+    let c : Carry z.far.queue z.near.queue.received (MessageFrame fsn bsn m ∷ rest) = subst (Carry z.far.queue z.near.queue.received) first (b.carried up) in
+    let is : z.near.queue.confirmed + count ≡ n.0 = count-confirmed z.near.queue fsn n.0 true count h.near.queue h.near.base n.1 (omega (arith, n.2, f.received))
+    (subst (λ number. accept_answer z.near.queue fsn number true ≡ Ok count) n.3 e) in
+    record {
+      near = record { queue = queue-accepted z.near.queue fsn bsn true count e h.near.queue; base = h.near.base; serving = h.near.serving; incomplete = h.near.incomplete; awaited = h.near.awaited; idle = h.near.idle };
+      far = h.far;
+      there = λ t. record {
+        confirmed = omega (arith, is, n.2);
+        received = f.received;
+        carried = f.carried;
+        named = λ u. subst (λ from. Name from z.far.queue.received rest) (sym is) n.4;
+      };
+      back = λ t. record {
+        confirmed = omega (arith, b.confirmed);
+        received = carry-below z.far.queue (z.near.queue.received + 1) rest c.2;
+        carried = λ u. c.2;
+        named = λ u. name-more z.far.queue.confirmed z.near.queue.received z.to_far (b.named u);
+      };
+    }
+
+-- the message is the first that the near end lacked
+pub taken_message-is : (z : Line) (fsn bsn : ℕ) (m : Message) (rest : List Frame) → z.to_near ≡ MessageFrame fsn bsn m ∷ rest →
+    z.near.up ≡ true → IsLine z → slice_get z.far.queue.all z.near.queue.received ≡ Some m
+taken_message-is z fsn bsn m rest first up h =
+    let b : Flows (turned_line z) = h.back (or-third z.far.up z.far.incomplete z.near.up up) in
+    let c : Carry z.far.queue z.near.queue.received (MessageFrame fsn bsn m ∷ rest) = subst (Carry z.far.queue z.near.queue.received) first (b.carried up) in
+    c.1

@@ -1,0 +1,11 @@
+use Rattle.pair_moves.proofs.Concluded.{lines_flow-always, ends_are_sound-always, messages_come-always}
+use Rattle.pair_moves.proofs.laws.frames_carry_what_was_not_received.Goals as goal
+
+pub returns-clause-carried : goal.returns-clause-carried
+returns-clause-carried c = lines_flow-always
+
+pub returns-clause-ends : goal.returns-clause-ends
+returns-clause-ends c = ends_are_sound-always
+
+pub returns-clause-taken : goal.returns-clause-taken
+returns-clause-taken c = messages_come-always

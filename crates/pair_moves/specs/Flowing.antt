@@ -1,0 +1,69 @@
+-- What frames in flight carry from one end of a link to the other, and back.
+use Rattle.std.specs.Prelude.{◌≡◌, ℕ, Bool, true, false, ◌+◌, ◌≤◌, ◌||◌, List, [], ◌∷◌, slice_get, drop}
+use Rattle.std.specs.Prelude.{Some, unwrap_or}
+use Rattle.signalling_types.specs.Message.{Message}
+use Rattle.signalling_types.specs.declared.limits.TheConstants.Limits.{WINDOW}
+use Rattle.link_number.specs.Numbers.{previous_number}
+use Rattle.link_sequence.specs.Queue.{Queue, IsQueue, forward_number, named_count, last_accepted}
+use Rattle.pair_moves.specs.Ends.{Frame, StatusFrame, EmptyFrame, MessageFrame, LinkEnd, Line, unreceived}
+
+-- frames carry the messages of a queue from one count on, in order, up to the last that was sent
+abbrev pub Carry : Queue → ℕ → List Frame → Type 0
+Carry q from [] = from ≡ q.sent
+Carry q from (StatusFrame ∷ frames) = Carry q from frames
+Carry q from (EmptyFrame fsn bsn ∷ frames) = (fsn ≡ previous_number (q.base + from)) × Carry q from frames
+Carry q from (MessageFrame fsn bsn message ∷ frames) =
+    (fsn ≡ forward_number q from) × (slice_get q.all from ≡ Some message) × Carry q (from + 1) frames
+
+-- the backward numbers of frames name counts from one on up to another, never falling
+abbrev pub Name : ℕ → ℕ → List Frame → Type 0
+Name from to [] = Unit {0}
+Name from to (StatusFrame ∷ frames) = Name from to frames
+Name from to (EmptyFrame fsn bsn ∷ frames) =
+    (count : ℕ) × (from ≤ count) × (count ≤ to) × (bsn ≡ previous_number count) × Name count to frames
+Name from to (MessageFrame fsn bsn message ∷ frames) =
+    (count : ℕ) × (from ≤ count) × (count ≤ to) × (bsn ≡ previous_number count) × Name count to frames
+
+-- the far end accepted the first messages of the near end's queue, as many as it counts; while it
+-- is up the frames in flight carry the others that were sent; and while the near end is up those
+-- that come back confirm some of the first
+pub record Flows (z : Line) : Type 0 where
+  pub confirmed : z.near.queue.confirmed ≤ z.far.queue.received
+  pub received : z.far.queue.received ≤ z.near.queue.sent
+  pub carried : z.far.up ≡ true → Carry z.near.queue z.far.queue.received z.to_far
+  pub named : z.near.up ≡ true → Name z.near.queue.confirmed z.far.queue.received z.to_near
+
+-- either end is up, or the near end's changeover isn't complete
+abbrev pub is_in_use : Line → Bool
+is_in_use z = z.near.up || z.near.incomplete || z.far.up
+
+-- law (i): so it is while either end is up, and until the near end's changeover is complete
+abbrev pub IsFlowing : Line → Type 0
+IsFlowing z = is_in_use z ≡ true → Flows z
+
+-- how an end of a link is: its queue is one, numbered from 0; in service it is up, and while a
+-- changeover goes on it is down; and a message stands there only in service or until its changeover
+-- is complete
+pub record IsEnd (x : LinkEnd) : Type 0 where
+  pub queue : IsQueue WINDOW x.queue
+  pub base : x.queue.base ≡ 0
+  pub serving : x.serving ≡ true → x.up ≡ true
+  pub incomplete : x.incomplete ≡ true → x.up ≡ false
+  pub awaited : x.awaited ≡ true → x.up ≡ false
+  pub idle : (x.serving || x.incomplete) ≡ false → x.queue.all ≡ []
+
+-- law (iv): until then, the number of the last message that the far end accepted names the count of
+-- all that it received. So a completion with that number moves just the messages that it lacks
+abbrev pub NamesReceived : Line → Type 0
+NamesReceived z =
+    is_in_use z ≡ true → named_count z.near.queue (last_accepted z.far.queue) ≡ Some z.far.queue.received
+
+-- the messages that wait at the near end, as the two ends count: those behind the count that the far
+-- end's number names, and where it names none, all that aren't confirmed
+abbrev pub waiting_on : Line → List Message
+waiting_on z =
+    drop (unwrap_or (named_count z.near.queue (last_accepted z.far.queue)) z.near.queue.confirmed) z.near.queue.all
+
+-- these are at all times those that the far end lacks
+abbrev pub WaitsRightly : Line → Type 0
+WaitsRightly z = waiting_on z ≡ unreceived z

@@ -1,0 +1,14 @@
+pub mod Sayings
+pub mod Ends
+pub mod Passing
+pub mod Carrying
+pub mod Returning
+pub mod Failing
+pub mod Moves
+pub mod Flowing
+pub mod Laws
+pub mod Once
+pub mod Order
+pub mod Theorems
+pub mod Crossing
+pub mod GoingBack

@@ -1,0 +1,68 @@
+-- What a message says to the far end of a link (Q.704 §5 and §6, with the numbers of Q.2210).
+use Rattle.std.specs.Prelude.{ℕ, Bool, true, false, not, ◌&&◌, ◌||◌, nat_eq}
+use Rattle.signalling_types.specs.Message.{Message, flow_of}
+use Rattle.signalling_types.specs.declared.point.Flow.{Flow}
+
+pub data Saying : Type 0 where
+  -- nothing to the node: it is for a user part
+  UserMessage : Saying
+  -- changeover order (XCO) about a link: the number of the last message that its sender accepted
+  -- there
+  Order : (link number : ℕ) → Saying
+  -- changeover acknowledgement (XCA) about a link, with such a number
+  Answer : (link number : ℕ) → Saying
+  -- changeback declaration (CBD) with a code
+  Declaration : (code : ℕ) → Saying
+  -- changeback acknowledgement (CBA) with a code
+  Confirmation : (code : ℕ) → Saying
+
+abbrev pub is_user_message : Saying → Bool
+is_user_message UserMessage = true
+is_user_message (Order link number) = false
+is_user_message (Answer link number) = false
+is_user_message (Declaration code) = false
+is_user_message (Confirmation code) = false
+
+abbrev pub is_order : ℕ → Saying → Bool
+is_order link UserMessage = false
+is_order link (Order about number) = nat_eq about link
+is_order link (Answer about number) = false
+is_order link (Declaration code) = false
+is_order link (Confirmation code) = false
+
+abbrev pub is_answer : ℕ → Saying → Bool
+is_answer link UserMessage = false
+is_answer link (Order about number) = false
+is_answer link (Answer about number) = nat_eq about link
+is_answer link (Declaration code) = false
+is_answer link (Confirmation code) = false
+
+abbrev pub is_declaration : ℕ → Saying → Bool
+is_declaration code UserMessage = false
+is_declaration code (Order link number) = false
+is_declaration code (Answer link number) = false
+is_declaration code (Declaration other) = nat_eq other code
+is_declaration code (Confirmation other) = false
+
+abbrev pub is_confirmation : ℕ → Saying → Bool
+is_confirmation code UserMessage = false
+is_confirmation code (Order link number) = false
+is_confirmation code (Answer link number) = false
+is_confirmation code (Declaration other) = false
+is_confirmation code (Confirmation other) = nat_eq other code
+
+-- an order or answer about a link is untrue where the link is up at its sender, or where it names
+-- another number than that of the last message accepted there
+abbrev pub is_untrue : (link : ℕ) (up : Bool) (last_accepted : ℕ) → Saying → Bool
+is_untrue link up last_accepted UserMessage = false
+is_untrue link up last_accepted (Order about number) = nat_eq about link && (up || not (nat_eq number last_accepted))
+is_untrue link up last_accepted (Answer about number) = nat_eq about link && (up || not (nat_eq number last_accepted))
+is_untrue link up last_accepted (Declaration code) = false
+is_untrue link up last_accepted (Confirmation code) = false
+
+abbrev pub is_same_flow : Flow → Flow → Bool
+is_same_flow f g = nat_eq f.point g.point && nat_eq f.sls g.sls
+
+-- a user message of a flow
+abbrev pub is_of_flow : (Message → Saying) → Flow → Message → Bool
+is_of_flow read flow m = is_user_message (read m) && is_same_flow (flow_of m) flow

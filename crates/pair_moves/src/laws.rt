@@ -1,0 +1,86 @@
+//! What holds after every list of moves from the first pair on, in both directions, while neither
+//! node lost anything. The moves are those of `specs/Passing.antt` (Q.704 §2),
+//! `specs/Carrying.antt` (RFC 4165 §2), `specs/Failing.antt` (Q.704 §5) and `specs/Returning.antt`
+//! (Q.704 §6).
+
+ghost use Rattle.pair_moves.specs.Theorems.{lines_flow, ends_are_sound, messages_come_in_order};
+ghost use Rattle.pair_moves.specs.Theorems.{orders_are_awaited, opens_with_nothing_under_way};
+ghost use Rattle.pair_moves.specs.Theorems.{words_are_true, numbers_name_what_was_received, what_waits_is_lacked};
+ghost use Rattle.pair_moves.specs.Theorems.{orders_move_what_is_lacked, answers_move_what_is_lacked};
+ghost use Rattle.pair_moves.specs.Crossing.{Crosses};
+ghost use Rattle.pair_moves.specs.GoingBack.{Returns};
+ghost use Rattle.pair_moves.specs.Theorems.{codes_are_outstanding, each_message_once, each_flow_in_order};
+
+/// Law (i), of one link and one direction. While either end is up, and until the near end's
+/// changeover is complete, the far end accepted the first messages of the near end's queue, as many
+/// as it counts (RFC 4165 §2.2). While the far end is up, the frames in flight carry those from
+/// there to the last that was sent, in order. While the near end is up, the backward numbers that
+/// come to it name counts that the far end accepted, never falling. So a message that comes is the
+/// first that its end lacked. A message stands at an end only while the end is in service or its
+/// changeover isn't complete.
+pub fn frames_carry_what_was_not_received()
+    ensures carried { lines_flow }
+    ensures ends { ends_are_sound }
+    ensures taken { messages_come_in_order }
+{}
+
+/// Law (ii). Of a node's changeover orders about a link and the peer's answers about it, one
+/// message at most is under way, and only while the node awaits that answer (Q.704 §5.4). So none
+/// is when the link may open.
+pub fn orders_and_answers_are_awaited()
+    ensures awaited { orders_are_awaited }
+    ensures opening { opens_with_nothing_under_way }
+{}
+
+/// Law (iii). An order or an answer about a link is under way only while the link is down at the
+/// node that sent it, and it has the number of the last message accepted there (Q.704 §5.4, with
+/// the numbers of Q.2210).
+pub fn orders_and_answers_are_true()
+    ensures { words_are_true }
+{}
+
+/// Law (iv). While either end of a link is up, and until its changeover is complete, the number of
+/// the last message that the peer accepted there names the count of all that it received. So the
+/// messages behind that count are those that the peer lacks; and a completion, by an order or by an
+/// answer, moves these and no other (Q.704 §5.4, §5.5).
+pub fn completions_move_what_the_peer_lacks()
+    ensures named { numbers_name_what_was_received }
+    ensures waiting { what_waits_is_lacked }
+    ensures orders { orders_move_what_is_lacked }
+    ensures answers { answers_move_what_is_lacked }
+{}
+
+/// Of a node's changeback declarations with a code and the peer's confirmations of it, one message
+/// at most is under way, and only while the code is outstanding (Q.704 §6.3).
+pub fn codes_are_outstanding_until_they_are_confirmed()
+    ensures { codes_are_outstanding }
+{}
+
+/// "Exactly once": of whatever kind of user messages, as many were accepted at one node as the
+/// other received and as stand between them: in Held, on a link behind what the other node
+/// accepted, or in a list that a node is at work on.
+pub fn each_message_comes_once()
+    ensures { each_message_once }
+{}
+
+/// "Order": the user messages of a flow that one node accepted are, in order, those that the other
+/// received or that just arrived there, those that stand on the one link that has any, those in
+/// Held, and those at work. It holds while no timer of the accepting node ended a hold.
+pub fn each_flow_keeps_its_order()
+    ensures { each_flow_in_order }
+{}
+
+/// These laws aren't empty: by a run of 25 moves a message that stands on a link as it fails at
+/// both ends is accepted at one node and received by the other, through a changeover order and its
+/// answer, and no flag is raised.
+pub fn a_message_crosses_a_failure()
+    ensures { Crosses }
+{}
+
+/// Nor is the law of codes. The run goes on by 18 moves: the link that failed returns, and the flow
+/// goes back to it behind a changeback declaration. A message that is accepted meanwhile is held
+/// until the declaration is confirmed, goes by the link that returned, and is received behind the
+/// first; no flag is raised.
+pub fn a_flow_returns_in_order()
+    ensures { Returns }
+{}
