@@ -1,0 +1,107 @@
+-- A node whose only destination is the adjacent point of its only set: the route there stays as it was at first.
+use Rattle.std.proofs.Common.{◌≡◌, ℕ, Bool, true, false, List, [], ◌∷◌, map, zero, suc, refl, ap, sym, subst, ◌∙◌, Option, Some, None, nat_eq}
+use Rattle.std.specs.Prelude.{find, slice_index_or, if◌then◌else◌}
+use Rattle.std.specs.Option.{option_map}
+use Rattle.settings_rows.specs.Configuration.{Configuration}
+use Rattle.route_table.specs.declared.route.Route.{Route}
+use Rattle.route_table.specs.declared.route.RouteStatus.{RouteStatus}
+use Rattle.route_table.specs.declared.route.RouteStatus.TheVariants.{Allowed}
+use Rattle.route_table.specs.Facts.{first_route}
+use Rattle.route_management.specs.Told.{ToldTable, is_own_point}
+use Rattle.exchange_rules.specs.State.{Node}
+use Rattle.exchange_rules.specs.Queues.{WholeQueues}
+use Rattle.exchange_rules.proofs.Steps.{IsOfSteps, AreRerouted, AreOwnAllowed, sets_of, status_over}
+use Rattle.exchange_rules.proofs.Asked.{any}
+
+abbrev pub only_routes : List (List Route)
+only_routes = (first_route 0 ∷ []) ∷ []
+
+pub record IsAlone (n : Node WholeQueues) : Type 0 where
+  pub routes : n.parts.routes ≡ only_routes
+  pub adjacents : n.parts.told.adjacents ≡ Some 0 ∷ []
+
+-- it stays so from one node to another
+pub record StaysAlone (n m : Node WholeQueues) : Type 0 where
+  pub stay : IsAlone n → IsAlone m
+
+-- ---- routes with the same sets, which are allowed
+
+allowed-route : (r : Route) → r.set ≡ 0 → ((status : RouteStatus) → option_map (λ (x : Route). x.status) (if nat_eq r.set 0 then Some r else None) ≡ Some status → status ≡ Allowed) → r.status ≡ Allowed
+allowed-route r e h = h r.status (ap (λ (s : ℕ). option_map (λ (x : Route). x.status) (if nat_eq s 0 then Some r else None)) e)
+
+no-list : {A : Type 0} {B : Type 0} (x : A) (xs : List A) → x ∷ xs ≡ [] → B
+no-list x xs e = absurd cc
+
+abbrev route_with : (set : ℕ) → RouteStatus → Route
+route_with set status = record { set = set; status = status }
+
+same-row : (rs : List Route) → map (λ (r : Route). r.set) rs ≡ 0 ∷ []
+    → ((status : RouteStatus) → option_map (λ (x : Route). x.status) (find (λ (r : Route). nat_eq r.set 0) rs) ≡ Some status → status ≡ Allowed) → rs ≡ first_route 0 ∷ []
+same-row [] e h = absurd cc
+same-row (r ∷ []) e h =
+    let zero_set : r.set ≡ 0 = cc in
+    ap (λ (set : ℕ). route_with set r.status ∷ []) zero_set ∙ ap (λ (status : RouteStatus). route_with 0 status ∷ []) (allowed-route r zero_set h)
+same-row (r ∷ x ∷ rs) e h = absurd cc
+
+same-routes : (routes : List (List Route)) → sets_of routes ≡ (0 ∷ []) ∷ []
+    → ((status : RouteStatus) → option_map (λ (x : Route). x.status) (find (λ (r : Route). nat_eq r.set 0) (slice_index_or routes 0 [])) ≡ Some status → status ≡ Allowed)
+    → routes ≡ only_routes
+same-routes [] e h = absurd cc
+same-routes (rs ∷ []) e h =
+    let sets : map (λ (r : Route). r.set) rs ≡ 0 ∷ [] = cc in
+    ap (λ (row : List Route). row ∷ []) (same-row rs sets h)
+same-routes (rs ∷ row ∷ routes) e h = absurd cc
+
+-- ---- so it stays
+
+stays : (n m : Node WholeQueues) → m.parts.routes ≡ n.parts.routes → m.parts.told.adjacents ≡ n.parts.told.adjacents → StaysAlone n m
+stays n m e f = record { stay = λ h. record { routes = e ∙ h.routes; adjacents = f ∙ h.adjacents } }
+
+only-allowed : (t : ToldTable) → AreOwnAllowed t only_routes
+only-allowed t = record { each = λ set destination status is e. only set destination status e }
+  where
+    row : (set : ℕ) (status : RouteStatus) (b : Bool) → option_map (λ (x : Route). x.status) (if b then Some (first_route 0) else None) ≡ Some status → status ≡ Allowed
+    row set status true e = cc
+    row set status false e = absurd cc
+
+    only : (set destination : ℕ) (status : RouteStatus) → status_over set destination only_routes ≡ Some status → status ≡ Allowed
+    only set zero status e = row set status (nat_eq 0 set) e
+    only set (suc more) status e = absurd cc
+
+rerouted-alone : (routes : List (List Route)) (n : Node WholeQueues) → AreRerouted n.parts.told n.parts.routes routes → IsAlone n → routes ≡ only_routes
+rerouted-alone routes n e h =
+    let own : AreOwnAllowed n.parts.told routes = e.own (subst (AreOwnAllowed n.parts.told) (sym h.routes) (only-allowed n.parts.told)) in
+    same-routes routes (e.sets ∙ ap sets_of h.routes)
+    (λ status f. own.each 0 0 status (ap (λ (places : List (Option ℕ)). is_own_point (record n.parts.told { adjacents = places }) 0 0) h.adjacents) f)
+
+pub alone-steps : (c : Configuration) → IsOfSteps c any any StaysAlone
+alone-steps c = record {
+  none = λ n. stays _ _ refl refl;
+  both = λ n m o f g. record { stay = λ h. g.stay (f.stay h) };
+  routed = λ link m n e. stays _ _ refl refl;
+  declared = λ link other code n e f. stays _ _ refl refl;
+  tested = λ link point test n e f. stays _ _ refl refl;
+  held = λ m n e. stays _ _ refl refl;
+  taken_out = λ n. stays _ _ refl refl;
+  noted = λ notice n e. stays _ _ refl refl;
+  lost = λ n. stays _ _ refl refl;
+  late = λ n. stays _ _ refl refl;
+  timed = λ r n e. stays _ _ refl refl;
+  holding = λ h n e. stays _ _ refl refl;
+  coded = λ set code awaited n. stays _ _ refl refl;
+  rerouted = λ routes n e. record { stay = λ h. record { routes = rerouted-alone routes n e h; adjacents = h.adjacents } };
+  told = λ t n e. stays _ _ refl e.adjacents;
+  titled = λ rows n. stays _ _ refl refl;
+  failed = λ link why st n e f. stays _ _ refl refl;
+  dropped = λ link why n e. stays _ _ refl refl;
+  completed = λ link number st n e f. stays _ _ refl refl;
+  answered = λ link st n e f. stays _ _ refl refl;
+  linked = λ link x n e. stays _ _ refl refl;
+  parted = λ link n e. stays _ _ refl refl;
+  opened = λ link n own e f g. stays _ _ refl refl;
+  stepped = λ link input step n own e. stays _ _ refl refl;
+  busied = λ link n own e f. stays _ _ refl refl;
+  resumed = λ link n own e f. stays _ _ refl refl;
+  accepted = λ link d confirmed n own e f. stays _ _ refl refl;
+  sent = λ link next n own e. stays _ _ refl refl;
+}

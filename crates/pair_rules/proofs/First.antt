@@ -1,0 +1,189 @@
+-- The first world: two nodes as they are booted, and nothing between them.
+use Rattle.std.proofs.Common.{◌≡◌, ◌<◌, ◌≤◌, ℕ, Bool, true, false, not, ◌&&◌, zero, suc, List, [], ◌∷◌, Option, Some, None, length, map, get_or, nat_eq, nat_lt, refl, ap, ◌∙◌, arith}
+use Rattle.std.specs.Prelude.{if◌then◌else◌, find, All}
+use Rattle.std.specs.Option.{option_and_then, option_map}
+use Rattle.std.specs.List.{IsDistinct}
+use Rattle.std.specs.FinSet.{contains-empty}
+use Rattle.signalling_types.specs.declared.point.Flow.{Flow}
+use Rattle.signalling_types.specs.declared.limits.TheConstants.Limits.{CHANGEBACK_CODES}
+use Rattle.std.proofs.lemmas.Bool.Decides.{nat_tests}
+use Rattle.settings_rows.specs.Configuration.{Configuration, DestinationEntry}
+use Rattle.stp_types.specs.Facing.{IsFacing, LeadsOnlyTo}
+use Rattle.stp_types.specs.Readings.{destination_place}
+use Rattle.stp_types.specs.Well.{IsWell, IsDestination}
+use Rattle.linkset.specs.declared.link_set.SetLink.{SetLink}
+use Rattle.linkset.specs.Preference.{preference, first_in_service, is_in_service}
+use Rattle.route_table.specs.Facts.{first_route, first_routes, set_at}
+use Rattle.route_table.specs.Chosen.{chosen_set, chosen_link}
+use Rattle.route_management.specs.Told.{adjacent_place}
+use Rattle.node_links.specs.Link.{Link}
+use Rattle.node_links.specs.LinkState.{down_link, is_down}
+use Rattle.node_links.specs.LinkState as state
+use Rattle.node_links.proofs.Serving.{serving_none}
+use Rattle.flow_hold.specs.Holds.{by_numbers, holds, selections}
+use Rattle.changeback.specs.Codes.{no_codes, is_outstanding}
+use Rattle.changeover.specs.Standing.{Standing, no_changeover}
+use Rattle.link_sequence.specs.Queue.{Queue, IsQueue, first_queue}
+use Rattle.link_sequence.proofs.Sound.{sound-first}
+use Rattle.exchange_rules.specs.State.{Parts}
+use Rattle.exchange_rules.specs.First.{first_state, first_parts}
+use Rattle.exchange_rules.specs.Routing.{facts, link_of}
+use Rattle.exchange_rules.proofs.Lists.{each-replicate}
+use Rattle.exchange_rules.proofs.LastingPlaces.{places-first}
+use Rattle.exchange_rules.proofs.Fitting.{Fits}
+use Rattle.exchange_rules.proofs.FacingNodes.{sets-one, destinations-one, adjacent-sole, destination-found}
+use Rattle.pair_moves.specs.Ends.{LinkEnd, Procedure, closed_end, first_side, first_pair}
+use Rattle.pair_rules.proofs.Alone.{IsAlone, only_routes}
+use Rattle.pair_rules.proofs.World.{Mid, World, end_of, side_by, shown, holds_of, route_of, procedure_of}
+use Rattle.pair_rules.proofs.Good.{Each, IsBetween, Good}
+
+-- ---- the first world
+
+abbrev pub first_mid : Configuration → Mid
+first_mid c = record { node = (first_state c).node; arrived = []; loose = []; accepted = []; received = [] }
+
+abbrev pub first_world : (near far : Configuration) → World
+first_world near far = record { near = first_mid near; far = first_mid far; to_near = λ link. []; to_far = λ link. [] }
+
+-- ---- lists of one element
+
+sole-list : {X : Type 0} (xs : List X) (d : X) → length xs ≡ 1 → xs ≡ get_or xs 0 d ∷ []
+sole-list [] d e = absurd cc
+sole-list (x ∷ []) d e = refl
+sole-list (x ∷ y ∷ xs) d e = absurd cc
+
+sole-set : (set : ℕ) → set < 1 → set ≡ 0
+sole-set set l = omega (arith, l)
+
+-- sets of one kind, at least one, none of them twice
+only-set : (sets : List ℕ) → 1 ≤ length sets → All (λ set. set < 1) sets → IsDistinct nat_eq sets → sets ≡ 0 ∷ []
+unfolding IsDistinct
+only-set [] l within differ = absurd (omega (arith, l))
+only-set (set ∷ []) l within differ = ap (λ (s : ℕ). s ∷ []) (sole-set set (within 0 0 (omega arith)))
+only-set (set ∷ other ∷ sets) l within differ =
+    let one : set ≡ 0 = sole-set set (within 0 0 (omega arith)) in
+    let two : other ≡ 0 = sole-set other (within 1 0 (omega arith)) in
+    let apart : nat_eq set other ≡ false = differ.0.0 in
+    absurd (grind (arith, nat_tests, one, two, apart))
+
+-- ---- the only route at first
+
+module _ (c : Configuration) (point : ℕ) (leads : LeadsOnlyTo c point) (well : IsWell c) where
+  none_known : DestinationEntry
+  none_known = record { point = 0; sets = [] }
+
+  the_sets : (get_or c.destinations 0 none_known).sets ≡ 0 ∷ []
+  the_sets =
+      let known : IsDestination c.own (length c.sets) (get_or c.destinations 0 none_known) = well.destinations 0 none_known (omega (arith, destinations-one c point leads)) in
+      only-set (get_or c.destinations 0 none_known).sets known.some
+      (λ k d l. omega (arith, known.within k d l, sets-one c point leads)) known.differ
+
+  routes-first : map first_routes c.destinations ≡ only_routes
+  routes-first =
+      ap (map first_routes) (sole-list c.destinations none_known (destinations-one c point leads))
+      ∙ ap (λ (sets : List ℕ). map first_route sets ∷ []) the_sets
+
+  adjacents-first : map (adjacent_place c.destinations) c.sets ≡ Some 0 ∷ []
+  adjacents-first =
+      ap (map (adjacent_place c.destinations)) (sole-list c.sets (record { name = []; adjacent = 0 }) (sets-one c point leads))
+      ∙ ap (λ (p : ℕ). destination_place c p ∷ []) (adjacent-sole c point leads)
+      ∙ ap (λ (o : Option ℕ). o ∷ []) (destination-found c point leads well)
+
+  pub alone-first : IsAlone (first_state c).node
+  alone-first = record { routes = routes-first; adjacents = adjacents-first }
+
+pub fits-first : (c : Configuration) → IsWell c → Fits c (first_state c).node
+fits-first c well = record {
+  places = places-first c well.link_count.below;
+  queues = record { each = λ link. each-replicate (IsQueue c.window) (length c.links) link first_queue (sound-first c.window well.window.below) };
+}
+
+pub first-good : (near far : Configuration) → IsWell near → IsWell far → IsFacing near far → Good near far (first_world near far)
+first-good near far near_well far_well f = record {
+  fits = fits-first near near_well;
+  alone = alone-first near far.own f.near_leads near_well;
+  unawaited = λ link e. each-replicate (λ (s : Standing). s.awaited ≡ false) (length near.links) link no_changeover refl;
+  queued = λ link. each-replicate (λ (q : Queue). Each (IsBetween near far) q.all) (length near.links) link first_queue tt;
+  held = tt;
+  loose = tt;
+  arrived = tt;
+  coming = λ link. tt;
+}
+
+-- ---- what is shown of it
+
+-- no link is in service, so no flow has one
+none-found : {X : Type 0} (p : X → Bool) (xs : List X) → ((x : X) → p x ≡ false) → find p xs ≡ None
+none-found p [] h = refl
+none-found {X = X} p (x ∷ xs) h = ap (λ (b : Bool). if b then Some x else find p xs) (h x) ∙ none-found p xs h
+
+none-then : {X Y : Type 0} (f : X → Option Y) (o : Option X) → ((x : X) → f x ≡ None) → option_and_then f o ≡ None
+none-then f None h = refl
+none-then f (Some x) h = h x
+
+both-false : (a b : Bool) → b ≡ false → (a && b) ≡ false
+both-false true b e = e
+both-false false b e = refl
+
+either-none : {X : Type 0} (b : Bool) (o : Option X) → o ≡ None → (if b then o else None) ≡ None
+either-none true o e = e
+either-none false o e = refl
+
+module _ (c : Configuration) where
+  abbrev p : Parts
+  p = first_parts c
+
+  none-serves : (link : ℕ) → is_in_service (facts c p).in_service link ≡ false
+  none-serves link =
+      ap (λ (serving : List Bool). get_or serving link false) (serving_none (length c.links))
+      ∙ each-replicate (λ (b : Bool). b ≡ false) (length c.links) link false refl
+
+  none-in : (selection : ℕ) (links : List SetLink) → first_in_service selection (facts c p).in_service links ≡ None
+  none-in selection links =
+      ap (option_map (λ (l : SetLink). l.link)) (none-found (λ (l : SetLink). is_in_service (facts c p).in_service l.link) (preference selection links) (λ l. none-serves l.link))
+
+  none-chosen : (place selection : ℕ) → chosen_link (facts c p) place selection ≡ None
+  none-chosen place selection =
+      none-then (λ set. first_in_service selection (facts c p).in_service (set_at (facts c p) set)) (chosen_set (facts c p) place)
+      (λ set. none-in selection (set_at (facts c p) set))
+
+  route-none : (flow : Flow) → route_of c p flow ≡ None
+  route-none flow =
+      either-none (nat_lt flow.sls selections) (link_of c p flow)
+      (none-then (λ place. chosen_link (facts c p) place flow.sls) (destination_place c flow.point) (λ place. none-chosen place flow.sls))
+
+  holds-none : (far : ℕ) (procedure : Procedure) (flow : Flow) → holds_of far p procedure flow ≡ false
+  holds-none far procedure flow =
+      both-false (nat_eq flow.point far) (holds p.holds (procedure_of procedure) 0 flow.sls)
+      (contains-empty by_numbers (record { procedure = procedure_of procedure; destination = 0; sls = flow.sls }))
+
+  code-none : (code : ℕ) → is_outstanding p.codes 0 code ≡ false
+  code-none code = by (length c.sets)
+    where
+      by : (sets : ℕ) → is_outstanding (no_codes sets) 0 code ≡ false
+      by zero = refl
+      by (suc sets) = each-replicate (λ (b : Bool). b ≡ false) CHANGEBACK_CODES code false refl
+
+  side-first : (far : ℕ) → side_by far (route_of c p) (first_mid c) ≡ first_side
+  side-first far = λ i. record first_side {
+    route = λ flow. route-none flow i;
+    holds = λ procedure flow. holds-none far procedure flow i;
+    outstanding = λ code. code-none code i;
+  }
+
+  abbrev end_by : Queue → Link → Standing → LinkEnd
+  end_by q l s = record { queue = q; up = not (is_down l.alignment); serving = state.is_in_service l.alignment; incomplete = s.incomplete; awaited = s.awaited }
+
+  end-first : (link : ℕ) → end_of (first_state c).node link ≡ closed_end
+  end-first link = λ i.
+      end_by (each-replicate (λ (q : Queue). q ≡ first_queue) (length c.links) link first_queue refl i)
+      (each-replicate (λ (l : Link). l ≡ down_link) (length c.links) link down_link refl i)
+      (each-replicate (λ (s : Standing). s ≡ no_changeover) (length c.links) link no_changeover refl i)
+
+pub first-shown : (near far : Configuration) → shown near far (first_world near far) ≡ first_pair (length near.links)
+first-shown near far = λ i. record {
+  links = length near.links;
+  line = λ link. record { near = end-first near link i; far = end-first far link i; to_far = []; to_near = [] };
+  near = side-first near far.own i;
+  far = side-first far near.own i;
+}

@@ -1,0 +1,244 @@
+-- The four laws, of two exchanges.
+use Rattle.std.proofs.Common.{◌≡◌, ◌≢◌, ◌<◌, ◌≤◌, ◌+◌, ◌-◌, ℕ, Bool, true, false, not, List, [], length, Option, Some, refl, ap, sym, subst, ◌∙◌, arith, nat_eq}
+use Rattle.std.specs.Prelude.{Contains, count_by, slice_get}
+use Rattle.std.proofs.Math.Logic.{⊎_elim}
+use Rattle.std.proofs.lemmas.Bool.{cases_lt}
+use Rattle.std.proofs.lemmas.List.{get_or_past}
+use Rattle.std.proofs.lemmas.List.Elements.{Contains-append_left}
+use Rattle.signalling_types.specs.Message.{Message}
+use Rattle.settings_rows.specs.Configuration.{Configuration}
+use Rattle.link_sequence.specs.Queue.{last_accepted, named_count}
+use Rattle.changeover.specs.Completion.{behind}
+use Rattle.exchange_rules.specs.declared.wants.Wants.TheVariants.{Open}
+use Rattle.exchange_rules.specs.Links.{down}
+use Rattle.exchange_rules.specs.Exchange.{wants_of}
+use Rattle.exchange_rules.specs.Receiving.{new_message}
+use Rattle.exchange_rules.proofs.CarriedMessages.{new-carried}
+use Rattle.pair_moves.specs.Sayings.{Saying, Order, Answer, is_answer, is_order, is_untrue}
+use Rattle.pair_moves.specs.Ends.{Pair}
+use Rattle.pair_moves.specs.Ends as ends
+use Rattle.pair_moves.specs.Returning.{MayOpen}
+use Rattle.pair_moves.specs.Flowing.{Flows, IsFlowing, NamesReceived}
+use Rattle.pair_moves.specs.Laws.{WordsAreTrue, saying, sum_to, under_way}
+use Rattle.pair_moves.specs.Order.{join_to}
+use Rattle.pair_moves.proofs.Concluded.{lines_flow-always, numbers_name-always, opens_with_nothing-always, words_are_true-always}
+use Rattle.pair_moves.proofs.Counts.{count-append}
+use Rattle.pair_moves.proofs.Lines.{or-third}
+use Rattle.pair_moves.proofs.Words.{same-link, true-answer, true-order}
+use Rattle.pair_rules.specs.Pairs.{PairState, after_steps, first_pair, in_flight, turned}
+use Rattle.pair_rules.specs.Promises.{LostNothing, queue_of}
+use Rattle.pair_rules.specs.Laws.{AreFinal, FramesCarry, IsCarried, IsFinal, IsInFlight, IsUnderWay, MovesLacked, NextIsFirst, NoneIsLeft, WhileNothingIsLost, Word, is_down_at, is_in_use, is_incomplete_at, messages_in, unreceived, unreceived_on, word_of}
+use Rattle.pair_rules.specs.Laws.{frames_carry, moves_are_lacked, none_is_left, words_are_final}
+use Rattle.pair_rules.proofs.World.{World, says_of, shown, line_of}
+use Rattle.pair_rules.proofs.Good.{Each, IsBetween, each-behind}
+use Rattle.pair_rules.proofs.Opening.{may_open-end, wants-open}
+use Rattle.pair_rules.proofs.Flights.{first-flies, first-frame}
+use Rattle.pair_rules.proofs.Standing.{Stands, world_of}
+use Rattle.pair_rules.proofs.AllSteps.{AreFacing, facing-back, stands-turned}
+use Rattle.pair_rules.proofs.Promised.{all-stand, are-facing, count-join, of-shown, same-links}
+use Rattle.pair_rules.proofs.CarriedTexts.{first-text, new-up, texts-carry}
+use Rattle.pair_rules.proofs.SaidWords.{Says, between-says, contained-behind, contained-join, contained-take, each-contained, each-drop, each-join, none-contained}
+
+up-false : (b : Bool) → not b ≡ false → b ≡ true
+up-false true e = refl
+up-false false e = absurd cc
+
+module _ (c z : Configuration) (a : AreFacing c z) (p : PairState) (s : Stands c z p) (kept : LostNothing p) where
+  abbrev w : World
+  w = world_of p s.to_near s.to_far
+
+  abbrev read : Message → Saying
+  read = says_of c.links
+
+  -- ---- (i)
+
+  flows : (link : ℕ) → IsFlowing (line_of w link)
+  flows = (of-shown c z a p s kept (λ read q. (link : ℕ) → IsFlowing (q.line link)) lines_flow-always).there
+
+  frames-there : (link : ℕ) → is_in_use p link ≡ true → FramesCarry p link
+  frames-there link used =
+      let f : Flows (line_of w link) = flows link used in
+      record {
+        confirmed = f.confirmed;
+        received = f.received;
+        carried = λ up.
+            ap messages_of (s.far_texts.each link)
+            ∙ texts-carry c z (queue_of p.near link) (queue_of p.far link).received (s.to_far link) (s.far_good.coming link) (f.carried (ap not up));
+      }
+    where
+      messages_of : List (List ℕ) → List Message
+      messages_of texts = messages_in texts
+
+  next-there : (link : ℕ) → NextIsFirst p link
+  next-there link text message e n =
+      let up : not (down p.far.exchange.node.parts link) ≡ true = new-up link text p.far.exchange message n in
+      let f : Flows (line_of w link) = flows link (or-third (line_of w link).near.up (line_of w link).near.incomplete (line_of w link).far.up up) in
+      first-text c z (queue_of p.near link) (queue_of p.far link).received (s.to_far link) (in_flight p.far.incoming link) text message
+      (first-frame (s.to_far link) (in_flight p.far.incoming link) text (s.far_texts.each link) e) (s.far_good.coming link) (f.carried up)
+      (new-carried link text p.far.exchange message n)
+
+  pub carried-there : IsCarried p
+  carried-there = record { frames = frames-there; next = next-there }
+
+  -- ---- what is under way
+
+  counted : (test : Message → Bool) → count_by test (unreceived p) ≡ under_way test (shown c z w)
+  counted test =
+      let both : count_by test (unreceived p) ≡ count_by test (join_to (unreceived_on p) (length p.near.exchange.settings.links)) + count_by test p.near.exchange.node.queues.held =
+      count-append test (join_to (unreceived_on p) (length p.near.exchange.settings.links)) p.near.exchange.node.queues.held in
+      let links : count_by test (join_to (unreceived_on p) (length p.near.exchange.settings.links)) ≡ sum_to (λ link. count_by test (ends.unreceived (line_of w link))) (length c.links) =
+      ap (λ (many : ℕ). count_by test (join_to (unreceived_on p) many)) (same-links c z a p s kept) ∙ count-join test (unreceived_on p) (length c.links) in
+      omega (arith, both, links)
+
+  between : Each (IsBetween c z) (unreceived p)
+  between =
+      each-behind (IsBetween c z) (join_to (unreceived_on p) (length p.near.exchange.settings.links)) p.near.exchange.node.queues.held
+      (each-join (IsBetween c z) (unreceived_on p) (length p.near.exchange.settings.links)
+      (λ link. each-drop (IsBetween c z) (queue_of p.far link).received (queue_of p.near link).all (s.near_good.queued link)))
+      s.near_good.held
+
+  -- what a link has is among it
+  among : (link : ℕ) (message : Message) → link < length p.far.incoming → Contains (unreceived_on p link) message → Contains (unreceived p) message
+  among link message l h =
+      let many : length p.far.incoming ≡ length p.near.exchange.settings.links = s.far_texts.many ∙ a.near_joined.many ∙ sym (same-links c z a p s kept) in
+      let here : link < length p.near.exchange.settings.links = subst (λ (k : ℕ). link < k) many l in
+      Contains-append_left (join_to (unreceived_on p) (length p.near.exchange.settings.links)) p.near.exchange.node.queues.held message
+      (contained-join (unreceived_on p) (length p.near.exchange.settings.links) link message here h)
+
+  -- and so is what is in flight to an end that isn't down
+  flying-stands : (word : Word) → IsInFlight p word → IsUnderWay p word
+  flying-stands word f = record { message = f.message; stands = among f.link f.message (flies f.link f.message f.carried) sent; says = f.says }
+    where
+      up : not (is_down_at p.far f.link) ≡ true
+      up = ap not f.up
+
+      carry : FramesCarry p f.link
+      carry = frames-there f.link (or-third (not (is_down_at p.near f.link)) (is_incomplete_at p.near f.link) (not (is_down_at p.far f.link)) up)
+
+      sent : Contains (unreceived_on p f.link) f.message
+      sent =
+          contained-take (unreceived_on p f.link) ((queue_of p.near f.link).sent - (queue_of p.far f.link).received) f.message
+          (subst (λ (ms : List Message). Contains ms f.message) (carry.carried f.up) f.carried)
+
+      flies : (link : ℕ) (message : Message) → Contains (messages_in (in_flight p.far.incoming link)) message → link < length p.far.incoming
+      flies link message h =
+          ⊎_elim (λ (l : link < length p.far.incoming). l)
+          (λ (l : length p.far.incoming ≤ link).
+          let none : Contains (messages_in []) message = subst (λ (texts : List (List ℕ)). Contains (messages_in texts) message) (get_or_past p.far.incoming link [] l) h in
+          absurd (omega (arith, none.1)))
+          (cases_lt link (length p.far.incoming))
+
+  says : (word : Word) (u : IsUnderWay p word) → Says c u.message word
+  says word u =
+      between-says c z a.near_joined a.far_joined u.message word (each-contained (IsBetween c z) (unreceived p) u.message between u.stands)
+      (ap (λ (x : Configuration). word_of x u.message) (sym s.far_settings) ∙ u.says)
+
+  -- what none under way says, this message doesn't
+  unsaid-there : (test : Saying → Bool) (m : Message) → Contains (unreceived p) m → under_way (saying read test) (shown c z w) ≡ 0 → test (read m) ≡ false
+  unsaid-there test m there none = none-contained (saying read test) (unreceived p) m (counted (saying read test) ∙ none) there
+
+  -- ---- (ii)
+
+  first-none : (m n : ℕ) → m + n ≡ 0 → m ≡ 0
+  first-none m n e = omega (arith, e)
+
+  second-none : (m n : ℕ) → m + n ≡ 0 → n ≡ 0
+  second-none m n e = omega (arith, e)
+
+  none-left-there : (link : ℕ) → wants_of p.near.exchange link ≡ Open → wants_of p.far.exchange link ≡ Open → (word : Word) → IsUnderWay p word → word.link ≢ link
+  none-left-there link near far word u same =
+      let none : under_way (saying read (is_order link)) (shown c z w) + under_way (saying read (is_answer link)) (shown c z w) ≡ 0 =
+      (of-shown c z a p s kept (λ read q. (link : ℕ) → MayOpen (q.line link).near → MayOpen (q.line link).far
+      → under_way (saying read (is_order link)) q + under_way (saying read (is_answer link)) q ≡ 0) opens_with_nothing-always).there link
+      (may_open-end c z p.near.exchange.node link (wants-open p.near.exchange.node.parts link near))
+      (may_open-end z c p.far.exchange.node link (wants-open p.far.exchange.node.parts link far)) in
+      let no : true ≡ false =
+      ⊎_elim
+      (λ (e : read u.message ≡ Order word.link word.number).
+      sym is-here ∙ sym (ap (is_order link) e) ∙ unsaid-there (is_order link) u.message u.stands (first-none _ _ none))
+      (λ (e : read u.message ≡ Answer word.link word.number).
+      sym is-here ∙ sym (ap (is_answer link) e) ∙ unsaid-there (is_answer link) u.message u.stands (second-none _ _ none))
+      (says word u) in
+      absurd cc
+    where
+      is-here : nat_eq word.link link ≡ true
+      is-here = ap (λ (k : ℕ). nat_eq word.link k) (sym same) ∙ same-link word.link
+
+  pub left-there : NoneIsLeft p
+  left-there link near far word u =
+      none-left-there link near far word (⊎_elim (λ (h : IsUnderWay p word). h) (λ (h : IsInFlight p word). flying-stands word h) u)
+
+  -- ---- (iii)
+
+  pub final-there : AreFinal p
+  final-there word u =
+      ⊎_elim
+      (λ (e : read u.message ≡ Order word.link word.number). by (true-order word.link up last word.number (ap untrue (sym e) ∙ true_one)))
+      (λ (e : read u.message ≡ Answer word.link word.number). by (true-answer word.link up last word.number (ap untrue (sym e) ∙ true_one)))
+      (says word u)
+    where
+      up : Bool
+      up = not (is_down_at p.near word.link)
+
+      last : ℕ
+      last = last_accepted (queue_of p.near word.link)
+
+      untrue : Saying → Bool
+      untrue = is_untrue word.link up last
+
+      true_one : untrue (read u.message) ≡ false
+      true_one = unsaid-there untrue u.message u.stands ((of-shown c z a p s kept WordsAreTrue words_are_true-always).there word.link)
+
+      by : (up ≡ false) × (word.number ≡ last) → IsFinal p word
+      by t = record { down = up-false (is_down_at p.near word.link) t.0; number = t.1 }
+
+  -- ---- (iv)
+
+  -- what the next frame newly carries was under way
+  pub brought-there : (link : ℕ) (text : List ℕ) (message : Message) → slice_get (in_flight p.far.incoming link) 0 ≡ Some text → new_message link text p.far.exchange ≡ Some message
+      → Contains (unreceived p) message
+  brought-there link text message e n =
+      among link message (first-flies p.far.incoming link text e)
+      (contained-behind (queue_of p.near link).all (queue_of p.far link).received message (next-there link text message e n))
+
+  pub named-there : (link : ℕ) → is_in_use p link ≡ true → named_count (queue_of p.near link) (last_accepted (queue_of p.far link)) ≡ Some (queue_of p.far link).received
+  named-there = (of-shown c z a p s kept (λ read q. (link : ℕ) → NamesReceived (q.line link)) numbers_name-always).there
+
+pub lacked-there : (c z : Configuration) (a : AreFacing c z) (p : PairState) → Stands c z p → LostNothing p → MovesLacked p
+lacked-there c z a p s kept = record {
+  named = named-there c z a p s kept;
+  brought = λ link text message word e n says. record {
+    message = message;
+    stands = brought-there z c (facing-back c z a) (turned p) (stands-turned c z a p s) (record { near = kept.far; far = kept.near }) link text message e n;
+    says = says;
+  };
+  moved = λ word u used.
+      let final : IsFinal (turned p) word =
+      final-there z c (facing-back c z a) (turned p) (stands-turned c z a p s) (record { near = kept.far; far = kept.near }) word u in
+      ap (λ (o : Option ℕ). behind (queue_of p.near word.link) o)
+      (ap (named_count (queue_of p.near word.link)) final.number ∙ named-there c z a p s kept word.link used);
+}
+
+-- ---- always
+
+always : (Statement : PairState → Type 0) → ((c z : Configuration) (a : AreFacing c z) (p : PairState) → Stands c z p → LostNothing p → Statement p) → WhileNothingIsLost Statement
+always Statement holds near far steps g kept =
+    let p : PairState = after_steps steps (first_pair near far) in
+    let s : Stands near far p = all-stand near far steps g in
+    let a : AreFacing near far = are-facing near far g in
+    record {
+      there = holds near far a p s kept;
+      back = holds far near (facing-back near far a) (turned p) (stands-turned near far a p s) (record { near = kept.far; far = kept.near });
+    }
+
+pub frames-carry : frames_carry
+frames-carry = always IsCarried carried-there
+
+pub none-left : none_is_left
+none-left = always NoneIsLeft left-there
+
+pub words-final : words_are_final
+words-final = always AreFinal final-there
+
+pub moves-lacked : moves_are_lacked
+moves-lacked = always MovesLacked lacked-there

@@ -1,0 +1,265 @@
+-- A frame comes: by moves.
+use Rattle.std.proofs.Common.{append-nil, inl, inr}
+use Rattle.std.specs.Prelude.{◌⊎◌}
+use Rattle.pair_rules.specs.Pairs.{for_users}
+use Rattle.pair_rules.proofs.Good.{IsFlying}
+use Rattle.link_sequence.specs.Queue as queue
+use Rattle.std.proofs.Math.Logic.{⊎_elim}
+use Rattle.std.proofs.lemmas.Bool.{cases_eq}
+use Rattle.exchange_rules.specs.Local.{do_test}
+use Rattle.mgmt_codec.specs.LinkTests.{read_link_test}
+use Rattle.std.proofs.Common.{◌≡◌, ◌≢◌, ◌<◌, ℕ, Bool, true, false, not, List, [], ◌∷◌, ◌++◌, length, Option, Some, Result, Ok, Err, refl, ap, sym, subst, ◌∙◌, nat_eq, arith}
+use Rattle.std.specs.Prelude.{if◌then◌else◌, is_some, map, nat_le}
+use Rattle.std.proofs.lemmas.Bool.Decides.{nat_tests}
+use Rattle.signalling_types.specs.Message.{Message, is_management, opc_of, service_indicator}
+use Rattle.signalling_types.specs.declared.outcome.Outcome.TheVariants.{Local}
+use Rattle.signalling_types.specs.declared.cause.Cause.TheVariants as causes
+use Rattle.settings_rows.specs.Configuration.{Configuration}
+use Rattle.m2pa_codec.specs.Frames.{FrameValue}
+use Rattle.mgmt_codec.specs.Management.{read_management}
+use Rattle.mgmt_codec.specs.declared.management.Management.{Management}
+use Rattle.mgmt_codec.specs.declared.fault.MgmtFault.{MgmtFault}
+use Rattle.link_sequence.specs.Queue.{Queue, accept_answer, after_answer, first_queue}
+use Rattle.link_sequence.specs.declared.fault.SeqFault.{SeqFault}
+use Rattle.routing_label.specs.declared.discrimination.Discrimination.{Discrimination}
+use Rattle.exchange_rules.specs.State.{Node, Done, answer, refuse}
+use Rattle.exchange_rules.specs.Links.{down, in_service}
+use Rattle.exchange_rules.specs.Queues.{WholeQueues, queue_at, whole}
+use Rattle.exchange_rules.specs.Frames.{Carrying, carries, numbers}
+use Rattle.exchange_rules.specs.Local.{distribute, do_management, do_order, do_acknowledgement, is_adjacent, is_user, local, manage, on_management, sccp, testing}
+use Rattle.exchange_rules.specs.Messages.{deliver, deliver_to, whither_goes}
+use Rattle.exchange_rules.specs.Relaying.{on_unitdata}
+use Rattle.exchange_rules.specs.ChangingBack.{on_changeback_acknowledgement}
+use Rattle.exchange_rules.specs.Points.{entry_of}
+use Rattle.exchange_rules.proofs.Fitting.{Fits, fit-steps}
+use Rattle.exchange_rules.proofs.Lists.{each-set}
+use Rattle.exchange_rules.proofs.Steps.{confirming}
+use Rattle.pair_moves.specs.Sayings.{UserMessage, Order, Answer}
+use Rattle.pair_moves.specs.Ends.{LinkEnd, Line, Pair, Frame}
+use Rattle.pair_moves.specs.Ends as ends
+use Rattle.pair_moves.specs.Passing.{BecomeAt}
+use Rattle.pair_moves.specs.Carrying.{with_accepted}
+use Rattle.pair_moves.specs.Moves as moves
+use Rattle.pair_rules.proofs.World.{World, says_of, read_says, management_says, said_by, unsaid, shown, line_of, end_of, frame_of}
+use Rattle.pair_rules.proofs.Good.{Each, IsBetween, IsJoined, IsSaid, IsWord, Good, Passes, passes-none, passes-both, at}
+use Rattle.pair_rules.proofs.Good as good
+use Rattle.pair_rules.proofs.Going.{goes-one}
+use Rattle.pair_rules.proofs.Lines.{queue-here, queue-other}
+use Rattle.pair_rules.proofs.Relinked.{note_outcome-passes}
+use Rattle.pair_rules.proofs.ChangingOver.{order-passes, acknowledgement-passes}
+use Rattle.pair_rules.proofs.Lates.{declaration-passes, confirmation-passes}
+
+-- ---- what a message says that comes
+
+says-word : (links : _) (m : Message) (word : Management) → is_management m ≡ true → read_management m.sif ≡ Ok word → says_of links m ≡ management_says links word
+says-word links m word e f =
+    ap (λ (b : Bool). if b then read_says links (read_management m.sif) else UserMessage) e ∙ ap (read_says links) f
+
+-- the tests that distribute a message
+user-local : (si : ℕ) → nat_le 4 si ≡ true → nat_eq si 3 ≡ false
+user-local si e = grind (arith, nat_tests, e)
+
+word-no-test : (si : ℕ) → si ≡ 0 → nat_eq si 1 ≡ false
+word-no-test si e = ap (λ (n : ℕ). nat_eq n 1) e
+
+module _ (c z : Configuration) (j : IsJoined c z) where
+  -- one more message for the user parts here
+  abbrev pub receiving : World → List Message → World
+  receiving w ms = record w { near = record w.near { received = w.near.received ++ ms } }
+
+  -- ---- a user message
+
+  pub handing : (w : World) (n : Node WholeQueues) (m : Message) (rest : List Message) → is_management m ≡ false → Passes c z (at c z w n (m ∷ rest) []) (at c z (receiving w (m ∷ [])) n rest [])
+  handing w n m rest user = record {
+    goes = λ g.
+        goes-one (says_of c.links) _ _
+        (moves.hands_over (record {
+          heard = record { message = m; rest = rest; first = refl; says = ap (λ (b : Bool). if b then read_says c.links (read_management m.sif) else UserMessage) user };
+          after = refl;
+        }));
+    good = λ g. record {
+      fits = g.fits;
+      alone = g.alone;
+      unawaited = g.unawaited;
+      queued = g.queued;
+      held = g.held;
+      loose = tt;
+      arrived = g.arrived.1;
+      coming = g.coming;
+    };
+  }
+
+  local-left : (m : Message) (n : Node WholeQueues) → nat_eq (service_indicator m) sccp ≡ false → (local whole c m n).left ≡ n
+  local-left m n e =
+      ap (λ (b : Bool). (if b then on_unitdata whole c m n else if is_user c (service_indicator m) then answer Local n else refuse causes.NoUserPart n).left) e
+      ∙ by (is_user c (service_indicator m))
+    where
+      by : (b : Bool) → (if b then answer Local n else refuse causes.NoUserPart n).left ≡ n
+      by true = refl
+      by false = refl
+
+  -- ---- a word
+
+  hearing : (word : Management) → IsWord z word → (w : World) (n : Node WholeQueues) (m : Message) (rest : List Message) → says_of c.links m ≡ management_says c.links word
+      → Passes c z (at c z w n (m ∷ rest) []) (at c z w (on_management whole c word z.own n).left rest [])
+  hearing _ (good.orders link number l) w n m rest e =
+      let slc : ℕ = (entry_of z link).slc in
+      let here : link < length c.links = subst (λ (k : ℕ). link < k) j.many l in
+      subst (λ (o : Option ℕ). Passes c z (at c z w n (m ∷ rest) []) (at c z w (do_order whole c o (Some number) n).left rest [])) (sym (j.heard link l))
+      (order-passes c z j w n m rest link number (e ∙ ap (said_by unsaid (λ link. Order link number)) (j.code link l)) here)
+  hearing _ (good.answers link number l) w n m rest e =
+      let here : link < length c.links = subst (λ (k : ℕ). link < k) j.many l in
+      subst (λ (o : Option ℕ). Passes c z (at c z w n (m ∷ rest) []) (at c z w (do_acknowledgement whole c o (Some number) n).left rest [])) (sym (j.heard link l))
+      (acknowledgement-passes c z j w n m rest link number (e ∙ ap (said_by unsaid (λ link. Answer link number)) (j.code link l)) here)
+  hearing _ (good.declares slc code s k) w n m rest e = declaration-passes c z j w n m rest slc code e s k
+  hearing _ (good.confirms slc code) w n m rest e =
+      subst (λ (o : Option ℕ). Passes c z (at c z w n (m ∷ rest) []) (at c z w (on_changeback_acknowledgement whole c o code n).left rest [])) (sym j.adjacent)
+      (confirmation-passes c z j w n m rest code e)
+
+  -- ---- a message that came, once its numbers were accepted
+
+  -- what management from the far point comes to
+  word-left : (link : ℕ) (m : Message) (n : Node WholeQueues) (word : Management) → is_management m ≡ true → service_indicator m ≡ 0 → opc_of m ≡ z.own → read_management m.sif ≡ Ok word
+      → distribute whole c link m n ≡ on_management whole c word z.own n
+  word-left link m n word e si from f =
+      ap (λ (b : Bool). if b then manage whole c link m n else local whole c m n) e
+      ∙ ap (λ (point : ℕ). from_point point) from
+      ∙ ap (λ (o : Option ℕ). if is_some o then tested (nat_eq (service_indicator m) testing) else refuse causes.NotFromAdjacent n) j.adjacent
+      ∙ ap tested (ap (λ (k : ℕ). nat_eq k testing) si)
+      ∙ ap (λ (r : Result Management MgmtFault). do_management whole c r z.own n) f
+    where
+      from_point : ℕ → Done WholeQueues
+      from_point point =
+          if is_adjacent c point
+          then (if nat_eq (service_indicator m) testing then do_test whole c (read_link_test m.sif) link point n else do_management whole c (read_management m.sif) point n)
+          else refuse causes.NotFromAdjacent n
+
+      tested : Bool → Done WholeQueues
+      tested b = (if b then do_test whole c (read_link_test m.sif) link z.own n else do_management whole c (read_management m.sif) z.own n)
+
+  -- nothing is received
+  pub none-received : (v w : World) (n : Node WholeQueues) (arrived loose : List Message) → Passes c z v (at c z w n arrived loose) → Passes c z v (at c z (receiving w []) n arrived loose)
+  none-received v w n arrived loose p =
+      subst (λ (ms : List Message). Passes c z v (record w { near = record { node = n; arrived = arrived; loose = loose; accepted = w.near.accepted; received = ms } }))
+      (sym (append-nil w.near.received)) p
+
+  said-passes : (w : World) (n : Node WholeQueues) (link : ℕ) (m : Message) → IsSaid z m
+      → Passes c z (at c z w n (m ∷ []) []) (at c z (receiving w (for_users (m ∷ []))) (distribute whole c link m n).left [] [])
+  said-passes w n link m (good.is_user user part) =
+      let here : (distribute whole c link m n).left ≡ n =
+      ap (λ (b : Bool). (if b then manage whole c link m n else local whole c m n).left) user ∙ local-left m n (user-local (service_indicator m) part) in
+      let ms : for_users (m ∷ []) ≡ m ∷ [] = ap (λ (b : Bool). if b then m ∷ [] else []) part in
+      subst (λ (o : Node WholeQueues). Passes c z (at c z w n (m ∷ []) []) (at c z (receiving w (for_users (m ∷ []))) o [] [])) (sym here)
+      (subst (λ (xs : List Message). Passes c z (at c z w n (m ∷ []) []) (at c z (receiving w xs) n [] [])) (sym ms) (handing w n m [] user))
+  said-passes w n link m (good.is_word e si from word f is) =
+      let here : (distribute whole c link m n).left ≡ (on_management whole c word z.own n).left =
+      ap (λ (d : Done WholeQueues). d.left) (word-left link m n word e si from f) in
+      let ms : for_users (m ∷ []) ≡ [] = ap (λ (k : ℕ). if nat_le 4 k then m ∷ [] else []) si in
+      subst (λ (o : Node WholeQueues). Passes c z (at c z w n (m ∷ []) []) (at c z (receiving w (for_users (m ∷ []))) o [] [])) (sym here)
+      (subst (λ (xs : List Message). Passes c z (at c z w n (m ∷ []) []) (at c z (receiving w xs) (on_management whole c word z.own n).left [] [])) (sym ms)
+      (none-received (at c z w n (m ∷ []) []) w (on_management whole c word z.own n).left [] [] (hearing word is w n m [] (says-word c.links m word e f))))
+
+  pub deliver-passes : (w : World) (n : Node WholeQueues) (link : ℕ) (m : Message) → IsBetween z c m
+      → Passes c z (at c z w n (m ∷ []) []) (at c z (receiving w (for_users (m ∷ []))) (deliver whole c link m n).left [] [])
+  deliver-passes w n link m b =
+      let d : Done WholeQueues = deliver_to whole c (whither_goes c m) link m n in
+      passes-both c z _ _ _
+      (subst (λ (x : Discrimination). Passes c z (at c z w n (m ∷ []) []) (at c z (receiving w (for_users (m ∷ []))) (deliver_to whole c x link m n).left [] [])) (sym b.here)
+      (said-passes w n link m b.said))
+      (note_outcome-passes c z d.outcome link (receiving w (for_users (m ∷ []))) d.left [] [])
+
+  -- ---- the first frame in flight on a link comes
+
+  pub record Pops (w : World) (link : ℕ) (frame : FrameValue) (f : ℕ → List FrameValue) : Type 0 where
+    pub rest : List FrameValue
+    pub first : w.to_near link ≡ frame ∷ rest
+    pub here : f link ≡ rest
+    pub others : (other : ℕ) → other ≢ link → f other ≡ w.to_near other
+    pub inside : link < length c.links
+
+  abbrev pub popped : World → (ℕ → List FrameValue) → World
+  popped w f = record w { to_near = f }
+
+  module _ (w : World) (link : ℕ) (frame : FrameValue) (f : ℕ → List FrameValue) (p : Pops w link frame f) where
+    still-coming : ((other : ℕ) → Each (IsFlying z c) (w.to_near other)) → (other : ℕ) → Each (IsFlying z c) (f other)
+    still-coming each other =
+        ⊎_elim
+        (λ (same : other ≡ link).
+        subst (λ (k : ℕ). Each (IsFlying z c) (f k)) (sym same)
+        (subst (Each (IsFlying z c)) (sym p.here) (subst (Each (IsFlying z c)) p.first (each link)).1))
+        (λ (d : other ≢ link). subst (Each (IsFlying z c)) (sym (p.others other d)) (each other))
+        (cases_eq other link)
+
+    -- it says nothing to the node
+    pub dropping-frame : (n : Node WholeQueues) → (down n.parts link ≡ true) ⊎ (frame_of frame ≡ ends.StatusFrame) → Passes c z (at c z w n [] []) (at c z (popped w f) n [] [])
+    dropping-frame n silent = record {
+      goes = λ g.
+          goes-one (says_of c.links) _ _
+          (moves.drops (record {
+            link = link;
+            frame = frame_of frame;
+            rest = map frame_of p.rest;
+            first = ap (λ (fs : List FrameValue). map frame_of fs) p.first;
+            silent = ⊎_elim (λ (e : down n.parts link ≡ true). inl (ap not e)) (λ (e : frame_of frame ≡ ends.StatusFrame). inr e) silent;
+            lines = line_of (at c z (popped w f) n [] []);
+            set = record {
+              inside = p.inside;
+              here = ap (λ (fs : List FrameValue). record (line_of (at c z w n [] []) link) { to_near = map frame_of fs }) p.here;
+              others = λ other d. ap (λ (fs : List FrameValue). record (line_of (at c z w n [] []) other) { to_near = map frame_of fs }) (p.others other d);
+            };
+            after = refl;
+          }));
+      good = λ g. record {
+        fits = g.fits;
+        alone = g.alone;
+        unawaited = g.unawaited;
+        queued = g.queued;
+        held = g.held;
+        loose = g.loose;
+        arrived = g.arrived;
+        coming = still-coming g.coming;
+      };
+    }
+
+    -- ---- its numbers are accepted
+
+    module _ (n : Node WholeQueues) (d : Carrying) (confirmed : ℕ) (serves : in_service n.parts link ≡ true) (accepts : numbers whole c link d n ≡ Ok confirmed) where
+      abbrev pub o : Node WholeQueues
+      o = confirming c link d confirmed n
+
+      accepted-end : Fits c n → link < length c.links → end_of o link ≡ record (end_of n link) { queue = after_answer (queue_at n.queues link) (carries d) (Ok confirmed) }
+      accepted-end fits l =
+          ap (λ (q : Queue). record (end_of n link) { queue = q })
+          (queue-here c z n link (queue.accepted (queue_at n.queues link) d.fsn d.bsn (carries d)) fits l
+          ∙ ap (after_answer (queue_at n.queues link) (carries d)) accepts)
+
+      accepted-other : (other : ℕ) → other ≢ link → end_of o other ≡ end_of n other
+      accepted-other other x = ap (λ (q : Queue). record (end_of n other) { queue = q }) (queue-other c z n.queues link other (queue.accepted (queue_at n.queues link) d.fsn d.bsn (carries d)) x)
+
+      pub accepted-set : (arrived : List Message) → Fits c n → BecomeAt (shown c z (at c z w n [] [])) link (with_accepted (line_of (at c z w n [] []) link) (map frame_of p.rest) (carries d) confirmed) (line_of (at c z (popped w f) o arrived []))
+      accepted-set arrived fits = record {
+        inside = p.inside;
+        here =
+            ap (λ (x : LinkEnd). record (line_of (at c z w n [] []) link) { near = x; to_near = map frame_of (f link) }) (accepted-end fits p.inside)
+            ∙ ap (λ (fs : List FrameValue). record (line_of (at c z w n [] []) link) { near = record (end_of n link) { queue = after_answer (queue_at n.queues link) (carries d) (Ok confirmed) }; to_near = map frame_of fs }) p.here;
+        others = λ other x.
+            ap (λ (y : LinkEnd). record (line_of (at c z w n [] []) other) { near = y; to_near = map frame_of (f other) }) (accepted-other other x)
+            ∙ ap (λ (fs : List FrameValue). record (line_of (at c z w n [] []) other) { to_near = map frame_of fs }) (p.others other x);
+      }
+
+      pub accepted-good : (arrived : List Message) → (Good c z (at c z w n [] []) → Each (IsBetween z c) arrived) → Good c z (at c z w n [] []) → Good c z (at c z (popped w f) o arrived [])
+      accepted-good arrived came g = record {
+        fits = ((fit-steps c).accepted link d confirmed n tt serves accepts).stay g.fits;
+        alone = record { routes = g.alone.routes; adjacents = g.alone.adjacents };
+        unawaited = g.unawaited;
+        queued = λ other. each-set (λ (q : Queue). Each (IsBetween c z) q.all) n.queues.links link other (queue.accepted (queue_at n.queues link) d.fsn d.bsn (carries d)) first_queue g.queued
+            (accepted-all (accept_answer (queue_at n.queues link) d.fsn d.bsn (carries d)) (g.queued link));
+        held = g.held;
+        loose = tt;
+        arrived = came g;
+        coming = still-coming g.coming;
+      }
+        where
+          accepted-all : (r : Result ℕ SeqFault) → Each (IsBetween c z) (queue_at n.queues link).all → Each (IsBetween c z) (after_answer (queue_at n.queues link) (carries d) r).all
+          accepted-all (Ok count) e = e
+          accepted-all (Err fault) e = e

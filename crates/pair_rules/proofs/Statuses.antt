@@ -1,0 +1,228 @@
+-- Link statuses that come, timers that run out, and what the operator and the association do to a link: by moves.
+use Rattle.std.proofs.Common.{inr, ◌≡◌, ◌&&◌, ℕ, Bool, true, false, List, [], length, zero, suc, Option, Some, None, refl, ap, sym, subst, ◌∙◌, nat_eq, nat_lt}
+use Rattle.std.specs.Prelude.{if◌then◌else◌, find, slice_index_or}
+use Rattle.std.specs.Option.{option_map}
+use Rattle.signalling_types.specs.Message.{Message}
+use Rattle.signalling_types.specs.declared.notice.FailureReason.{FailureReason}
+use Rattle.signalling_types.specs.declared.notice.FailureReason.TheVariants as reasons
+use Rattle.signalling_types.specs.declared.notice.ChangeoverTimer.TheVariants as timer
+use Rattle.signalling_types.specs.declared.outcome.Outcome.TheVariants.{Handled, Ignored}
+use Rattle.signalling_types.specs.declared.cause.Cause.TheVariants.{NoSuchName}
+use Rattle.settings_rows.specs.Configuration.{Configuration}
+use Rattle.m2pa_codec.specs.Frames.{FrameValue, StatusFrame}
+use Rattle.m2pa_codec.specs.declared.status.LinkStatus.{LinkStatus}
+use Rattle.m2pa_codec.specs.declared.status.LinkStatus.TheVariants as says
+use Rattle.link_alignment.specs.declared.action.Action.{Action}
+use Rattle.link_alignment.specs.declared.action.Action.TheVariants as act
+use Rattle.link_alignment.specs.declared.action.Input.TheVariants.{Status, Expiry}
+use Rattle.link_alignment.specs.declared.action.LinkTimer.{LinkTimer}
+use Rattle.link_alignment.specs.declared.action.LinkTimer.TheVariants as its
+use Rattle.link_alignment.specs.Table.{action_at}
+use Rattle.route_table.specs.declared.route.Route.{Route}
+use Rattle.route_table.specs.declared.route.RouteStatus.{RouteStatus}
+use Rattle.route_table.specs.declared.route.RouteStatus.TheVariants.{Allowed}
+use Rattle.route_table.specs.Facts.{first_route}
+use Rattle.route_table.specs.Statuses.{status_of, leads_by}
+use Rattle.timer_wheel.specs.declared.name.TimerName.{TimerName}
+use Rattle.timer_wheel.specs.declared.name.TimerName.TheVariants as name
+use Rattle.timer_wheel.specs.Timers.{ticked, due_name, after_due, due_count}
+use Rattle.exchange_rules.specs.State.{Node, Done, answer, refuse, with_parts}
+use Rattle.exchange_rules.specs.Links.{down, is_link, link_at}
+use Rattle.exchange_rules.specs.Queues.{WholeQueues, whole}
+use Rattle.exchange_rules.specs.Failing.{fail}
+use Rattle.exchange_rules.specs.Opening.{activate, association_down, deactivate, end_association, fail_if_up, set_active}
+use Rattle.exchange_rules.specs.Rerouting.{ask_by}
+use Rattle.exchange_rules.specs.Routing.{facts}
+use Rattle.exchange_rules.specs.Statuses.{act_by_status, act_by_timer, advance, on_link_status, run_out, serve_status}
+use Rattle.exchange_rules.specs.Ticking.{run_due, run_next, run_timer, run_times, tick, with_timers}
+use Rattle.exchange_rules.specs.Links.{in_service}
+use Rattle.exchange_rules.specs.Timing.{timed_busy, timed_busy_ended}
+use Rattle.exchange_rules.proofs.Steps.{with_busy, without_busy}
+use Rattle.exchange_rules.proofs.Serving.{serves-in}
+use Rattle.exchange_rules.proofs.SteppingLinks.{advance-serves, failed_if_up-down, set_active-steps}
+use Rattle.exchange_rules.proofs.Fitting.{StaysFit, fit-steps, handed-fit, ticked-fit}
+use Rattle.pair_rules.proofs.Alone.{only_routes}
+use Rattle.pair_rules.proofs.World.{World}
+use Rattle.pair_rules.proofs.Good.{IsJoined, Good, Passes, passes-none, passes-both, at}
+use Rattle.pair_rules.proofs.Relinked.{relinked-passes, timed-passes}
+use Rattle.pair_rules.proofs.Failures.{fail-passes}
+use Rattle.pair_rules.proofs.Frames.{Pops, popped, receiving, none-received, dropping-frame}
+use Rattle.pair_rules.proofs.Deliveries.{fails-up}
+use Rattle.pair_rules.proofs.Expiries.{changeover_timer-passes}
+use Rattle.pair_rules.proofs.Returns.{advance-passes}
+use Rattle.pair_rules.proofs.Lates.{late_time-passes, late_code-passes, rerouting_ended-passes}
+
+module _ (c z : Configuration) (j : IsJoined c z) where
+  either-passes : (b : Bool) (w : World) (n o x : Node WholeQueues) (arrived : List Message) → Passes c z (at c z w n arrived []) (at c z w o arrived [])
+      → Passes c z (at c z w n arrived []) (at c z w x arrived []) → Passes c z (at c z w n arrived []) (at c z w (if b then o else x) arrived [])
+  either-passes true w n o x arrived e f = e
+  either-passes false w n o x arrived e f = f
+
+  either_done-passes : (b : Bool) (w : World) (n : Node WholeQueues) (d e : Done WholeQueues) → Passes c z (at c z w n [] []) (at c z w d.left [] [])
+      → Passes c z (at c z w n [] []) (at c z w e.left [] []) → Passes c z (at c z w n [] []) (at c z w (if b then d else e).left [] [])
+  either_done-passes true w n d e f g = f
+  either_done-passes false w n d e f g = g
+
+  -- ---- a status of a peer in service
+
+  begun-busy : (b : Bool) (w : World) (n : Node WholeQueues) (link : ℕ) → in_service n.parts link ≡ true → (link_at n.parts link).peer_busy ≡ b
+      → Passes c z (at c z w n [] []) (at c z w (with_parts n (if b then n.parts else with_busy c link n.parts)) [] [])
+  begun-busy true w n link serves e = passes-none c z (at c z w n [] [])
+  begun-busy false w n link serves e =
+      relinked-passes c z w n [] [] link (record (link_at n.parts link) { peer_busy = true }) (timed_busy c link n.parts.timers) refl ((fit-steps c).busied link n tt serves e)
+
+  ended-busy : (b : Bool) (w : World) (n : Node WholeQueues) (link : ℕ) → in_service n.parts link ≡ true → (link_at n.parts link).peer_busy ≡ b
+      → Passes c z (at c z w n [] []) (at c z w (with_parts n (if b then without_busy c link (whole.outstanding n.queues link) n.parts else n.parts)) [] [])
+  ended-busy true w n link serves e =
+      relinked-passes c z w n [] [] link (record (link_at n.parts link) { peer_busy = false }) (timed_busy_ended c link (whole.outstanding n.queues link) n.parts.timers) refl
+      ((fit-steps c).resumed link n tt serves e)
+  ended-busy false w n link serves e = passes-none c z (at c z w n [] [])
+
+  serving-passes : (w : World) (n : Node WholeQueues) (link : ℕ) (status : LinkStatus) → in_service n.parts link ≡ true
+      → Passes c z (at c z w n [] []) (at c z w (serve_status whole c link status n) [] [])
+  serving-passes w n link says.Busy e = begun-busy (link_at n.parts link).peer_busy w n link e refl
+  serving-passes w n link says.BusyEnded e = ended-busy (link_at n.parts link).peer_busy w n link e refl
+  serving-passes w n link says.Alignment e = passes-none c z (at c z w n [] [])
+  serving-passes w n link says.ProvingNormal e = passes-none c z (at c z w n [] [])
+  serving-passes w n link says.ProvingEmergency e = passes-none c z (at c z w n [] [])
+  serving-passes w n link says.Ready e = passes-none c z (at c z w n [] [])
+  serving-passes w n link says.ProcessorOutage e = passes-none c z (at c z w n [] [])
+  serving-passes w n link says.ProcessorRecovered e = passes-none c z (at c z w n [] [])
+  serving-passes w n link says.OutOfService e = passes-none c z (at c z w n [] [])
+
+  serving-acted : (b : Bool) (w : World) (n : Node WholeQueues) (link : ℕ) (status : LinkStatus) → (b ≡ true → in_service n.parts link ≡ true)
+      → Passes c z (at c z w n [] []) (at c z w (if b then serve_status whole c link status n else n) [] [])
+  serving-acted true w n link status e = serving-passes w n link status (e refl)
+  serving-acted false w n link status e = passes-none c z (at c z w n [] [])
+
+  pub status-acted : (a : Action) (w : World) (n : Node WholeQueues) (link : ℕ) (status : LinkStatus) → action_at (link_at n.parts link).alignment (Status status) ≡ a
+      → Passes c z (at c z w n [] []) (at c z w (act_by_status whole c a link status n).left [] [])
+  status-acted act.Ignored w n link status e = passes-none c z (at c z w n [] [])
+  status-acted act.Fail w n link status e = fail-passes c z j w n [] link reasons.Status (fails-up (link_at n.parts link).alignment (Status status) e)
+  status-acted (act.Go step) w n link status e =
+      passes-both c z _ _ _ (advance-passes c z j w n [] link (Status status) step e)
+      (serving-acted step.serve w (advance whole c link step n) link status
+      (λ h. advance-serves c link (Status status) step n e ∙ serves-in (link_at n.parts link).alignment (Status status) step e h))
+
+  -- ---- timers of a link
+
+  timer-acted : (a : Action) (w : World) (n : Node WholeQueues) (link : ℕ) (t : LinkTimer) → action_at (link_at n.parts link).alignment (Expiry t) ≡ a
+      → Passes c z (at c z w n [] []) (at c z w (act_by_timer whole c a link n) [] [])
+  timer-acted act.Ignored w n link t e = passes-none c z (at c z w n [] [])
+  timer-acted act.Fail w n link t e = fail-passes c z j w n [] link reasons.Timer (fails-up (link_at n.parts link).alignment (Expiry t) e)
+  timer-acted (act.Go step) w n link t e = advance-passes c z j w n [] link (Expiry t) step e
+
+  pub run_out-passes : (w : World) (n : Node WholeQueues) (link : ℕ) (t : LinkTimer) → Passes c z (at c z w n [] []) (at c z w (run_out whole c link t n) [] [])
+  run_out-passes w n link t = timer-acted (action_at (link_at n.parts link).alignment (Expiry t)) w n link t refl
+
+  -- ---- the status of a frame in flight
+
+  pub status-passes : (w : World) (n : Node WholeQueues) (link bsn fsn : ℕ) (status : LinkStatus) (f : ℕ → List FrameValue) → Pops c z j w link (StatusFrame bsn fsn status) f
+      → Passes c z (at c z w n [] []) (at c z (receiving c z j (popped c z j w f) []) (on_link_status whole c link status n).left [] [])
+  status-passes w n link bsn fsn status f p =
+      let acted : Node WholeQueues = (on_link_status whole c link status n).left in
+      none-received c z j (at c z w n [] []) (popped c z j w f) acted [] []
+      (passes-both c z _ _ _ (status-acted (action_at (link_at n.parts link).alignment (Status status)) w n link status refl)
+      (dropping-frame c z j w link (StatusFrame bsn fsn status) f p acted (inr refl)))
+
+  -- ---- a route set test of our own is never due
+
+  status-allowed : (destination set : ℕ) (status : RouteStatus) → option_map (λ (r : Route). r.status) (find (leads_by set) (slice_index_or only_routes destination [])) ≡ Some status → status ≡ Allowed
+  status-allowed zero set status e = by (nat_eq 0 set) e
+    where
+      by : (b : Bool) → option_map (λ (r : Route). r.status) (if b then Some (first_route 0) else None) ≡ Some status → status ≡ Allowed
+      by true f = cc
+      by false f = absurd cc
+  status-allowed (suc destination) set status e = absurd cc
+
+  asked-none : (o : Option RouteStatus) (set destination : ℕ) (n : Node WholeQueues) → ((status : RouteStatus) → o ≡ Some status → status ≡ Allowed) → ask_by whole c o set destination n ≡ n
+  asked-none (Some status) set destination n e = ap (λ (s : RouteStatus). ask_by whole c (Some s) set destination n) (e status refl)
+  asked-none None set destination n e = refl
+
+  asked-passes : (b : Bool) (w : World) (n : Node WholeQueues) (set destination : ℕ)
+      → Passes c z (at c z w n [] []) (at c z w (if b then ask_by whole c (status_of (facts c n.parts) destination set) set destination n else n) [] [])
+  asked-passes true w n set destination = record {
+    goes = λ g. (whole-same g).goes g;
+    good = λ g. (whole-same g).good g;
+  }
+    where
+      whole-same : Good c z (at c z w n [] []) → Passes c z (at c z w n [] []) (at c z w (ask_by whole c (status_of (facts c n.parts) destination set) set destination n) [] [])
+      whole-same g =
+          subst (λ (o : Node WholeQueues). Passes c z (at c z w n [] []) (at c z w o [] []))
+          (sym (asked-none (status_of (facts c n.parts) destination set) set destination n
+          (λ status e. status-allowed destination set status
+          (ap (λ (routes : List (List Route)). option_map (λ (r : Route). r.status) (find (leads_by set) (slice_index_or routes destination []))) (sym g.alone.routes) ∙ e))))
+          (passes-none c z (at c z w n [] []))
+  asked-passes false w n set destination = passes-none c z (at c z w n [] [])
+
+  -- ---- a tick
+
+  run_timer-passes : (t : TimerName) (w : World) (n : Node WholeQueues) → Passes c z (at c z w n [] []) (at c z w (run_timer whole c t n) [] [])
+  run_timer-passes (name.L1 link) w n = run_out-passes w n link its.L1
+  run_timer-passes (name.L2 link) w n = run_out-passes w n link its.L2
+  run_timer-passes (name.L3 link) w n = run_out-passes w n link its.L3
+  run_timer-passes (name.L4 link) w n = run_out-passes w n link its.L4
+  run_timer-passes (name.L6 link) w n = run_out-passes w n link its.L6
+  run_timer-passes (name.L7 link) w n = run_out-passes w n link its.L7
+  run_timer-passes (name.T1 link) w n = changeover_timer-passes c z j timer.T1 w n link
+  run_timer-passes (name.T2 link) w n = changeover_timer-passes c z j timer.T2 w n link
+  run_timer-passes (name.T3 link) w n = late_time-passes c z j w n [] [] link
+  run_timer-passes (name.T4 set code) w n = late_code-passes c z j w n [] [] set code
+  run_timer-passes (name.T6 destination) w n = rerouting_ended-passes c z j w n [] [] destination
+  run_timer-passes (name.T8 set destination) w n = passes-none c z (at c z w n [] [])
+  run_timer-passes (name.T10 set destination) w n = asked-passes (nat_lt set (length c.sets) && nat_lt destination (length c.destinations)) w n set destination
+
+  run_due-passes : (o : Option TimerName) (w : World) (n : Node WholeQueues) → Passes c z (at c z w n [] []) (at c z w (run_due whole c o n) [] [])
+  run_due-passes None w n = passes-none c z (at c z w n [] [])
+  run_due-passes (Some t) w n = run_timer-passes t w n
+
+  run_next-passes : (w : World) (n : Node WholeQueues) → Passes c z (at c z w n [] []) (at c z w (run_next whole c n) [] [])
+  run_next-passes w n =
+      passes-both c z _ _ _ (timed-passes c z w n [] [] (after_due n.parts.timers) (handed-fit c n))
+      (run_due-passes (due_name n.parts.timers) w (with_timers n (after_due n.parts.timers)))
+
+  run_times-passes : (many : ℕ) (w : World) (n : Node WholeQueues) → Passes c z (at c z w n [] []) (at c z w (run_times whole c many n) [] [])
+  run_times-passes zero w n = passes-none c z (at c z w n [] [])
+  run_times-passes (suc many) w n = passes-both c z _ _ _ (run_next-passes w n) (run_times-passes many w (run_next whole c n))
+
+  pub tick-passes : (w : World) (n : Node WholeQueues) → Passes c z (at c z w n [] []) (at c z w (tick whole c n).left [] [])
+  tick-passes w n =
+      let begun : Node WholeQueues = with_timers n (ticked n.parts.timers) in
+      passes-both c z _ _ _ (timed-passes c z w n [] [] (ticked n.parts.timers) (ticked-fit c n)) (run_times-passes (due_count begun.parts.timers) w begun)
+
+  -- ---- an association goes down, and the operator's word
+
+  fail_if_up-passes : (w : World) (n : Node WholeQueues) (link : ℕ) (why : FailureReason) → Passes c z (at c z w n [] []) (at c z w (fail_if_up whole c link why n) [] [])
+  fail_if_up-passes w n link why = by (down n.parts link) refl
+    where
+      by : (b : Bool) → down n.parts link ≡ b → Passes c z (at c z w n [] []) (at c z w (if b then n else fail whole c link why n) [] [])
+      by true e = passes-none c z (at c z w n [] [])
+      by false e = fail-passes c z j w n [] link why e
+
+  set_active-passes : (active : Bool) (w : World) (n : Node WholeQueues) (link : ℕ) → Passes c z (at c z w n [] []) (at c z w (set_active whole c active link n) [] [])
+  set_active-passes active w n link =
+      relinked-passes c z w n [] [] link (record (link_at n.parts link) { active = active }) n.parts.timers refl (set_active-steps (fit-steps c) active link n)
+
+  end_association-passes : (w : World) (n : Node WholeQueues) (link : ℕ) → StaysFit c n (end_association whole c link n) → Passes c z (at c z w n [] []) (at c z w (end_association whole c link n) [] [])
+  end_association-passes w n link stay = relinked-passes c z w n [] [] link (record (link_at n.parts link) { association = false }) n.parts.timers refl stay
+
+  pub association_down-passes : (w : World) (n : Node WholeQueues) (link : ℕ) → Passes c z (at c z w n [] []) (at c z w (association_down whole c link n).left [] [])
+  association_down-passes w n link =
+      let gone : Node WholeQueues = fail_if_up whole c link reasons.Association n in
+      let ended : Done WholeQueues = answer Handled (end_association whole c link gone) in
+      either_done-passes (is_link n.parts link) w n (if (link_at n.parts link).association then ended else answer Ignored n) (refuse NoSuchName n)
+      (either_done-passes (link_at n.parts link).association w n ended (answer Ignored n)
+      (passes-both c z _ _ _ (fail_if_up-passes w n link reasons.Association)
+      (end_association-passes w gone link ((fit-steps c).parted link gone (failed_if_up-down c (down n.parts link) link reasons.Association n refl))))
+      (passes-none c z (at c z w n [] [])))
+      (passes-none c z (at c z w n [] []))
+
+  pub activate-passes : (w : World) (n : Node WholeQueues) (link : ℕ) → Passes c z (at c z w n [] []) (at c z w (activate whole c link n).left [] [])
+  activate-passes w n link =
+      either_done-passes (is_link n.parts link) w n (answer Handled (set_active whole c true link n)) (refuse NoSuchName n) (set_active-passes true w n link) (passes-none c z (at c z w n [] []))
+
+  pub deactivate-passes : (w : World) (n : Node WholeQueues) (link : ℕ) → Passes c z (at c z w n [] []) (at c z w (deactivate whole c link n).left [] [])
+  deactivate-passes w n link =
+      let gone : Node WholeQueues = fail_if_up whole c link reasons.Operator n in
+      either_done-passes (is_link n.parts link) w n (answer Handled (set_active whole c false link gone)) (refuse NoSuchName n)
+      (passes-both c z _ _ _ (fail_if_up-passes w n link reasons.Operator) (set_active-passes false w gone link)) (passes-none c z (at c z w n [] []))

@@ -1,0 +1,63 @@
+-- The same, seen from the far node.
+use Rattle.std.proofs.Common.{◌≡◌, ℕ, List, [], ◌∷◌, map, length, refl, ap, sym, subst, ◌∙◌}
+use Rattle.signalling_types.specs.Message.{Message}
+use Rattle.settings_rows.specs.Configuration.{Configuration}
+use Rattle.stp_types.specs.Facing.{IsFacing}
+use Rattle.exchange_rules.proofs.FacingNodes.{links-alike}
+use Rattle.pair_moves.specs.Sayings.{Saying}
+use Rattle.pair_moves.specs.Ends.{Pair, turned, first_pair}
+use Rattle.pair_moves.specs.Moves.{Move, Moves, last_of}
+use Rattle.pair_moves.specs.Moves as moves
+use Rattle.pair_rules.proofs.Going.{Goes}
+use Rattle.pair_rules.proofs.World.{World, turned_world, says_of, shown}
+use Rattle.pair_rules.proofs.Reading.{says-alike}
+use Rattle.pair_rules.proofs.First.{first_world}
+
+pub turned-twice : (p : Pair) → turned (turned p) ≡ p
+turned-twice p = refl
+
+pub turned-first : (links : ℕ) → turned (first_pair links) ≡ first_pair links
+turned-first links = refl
+
+module _ (read : Message → Saying) where
+  -- a move of one node is a move of the other, as that sees it
+  pub move-turned : (p q : Pair) → Move read p q → Move read (turned p) (turned q)
+  move-turned p q (moves.near m) = moves.far m
+  move-turned p q (moves.far m) = moves.near m
+
+  moves-turned : (p : Pair) (ps : List Pair) → Moves read p ps → Moves read (turned p) (map turned ps)
+  moves-turned p [] m = tt
+  moves-turned p (q ∷ ps) m = (move-turned p q m.0, moves-turned q ps m.1)
+
+  last-turned : (p : Pair) (ps : List Pair) → last_of (turned p) (map turned ps) ≡ turned (last_of p ps)
+  last-turned p [] = refl
+  last-turned p (q ∷ ps) = last-turned q ps
+
+  pub goes-turned : (p q : Pair) → Goes read p q → Goes read (turned p) (turned q)
+  goes-turned p q g = record {
+    through = map turned g.through;
+    moves = moves-turned p g.through g.moves;
+    ends = last-turned p g.through ∙ ap turned g.ends;
+  }
+
+-- what is shown of two nodes, by either
+pub shown-turned : (near far : Configuration) (w : World) → length far.links ≡ length near.links → shown far near (turned_world w) ≡ turned (shown near far w)
+shown-turned near far w e = ap (λ (links : ℕ). record (turned (shown near far w)) { links = links }) e
+
+pub world-turned-twice : (w : World) → turned_world (turned_world w) ≡ w
+world-turned-twice w = refl
+
+pub first-turned : (near far : Configuration) → turned_world (first_world near far) ≡ first_world far near
+first-turned near far = refl
+
+-- what goes by moves as the far node shows it, goes so as the near node does
+pub far-goes : (near far : Configuration) → IsFacing near far → (v w : World)
+    → Goes (says_of far.links) (shown far near (turned_world v)) (shown far near (turned_world w)) → Goes (says_of near.links) (shown near far v) (shown near far w)
+far-goes near far f v w g =
+    subst (λ (read : Message → Saying). Goes read (shown near far v) (shown near far w)) (sym (says-alike near far f))
+    (subst (λ (p : Pair). Goes (says_of far.links) p (shown near far w)) (back v)
+    (subst (λ (q : Pair). Goes (says_of far.links) (turned (shown far near (turned_world v))) q) (back w)
+    (goes-turned (says_of far.links) (shown far near (turned_world v)) (shown far near (turned_world w)) g)))
+  where
+    back : (u : World) → turned (shown far near (turned_world u)) ≡ shown near far u
+    back u = ap turned (shown-turned near far u (sym (links-alike near far f)))

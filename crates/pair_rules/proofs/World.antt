@@ -1,0 +1,133 @@
+-- Two nodes in the midst of an event at the near one, and the machine of moves as it shows them.
+use Rattle.std.proofs.Common.{ℕ, Bool, not, nat_eq, nat_lt, List, Option, Some, None, length, Ok, Err, Result, ◌&&◌}
+use Rattle.std.specs.Prelude.{if◌then◌else◌, position, map}
+use Rattle.signalling_types.specs.Message.{Message, is_management}
+use Rattle.signalling_types.specs.declared.point.Flow.{Flow}
+use Rattle.settings_rows.specs.Configuration.{Configuration, LinkEntry}
+use Rattle.m2pa_codec.specs.Frames.{FrameValue, EmptyFrame, MessageFrame, StatusFrame}
+use Rattle.mgmt_codec.specs.Management.{read_management}
+use Rattle.mgmt_codec.specs.declared.fault.MgmtFault.{MgmtFault}
+use Rattle.mgmt_codec.specs.declared.management.Management.{Management}
+use Rattle.mgmt_codec.specs.declared.management.Management.TheVariants as says
+use Rattle.flow_hold.specs.Holds as hold
+use Rattle.flow_hold.specs.declared.procedure.Procedure.{Procedure}
+use Rattle.flow_hold.specs.declared.procedure.Procedure.TheVariants as held_by
+use Rattle.changeback.specs.Codes.{is_outstanding}
+use Rattle.exchange_rules.specs.State.{Node, Parts}
+use Rattle.exchange_rules.specs.Links.{down, in_service}
+use Rattle.exchange_rules.specs.Queues.{WholeQueues, queue_at}
+use Rattle.exchange_rules.specs.Failing.{changeover_of}
+use Rattle.exchange_rules.specs.Routing.{link_of}
+use Rattle.pair_moves.specs.Sayings.{Saying, UserMessage, Order, Answer, Declaration, Confirmation}
+use Rattle.pair_moves.specs.Ends.{LinkEnd, Line, Side, Pair, Frame}
+use Rattle.pair_moves.specs.Ends as ends
+
+-- ---- two nodes, and what is between them
+
+-- a node at work: the messages that came and weren't looked at yet, and those that stand nowhere yet
+pub record Mid : Type 0 where
+  pub node : Node WholeQueues
+  pub arrived : List Message
+  pub loose : List Message
+  pub accepted : List Message
+  pub received : List Message
+
+pub record World : Type 0 where
+  pub near : Mid
+  pub far : Mid
+  pub to_near : ℕ → List FrameValue
+  pub to_far : ℕ → List FrameValue
+
+abbrev pub turned_world : World → World
+turned_world w = record { near = w.far; far = w.near; to_near = w.to_far; to_far = w.to_near }
+
+-- ---- what messages say
+
+-- the link with a signalling link code, where all links are of one set
+abbrev pub link_of_code : List LinkEntry → (slc : ℕ) → Option ℕ
+link_of_code links slc = position (λ (l : LinkEntry). nat_eq l.slc slc) links
+
+abbrev pub said_by : Saying → (ℕ → Saying) → Option ℕ → Saying
+said_by other says (Some link) = says link
+said_by other says None = other
+
+-- what no peer of ours says
+abbrev pub unsaid : Saying
+unsaid = Confirmation 0
+
+abbrev pub management_says : List LinkEntry → Management → Saying
+management_says links (says.ExtendedChangeoverOrder slc number) = said_by unsaid (λ link. Order link number) (link_of_code links slc)
+management_says links (says.ExtendedChangeoverAcknowledgement slc number) = said_by unsaid (λ link. Answer link number) (link_of_code links slc)
+management_says links (says.ChangebackDeclaration slc code) = Declaration code
+management_says links (says.ChangebackAcknowledgement slc code) = Confirmation code
+management_says links _ = unsaid
+
+abbrev pub read_says : List LinkEntry → Result Management MgmtFault → Saying
+read_says links (Ok m) = management_says links m
+read_says links (Err fault) = unsaid
+
+-- what a message says to the other end, whose links have the same codes
+abbrev pub says_of : List LinkEntry → Message → Saying
+says_of links m = if is_management m then read_says links (read_management m.sif) else UserMessage
+
+-- ---- what is shown of a node
+
+abbrev pub end_of : Node WholeQueues → (link : ℕ) → LinkEnd
+end_of n link = record {
+  queue = queue_at n.queues link;
+  up = not (down n.parts link);
+  serving = in_service n.parts link;
+  incomplete = (changeover_of n.parts link).incomplete;
+  awaited = (changeover_of n.parts link).awaited;
+}
+
+abbrev pub procedure_of : ends.Procedure → Procedure
+procedure_of (ends.Changeover link) = held_by.Changeover link
+procedure_of (ends.Code code) = held_by.Code 0 code
+procedure_of (ends.Time link) = held_by.Time link
+
+-- the only destination of a node in a pair is the far point, number 0
+abbrev pub holds_of : (far : ℕ) → Parts → ends.Procedure → Flow → Bool
+holds_of far p procedure flow = nat_eq flow.point far && hold.holds p.holds (procedure_of procedure) 0 flow.sls
+
+abbrev pub route_of : Configuration → Parts → Flow → Option ℕ
+route_of c p flow = if nat_lt flow.sls hold.selections then link_of c p flow else None
+
+abbrev pub side_by : (far : ℕ) → (Flow → Option ℕ) → Mid → Side
+side_by far route m = record {
+  accepted = m.accepted;
+  received = m.received;
+  arrived = m.arrived;
+  held = m.node.queues.held;
+  loose = m.loose;
+  route = route;
+  holds = holds_of far m.node.parts;
+  outstanding = λ code. is_outstanding m.node.parts.codes 0 code;
+  lost = m.node.parts.lost_any;
+  late = m.node.parts.late_any;
+}
+
+abbrev pub frame_of : FrameValue → Frame
+frame_of (EmptyFrame bsn fsn) = ends.EmptyFrame fsn bsn
+frame_of (MessageFrame bsn fsn sio sif) = ends.MessageFrame fsn bsn (record { sio = sio; sif = sif })
+frame_of (StatusFrame bsn fsn status) = ends.StatusFrame
+
+abbrev pub line_of : World → (link : ℕ) → Line
+line_of w link = record {
+  near = end_of w.near.node link;
+  far = end_of w.far.node link;
+  to_far = map frame_of (w.to_far link);
+  to_near = map frame_of (w.to_near link);
+}
+
+-- a pair, where the near node's flows take these links
+abbrev pub shown_by : (c z : Configuration) → (Flow → Option ℕ) → World → Pair
+shown_by c z route w = record {
+  links = length c.links;
+  line = line_of w;
+  near = side_by z.own route w.near;
+  far = side_by c.own (route_of z w.far.node.parts) w.far;
+}
+
+abbrev pub shown : (c z : Configuration) → World → Pair
+shown c z w = shown_by c z (route_of c w.near.node.parts) w

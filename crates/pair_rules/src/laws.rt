@@ -1,0 +1,61 @@
+//! What two exchanges promise each other, whatever happens to them and to their links. Each law holds
+//! of every list of steps from two exchanges on that were just booted from settings that face each
+//! other. The steps are those of `specs/Pairs.antt`. The two promises are stated in
+//! `specs/Promises.antt`, and the four laws of a link, from which the first comes, in
+//! `specs/Laws.antt`; these hold in both directions, while neither exchange may have lost a message.
+//! Each function says its law by its contract, and does nothing.
+
+ghost use Rattle.pair_rules.specs.Promises.{each_message_once, each_flow_in_order};
+ghost use Rattle.pair_rules.specs.Laws.{frames_carry, words_are_read, none_is_left, words_are_final};
+ghost use Rattle.pair_rules.specs.Laws.{moves_are_lacked};
+
+/// "Exactly once", in both directions. While neither exchange may have lost a message, as many user
+/// messages of any kind were accepted at one end as the other end received and as wait between them.
+pub fn each_message_comes_once()
+    ensures { each_message_once }
+{}
+
+/// "Order", in both directions. While neither exchange may have lost a message, and no timer of the
+/// accepting end ended a hold, the user messages of a flow that one end accepted are, in order,
+/// those that the other received, and then those that wait.
+pub fn each_flow_keeps_its_order()
+    ensures { each_flow_in_order }
+{}
+
+/// Law (i), of a link and either direction. While the link is up at either end, and until the near
+/// end's changeover of it is complete, the far end received no fewer messages than are confirmed, and
+/// no more than were sent; and while the link isn't down there, the frames in flight carry those
+/// between, in order (RFC 4165 §2.2). A message that a frame newly carries is the first that the far
+/// end lacked.
+pub fn frames_carry_what_was_not_received()
+    ensures { frames_carry }
+{}
+
+/// A word, of which laws (ii) to (iv) speak, is what an order to change over or its answer says to the
+/// node that it comes to: which link it is about, and a number. What a node makes of either kind says
+/// the link and the number that it was made with to the node that it faces (Q.704 §15.4).
+pub fn orders_and_answers_say_their_word()
+    ensures { words_are_read }
+{}
+
+/// Law (ii). Where both ends want a link to open, no order to change over and no answer about it
+/// stands in Held or unreceived in a queue of either end, and none is in flight to an end on a link
+/// that isn't down there (Q.704 §5.4).
+pub fn links_open_with_no_word_left()
+    ensures { none_is_left }
+{}
+
+/// Law (iii). While an order to change over or an answer about a link stands in Held or unreceived
+/// in a queue, the link is down at the end that sends it, and it carries the number of the last
+/// message that was accepted there (Q.704 §5.4, with the numbers of Q.2210).
+pub fn words_carry_the_final_number()
+    ensures { words_are_final }
+{}
+
+/// Law (iv). While a link is up at either end, and until an end's changeover of it is complete, the
+/// number of the last message that the peer accepted there names the count of all that it received.
+/// So an order or an answer of the peer that completes the changeover, as one that the next frame
+/// brings, moves the messages that the peer lacks, and no other (Q.704 §5.4, §5.5).
+pub fn completions_move_what_the_peer_lacks()
+    ensures { moves_are_lacked }
+{}
