@@ -4,6 +4,8 @@ ghost use Rattle.std.specs.Prelude.{◌≤◌, IfSome};
 
 use crate::draft::Sets;
 use crate::failure::Stage;
+use crate::titles::Table;
+use crate::unitdata::BARE_OCTETS;
 use stp_types::Limits;
 
 /// Octets of a routing label, which each message has (Q.704 §2.2).
@@ -25,6 +27,10 @@ pub(crate) enum Kind {
     Local,
     /// There is none: an empty frame comes.
     Acknowledgement,
+    /// It is a UDT for this point, and goes on by its title, written anew.
+    Relay(Table),
+    /// It is a UDT for this point that no translation row leads on, and goes back as a UDTS.
+    Udts(Table),
     /// It stands on a link, which may fail then and be changed over.
     Standing(Stage),
     /// It is held, since the link that it takes comes back; that link fails and returns for each.
@@ -43,6 +49,26 @@ impl Kind {
         match self {
             Kind::Tick | Kind::Status | Kind::Entry => Sets::Single,
             _ => Sets::Full,
+        }
+    }
+
+    /// How many translation rows there are.
+    pub(crate) fn titles(self) -> usize
+        ensures { result ≤ Limits.TITLES }
+    {
+        match self {
+            Kind::Relay(table) | Kind::Udts(table) => table.rows(),
+            _ => 0,
+        }
+    }
+
+    /// The fewest octets that its message may have.
+    fn fewest_octets(self) -> usize
+        ensures { LABEL_OCTETS ≤ result }
+    {
+        match self {
+            Kind::Relay(_) | Kind::Udts(_) => BARE_OCTETS,
+            _ => LABEL_OCTETS,
         }
     }
 }
@@ -72,7 +98,7 @@ impl Arguments {
             return None;
         };
         let kind = kind_of(kind.as_str())?;
-        let octets = within(octets.as_str(), LABEL_OCTETS, Limits::SIF_OCTETS)?;
+        let octets = within(octets.as_str(), kind.fewest_octets(), Limits::SIF_OCTETS)?;
         let destinations = within(
             destinations.as_str(),
             FEWEST_DESTINATIONS,
@@ -102,6 +128,10 @@ fn kind_of(name: &str) -> Option<Kind> {
         "submit" => Some(Kind::Submit),
         "local" => Some(Kind::Local),
         "acknowledgement" => Some(Kind::Acknowledgement),
+        "relay" => Some(Kind::Relay(Table::Short)),
+        "relay-full" => Some(Kind::Relay(Table::Full)),
+        "udts" => Some(Kind::Udts(Table::Short)),
+        "udts-full" => Some(Kind::Udts(Table::Full)),
         "queue" => Some(Kind::Standing(Stage::Queue)),
         "failure" => Some(Kind::Standing(Stage::Failure)),
         "changeover" => Some(Kind::Standing(Stage::Completion)),

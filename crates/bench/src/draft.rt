@@ -2,6 +2,7 @@
 
 ghost use Rattle.std.specs.Prelude.{◌≤◌};
 
+use crate::titles::title_drafts;
 use std::alloc::{AllocError, Global};
 use stp_types::{
     DestinationDraft, Draft, Limits, LinkDraft, LinkId, PointCode, SetDraft, TimersDraft,
@@ -71,17 +72,19 @@ impl Sets {
 }
 
 /// The settings of a node with so many links, and so many destinations. The adjacent point of each link set is a
-/// destination; the others lie behind the first set.
+/// destination; the others lie behind the first set. So many translation rows lead to the last destination.
 pub(crate) fn draft_with(
     alloc: Global,
     destinations: usize,
     links: usize,
     sets: Sets,
+    titles: usize,
 ) -> Result<Draft, AllocError>
     requires destinations { destinations ≤ Limits.DESTINATIONS }
     requires links { links ≤ Limits.LINKS }
 {
     let set_count = sets.count(links);
+    let last = OWN as i64 + destinations as i64;
     Ok(Draft {
         own: OWN as i64,
         network: INTERNATIONAL as i64,
@@ -93,7 +96,7 @@ pub(crate) fn draft_with(
         sets: set_drafts(alloc, set_count)?,
         links: link_drafts(alloc, links, sets)?,
         destinations: destination_drafts(alloc, destinations, set_count)?,
-        titles: Vec::new(alloc),
+        titles: title_drafts(alloc, titles, last)?,
     })
 }
 

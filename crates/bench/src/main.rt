@@ -15,8 +15,10 @@ mod incoming;
 mod outage;
 mod peer;
 mod routes;
+mod titles;
 mod total;
 mod traffic;
+mod unitdata;
 
 use arguments::Arguments;
 use peer::Peer;
@@ -47,8 +49,14 @@ fn total_of(alloc: Global, arguments: &Arguments) -> Option<Total>
     requires destinations { arguments.now.destinations ≤ Limits.DESTINATIONS }
     requires links { arguments.now.links ≤ Limits.LINKS }
 {
-    let sets = arguments.kind.sets();
-    let mut peer = Peer::of_exchange_with(alloc, arguments.destinations, arguments.links, sets)?;
+    let kind = arguments.kind;
+    let mut peer = Peer::of_exchange_with(
+        alloc,
+        arguments.destinations,
+        arguments.links,
+        kind.sets(),
+        kind.titles(),
+    )?;
     carry(&mut peer, arguments);
     Some(peer.total())
 }
@@ -71,7 +79,7 @@ fn report(rt: &HostRuntime, total: Option<Total>) -> io::Result<ExitCode> {
 fn refuse(rt: &HostRuntime) -> io::Result<ExitCode> {
     println!(rt;
         "usage: bench KIND OCTETS DESTINATIONS LINKS COUNT; a KIND is forward, burst, submit, local, acknowledgement, \
-queue, failure, changeover, return, tick, status or entry"
+relay, relay-full, udts, udts-full, queue, failure, changeover, return, tick, status or entry"
     )?;
     Ok(ExitCode::from(1))
 }

@@ -51,7 +51,7 @@ pub(crate) struct Peer {
 }
 
 impl Peer {
-    /// The peer of an exchange with so many destinations and links. The last link of the first set is in service and
+    /// The peer of an exchange with so many destinations, links and translation rows. The last link of the first set is in service and
     /// carries all messages, so that the others of its set are looked at in vain. All that is owed was told and
     /// confirmed. None where memory ran out.
     pub(crate) fn of_exchange_with(
@@ -59,13 +59,14 @@ impl Peer {
         destinations: usize,
         links: usize,
         sets: Sets,
+        titles: usize,
     ) -> Option<Peer>
         requires destinations { destinations ≤ Limits.DESTINATIONS }
         requires links { links ≤ Limits.LINKS }
     {
         let link = sets.last_of_first(links);
         let submitted = Msu::new(0, &[]).ok()?;
-        let exchange = exchange_with(alloc, destinations, links, sets)?;
+        let exchange = exchange_with(alloc, destinations, links, sets, titles)?;
         let mut peer = Peer {
             exchange,
             link,
@@ -262,12 +263,19 @@ impl Peer {
     }
 }
 
-/// The exchange with so many destinations and links, before its first event. None where memory ran out.
-fn exchange_with(alloc: Global, destinations: usize, links: usize, sets: Sets) -> Option<Exchange>
+/// The exchange with so many destinations, links and translation rows, before its first event. None where memory ran
+/// out.
+fn exchange_with(
+    alloc: Global,
+    destinations: usize,
+    links: usize,
+    sets: Sets,
+    titles: usize,
+) -> Option<Exchange>
     requires destinations { destinations ≤ Limits.DESTINATIONS }
     requires links { links ≤ Limits.LINKS }
 {
-    let draft = draft_with(alloc, destinations, links, sets).ok()?;
+    let draft = draft_with(alloc, destinations, links, sets, titles).ok()?;
     let settings = Settings::check(alloc, draft).ok()?;
     Exchange::boot(alloc, settings).ok()
 }

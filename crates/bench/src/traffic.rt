@@ -9,6 +9,7 @@ use crate::incoming::Incoming;
 use crate::outage::come_and_go;
 use crate::peer::Peer;
 use crate::routes::{change_status, enter, tick};
+use crate::unitdata::{ASTRAY, LED, unitdata};
 use routing_label::Label;
 use stp_types::{Limits, MsuRef, PointCode, Sls};
 
@@ -21,7 +22,7 @@ const SIO: u8 = INTERNATIONAL << 6 | ISUP;
 /// What stands in a message behind its label.
 const FILLING: u8 = 0xaa;
 
-/// Carries the messages, all to the last destination or to the node's own point.
+/// Carries the messages, all to the last destination or to the node's own point, which may lead or send them on.
 pub(crate) fn carry(peer: &mut Peer, arguments: &Arguments)
     requires octets { arguments.now.octets ≤ Limits.SIF_OCTETS }
     requires destinations { arguments.now.destinations ≤ Limits.DESTINATIONS }
@@ -39,11 +40,13 @@ pub(crate) fn carry(peer: &mut Peer, arguments: &Arguments)
     let field = longest_field(ADJACENT, to, selection);
     let sif = &field[..arguments.octets];
     match arguments.kind {
-        Kind::Forward => forward(peer, sif, arguments.count),
+        Kind::Forward => forward(peer, Incoming::with_message(SIO, sif), arguments.count),
         Kind::Burst => burst(peer, sif, arguments.count),
         Kind::Submit => submit(peer, sif, arguments.count),
         Kind::Local => local(peer, sif, arguments.count),
         Kind::Acknowledgement => acknowledge(peer, arguments.count),
+        Kind::Relay(_) => forward(peer, unitdata(LED, arguments.octets), arguments.count),
+        Kind::Udts(_) => forward(peer, unitdata(ASTRAY, arguments.octets), arguments.count),
         Kind::Standing(stage) => {
             let message = Incoming::with_message(SIO, sif);
             change_over(peer, stage, message, arguments.count);
@@ -61,11 +64,8 @@ pub(crate) fn carry(peer: &mut Peer, arguments: &Arguments)
     }
 }
 
-/// Messages that come and go on, each confirmed by the next one.
-fn forward(peer: &mut Peer, sif: &[u8], count: u32)
-    requires { length sif.now ≤ Limits.SIF_OCTETS }
-{
-    let mut message = Incoming::with_message(SIO, sif);
+/// Messages that come, and go on or back, each confirmed by the next one.
+fn forward(peer: &mut Peer, mut message: Incoming, count: u32) {
     for _ in 0..count {
         peer.send(&mut message);
         peer.take();

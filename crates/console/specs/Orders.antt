@@ -1,43 +1,72 @@
 -- Orders as an operator writes them.
-use Rattle.std.specs.Prelude.{ℕ, Bool, not, nat_eq, if◌then◌else◌, List, [], ◌∷◌, length, codes, bytes_eq}
+use Rattle.std.specs.Prelude.{ℕ, Bool, not, nat_eq, if◌then◌else◌, List, [], ◌∷◌, length, bytes_eq, codes}
 use Rattle.std.specs.Prelude.{Option, None, Some}
-use Rattle.std.specs.Option.{option_map}
-use Rattle.settings_rows.specs.Configuration.{Configuration}
+use Rattle.std.specs.Option.{option_map, option_and_then}
+use Rattle.settings_rows.specs.Configuration.{Configuration, TitleEntry}
+use Rattle.sccp_codec.specs.declared.title.TitleKey.{TitleKey}
 use Rattle.stp_types.specs.Readings.{link_place}
 use Rattle.exchange.specs.declared.event.Order.{Order}
-use Rattle.exchange.specs.declared.event.Order.TheVariants.{Activate, Deactivate}
+use Rattle.exchange.specs.declared.event.Order.TheVariants.{Activate, Deactivate, AddTitle, RemoveTitle}
 use Rattle.console.specs.declared.order.OrderText.{OrderText}
 use Rattle.console.specs.declared.order.OrderText.TheVariants as text
 use Rattle.console.specs.declared.order.Parsed.{Parsed}
 use Rattle.console.specs.declared.order.Parsed.TheVariants as parsed
 use Rattle.console.specs.Words.{words}
+use Rattle.console.specs.Commands.{command_named}
+use Rattle.console.specs.TitleWords.{name_written, row_written}
+use Rattle.console.specs.declared.title_words.RowName.{RowName}
+use Rattle.console.specs.declared.commands.Command.{Command}
+use Rattle.console.specs.declared.commands.Command.TheVariants as command
 
 -- an order; a link goes by a name, which no link need have
 pub data Instruction : Type 0 where
   ToActivate : (link : List ℕ) → Instruction
   ToDeactivate : (link : List ℕ) → Instruction
+  ToAddTitle : (row : TitleEntry) → Instruction
+  ToRemoveTitle : (key : TitleKey) (digits : List ℕ) → Instruction
 
 -- a word that is there
 abbrev pub is_some_word : List ℕ → Bool
 is_some_word word = not (nat_eq (length word) 0)
 
--- the order of this name about this link
-abbrev pub instructed_about : List ℕ → List ℕ → Option Instruction
-instructed_about word link =
-    if bytes_eq word (codes "activate") then Some (ToActivate link)
-    else if bytes_eq word (codes "deactivate") then Some (ToDeactivate link)
-    else None
+-- the order that a command gives about this link, where it is one of orders
+abbrev pub instructed_about : Command → List ℕ → Option Instruction
+instructed_about command.Activate link = Some (ToActivate link)
+instructed_about command.Deactivate link = Some (ToDeactivate link)
+instructed_about _ link = None
 
--- the order that words give: `activate LINK` or `deactivate LINK`
+-- the order about the row of this name: it is removed, or added with the words behind
+abbrev pub title_order_about : RowName → (verb : List ℕ) → List (List ℕ) → Option Instruction
+title_order_about name verb [] =
+    if bytes_eq verb (codes "remove") then Some (ToRemoveTitle name.key name.digits.items) else None
+title_order_about name verb (point ∷ behind) =
+    if bytes_eq verb (codes "add") then option_map (λ row. ToAddTitle row) (row_written name (point ∷ behind)) else None
+
+-- the order that the words behind `title` give: `add T P N DIGITS POINT ROUTE SSN` or `remove T P N DIGITS`
+abbrev pub title_order : List (List ℕ) → Option Instruction
+title_order (verb ∷ translation ∷ plan ∷ nature ∷ digits ∷ behind) =
+    option_and_then (λ name. title_order_about name verb behind) (name_written translation plan nature digits)
+title_order _ = None
+
+-- the order that a command gives by more words than one
+abbrev pub instructed_by : Command → List (List ℕ) → Option Instruction
+instructed_by command.Title behind = title_order behind
+instructed_by _ behind = None
+
+-- the order that words give: `activate LINK`, `deactivate LINK`, or one about a translation row
 abbrev pub instructed : List (List ℕ) → Option Instruction
 instructed [] = None
 instructed (word ∷ []) = None
-instructed (word ∷ link ∷ []) = if is_some_word link then instructed_about word link else None
-instructed (word ∷ link ∷ third ∷ more) = None
+instructed (word ∷ link ∷ []) =
+    if is_some_word link then option_and_then (λ command. instructed_about command link) (command_named word) else None
+instructed (word ∷ first ∷ second ∷ more) =
+    option_and_then (λ command. instructed_by command (first ∷ second ∷ more)) (command_named word)
 
 abbrev pub instruction : OrderText → Instruction
 instruction (text.Activate link) = ToActivate link.now
 instruction (text.Deactivate link) = ToDeactivate link.now
+instruction (text.AddTitle row) = ToAddTitle row
+instruction (text.RemoveTitle key digits) = ToRemoveTitle key digits.items
 
 abbrev pub instruction_of : Option OrderText → Option Instruction
 instruction_of None = None
@@ -47,6 +76,8 @@ instruction_of (Some order) = Some (instruction order)
 abbrev pub order_named : Configuration → Instruction → Option Order
 order_named c (ToActivate name) = option_map (λ link. Activate link) (link_place c name)
 order_named c (ToDeactivate name) = option_map (λ link. Deactivate link) (link_place c name)
+order_named c (ToAddTitle row) = Some (AddTitle row)
+order_named c (ToRemoveTitle key digits) = Some (RemoveTitle key (record { items = digits }))
 
 abbrev pub parsed_named : Option Order → Parsed
 parsed_named None = parsed.NoSuchName

@@ -1,8 +1,11 @@
 -- What the console shows, a line at a time, without the line feeds.
-use Rattle.std.specs.Prelude.{◌≡◌, ℕ, Bool, true, false, ◌++◌, List, codes, decimal, slice_get}
+use Rattle.std.specs.Prelude.{◌≡◌, ℕ, ◌+◌, Bool, true, false, ◌++◌, List, map, codes, decimal, slice_get}
+use Rattle.std.specs.Prelude.{nat_lt, if◌then◌else◌}
 use Rattle.std.specs.Prelude.{Option, Some, None}
 use Rattle.std.specs.Option.{option_map, option_and_then}
-use Rattle.settings_rows.specs.Configuration.{Configuration}
+use Rattle.settings_rows.specs.Configuration.{Configuration, TitleEntry}
+use Rattle.settings_rows.specs.declared.title_row.Route.{Route}
+use Rattle.settings_rows.specs.declared.title_row.Route.TheVariants as route
 use Rattle.signalling_types.specs.Causes.{cause_number, cause_name}
 use Rattle.signalling_types.specs.Notices.{frame_fault_number, frame_fault_name, failure_name}
 use Rattle.signalling_types.specs.declared.cause.Cause.{Cause}
@@ -17,7 +20,7 @@ use Rattle.signalling_types.specs.declared.notice.LateTimer.TheVariants.{T3, T4}
 use Rattle.route_table.specs.Chosen.{status_name}
 use Rattle.exchange.specs.declared.view.LinkView.{LinkView}
 use Rattle.exchange.specs.declared.view.RouteView.{RouteView}
-use Rattle.exchange.specs.State.{QueueKind, State}
+use Rattle.exchange_rules.specs.State.{QueueKind, State}
 use Rattle.exchange.specs.Views.{link_view, route_view, standing_name}
 use Rattle.console.specs.Names.{name_in, set_name_in}
 
@@ -104,3 +107,27 @@ notice_text c (Late T4 code) = late_code_text code
 -- the line of notice k, the oldest first
 abbrev pub notice_line : {Q : Type 0} → State Q → ℕ → Option (List ℕ)
 notice_line s k = option_map (λ notice. notice_text s.settings notice) (slice_get s.node.parts.notices k)
+
+-- ---- translation rows
+
+-- a digit as it is written: 0 to 9, then a to f
+abbrev pub digit_octet : ℕ → ℕ
+digit_octet digit = if nat_lt digit 10 then 48 + digit else 87 + digit
+
+-- how an address is routed at the point that a row leads to
+abbrev pub title_way_text : Option ℕ → List ℕ
+title_way_text (Some ssn) = codes " title " ++ decimal ssn
+title_way_text None = codes " title -"
+
+abbrev pub way_text : Route → List ℕ
+way_text (route.Title ssn) = title_way_text ssn
+way_text (route.Ssn ssn) = codes " ssn " ++ decimal ssn
+
+abbrev pub title_text : TitleEntry → List ℕ
+title_text row =
+    codes "title " ++ decimal row.translation ++ codes " " ++ decimal row.plan ++ codes " " ++ decimal row.nature
+    ++ codes " " ++ map digit_octet row.digits ++ codes " " ++ decimal row.point ++ way_text row.route
+
+-- the line of row k, in the order of the rows
+abbrev pub title_line : {Q : Type 0} → State Q → ℕ → Option (List ℕ)
+title_line s k = option_map title_text (slice_get s.node.parts.titles k)

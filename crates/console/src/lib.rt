@@ -1,17 +1,24 @@
 //! The console of a node: what it shows, a line at a time, and the orders that it takes.
 #![tactic(auto)]
 
+pub mod commands;
 mod line;
 pub mod links;
 pub mod names;
 pub mod notices;
+pub mod numbers;
 pub mod order;
 pub mod routes;
+pub mod title_words;
+pub mod titles;
 pub mod words;
 
+pub use commands::Command;
 pub use line::LINE_OCTETS;
 pub use links::show_links;
 pub use names::link_name;
 pub use notices::show_notices;
-pub use order::{OrderText, Parsed, parse_order, read_order};
+pub use numbers::read_number;
+pub use order::{OrderText, Parsed, order_by, parse_order};
 pub use routes::show_routes;
+pub use titles::show_titles;

@@ -21,6 +21,17 @@ pub(crate) fn push_number(line: &mut ArrayString<LINE_OCTETS>, word: &str, numbe
     line.push_str(buffer.format(number));
 }
 
+/// Puts a word and a number of at most five decimal digits behind what is there.
+pub(crate) fn push_small(line: &mut ArrayString<LINE_OCTETS>, word: &str, number: u16)
+    requires { length line.old.bytes + length word.now + 5 ≤ LINE_OCTETS }
+    ensures text { line.new.bytes ≡ line.old.bytes ++ word.now ++ decimal number }
+    ensures short { length line.new.bytes ≤ length line.old.bytes + length word.now + 5 }
+{
+    let mut buffer = Buffer::new();
+    line.push_str(word);
+    line.push_str(buffer.format(number));
+}
+
 /// Puts a word and a cause, by number and by name, behind what is there.
 pub(crate) fn push_cause(line: &mut ArrayString<LINE_OCTETS>, word: &str, cause: Cause)
     requires { length line.old.bytes + length word.now + 40 ≤ LINE_OCTETS }

@@ -1,8 +1,10 @@
 //! The text of the links.
 
 ghost use Rattle.std.specs.Prelude.{◌≡◌, ◌≤◌, length};
-ghost use Rattle.exchange.specs.Stands.{Abstract, StandsFor};
-ghost use Rattle.exchange.specs.Queues.{kept, whole};
+ghost use Rattle.exchange_rules.specs.Sound.{Abstract};
+ghost use Rattle.exchange.specs.Stands.{StandsFor};
+ghost use Rattle.exchange.specs.KeptQueues.{kept};
+ghost use Rattle.exchange_rules.specs.Queues.{whole};
 ghost use Rattle.console.specs.Texts.{Shows, link_line, link_text};
 
 use crate::line::{LINE_OCTETS, push_number};

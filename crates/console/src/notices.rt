@@ -1,7 +1,8 @@
 //! The text of the notices.
 
 ghost use Rattle.std.specs.Prelude.{◌≡◌, ◌≤◌, length};
-ghost use Rattle.exchange.specs.Stands.{Abstract, StandsFor};
+ghost use Rattle.exchange_rules.specs.Sound.{Abstract};
+ghost use Rattle.exchange.specs.Stands.{StandsFor};
 ghost use Rattle.console.specs.Texts.{Shows, notice_line, notice_text, refused_text, frame_text, failed_text};
 ghost use Rattle.console.specs.Texts.{lost_text, unsent_text, expired_text, late_link_text, late_code_text};
 

@@ -2,15 +2,17 @@
 
 ghost use Rattle.std.specs.Prelude.{◌≡◌};
 ghost use Rattle.console.specs.Words.{words};
-ghost use Rattle.console.specs.Orders.{instructed, instructed_about, instruction_of, instruction};
-ghost use Rattle.console.specs.Orders.{order_named, parsed_order};
+ghost use Rattle.console.specs.Orders.{instructed, instructed_about, instructed_by, instruction_of, instruction};
+ghost use Rattle.console.specs.Orders.{title_order, order_named, parsed_order};
 
+use crate::commands::Command;
+use crate::title_words::{read_name, read_row};
 use crate::words::cut;
-use exchange::Order;
-use stp_types::{LinkId, Settings};
+use exchange::{Order, TitleDigits, TitleKey};
+use stp_types::{Settings, TitleRow};
 
 /// An order as it was written.
-#[derive(Clone, Copy)]
+#[derive(Drop)]
 pub enum OrderText<'a> {
     /// `activate LINK`: the link may open.
     Activate {
@@ -22,10 +24,22 @@ pub enum OrderText<'a> {
         /// The link's name; no link need have it.
         link: &'a [u8],
     },
+    /// `title add T P N DIGITS POINT ROUTE SSN`: the translation row is added.
+    AddTitle {
+        /// The row.
+        row: TitleRow,
+    },
+    /// `title remove T P N DIGITS`: the translation row is removed.
+    RemoveTitle {
+        /// Its translation type, numbering plan and nature of address.
+        key: TitleKey,
+        /// Its digits.
+        digits: TitleDigits,
+    },
 }
 
 /// What a text orders a node to do.
-#[derive(Clone, Copy)]
+#[derive(Drop)]
 pub enum Parsed {
     /// This.
     Order(Order),
@@ -35,8 +49,8 @@ pub enum Parsed {
     Malformed,
 }
 
-/// What a text without a line end orders a node with these settings to do: `activate LINK` or `deactivate LINK`, with
-/// one space between the words.
+/// What a text without a line end orders a node with these settings to do: `activate LINK`, `deactivate LINK`,
+/// `title add T P N DIGITS POINT ROUTE SSN` or `title remove T P N DIGITS`, with one space between the words.
 pub fn parse_order(text: &[u8], settings: &Settings) -> Parsed
     ensures { result ≡ parsed_order settings.now text.now }
 {
@@ -51,26 +65,60 @@ pub fn parse_order(text: &[u8], settings: &Settings) -> Parsed
 
 /// The order that a text without a line end is, whether its link has that name or not.
 #[tactic(auto, using(crate::proofs::Ordered::order_steps))]
-pub fn read_order(text: &[u8]) -> Option<OrderText<'_>>
+fn read_order(text: &[u8]) -> Option<OrderText<'_>>
     ensures { instruction_of result ≡ instructed (words text.now) }
 {
     let (word, rest) = cut(text);
-    match cut(rest?) {
-        (link, None) if !link.is_empty() => order_about(word, link),
+    let behind = rest?;
+    match cut(behind) {
+        (link, None) if !link.is_empty() => order_about(Command::named(word)?, link),
+        (_, None) => None,
+        (_, Some(_)) => order_by(Command::named(word)?, behind),
+    }
+}
+
+/// The order that a command gives about the link of this name, where it is one of orders.
+fn order_about(command: Command, link: &[u8]) -> Option<OrderText<'_>>
+    ensures { instruction_of result ≡ instructed_about command link.now }
+{
+    match command {
+        Command::Activate => Some(OrderText::Activate { link }),
+        Command::Deactivate => Some(OrderText::Deactivate { link }),
         _ => None,
     }
 }
 
-/// The order of this name about the link of this name.
-fn order_about<'a>(word: &[u8], link: &'a [u8]) -> Option<OrderText<'a>>
-    ensures { instruction_of result ≡ instructed_about word.now link.now }
+/// The order that a command gives by these words behind it, of which there is more than one.
+pub fn order_by(command: Command, behind: &[u8]) -> Option<OrderText<'_>>
+    ensures { instruction_of result ≡ instructed_by command (words behind.now) }
 {
-    if word == b"activate".as_slice() {
-        Some(OrderText::Activate { link })
-    } else if word == b"deactivate".as_slice() {
-        Some(OrderText::Deactivate { link })
-    } else {
-        None
+    match command {
+        Command::Title => title_order(behind),
+        _ => None,
+    }
+}
+
+/// The order that the words behind `title` give.
+#[tactic(auto, using(crate::proofs::Ordered::order_steps))]
+fn title_order(text: &[u8]) -> Option<OrderText<'_>>
+    ensures { instruction_of result ≡ title_order (words text.now) }
+{
+    let (verb, rest) = cut(text);
+    let (translation, rest) = cut(rest?);
+    let (plan, rest) = cut(rest?);
+    let (nature, rest) = cut(rest?);
+    let (digits, rest) = cut(rest?);
+    let name = read_name(translation, plan, nature, digits)?;
+    match rest {
+        None if verb == b"remove".as_slice() => Some(OrderText::RemoveTitle {
+            key: name.key,
+            digits: name.digits,
+        }),
+        Some(rest) if verb == b"add".as_slice() => {
+            let row = read_row(&name, rest)?;
+            Some(OrderText::AddTitle { row })
+        }
+        _ => None,
     }
 }
 
@@ -88,6 +136,8 @@ impl OrderText<'_> {
                 let link = settings.link_named(link)?;
                 Some(Order::Deactivate(link))
             }
+            OrderText::AddTitle { row } => Some(Order::AddTitle(row)),
+            OrderText::RemoveTitle { key, digits } => Some(Order::RemoveTitle(key, digits)),
         }
     }
 }

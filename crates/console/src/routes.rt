@@ -1,7 +1,8 @@
 //! The text of the routes.
 
 ghost use Rattle.std.specs.Prelude.{◌≡◌};
-ghost use Rattle.exchange.specs.Stands.{Abstract, StandsFor};
+ghost use Rattle.exchange_rules.specs.Sound.{Abstract};
+ghost use Rattle.exchange.specs.Stands.{StandsFor};
 ghost use Rattle.console.specs.Texts.{Shows, route_line, route_text, set_text};
 
 use crate::line::{LINE_OCTETS, push_number};

@@ -1,5 +1,5 @@
 -- The built-in settings as they were written mean the checked ones.
-use Rattle.std.proofs.Common.{◌≡◌, ℕ, ℤ, pos, Bool, true, false, List, [], ◌∷◌, Some, map, refl, ap, ◌∙◌, codes, string_bytes, ◌⊎◌, inl, inr}
+use Rattle.std.proofs.Common.{◌≡◌, ℕ, ℤ, pos, Bool, true, false, List, [], ◌∷◌, Some, None, map, refl, ap, sym, ◌∙◌, codes, string_bytes, ◌⊎◌, inl, inr}
 use Rattle.std.specs.Prelude.{unwrap_or, position}
 use Rattle.std.specs.Str.{bytes_eq}
 use Rattle.settings_check.specs.Meaning.{settings_of, set_of, link_of, destination_of, set_number}
@@ -12,7 +12,8 @@ use Rattle.settings_rows.specs.declared.draft.LinkDraft.{LinkDraft}
 use Rattle.settings_rows.specs.declared.draft.DestinationDraft.{DestinationDraft}
 use Rattle.stp_node.specs.BuiltIn.{IsBuiltIn, IsSets, IsLinks, IsDestination, IsDestinations, built_in_settings}
 use Rattle.settings.specs.declared.fault.SettingsFault.TheVariants as settings_fault
-use Rattle.stp_node.specs.Program.{IsBuiltInFault}
+use Rattle.settings.specs.Faults.{no_memory}
+use Rattle.stp_node.proofs.BuiltInWell.{has_no_fault}
 
 one-place : {A : Type 0} → (test : A → Bool) (x : A) (b : Bool) → test x ≡ b → ◌≡◌ {A = ℕ} (unwrap_or (position test (x ∷ [])) 0) 0
 one-place test x true h = rw h refl
@@ -69,7 +70,8 @@ settings-meant d h =
       h.titles,
     ) refl
 
+-- only memory can be wanting for them
 pub built_in_fault : (d : Draft) (found : DraftFault) → IsBuiltIn d → (found ≡ NoMemory) ⊎ (first_fault d ≡ Some found)
-    → IsBuiltInFault (settings_fault.Draft found)
-built_in_fault d found h (inl e) = inl (ap (λ (f : DraftFault). settings_fault.Draft f) e)
-built_in_fault d found h (inr e) = inr (d, found, h, e, refl)
+    → settings_fault.Draft found ≡ no_memory
+built_in_fault d found h (inl e) = ap (λ (f : DraftFault). settings_fault.Draft f) e
+built_in_fault d found h (inr e) = absurd (let wrong : None ≡ Some found = sym (has_no_fault d h) ∙ e in cc)

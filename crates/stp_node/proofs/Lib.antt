@@ -1,4 +1,5 @@
 pub mod Asking
+pub mod BuiltInWell
 pub mod BuiltIn
 pub mod Octets
 pub mod Parting
@@ -6,7 +7,9 @@ pub mod Appending
 pub mod OneOctet
 pub mod Taken
 pub mod Running
+pub mod LineDone
 pub mod Shown
 pub mod Standing
 pub mod Passing
 pub mod Written
+pub mod Told

@@ -3,12 +3,12 @@ use Rattle.std.proofs.Common.{◌≡◌, ℕ, ◌+◌, ◌≤◌, ◌<◌, Bool,
 use Rattle.std.specs.Prelude.{if◌then◌else◌}
 use Rattle.std.proofs.lemmas.Bool.Decides.{nat_tests}
 use Rattle.exchange.specs.Stands.{Kept}
-use Rattle.exchange.specs.Queues.{KeptQueues, kept}
+use Rattle.exchange.specs.KeptQueues.{KeptQueues, kept}
 use Rattle.stp_node.specs.Asking.{Reading, IsMalformed, parsed_line}
 use Rattle.stp_node.specs.Lines.{lines}
 use Rattle.stp_node.specs.Streams.{AppendsFirst, AppendsAtLeast}
-use Rattle.stp_node.specs.Runs.{Reached, silent, stopped, line_run, whole_line, open_run, onto, unless_ended, behind, lines_run, Does}
-use Rattle.stp_node.specs.Steps.{LineSoFar, rest_run, HasTaken}
+use Rattle.stp_node.specs.Runs.{Reached, silent, stopped, line_run, whole_line, open_run, onto, unless_ended, behind, first_of, behind_first, lines_run, Does}
+use Rattle.stp_node.specs.Steps.{LineSoFar, rest_run, HasTaken, DoesLine}
 use Rattle.stp_node.specs.declared.script.TheConstants.{LINE_OCTETS}
 use Rattle.stp_node.specs.declared.script.ScriptFault.{ScriptFault}
 use Rattle.stp_node.specs.declared.script.ScriptFault.TheVariants.{Read, Write, Line, TooManyReads, NoMemory}
@@ -47,12 +47,12 @@ whole_line-short : (line : List ℕ) → length line ≤ LINE_OCTETS → whole_l
 whole_line-short line h = if-false (nat_lt LINE_OCTETS (length line)) _ (parsed_line line) (test-false LINE_OCTETS (length line) h)
 
 -- one that is too long ends the script, whether its line feed is there or not
-stopped-long : (most number : ℕ) (line : List ℕ) (more : List (List ℕ)) (s : Kept) → LINE_OCTETS < length line → most ≤ LINE_OCTETS
-    → lines_run kept most number (line ∷ more) s ≡ stopped number s
-stopped-long most number line [] s h k = if-true (nat_lt most (length line)) (stopped number s) (silent s) (test-true most (length line) (omega (arith, h, k)))
-stopped-long most number line (next ∷ more) s h k =
+stopped-long : (most number : ℕ) (refused : List Bool) (line : List ℕ) (more : List (List ℕ)) (s : Kept) → LINE_OCTETS < length line → most ≤ LINE_OCTETS
+    → lines_run kept most number refused (line ∷ more) s ≡ stopped number s
+stopped-long most number refused line [] s h k = if-true (nat_lt most (length line)) (stopped number s) (silent s) (test-true most (length line) (omega (arith, h, k)))
+stopped-long most number refused line (next ∷ more) s h k =
     let long : whole_line line ≡ IsMalformed = if-true (nat_lt LINE_OCTETS (length line)) _ (parsed_line line) (test-true LINE_OCTETS (length line) h) in
-    ap (λ (r : Reading). behind (line_run kept number r s) (λ (t : Kept). lines_run kept most (number + 1) (next ∷ more) t)) long
+    ap (λ (r : Reading). behind (line_run kept number (first_of refused) r s) (λ (t : Kept). lines_run kept most (number + 1) (behind_first refused) (next ∷ more) t)) long
 
 -- ---- one octet
 
@@ -61,37 +61,38 @@ pub octet-kept : (octet : ℕ) (line : LineSoFar) (s : Kept) (w : Option (List �
     → HasTaken (octet ∷ []) (Ok tt) line (record line { octets = line.octets ++ octet ∷ [] }) s s w w
 octet-kept octet line s w h = record {
   text = [];
+  refused = [];
   wrote = appends-nothing w;
-  rest = λ most more k. ap (λ (parts : List (List ℕ)). lines_run kept most line.number parts s) (lines-nonfeed line.octets octet more h);
+  rest = λ most later more k. ap (λ (parts : List (List ℕ)). lines_run kept most line.number later parts s) (lines-nonfeed line.octets octet more h);
 }
 
 -- an front line with one octet more than a line may have
-long-first : (most number : ℕ) (front : List ℕ) (octet : ℕ) (parts : List (List ℕ)) (s : Kept) → 0 < length parts
+long-first : (most number : ℕ) (refused : List Bool) (front : List ℕ) (octet : ℕ) (parts : List (List ℕ)) (s : Kept) → 0 < length parts
     → LINE_OCTETS ≤ length front → most ≤ LINE_OCTETS
-    → lines_run kept most number (begun (front ++ octet ∷ []) parts) s ≡ stopped number s
-long-first most number front octet [] s some h k = absurd (omega (arith, some))
-long-first most number front octet (part ∷ parts) s some h k =
+    → lines_run kept most number refused (begun (front ++ octet ∷ []) parts) s ≡ stopped number s
+long-first most number refused front octet [] s some h k = absurd (omega (arith, some))
+long-first most number refused front octet (part ∷ parts) s some h k =
     let e = length-append (front ++ octet ∷ []) part in
     let f = length-append front (octet ∷ []) in
-    stopped-long most number ((front ++ octet ∷ []) ++ part) parts s (omega (arith, e, f, h)) k
+    stopped-long most number refused ((front ++ octet ∷ []) ++ part) parts s (omega (arith, e, f, h)) k
 
-long-run : (octet : ℕ) (line : LineSoFar) (s : Kept) (most : ℕ) (more : List ℕ) → (octet ≡ 10 → ⊥) → LINE_OCTETS ≤ length line.octets
-    → most ≤ LINE_OCTETS → rest_run most line (octet ∷ more) s ≡ stopped line.number s
-long-run octet line s most more other long k =
-    ap (λ (parts : List (List ℕ)). lines_run kept most line.number parts s) (lines-nonfeed line.octets octet more other)
-    ∙ long-first most line.number line.octets octet (lines more) s (parted-some 10 more) long k
+long-run : (octet : ℕ) (refused : List Bool) (line : LineSoFar) (s : Kept) (most : ℕ) (more : List ℕ) → (octet ≡ 10 → ⊥) → LINE_OCTETS ≤ length line.octets
+    → most ≤ LINE_OCTETS → rest_run most refused line (octet ∷ more) s ≡ stopped line.number s
+long-run octet refused line s most more other long k =
+    ap (λ (parts : List (List ℕ)). lines_run kept most line.number refused parts s) (lines-nonfeed line.octets octet more other)
+    ∙ long-first most line.number refused line.octets octet (lines more) s (parted-some 10 more) long k
 
 -- an open line that isn't too long prints nothing while more may come
-pub open-line : (line : LineSoFar) (s : Kept) → length line.octets ≤ LINE_OCTETS → rest_run LINE_OCTETS line [] s ≡ silent s
-open-line line s short =
+pub open-line : (refused : List Bool) (line : LineSoFar) (s : Kept) → length line.octets ≤ LINE_OCTETS → rest_run LINE_OCTETS refused line [] s ≡ silent s
+open-line refused line s short =
     ap (λ (text : List ℕ). open_run LINE_OCTETS line.number text s) (append-nil line.octets)
     ∙ if-false (nat_lt LINE_OCTETS (length line.octets)) (stopped line.number s) (silent s) (test-false LINE_OCTETS (length line.octets) short)
 
 -- so nothing went out before its last octet
-least-open : (line : LineSoFar) (s : Kept) (w0 w1 : Option (List ℕ)) (xs : List ℕ) → length line.octets ≤ LINE_OCTETS → AppendsFirst w0 w1 xs
-    → AppendsAtLeast (length (rest_run LINE_OCTETS line [] s).text) w0 w1 xs
-least-open line s w0 w1 xs short h =
-    least-nothing (rest_run LINE_OCTETS line [] s).text w0 w1 xs (ap (λ (r : Reached KeptQueues). r.text) (open-line line s short)) h
+least-open : (refused : List Bool) (line : LineSoFar) (s : Kept) (w0 w1 : Option (List ℕ)) (xs : List ℕ) → length line.octets ≤ LINE_OCTETS → AppendsFirst w0 w1 xs
+    → AppendsAtLeast (length (rest_run LINE_OCTETS refused line [] s).text) w0 w1 xs
+least-open refused line s w0 w1 xs short h =
+    least-nothing (rest_run LINE_OCTETS refused line [] s).text w0 w1 xs (ap (λ (r : Reached KeptQueues). r.text) (open-line refused line s short)) h
 
 pub octet-too_many : (octet : ℕ) (line next : LineSoFar) (s : Kept) (result : Result Unit ScriptFault) (w0 w1 : Option (List ℕ))
     → (octet ≡ 10 → ⊥) → length line.octets ≤ LINE_OCTETS → LINE_OCTETS ≤ length line.octets
@@ -99,51 +100,58 @@ pub octet-too_many : (octet : ℕ) (line next : LineSoFar) (s : Kept) (result : 
 octet-too_many octet line next s (Ok x) w0 w1 other short long h = cc (h.0)
 octet-too_many octet line next s (Err (Line number)) w0 w1 other short long h = record {
   text = (stopped line.number s).text;
+  refused = [];
   wrote = h.2;
   rest = λ most more k.
-      long-run octet line s most more other long k
+      long-run octet [] line s most more other long k
       ∙ ap (λ (f : Option ℕ). record { text = (stopped line.number s).text; state = s; fault = f }) h.0;
 }
 octet-too_many octet line next s (Err Write) w0 w1 other short long h =
-    let run = long-run octet line s LINE_OCTETS [] other long (omega arith) in
+    let run = long-run octet [] line s LINE_OCTETS [] other long (omega arith) in
     record {
       front = [];
       last = octet;
       more = [];
+      refused = [];
       are = refl;
       state = ap (λ (r : Reached KeptQueues). r.state) run;
-      wrote = least-open line s w0 w1 _ short (subst (λ (r : Reached KeptQueues). AppendsFirst w0 w1 r.text) (sym run) h.1);
+      wrote = least-open [] line s w0 w1 _ short (subst (λ (r : Reached KeptQueues). AppendsFirst w0 w1 r.text) (sym run) h.1);
     }
 octet-too_many octet line next s (Err Read) w0 w1 other short long h = absurd h
 octet-too_many octet line next s (Err TooManyReads) w0 w1 other short long h = absurd h
 octet-too_many octet line next s (Err NoMemory) w0 w1 other short long h = absurd h
 
 -- a line feed ends the front line
-ended-first : (most number : ℕ) (line : List ℕ) (parts : List (List ℕ)) (s : Kept) → 0 < length parts
-    → lines_run kept most number (line ∷ parts) s ≡ behind (line_run kept number (whole_line line) s) (λ t. lines_run kept most (number + 1) (begun [] parts) t)
-ended-first most number line [] s some = absurd (omega (arith, some))
-ended-first most number line (part ∷ parts) s some = refl
+ended-first : (most number : ℕ) (lacking : Bool) (later : List Bool) (line : List ℕ) (parts : List (List ℕ)) (s : Kept) → 0 < length parts
+    → lines_run kept most number (lacking ∷ later) (line ∷ parts) s
+    ≡ behind (line_run kept number lacking (whole_line line) s) (λ t. lines_run kept most (number + 1) later (begun [] parts) t)
+ended-first most number lacking later line [] s some = absurd (omega (arith, some))
+ended-first most number lacking later line (part ∷ parts) s some = refl
 
-line-ended : (line : LineSoFar) (s : Kept) (most : ℕ) (more : List ℕ) → length line.octets ≤ LINE_OCTETS
-    → rest_run most line (10 ∷ more) s
-    ≡ behind (line_run kept line.number (parsed_line line.octets) s) (rest_run most (record { octets = []; number = line.number + 1 }) more)
-line-ended line s most more short =
-    ended-first most line.number (line.octets ++ []) (lines more) s (parted-some 10 more)
-    ∙ ap (λ (octets : List ℕ). behind (line_run kept line.number (whole_line octets) s) (rest_run most (record { octets = []; number = line.number + 1 }) more)) (append-nil line.octets)
-    ∙ ap (λ (r : Reading). behind (line_run kept line.number r s) (rest_run most (record { octets = []; number = line.number + 1 }) more)) (whole_line-short line.octets short)
+-- the line behind one
+abbrev next_line : LineSoFar → LineSoFar
+next_line line = record { octets = []; number = line.number + 1 }
 
-feed-done : (line : LineSoFar) (s after : Kept) (x : Unit) (w0 w1 : Option (List ℕ)) → length line.octets ≤ LINE_OCTETS
-    → Does (line_run kept line.number (parsed_line line.octets) s) (Ok x) after w0 w1
-    → HasTaken (10 ∷ []) (Ok tt) line (record { octets = []; number = line.number + 1 }) s after w0 w1
-feed-done line s after x w0 w1 short h =
-    let r = line_run kept line.number (parsed_line line.octets) s in
-    let next : LineSoFar = record { octets = []; number = line.number + 1 } in
+line-ended : (lacking : Bool) (later : List Bool) (line : LineSoFar) (s : Kept) (most : ℕ) (more : List ℕ) → length line.octets ≤ LINE_OCTETS
+    → rest_run most (lacking ∷ later) line (10 ∷ more) s
+    ≡ behind (line_run kept line.number lacking (parsed_line line.octets) s) (rest_run most later (next_line line) more)
+line-ended lacking later line s most more short =
+    ended-first most line.number lacking later (line.octets ++ []) (lines more) s (parted-some 10 more)
+    ∙ ap (λ (octets : List ℕ). behind (line_run kept line.number lacking (whole_line octets) s) (rest_run most later (next_line line) more)) (append-nil line.octets)
+    ∙ ap (λ (r : Reading). behind (line_run kept line.number lacking r s) (rest_run most later (next_line line) more)) (whole_line-short line.octets short)
+
+feed-done : (lacking : Bool) (line : LineSoFar) (s after : Kept) (x : Unit) (w0 w1 : Option (List ℕ)) → length line.octets ≤ LINE_OCTETS
+    → Does (line_run kept line.number lacking (parsed_line line.octets) s) (Ok x) after w0 w1
+    → HasTaken (10 ∷ []) (Ok tt) line (next_line line) s after w0 w1
+feed-done lacking line s after x w0 w1 short h =
+    let r = line_run kept line.number lacking (parsed_line line.octets) s in
     record {
       text = r.text;
+      refused = lacking ∷ [];
       wrote = h.2;
-      rest = λ most more k.
-          line-ended line s most more short ∙ behind-going r (rest_run most next more) h.0
-          ∙ ap (λ (t : Kept). onto r.text (rest_run most next more t)) h.1;
+      rest = λ most later more k.
+          line-ended lacking later line s most more short ∙ behind-going r (rest_run most later (next_line line) more) h.0
+          ∙ ap (λ (t : Kept). onto r.text (rest_run most later (next_line line) more t)) h.1;
     }
 
 -- what the last octets print, where nothing is behind them
@@ -155,50 +163,52 @@ behind-nothing r None next h e =
 behind-nothing r (Some number) next h e =
     let same = behind-ended r next number h in (ap (λ (x : Reached KeptQueues). x.state) same, ap (λ (x : Reached KeptQueues). x.text) same)
 
-feed-broken : (line next : LineSoFar) (s after : Kept) (fault : ScriptFault) (w0 w1 : Option (List ℕ)) → length line.octets ≤ LINE_OCTETS
-    → Does (line_run kept line.number (parsed_line line.octets) s) (Err fault) after w0 w1
+feed-broken : (lacking : Bool) (line next : LineSoFar) (s after : Kept) (fault : ScriptFault) (w0 w1 : Option (List ℕ)) → length line.octets ≤ LINE_OCTETS
+    → Does (line_run kept line.number lacking (parsed_line line.octets) s) (Err fault) after w0 w1
     → HasTaken (10 ∷ []) (Err fault) line next s after w0 w1
-feed-broken line next s after (Line number) w0 w1 short h =
-    let r = line_run kept line.number (parsed_line line.octets) s in
+feed-broken lacking line next s after (Line number) w0 w1 short h =
+    let r = line_run kept line.number lacking (parsed_line line.octets) s in
     record {
       text = r.text;
+      refused = lacking ∷ [];
       wrote = h.2;
       rest = λ most more k.
-          line-ended line s most more short
-          ∙ behind-ended r (rest_run most (record { octets = []; number = line.number + 1 }) more) number h.0
+          line-ended lacking [] line s most more short
+          ∙ behind-ended r (rest_run most [] (next_line line) more) number h.0
           ∙ ap (λ (t : Kept). record { text = r.text; state = t; fault = r.fault }) h.1
           ∙ ap (λ (f : Option ℕ). record { text = r.text; state = after; fault = f }) h.0;
     }
-feed-broken line next s after Write w0 w1 short h =
-    let r = line_run kept line.number (parsed_line line.octets) s in
-    let run = line-ended line s LINE_OCTETS [] short in
-    let same = behind-nothing r r.fault (rest_run LINE_OCTETS (record { octets = []; number = line.number + 1 }) []) refl (λ t. refl) in
+feed-broken lacking line next s after Write w0 w1 short h =
+    let r = line_run kept line.number lacking (parsed_line line.octets) s in
+    let run = line-ended lacking [] line s LINE_OCTETS [] short in
+    let same = behind-nothing r r.fault (rest_run LINE_OCTETS [] (next_line line) []) refl (λ t. refl) in
     record {
       front = [];
       last = 10;
       more = [];
+      refused = lacking ∷ [];
       are = refl;
       state = ap (λ (x : Reached KeptQueues). x.state) run ∙ same.0 ∙ h.0;
-      wrote = least-open line s w0 w1 _ short (subst (λ (text : List ℕ). AppendsFirst w0 w1 text) (sym (ap (λ (x : Reached KeptQueues). x.text) run ∙ same.1)) h.1);
+      wrote = least-open (lacking ∷ []) line s w0 w1 _ short (subst (λ (text : List ℕ). AppendsFirst w0 w1 text) (sym (ap (λ (x : Reached KeptQueues). x.text) run ∙ same.1)) h.1);
     }
-feed-broken line next s after Read w0 w1 short h = absurd h
-feed-broken line next s after TooManyReads w0 w1 short h = absurd h
-feed-broken line next s after NoMemory w0 w1 short h = absurd h
+feed-broken lacking line next s after Read w0 w1 short h = absurd h
+feed-broken lacking line next s after TooManyReads w0 w1 short h = absurd h
+feed-broken lacking line next s after NoMemory w0 w1 short h = absurd h
 
 pub line-done : (octet : ℕ) (line : LineSoFar) (text : List ℕ) (s after : Kept) (x : Unit) (w0 w1 : Option (List ℕ)) → octet ≡ 10
     → length line.octets ≤ LINE_OCTETS → text ≡ line.octets
-    → Does (line_run kept line.number (parsed_line text) s) (Ok x) after w0 w1
+    → DoesLine line.number (parsed_line text) s (Ok x) after w0 w1
     → HasTaken (octet ∷ []) (Ok tt) line (record { octets = []; number = line.number + 1 }) s after w0 w1
-line-done octet line text s after x w0 w1 feed short same h =
+line-done octet line text s after x w0 w1 feed short same (lacking, h) =
     subst (λ (n : ℕ). HasTaken (n ∷ []) (Ok tt) line (record { octets = []; number = line.number + 1 }) s after w0 w1) (sym feed)
-    (feed-done line s after x w0 w1 short
-    (subst (λ (octets : List ℕ). Does (line_run kept line.number (parsed_line octets) s) (Ok x) after w0 w1) same h))
+    (feed-done lacking line s after x w0 w1 short
+    (subst (λ (octets : List ℕ). Does (line_run kept line.number lacking (parsed_line octets) s) (Ok x) after w0 w1) same h))
 
 pub line-broken : (octet : ℕ) (line next : LineSoFar) (text : List ℕ) (s after : Kept) (fault : ScriptFault) (w0 w1 : Option (List ℕ)) → octet ≡ 10
     → length line.octets ≤ LINE_OCTETS → text ≡ line.octets
-    → Does (line_run kept line.number (parsed_line text) s) (Err fault) after w0 w1
+    → DoesLine line.number (parsed_line text) s (Err fault) after w0 w1
     → HasTaken (octet ∷ []) (Err fault) line next s after w0 w1
-line-broken octet line next text s after fault w0 w1 feed short same h =
+line-broken octet line next text s after fault w0 w1 feed short same (lacking, h) =
     subst (λ (n : ℕ). HasTaken (n ∷ []) (Err fault) line next s after w0 w1) (sym feed)
-    (feed-broken line next s after fault w0 w1 short
-    (subst (λ (octets : List ℕ). Does (line_run kept line.number (parsed_line octets) s) (Err fault) after w0 w1) same h))
+    (feed-broken lacking line next s after fault w0 w1 short
+    (subst (λ (octets : List ℕ). Does (line_run kept line.number lacking (parsed_line octets) s) (Err fault) after w0 w1) same h))

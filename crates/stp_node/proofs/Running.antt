@@ -1,11 +1,11 @@
 -- A run that goes on piece by piece, and how it ends.
-use Rattle.std.proofs.Common.{◌≡◌, ℕ, ◌+◌, ◌≤◌, List, [], ◌∷◌, ◌++◌, Option, None, Some, Result, Ok, Err, length, refl, sym, ◌∙◌, ap, arith, append_assoc, append-nil, length-append, subst, inl, inr}
+use Rattle.std.proofs.Common.{◌≡◌, ℕ, Bool, ◌+◌, ◌≤◌, List, [], ◌∷◌, ◌++◌, Option, None, Some, Result, Ok, Err, length, refl, sym, ◌∙◌, ap, arith, append_assoc, append-nil, length-append, subst, inl, inr}
 use Rattle.std.specs.Io.KnownBytes.{Appends, Consumes, Keeps, IsAtEnd}
 use Rattle.exchange.specs.Stands.{Kept}
-use Rattle.exchange.specs.Queues.{KeptQueues, kept}
+use Rattle.exchange.specs.KeptQueues.{KeptQueues, kept}
 use Rattle.stp_node.specs.Lines.{lines}
 use Rattle.stp_node.specs.Streams.{AppendsAtLeast}
-use Rattle.stp_node.specs.Runs.{Reached, silent, onto, lines_run, run_so_far, whole_run, Does, Runs}
+use Rattle.stp_node.specs.Runs.{Reached, silent, onto, lines_run, run_so_far, whole_run, Does, RunsBy, Runs}
 use Rattle.stp_node.specs.Steps.{LineSoFar, first_line, rest_run, GoesOn, HasTaken}
 use Rattle.stp_node.specs.Faults.{reads_failed, MakesReads}
 use Rattle.stp_node.specs.declared.script.TheConstants.{LINE_OCTETS, READS}
@@ -63,23 +63,26 @@ more-progress least most before s after left left_mid left_new w0 w1 w2 line nex
 -- ---- how a run ends
 
 -- the run of a script is that of what is left of it before its first octet
-from-first : (most : ℕ) (octets : List ℕ) (s : Kept) → lines_run kept most 1 (lines octets) s ≡ rest_run most first_line (octets ++ []) s
-from-first most octets s =
-    ap (λ (parts : List (List ℕ)). lines_run kept most 1 parts s) (sym (begun-nothing (lines octets)))
-    ∙ ap (λ (text : List ℕ). rest_run most first_line text s) (sym (append-nil octets))
+from-first : (most : ℕ) (refused : List Bool) (octets : List ℕ) (s : Kept) → lines_run kept most 1 refused (lines octets) s ≡ rest_run most refused first_line (octets ++ []) s
+from-first most refused octets s =
+    ap (λ (parts : List (List ℕ)). lines_run kept most 1 refused parts s) (sym (begun-nothing (lines octets)))
+    ∙ ap (λ (text : List ℕ). rest_run most refused first_line text s) (sym (append-nil octets))
 
 -- where the octets so far lead, with the open line at the end of what there is
 so-far : (least : ℕ) (before s : Kept) (left left_new w0 w1 : Option (List ℕ)) (line : LineSoFar) (most : ℕ) → most ≤ LINE_OCTETS
-    → (p : Progress least before left left_new w0 w1 line s) → lines_run kept most 1 (lines p.octets) before ≡ onto p.taken.text (rest_run most line [] s)
-so-far least before s left left_new w0 w1 line most m p = from-first most p.octets before ∙ p.taken.rest most [] m
+    → (p : Progress least before left left_new w0 w1 line s) → lines_run kept most 1 p.taken.refused (lines p.octets) before ≡ onto p.taken.text (rest_run most [] line [] s)
+so-far least before s left left_new w0 w1 line most m p =
+    from-first most p.taken.refused p.octets before
+    ∙ ap (λ (refused : List Bool). rest_run most refused first_line (p.octets ++ []) before) (sym (append-nil p.taken.refused))
+    ∙ p.taken.rest most [] [] m
 
 open-so-far : (least : ℕ) (before s : Kept) (left left_new w0 w1 : Option (List ℕ)) (line : LineSoFar) → length line.octets ≤ LINE_OCTETS
-    → (p : Progress least before left left_new w0 w1 line s) → run_so_far kept p.octets before ≡ onto p.taken.text (silent s)
+    → (p : Progress least before left left_new w0 w1 line s) → run_so_far kept p.taken.refused p.octets before ≡ onto p.taken.text (silent s)
 open-so-far least before s left left_new w0 w1 line short p =
-    so-far least before s left left_new w0 w1 line LINE_OCTETS (omega arith) p ∙ ap (λ (r : Reached KeptQueues). onto p.taken.text r) (open-line line s short)
+    so-far least before s left left_new w0 w1 line LINE_OCTETS (omega arith) p ∙ ap (λ (r : Reached KeptQueues). onto p.taken.text r) (open-line [] line s short)
 
 does-so-far : (least : ℕ) (before s : Kept) (left left_new w0 w1 : Option (List ℕ)) (line : LineSoFar) → length line.octets ≤ LINE_OCTETS
-    → (p : Progress least before left left_new w0 w1 line s) → Does (run_so_far kept p.octets before) (Ok tt) s w0 w1
+    → (p : Progress least before left left_new w0 w1 line s) → Does (run_so_far kept p.taken.refused p.octets before) (Ok tt) s w0 w1
 does-so-far least before s left left_new w0 w1 line short p =
     subst (λ (r : Reached KeptQueues). Does r (Ok tt) s w0 w1) (sym (open-so-far least before s left left_new w0 w1 line short p))
     (refl, refl, appends-appends w0 w1 w1 p.taken.text [] p.taken.wrote (appends-nothing w1))
@@ -87,12 +90,12 @@ does-so-far least before s left left_new w0 w1 line short p =
 pub at-failed-read : (least : ℕ) (before s : Kept) (left left_mid left_new w0 w1 : Option (List ℕ)) (line : LineSoFar) → length line.octets ≤ LINE_OCTETS
     → Progress least before left left_mid w0 w1 line s → Keeps left_mid left_new → Runs kept (Err Read) before s left left_new w0 w1
 at-failed-read least before s left left_mid left_new w0 w1 line short p h =
-    (p.octets, omega arith, consumes-keeps left left_mid left_new p.octets p.consumed h, does-so-far least before s left left_mid w0 w1 line short p)
+    (p.taken.refused, (p.octets, omega arith, consumes-keeps left left_mid left_new p.octets p.consumed h, does-so-far least before s left left_mid w0 w1 line short p))
 
 pub at-last-read : (least : ℕ) (before s : Kept) (left left_new w0 w1 : Option (List ℕ)) (line : LineSoFar) → length line.octets ≤ LINE_OCTETS
     → READS ≤ least → Progress least before left left_new w0 w1 line s → Runs kept (Err TooManyReads) before s left left_new w0 w1
 at-last-read least before s left left_new w0 w1 line short all p =
-    let some = p.many in (p.octets, omega (arith, all, some), p.consumed, does-so-far least before s left left_new w0 w1 line short p)
+    let some = p.many in (p.taken.refused, (p.octets, omega (arith, all, some), p.consumed, does-so-far least before s left left_new w0 w1 line short p))
 
 -- the end of the input: at least so many octets were written, also where a write failed
 abbrev DoesAtLeast : (least : ℕ) → Reached KeptQueues → Result Unit ScriptFault → Kept → (w0 w1 : Option (List ℕ)) → Type 0
@@ -113,66 +116,76 @@ does-onto text r (Err Read) after w0 w1 w2 h k = absurd k
 does-onto text r (Err TooManyReads) after w0 w1 w2 h k = absurd k
 does-onto text r (Err NoMemory) after w0 w1 w2 h k = absurd k
 
-runs-whole : (octets : List ℕ) (before s : Kept) (result : Result Unit ScriptFault) (left left_new w0 w1 : Option (List ℕ))
-    → Consumes left left_new octets → IsAtEnd left_new → DoesAtLeast (length (run_so_far kept octets before).text) (whole_run kept octets before) result s w0 w1
-    → Runs kept result before s left left_new w0 w1
-runs-whole octets before s (Ok x) left left_new w0 w1 consumed done does = (octets, consumed, done, does)
-runs-whole octets before s (Err (Line number)) left left_new w0 w1 consumed done does =
-    (octets, consumed, whole_run kept octets before, inr (refl, done, refl), does)
-runs-whole octets before s (Err Write) left left_new w0 w1 consumed done does =
+runs-whole : (refused : List Bool) (octets : List ℕ) (before s : Kept) (result : Result Unit ScriptFault) (left left_new w0 w1 : Option (List ℕ))
+    → Consumes left left_new octets → IsAtEnd left_new → DoesAtLeast (length (run_so_far kept refused octets before).text) (whole_run kept refused octets before) result s w0 w1
+    → RunsBy kept refused result before s left left_new w0 w1
+runs-whole refused octets before s (Ok x) left left_new w0 w1 consumed done does = (octets, consumed, done, does)
+runs-whole refused octets before s (Err (Line number)) left left_new w0 w1 consumed done does =
+    (octets, consumed, whole_run kept refused octets before, inr (refl, done, refl), does)
+runs-whole refused octets before s (Err Write) left left_new w0 w1 consumed done does =
     let all = sym (append-nil octets) in (
       octets,
       None,
       [],
       subst (λ (xs : List ℕ). Consumes left left_new xs) all consumed,
-      whole_run kept octets before,
-      inr (refl, done, ap (λ (xs : List ℕ). whole_run kept xs before) all),
+      whole_run kept refused octets before,
+      inr (refl, done, ap (λ (xs : List ℕ). whole_run kept refused xs before) all),
       does.0,
       does.1,
     )
-runs-whole octets before s (Err Read) left left_new w0 w1 consumed done does = absurd does
-runs-whole octets before s (Err TooManyReads) left left_new w0 w1 consumed done does = absurd does
-runs-whole octets before s (Err NoMemory) left left_new w0 w1 consumed done does = absurd does
+runs-whole refused octets before s (Err Read) left left_new w0 w1 consumed done does = absurd does
+runs-whole refused octets before s (Err TooManyReads) left left_new w0 w1 consumed done does = absurd does
+runs-whole refused octets before s (Err NoMemory) left left_new w0 w1 consumed done does = absurd does
 
 pub at-end : (least : ℕ) (before s : Kept) (left left_mid left_new w0 w1 w2 : Option (List ℕ)) (line : LineSoFar) (result : Result Unit ScriptFault) (piece : List ℕ)
     → length line.octets ≤ LINE_OCTETS → Progress least before left left_mid w0 w1 line s → piece ≡ [] → Consumes left_mid left_new piece → IsAtEnd left_new
-    → Does (rest_run 0 line [] s) result s w1 w2 → Runs kept result before s left left_new w0 w2
+    → Does (rest_run 0 [] line [] s) result s w1 w2 → Runs kept result before s left left_new w0 w2
 at-end least before s left left_mid left_new w0 w1 w2 line result piece short p e consumed done does =
     let all : p.octets ++ piece ≡ p.octets = rw e (append-nil p.octets) in
-    let sent : (run_so_far kept p.octets before).text ≡ p.taken.text =
-    ap (λ (r : Reached KeptQueues). r.text) (open-so-far least before s left left_mid w0 w1 line short p) ∙ append-nil p.taken.text in
-    runs-whole p.octets before s result left left_new w0 w2
-    (subst (λ (xs : List ℕ). Consumes left left_new xs) all (consumes-consumes left left_mid left_new p.octets piece p.consumed consumed)) done
-    (subst (λ (r : Reached KeptQueues). DoesAtLeast (length (run_so_far kept p.octets before).text) r result s w0 w2)
-    (sym (so-far least before s left left_mid w0 w1 line 0 (omega arith) p))
-    (subst (λ (text : List ℕ). DoesAtLeast (length text) (onto p.taken.text (rest_run 0 line [] s)) result s w0 w2) (sym sent)
-    (does-onto p.taken.text (rest_run 0 line [] s) result s w0 w1 w2 p.taken.wrote does)))
+    let refused : List Bool = p.taken.refused in
+    let sent : (run_so_far kept refused p.octets before).text ≡ p.taken.text =
+    ap (λ (r : Reached KeptQueues). r.text) (open-so-far least before s left left_mid w0 w1 line short p) ∙ append-nil p.taken.text in (
+      refused,
+      runs-whole refused p.octets before s result left left_new w0 w2
+          (subst (λ (xs : List ℕ). Consumes left left_new xs) all (consumes-consumes left left_mid left_new p.octets piece p.consumed consumed)) done
+          (subst (λ (r : Reached KeptQueues). DoesAtLeast (length (run_so_far kept refused p.octets before).text) r result s w0 w2)
+          (sym (so-far least before s left left_mid w0 w1 line 0 (omega arith) p))
+          (subst (λ (text : List ℕ). DoesAtLeast (length text) (onto p.taken.text (rest_run 0 [] line [] s)) result s w0 w2) (sym sent)
+          (does-onto p.taken.text (rest_run 0 [] line [] s) result s w0 w1 w2 p.taken.wrote does))),
+    )
 
 -- a fault in a piece
 runs-broken : (octets : List ℕ) (before after : Kept) (fault : ScriptFault) (line next : LineSoFar) (left left_new w0 w1 : Option (List ℕ))
     → Consumes left left_new octets → HasTaken octets (Err fault) first_line next before after w0 w1 → Runs kept (Err fault) before after left left_new w0 w1
 runs-broken octets before after (Line number) line next left left_new w0 w1 consumed h =
-    let same : run_so_far kept octets before ≡ record { text = h.text; state = after; fault = Some number } =
-    from-first LINE_OCTETS octets before ∙ h.rest LINE_OCTETS [] (omega arith) in (
-      octets,
-      consumed,
-      run_so_far kept octets before,
-      inl refl,
-      subst (λ (r : Reached KeptQueues). Does r (Err (Line number)) after w0 w1) (sym same) (refl, refl, h.wrote),
+    let run : Reached KeptQueues = run_so_far kept h.refused octets before in
+    let same : run ≡ record { text = h.text; state = after; fault = Some number } =
+    from-first LINE_OCTETS h.refused octets before ∙ h.rest LINE_OCTETS [] (omega arith) in (
+      h.refused,
+      (
+        octets,
+        consumed,
+        run,
+        inl refl,
+        subst (λ (r : Reached KeptQueues). Does r (Err (Line number)) after w0 w1) (sym same) (refl, refl, h.wrote),
+      ),
     )
 runs-broken octets before after Write line next left left_new w0 w1 consumed h =
-    let same : (text : List ℕ) → run_so_far kept text before ≡ rest_run LINE_OCTETS first_line text before =
-    λ text. ap (λ (parts : List (List ℕ)). lines_run kept LINE_OCTETS 1 parts before) (sym (begun-nothing (lines text))) in
+    let same : (text : List ℕ) → run_so_far kept h.refused text before ≡ rest_run LINE_OCTETS h.refused first_line text before =
+    λ text. ap (λ (parts : List (List ℕ)). lines_run kept LINE_OCTETS 1 h.refused parts before) (sym (begun-nothing (lines text))) in
     let to = h.front ++ h.last ∷ [] in (
-      h.front,
-      Some h.last,
-      h.more,
-      subst (λ (xs : List ℕ). Consumes left left_new xs) h.are consumed,
-      run_so_far kept to before,
-      inl refl,
-      ap (λ (r : Reached KeptQueues). r.state) (same to) ∙ h.state,
-      subst (λ (r : Reached KeptQueues). AppendsAtLeast (length r.text) w0 w1 (run_so_far kept to before).text) (sym (same h.front))
-          (subst (λ (r : Reached KeptQueues). AppendsAtLeast (length (rest_run LINE_OCTETS first_line h.front before).text) w0 w1 r.text) (sym (same to)) h.wrote),
+      h.refused,
+      (
+        h.front,
+        Some h.last,
+        h.more,
+        subst (λ (xs : List ℕ). Consumes left left_new xs) h.are consumed,
+        run_so_far kept h.refused to before,
+        inl refl,
+        ap (λ (r : Reached KeptQueues). r.state) (same to) ∙ h.state,
+        subst (λ (r : Reached KeptQueues). AppendsAtLeast (length r.text) w0 w1 (run_so_far kept h.refused to before).text) (sym (same h.front))
+            (subst (λ (r : Reached KeptQueues). AppendsAtLeast (length (rest_run LINE_OCTETS h.refused first_line h.front before).text) w0 w1 r.text) (sym (same to)) h.wrote),
+      ),
     )
 runs-broken octets before after Read line next left left_new w0 w1 consumed h = absurd h
 runs-broken octets before after TooManyReads line next left left_new w0 w1 consumed h = absurd h

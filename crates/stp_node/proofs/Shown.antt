@@ -3,15 +3,17 @@ use Rattle.std.proofs.Common.{◌≡◌, ◌∙◌, ◌+◌, ◌<◌, ◌-◌, �
 use Rattle.std.specs.Option.{option_map, option_and_then}
 use Rattle.std.specs.Prelude.{slice_get, Result, Ok, Err, OnErr}
 use Rattle.std.specs.Io.KnownBytes.{Appends}
-use Rattle.exchange.specs.Stands.{Abstract, StandsFor, kept_of}
-use Rattle.exchange.specs.Queues.{kept, whole}
+use Rattle.exchange_rules.specs.Sound.{Abstract}
+use Rattle.exchange.specs.Stands.{StandsFor, kept_of}
+use Rattle.exchange.specs.KeptQueues.{kept}
+use Rattle.exchange_rules.specs.Queues.{whole}
 use Rattle.exchange.specs.declared.view.LinkView.{LinkView}
 use Rattle.exchange.proofs.Showing.{stands-link}
 use Rattle.console.specs.Texts.{link_text}
 use Rattle.stp_node.specs.Streams.{AppendsFirst}
 use Rattle.stp_node.specs.Showing.{line_of, most_lines, ended, first_lines, shown_text}
 use Rattle.stp_node.specs.declared.line.Show.{Show}
-use Rattle.stp_node.specs.declared.line.Show.TheVariants.{Links, Routes, Notices}
+use Rattle.stp_node.specs.declared.line.Show.TheVariants.{Links, Routes, Titles, Notices}
 use Rattle.stp_node.proofs.Appending.{appends-appends, appends-first, appends-nothing}
 
 -- ---- of what is kept, and of the whole
@@ -20,6 +22,7 @@ line-stands : (what : Show) (k : ℕ) (a : Abstract) → StandsFor (kept_of a) a
 line-stands Links k a s =
     ap (λ (v : Option LinkView). option_and_then (λ row. option_map (λ w. link_text row.name w) v) (slice_get a.settings.links k)) (stands-link k (kept_of a) a s)
 line-stands Routes k a s = refl
+line-stands Titles k a s = refl
 line-stands Notices k a s = refl
 
 lines-alike : (f g : ℕ → Option (List ℕ)) (n : ℕ) → ((k : ℕ) → f k ≡ g k) → first_lines f n ≡ first_lines g n
@@ -30,6 +33,7 @@ lines-alike f g (suc n) e =
 most-stands : (what : Show) (a : Abstract) → most_lines what (kept_of a) ≡ most_lines what a
 most-stands Links a = refl
 most-stands Routes a = refl
+most-stands Titles a = refl
 most-stands Notices a = refl
 
 pub shown-stands : (what : Show) (a : Abstract) → StandsFor (kept_of a) a → shown_text kept what (kept_of a) ≡ shown_text whole what a

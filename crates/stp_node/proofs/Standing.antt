@@ -4,18 +4,20 @@ use Rattle.std.specs.Option.{option_to_list}
 use Rattle.std.specs.Prelude.{if◌then◌else◌}
 use Rattle.std.specs.Io.KnownBytes.{Appends}
 use Rattle.exchange.specs.declared.event.Answer.{Answer}
-use Rattle.exchange.specs.Queues.{WholeQueues, KeptQueues, kept, whole}
-use Rattle.exchange.specs.Stands.{Abstract, Kept, StandsFor, kept_of}
+use Rattle.exchange_rules.specs.Queues.{WholeQueues, whole}
+use Rattle.exchange.specs.KeptQueues.{KeptQueues, kept}
+use Rattle.exchange_rules.specs.Sound.{Abstract}
+use Rattle.exchange.specs.Stands.{Kept, StandsFor, kept_of}
 use Rattle.exchange.proofs.Calls.{stands-answer, stands-call}
 use Rattle.exchange.proofs.Standing.{stands-after}
-use Rattle.exchange.specs.Exchange.{after}
-use Rattle.exchange.specs.Happening.{Ticked}
+use Rattle.exchange_rules.specs.Exchange.{after}
+use Rattle.exchange_rules.specs.Happening.{Ticked}
 use Rattle.stp_node.specs.Asking.{Asked, Reading, Skips, IsMalformed, Asks}
 use Rattle.stp_node.specs.Doing.{Meaning, Calls, Passes, Shows, Refuses, meaning, answer_text, after_ticks, meaning_printed, meaning_done, printed, done}
 use Rattle.stp_node.proofs.Shown.{shown-stands}
 use Rattle.stp_node.specs.Streams.{AppendsFirst, AppendsAtLeast}
 use Rattle.stp_node.specs.Lines.{lines}
-use Rattle.stp_node.specs.Runs.{Reached, silent, stopped, line_run, whole_line, onto, unless_ended, behind, lines_run, run_so_far, whole_run, LeadsTo, Does, Runs}
+use Rattle.stp_node.specs.Runs.{Reached, silent, stopped, line_run, whole_line, onto, unless_ended, behind, first_of, behind_first, lines_run, run_so_far, whole_run, LeadsTo, Does, RunsBy, Runs}
 use Rattle.stp_node.specs.declared.script.TheConstants.{LINE_OCTETS}
 use Rattle.stp_node.specs.declared.script.ScriptFault.{ScriptFault}
 use Rattle.stp_node.specs.declared.script.ScriptFault.TheVariants.{Read, Write, Line, TooManyReads, NoMemory}
@@ -42,15 +44,15 @@ stands-itself : (k : Kept) (a : Abstract) → StandsFor k a → StandsFor (kept_
 stands-itself k a s = record { sound = s.sound; kept = refl }
 
 -- a line prints the same,
-pub stands-printed : (asked : Asked) (k : Kept) (a : Abstract) → StandsFor k a → printed kept asked k ≡ printed whole asked a
-stands-printed asked k a s =
-    ap (λ (x : Kept). printed kept asked x) s.kept ∙ meaning-printed (meaning a.settings asked) a (stands-itself k a s)
+pub stands-printed : (lacking : Bool) (asked : Asked) (k : Kept) (a : Abstract) → StandsFor k a → printed kept lacking asked k ≡ printed whole lacking asked a
+stands-printed lacking asked k a s =
+    ap (λ (x : Kept). printed kept lacking asked x) s.kept ∙ meaning-printed (meaning a.settings lacking asked) a (stands-itself k a s)
 
 -- and what is kept after it stands for the state after it
-pub stands-done : (asked : Asked) (k : Kept) (a : Abstract) → StandsFor k a → StandsFor (done kept asked k) (done whole asked a)
-stands-done asked k a s =
-    subst (λ (x : Kept). StandsFor (done kept asked x) (done whole asked a)) (sym s.kept)
-    (meaning-stands (meaning a.settings asked) (kept_of a) a (stands-itself k a s))
+pub stands-done : (lacking : Bool) (asked : Asked) (k : Kept) (a : Abstract) → StandsFor k a → StandsFor (done kept lacking asked k) (done whole lacking asked a)
+stands-done lacking asked k a s =
+    subst (λ (x : Kept). StandsFor (done kept lacking asked x) (done whole lacking asked a)) (sym s.kept)
+    (meaning-stands (meaning a.settings lacking asked) (kept_of a) a (stands-itself k a s))
 
 -- ---- lines in a row
 
@@ -66,10 +68,10 @@ same-silent k a s = record { text = refl; state = s; fault = refl }
 same-stopped : (number : ℕ) (k : Kept) (a : Abstract) → StandsFor k a → Same (stopped number k) (stopped number a)
 same-stopped number k a s = record { text = refl; state = s; fault = refl }
 
-same-line : (number : ℕ) (reading : Reading) (k : Kept) (a : Abstract) → StandsFor k a → Same (line_run kept number reading k) (line_run whole number reading a)
-same-line number Skips k a s = same-silent k a s
-same-line number IsMalformed k a s = same-stopped number k a s
-same-line number (Asks asked) k a s = record { text = stands-printed asked k a s; state = stands-done asked k a s; fault = refl }
+same-line : (number : ℕ) (lacking : Bool) (reading : Reading) (k : Kept) (a : Abstract) → StandsFor k a → Same (line_run kept number lacking reading k) (line_run whole number lacking reading a)
+same-line number lacking Skips k a s = same-silent k a s
+same-line number lacking IsMalformed k a s = same-stopped number k a s
+same-line number lacking (Asks asked) k a s = record { text = stands-printed lacking asked k a s; state = stands-done lacking asked k a s; fault = refl }
 
 same-either : (b : Bool) (number : ℕ) (k : Kept) (a : Abstract) → StandsFor k a
     → Same (if b then stopped number k else silent k) (if b then stopped number a else silent a)
@@ -95,14 +97,14 @@ same-behind : (r : Reached KeptQueues) (t : Reached WholeQueues) (next : Kept �
 same-behind r t next follow h k =
     subst (λ (f : Option ℕ). Same (unless_ended f r next) (behind t follow)) (sym h.fault) (same-unless t.fault r t next follow h k)
 
-same-lines : (most number : ℕ) (ls : List (List ℕ)) (k : Kept) (a : Abstract) → StandsFor k a
-    → Same (lines_run kept most number ls k) (lines_run whole most number ls a)
-same-lines most number [] k a s = same-silent k a s
-same-lines most number (line ∷ []) k a s = same-either (nat_lt most (length line)) number k a s
-same-lines most number (line ∷ next ∷ more) k a s =
-    same-behind (line_run kept number (whole_line line) k) (line_run whole number (whole_line line) a)
-    (λ t. lines_run kept most (number + 1) (next ∷ more) t) (λ t. lines_run whole most (number + 1) (next ∷ more) t)
-    (same-line number (whole_line line) k a s) (same-lines most (number + 1) (next ∷ more))
+same-lines : (most number : ℕ) (refused : List Bool) (ls : List (List ℕ)) (k : Kept) (a : Abstract) → StandsFor k a
+    → Same (lines_run kept most number refused ls k) (lines_run whole most number refused ls a)
+same-lines most number refused [] k a s = same-silent k a s
+same-lines most number refused (line ∷ []) k a s = same-either (nat_lt most (length line)) number k a s
+same-lines most number refused (line ∷ next ∷ more) k a s =
+    same-behind (line_run kept number (first_of refused) (whole_line line) k) (line_run whole number (first_of refused) (whole_line line) a)
+    (λ t. lines_run kept most (number + 1) (behind_first refused) (next ∷ more) t) (λ t. lines_run whole most (number + 1) (behind_first refused) (next ∷ more) t)
+    (same-line number (first_of refused) (whole_line line) k a s) (same-lines most (number + 1) (behind_first refused) (next ∷ more))
 
 -- ---- a whole run
 
@@ -122,39 +124,39 @@ does-stands r t (Err TooManyReads) k w0 w1 h d = absurd d
 does-stands r t (Err NoMemory) k w0 w1 h d = absurd d
 
 -- what is kept leads to the same place as what it stands for
-record LeadsWhole (octets more : List ℕ) (left : Option (List ℕ)) (a : Abstract) (r : Reached KeptQueues) : Type 0 where
+record LeadsWhole (refused : List Bool) (octets more : List ℕ) (left : Option (List ℕ)) (a : Abstract) (r : Reached KeptQueues) : Type 0 where
   pub reached : Reached WholeQueues
-  pub leads : LeadsTo whole octets more left a reached
+  pub leads : LeadsTo whole refused octets more left a reached
   pub same : Same r reached
 
-leads-stands : (octets more : List ℕ) (left : Option (List ℕ)) (k : Kept) (a : Abstract) (r : Reached KeptQueues) → StandsFor k a
-    → LeadsTo kept octets more left k r → LeadsWhole octets more left a r
-leads-stands octets more left k a r s (inl e) = record {
-  reached = run_so_far whole octets a;
+leads-stands : (refused : List Bool) (octets more : List ℕ) (left : Option (List ℕ)) (k : Kept) (a : Abstract) (r : Reached KeptQueues) → StandsFor k a
+    → LeadsTo kept refused octets more left k r → LeadsWhole refused octets more left a r
+leads-stands refused octets more left k a r s (inl e) = record {
+  reached = run_so_far whole refused octets a;
   leads = inl refl;
-  same = subst (λ (x : Reached KeptQueues). Same x (run_so_far whole octets a)) (sym e) (same-lines LINE_OCTETS 1 (lines octets) k a s);
+  same = subst (λ (x : Reached KeptQueues). Same x (run_so_far whole refused octets a)) (sym e) (same-lines LINE_OCTETS 1 refused (lines octets) k a s);
 }
-leads-stands octets more left k a r s (inr e) = record {
-  reached = whole_run whole octets a;
+leads-stands refused octets more left k a r s (inr e) = record {
+  reached = whole_run whole refused octets a;
   leads = inr (e.0, e.1, refl);
-  same = subst (λ (x : Reached KeptQueues). Same x (whole_run whole octets a)) (sym e.2) (same-lines 0 1 (lines octets) k a s);
+  same = subst (λ (x : Reached KeptQueues). Same x (whole_run whole refused octets a)) (sym e.2) (same-lines 0 1 refused (lines octets) k a s);
 }
 
 -- a run on what an exchange keeps is one of the abstract exchange
-pub runs-stand : (result : Result Unit ScriptFault) (k j : Kept) (a : Abstract) (left left_new w0 w1 : Option (List ℕ)) → StandsFor k a
-    → Runs kept result k j left left_new w0 w1
-    → (b : Abstract) × StandsFor j b × Runs whole result a b left left_new w0 w1
-runs-stand (Ok x) k j a left left_new w0 w1 s (octets, consumed, done, does) =
-    let t = whole_run whole octets a in
-    let d = does-stands (whole_run kept octets k) t (Ok x) j w0 w1 (same-lines 0 1 (lines octets) k a s) does in
+runs_by-stand : (refused : List Bool) (result : Result Unit ScriptFault) (k j : Kept) (a : Abstract) (left left_new w0 w1 : Option (List ℕ)) → StandsFor k a
+    → RunsBy kept refused result k j left left_new w0 w1
+    → (b : Abstract) × StandsFor j b × RunsBy whole refused result a b left left_new w0 w1
+runs_by-stand refused (Ok x) k j a left left_new w0 w1 s (octets, consumed, done, does) =
+    let t = whole_run whole refused octets a in
+    let d = does-stands (whole_run kept refused octets k) t (Ok x) j w0 w1 (same-lines 0 1 refused (lines octets) k a s) does in
     (t.state, d.0, (octets, consumed, done, d.1))
-runs-stand (Err (Line number)) k j a left left_new w0 w1 s (octets, consumed, r, leads, does) =
-    let to = leads-stands octets [] left_new k a r s leads in
+runs_by-stand refused (Err (Line number)) k j a left left_new w0 w1 s (octets, consumed, r, leads, does) =
+    let to = leads-stands refused octets [] left_new k a r s leads in
     let d = does-stands r to.reached (Err (Line number)) j w0 w1 to.same does in
     (to.reached.state, d.0, (octets, consumed, to.reached, to.leads, d.1))
-runs-stand (Err Write) k j a left left_new w0 w1 s (front, last, more, consumed, r, leads, state, wrote) =
-    let to = leads-stands (front ++ option_to_list last) more left_new k a r s leads in
-    let sent = same-lines LINE_OCTETS 1 (lines front) k a s in (
+runs_by-stand refused (Err Write) k j a left left_new w0 w1 s (front, last, more, consumed, r, leads, state, wrote) =
+    let to = leads-stands refused (front ++ option_to_list last) more left_new k a r s leads in
+    let sent = same-lines LINE_OCTETS 1 refused (lines front) k a s in (
       to.reached.state,
       subst (λ (x : Kept). StandsFor x to.reached.state) state to.same.state,
       (
@@ -166,15 +168,22 @@ runs-stand (Err Write) k j a left left_new w0 w1 s (front, last, more, consumed,
         to.leads,
         refl,
         subst (λ (text : List ℕ). AppendsAtLeast (length text) w0 w1 to.reached.text) sent.text
-            (subst (λ (text : List ℕ). AppendsAtLeast (length (run_so_far kept front k).text) w0 w1 text) to.same.text wrote),
+            (subst (λ (text : List ℕ). AppendsAtLeast (length (run_so_far kept refused front k).text) w0 w1 text) to.same.text wrote),
       ),
     )
-runs-stand (Err Read) k j a left left_new w0 w1 s (octets, many, consumed, does) =
-    let t = run_so_far whole octets a in
-    let d = does-stands (run_so_far kept octets k) t (Ok tt) j w0 w1 (same-lines LINE_OCTETS 1 (lines octets) k a s) does in
+runs_by-stand refused (Err Read) k j a left left_new w0 w1 s (octets, many, consumed, does) =
+    let t = run_so_far whole refused octets a in
+    let d = does-stands (run_so_far kept refused octets k) t (Ok tt) j w0 w1 (same-lines LINE_OCTETS 1 refused (lines octets) k a s) does in
     (t.state, d.0, (octets, many, consumed, d.1))
-runs-stand (Err TooManyReads) k j a left left_new w0 w1 s (octets, many, consumed, does) =
-    let t = run_so_far whole octets a in
-    let d = does-stands (run_so_far kept octets k) t (Ok tt) j w0 w1 (same-lines LINE_OCTETS 1 (lines octets) k a s) does in
+runs_by-stand refused (Err TooManyReads) k j a left left_new w0 w1 s (octets, many, consumed, does) =
+    let t = run_so_far whole refused octets a in
+    let d = does-stands (run_so_far kept refused octets k) t (Ok tt) j w0 w1 (same-lines LINE_OCTETS 1 refused (lines octets) k a s) does in
     (t.state, d.0, (octets, many, consumed, d.1))
-runs-stand (Err NoMemory) k j a left left_new w0 w1 s h = absurd h
+runs_by-stand refused (Err NoMemory) k j a left left_new w0 w1 s h = absurd h
+
+pub runs-stand : (result : Result Unit ScriptFault) (k j : Kept) (a : Abstract) (left left_new w0 w1 : Option (List ℕ)) → StandsFor k a
+    → Runs kept result k j left left_new w0 w1
+    → (b : Abstract) × StandsFor j b × Runs whole result a b left left_new w0 w1
+runs-stand result k j a left left_new w0 w1 s (refused, by) =
+    let run = runs_by-stand refused result k j a left left_new w0 w1 s by in
+    (run.0, run.1, (refused, run.2))

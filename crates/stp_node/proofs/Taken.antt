@@ -1,9 +1,9 @@
 -- Octets that were taken, and those behind them.
-use Rattle.std.proofs.Common.{◌≡◌, ℕ, ◌+◌, ◌≤◌, ◌<◌, get_or, drop, drop-cons, add-one, suc, List, [], ◌∷◌, ◌++◌, Option, Result, Ok, Err, length, refl, sym, ◌∙◌, ap, arith, append_assoc, length-append, subst}
+use Rattle.std.proofs.Common.{◌≡◌, ℕ, Bool, ◌+◌, ◌≤◌, ◌<◌, get_or, drop, drop-cons, add-one, suc, List, [], ◌∷◌, ◌++◌, Option, Result, Ok, Err, length, refl, sym, ◌∙◌, ap, arith, append_assoc, length-append, subst}
 use Rattle.std.proofs.lemmas.List.{drop_all}
 use Rattle.std.specs.Io.KnownBytes.{Appends}
 use Rattle.exchange.specs.Stands.{Kept}
-use Rattle.exchange.specs.Queues.{KeptQueues}
+use Rattle.exchange.specs.KeptQueues.{KeptQueues}
 use Rattle.stp_node.specs.Streams.{AppendsAtLeast}
 use Rattle.stp_node.specs.Runs.{Reached, onto}
 use Rattle.stp_node.specs.Steps.{LineSoFar, rest_run, HasTaken}
@@ -16,7 +16,7 @@ use Rattle.stp_node.proofs.OneOctet.{line-first}
 -- ---- octets behind octets
 
 pub taken-nothing : (line : LineSoFar) (s : Kept) (w : Option (List ℕ)) → HasTaken [] (Ok tt) line line s s w w
-taken-nothing line s w = record { text = []; wrote = appends-nothing w; rest = λ most more k. refl }
+taken-nothing line s w = record { text = []; refused = []; wrote = appends-nothing w; rest = λ most later more k. refl }
 
 -- what was written behind a text, where both runs print that text first
 least-behind : (text : List ℕ) (r t front whole : Reached KeptQueues) (w0 w1 w2 : Option (List ℕ)) → front ≡ onto text r → whole ≡ onto text t
@@ -30,29 +30,34 @@ pub taken-more : (xs ys : List ℕ) (x : Unit) (result : Result Unit ScriptFault
     → HasTaken xs (Ok x) line mid s between w0 w1 → HasTaken ys result mid next between after w1 w2 → HasTaken (xs ++ ys) result line next s after w0 w2
 taken-more xs ys x (Ok y) line mid next s between after w0 w1 w2 h k = record {
   text = h.text ++ k.text;
+  refused = h.refused ++ k.refused;
   wrote = appends-appends w0 w1 w2 h.text k.text h.wrote k.wrote;
-  rest = λ most more m.
-      ap (λ (octets : List ℕ). rest_run most line octets s) (append_assoc xs ys more) ∙ h.rest most (ys ++ more) m
-      ∙ ap (λ (r : Reached KeptQueues). onto h.text r) (k.rest most more m) ∙ line-first h.text k.text (rest_run most next more after);
+  rest = λ most later more m.
+      ap (λ (refused : List Bool). rest_run most refused line ((xs ++ ys) ++ more) s) (append_assoc h.refused k.refused later)
+      ∙ ap (λ (octets : List ℕ). rest_run most (h.refused ++ (k.refused ++ later)) line octets s) (append_assoc xs ys more) ∙ h.rest most (k.refused ++ later) (ys ++ more) m
+      ∙ ap (λ (r : Reached KeptQueues). onto h.text r) (k.rest most later more m) ∙ line-first h.text k.text (rest_run most later next more after);
 }
 taken-more xs ys x (Err (Line number)) line mid next s between after w0 w1 w2 h k = record {
   text = h.text ++ k.text;
+  refused = h.refused ++ k.refused;
   wrote = appends-appends w0 w1 w2 h.text k.text h.wrote k.wrote;
   rest = λ most more m.
-      ap (λ (octets : List ℕ). rest_run most line octets s) (append_assoc xs ys more) ∙ h.rest most (ys ++ more) m
+      ap (λ (octets : List ℕ). rest_run most (h.refused ++ k.refused) line octets s) (append_assoc xs ys more) ∙ h.rest most k.refused (ys ++ more) m
       ∙ ap (λ (r : Reached KeptQueues). onto h.text r) (k.rest most more m);
 }
 taken-more xs ys x (Err Write) line mid next s between after w0 w1 w2 h k =
-    let before = h.rest LINE_OCTETS k.front (omega arith) in
-    let run = ap (λ (octets : List ℕ). rest_run LINE_OCTETS line octets s) (append_assoc xs k.front (k.last ∷ []))
-    ∙ h.rest LINE_OCTETS (k.front ++ k.last ∷ []) (omega arith) in
+    let refused : List Bool = h.refused ++ k.refused in
+    let before = h.rest LINE_OCTETS k.refused k.front (omega arith) in
+    let run = ap (λ (octets : List ℕ). rest_run LINE_OCTETS refused line octets s) (append_assoc xs k.front (k.last ∷ []))
+    ∙ h.rest LINE_OCTETS k.refused (k.front ++ k.last ∷ []) (omega arith) in
     record {
       front = xs ++ k.front;
       last = k.last;
       more = k.more;
+      refused = refused;
       are = ap (λ (octets : List ℕ). xs ++ octets) k.are ∙ sym (append_assoc xs k.front (k.last ∷ k.more));
       state = ap (λ (r : Reached KeptQueues). r.state) run ∙ k.state;
-      wrote = least-behind h.text (rest_run LINE_OCTETS mid k.front between) _ _ _ w0 w1 w2 before run h.wrote k.wrote;
+      wrote = least-behind h.text (rest_run LINE_OCTETS k.refused mid k.front between) _ _ _ w0 w1 w2 before run h.wrote k.wrote;
     }
 taken-more xs ys x (Err Read) line mid next s between after w0 w1 w2 h k = absurd k
 taken-more xs ys x (Err TooManyReads) line mid next s between after w0 w1 w2 h k = absurd k
@@ -62,13 +67,15 @@ pub taken-no_more : (xs ys : List ℕ) (fault : ScriptFault) (line mid next : Li
     → HasTaken xs (Err fault) line mid s after w0 w1 → HasTaken (xs ++ ys) (Err fault) line next s after w0 w1
 taken-no_more xs ys (Line number) line mid next s after w0 w1 h = record {
   text = h.text;
+  refused = h.refused;
   wrote = h.wrote;
-  rest = λ most more m. ap (λ (octets : List ℕ). rest_run most line octets s) (append_assoc xs ys more) ∙ h.rest most (ys ++ more) m;
+  rest = λ most more m. ap (λ (octets : List ℕ). rest_run most h.refused line octets s) (append_assoc xs ys more) ∙ h.rest most (ys ++ more) m;
 }
 taken-no_more xs ys Write line mid next s after w0 w1 h = record {
   front = h.front;
   last = h.last;
   more = h.more ++ ys;
+  refused = h.refused;
   are = ap (λ (octets : List ℕ). octets ++ ys) h.are ∙ append_assoc h.front (h.last ∷ h.more) ys;
   state = h.state;
   wrote = h.wrote;

@@ -2,17 +2,19 @@
 use Rattle.std.specs.Prelude.{ℕ, ◌==◌, ◌&&◌, if◌then◌else◌, List, [], ◌∷◌, codes}
 use Rattle.std.specs.Prelude.{Option, None, Some, Result, Ok, Err, bytes_eq}
 use Rattle.std.specs.Option.{option_map}
-use Rattle.console.specs.Orders.{Instruction, instructed, instruction, is_some_word}
+use Rattle.console.specs.Commands.{command_named}
+use Rattle.console.specs.Numbers.{number_within}
+use Rattle.console.specs.Orders.{Instruction, ToActivate, ToDeactivate, instruction, instructed_by, is_some_word}
 use Rattle.console.specs.Words.{words}
+use Rattle.console.specs.declared.commands.Command.{Command}
+use Rattle.console.specs.declared.commands.Command.TheVariants as command
+use Rattle.signalling_types.specs.declared.limits.TheConstants.Limits.{TICKS}
 use Rattle.stp_node.specs.Lines.{is_octets, octets_of}
-use Rattle.stp_node.specs.Numbers.{ticks_written}
-use Rattle.stp_node.specs.declared.line.Command.{Command}
-use Rattle.stp_node.specs.declared.line.Command.TheVariants as command
 use Rattle.stp_node.specs.declared.line.Line.{Line}
 use Rattle.stp_node.specs.declared.line.Line.TheVariants as line
 use Rattle.stp_node.specs.declared.line.Malformed.{Malformed}
 use Rattle.stp_node.specs.declared.line.Show.{Show}
-use Rattle.stp_node.specs.declared.line.Show.TheVariants.{Links, Routes, Notices}
+use Rattle.stp_node.specs.declared.line.Show.TheVariants.{Links, Routes, Titles, Notices}
 
 -- what a line asks for; a link goes by a name, which no link need have
 pub data Asked : Type 0 where
@@ -26,24 +28,12 @@ pub data Asked : Type 0 where
   AskOrder : (order : Instruction) → Asked
   AskShow : (what : Show) → Asked
 
--- the command of a name
-abbrev pub command_named : List ℕ → Option Command
-command_named word =
-    if bytes_eq word (codes "up") then Some command.Up
-    else if bytes_eq word (codes "down") then Some command.Down
-    else if bytes_eq word (codes "frame") then Some command.Frame
-    else if bytes_eq word (codes "tick") then Some command.Tick
-    else if bytes_eq word (codes "take") then Some command.Take
-    else if bytes_eq word (codes "wants") then Some command.Wants
-    else if bytes_eq word (codes "submit") then Some command.Submit
-    else if bytes_eq word (codes "show") then Some command.Show
-    else None
-
 -- what a word asks to be shown
 abbrev pub show_named : List ℕ → Option Show
 show_named word =
     if bytes_eq word (codes "links") then Some Links
     else if bytes_eq word (codes "routes") then Some Routes
+    else if bytes_eq word (codes "titles") then Some Titles
     else if bytes_eq word (codes "notices") then Some Notices
     else None
 
@@ -52,44 +42,34 @@ abbrev pub asked_with_one : Command → List ℕ → Option Asked
 asked_with_one command.Up word = if is_some_word word then Some (AskUp word) else None
 asked_with_one command.Down word = if is_some_word word then Some (AskDown word) else None
 asked_with_one command.Frame word = None
-asked_with_one command.Tick word = option_map (λ ticks. AskTick ticks) (ticks_written word)
+asked_with_one command.Tick word = option_map (λ ticks. AskTick ticks) (number_within 1 TICKS word)
 asked_with_one command.Take word = if is_some_word word then Some (AskTake word) else None
 asked_with_one command.Wants word = if is_some_word word then Some (AskWants word) else None
 asked_with_one command.Submit word = if is_octets word then Some (AskSubmit (octets_of word)) else None
+asked_with_one command.Activate word = if is_some_word word then Some (AskOrder (ToActivate word)) else None
+asked_with_one command.Deactivate word = if is_some_word word then Some (AskOrder (ToDeactivate word)) else None
+asked_with_one command.Title word = None
 asked_with_one command.Show word = option_map (λ what. AskShow what) (show_named word)
 
 -- a command with two words behind it
 abbrev pub asked_with_two : Command → List ℕ → List ℕ → Option Asked
-asked_with_two command.Up first second = None
 asked_with_two command.Frame first second =
     if is_some_word first && is_octets second then Some (AskFrame first (octets_of second)) else None
-asked_with_two command.Take first second = None
-asked_with_two command.Down first second = None
-asked_with_two command.Tick first second = None
-asked_with_two command.Wants first second = None
-asked_with_two command.Submit first second = None
-asked_with_two command.Show first second = None
+asked_with_two _ first second = None
 
--- the words behind a command
+-- the words behind a command; with three and more it is an order
 abbrev pub asked_behind : Option Command → List (List ℕ) → Option Asked
 asked_behind (Some command) (first ∷ []) = asked_with_one command first
 asked_behind (Some command) (first ∷ second ∷ []) = asked_with_two command first second
 asked_behind (Some command) [] = None
-asked_behind (Some command) (first ∷ second ∷ third ∷ more) = None
+asked_behind (Some command) (first ∷ second ∷ third ∷ more) =
+    option_map (λ order. AskOrder order) (instructed_by command (first ∷ second ∷ third ∷ more))
 asked_behind None behind = None
 
 -- what the words of a line ask for: nothing where they are no line of a script
 abbrev pub asked_by : List (List ℕ) → Option Asked
 asked_by [] = None
 asked_by (word ∷ behind) = asked_behind (command_named word) behind
-
--- an order of the operator, or else what the words of a line ask for
-abbrev pub order_or : Option Instruction → Option Asked → Option Asked
-order_or (Some order) asked = Some (AskOrder order)
-order_or None asked = asked
-
-abbrev pub asked_words : List (List ℕ) → Option Asked
-asked_words ws = order_or (instructed ws) (asked_by ws)
 
 -- a line is skipped, malformed, or asks for something
 pub data Reading : Type 0 where
@@ -104,7 +84,7 @@ asks_or_malformed (Some asked) = Asks asked
 -- a line without its end: an empty one, and one that begins with a number sign (35), is skipped
 abbrev pub parsed_line : List ℕ → Reading
 parsed_line [] = Skips
-parsed_line (octet ∷ rest) = if octet == 35 then Skips else asks_or_malformed (asked_words (words (octet ∷ rest)))
+parsed_line (octet ∷ rest) = if octet == 35 then Skips else asks_or_malformed (asked_by (words (octet ∷ rest)))
 
 abbrev pub asked_line : Line → Asked
 asked_line (line.Up link) = AskUp link.now

@@ -1,5 +1,5 @@
 -- What a line of a script prints, and the state after it, by the calls of an exchange.
-use Rattle.std.specs.Prelude.{ℕ, zero, suc, List, [], drop, length, nat_lt}
+use Rattle.std.specs.Prelude.{ℕ, Bool, zero, suc, List, [], drop, length, nat_lt}
 use Rattle.std.specs.Prelude.{if◌then◌else◌, Option, Some, None, slice_index}
 use Rattle.signalling_types.specs.Message.{Message}
 use Rattle.settings_rows.specs.Configuration.{Configuration}
@@ -9,13 +9,14 @@ use Rattle.signalling_types.specs.declared.cause.Cause.{Cause}
 use Rattle.signalling_types.specs.declared.cause.Cause.TheVariants.{NoSuchName, TooLong}
 use Rattle.signalling_types.specs.declared.outcome.Outcome.{Outcome}
 use Rattle.signalling_types.specs.declared.outcome.Outcome.TheVariants.{Queued, Held, Local, Handled, Ignored, Refused}
+use Rattle.exchange.specs.Calls.{ordered}
 use Rattle.exchange.specs.declared.event.Answer.{Answer}
 use Rattle.exchange.specs.declared.event.Answer.TheVariants.{Stepped, Taken, Wanted}
-use Rattle.exchange.specs.State.{State, QueueKind}
-use Rattle.exchange.specs.Happening.{CameUp, WentDown, FrameCame, Ticked, Submitted}
-use Rattle.exchange.specs.Happening.{Asking, Happens, Takes, AsksWants, ordered}
 use Rattle.exchange.specs.declared.event.Order.{Order}
-use Rattle.exchange.specs.Exchange.{after}
+use Rattle.exchange_rules.specs.State.{State, QueueKind}
+use Rattle.exchange_rules.specs.Happening.{CameUp, WentDown, FrameCame, Ticked, Submitted}
+use Rattle.exchange_rules.specs.Happening.{Asking, Happens, Takes, AsksWants}
+use Rattle.exchange_rules.specs.Exchange.{after}
 use Rattle.exchange.specs.Runs.{answer_to_call, after_call}
 use Rattle.console.specs.Names.{name_in}
 use Rattle.console.specs.Orders.{order_named}
@@ -46,22 +47,22 @@ message_written octets = record { sio = slice_index octets 0; sif = drop 1 octet
 abbrev pub submission : Message → Meaning
 submission m = (if nat_lt SIF_OCTETS (length m.sif) then Refuses TooLong else Calls (Happens (Submitted m)))
 
--- an order about a link, where there is one
-abbrev pub given : Option Order → Meaning
-given None = Refuses NoSuchName
-given (Some order) = Calls (Happens (ordered order))
+-- an order to the node, where the link that it is about is there
+abbrev pub given : (lacks_memory : Bool) → Option Order → Meaning
+given lacks_memory None = Refuses NoSuchName
+given lacks_memory (Some order) = Calls (Happens (ordered order lacks_memory))
 
--- what a line means with these settings
-abbrev pub meaning : Configuration → Asked → Meaning
-meaning c (AskUp name) = at_link (link_place c name) (λ link. Happens (CameUp link))
-meaning c (AskFrame name octets) = at_link (link_place c name) (λ link. Happens (FrameCame link octets))
-meaning c (AskDown name) = at_link (link_place c name) (λ link. Happens (WentDown link))
-meaning c (AskTick ticks) = Passes ticks
-meaning c (AskWants name) = at_link (link_place c name) (λ link. AsksWants link)
-meaning c (AskTake name) = at_link (link_place c name) (λ link. Takes link)
-meaning c (AskSubmit octets) = submission (message_written octets)
-meaning c (AskOrder order) = given (order_named c order)
-meaning c (AskShow what) = Shows what
+-- what a line means with these settings, and where memory is refused for a translation row that it adds, if it is
+abbrev pub meaning : Configuration → (lacks_memory : Bool) → Asked → Meaning
+meaning c lacks_memory (AskUp name) = at_link (link_place c name) (λ link. Happens (CameUp link))
+meaning c lacks_memory (AskFrame name octets) = at_link (link_place c name) (λ link. Happens (FrameCame link octets))
+meaning c lacks_memory (AskDown name) = at_link (link_place c name) (λ link. Happens (WentDown link))
+meaning c lacks_memory (AskTick ticks) = Passes ticks
+meaning c lacks_memory (AskWants name) = at_link (link_place c name) (λ link. AsksWants link)
+meaning c lacks_memory (AskTake name) = at_link (link_place c name) (λ link. Takes link)
+meaning c lacks_memory (AskSubmit octets) = submission (message_written octets)
+meaning c lacks_memory (AskOrder order) = given lacks_memory (order_named c order)
+meaning c lacks_memory (AskShow what) = Shows what
 
 -- the name of the link that an outcome names, if any
 abbrev pub named_link : Configuration → Outcome → List ℕ
@@ -112,8 +113,8 @@ meaning_done q (Shows what) s = s
 meaning_done q (Refuses cause) s = s
 
 -- what is printed of a line, and the state after it
-abbrev pub printed : {Q : Type 0} → QueueKind Q → Asked → State Q → List ℕ
-printed q asked s = meaning_printed q (meaning s.settings asked) s
+abbrev pub printed : {Q : Type 0} → QueueKind Q → (lacks_memory : Bool) → Asked → State Q → List ℕ
+printed q lacks_memory asked s = meaning_printed q (meaning s.settings lacks_memory asked) s
 
-abbrev pub done : {Q : Type 0} → QueueKind Q → Asked → State Q → State Q
-done q asked s = meaning_done q (meaning s.settings asked) s
+abbrev pub done : {Q : Type 0} → QueueKind Q → (lacks_memory : Bool) → Asked → State Q → State Q
+done q lacks_memory asked s = meaning_done q (meaning s.settings lacks_memory asked) s

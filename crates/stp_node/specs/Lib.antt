@@ -1,6 +1,5 @@
 pub mod Streams
 pub mod Lines
-pub mod Numbers
 pub mod Asking
 pub mod Texts
 pub mod Showing
@@ -11,4 +10,5 @@ pub mod Steps
 pub mod Runs
 pub mod BuiltIn
 pub mod Folders
+pub mod Explaining
 pub mod Program

@@ -3,19 +3,19 @@ use Rattle.std.specs.Prelude.{◌≡◌, ◌⊎◌, ℕ, List, ◌++◌, codes, 
 use Rattle.std.specs.Global.{Global}
 use Rattle.std.specs.Io.KnownBytes.{Appends}
 use Rattle.settings_rows.specs.Configuration.{Configuration}
-use Rattle.settings_check.specs.FirstFault.{first_fault}
-use Rattle.settings_rows.specs.declared.draft.Draft.{Draft}
-use Rattle.settings_rows.specs.declared.fault.DraftFault.{DraftFault}
 use Rattle.settings.specs.Faults.{fault_line, no_memory}
 use Rattle.settings.specs.declared.fault.SettingsFault.{SettingsFault}
 use Rattle.settings.specs.declared.fault.SettingsFault.TheVariants as settings_fault
-use Rattle.exchange.specs.Stands.{Abstract, first_state}
-use Rattle.exchange.specs.Queues.{whole}
-use Rattle.stp_node.specs.BuiltIn.{IsBuiltIn, built_in_settings}
+use Rattle.exchange_rules.specs.Sound.{Abstract}
+use Rattle.exchange_rules.specs.First.{first_state}
+use Rattle.exchange_rules.specs.Queues.{whole}
+use Rattle.stp_node.specs.BuiltIn.{built_in_settings}
+use Rattle.settings_faults.specs.Sentences.{Explains}
+use Rattle.stp_node.specs.Explaining.{IsTold, IsToldOf, usage_text, unread_sentence, IsWarned, IsEndExplained}
 use Rattle.stp_node.specs.Faults.{Counts}
 use Rattle.stp_node.specs.Folders.{FileRead, AreSettings, IsFault}
 use Rattle.stp_node.specs.Runs.{Runs}
-use Rattle.stp_node.specs.Streams.{Input, Output, AppendsFirst, counted}
+use Rattle.stp_node.specs.Streams.{Output, Streams, AppendsFirst, counted}
 use Rattle.stp_node.specs.declared.folder.FileFault.TheVariants as file_fault
 use Rattle.stp_node.specs.declared.script.ScriptFault.{ScriptFault}
 use Rattle.stp_node.specs.declared.script.ScriptFault.TheVariants as fault
@@ -51,67 +51,74 @@ EndsWith wanted line output output_new ended =
     ⊎ ((ended ≡ status.Stream) × AppendsFirst output.written output_new.written line
     × (output_new.failures ≡ counted output.failures))
 
--- a line tells why the settings aren't taken, or that memory ran out
-abbrev pub TellsFault : SettingsFault → Output → Output → Status → Type 0
-TellsFault why output output_new ended = EndsWith status.Start (told why) output output_new ended
-    ⊎ EndsWith status.Start (told no_memory) output output_new ended
-
--- why a node with the built-in settings doesn't start: memory ran out, or these settings have that fault
-abbrev pub IsBuiltInFault : SettingsFault → Type 0
-IsBuiltInFault why = (why ≡ no_memory)
-    ⊎ ((draft : Draft) × (found : DraftFault) × IsBuiltIn draft × (first_fault draft ≡ Some found)
-    × (why ≡ settings_fault.Draft found))
-
--- the script ran from the first state of a node with these settings, and the program ends by how it ended
-abbrev pub RunsScript : Configuration → Input → Input → Output → Output → Status → Type 0
-RunsScript settings input input_new output output_new ended =
+-- the script ran from the first state of a node with these settings, and the program ends by how it ended, which
+-- standard error is told
+abbrev pub RunsScript : Configuration → Streams → Streams → Status → Type 0
+RunsScript settings old new ended =
     (script : Result Unit ScriptFault) × (after : Abstract)
     × Runs whole script (first_state settings) after
-    input.remaining input_new.remaining output.written output_new.written
-    × Counts script input input_new output output_new × (ended ≡ status_after script)
+    old.input.remaining new.input.remaining old.output.written new.output.written
+    × Counts script old.input new.input old.output new.output × (ended ≡ status_after script)
+    × IsEndExplained script old.errors new.errors
 
--- a node runs the script, or the fault of its settings is told and nothing of the script is read
-abbrev pub RunsNode : (Configuration → Type 0) → (SettingsFault → Type 0) → Input → Input → Output → Output → Status
-    → Type 0
-RunsNode IsGiven IsWrong input input_new output output_new ended =
-    ((settings : Configuration) × IsGiven settings × RunsScript settings input input_new output output_new ended)
-    ⊎ ((why : SettingsFault) × IsWrong why × EndsWith status.Start (told why) output output_new ended
-    × (input_new ≡ input))
+-- memory ran out before the script: nothing of it is read, and standard error is told nothing
+abbrev pub HasNoMemory : Streams → Streams → Status → Type 0
+HasNoMemory old new ended =
+    EndsWith status.Start (told no_memory) old.output new.output ended × (new.input ≡ old.input)
+    × (new.errors ≡ old.errors)
 
--- the same with the settings of a file; where the file can't be read, nothing is printed
-abbrev pub RunsFile : FileRead → Input → Input → Output → Output → Status → Type 0
-RunsFile (Ok octets) input input_new output output_new ended =
-    RunsNode (AreSettings octets) (IsFault octets) input input_new output output_new ended
-RunsFile (Err file_fault.Unread) input input_new output output_new ended =
-    (ended ≡ status.Stream) × (output_new ≡ output) × (input_new ≡ input)
-RunsFile (Err file_fault.NoMemory) input input_new output output_new ended =
-    EndsWith status.Start (told no_memory) output output_new ended × (input_new ≡ input)
+-- no text explains a fault of the built-in settings
+abbrev pub NoText : SettingsFault → List ℕ → Type 0
+NoText why text = ⊥
 
--- `ok` is printed of a file that has settings, and else the fault
-abbrev pub ChecksFile : FileRead → Output → Output → Status → Type 0
-ChecksFile (Ok octets) output output_new ended =
-    ((settings : Configuration) × AreSettings octets settings
-    × EndsWith status.Done (codes "ok\n") output output_new ended)
-    ⊎ ((why : SettingsFault) × IsFault octets why × EndsWith status.Start (told why) output output_new ended)
-ChecksFile (Err file_fault.Unread) output output_new ended = (ended ≡ status.Stream) × (output_new ≡ output)
-ChecksFile (Err file_fault.NoMemory) output output_new ended =
-    EndsWith status.Start (told no_memory) output output_new ended
+-- a node runs the script, or the fault of its settings is told and explained, and nothing of the script is read
+abbrev pub RunsNode : (Configuration → Type 0) → (SettingsFault → Type 0) → (SettingsFault → List ℕ → Type 0)
+    → Streams → Streams → Status → Type 0
+RunsNode IsGiven IsWrong IsSentence old new ended =
+    ((settings : Configuration) × IsGiven settings × RunsScript settings old new ended)
+    ⊎ ((why : SettingsFault) × IsWrong why × EndsWith status.Start (told why) old.output new.output ended
+    × (new.input ≡ old.input) × IsToldOf (IsSentence why) old.errors new.errors)
+
+-- the same with the settings of a file, after warnings of it; where the file can't be read, nothing is printed, and
+-- standard error is told why
+abbrev pub RunsFile : (file : List ℕ) → FileRead → Streams → Streams → Status → Type 0
+RunsFile file (Ok octets) old new ended =
+    (warned : Output) × IsWarned file old.errors warned
+    × RunsNode (AreSettings octets) (IsFault octets) (Explains file octets)
+    (record old { errors = warned }) new ended
+RunsFile file (Err (file_fault.Unread why)) old new ended =
+    (ended ≡ status.Stream) × (new.output ≡ old.output) × (new.input ≡ old.input)
+    × IsToldOf (λ text. text ≡ unread_sentence file why) old.errors new.errors
+RunsFile file (Err file_fault.NoMemory) old new ended = HasNoMemory old new ended
+
+-- `ok` is printed of a file that has settings, and else the fault, which standard error explains, after warnings
+abbrev pub ChecksFile : (file : List ℕ) → FileRead → (output output_new errors errors_new : Output) → Status → Type 0
+ChecksFile file (Ok octets) output output_new errors errors_new ended =
+    (warned : Output) × IsWarned file errors warned
+    × (((settings : Configuration) × AreSettings octets settings
+    × EndsWith status.Done (codes "ok\n") output output_new ended × (errors_new ≡ warned))
+    ⊎ ((why : SettingsFault) × IsFault octets why × EndsWith status.Start (told why) output output_new ended
+    × IsToldOf (Explains file octets why) warned errors_new))
+ChecksFile file (Err (file_fault.Unread why)) output output_new errors errors_new ended =
+    (ended ≡ status.Stream) × (output_new ≡ output)
+    × IsToldOf (λ text. text ≡ unread_sentence file why) errors errors_new
+ChecksFile file (Err file_fault.NoMemory) output output_new errors errors_new ended =
+    EndsWith status.Start (told no_memory) output output_new ended × (errors_new ≡ errors)
 
 -- what the program does for a task, where a file is read as `reads` says
-abbrev pub DoesTask : Task → (List ℕ → FileRead → Type 0) → Input → Input → Output → Output → Status → Type 0
-DoesTask BuiltInRun reads input input_new output output_new ended =
-    RunsNode (λ settings. settings ≡ built_in_settings) IsBuiltInFault input input_new output output_new ended
-DoesTask (FileRun file) reads input input_new output output_new ended =
-    (read : FileRead) × reads file read × RunsFile read input input_new output output_new ended
-DoesTask (FileCheck file) reads input input_new output output_new ended =
-    (read : FileRead) × reads file read × ChecksFile read output output_new ended × (input_new ≡ input)
-DoesTask OtherWords reads input input_new output output_new ended =
-    EndsWith status.Usage (codes "usage\n") output output_new ended × (input_new ≡ input)
+abbrev pub DoesTask : Task → (List ℕ → FileRead → Type 0) → Streams → Streams → Status → Type 0
+DoesTask BuiltInRun reads old new ended =
+    RunsNode (λ settings. settings ≡ built_in_settings) (λ why. why ≡ no_memory) NoText old new ended
+DoesTask (FileRun file) reads old new ended =
+    (read : FileRead) × reads file read × RunsFile file read old new ended
+DoesTask (FileCheck file) reads old new ended =
+    (read : FileRead) × reads file read
+    × ChecksFile file read old.output new.output old.errors new.errors ended × (new.input ≡ old.input)
+DoesTask OtherWords reads old new ended =
+    EndsWith status.Usage (codes "usage\n") old.output new.output ended × (new.input ≡ old.input)
+    × IsTold usage_text old.errors new.errors
 
 -- what the program does for its words: what they ask for, or memory runs out for them, where they are plain
-abbrev pub Does : List (String Global) → (List ℕ → FileRead → Type 0) → Input → Input → Output → Output → Status
-    → Type 0
-Does words reads input input_new output output_new ended =
-    DoesTask (asked words) reads input input_new output output_new ended
-    ⊎ ((are_plain words ≡ true) × EndsWith status.Start (told no_memory) output output_new ended
-    × (input_new ≡ input))
+abbrev pub Does : List (String Global) → (List ℕ → FileRead → Type 0) → Streams → Streams → Status → Type 0
+Does words reads old new ended =
+    DoesTask (asked words) reads old new ended ⊎ ((are_plain words ≡ true) × HasNoMemory old new ended)

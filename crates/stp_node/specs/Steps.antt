@@ -1,12 +1,13 @@
 -- How a script is gone through: the line that is open, and the octets that come behind.
-use Rattle.std.specs.Prelude.{◌≡◌, ℕ, ◌≤◌, List, [], ◌∷◌, ◌++◌, length, Option, Some, Result, Ok, Err}
+use Rattle.std.specs.Prelude.{◌≡◌, ℕ, Bool, ◌≤◌, List, [], ◌∷◌, ◌++◌, length, Option, Some, Result, Ok, Err}
 use Rattle.std.specs.Io.KnownBytes.{Appends}
-use Rattle.exchange.specs.Queues.{KeptQueues, kept}
+use Rattle.exchange.specs.KeptQueues.{KeptQueues, kept}
 use Rattle.exchange.specs.Stands.{Kept}
 use Rattle.console.specs.Words.{begun}
 use Rattle.stp_node.specs.Lines.{lines}
 use Rattle.stp_node.specs.Streams.{AppendsAtLeast}
-use Rattle.stp_node.specs.Runs.{Reached, lines_run, onto}
+use Rattle.stp_node.specs.Asking.{Reading}
+use Rattle.stp_node.specs.Runs.{Reached, line_run, lines_run, onto, Does}
 use Rattle.stp_node.specs.declared.script.TheConstants.{LINE_OCTETS}
 use Rattle.stp_node.specs.declared.script.ScriptFault.{ScriptFault}
 use Rattle.stp_node.specs.declared.script.ScriptFault.TheVariants.{Read, Write, Line, TooManyReads, NoMemory}
@@ -21,25 +22,27 @@ abbrev pub first_line : LineSoFar
 first_line = record { octets = []; number = 1 }
 
 -- the open line, and the octets behind it
-abbrev pub rest_run : (most : ℕ) → LineSoFar → List ℕ → Kept → Reached KeptQueues
-rest_run most line octets s = lines_run kept most line.number (begun line.octets (lines octets)) s
+abbrev pub rest_run : (most : ℕ) → (refused : List Bool) → LineSoFar → List ℕ → Kept → Reached KeptQueues
+rest_run most refused line octets s = lines_run kept most line.number refused (begun line.octets (lines octets)) s
 
 -- these octets were taken: what they print went out, and what comes behind is run from the next line and the next state
--- on
+-- on, whatever is refused then
 pub record GoesOn (octets : List ℕ) (line next : LineSoFar) (s after : Kept)
     (written written_new : Option (List ℕ)) : Type 0 where
   pub text : List ℕ
+  pub refused : List Bool
   pub wrote : Appends written written_new text
-  pub rest : (most : ℕ) (behind : List ℕ) → most ≤ LINE_OCTETS
-      → rest_run most line (octets ++ behind) s ≡ onto text (rest_run most next behind after)
+  pub rest : (most : ℕ) (later : List Bool) (behind : List ℕ) → most ≤ LINE_OCTETS
+      → rest_run most (refused ++ later) line (octets ++ behind) s ≡ onto text (rest_run most later next behind after)
 
 -- a line in these octets ended the script, whatever comes behind
 pub record StopsAt (number : ℕ) (octets : List ℕ) (line : LineSoFar) (s after : Kept)
     (written written_new : Option (List ℕ)) : Type 0 where
   pub text : List ℕ
+  pub refused : List Bool
   pub wrote : Appends written written_new text
   pub rest : (most : ℕ) (behind : List ℕ) → most ≤ LINE_OCTETS
-      → rest_run most line (octets ++ behind) s ≡ record { text = text; state = after; fault = Some number }
+      → rest_run most refused line (octets ++ behind) s ≡ record { text = text; state = after; fault = Some number }
 
 -- a write failed at one of these octets, behind which none was taken: what those in front of it print went out
 pub record BreaksOff (octets : List ℕ) (line : LineSoFar) (s after : Kept)
@@ -47,10 +50,11 @@ pub record BreaksOff (octets : List ℕ) (line : LineSoFar) (s after : Kept)
   pub front : List ℕ
   pub last : ℕ
   pub more : List ℕ
+  pub refused : List Bool
   pub are : octets ≡ front ++ last ∷ more
-  pub state : (rest_run LINE_OCTETS line (front ++ last ∷ []) s).state ≡ after
-  pub wrote : AppendsAtLeast (length (rest_run LINE_OCTETS line front s).text) written written_new
-      (rest_run LINE_OCTETS line (front ++ last ∷ []) s).text
+  pub state : (rest_run LINE_OCTETS refused line (front ++ last ∷ []) s).state ≡ after
+  pub wrote : AppendsAtLeast (length (rest_run LINE_OCTETS refused line front s).text) written written_new
+      (rest_run LINE_OCTETS refused line (front ++ last ∷ []) s).text
 
 -- what was done with octets
 abbrev pub HasTaken : List ℕ → Result Unit ScriptFault → (line next : LineSoFar) → (s after : Kept)
@@ -62,3 +66,9 @@ HasTaken octets (Err Write) line next s after written written_new = BreaksOff oc
 HasTaken octets (Err Read) line next s after written written_new = ⊥
 HasTaken octets (Err TooManyReads) line next s after written written_new = ⊥
 HasTaken octets (Err NoMemory) line next s after written written_new = ⊥
+
+-- a whole line was done, whether memory was refused for it or not
+abbrev pub DoesLine : (number : ℕ) → Reading → (s : Kept) → Result Unit ScriptFault → (after : Kept)
+    → (written written_new : Option (List ℕ)) → Type 0
+DoesLine number reading s result after written written_new =
+    (lacks_memory : Bool) × Does (line_run kept number lacks_memory reading s) result after written written_new

@@ -15,6 +15,15 @@ pub record Output : Type 0 where
   pub written : Option (List ℕ)
   pub failures : ℕ
 
+-- the streams of a program: its input, its output, and its standard error
+pub record Streams : Type 0 where
+  pub input : Input
+  pub output : Output
+  pub errors : Output
+
+abbrev pub streams : Input → Output → Output → Streams
+streams input output errors = record { input = input; output = output; errors = errors }
+
 -- a count of 64 bits with one more, which stays at its greatest value
 abbrev pub counted : ℕ → ℕ
 counted n = min (n + 1) (2 ^ 64 - 1)

@@ -2,8 +2,8 @@
 use Rattle.std.specs.Prelude.{ℕ, ◌++◌, List, codes, decimal}
 use Rattle.hex.specs.Hex.{encode_lower}
 use Rattle.signalling_types.specs.Causes.{cause_number, cause_name}
-use Rattle.exchange.specs.declared.event.Wants.{Wants}
-use Rattle.exchange.specs.declared.event.Wants.TheVariants.{Nothing, Open, Close}
+use Rattle.exchange_rules.specs.declared.wants.Wants.{Wants}
+use Rattle.exchange_rules.specs.declared.wants.Wants.TheVariants.{Nothing, Open, Close}
 use Rattle.signalling_types.specs.declared.outcome.Outcome.{Outcome}
 use Rattle.signalling_types.specs.declared.outcome.Outcome.TheVariants.{Queued, Held, Local, Handled, Ignored, Refused}
 

@@ -2,7 +2,8 @@
 
 ghost use Rattle.std.specs.Prelude.{◌≡◌, ◌⊎◌, ℕ, List, Result, Ok, Err, if◌then◌else◌, bytes_eq};
 ghost use Rattle.stp_node.specs.declared.folder.FileFault.{FileFault};
-ghost use Rattle.stp_node.specs.declared.folder.FileFault.TheVariants.{Unread, NoMemory};
+ghost use Rattle.stp_node.specs.declared.folder.FileFault.TheVariants as file_fault;
+ghost use Rattle.stp_node.specs.declared.folder.Unread.TheVariants.{Missing};
 ghost use Rattle.stp_node.specs.Folders.{octets_read};
 
 use std::alloc::Global;
@@ -10,11 +11,24 @@ use std::fs;
 use std::io::ErrorKind;
 use std::rt::Files;
 
+/// Why a file can't be read.
+#[derive(Clone, Copy, Debug, PartialEq, Eq)]
+pub enum Unread {
+    /// There is no such file.
+    Missing,
+    /// Reading it isn't permitted.
+    Forbidden,
+    /// It is a directory.
+    Directory,
+    /// A read of it failed.
+    Failed,
+}
+
 /// Why a file wasn't read.
 #[derive(Clone, Copy, Debug, PartialEq, Eq)]
 pub enum FileFault {
-    /// It isn't there, or a read of it failed.
-    Unread,
+    /// It can't be read.
+    Unread(Unread),
     /// Memory ran out.
     NoMemory,
 }
@@ -27,6 +41,17 @@ pub trait Folder {
     /// Reads the whole file of this name.
     fn read(&self, alloc: Global, name: &str) -> Result<Vec<u8>, FileFault>
         ensures { reads self.now name.now (octets_read result) };
+}
+
+/// What an error of this kind says of a file.
+fn file_fault(kind: ErrorKind) -> FileFault {
+    match kind {
+        ErrorKind::OutOfMemory => FileFault::NoMemory,
+        ErrorKind::NotFound => FileFault::Unread(Unread::Missing),
+        ErrorKind::PermissionDenied => FileFault::Unread(Unread::Forbidden),
+        ErrorKind::IsADirectory => FileFault::Unread(Unread::Directory),
+        _ => FileFault::Unread(Unread::Failed),
+    }
 }
 
 /// The files of the machine, of which nothing is known beforehand.
@@ -50,8 +75,7 @@ impl<'a, R: Files + AllocGlobal> Folder for Disk<'a, R> {
     fn read(&self, _alloc: Global, name: &str) -> Result<Vec<u8>, FileFault> {
         match fs::read(self.rt, name) {
             Ok(octets) => Ok(octets),
-            Err(error) if error.kind() == ErrorKind::OutOfMemory => Err(FileFault::NoMemory),
-            Err(_) => Err(FileFault::Unread),
+            Err(error) => Err(file_fault(error.kind())),
         }
     }
 }
@@ -66,12 +90,13 @@ pub struct OneFile<'a> {
 }
 
 impl Folder for OneFile<'_> {
-    ghost reads = { λ f name read. (read ≡ (if bytes_eq name f.name.now then Ok f.octets.now else Err Unread))
-        ⊎ (read ≡ Err NoMemory) };
+    ghost reads = { λ f name read.
+        (read ≡ (if bytes_eq name f.name.now then Ok f.octets.now else Err (file_fault.Unread Missing)))
+        ⊎ (read ≡ Err file_fault.NoMemory) };
 
     fn read(&self, alloc: Global, name: &str) -> Result<Vec<u8>, FileFault> {
         if name != self.name {
-            return Err(FileFault::Unread);
+            return Err(FileFault::Unread(Unread::Missing));
         }
         match Vec::from_slice(alloc, self.octets) {
             Ok(octets) => Ok(octets),

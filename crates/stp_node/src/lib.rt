@@ -2,9 +2,12 @@
 #![tactic(auto)]
 
 pub mod defaults;
+mod ending;
+mod explaining;
 pub mod folder;
 pub mod hex_octets;
 pub mod line;
+mod machine;
 mod perform;
 pub mod program;
 mod run;
@@ -13,13 +16,14 @@ mod showing;
 pub mod sink;
 pub mod source;
 mod text;
-mod ticks;
 
 pub use defaults::built_in;
-pub use folder::{Disk, FileFault, Folder, OneFile};
+pub use ending::refuse_words;
+pub use folder::{Disk, FileFault, Folder, OneFile, Unread};
 pub use hex_octets::HexOctets;
 pub use line::{Line, Malformed, Show, parse_line};
-pub use program::{Status, refuse_words, run_program};
+pub use machine::run_on_machine;
+pub use program::{Status, run_program};
 pub use run::run_script;
 pub use script::ScriptFault;
 pub use sink::{MemorySink, Sink, WriteFailed, WriterSink};

@@ -2,33 +2,22 @@
 
 ghost use Rattle.std.specs.Prelude.{◌≡◌};
 ghost use Rattle.console.specs.Words.{words};
-ghost use Rattle.stp_node.specs.Asking.{parsed_line, asked_by, asked_words, asked_with_one, asked_with_two};
-ghost use Rattle.stp_node.specs.Asking.{command_named, show_named, asked_of, reading_of};
+ghost use Rattle.stp_node.specs.Asking.{parsed_line, asked_by, asked_with_one, asked_with_two};
+ghost use Rattle.stp_node.specs.Asking.{show_named, asked_of, reading_of};
 
 use crate::hex_octets::HexOctets;
-use crate::ticks::read_ticks;
 use console::words::cut;
-use console::{OrderText, read_order};
+use console::{Command, OrderText, order_by, read_number};
 
 /// What a line begins with that is skipped.
 const REMARK: u8 = b'#';
 
+/// The most ticks that one line lets pass.
+const MOST_TICKS: u16 = 65_535;
+
 /// A line that is none of a script.
 #[derive(Clone, Copy, Debug, PartialEq, Eq)]
 pub struct Malformed;
-
-/// What a line of a script begins with.
-#[derive(Clone, Copy)]
-enum Command {
-    Up,
-    Down,
-    Frame,
-    Tick,
-    Take,
-    Wants,
-    Submit,
-    Show,
-}
 
 /// What a line of a script shows.
 #[derive(Clone, Copy, PartialEq, Eq)]
@@ -37,12 +26,14 @@ pub enum Show {
     Links,
     /// The routes.
     Routes,
+    /// The translation rows.
+    Titles,
     /// The notices.
     Notices,
 }
 
 /// What a line of a script asks for.
-#[derive(Clone, Copy)]
+#[derive(Drop)]
 pub enum Line<'a> {
     /// `up LINK`: the link's association is there.
     Up {
@@ -81,12 +72,12 @@ pub enum Line<'a> {
         /// The service information octet, and the signalling information field behind it.
         octets: HexOctets<'a>,
     },
-    /// `activate LINK` or `deactivate LINK`: an order of the operator.
+    /// `activate LINK`, `deactivate LINK`, `title add ..` or `title remove ..`: an order of the operator.
     Order {
         /// The order.
         order: OrderText<'a>,
     },
-    /// `show links`, `show routes` or `show notices`: a text of the console.
+    /// `show links`, `show routes`, `show titles` or `show notices`: a text of the console.
     Show {
         /// Which.
         what: Show,
@@ -100,19 +91,9 @@ pub fn parse_line(line: &[u8]) -> Result<Option<Line<'_>>, Malformed>
     if line.is_empty() || line[0] == REMARK {
         return Ok(None);
     }
-    match asked_or_ordered(line) {
+    match asked(line) {
         Some(line) => Ok(Some(line)),
         None => Err(Malformed),
-    }
-}
-
-/// The order that a line gives, or else what its words ask for.
-fn asked_or_ordered(line: &[u8]) -> Option<Line<'_>>
-    ensures { asked_of result ≡ asked_words (words line.now) }
-{
-    match read_order(line) {
-        Some(order) => Some(Line::Order { order }),
-        None => asked(line),
     }
 }
 
@@ -122,14 +103,18 @@ fn asked(line: &[u8]) -> Option<Line<'_>>
     ensures { asked_of result ≡ asked_by (words line.now) }
 {
     let (word, rest) = cut(line);
-    let command = command_named(word)?;
-    let (first, rest) = cut(rest?);
+    let command = Command::named(word)?;
+    let behind = rest?;
+    let (first, rest) = cut(behind);
     let Some(rest) = rest else {
         return asked_with_one(command, first);
     };
     match cut(rest) {
         (second, None) => asked_with_two(command, first, second),
-        (_, Some(_)) => None,
+        (_, Some(_)) => {
+            let order = order_by(command, behind)?;
+            Some(Line::Order { order })
+        }
     }
 }
 
@@ -142,8 +127,16 @@ fn asked_with_one(command: Command, word: &[u8]) -> Option<Line<'_>>
         Command::Down if !word.is_empty() => Some(Line::Down { link: word }),
         Command::Take if !word.is_empty() => Some(Line::Take { link: word }),
         Command::Wants if !word.is_empty() => Some(Line::Wants { link: word }),
+        Command::Activate if !word.is_empty() => {
+            let order = OrderText::Activate { link: word };
+            Some(Line::Order { order })
+        }
+        Command::Deactivate if !word.is_empty() => {
+            let order = OrderText::Deactivate { link: word };
+            Some(Line::Order { order })
+        }
         Command::Tick => {
-            let ticks = read_ticks(word)?;
+            let ticks = read_number(word, 1, MOST_TICKS)?;
             Some(Line::Tick { ticks })
         }
         Command::Submit => {
@@ -174,31 +167,6 @@ fn asked_with_two<'a>(command: Command, first: &'a [u8], second: &'a [u8]) -> Op
     }
 }
 
-/// The command of this name.
-fn command_named(word: &[u8]) -> Option<Command>
-    ensures { result ≡ command_named word.now }
-{
-    if word == b"up".as_slice() {
-        Some(Command::Up)
-    } else if word == b"down".as_slice() {
-        Some(Command::Down)
-    } else if word == b"frame".as_slice() {
-        Some(Command::Frame)
-    } else if word == b"tick".as_slice() {
-        Some(Command::Tick)
-    } else if word == b"take".as_slice() {
-        Some(Command::Take)
-    } else if word == b"wants".as_slice() {
-        Some(Command::Wants)
-    } else if word == b"submit".as_slice() {
-        Some(Command::Submit)
-    } else if word == b"show".as_slice() {
-        Some(Command::Show)
-    } else {
-        None
-    }
-}
-
 /// The text of this name.
 fn show_named(word: &[u8]) -> Option<Show>
     ensures { result ≡ show_named word.now }
@@ -207,6 +175,8 @@ fn show_named(word: &[u8]) -> Option<Show>
         Some(Show::Links)
     } else if word == b"routes".as_slice() {
         Some(Show::Routes)
+    } else if word == b"titles".as_slice() {
+        Some(Show::Titles)
     } else if word == b"notices".as_slice() {
         Some(Show::Notices)
     } else {

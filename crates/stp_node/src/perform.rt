@@ -1,21 +1,25 @@
 //! What the lines of a script do.
 
-ghost use Rattle.std.specs.Prelude.{◌≡◌, ◌≤◌, length};
-ghost use Rattle.exchange.specs.Queues.{kept};
+ghost use Rattle.std.specs.Prelude.{◌≡◌, ◌≤◌, false, length};
+ghost use Rattle.exchange.specs.Calls.{is_memory_refused};
+ghost use Rattle.exchange.specs.KeptQueues.{kept};
 ghost use Rattle.console.specs.Names.{name_in};
-ghost use Rattle.stp_node.specs.Asking.{AskTake, AskWants, asked_line};
+ghost use Rattle.console.specs.Orders.{instruction};
+ghost use Rattle.stp_node.specs.Asking.{AskTake, AskWants, AskOrder, asked_line};
 ghost use Rattle.stp_node.specs.Doing.{report, printed, done, after_ticks};
-ghost use Rattle.stp_node.specs.Replies.{reply_text};
+ghost use Rattle.stp_node.specs.Replies.{reply_text, lacks_memory};
 
 use crate::line::{Line, Show};
 use crate::text::{Text, frame_line, none_line, outcome_line, wants_line};
-use console::link_name;
+use console::{OrderText, link_name};
 use exchange::{BUFFER_OCTETS, Event, Exchange};
 use stp_types::{Cause, Limits, LinkId, Msu, Outcome};
 
 /// What is printed of a line that was done.
 #[derive(Drop)]
 pub enum Reply {
+    /// The line of this outcome.
+    Became(Outcome),
     /// This line.
     Line(Text),
     /// The lines of a text of the console.
@@ -27,8 +31,9 @@ pub enum Reply {
 /// A link of no name of the settings is refused NoSuchName, and a message with too long a signalling
 /// information field TooLong; neither reaches the exchange.
 pub fn perform(exchange: &mut Exchange, line: Line<'_>) -> Reply
-    ensures text { reply_text kept result exchange.new ≡ printed kept (asked_line line.entry) exchange.old }
-    ensures state { exchange.new ≡ done kept (asked_line line.entry) exchange.old }
+    ensures text { reply_text kept result exchange.new
+        ≡ printed kept (lacks_memory result) (asked_line line.entry) exchange.old }
+    ensures state { exchange.new ≡ done kept (lacks_memory result) (asked_line line.entry) exchange.old }
 {
     let mut buffer = [0; Limits::FRAME_OCTETS];
     let outcome = match line {
@@ -55,15 +60,25 @@ pub fn perform(exchange: &mut Exchange, line: Line<'_>) -> Reply
                 Err(cause) => Outcome::Refused(cause),
             }
         }
-        Line::Order { order } => match order.named(exchange.settings()) {
-            Some(order) => exchange.step(&Event::Order(order)),
-            None => Outcome::Refused(Cause::NoSuchName),
-        },
+        Line::Order { order } => obey(exchange, order),
         Line::Take { link } => return Reply::Line(take(exchange, link)),
         Line::Wants { link } => return Reply::Line(wants(exchange, link)),
         Line::Show { what } => return Reply::Lines(what),
     };
-    Reply::Line(report(exchange, outcome))
+    Reply::Became(outcome)
+}
+
+/// Gives an order, about the link of a name where it is about one.
+fn obey(exchange: &mut Exchange, order: OrderText<'_>) -> Outcome
+    ensures text { report exchange.new.settings result
+        ≡ printed kept (is_memory_refused result) (AskOrder (instruction order.entry)) exchange.old }
+    ensures state { exchange.new
+        ≡ done kept (is_memory_refused result) (AskOrder (instruction order.entry)) exchange.old }
+{
+    match order.named(exchange.settings()) {
+        Some(order) => exchange.step(&Event::Order(order)),
+        None => Outcome::Refused(Cause::NoSuchName),
+    }
 }
 
 /// Lets so many ticks pass.
@@ -79,7 +94,7 @@ fn pass(exchange: &mut Exchange, ticks: u16) -> Outcome
 
 /// What the link of this name asks of its caller.
 fn wants(exchange: &Exchange, name: &[u8]) -> Text
-    ensures { result ≡ printed kept (AskWants name.now) exchange.now }
+    ensures { result ≡ printed kept false (AskWants name.now) exchange.now }
 {
     match exchange.settings().link_named(name) {
         Some(link) => wants_line(exchange.wants(link)),
@@ -89,8 +104,8 @@ fn wants(exchange: &Exchange, name: &[u8]) -> Text
 
 /// Takes the next frame that goes out by the link of this name.
 fn take(exchange: &mut Exchange, name: &[u8]) -> Text
-    ensures text { result ≡ printed kept (AskTake name.now) exchange.old }
-    ensures state { exchange.new ≡ done kept (AskTake name.now) exchange.old }
+    ensures text { result ≡ printed kept false (AskTake name.now) exchange.old }
+    ensures state { exchange.new ≡ done kept false (AskTake name.now) exchange.old }
 {
     let Some(link) = exchange.settings().link_named(name) else {
         return report(exchange, Outcome::Refused(Cause::NoSuchName));
@@ -103,7 +118,7 @@ fn take(exchange: &mut Exchange, name: &[u8]) -> Text
 }
 
 /// The line of an outcome.
-fn report(exchange: &Exchange, outcome: Outcome) -> Text
+pub(crate) fn report(exchange: &Exchange, outcome: Outcome) -> Text
     ensures { result ≡ report exchange.now.settings outcome }
 {
     match outcome {

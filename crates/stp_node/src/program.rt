@@ -1,24 +1,26 @@
 //! The program around scripts: what it does for its words, and how it ends.
 
-ghost use Rattle.std.specs.Prelude.{◌≡◌, ◌≢◌, ◌⊎◌, IfOk, IfErr, Some, string_bytes, codes};
-ghost use Rattle.std.specs.IoError.{error_kind};
-ghost use Rattle.exchange.specs.Stands.{StandsFor, first_state};
-ghost use Rattle.settings.specs.Faults.{no_memory};
+ghost use Rattle.std.specs.Prelude.{◌≡◌, ◌⊎◌, IfOk, IfErr, Ok, codes};
+ghost use Rattle.exchange.specs.Stands.{StandsFor};
+ghost use Rattle.exchange_rules.specs.First.{first_state};
 ghost use Rattle.stp_node.specs.BuiltIn.{built_in_settings};
 ghost use Rattle.stp_node.specs.Folders.{FileRead, AreSettings, IsFault};
-ghost use Rattle.stp_node.specs.Program.{status_number, status_after, told, EndsWith, TellsFault, IsBuiltInFault};
-ghost use Rattle.stp_node.specs.Program.{RunsScript, RunsNode, RunsFile, ChecksFile, Does};
+ghost use Rattle.settings.specs.Faults.{no_memory};
+ghost use Rattle.stp_node.specs.Program.{status_number, status_after, NoText};
+ghost use Rattle.stp_node.specs.Program.{RunsScript, HasNoMemory, RunsNode, RunsFile, ChecksFile, Does};
+ghost use Rattle.stp_node.specs.Streams.{streams};
 
 use crate::defaults::built_in;
+use crate::ending::{end_with, tell_file_fault, tell_no_memory, tell_usage};
+use crate::explaining::{explain_end, explain_unread, warn};
 use crate::folder::{FileFault, Folder};
-use crate::run::run_script;
+use crate::run::{OpenLine, run_pieces};
 use crate::script::ScriptFault;
 use crate::sink::Sink;
 use crate::source::Source;
 use exchange::{Exchange, NoMemory};
 use settings::SettingsFault;
-use std::alloc::{AllocError, Global};
-use std::io::{Error, ErrorKind};
+use std::alloc::Global;
 use stp_types::Settings;
 use words::{Words, read_words};
 
@@ -47,121 +49,149 @@ impl Status {
 }
 
 /// The whole program: does what the words behind its name ask for. Settings files come from the folder,
-/// the script from the reader, and all that it prints goes to the writer.
-pub fn run_program<F: Folder, R: Source, W: Sink>(
+/// the script from the reader, and all that it prints goes to the writer. Why it doesn't do what was
+/// meant goes to `errors`, in sentences for a person.
+pub fn run_program<F: Folder, R: Source, W: Sink, E: Sink>(
     alloc: Global,
     words: &[String],
     folder: &F,
     reader: &mut R,
     writer: &mut W,
+    errors: &mut E,
 ) -> Status
     ensures { Does words.now (F.reads folder.now)
-        (R.input reader.old) (R.input reader.new) (W.output writer.old) (W.output writer.new) result }
+        (streams (R.input reader.old) (W.output writer.old) (E.output errors.old))
+        (streams (R.input reader.new) (W.output writer.new) (E.output errors.new)) result }
 {
     match read_words(alloc, words) {
-        Words::Run(None) => run_built_in(alloc, reader, writer),
-        Words::Run(Some(file)) => run_file(alloc, folder, file.as_str(), reader, writer),
-        Words::Check(file) => check_file(alloc, folder, file.as_str(), writer),
-        Words::Usage => end_with(Status::Usage, b"usage\n", writer),
+        Words::Run(None) => run_built_in(alloc, reader, writer, errors),
+        Words::Run(Some(file)) => run_file(alloc, folder, file.as_str(), reader, writer, errors),
+        Words::Check(file) => check_file(alloc, folder, file.as_str(), writer, errors),
+        Words::Usage => tell_usage(writer, errors),
         Words::NoMemory => tell_no_memory(writer),
     }
 }
 
-/// Refuses words that could not be read: they are other words than those of the program, unless
-/// memory ran out.
-pub fn refuse_words<W: Sink>(error: &Error, writer: &mut W) -> Status
-    ensures memory { error_kind error.now ≡ ErrorKind.OutOfMemory
-        → EndsWith Status.Start (told no_memory) (W.output writer.old) (W.output writer.new) result }
-    ensures usage { error_kind error.now ≢ ErrorKind.OutOfMemory
-        → EndsWith Status.Usage (codes "usage\n") (W.output writer.old) (W.output writer.new) result }
-{
-    if error.kind() == ErrorKind::OutOfMemory {
-        return tell_no_memory(writer);
-    }
-    end_with(Status::Usage, b"usage\n", writer)
-}
-
-/// Runs the script on a node with the built-in settings.
-fn run_built_in<R: Source, W: Sink>(alloc: Global, reader: &mut R, writer: &mut W) -> Status
-    ensures { RunsNode (λ settings. settings ≡ built_in_settings) IsBuiltInFault
-        (R.input reader.old) (R.input reader.new) (W.output writer.old) (W.output writer.new) result }
+/// Runs the script on a node with the built-in settings, which have no fault: only memory can be wanting.
+fn run_built_in<R: Source, W: Sink, E: Sink>(
+    alloc: Global,
+    reader: &mut R,
+    writer: &mut W,
+    errors: &mut E,
+) -> Status
+    ensures { RunsNode (λ settings. settings ≡ built_in_settings) (λ why. why ≡ no_memory) NoText
+        (streams (R.input reader.old) (W.output writer.old) (E.output errors.old))
+        (streams (R.input reader.new) (W.output writer.new) (E.output errors.new)) result }
 {
     match built_in_settings(alloc) {
-        Ok(settings) => run_on(alloc, settings, reader, writer),
-        Err(fault) => tell_fault(alloc, fault, writer),
+        Ok(settings) => run_on(alloc, settings, reader, writer, errors),
+        Err(_) => tell_no_memory(writer),
     }
 }
 
 /// Runs the script on a node with the settings of a file.
-fn run_file<F: Folder, R: Source, W: Sink>(
+fn run_file<F: Folder, R: Source, W: Sink, E: Sink>(
     alloc: Global,
     folder: &F,
     file: &str,
     reader: &mut R,
     writer: &mut W,
+    errors: &mut E,
 ) -> Status
-    ensures { (read : FileRead) × F.reads folder.now file.now read × RunsFile read
-        (R.input reader.old) (R.input reader.new) (W.output writer.old) (W.output writer.new) result }
+    ensures { (read : FileRead) × F.reads folder.now file.now read × RunsFile file.now read
+        (streams (R.input reader.old) (W.output writer.old) (E.output errors.old))
+        (streams (R.input reader.new) (W.output writer.new) (E.output errors.new)) result }
 {
     match folder.read(alloc, file) {
-        Ok(octets) => run_octets(alloc, octets.as_slice(), reader, writer),
-        Err(FileFault::Unread) => Status::Stream,
+        Ok(octets) => run_octets(alloc, file, octets.as_slice(), reader, writer, errors),
+        Err(FileFault::Unread(why)) => {
+            explain_unread(alloc, file, why, errors);
+            Status::Stream
+        }
         Err(FileFault::NoMemory) => tell_no_memory(writer),
     }
 }
 
-/// Runs the script on a node with the settings that these octets are.
-fn run_octets<R: Source, W: Sink>(
+/// Runs the script on a node with the settings that the octets of a file are.
+fn run_octets<R: Source, W: Sink, E: Sink>(
     alloc: Global,
+    file: &str,
     octets: &[u8],
     reader: &mut R,
     writer: &mut W,
+    errors: &mut E,
 ) -> Status
-    ensures { RunsNode (AreSettings octets.now) (IsFault octets.now)
-        (R.input reader.old) (R.input reader.new) (W.output writer.old) (W.output writer.new) result }
+    ensures { RunsFile file.now (Ok octets.now)
+        (streams (R.input reader.old) (W.output writer.old) (E.output errors.old))
+        (streams (R.input reader.new) (W.output writer.new) (E.output errors.new)) result }
 {
+    warn(alloc, file, octets, errors);
     match settings_in(alloc, octets) {
-        Ok(settings) => run_on(alloc, settings, reader, writer),
-        Err(fault) => tell_fault(alloc, fault, writer),
+        Ok(settings) => run_on(alloc, settings, reader, writer, errors),
+        Err(fault) => tell_file_fault(alloc, file, octets, fault, writer, errors),
     }
 }
 
 /// Tells whether the settings of a file have a fault.
-fn check_file<F: Folder, W: Sink>(alloc: Global, folder: &F, file: &str, writer: &mut W) -> Status
-    ensures { (read : FileRead) × F.reads folder.now file.now read
-        × ChecksFile read (W.output writer.old) (W.output writer.new) result }
+fn check_file<F: Folder, W: Sink, E: Sink>(
+    alloc: Global,
+    folder: &F,
+    file: &str,
+    writer: &mut W,
+    errors: &mut E,
+) -> Status
+    ensures { (read : FileRead) × F.reads folder.now file.now read × ChecksFile file.now read
+        (W.output writer.old) (W.output writer.new) (E.output errors.old) (E.output errors.new) result }
 {
     match folder.read(alloc, file) {
-        Ok(octets) => check_octets(alloc, octets.as_slice(), writer),
-        Err(FileFault::Unread) => Status::Stream,
+        Ok(octets) => check_octets(alloc, file, octets.as_slice(), writer, errors),
+        Err(FileFault::Unread(why)) => {
+            explain_unread(alloc, file, why, errors);
+            Status::Stream
+        }
         Err(FileFault::NoMemory) => tell_no_memory(writer),
     }
 }
 
-/// Tells whether the settings that these octets are have a fault.
-fn check_octets<W: Sink>(alloc: Global, octets: &[u8], writer: &mut W) -> Status
-    ensures { ChecksFile (Ok octets.now) (W.output writer.old) (W.output writer.new) result }
+/// Tells whether the settings that the octets of a file are have a fault.
+fn check_octets<W: Sink, E: Sink>(
+    alloc: Global,
+    file: &str,
+    octets: &[u8],
+    writer: &mut W,
+    errors: &mut E,
+) -> Status
+    ensures { ChecksFile file.now (Ok octets.now)
+        (W.output writer.old) (W.output writer.new) (E.output errors.old) (E.output errors.new) result }
 {
+    warn(alloc, file, octets, errors);
     match settings_in(alloc, octets) {
         Ok(_) => end_with(Status::Done, b"ok\n", writer),
-        Err(fault) => tell_fault(alloc, fault, writer),
+        Err(fault) => tell_file_fault(alloc, file, octets, fault, writer, errors),
     }
 }
 
 /// Runs the script on a node with these settings.
-fn run_on<R: Source, W: Sink>(
+fn run_on<R: Source, W: Sink, E: Sink>(
     alloc: Global,
     settings: Settings,
     reader: &mut R,
     writer: &mut W,
+    errors: &mut E,
 ) -> Status
     ensures { RunsScript settings
-        (R.input reader.old) (R.input reader.new) (W.output writer.old) (W.output writer.new) result
-        ⊎ (EndsWith Status.Start (told no_memory) (W.output writer.old) (W.output writer.new) result
-        × (R.input reader.new ≡ R.input reader.old)) }
+        (streams (R.input reader.old) (W.output writer.old) (E.output errors.old))
+        (streams (R.input reader.new) (W.output writer.new) (E.output errors.new)) result
+        ⊎ HasNoMemory (streams (R.input reader.old) (W.output writer.old) (E.output errors.old))
+        (streams (R.input reader.new) (W.output writer.new) (E.output errors.new)) result }
 {
     match Exchange::boot(alloc, settings) {
-        Ok(mut exchange) => status_after(run_script(&mut exchange, reader, writer)),
+        Ok(mut exchange) => {
+            let mut line = OpenLine::first();
+            let script = run_pieces(&mut line, &mut exchange, reader, writer);
+            explain_end(alloc, script, line.octets(), line.wrong(), errors);
+            status_after(script)
+        }
         Err(NoMemory) => tell_no_memory(writer),
     }
 }
@@ -169,7 +199,7 @@ fn run_on<R: Source, W: Sink>(
 /// The settings that a node has where it is given none.
 fn built_in_settings(alloc: Global) -> Result<Settings, SettingsFault>
     ensures settings { IfOk result (λ settings. settings ≡ built_in_settings) }
-    ensures fault { IfErr result IsBuiltInFault }
+    ensures fault { IfErr result (λ why. why ≡ no_memory) }
 {
     let draft = built_in(alloc)?;
     match Settings::check(alloc, draft) {
@@ -199,38 +229,4 @@ fn status_after(script: Result<(), ScriptFault>) -> Status
         Err(ScriptFault::Read | ScriptFault::Write | ScriptFault::TooManyReads) => Status::Stream,
         Err(ScriptFault::NoMemory) => Status::Start,
     }
-}
-
-/// Prints a line, and ends so; or as a write that failed does.
-fn end_with<W: Sink>(status: Status, line: &[u8], writer: &mut W) -> Status
-    ensures { EndsWith status line.now (W.output writer.old) (W.output writer.new) result }
-{
-    match writer.write(line) {
-        Ok(()) => status,
-        Err(_) => Status::Stream,
-    }
-}
-
-/// Prints that memory ran out.
-fn tell_no_memory<W: Sink>(writer: &mut W) -> Status
-    ensures { EndsWith Status.Start (told no_memory) (W.output writer.old) (W.output writer.new) result }
-{
-    end_with(Status::Start, b"fault NoMemory\n", writer)
-}
-
-/// Prints what is wrong with the settings, or that memory ran out.
-fn tell_fault<W: Sink>(alloc: Global, fault: SettingsFault, writer: &mut W) -> Status
-    ensures { TellsFault fault (W.output writer.old) (W.output writer.new) result }
-{
-    match told(alloc, fault) {
-        Ok(line) => end_with(Status::Start, line.as_bytes(), writer),
-        Err(_) => tell_no_memory(writer),
-    }
-}
-
-/// The line of a fault of settings.
-fn told(alloc: Global, fault: SettingsFault) -> Result<String, AllocError>
-    ensures { IfOk result (λ line. string_bytes line ≡ told fault) }
-{
-    format!(in alloc; "{fault}\n")
 }

@@ -1,11 +1,13 @@
 //! Running a script, octet by octet.
 
 ghost use Rattle.std.specs.Prelude.{◌≡◌, ◌+◌, ◌≤◌, ◌<◌, ◌^◌, [], ◌∷◌, length};
-ghost use Rattle.exchange.specs.Queues.{kept, whole};
-ghost use Rattle.exchange.specs.Stands.{Abstract, Kept, StandsFor};
+ghost use Rattle.exchange.specs.KeptQueues.{kept};
+ghost use Rattle.exchange_rules.specs.Queues.{whole};
+ghost use Rattle.exchange_rules.specs.Sound.{Abstract};
+ghost use Rattle.exchange.specs.Stands.{Kept, StandsFor};
 ghost use Rattle.stp_node.specs.Asking.{parsed_line};
-ghost use Rattle.stp_node.specs.Runs.{Does, Runs, line_run, stopped};
-ghost use Rattle.stp_node.specs.Steps.{HasTaken, rest_run};
+ghost use Rattle.stp_node.specs.Runs.{Does, Runs, stopped};
+ghost use Rattle.stp_node.specs.Steps.{DoesLine, HasTaken, first_line, rest_run};
 ghost use Rattle.stp_node.specs.Faults.{MakesReads, reads_failed, writes_failed};
 
 use crate::line::{Malformed, parse_line};
@@ -17,6 +19,7 @@ use crate::source::Source;
 use crate::text::line_fault;
 use arrayvec::ArrayVec;
 use exchange::Exchange;
+use script_faults::LineFault;
 use std::marker::Model;
 
 /// Octets that one read asks for.
@@ -27,9 +30,10 @@ const LINE_FEED: u8 = b'\n';
 
 /// The line that is being read.
 #[derive(Drop)]
-struct OpenLine {
+pub(crate) struct OpenLine {
     octets: ArrayVec<u8, LINE_OCTETS>,
     number: u64,
+    wrong: LineFault,
 }
 
 impl Model for OpenLine {
@@ -73,15 +77,17 @@ pub fn run_script<R: Source, W: Sink>(
     ensures reads { (R.input reader.new).failures ≡ reads_failed (R.input reader.old).failures result }
     ensures writes { (W.output writer.new).failures ≡ writes_failed (W.output writer.old).failures result }
 {
-    run_pieces(exchange, reader, writer)
+    run_pieces(&mut OpenLine::first(), exchange, reader, writer)
 }
 
-/// Reads a script piece by piece, and does its lines.
-fn run_pieces<R: Source, W: Sink>(
+/// Reads a script piece by piece, and does its lines. A line that ends the script stays open.
+pub(crate) fn run_pieces<R: Source, W: Sink>(
+    line: &mut OpenLine,
     exchange: &mut Exchange,
     reader: &mut R,
     writer: &mut W,
 ) -> Result<(), ScriptFault>
+    requires { line.old ≡ first_line }
     ensures run { Runs kept result exchange.old exchange.new
         (R.input reader.old).remaining (R.input reader.new).remaining
         (W.output writer.old).written (W.output writer.new).written }
@@ -89,7 +95,6 @@ fn run_pieces<R: Source, W: Sink>(
     ensures reads { (R.input reader.new).failures ≡ reads_failed (R.input reader.old).failures result }
     ensures writes { (W.output writer.new).failures ≡ writes_failed (W.output writer.old).failures result }
 {
-    let mut line = OpenLine::first();
     let mut piece = [0; PIECE_OCTETS];
     for _ in 0..READS {
         let count = reader.read(&mut piece)?;
@@ -103,13 +108,24 @@ fn run_pieces<R: Source, W: Sink>(
 
 impl OpenLine {
     /// The first line, before its first octet.
-    fn first() -> OpenLine
-        ensures { result ≡ record { octets = []; number = 1 } }
+    pub(crate) fn first() -> OpenLine
+        ensures { result ≡ first_line }
     {
         OpenLine {
             octets: ArrayVec::new(),
             number: 1,
+            wrong: LineFault::Malformed,
         }
+    }
+
+    /// What was read of the line.
+    pub(crate) fn octets(&self) -> &[u8] {
+        self.octets.as_slice()
+    }
+
+    /// What is wrong with the line, where it ended the script.
+    pub(crate) fn wrong(&self) -> LineFault {
+        self.wrong
     }
 
     /// Takes the next octets, and does each line that ends in them.
@@ -149,6 +165,7 @@ impl OpenLine {
     {
         if octet != LINE_FEED {
             if self.octets.is_full() {
+                self.wrong = LineFault::TooLong(LINE_OCTETS);
                 return fail(self.number, writer);
             }
             self.octets.push(octet);
@@ -161,16 +178,16 @@ impl OpenLine {
     }
 
     /// Takes the end of the script: a line that was begun is a fault.
-    fn end<W: Sink>(&self, writer: &mut W) -> Result<(), ScriptFault>
+    fn end<W: Sink>(&mut self, writer: &mut W) -> Result<(), ScriptFault>
         ensures writes { (W.output writer.new).failures ≡ writes_failed (W.output writer.old).failures result }
-        ensures run { (s : Kept) → Does (rest_run 0 self.now [] s) result s
+        ensures run { (s : Kept) → Does (rest_run 0 [] self.old [] s) result s
             (W.output writer.old).written (W.output writer.new).written }
     {
         if self.octets.is_empty() {
-            Ok(())
-        } else {
-            fail(self.number, writer)
+            return Ok(());
         }
+        self.wrong = LineFault::Unended;
+        fail(self.number, writer)
     }
 }
 
@@ -182,7 +199,7 @@ fn do_line<W: Sink>(
     writer: &mut W,
 ) -> Result<(), ScriptFault>
     ensures writes { (W.output writer.new).failures ≡ writes_failed (W.output writer.old).failures result }
-    ensures run { Does (line_run kept number (parsed_line line.now) exchange.old) result exchange.new
+    ensures run { DoesLine number (parsed_line line.now) exchange.old result exchange.new
         (W.output writer.old).written (W.output writer.new).written }
 {
     match parse_line(line) {

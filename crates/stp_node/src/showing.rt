@@ -2,18 +2,18 @@
 
 ghost use Rattle.std.specs.Prelude.{◌≡◌, OnOk, OnErr};
 ghost use Rattle.std.specs.Io.KnownBytes.{Appends};
-ghost use Rattle.exchange.specs.Queues.{kept};
+ghost use Rattle.exchange.specs.KeptQueues.{kept};
 ghost use Rattle.console.specs.Texts.{Shows};
 ghost use Rattle.stp_node.specs.Replies.{reply_text};
 ghost use Rattle.stp_node.specs.Showing.{line_of, most_lines, ended, shown_text};
 ghost use Rattle.stp_node.specs.Streams.{AppendsFirst, failures_after};
 
 use crate::line::Show;
-use crate::perform::Reply;
+use crate::perform::{Reply, report};
 use crate::sink::{Sink, WriteFailed};
 use crate::text::console_line;
 use arrayvec::ArrayString;
-use console::{LINE_OCTETS, show_links, show_notices, show_routes};
+use console::{LINE_OCTETS, show_links, show_notices, show_routes, show_titles};
 use exchange::Exchange;
 
 /// Prints what became of a line. It takes no memory.
@@ -25,6 +25,7 @@ pub fn print<W: Sink>(exchange: &Exchange, reply: &Reply, writer: &mut W) -> Res
     ensures counted { (W.output writer.new).failures ≡ failures_after (W.output writer.old).failures result }
 {
     match reply {
+        Reply::Became(outcome) => writer.write(report(exchange, *outcome).as_slice()),
         Reply::Line(text) => writer.write(text.as_slice()),
         Reply::Lines(what) => show_text(exchange, *what, writer),
     }
@@ -77,6 +78,7 @@ fn write_line(
     match what {
         Show::Links => show_links(exchange, k, line),
         Show::Routes => show_routes(exchange, k, line),
+        Show::Titles => show_titles(exchange, k, line),
         Show::Notices => show_notices(exchange, k, line),
     }
 }
@@ -88,6 +90,7 @@ fn most_lines(exchange: &Exchange, what: Show) -> usize
     match what {
         Show::Links => exchange.settings().links().len(),
         Show::Routes => exchange.settings().destinations().len(),
+        Show::Titles => exchange.title_count(),
         Show::Notices => exchange.notices().len(),
     }
 }

@@ -1,6 +1,6 @@
 -- The ticks that passed and those that are left are all of them.
 use Rattle.std.proofs.Common.{◌≡◌, ◌-◌}
-use Rattle.exchange.specs.Queues.{kept}
+use Rattle.exchange.specs.KeptQueues.{kept}
 use Rattle.stp_node.specs.Doing.{after_ticks}
 use Rattle.stp_node.proofs.perform.pass.Given as goal
 

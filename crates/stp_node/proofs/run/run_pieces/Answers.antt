@@ -8,13 +8,13 @@ use Rattle.stp_node.proofs.run.run_pieces.Goals as goal
 
 pub loop-init : goal.loop-init
 loop-init g c = record {
-  number = rw (c.first-line.ensures) (omega arith);
+  number = rw (c.requires) (omega arith);
   most = omega arith;
   least = omega arith;
   reads = refl;
   writes = refl;
-  short = rw (c.first-line.ensures) (omega arith);
-  run = rw (c.first-line.ensures) (no-progress c.args.exchange.now (g.R.Source.input c.args.reader.now).remaining (g.W.Sink.output c.args.writer.now).written);
+  short = rw (c.requires) (omega arith);
+  run = rw (c.requires) (no-progress c.args.exchange.now (g.R.Source.input c.args.reader.now).remaining (g.W.Sink.output c.args.writer.now).written);
 }
 
 pub returns-in_err-count-clause-run : goal.returns-in_err-count-clause-run

@@ -1,6 +1,6 @@
 -- A line was written in part, behind those before it.
 use Rattle.std.proofs.Common.{arith}
-use Rattle.exchange.specs.Queues.{kept}
+use Rattle.exchange.specs.KeptQueues.{kept}
 use Rattle.stp_node.specs.Showing.{line_of, most_lines}
 use Rattle.stp_node.proofs.Shown.{lines-broken, on-error}
 use Rattle.stp_node.proofs.showing.show_text.Goals as goal

@@ -1,7 +1,7 @@
 -- The lines so far were written.
 use Rattle.std.proofs.Common.{◌≡◌}
 use Rattle.std.specs.Io.KnownBytes.{Appends}
-use Rattle.exchange.specs.Queues.{kept}
+use Rattle.exchange.specs.KeptQueues.{kept}
 use Rattle.stp_node.specs.Showing.{line_of, first_lines}
 use Rattle.stp_node.proofs.showing.show_text.Given as goal
 

@@ -1,0 +1,120 @@
+//! UDTs whose called address is routed by title.
+
+ghost use Rattle.std.specs.Prelude.{◌≡◌, ◌≤◌, length};
+ghost use Rattle.sccp_codec.specs.Addresses.{address_octets};
+ghost use Rattle.sccp_codec.specs.Values.{address_of};
+
+use crate::draft::{INTERNATIONAL, adjacent, own};
+use crate::incoming::Incoming;
+use crate::titles::{NATURE, PLAN, SUBSYSTEM, TRANSLATION};
+use routing_label::Label;
+use sccp_codec::{Address, Field, Parts, Routing, TitleIndicator, Udt};
+use stp_types::{Limits, Sls};
+
+/// The service indicator of SCCP (Q.704 §14.2.1).
+const SCCP: u8 = 3;
+
+/// Protocol class 0, with return on error (Q.713 §3.6).
+const RETURNED_ON_ERROR: u8 = 0x80;
+
+/// The indicator of a title with all that a translation looks at (Q.713 §3.4.1).
+const WHOLE_TITLE: u8 = 4;
+
+/// The numbering plan of a title, and the encoding scheme of an even number of digits (Q.713 §3.4.2.3.3).
+const PLAN_AND_SCHEME: u8 = PLAN << 4 | 2;
+
+/// The subsystem that calls: a visitor location register (Q.713 §3.4.2.2).
+const CALLING_SUBSYSTEM: u8 = 7;
+
+/// What stands in the data.
+const FILLING: u8 = 0xaa;
+
+/// The octets of a title with twelve digits.
+type Title = [u8; 9];
+
+/// A title that the first row leads: its digits are 0000 4917 2000.
+pub(crate) const LED: Title = [
+    TRANSLATION,
+    PLAN_AND_SCHEME,
+    NATURE,
+    0x00,
+    0x00,
+    0x94,
+    0x71,
+    0x02,
+    0x00,
+];
+
+/// A title that no row leads: its digits are ffff 4917 2000.
+pub(crate) const ASTRAY: Title = [
+    TRANSLATION,
+    PLAN_AND_SCHEME,
+    NATURE,
+    0xff,
+    0xff,
+    0x94,
+    0x71,
+    0x02,
+    0x00,
+];
+
+/// Octets of such a message beside its data: the label, the message type, the class, three pointers, and each behind its
+/// length, the called address, the calling one and the data.
+pub(crate) const BARE_OCTETS: usize = 4 + 5 + (1 + 11) + (1 + 4) + 1;
+
+/// A frame with a UDT of the adjacent point to this one, of so many octets from its label on.
+pub(crate) fn unitdata(title: Title, octets: usize) -> Incoming
+    requires { octets ≤ Limits.SIF_OCTETS }
+{
+    let filling = [FILLING; Limits::SIF_OCTETS];
+    let udt = Udt {
+        class_octet: RETURNED_ON_ERROR,
+        parts: Parts {
+            called: called(&title),
+            calling: calling(),
+            data: &filling[..octets.saturating_sub(BARE_OCTETS)],
+        },
+    };
+    let mut field: Field = [0; Limits::SIF_OCTETS];
+    let Ok(count) = udt.write(label().write(), &mut field) else {
+        unreachable!()
+    };
+    Incoming::with_message(INTERNATIONAL << 6 | SCCP, &field[..count])
+}
+
+/// The label of a message of the adjacent point to this one.
+fn label() -> Label {
+    Label {
+        opc: adjacent(),
+        dpc: own(),
+        sls: Sls::new(0).unwrap(),
+    }
+}
+
+/// An address of this title.
+fn called(title: &Title) -> Address<'_>
+    ensures { length (address_octets 0 (address_of result)) ≡ 11 }
+{
+    Address {
+        national: false,
+        routing: Routing::Title,
+        point: None,
+        ssn: Some(SUBSYSTEM),
+        title_indicator: TitleIndicator::new(WHOLE_TITLE).unwrap(),
+        title,
+    }
+}
+
+/// The address of a subsystem at the adjacent point. It names its point, so that the message doesn't grow on its way.
+fn calling() -> Address<'static>
+    ensures { length (address_octets 0 (address_of result)) ≡ 4 }
+{
+    Address {
+        national: false,
+        routing: Routing::Ssn,
+        point: Some(adjacent()),
+        ssn: Some(CALLING_SUBSYSTEM),
+        title_indicator: TitleIndicator::new(0).unwrap(),
+        title: &[],
+    }
+}

@@ -1,0 +1,64 @@
+-- Translation rows as an operator writes them. Each value has the range of its key in a settings file.
+use Rattle.std.specs.Prelude.{ℕ, ◌&&◌, nat_le, if◌then◌else◌, bytes_eq, codes, map, List, [], ◌∷◌}
+use Rattle.std.specs.Prelude.{length, Option, None, Some}
+use Rattle.std.specs.List.{list_all}
+use Rattle.std.specs.Option.{option_map, option_and_then}
+use Rattle.signalling_types.specs.declared.limits.TheConstants.Limits.{TITLE_DIGITS}
+use Rattle.settings_rows.specs.Configuration.{TitleEntry}
+use Rattle.settings_rows.specs.declared.title_row.Route.{Route}
+use Rattle.settings_rows.specs.declared.title_row.Route.TheVariants.{Title, Ssn}
+use Rattle.settings_check.specs.Checks.{is_digit}
+use Rattle.settings_check.specs.Meaning.{digit_of}
+use Rattle.sccp_codec.specs.declared.title.TitleKey.{TitleKey}
+use Rattle.console.specs.Numbers.{number_within}
+use Rattle.console.specs.declared.title_words.RowName.{RowName}
+
+-- a translation type, a numbering plan and a nature of address
+abbrev pub key_written : (translation plan nature : List ℕ) → Option TitleKey
+key_written translation plan nature =
+    option_and_then (λ t. option_and_then (λ p. option_map (λ n.
+    record { translation = t; plan = p; nature = n })
+    (number_within 0 127 nature)) (number_within 0 15 plan)) (number_within 0 255 translation)
+
+-- 1 to 32 digits, 0 to 9 and a to f
+abbrev pub digits_written : List ℕ → Option (List ℕ)
+digits_written text =
+    if nat_le 1 (length text) && nat_le (length text) TITLE_DIGITS && list_all is_digit text
+    then Some (map digit_of text)
+    else None
+
+-- what names a row: its key and its digits
+abbrev pub name_written : (translation plan nature digits : List ℕ) → Option RowName
+name_written translation plan nature digits =
+    option_and_then (λ key. option_map (λ ds. record { key = key; digits = record { items = ds } })
+    (digits_written digits)) (key_written translation plan nature)
+
+-- a subsystem number, or - for none
+abbrev pub ssn_written : List ℕ → Option (Option ℕ)
+ssn_written text = if bytes_eq text (codes "-") then Some None else option_map (λ n. Some n) (number_within 1 255 text)
+
+-- how addresses are routed: by title, with a subsystem number beside it, if any, or by a subsystem number
+abbrev pub route_named : (way : List ℕ) → (ssn : Option ℕ) → Option Route
+route_named way None = if bytes_eq way (codes "title") then Some (Title None) else None
+route_named way (Some ssn) =
+    if bytes_eq way (codes "title") then Some (Title (Some ssn))
+    else if bytes_eq way (codes "ssn") then Some (Ssn ssn)
+    else None
+
+-- the row of this name that leads to a point, and is routed there in a way
+abbrev pub row_leading : RowName → (point : ℕ) → Route → TitleEntry
+row_leading name point route = record {
+  translation = name.key.translation;
+  plan = name.key.plan;
+  nature = name.key.nature;
+  digits = name.digits.items;
+  point = point;
+  route = route;
+}
+
+-- the row of this name that these words write: `POINT ROUTE SSN`
+abbrev pub row_written : RowName → List (List ℕ) → Option TitleEntry
+row_written name (point ∷ way ∷ ssn ∷ []) =
+    option_and_then (λ p. option_and_then (λ s. option_map (λ route. row_leading name p route) (route_named way s))
+    (ssn_written ssn)) (number_within 0 16383 point)
+row_written name _ = None

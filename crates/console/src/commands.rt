@@ -1,0 +1,79 @@
+//! The commands of scripts and of the console.
+
+ghost use Rattle.std.specs.Prelude.{◌≡◌};
+ghost use Rattle.console.specs.Commands.{command_named, command_word};
+
+/// What a line begins with.
+#[derive(Clone, Copy, Debug, PartialEq, Eq)]
+pub enum Command {
+    /// `up LINK`: the link's association comes up.
+    Up,
+    /// `down LINK`: the link's association is lost.
+    Down,
+    /// `frame LINK HEX`: these octets arrive on the link.
+    Frame,
+    /// `tick N`: so many ticks pass.
+    Tick,
+    /// `submit HEX`: a user part hands over a message.
+    Submit,
+    /// `take LINK`: the next frame that goes out on the link.
+    Take,
+    /// `wants LINK`: what the link wants from its caller.
+    Wants,
+    /// `activate LINK`: the link may open.
+    Activate,
+    /// `deactivate LINK`: the link is taken out of service, and may not open.
+    Deactivate,
+    /// `title add T P N DIGITS POINT ROUTE SSN` or `title remove T P N DIGITS`: a translation row is added or removed.
+    Title,
+    /// `show links`, `show routes`, `show titles` or `show notices`.
+    Show,
+}
+
+impl Command {
+    /// All commands.
+    pub const ALL: [Command; 11] = [
+        Command::Up,
+        Command::Down,
+        Command::Frame,
+        Command::Tick,
+        Command::Submit,
+        Command::Take,
+        Command::Wants,
+        Command::Activate,
+        Command::Deactivate,
+        Command::Title,
+        Command::Show,
+    ];
+
+    /// The word of the command.
+    pub fn word(self) -> &'static str
+        ensures { result.now ≡ command_word self }
+    {
+        match self {
+            Command::Up => "up",
+            Command::Down => "down",
+            Command::Frame => "frame",
+            Command::Tick => "tick",
+            Command::Submit => "submit",
+            Command::Take => "take",
+            Command::Wants => "wants",
+            Command::Activate => "activate",
+            Command::Deactivate => "deactivate",
+            Command::Title => "title",
+            Command::Show => "show",
+        }
+    }
+
+    /// The command of this word.
+    pub fn named(word: &[u8]) -> Option<Command>
+        ensures { result ≡ command_named word.now }
+    {
+        for command in Command::ALL {
+            if word == command.word().as_bytes() {
+                return Some(command);
+            }
+        }
+        None
+    }
+}

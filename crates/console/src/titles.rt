@@ -1,0 +1,101 @@
+//! The text of the translation rows.
+
+ghost use Rattle.std.specs.Prelude.{◌≡◌, ◌+◌, ◌≤◌, ◌<◌, ◌^◌, ◌++◌, [], ◌∷◌, length, map, All};
+ghost use Rattle.exchange_rules.specs.Sound.{Abstract};
+ghost use Rattle.exchange.specs.Stands.{StandsFor};
+ghost use Rattle.console.specs.Texts.{Shows, title_line, title_text, digit_octet, way_text, title_way_text};
+
+use crate::line::{LINE_OCTETS, push_small};
+use arrayvec::ArrayString;
+use exchange::Exchange;
+use stp_types::{Limits, Route, Ssn, TitleRow};
+
+/// Writes line `k`, from 0, of the text of the translation rows: `title T P N DIGITS POINT ROUTE SSN`, one line for each
+/// row, by translation type, plan, nature, then digits, a prefix before what it begins. ROUTE is `title` or `ssn`, and SSN
+/// `-` where the row has none.
+///
+/// False past the last line, and then nothing is written.
+pub fn show_titles(exchange: &Exchange, k: usize, out: &mut ArrayString<LINE_OCTETS>) -> bool
+    // For every abstract state that the exchange stands for, the line is that of the abstract state.
+    ensures line { (a : Abstract) → StandsFor exchange.now a →
+        Shows (title_line a k) result out.old.bytes out.new.bytes }
+
+    // The same on what is kept.
+    ensures kept_line { Shows (title_line exchange.now k) result out.old.bytes out.new.bytes }
+{
+    let Some(row) = exchange.title(k) else {
+        return false;
+    };
+    write_title(&row, out);
+    true
+}
+
+/// The line of a row.
+fn write_title(row: &TitleRow, out: &mut ArrayString<LINE_OCTETS>)
+    ensures { out.new.bytes ≡ title_text row.now }
+{
+    out.clear();
+    push_small(out, "title ", u16::from(row.translation()));
+    push_small(out, " ", u16::from(row.plan()));
+    push_small(out, " ", u16::from(row.nature()));
+    out.push_str(" ");
+    push_digits(out, row.digits());
+    push_small(out, " ", row.point().code());
+    push_way(out, row.route());
+}
+
+/// Puts digits behind what is there, `0` to `9` and `a` to `f`.
+fn push_digits(line: &mut ArrayString<LINE_OCTETS>, digits: &[u8])
+    requires digits { All (λ digit. digit < 2 ^ 4) digits.now }
+    requires few { length digits.now ≤ Limits.TITLE_DIGITS }
+    requires room { length line.old.bytes + Limits.TITLE_DIGITS ≤ LINE_OCTETS }
+    ensures text { line.new.bytes ≡ line.old.bytes ++ map digit_octet digits.now }
+    ensures short { length line.new.bytes ≤ length line.old.bytes + Limits.TITLE_DIGITS }
+{
+    for digit in digits {
+        push_digit(line, *digit);
+    }
+}
+
+/// Puts a digit behind what is there.
+fn push_digit(line: &mut ArrayString<LINE_OCTETS>, digit: u8)
+    requires digit { digit < 2 ^ 4 }
+    requires room { length line.old.bytes + 1 ≤ LINE_OCTETS }
+    ensures { line.new.bytes ≡ line.old.bytes ++ digit_octet digit ∷ [] }
+{
+    line.push(digit_char(digit));
+}
+
+/// A digit, 0 to 15, as it is written.
+fn digit_char(digit: u8) -> char
+    requires { digit < 2 ^ 4 }
+    ensures value { result ≡ digit_octet digit }
+    ensures ascii { result < 128 }
+{
+    char::from(match digit {
+        0..=9 => b'0' + digit,
+        _ => b'a' + (digit - 10),
+    })
+}
+
+/// Puts behind what is there how addresses are routed: ` title SSN` or ` ssn SSN`.
+fn push_way(line: &mut ArrayString<LINE_OCTETS>, route: Route)
+    requires { length line.old.bytes + 12 ≤ LINE_OCTETS }
+    ensures { line.new.bytes ≡ line.old.bytes ++ way_text route }
+{
+    match route {
+        Route::Title(ssn) => push_ssn(line, ssn),
+        Route::Ssn(ssn) => push_small(line, " ssn ", u16::from(ssn.number())),
+    }
+}
+
+/// Puts ` title ` behind what is there, and a subsystem number, or `-` where there is none.
+fn push_ssn(line: &mut ArrayString<LINE_OCTETS>, ssn: Option<Ssn>)
+    requires { length line.old.bytes + 12 ≤ LINE_OCTETS }
+    ensures { line.new.bytes ≡ line.old.bytes ++ title_way_text ssn }
+{
+    match ssn {
+        Some(ssn) => push_small(line, " title ", u16::from(ssn.number())),
+        None => line.push_str(" title -"),
+    }
+}

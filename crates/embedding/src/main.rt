@@ -1,0 +1,76 @@
+//! A node in a program of its own: its settings, its network and its user parts are the program's, and one loop drives
+//! it.
+#![tactic(auto)]
+
+mod fakes;
+mod node;
+mod settings;
+
+use exchange::{DraftFault, Exchange, LinkId, NoMemory, Settings};
+use fakes::{PlayedNetwork, PrintingUsers};
+use std::alloc::{AllocError, Global};
+use std::process::ExitCode;
+
+/// Why the node doesn't start.
+#[derive(Drop)]
+enum NoStart {
+    /// Memory ran out.
+    Memory,
+    /// The settings have this fault.
+    Settings(DraftFault),
+    /// The settings have no link of a name.
+    Link,
+}
+
+impl From<AllocError> for NoStart {
+    fn from(_error: AllocError) -> NoStart {
+        NoStart::Memory
+    }
+}
+
+impl From<NoMemory> for NoStart {
+    fn from(_error: NoMemory) -> NoStart {
+        NoStart::Memory
+    }
+}
+
+impl From<DraftFault> for NoStart {
+    fn from(fault: DraftFault) -> NoStart {
+        NoStart::Settings(fault)
+    }
+}
+
+fn main(rt: HostRuntime) -> ExitCode {
+    match run(&rt, rt.alloc()) {
+        Ok(()) => ExitCode::SUCCESS,
+        Err(why) => {
+            let _told = tell(&rt, why);
+            ExitCode::FAILURE
+        }
+    }
+}
+
+/// Boots the node, and serves its links.
+fn run<R: Print>(rt: &R, alloc: Global) -> Result<(), NoStart> {
+    let settings = Settings::check(alloc, settings::draft(alloc)?)?;
+    let links = [link_named(&settings, "e0")?, link_named(&settings, "w0")?];
+    let mut exchange = Exchange::boot(alloc, settings)?;
+    let mut network = PlayedNetwork::new(rt, links);
+    let mut users = PrintingUsers::new(rt);
+    node::serve(&mut exchange, &links, &mut network, &mut users);
+    Ok(())
+}
+
+/// The link of this name.
+fn link_named(settings: &Settings, name: &str) -> Result<LinkId, NoStart> {
+    settings.link_named(name.as_bytes()).ok_or(NoStart::Link)
+}
+
+/// Tells why the node doesn't start.
+fn tell<R: Print>(rt: &R, why: NoStart) {
+    let _told = match why {
+        NoStart::Memory => println!(rt; "out of memory"),
+        NoStart::Settings(fault) => println!(rt; "{fault}"),
+        NoStart::Link => println!(rt; "a link isn't in the settings"),
+    };
+}

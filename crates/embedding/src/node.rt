@@ -1,0 +1,138 @@
+//! One node, driven from one loop. Copy this file, and write a network and user parts of your own.
+
+use exchange::{
+    BUFFER_OCTETS, Event, Exchange, Frame, Limits, LinkId, Msu, Outcome, Wants, decode,
+};
+
+/// Statuses that wait on a link, at most: Alignment, Proving Normal and Ready (docs/ALIGNMENT.md).
+const WAITING_STATUSES: usize = 3;
+
+/// What comes next to a node.
+pub enum Received {
+    /// A frame of so many octets came on a link. It stands at the front of the buffer; one that is longer fills the
+    /// buffer, and its length then fails the link.
+    Frame(LinkId, usize),
+    /// A user part hands over a message: its SIO, and a SIF of so many octets at the front of the buffer.
+    Submit(u8, usize),
+    /// A tick of the clock passed.
+    Tick,
+    /// The association of a link is lost. Nothing of it comes after this.
+    Gone(LinkId),
+    /// The program is to end.
+    End,
+}
+
+/// The associations of a node's links, and its clock: sockets and a timer, or fakes in a test.
+pub trait Network {
+    /// Opens the association of a link; or, on the side that accepts, answers whether the peer has opened it. False
+    /// where it isn't there yet: this is called again.
+    fn open(&mut self, link: LinkId) -> bool;
+
+    /// Closes the association of a link.
+    fn close(&mut self, link: LinkId);
+
+    /// Sends a frame on a link, behind those sent before.
+    fn send(&mut self, link: LinkId, frame: &[u8]);
+
+    /// Waits for what comes next.
+    fn receive(&mut self, buffer: &mut [u8]) -> Received;
+}
+
+/// The user parts of this point.
+pub trait UserParts {
+    /// A message came for this point.
+    fn deliver(&mut self, sio: u8, sif: &[u8]);
+
+    /// This became of a message that a user part handed over.
+    fn answer(&mut self, outcome: Outcome);
+}
+
+/// Serves these links of a node until its network ends.
+pub fn serve<N: Network, U: UserParts>(
+    exchange: &mut Exchange,
+    links: &[LinkId],
+    network: &mut N,
+    users: &mut U,
+) {
+    let mut buffer = [0; Limits::FRAME_OCTETS];
+    for _ in 0..u64::MAX {
+        tend(exchange, links, network);
+        match network.receive(&mut buffer) {
+            Received::Frame(link, count) => {
+                receive_frame(exchange, link, front(&buffer, count), users);
+            }
+            Received::Submit(sio, count) => submit(exchange, sio, front(&buffer, count), users),
+            Received::Tick => {
+                let _ticked = exchange.step(&Event::Tick);
+            }
+            Received::Gone(link) => {
+                let _down = exchange.step(&Event::AssociationDown(link));
+            }
+            Received::End => return,
+        }
+    }
+}
+
+/// So many octets at the front of the buffer, or all of it where they are more.
+fn front(buffer: &[u8], count: usize) -> &[u8] {
+    &buffer[..count.min(buffer.len())]
+}
+
+/// Does what each link wants, and then sends what goes out on each: an event on one may have queued messages on others.
+fn tend<N: Network>(exchange: &mut Exchange, links: &[LinkId], network: &mut N) {
+    for link in links {
+        do_wanted(exchange, *link, network);
+    }
+    for link in links {
+        send_all(exchange, *link, network);
+    }
+}
+
+/// Does what a link wants.
+fn do_wanted<N: Network>(exchange: &mut Exchange, link: LinkId, network: &mut N) {
+    match exchange.wants(link) {
+        Wants::Open => {
+            if network.open(link) {
+                let _up = exchange.step(&Event::AssociationUp(link));
+            }
+        }
+        Wants::Close => {
+            network.close(link);
+            let _down = exchange.step(&Event::AssociationDown(link));
+        }
+        Wants::Nothing => {}
+    }
+}
+
+/// Sends what goes out on a link: the statuses that wait, and then a window of messages or an acknowledgement.
+fn send_all<N: Network>(exchange: &mut Exchange, link: LinkId, network: &mut N) {
+    let mut frame = [0; BUFFER_OCTETS];
+    for _ in 0..exchange.settings().window() + WAITING_STATUSES {
+        let Some(count) = exchange.take(link, &mut frame) else {
+            return;
+        };
+        network.send(link, &frame[..count]);
+    }
+}
+
+/// Takes a frame of a link. A message for this point goes to its user parts.
+fn receive_frame<U: UserParts>(exchange: &mut Exchange, link: LinkId, frame: &[u8], users: &mut U) {
+    if exchange.step(&Event::Frame(link, frame)) != Outcome::Local {
+        return;
+    }
+    if let Ok(Frame::Message { sio, sif, .. }) = decode(frame) {
+        users.deliver(sio, sif);
+    }
+}
+
+/// Takes a message of a user part, and tells it what became of it. A message for this point goes to its user parts.
+fn submit<U: UserParts>(exchange: &mut Exchange, sio: u8, sif: &[u8], users: &mut U) {
+    let outcome = match Msu::new(sio, sif) {
+        Ok(message) => exchange.step(&Event::Submit(message)),
+        Err(cause) => Outcome::Refused(cause),
+    };
+    if outcome == Outcome::Local {
+        users.deliver(sio, sif);
+    }
+    users.answer(outcome);
+}
