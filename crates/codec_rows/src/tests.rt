@@ -3,8 +3,10 @@
 mod framing;
 mod labels;
 mod management;
+mod relaying;
 mod title_limits;
 mod titles;
+mod tries;
 mod unitdata;
 
 use signalling_types::Limits;

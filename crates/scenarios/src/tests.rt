@@ -3,12 +3,15 @@
 mod alignment;
 mod calls;
 mod checked_settings;
+mod facing;
 mod lines;
 mod long_lines;
 mod lost;
 mod program;
+mod sentences;
 mod statuses;
 mod streams;
+mod titles;
 
 use exchange::Exchange;
 use std::alloc::Global;

@@ -1,6 +1,7 @@
 //! What the rows share: a row is a line of words.
 
 mod alignment;
+mod bodies;
 mod changebacks;
 mod changeovers;
 mod limits;

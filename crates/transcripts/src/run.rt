@@ -191,7 +191,7 @@ pub fn read_file<F: Folder>(alloc: Global, folder: &F, name: &str) -> Result<Vec
 {
     match folder.read(alloc, name) {
         Ok(octets) => Ok(octets),
-        Err(FileFault::Unread) => bail!("{name} can't be read"),
+        Err(FileFault::Unread(_)) => bail!("{name} can't be read"),
         Err(FileFault::NoMemory) => bail!("memory ran out"),
     }
 }
@@ -203,7 +203,8 @@ fn printed<F: Folder>(alloc: Global, words: &[String], folder: &F, script: &[u8]
 {
     let mut reader = MemorySource::new(script);
     let mut writer = MemorySink::new(alloc);
-    let status = run_program(alloc, words, folder, &mut reader, &mut writer);
+    let mut errors = MemorySink::new(alloc);
+    let status = run_program(alloc, words, folder, &mut reader, &mut writer, &mut errors);
     if reader.failures() != 0 || writer.failures() != 0 {
         bail!("a stream in memory failed");
     }

@@ -73,7 +73,10 @@ fn digit(octet: u8) -> u8 {
 }
 
 /// The digits of a text, none where it is `-`.
-fn digits<'a>(text: &str, buffer: &'a mut [u8; Limits::TITLE_DIGITS]) -> Option<&'a [u8]> {
+pub(super) fn digits<'a>(
+    text: &str,
+    buffer: &'a mut [u8; Limits::TITLE_DIGITS],
+) -> Option<&'a [u8]> {
     let text = if text == "-" { "" } else { text };
     for (place, octet) in buffer.iter_mut().zip(text.bytes()) {
         *place = digit(octet);
@@ -101,7 +104,12 @@ pub(super) fn row(
 }
 
 /// A row that leads to this point, routed there as a word says.
-fn routed(key: TitleKey, digits: &[u8], point: PointCode, word: &str) -> Option<TitleRow> {
+pub(super) fn routed(
+    key: TitleKey,
+    digits: &[u8],
+    point: PointCode,
+    word: &str,
+) -> Option<TitleRow> {
     if word == "title" {
         return row(key, digits, point, Route::Title(None));
     }

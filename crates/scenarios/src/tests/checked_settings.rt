@@ -88,6 +88,12 @@ fn answer_to(alloc: Global, draft: Draft) -> Result<String, Fail> {
 /// The built-in settings with this change.
 fn changed(alloc: Global, change: &str) -> Result<Draft, Fail> {
     let mut draft = built_in(alloc)?;
+    make(alloc, &mut draft, change)?;
+    Ok(draft)
+}
+
+/// Makes a change to settings.
+pub(super) fn make(alloc: Global, draft: &mut Draft, change: &str) -> Result<(), Fail> {
     let (key, values) = change.split_once(" ").unwrap_or((change, ""));
     match key {
         "users" => draft.users = numbers(alloc, values)?,
@@ -96,9 +102,9 @@ fn changed(alloc: Global, change: &str) -> Result<Draft, Fail> {
         "link" => draft.links = links(alloc, values)?,
         "destination" => draft.destinations = destinations(alloc, values)?,
         "title" => draft.titles = titles(alloc, values)?,
-        _ => change_number(&mut draft, key, number(values)?)?,
+        _ => change_number(draft, key, number(values)?)?,
     }
-    Ok(draft)
+    Ok(())
 }
 
 /// Writes the number of a key.

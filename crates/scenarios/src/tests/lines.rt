@@ -41,8 +41,7 @@ const ROWS: &str = "\
     ;deactivate  e0\n|fault 1\n|1\
     ;show\n|fault 1\n|1\
     ;show links \n|fault 1\n|1\
-    ;show titles\n|fault 1\n|1\
-    ;title remove 0 1 4 49\n|fault 1\n|1\
+    ;show title\n|fault 1\n|1\
     ;take\n|fault 1\n|1\
     ;take e0 1\n|fault 1\n|1\
     ;frame e0\n|fault 1\n|1\
@@ -95,7 +94,7 @@ const ROWS: &str = "\
     ;up e0\ntick 9\nwants e0\ntick 1\nwants e0\n|handled\nhandled\nnothing\nhandled\nclose\n|";
 
 /// Runs a row.
-fn expect_row<T: Abort>(rt: &T, alloc: Global, row: &str) {
+pub(super) fn expect_row<T: Abort>(rt: &T, alloc: Global, row: &str) {
     let (script, wanted) = row.split_once('|').expect(rt, "a script and a bar");
     let (printed, number) = wanted.split_once('|').expect(rt, "a text and a bar");
     expect_script(rt, alloc, script.as_bytes(), printed, end_of(number));

@@ -6,7 +6,7 @@ use std::process::Abort;
 use stp_node::{MemorySink, MemorySource, OneFile, run_program};
 
 /// The words, each behind a comma.
-fn words<T: Abort>(rt: &T, alloc: Global, text: &str) -> Vec<String> {
+pub(super) fn words<T: Abort>(rt: &T, alloc: Global, text: &str) -> Vec<String> {
     let mut words = Vec::new(alloc);
     for word in text.split(',').skip(1) {
         push(rt, alloc, &mut words, word);
@@ -21,12 +21,13 @@ fn push<T: Abort>(rt: &T, alloc: Global, words: &mut Vec<String>, word: &str) {
 }
 
 /// Runs the program, with an empty file `f`, and compares its exit status and what it printed.
-fn expect<T: Abort>(
+pub(super) fn expect<T: Abort>(
     rt: &T,
     alloc: Global,
     text: &str,
     reader: &mut MemorySource<'_>,
     writer: &mut MemorySink,
+    errors: &mut MemorySink,
     status: u8,
     printed: &str,
 ) {
@@ -35,7 +36,7 @@ fn expect<T: Abort>(
         name: "f",
         octets: b"",
     };
-    let ended = run_program(alloc, words.as_slice(), &folder, reader, writer);
+    let ended = run_program(alloc, words.as_slice(), &folder, reader, writer, errors);
     assert_eq!(rt; ended.number(), status, "of {text}");
     compare(rt, text.as_bytes(), writer.written(), printed);
 }
@@ -44,7 +45,18 @@ fn expect<T: Abort>(
 fn expect_unread<T: Abort>(rt: &T, alloc: Global) {
     let mut reader = MemorySource::new(b"up e0\n").failing_after(1);
     let mut writer = MemorySink::new(alloc);
-    expect(rt, alloc, ",run", &mut reader, &mut writer, 4, "handled\n");
+    let mut errors = MemorySink::new(alloc);
+    let printed = "handled\n";
+    expect(
+        rt,
+        alloc,
+        ",run",
+        &mut reader,
+        &mut writer,
+        &mut errors,
+        4,
+        printed,
+    );
 }
 
 #[test]
@@ -56,7 +68,17 @@ fn a_read_that_fails(rt: HostRuntime) {
 fn expect_unwritten<T: Abort>(rt: &T, alloc: Global, words: &str) {
     let mut reader = MemorySource::new(b"up e0\n");
     let mut writer = MemorySink::new(alloc).failing_after(0);
-    expect(rt, alloc, words, &mut reader, &mut writer, 4, "");
+    let mut errors = MemorySink::new(alloc);
+    expect(
+        rt,
+        alloc,
+        words,
+        &mut reader,
+        &mut writer,
+        &mut errors,
+        4,
+        "",
+    );
 }
 
 /// The writes of a script's output, of the usage, and of a fault.

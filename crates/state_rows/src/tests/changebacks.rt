@@ -29,10 +29,10 @@ fn answer_one(changeback: &mut Changeback, holds: &mut Holds) -> bool {
     let west = SetId::new(1);
     let full = changeback.free_code(west).is_none();
     let other = changeback.free_code(SetId::new(0)) == Some(0);
-    changeback.expired(Procedure::Code(west, 5), holds);
+    holds.lift(Procedure::Code(west, 5));
     let kept = changeback.free_code(west).is_none();
-    let awaited = changeback.answer(west, 5, holds);
-    let again = changeback.answer(west, 5, holds);
+    let awaited = changeback.acknowledge(west, 5, holds);
+    let again = changeback.acknowledge(west, 5, holds);
     full && other && kept && awaited && !again && changeback.free_code(west) == Some(5)
 }
 

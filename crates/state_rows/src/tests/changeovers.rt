@@ -6,7 +6,7 @@ use super::messages::{counts, list, put};
 use super::sequences::{number, sent};
 use super::word;
 use cell_pool::{Lanes, RingLanes};
-use changeover::{Beginning, Changeover, complete, in_doubt};
+use changeover::{Beginning, Changeover, complete, count_in_doubt};
 use link_sequence::Sequence;
 use signalling_types::{ChangeoverTimer, LinkId};
 use std::alloc::{AllocError, Global};
@@ -77,7 +77,7 @@ fn completes<L: Lanes>(lanes: &mut L, sequence: &mut Sequence, row: &str) -> boo
     if lanes.lanes() <= HELD {
         return false;
     }
-    let doubt = in_doubt(sequence, Some(number(confirmed)));
+    let doubt = count_in_doubt(sequence, Some(number(confirmed)));
     complete(lanes, LANE, HELD, sequence, Some(number(confirmed)));
     doubt == word(row, 2).parse().ok() && sequence.outstanding() == 0
 }
@@ -122,8 +122,8 @@ fn both_come(alloc: Global) -> Result<bool, AllocError> {
         changeover.failed(link, true, &sequence) == Beginning::Orders(number(16_777_215))
             && changeover.order(link)
             && !changeover.may_restart(link)
-            && changeover.answer(link) == Some(false)
-            && changeover.answer(link).is_none()
+            && changeover.acknowledge(link) == Some(false)
+            && changeover.acknowledge(link).is_none()
             && changeover.may_restart(link)
             && changeover.failed(link, false, &sequence) == Beginning::Waits
             && changeover.expired(link, ChangeoverTimer::T1)

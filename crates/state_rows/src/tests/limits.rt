@@ -3,7 +3,7 @@
 use super::lists::{answers, gives};
 use super::messages::{ISUP, MANAGEMENT, counts, has, list, put};
 use super::word;
-use cell_pool::{Lanes, RingLanes, UserMessages};
+use cell_pool::{CellPool, Lanes, RingLanes, UserMessages};
 use signalling_types::{Cause, Limits, Msu};
 use std::test::*;
 
@@ -44,6 +44,7 @@ fn has_limits<L: Lanes>(lanes: &mut L) -> bool {
 #[test]
 fn each_kind_has_its_limit(rt: HostRuntime) -> Result<(), Fail> {
     assert!(rt; has_limits(&mut RingLanes::new(rt.alloc(), 1, 3)?));
+    assert!(rt; has_limits(&mut CellPool::new(rt.alloc(), 1, 3)?));
     Ok(())
 }
 
@@ -94,5 +95,6 @@ fn moved<L: Lanes>(lanes: &mut L) -> bool {
 #[test]
 fn moves_keep_the_order(rt: HostRuntime) -> Result<(), Fail> {
     assert!(rt; moved(&mut RingLanes::new(rt.alloc(), 2, 3)?));
+    assert!(rt; moved(&mut CellPool::new(rt.alloc(), 2, 3)?));
     Ok(())
 }

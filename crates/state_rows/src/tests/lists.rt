@@ -11,12 +11,12 @@ use std::test::*;
 
 /// Numbers by a fixed rule: each run meets the same.
 #[derive(Drop)]
-struct Rule {
-    state: u32,
+pub(super) struct Rule {
+    pub(super) state: u32,
 }
 
 impl Rule {
-    fn below(&mut self, count: u32) -> u32
+    pub(super) fn below(&mut self, count: u32) -> u32
         requires { 0 < count }
         ensures { result < count }
     {
@@ -102,7 +102,7 @@ impl Plain {
 }
 
 /// Whether the message at a place of a list is this one.
-fn stands<L: Lanes>(lanes: &L, lane: usize, index: usize, message: &Msu) -> bool {
+pub(super) fn stands<L: Lanes>(lanes: &L, lane: usize, index: usize, message: &Msu) -> bool {
     if lane >= lanes.lanes() {
         return false;
     }
@@ -190,7 +190,7 @@ fn drop_front<L: Lanes>(
 }
 
 /// A message by the rule: each fourth is of ISUP.
-fn message(rule: &mut Rule) -> Result<Msu, Fail> {
+pub(super) fn message(rule: &mut Rule) -> Result<Msu, Fail> {
     let sio = if rule.below(4) == 0 { ISUP } else { MANAGEMENT };
     Ok(Msu::new(sio, &rule.below(1 << 24).to_le_bytes())?)
 }

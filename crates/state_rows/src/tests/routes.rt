@@ -70,16 +70,21 @@ fn load_sharing(rt: HostRuntime) -> Result<(), Fail> {
     Ok(())
 }
 
+/// The set that messages to a destination take.
+fn set_of(routes: &Routes, destination: usize) -> Option<SetId> {
+    Some(routes.route_of(destination)?.set)
+}
+
 /// Whether the set of the destination goes by the statuses.
 fn choose(routes: &mut Routes) -> bool {
     let (east, west) = (SetId::new(0), SetId::new(1));
-    let preferred = routes.set_of(0) == Some(east);
+    let preferred = set_of(routes, 0) == Some(east);
     routes.set_status(0, east, RouteStatus::Restricted);
-    let allowed = routes.set_of(0) == Some(west);
+    let allowed = set_of(routes, 0) == Some(west);
     routes.set_status(0, west, RouteStatus::Prohibited);
-    let restricted = routes.set_of(0) == Some(east);
+    let restricted = set_of(routes, 0) == Some(east);
     routes.set_status(0, east, RouteStatus::Prohibited);
-    preferred && allowed && restricted && routes.set_of(0).is_none() && routes.set_of(1).is_none()
+    preferred && allowed && restricted && set_of(routes, 0).is_none() && set_of(routes, 1).is_none()
 }
 
 #[test]

@@ -212,8 +212,8 @@ fn ignores(node: &Node, destination: usize) -> bool {
 
 /// Which destinations are the point of set `west` itself; what it says of an adjacent point is ignored.
 fn knows_points(node: &Node) -> bool {
-    node.told.is_adjacent(west(), WEST_POINT)
-        && !node.told.is_adjacent(west(), EAST_POINT)
+    node.told.is_own_point(west(), WEST_POINT)
+        && !node.told.is_own_point(west(), EAST_POINT)
         && ignores(node, WEST_POINT)
         && ignores(node, EAST_POINT)
 }

@@ -5,7 +5,8 @@ use std::alloc::{AllocError, Global};
 use std::test::*;
 use timer_wheel::{NodeCounts, TimerName, Timers};
 
-/// Three timers that run out in one tick, set out of order; a fourth that was set again, and one that was stopped.
+/// Four timers that run out in one tick, set out of order; a fifth that was set again, and one that was stopped. Of those
+/// that are started unless they run only L6 didn't.
 fn start(timers: &mut Timers) {
     timers.set(TimerName::T10(SetId::new(0), 1), 1);
     timers.set(TimerName::T6(0), 1);
@@ -14,6 +15,9 @@ fn start(timers: &mut Timers) {
     timers.set(TimerName::T6(1), 2);
     timers.set(TimerName::T1(LinkId::new(0)), 1);
     timers.clear(TimerName::T1(LinkId::new(0)));
+    timers.start_unless_running(TimerName::L6(LinkId::new(0)), 1);
+    timers.start_unless_running(TimerName::L7(LinkId::new(0)), 2);
+    timers.start_unless_running(TimerName::T6(0), 2);
 }
 
 /// Whether this is due next.
@@ -24,7 +28,8 @@ fn is_next(timers: &mut Timers, name: Option<TimerName>) -> bool {
 /// Whether those that run out in the next tick come in the order of their names.
 fn come_in_order(timers: &mut Timers) -> bool {
     timers.tick();
-    is_next(timers, Some(TimerName::L7(LinkId::new(0))))
+    is_next(timers, Some(TimerName::L6(LinkId::new(0))))
+        && is_next(timers, Some(TimerName::L7(LinkId::new(0))))
         && is_next(timers, Some(TimerName::T6(0)))
         && is_next(timers, Some(TimerName::T10(SetId::new(0), 1)))
         && is_next(timers, None)
