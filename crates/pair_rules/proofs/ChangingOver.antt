@@ -35,7 +35,7 @@ use Rattle.exchange_rules.specs.ChangingOver.{acknowledge_changeover, changeover
 use Rattle.exchange_rules.specs.Rerouting.{without_tests}
 use Rattle.exchange_rules.specs.Points.{entry_of, peer_of, set_of}
 use Rattle.exchange_rules.specs.Made.{management_to, send_anew}
-use Rattle.exchange_rules.proofs.Changes.{made-management}
+use Rattle.exchange_rules.proofs.OwnManagement.{made-management}
 use Rattle.exchange_rules.proofs.Fitting.{Fits, fit-steps}
 use Rattle.exchange_rules.proofs.Lists.{alike-at}
 use Rattle.exchange_rules.proofs.SteppingFailures.{concluded-steps}

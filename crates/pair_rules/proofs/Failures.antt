@@ -20,7 +20,7 @@ use Rattle.exchange_rules.specs.Suspending.{suspended}
 use Rattle.exchange_rules.specs.Failing.{begin, begin_by_peer, change_over, changeover_of, changeover_order, changing, fail, fail_by_peer, fail_link, has_other, make_unavailable}
 use Rattle.exchange_rules.specs.Rerouting.{without_tests}
 use Rattle.exchange_rules.specs.Points.{entry_of, peer_of, set_of}
-use Rattle.exchange_rules.proofs.Changes.{made-management}
+use Rattle.exchange_rules.proofs.OwnManagement.{made-management}
 use Rattle.exchange_rules.proofs.Fitting.{Fits, StaysFit, fit-steps}
 use Rattle.exchange_rules.proofs.SteppingFailures.{failing_by_peer-steps, fell-steps, timed_changeover-timed}
 use Rattle.pair_moves.specs.Failing.{with_failure}

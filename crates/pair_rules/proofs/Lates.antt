@@ -22,7 +22,7 @@ use Rattle.exchange_rules.specs.State.{Node, answer, with_parts}
 use Rattle.exchange_rules.specs.Queues.{WholeQueues, whole}
 use Rattle.exchange_rules.specs.ChangingBack.{changeback_acknowledgement, freed, late_code, late_time, on_changeback_acknowledgement, on_changeback_declaration}
 use Rattle.exchange_rules.specs.Rerouting.{rerouting_ended}
-use Rattle.exchange_rules.proofs.Changes.{made-management}
+use Rattle.exchange_rules.proofs.OwnManagement.{made-management}
 use Rattle.exchange_rules.proofs.Fitting.{StaysFit, fit-steps}
 use Rattle.exchange_rules.proofs.SteppingEvents.{run_timer-steps}
 use Rattle.exchange_rules.proofs.SteppingLocal.{freed-steps}

@@ -44,7 +44,7 @@ use Rattle.pair_rules.proofs.Flights.{IsFirst, changed-here, changed-other, chan
 
 -- ---- a frame is fetched only from a link that is there
 
-taken-there : (c : Configuration) (link : ℕ) (n : Node WholeQueues) (frame : FrameValue) → frame_taken whole c link n ≡ Some frame → link < length n.parts.links
+pub taken-there : (c : Configuration) (link : ℕ) (n : Node WholeQueues) (frame : FrameValue) → frame_taken whole c link n ≡ Some frame → link < length n.parts.links
 taken-there c link n frame e =
     ⊎_elim (λ (l : link < length n.parts.links). l)
     (λ (l : length n.parts.links ≤ link).
@@ -150,13 +150,14 @@ module _ (c z : Configuration) (j : IsJoined c z) (apart : c.own ≢ z.own) (net
         }
 
     pub submit-stands : (message : Message) → Stands c z p → Stands c z (pairs.submit message p).left
-    submit-stands message s = by (nat_le 4 (service_indicator message)) (nat_eq (dpc_of message) z.own) refl refl
+    submit-stands message s = by (nat_le 4 (service_indicator message)) (nat_le 4 (length message.sif)) (nat_eq (dpc_of message) z.own) refl refl
       where
-        by : (b d : Bool) → nat_le 4 (service_indicator message) ≡ b → nat_eq (dpc_of message) z.own ≡ d
-            → Stands c z (if b && d then submitted_pair message else record { outcome = Refused causes.NotInProfile; left = p }).left
-        by true true e f = handed-over message s e (equal (dpc_of message) z.own f)
-        by true false e f = s
-        by false d e f = s
+        by : (b l d : Bool) → nat_le 4 (service_indicator message) ≡ b → nat_eq (dpc_of message) z.own ≡ d
+            → Stands c z (if b && (l && d) then submitted_pair message else record { outcome = Refused causes.NotInProfile; left = p }).left
+        by true true true e f = handed-over message s e (equal (dpc_of message) z.own f)
+        by true true false e f = s
+        by true false d e f = s
+        by false l d e f = s
 
     pub take-stands : (link : ℕ) → Stands c z p → Stands c z (take_frame (frame_to_take whole p.near.exchange link) link p).left
     take-stands link s = by (frame_taken whole c link n) refl

@@ -71,9 +71,13 @@ in_flight frames link = slice_index_or frames link []
 abbrev pub ignored : PairState → Turn
 ignored p = record { outcome = Ignored; left = p }
 
--- whether a message may be handed over: it is a user message of the user parts 4 to 15, for the far end
+-- whether a message is of the user parts 4 to 15, and has a label that leads to a point
+abbrev pub is_for : (point : ℕ) → Message → Bool
+is_for point m = nat_le 4 (service_indicator m) && (nat_le 4 (length m.sif) && nat_eq (dpc_of m) point)
+
+-- whether a message may be handed over: it is one for the far end
 abbrev pub is_for_far : PairState → Message → Bool
-is_for_far p m = nat_le 4 (service_indicator m) && nat_eq (dpc_of m) p.far.exchange.settings.own
+is_for_far p m = is_for p.far.exchange.settings.own m
 
 -- it was accepted where it stands in a queue or in Held
 abbrev pub accepted_by : Outcome → Message → List Message

@@ -1,0 +1,5 @@
+pub mod Newly
+pub mod Reached
+pub mod Rules
+pub mod Turns
+pub mod Promised

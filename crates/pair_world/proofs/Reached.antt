@@ -1,0 +1,54 @@
+-- What holds of a pair that some steps led to.
+use Rattle.std.proofs.Common.{◌≡◌, List, [], ◌∷◌, ◌++◌, length, refl, ap, sym, subst, ◌∙◌}
+use Rattle.settings_rows.specs.Configuration.{Configuration}
+use Rattle.exchange_rules.specs.Lasting.{HasAllPlaces}
+use Rattle.pair_rules.specs.Pairs.{PairState, Step, after_steps, first_pair, turn, turned}
+use Rattle.pair_rules.specs.Promises.{AreJoined}
+use Rattle.pair_rules.proofs.Standing.{Stands}
+use Rattle.pair_rules.proofs.AllSteps.{AreFacing, facing-back, stands-turned}
+use Rattle.pair_rules.proofs.Promised.{all-stand, are-facing}
+use Rattle.pair_world.specs.Stands.{IsReached}
+
+-- the near end has all its places, and the far end a list of frames for each of its links
+pub record IsReady (p : PairState) : Type 0 where
+  pub places : HasAllPlaces p.near.exchange.settings p.near.exchange.node
+  pub many : length p.far.incoming ≡ length p.near.exchange.node.parts.links
+
+ready : (c z : Configuration) → AreFacing c z → (p : PairState) → Stands c z p → IsReady p
+ready c z f p s = record {
+  places = subst (λ (x : Configuration). HasAllPlaces x p.near.exchange.node) (sym s.near_settings) s.near_good.fits.places;
+  many = s.far_texts.many ∙ f.near_joined.many ∙ sym s.near_good.fits.places.parts.links;
+}
+
+-- at both ends
+pub record AreReady (p : PairState) : Type 0 where
+  pub near : IsReady p
+  pub far : IsReady (turned p)
+
+pub reached-ready : (p : PairState) → IsReached p → AreReady p
+reached-ready p r =
+    let f : AreFacing r.near r.far = are-facing r.near r.far r.joined in
+    let q : PairState = after_steps r.steps (first_pair r.near r.far) in
+    let s : Stands r.near r.far q = all-stand r.near r.far r.steps r.joined in
+    subst AreReady (sym r.by) (record {
+      near = ready r.near r.far f q s;
+      far = ready r.far r.near (facing-back r.near r.far f) (turned q) (stands-turned r.near r.far f q s);
+    })
+
+-- ---- one step more
+
+steps-more : (steps : List Step) (step : Step) (p : PairState) → after_steps (steps ++ step ∷ []) p ≡ (turn step (after_steps steps p)).left
+steps-more [] step p = refl
+steps-more (first ∷ steps) step p = steps-more steps step (turn first p).left
+
+pub reached-more : (step : Step) (p : PairState) → IsReached p → IsReached (turn step p).left
+reached-more step p r = record {
+  near = r.near;
+  far = r.far;
+  joined = r.joined;
+  steps = r.steps ++ step ∷ [];
+  by = ap (λ (q : PairState). (turn step q).left) r.by ∙ sym (steps-more r.steps step (first_pair r.near r.far));
+}
+
+pub reached-first : (near far : Configuration) → AreJoined near far → IsReached (first_pair near far)
+reached-first near far j = record { near = near; far = far; joined = j; steps = []; by = refl }

@@ -1,0 +1,228 @@
+-- What becomes of what is done at one end, on what is kept, is what is kept of what becomes of it.
+use Rattle.std.proofs.Common.{◌≡◌, ◌<◌, ℕ, Bool, true, false, List, [], ◌∷◌, ◌++◌, length, Option, Some, None, nat_lt, refl, ap, sym, subst, ◌∙◌, arith}
+use Rattle.std.specs.Prelude.{if◌then◌else◌, drop, slice_get, slice_set}
+use Rattle.std.specs.Option.{option_map}
+use Rattle.std.proofs.lemmas.Bool.Decides.{nat_tests}
+use Rattle.std.proofs.lemmas.List.{set-get_or}
+use Rattle.signalling_types.specs.Message.{Message}
+use Rattle.settings_rows.specs.Configuration.{Configuration}
+use Rattle.signalling_types.specs.declared.cause.Cause.TheVariants.{NotInProfile}
+use Rattle.signalling_types.specs.declared.outcome.Outcome.TheVariants.{Handled, Ignored, Refused}
+use Rattle.m2pa_codec.specs.Frames.{FrameValue, spelled}
+use Rattle.exchange_rules.specs.declared.wants.Wants.{Wants}
+use Rattle.exchange_rules.specs.declared.wants.Wants.TheVariants as wants
+use Rattle.exchange_rules.specs.State.{Node}
+use Rattle.exchange_rules.specs.Queues.{WholeQueues, whole}
+use Rattle.exchange_rules.specs.Happening.{Happening, CameUp, WentDown, FrameCame, Ticked, Submitted, Activated, Deactivated}
+use Rattle.exchange_rules.specs.Sending.{Outgoing, SendsStatus, SendsMessage, Acknowledges, SendsNothing, frame_from, after_sending, goes_out}
+use Rattle.exchange_rules.specs.Exchange.{after, outcome_of, frame_to_take, taken}
+use Rattle.exchange_rules.specs.Sound.{Abstract, IsSound}
+use Rattle.exchange.specs.KeptQueues.{kept}
+use Rattle.exchange.specs.Stands.{StandsFor, kept_of}
+use Rattle.exchange.proofs.Standing.{stands-after, stands-outcome, stands-frame, stands-taken}
+use Rattle.pair_rules.specs.Pairs.{PairState, Turn, Doing, Submits, Takes, Delivers, Loses, Ticks, Activates, Deactivates, accepted_by, deliver_frame, did, happens, ignored, in_flight, is_for, opens_by, submit, take_frame}
+use Rattle.pair_rules.proofs.Steps.{taken-there}
+use Rattle.pair_world.specs.KeptEnds.{end_happens, end_submits, end_hears, end_delivers, kept_end_of}
+use Rattle.pair_world.specs.KeptPairs.{KeptTurn, alone, kept_did, kept_fetched, kept_ignored, kept_opens, kept_pair_of, kept_takes, kept_turn_of}
+use Rattle.pair_world.proofs.Newly.{newly-same, stands-itself}
+use Rattle.pair_world.proofs.Reached.{IsReady}
+
+-- it is what is kept, and both exchanges stay sound
+pub record IsSame (k : KeptTurn) (t : Turn) : Type 0 where
+  pub turn : k ≡ kept_turn_of t
+  pub near : IsSound t.left.near.exchange
+  pub far : IsSound t.left.far.exchange
+
+-- ---- a take that gives nothing changes nothing
+
+nothing-sent : (c : Configuration) (link last_accepted last_sent : ℕ) (n : Node WholeQueues) (out : Outgoing) → frame_from last_accepted last_sent out ≡ None → after_sending whole c link n out ≡ n
+nothing-sent c link last_accepted last_sent n (SendsStatus status) e = absurd cc
+nothing-sent c link last_accepted last_sent n (SendsMessage next) e = absurd cc
+nothing-sent c link last_accepted last_sent n Acknowledges e = absurd cc
+nothing-sent c link last_accepted last_sent n SendsNothing e = refl
+
+nothing-taken : (a : Abstract) (link : ℕ) → frame_to_take whole a link ≡ None → taken whole a link ≡ a
+nothing-taken a link e =
+    ap (λ (n : Node WholeQueues). record { settings = a.settings; node = n })
+    (nothing-sent a.settings link (whole.last_accepted a.node.queues link) (whole.last_sent a.node.queues link) a.node (goes_out whole a.settings link a.node) e)
+
+not-there : (link count : ℕ) → link < count → nat_lt link count ≡ true
+not-there link count l = grind (arith, nat_tests, l)
+
+module _ (p : PairState) (near : IsSound p.near.exchange) (far : IsSound p.far.exchange) where
+  abbrev a : Abstract
+  a = p.near.exchange
+
+  abbrev k : StandsFor (kept_of a) a
+  k = stands-itself a near
+
+  -- ---- something happens
+
+  happens-same : (what : Happening) → IsSame (alone (end_happens what (kept_end_of p.near)) (kept_end_of p.far)) (happens what p)
+  happens-same what =
+      let o = stands-outcome what (kept_of a) a k in
+      let s = stands-after what (kept_of a) a k in
+      record {
+        turn = λ i. record {
+          outcome = o i;
+          left = record {
+            near = record { exchange = s.kept i; incoming = p.near.incoming; accepted = p.near.accepted; received = p.near.received };
+            far = kept_end_of p.far;
+          };
+        };
+        near = s.sound;
+        far = far;
+      }
+
+  -- ---- a message is handed over
+
+  abbrev handed-over : (m : Message) → Turn
+  handed-over m = record {
+    outcome = outcome_of whole (Submitted m) a;
+    left = record p {
+      near = record p.near {
+        exchange = after whole (Submitted m) a;
+        accepted = p.near.accepted ++ accepted_by (outcome_of whole (Submitted m) a) m;
+      };
+    };
+  }
+
+  submit-by : (b : Bool) (m : Message)
+      → IsSame
+      (alone (if b then record {
+        outcome = outcome_of kept (Submitted m) (kept_of a);
+        left = record (kept_end_of p.near) {
+          exchange = after kept (Submitted m) (kept_of a);
+          accepted = p.near.accepted ++ accepted_by (outcome_of kept (Submitted m) (kept_of a)) m;
+        };
+      }
+      else record { outcome = Refused NotInProfile; left = kept_end_of p.near }) (kept_end_of p.far))
+      (if b then handed-over m else record { outcome = Refused NotInProfile; left = p })
+  submit-by true m =
+      let o = stands-outcome (Submitted m) (kept_of a) a k in
+      let s = stands-after (Submitted m) (kept_of a) a k in
+      record {
+        turn = λ i. record {
+          outcome = o i;
+          left = record {
+            near = record {
+              exchange = s.kept i;
+              incoming = p.near.incoming;
+              accepted = p.near.accepted ++ accepted_by (o i) m;
+              received = p.near.received;
+            };
+            far = kept_end_of p.far;
+          };
+        };
+        near = s.sound;
+        far = far;
+      }
+  submit-by false m = record { turn = refl; near = near; far = far }
+
+  -- ---- a frame is fetched
+
+  fetch-by : (link : ℕ) → IsReady p → (frame : Option FrameValue) (b : Bool) → frame_to_take whole a link ≡ frame → nat_lt link (length p.far.incoming) ≡ b
+      → IsSame (if b then kept_fetched (option_map spelled frame) link (kept_pair_of p) else kept_ignored (kept_pair_of p)) (take_frame frame link p)
+  fetch-by link ready None true e t =
+      let x = (stands-taken link (kept_of a) a k).kept ∙ ap kept_of (nothing-taken a link e) in
+      let y = set-get_or p.far.incoming link [] in
+      record {
+        turn = λ i. record {
+          outcome = Ignored;
+          left = record {
+            near = record { exchange = x i; incoming = p.near.incoming; accepted = p.near.accepted; received = p.near.received };
+            far = record { exchange = kept_of p.far.exchange; incoming = y i; accepted = p.far.accepted; received = p.far.received };
+          };
+        };
+        near = near;
+        far = far;
+      }
+  fetch-by link ready None false e t = record { turn = refl; near = near; far = far }
+  fetch-by link ready (Some frame) true e t =
+      let s = stands-taken link (kept_of a) a k in
+      record {
+        turn = λ i. record {
+          outcome = Handled;
+          left = record {
+            near = record { exchange = s.kept i; incoming = p.near.incoming; accepted = p.near.accepted; received = p.near.received };
+            far = record {
+              exchange = kept_of p.far.exchange;
+              incoming = slice_set p.far.incoming link (in_flight p.far.incoming link ++ spelled frame ∷ []);
+              accepted = p.far.accepted;
+              received = p.far.received;
+            };
+          };
+        };
+        near = s.sound;
+        far = far;
+      }
+  fetch-by link ready (Some frame) false e t =
+      let there : link < length p.far.incoming = subst (λ (n : ℕ). link < n) (sym ready.many) (taken-there a.settings link a.node frame e) in
+      let not_there : nat_lt link (length p.far.incoming) ≡ true = not-there link (length p.far.incoming) there in
+      absurd cc
+
+  take-same : (link : ℕ) → IsReady p → IsSame (kept_takes link (kept_pair_of p)) (take_frame (frame_to_take whole a link) link p)
+  take-same link ready =
+      subst (λ (frame : Option FrameValue).
+      IsSame (if nat_lt link (length p.far.incoming) then kept_fetched (option_map spelled frame) link (kept_pair_of p) else kept_ignored (kept_pair_of p))
+      (take_frame (frame_to_take whole a link) link p))
+      (sym (stands-frame link (kept_of a) a k))
+      (fetch-by link ready (frame_to_take whole a link) (nat_lt link (length p.far.incoming)) refl refl)
+
+  -- ---- a frame comes
+
+  hear-by : (link : ℕ) → IsReady p → (text : Option (List ℕ)) → IsSame (alone (end_hears text link (kept_end_of p.near)) (kept_end_of p.far)) (deliver_frame text link p)
+  hear-by link ready None = record { turn = refl; near = near; far = far }
+  hear-by link ready (Some text) =
+      let o = stands-outcome (FrameCame link text) (kept_of a) a k in
+      let s = stands-after (FrameCame link text) (kept_of a) a k in
+      let r = newly-same link text a near ready.places in
+      record {
+        turn = λ i. record {
+          outcome = o i;
+          left = record {
+            near = record {
+              exchange = s.kept i;
+              incoming = slice_set p.near.incoming link (drop 1 (in_flight p.near.incoming link));
+              accepted = p.near.accepted;
+              received = p.near.received ++ r i;
+            };
+            far = kept_end_of p.far;
+          };
+        };
+        near = s.sound;
+        far = far;
+      }
+
+  -- ---- a link opens
+
+  pub opens-same : (v w : Wants) (link : ℕ) → IsSame (kept_opens v w link (kept_pair_of p)) (opens_by v w link p)
+  opens-same wants.Open wants.Open link =
+      let s = stands-after (CameUp link) (kept_of a) a k in
+      let t = stands-after (CameUp link) (kept_of p.far.exchange) p.far.exchange (stands-itself p.far.exchange far) in
+      record {
+        turn = λ i. record {
+          outcome = Handled;
+          left = record {
+            near = record { exchange = s.kept i; incoming = slice_set p.near.incoming link []; accepted = p.near.accepted; received = p.near.received };
+            far = record { exchange = t.kept i; incoming = slice_set p.far.incoming link []; accepted = p.far.accepted; received = p.far.received };
+          };
+        };
+        near = s.sound;
+        far = t.sound;
+      }
+  opens-same wants.Open wants.Nothing link = record { turn = refl; near = near; far = far }
+  opens-same wants.Open wants.Close link = record { turn = refl; near = near; far = far }
+  opens-same wants.Nothing w link = record { turn = refl; near = near; far = far }
+  opens-same wants.Close w link = record { turn = refl; near = near; far = far }
+
+  -- ---- all that is done at one end
+
+  pub did-same : (what : Doing) → IsReady p → IsSame (kept_did what (kept_pair_of p)) (did what p)
+  did-same (Submits m) ready = submit-by (is_for p.far.exchange.settings.own m) m
+  did-same (Takes link) ready = take-same link ready
+  did-same (Delivers link) ready = hear-by link ready (slice_get (in_flight p.near.incoming link) 0)
+  did-same (Loses link) ready = happens-same (WentDown link)
+  did-same Ticks ready = happens-same Ticked
+  did-same (Activates link) ready = happens-same (Activated link)
+  did-same (Deactivates link) ready = happens-same (Deactivated link)

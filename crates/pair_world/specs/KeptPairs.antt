@@ -1,0 +1,89 @@
+-- Both ends of a pair as the code keeps them, and what becomes of a step.
+use Rattle.std.specs.Prelude.{ℕ, nat_lt, List, length, slice_set, Option, if◌then◌else◌}
+use Rattle.signalling_types.specs.declared.outcome.Outcome.{Outcome}
+use Rattle.signalling_types.specs.declared.outcome.Outcome.TheVariants.{Handled, Ignored}
+use Rattle.exchange_rules.specs.declared.wants.Wants.{Wants}
+use Rattle.exchange_rules.specs.declared.wants.Wants.TheVariants.{Open}
+use Rattle.exchange_rules.specs.Happening.{WentDown, Ticked, Activated, Deactivated}
+use Rattle.exchange_rules.specs.Exchange.{taken, wants_of}
+use Rattle.exchange.specs.KeptQueues.{kept}
+use Rattle.pair_rules.specs.Pairs.{PairState, Doing, Submits, Takes, Delivers, Loses, Ticks, Activates, Deactivates}
+use Rattle.pair_rules.specs.Pairs.{Step, AtNear, AtFar, Opens, Turn, in_flight}
+use Rattle.pair_world.specs.KeptEnds.{KeptEnd, EndTurn, kept_end_of, end_happens, end_submits, end_delivers, end_opens}
+use Rattle.pair_world.specs.KeptEnds.{text_to_take, behind, take_outcome}
+
+pub record KeptPair : Type 0 where
+  pub near : KeptEnd
+  pub far : KeptEnd
+
+-- what is kept of a pair
+abbrev pub kept_pair_of : PairState → KeptPair
+kept_pair_of p = record { near = kept_end_of p.near; far = kept_end_of p.far }
+
+abbrev pub both : (near far : KeptEnd) → KeptPair
+both near far = record { near = near; far = far }
+
+-- the same, seen from the far end
+abbrev pub turned_kept : KeptPair → KeptPair
+turned_kept p = both p.far p.near
+
+-- what became of a step, and what it left
+pub record KeptTurn : Type 0 where
+  pub outcome : Outcome
+  pub left : KeptPair
+
+-- what is kept of that
+abbrev pub kept_turn_of : Turn → KeptTurn
+kept_turn_of t = record { outcome = t.outcome; left = kept_pair_of t.left }
+
+-- a step that did nothing
+abbrev pub kept_ignored : KeptPair → KeptTurn
+kept_ignored p = record { outcome = Ignored; left = p }
+
+-- what was done at the near end alone
+abbrev pub alone : EndTurn → (far : KeptEnd) → KeptTurn
+alone d far = record { outcome = d.outcome; left = both d.left far }
+
+-- a frame of the near end's link is fetched, if there is one
+abbrev pub kept_fetched : Option (List ℕ) → (link : ℕ) → KeptPair → KeptTurn
+kept_fetched text link p = record {
+  outcome = take_outcome text;
+  left = record {
+    near = record p.near { exchange = taken kept p.near.exchange link };
+    far = record p.far { incoming = slice_set p.far.incoming link (behind (in_flight p.far.incoming link) text) };
+  };
+}
+
+abbrev pub kept_takes : (link : ℕ) → KeptPair → KeptTurn
+kept_takes link p =
+    if nat_lt link (length p.far.incoming)
+    then kept_fetched (text_to_take p.near.exchange link) link p
+    else kept_ignored p
+
+-- what is done at the near end
+abbrev pub kept_did : Doing → KeptPair → KeptTurn
+kept_did (Submits m) p = alone (end_submits p.far.exchange.settings.own m p.near) p.far
+kept_did (Takes link) p = kept_takes link p
+kept_did (Delivers link) p = alone (end_delivers link p.near) p.far
+kept_did (Loses link) p = alone (end_happens (WentDown link) p.near) p.far
+kept_did Ticks p = alone (end_happens Ticked p.near) p.far
+kept_did (Activates link) p = alone (end_happens (Activated link) p.near) p.far
+kept_did (Deactivates link) p = alone (end_happens (Deactivated link) p.near) p.far
+
+-- a link opens where both ends want it to
+abbrev pub kept_opens : (near far : Wants) → (link : ℕ) → KeptPair → KeptTurn
+kept_opens Open Open link p = record {
+  outcome = Handled;
+  left = both (end_opens link p.near) (end_opens link p.far);
+}
+kept_opens near far link p = kept_ignored p
+
+-- the same step, seen from the far end
+abbrev pub turned_back : KeptTurn → KeptTurn
+turned_back t = record { outcome = t.outcome; left = turned_kept t.left }
+
+-- what becomes of a step
+abbrev pub kept_turn : Step → KeptPair → KeptTurn
+kept_turn (AtNear what) p = kept_did what p
+kept_turn (AtFar what) p = turned_back (kept_did what (turned_kept p))
+kept_turn (Opens link) p = kept_opens (wants_of p.near.exchange link) (wants_of p.far.exchange link) link p

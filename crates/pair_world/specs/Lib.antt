@@ -1,0 +1,6 @@
+pub mod Faults
+pub mod KeptEnds
+pub mod KeptPairs
+pub mod Told
+pub mod Stands
+pub mod Promised

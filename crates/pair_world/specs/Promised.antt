@@ -1,0 +1,26 @@
+-- What a pair promises of the messages that its near end accepted and its far end received.
+use Rattle.std.specs.Prelude.{◌≡◌, ◌+◌, Bool, List, ◌++◌, count_by}
+use Rattle.signalling_types.specs.Message.{Message}
+use Rattle.signalling_types.specs.declared.point.Flow.{Flow}
+use Rattle.pair_rules.specs.Pairs.{PairState}
+use Rattle.pair_rules.specs.Promises.{BothWays, IsPunctual, LostNothing, of_flow, user, waiting}
+use Rattle.pair_world.specs.KeptPairs.{KeptPair}
+use Rattle.pair_world.specs.Stands.{StandsFor}
+
+-- while neither end may have lost a message: of every kind of user message, as many were accepted as were received and
+-- as wait at the near end
+abbrev pub ComeOnce : PairState → (accepted received : List Message) → Type 0
+ComeOnce p accepted received =
+    LostNothing p → (test : Message → Bool) →
+    count_by (user test) accepted ≡ count_by (user test) received + count_by (user test) (waiting p)
+
+-- while besides no timer of the near end ended a hold: the messages of each flow that were accepted are, in order,
+-- those that were received, and then those that wait
+abbrev pub ComeInOrder : PairState → (accepted received : List Message) → Type 0
+ComeInOrder p accepted received =
+    LostNothing p → IsPunctual p → (flow : Flow) →
+    of_flow flow accepted ≡ of_flow flow received ++ of_flow flow (waiting p)
+
+-- while neither end may have lost a message, this holds in both directions of every abstract pair that it stands for
+abbrev pub HoldsBothWays : (PairState → Type 0) → KeptPair → Type 0
+HoldsBothWays Statement k = (p : PairState) → StandsFor k p → LostNothing p → BothWays Statement p

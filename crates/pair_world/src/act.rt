@@ -1,0 +1,43 @@
+//! What is done at one end of a pair, the near one.
+
+ghost use Rattle.std.specs.Prelude.{◌≡◌, IfOk, OnOk, OnErr};
+ghost use Rattle.pair_world.specs.Told.{told};
+ghost use Rattle.pair_world.specs.KeptPairs.{both, kept_did, kept_takes};
+
+use crate::side::Side;
+use crate::step::Doing;
+use exchange::{Event, NoMemory, Order};
+use stp_types::{LinkId, Outcome};
+
+/// Does what is done at the near end. After NoMemory nothing has changed.
+pub(crate) fn act(near: &mut Side, far: &mut Side, what: Doing) -> Result<Outcome, NoMemory>
+    ensures outcome { IfOk result (λ outcome. outcome ≡ (kept_did (told what) (both near.old far.old)).outcome) }
+    ensures near { OnOk result (near.new ≡ (kept_did (told what) (both near.old far.old)).left.near) }
+    ensures far { OnOk result (far.new ≡ (kept_did (told what) (both near.old far.old)).left.far) }
+    ensures same_near { OnErr result (near.new ≡ near.old) }
+    ensures same_far { OnErr result (far.new ≡ far.old) }
+{
+    match what {
+        Doing::Submit(message) => near.submit(message, far.own()),
+        Doing::Take(link) => take(near, far, link),
+        Doing::Deliver(link) => near.deliver(link),
+        Doing::Lose(link) => Ok(near.happen(&Event::AssociationDown(link))),
+        Doing::Tick => Ok(near.happen(&Event::Tick)),
+        Doing::Activate(link) => Ok(near.happen(&Event::Order(Order::Activate(link)))),
+        Doing::Deactivate(link) => Ok(near.happen(&Event::Order(Order::Deactivate(link)))),
+    }
+}
+
+/// The next frame of a link is fetched from the near end, and is then in flight to the far end.
+fn take(near: &mut Side, far: &mut Side, link: LinkId) -> Result<Outcome, NoMemory>
+    ensures outcome { IfOk result (λ outcome. outcome ≡ (kept_takes link (both near.old far.old)).outcome) }
+    ensures near { OnOk result (near.new ≡ (kept_takes link (both near.old far.old)).left.near) }
+    ensures far { OnOk result (far.new ≡ (kept_takes link (both near.old far.old)).left.far) }
+    ensures same_near { OnErr result (near.new ≡ near.old) }
+    ensures same_far { OnErr result (far.new ≡ far.old) }
+{
+    if !far.has(link) {
+        return Ok(Outcome::Ignored);
+    }
+    far.take_from(near, link)
+}

@@ -1,0 +1,38 @@
+//! The four laws of a link, of a pair at any time: they hold in both directions while neither exchange
+//! may have lost a message (`specs/Laws.antt` of `pair_rules`). Each function says its law by its
+//! contract, and does nothing.
+
+ghost use Rattle.pair_rules.specs.Laws.{IsCarried, NoneIsLeft, AreFinal, MovesLacked};
+ghost use Rattle.pair_world.specs.Promised.{HoldsBothWays};
+
+use crate::pair::Pair;
+
+/// Law (i). While a link is up at either end, and until the near end's changeover of it is complete,
+/// the far end received no fewer messages than are confirmed, and no more than were sent; and while
+/// the link isn't down there, the frames in flight carry those between, in order (RFC 4165 §2.2). A
+/// message that a frame newly carries is the first that the far end lacked.
+pub fn frames_carry_what_was_not_received(pair: &Pair)
+    ensures { HoldsBothWays IsCarried pair.now }
+{}
+
+/// Law (ii). Where both ends want a link to open, no order to change over and no answer about it
+/// stands in Held or unreceived in a queue of either end, and none is in flight to an end on a link
+/// that isn't down there (Q.704 §5.4).
+pub fn links_open_with_no_word_left(pair: &Pair)
+    ensures { HoldsBothWays NoneIsLeft pair.now }
+{}
+
+/// Law (iii). While an order to change over or an answer about a link stands in Held or unreceived
+/// in a queue, the link is down at the end that sends it, and it carries the number of the last
+/// message that was accepted there (Q.704 §5.4, with the numbers of Q.2210).
+pub fn words_carry_the_final_number(pair: &Pair)
+    ensures { HoldsBothWays AreFinal pair.now }
+{}
+
+/// Law (iv). While a link is up at either end, and until an end's changeover of it is complete, the
+/// number of the last message that the peer accepted there names the count of all that it received.
+/// So an order or an answer of the peer that completes the changeover moves the messages that the
+/// peer lacks, and no other (Q.704 §5.4, §5.5).
+pub fn completions_move_what_the_peer_lacks(pair: &Pair)
+    ensures { HoldsBothWays MovesLacked pair.now }
+{}

@@ -1,0 +1,191 @@
+//! Two exchanges that face each other.
+
+ghost use Rattle.std.specs.Prelude.{◌≡◌, ◌↔◌, IfOk, IfErr, OnOk, OnErr};
+ghost use Rattle.stp_types.specs.Facing.{IsFacing};
+ghost use Rattle.exchange.specs.Stands as exchanges;
+ghost use Rattle.pair_rules.specs.Pairs as pairs;
+ghost use Rattle.pair_rules.specs.Pairs.{PairState, first_pair};
+ghost use Rattle.pair_world.specs.Told.{seen_from, other, told, done_at, step_told, kept_at};
+ghost use Rattle.pair_world.specs.KeptPairs.{kept_pair_of, kept_turn, kept_opens};
+ghost use Rattle.pair_world.specs.Stands.{StandsFor};
+ghost use Rattle.pair_world.specs.Promised.{ComeOnce, ComeInOrder};
+
+use crate::act::act;
+use crate::fault::PairFault;
+use crate::side::Side;
+use crate::step::{Doing, End, Step};
+use exchange::{Exchange, NoMemory, Wants};
+use std::alloc::Global;
+use std::marker::Model;
+use stp_types::{LinkId, Msu, Outcome, Settings};
+
+/// Two exchanges that face each other, the frames in flight between them, and all user messages that each of them
+/// accepted from its user parts and received from the other.
+///
+/// It stands for two abstract exchanges that some steps led to from the first on (`StandsFor`): `new` makes it so, and
+/// each `turn` keeps it.
+#[derive(Drop)]
+pub struct Pair {
+    near: Side,
+    far: Side,
+}
+
+impl Model for Pair {
+    ghost use Rattle.pair_world.specs.KeptPairs.{KeptPair};
+
+    ghost Value = { KeptPair };
+
+    ghost use Rattle.std.specs.Coded.{codes};
+    ghost use Rattle.flow_hold.specs.Stored.{hold_set_code};
+    ghost use Rattle.timer_wheel.specs.OneMap.{running_code};
+
+    ghost coded = { Prim.hlevel (codes, hold_set_code, running_code) };
+
+    ghost view = { λ pair. record { near = pair.near; far = pair.far } };
+}
+
+impl Pair {
+    /// A pair of two exchanges that were just booted, with nothing in flight.
+    ///
+    /// NotFacing where the settings don't face each other (`Settings::faces`); NoMemory comes only where a growth was
+    /// refused.
+    pub fn new(alloc: Global, near: Settings, far: Settings) -> Result<Pair, PairFault>
+        // It stands for the first pair of these settings.
+        ensures first { IfOk result (λ pair. StandsFor pair (first_pair near far)) }
+        // There is one only if they face each other,
+        ensures facing { OnOk result (IsFacing near far) }
+        // and the fault says whether they do.
+        ensures fault { IfErr result (λ fault. (fault ≡ PairFault.NotFacing) ↔ (¬ (IsFacing near far))) }
+    {
+        near.are_well();
+        far.are_well();
+        if !near.faces(&far) {
+            return Err(PairFault::NotFacing);
+        }
+        match Pair::boot(alloc, near, far) {
+            Ok(pair) => Ok(pair),
+            Err(NoMemory) => Err(PairFault::NoMemory),
+        }
+    }
+
+    /// Both ends before their first step.
+    fn boot(alloc: Global, near: Settings, far: Settings) -> Result<Pair, NoMemory>
+        ensures { IfOk result (λ pair. pair ≡ kept_pair_of (first_pair near far)) }
+    {
+        let one = Side::boot(alloc, near)?;
+        let two = Side::boot(alloc, far)?;
+        Ok(Pair {
+            near: one,
+            far: two,
+        })
+    }
+}
+
+impl Pair {
+    /// Takes one step, and says what became of it.
+    ///
+    /// It makes its room first: after NoMemory, which comes only where a growth was refused, nothing has changed.
+    pub fn turn(&mut self, step: Step) -> Result<Outcome, NoMemory>
+        // For every abstract pair that it stood for, the outcome is that of the abstract step,
+        ensures outcome { (p : PairState) → StandsFor self.old p →
+            IfOk result (λ outcome. outcome ≡ (pairs.turn (step_told step) p).outcome) }
+        // and the pair stands for the one after it.
+        ensures state { (p : PairState) → StandsFor self.old p →
+            OnOk result (StandsFor self.new (pairs.turn (step_told step) p).left) }
+        ensures unchanged { OnErr result (self.new ≡ self.old) }
+    {
+        self.apply(step)
+    }
+
+    /// All user messages of the user parts 4 to 15 that an end accepted from its user parts, in order.
+    pub fn accepted(&self, end: End) -> &[Msu]
+        ensures accepted { (p : PairState) → StandsFor self.now p → result.now ≡ (seen_from end p).near.accepted }
+        // "Exactly once"
+        ensures once { (p : PairState) → StandsFor self.now p →
+            ComeOnce (seen_from end p) result.now (seen_from end p).far.received }
+        // "Order"
+        ensures order { (p : PairState) → StandsFor self.now p →
+            ComeInOrder (seen_from end p) result.now (seen_from end p).far.received }
+    {
+        self.side(end).accepted()
+    }
+
+    /// All user messages of these parts that frames newly brought to an end from the other, in order.
+    pub fn received(&self, end: End) -> &[Msu]
+        ensures received { (p : PairState) → StandsFor self.now p → result.now ≡ (seen_from end p).near.received }
+        // "Exactly once"
+        ensures once { (p : PairState) → StandsFor self.now p →
+            ComeOnce (seen_from (other end) p) (seen_from (other end) p).near.accepted result.now }
+        // "Order"
+        ensures order { (p : PairState) → StandsFor self.now p →
+            ComeInOrder (seen_from (other end) p) (seen_from (other end) p).near.accepted result.now }
+    {
+        self.side(end).received()
+    }
+
+    /// The exchange of an end.
+    pub fn at(&self, end: End) -> &Exchange
+        ensures { (p : PairState) → StandsFor self.now p →
+            exchanges.StandsFor result.now (seen_from end p).near.exchange }
+    {
+        self.side(end).exchange()
+    }
+
+    /// An end.
+    fn side(&self, end: End) -> &Side
+        ensures { result.now ≡ kept_at end self.now }
+    {
+        match end {
+            End::One => &self.near,
+            End::Two => &self.far,
+        }
+    }
+}
+
+impl Pair {
+    /// Takes one step.
+    fn apply(&mut self, step: Step) -> Result<Outcome, NoMemory>
+        ensures outcome { IfOk result (λ outcome. outcome ≡ (kept_turn (step_told step) self.old).outcome) }
+        ensures state { OnOk result (self.new ≡ (kept_turn (step_told step) self.old).left) }
+        ensures unchanged { OnErr result (self.new ≡ self.old) }
+    {
+        match step {
+            Step::Submit(end, message) => self.act_at(end, Doing::Submit(message)),
+            Step::Take(end, link) => self.act_at(end, Doing::Take(link)),
+            Step::Deliver(end, link) => self.act_at(end, Doing::Deliver(link)),
+            Step::Lose(end, link) => self.act_at(end, Doing::Lose(link)),
+            Step::Tick(end) => self.act_at(end, Doing::Tick),
+            Step::Activate(end, link) => self.act_at(end, Doing::Activate(link)),
+            Step::Deactivate(end, link) => self.act_at(end, Doing::Deactivate(link)),
+            Step::Open(link) => Ok(self.open(link)),
+        }
+    }
+
+    /// Does what is done at an end.
+    fn act_at(&mut self, end: End, what: Doing) -> Result<Outcome, NoMemory>
+        ensures outcome { IfOk result (λ outcome.
+            outcome ≡ (kept_turn (done_at end (told what)) self.old).outcome) }
+        ensures state { OnOk result (self.new ≡ (kept_turn (done_at end (told what)) self.old).left) }
+        ensures unchanged { OnErr result (self.new ≡ self.old) }
+    {
+        match end {
+            End::One => act(&mut self.near, &mut self.far, what),
+            End::Two => act(&mut self.far, &mut self.near, what),
+        }
+    }
+
+    /// A link opens, where both ends want it to.
+    fn open(&mut self, link: LinkId) -> Outcome
+        ensures outcome { result ≡ (kept_turn (pairs.Opens link) self.old).outcome }
+        ensures state { self.new ≡ (kept_turn (pairs.Opens link) self.old).left }
+    {
+        match (self.near.wants(link), self.far.wants(link)) {
+            (Wants::Open, Wants::Open) => {
+                self.near.open(link);
+                self.far.open(link);
+                Outcome::Handled
+            }
+            _ => Outcome::Ignored,
+        }
+    }
+}

@@ -1,0 +1,211 @@
+//! One end of a pair.
+
+ghost use Rattle.std.specs.Prelude.{◌≡◌, ◌<◌, [], nat_lt, length, replicate, slice_set, option_to_list};
+ghost use Rattle.std.specs.Prelude.{IfOk, OnOk, OnErr};
+ghost use Rattle.exchange_rules.specs.Exchange.{taken, wants_of};
+ghost use Rattle.exchange_rules.specs.First.{first_state};
+ghost use Rattle.exchange.specs.Calls.{happened};
+ghost use Rattle.exchange.specs.KeptQueues.{kept};
+ghost use Rattle.exchange.specs.Stands.{kept_of};
+ghost use Rattle.pair_rules.specs.Pairs.{in_flight, is_for, accepted_by, first_end};
+ghost use Rattle.pair_world.specs.KeptEnds.{kept_end_of, end_happens, end_submits, end_delivers, end_opens};
+ghost use Rattle.pair_world.specs.KeptEnds.{text_to_take, behind, take_outcome};
+
+use crate::flight::{Flight, clear_flight, next_in_flight};
+use crate::hearing::{FIRST_USER_PART, add, hand_in};
+use exchange::{Event, Exchange, NoMemory, Wants};
+use routing_label::Label;
+use std::alloc::{AllocError, Global};
+use std::marker::Model;
+use stp_types::{Cause, LinkId, Msu, Outcome, PointCode, Settings};
+
+/// One end: its exchange, the frames in flight to it on each link, and what it accepted and received since it was
+/// booted.
+#[derive(Drop)]
+pub(crate) struct Side {
+    exchange: Exchange,
+    incoming: Vec<Flight>,
+    accepted: Vec<Msu>,
+    received: Vec<Msu>,
+}
+
+impl Model for Side {
+    ghost use Rattle.pair_world.specs.KeptEnds.{KeptEnd};
+
+    ghost Value = { KeptEnd };
+
+    ghost use Rattle.std.specs.Coded.{codes};
+    ghost use Rattle.flow_hold.specs.Stored.{hold_set_code};
+    ghost use Rattle.timer_wheel.specs.OneMap.{running_code};
+
+    ghost coded = { Prim.hlevel (codes, hold_set_code, running_code) };
+
+    ghost view = { λ side. record {
+      exchange = side.exchange;
+      incoming = side.incoming.items;
+      accepted = side.accepted.items;
+      received = side.received.items;
+    } };
+}
+
+impl Side {
+    /// An end with these settings, before its first step.
+    pub(crate) fn boot(alloc: Global, settings: Settings) -> Result<Side, NoMemory>
+        ensures { IfOk result (λ side. side ≡ kept_end_of (first_end settings)) }
+    {
+        let incoming = nothing_in_flight(alloc, settings.link_count())?;
+        let exchange = Exchange::boot(alloc, settings)?;
+        Ok(Side::with(alloc, exchange, incoming))
+    }
+
+    /// An end with this exchange and these frames in flight, which accepted and received nothing yet.
+    fn with(alloc: Global, exchange: Exchange, incoming: Vec<Flight>) -> Side
+        ensures { result ≡ record {
+          exchange = exchange;
+          incoming = incoming.items;
+          accepted = [];
+          received = [];
+        } }
+    {
+        Side {
+            exchange,
+            incoming,
+            accepted: Vec::new(alloc),
+            received: Vec::new(alloc),
+        }
+    }
+
+    /// Its exchange.
+    pub(crate) fn exchange(&self) -> &Exchange
+        ensures { result.now ≡ self.now.exchange }
+    {
+        &self.exchange
+    }
+
+    /// The user messages that it accepted.
+    pub(crate) fn accepted(&self) -> &[Msu]
+        ensures { result.now ≡ self.now.accepted }
+    {
+        self.accepted.as_slice()
+    }
+
+    /// The user messages that it received.
+    pub(crate) fn received(&self) -> &[Msu]
+        ensures { result.now ≡ self.now.received }
+    {
+        self.received.as_slice()
+    }
+
+    /// Its point.
+    pub(crate) fn own(&self) -> PointCode
+        ensures { result ≡ self.now.exchange.settings.own }
+    {
+        self.exchange.settings().own()
+    }
+
+    /// What a link wants.
+    pub(crate) fn wants(&self, link: LinkId) -> Wants
+        ensures { result ≡ wants_of self.now.exchange link }
+    {
+        self.exchange.wants(link)
+    }
+}
+
+impl Side {
+    /// Something happens to its exchange.
+    pub(crate) fn happen(&mut self, event: &Event<'_>) -> Outcome
+        ensures outcome { result ≡ (end_happens (happened event.now result) self.old).outcome }
+        ensures state { self.new ≡ (end_happens (happened event.now result) self.old).left }
+    {
+        self.exchange.step(event)
+    }
+
+    /// A user part hands over a message, which is to be for this point.
+    pub(crate) fn submit(&mut self, message: Msu, point: PointCode) -> Result<Outcome, NoMemory>
+        ensures outcome { IfOk result (λ outcome. outcome ≡ (end_submits point message self.old).outcome) }
+        ensures state { OnOk result (self.new ≡ (end_submits point message self.old).left) }
+        ensures unchanged { OnErr result (self.new ≡ self.old) }
+    {
+        if !is_for(&message, point) {
+            return Ok(Outcome::Refused(Cause::NotInProfile));
+        }
+        self.accepted.reserve(1)?;
+        let outcome = self.exchange.step(&Event::Submit(message.lend()));
+        add(&mut self.accepted, accepted_by(&outcome, message));
+        Ok(outcome)
+    }
+
+    /// The first frame in flight on a link comes, where there is one.
+    pub(crate) fn deliver(&mut self, link: LinkId) -> Result<Outcome, NoMemory>
+        ensures outcome { IfOk result (λ outcome. outcome ≡ (end_delivers link self.old).outcome) }
+        ensures state { OnOk result (self.new ≡ (end_delivers link self.old).left) }
+        ensures unchanged { OnErr result (self.new ≡ self.old) }
+    {
+        self.received.reserve(1)?;
+        match next_in_flight(&mut self.incoming, link) {
+            Some(text) => Ok(hand_in(&mut self.exchange, &mut self.received, link, &text)),
+            None => Ok(Outcome::Ignored),
+        }
+    }
+
+    /// The next frame of a link of the other end's exchange is fetched for this end. Requires that the link is there.
+    pub(crate) fn take_from(&mut self, other: &mut Side, link: LinkId) -> Result<Outcome, NoMemory>
+        requires { link < length self.old.incoming }
+        ensures outcome { IfOk result (λ outcome. outcome ≡ take_outcome (text_to_take other.old.exchange link)) }
+        ensures state { OnOk result (self.new ≡ record self.old {
+          incoming = slice_set self.old.incoming link
+              (behind (in_flight self.old.incoming link) (text_to_take other.old.exchange link));
+        }) }
+        ensures other { OnOk result (other.new ≡ record other.old { exchange = taken kept other.old.exchange link }) }
+        ensures unchanged { OnErr result (self.new ≡ self.old) }
+        ensures same_other { OnErr result (other.new ≡ other.old) }
+    {
+        self.incoming[link.index()].take_from(&mut other.exchange, link)
+    }
+
+    /// Whether a link is there.
+    pub(crate) fn has(&self, link: LinkId) -> bool
+        ensures { result ≡ nat_lt link (length self.now.incoming) }
+    {
+        link.index() < self.incoming.len()
+    }
+
+    /// A link opens, and nothing is in flight on it.
+    pub(crate) fn open(&mut self, link: LinkId)
+        ensures { self.new ≡ end_opens link self.old }
+    {
+        self.exchange.step(&Event::AssociationUp(link));
+        clear_flight(&mut self.incoming, link);
+    }
+}
+
+/// Nothing is in flight on so many links.
+fn nothing_in_flight(alloc: Global, links: usize) -> Result<Vec<Flight>, AllocError>
+    ensures { IfOk result (λ incoming. incoming.items ≡ replicate links []) }
+{
+    let mut incoming = Vec::with_capacity(alloc, links)?;
+    for _ in 0..links {
+        incoming.push(Flight::new(alloc))?;
+    }
+    Ok(incoming)
+}
+
+/// Whether a message is of the user parts 4 to 15, and has a label that leads to this point.
+fn is_for(message: &Msu, point: PointCode) -> bool
+    ensures { result ≡ is_for point message.now }
+{
+    match Label::read(message.sif()) {
+        Some(label) => message.service_indicator() >= FIRST_USER_PART && label.dpc == point,
+        None => false,
+    }
+}
+
+/// The message, where it was accepted: where it stands in a queue or in Held.
+fn accepted_by(outcome: &Outcome, message: Msu) -> Option<Msu>
+    ensures { option_to_list result ≡ accepted_by outcome.now message }
+{
+    match outcome {
+        Outcome::Queued(_) | Outcome::Held => Some(message),
+        Outcome::Local | Outcome::Handled | Outcome::Ignored | Outcome::Refused(_) => None,
+    }
+}

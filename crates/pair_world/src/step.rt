@@ -1,0 +1,54 @@
+//! What is done to a pair.
+
+use stp_types::{LinkId, Msu};
+
+/// One of the two ends of a pair.
+#[derive(Clone, Copy, Debug, PartialEq, Eq)]
+pub enum End {
+    /// The end of the settings that were given first.
+    One,
+    /// The end of the settings that were given second.
+    Two,
+}
+
+/// One step of a pair.
+#[derive(Drop)]
+pub enum Step {
+    /// A user part of an end hands a message over. Refused NotInProfile where it isn't of the user parts 4 to 15, or
+    /// has no label that leads to the other end; else the outcome is that of the exchange.
+    Submit(End, Msu),
+    /// The next frame of a link is fetched from an end, and is then in flight to the other. Ignored where there is
+    /// none.
+    Take(End, LinkId),
+    /// The first frame in flight on a link to an end is handed in there. Ignored where there is none.
+    Deliver(End, LinkId),
+    /// An end loses the association of a link; what is in flight stays so.
+    Lose(End, LinkId),
+    /// A tick passes at an end.
+    Tick(End),
+    /// The operator of an end lets a link open.
+    Activate(End, LinkId),
+    /// The operator of an end keeps a link from opening; it fails there if it isn't down.
+    Deactivate(End, LinkId),
+    /// A link opens at both ends, and nothing is in flight on it then. Ignored unless both ends want it to open.
+    Open(LinkId),
+}
+
+/// What is done at one end.
+#[derive(Drop)]
+pub(crate) enum Doing {
+    /// A user part hands a message over.
+    Submit(Msu),
+    /// The next frame of a link is fetched for the other end.
+    Take(LinkId),
+    /// The first frame in flight on a link is handed in.
+    Deliver(LinkId),
+    /// The association of a link is lost.
+    Lose(LinkId),
+    /// A tick passes.
+    Tick,
+    /// The operator lets a link open.
+    Activate(LinkId),
+    /// The operator keeps a link from opening.
+    Deactivate(LinkId),
+}
