@@ -10,7 +10,7 @@ use exchange::{BUFFER_OCTETS, Event, Exchange};
 use link_number::{Number24, next};
 use m2pa_codec::{Frame, LinkStatus, encode};
 use std::alloc::Global;
-use stp_types::{Limits, LinkId, Msu, MsuRef, Settings, Sls};
+use stp_types::{Limits, LinkId, MsuRef, Settings, Sls};
 
 /// What a link tells on its way into service: Alignment, Proving Normal, Ready.
 const STATUSES: usize = 3;
@@ -44,16 +44,14 @@ pub(crate) struct Peer {
     next_by_first: Number24,
     /// Its frame without a message.
     empty: Incoming,
-    /// The message that a user part of the exchange handed over last.
-    submitted: Msu,
     buffer: [u8; BUFFER_OCTETS],
     total: Total,
 }
 
 impl Peer {
-    /// The peer of an exchange with so many destinations, links and translation rows. The last link of the first set is in service and
-    /// carries all messages, so that the others of its set are looked at in vain. All that is owed was told and
-    /// confirmed. None where memory ran out.
+    /// The peer of an exchange with so many destinations, links and translation rows. The last link of the first set is
+    /// in service and carries all messages, so that the others of its set are looked at in vain. All that is owed was
+    /// told and confirmed. None where memory ran out.
     pub(crate) fn of_exchange_with(
         alloc: Global,
         destinations: usize,
@@ -65,7 +63,6 @@ impl Peer {
         requires links { links ≤ Limits.LINKS }
     {
         let link = sets.last_of_first(links);
-        let submitted = Msu::new(0, &[]).ok()?;
         let exchange = exchange_with(alloc, destinations, links, sets, titles)?;
         let mut peer = Peer {
             exchange,
@@ -73,7 +70,6 @@ impl Peer {
             end: End::first(),
             next_by_first: Number24::zero(),
             empty: Incoming::empty(),
-            submitted,
             buffer: [0; BUFFER_OCTETS],
             total: Total::NOTHING,
         };
@@ -213,11 +209,8 @@ impl Peer {
     }
 
     /// A user part of the exchange hands over a message.
-    pub(crate) fn submit(&mut self, message: MsuRef<'_>)
-        requires { length message.sif.now ≤ Limits.SIF_OCTETS }
-    {
-        self.submitted.refill(message);
-        self.exchange.step(&Event::Submit(self.submitted));
+    pub(crate) fn submit(&mut self, message: MsuRef<'_>) {
+        self.exchange.step(&Event::Submit(message));
     }
 
     /// Takes the next message.

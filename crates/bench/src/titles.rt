@@ -41,8 +41,8 @@ impl Table {
     }
 }
 
-/// So many translation rows, whose addresses lead to a point. Each is of the same key; their digits are the numbers from
-/// 0 on, four hexadecimal digits each, so that no row leads an address that begins with `ffff`.
+/// So many translation rows, whose addresses lead to a point. Each is of the same key; their digits are the numbers
+/// from 0 on, four hexadecimal digits each, so that no row leads an address that begins with `ffff`.
 pub(crate) fn title_drafts(
     alloc: Global,
     count: usize,

@@ -58,8 +58,8 @@ pub(crate) const ASTRAY: Title = [
     0x00,
 ];
 
-/// Octets of such a message beside its data: the label, the message type, the class, three pointers, and each behind its
-/// length, the called address, the calling one and the data.
+/// Octets of such a message beside its data: the label, the message type, the class, three pointers, and each behind
+/// its length, the called address, the calling one and the data.
 pub(crate) const BARE_OCTETS: usize = 4 + 5 + (1 + 11) + (1 + 4) + 1;
 
 /// A frame with a UDT of the adjacent point to this one, of so many octets from its label on.

@@ -22,7 +22,8 @@ change_from destination sls None = []
 module _ (to : ℕ) (before after : Facts) where
   -- the link from which a link takes a flow over
   abbrev pub former_link_of : (destination sls : ℕ) → Option ℕ
-  former_link_of destination sls = former_link to (chosen_link before destination sls) (chosen_link after destination sls)
+  former_link_of destination sls =
+      former_link to (chosen_link before destination sls) (chosen_link after destination sls)
 
   -- the flows of the first so many selections to a destination that it takes over, in order
   unfoldable pub changes_of : (destination count : ℕ) → List FlowChange

@@ -6,7 +6,8 @@ ghost use Rattle.link_sequence.specs.Queue.{Queue};
 ghost use Rattle.link_sequence.specs.Keeps.{Keeps};
 ghost use Rattle.changeover.specs.Failure.{beginning, kept_beginning};
 ghost use Rattle.changeover.specs.Standing.{no_changeover, standing_at, with_standing, may_restart, failed};
-ghost use Rattle.changeover.specs.Standing.{begun_by_peer, completed, acknowledged, completed_by_acknowledgement, expired};
+ghost use Rattle.changeover.specs.Standing.{begun_by_peer, completed, acknowledged, expired};
+ghost use Rattle.changeover.specs.Standing.{completed_by_acknowledgement};
 
 use crate::beginning::Beginning;
 use crate::standing::Progress;

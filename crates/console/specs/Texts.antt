@@ -4,8 +4,8 @@ use Rattle.std.specs.Prelude.{nat_lt, if◌then◌else◌}
 use Rattle.std.specs.Prelude.{Option, Some, None}
 use Rattle.std.specs.Option.{option_map, option_and_then}
 use Rattle.settings_rows.specs.Configuration.{Configuration, TitleEntry}
-use Rattle.settings_rows.specs.declared.title_row.Route.{Route}
-use Rattle.settings_rows.specs.declared.title_row.Route.TheVariants as route
+use Rattle.settings_rows.specs.declared.title_row.TitleRoute.{TitleRoute}
+use Rattle.settings_rows.specs.declared.title_row.TitleRoute.TheVariants as route
 use Rattle.signalling_types.specs.Causes.{cause_number, cause_name}
 use Rattle.signalling_types.specs.Notices.{frame_fault_number, frame_fault_name, failure_name}
 use Rattle.signalling_types.specs.declared.cause.Cause.{Cause}
@@ -119,7 +119,7 @@ abbrev pub title_way_text : Option ℕ → List ℕ
 title_way_text (Some ssn) = codes " title " ++ decimal ssn
 title_way_text None = codes " title -"
 
-abbrev pub way_text : Route → List ℕ
+abbrev pub way_text : TitleRoute → List ℕ
 way_text (route.Title ssn) = title_way_text ssn
 way_text (route.Ssn ssn) = codes " ssn " ++ decimal ssn
 

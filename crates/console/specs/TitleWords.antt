@@ -5,8 +5,8 @@ use Rattle.std.specs.List.{list_all}
 use Rattle.std.specs.Option.{option_map, option_and_then}
 use Rattle.signalling_types.specs.declared.limits.TheConstants.Limits.{TITLE_DIGITS}
 use Rattle.settings_rows.specs.Configuration.{TitleEntry}
-use Rattle.settings_rows.specs.declared.title_row.Route.{Route}
-use Rattle.settings_rows.specs.declared.title_row.Route.TheVariants.{Title, Ssn}
+use Rattle.settings_rows.specs.declared.title_row.TitleRoute.{TitleRoute}
+use Rattle.settings_rows.specs.declared.title_row.TitleRoute.TheVariants.{Title, Ssn}
 use Rattle.settings_check.specs.Checks.{is_digit}
 use Rattle.settings_check.specs.Meaning.{digit_of}
 use Rattle.sccp_codec.specs.declared.title.TitleKey.{TitleKey}
@@ -38,7 +38,7 @@ abbrev pub ssn_written : List ℕ → Option (Option ℕ)
 ssn_written text = if bytes_eq text (codes "-") then Some None else option_map (λ n. Some n) (number_within 1 255 text)
 
 -- how addresses are routed: by title, with a subsystem number beside it, if any, or by a subsystem number
-abbrev pub route_named : (way : List ℕ) → (ssn : Option ℕ) → Option Route
+abbrev pub route_named : (way : List ℕ) → (ssn : Option ℕ) → Option TitleRoute
 route_named way None = if bytes_eq way (codes "title") then Some (Title None) else None
 route_named way (Some ssn) =
     if bytes_eq way (codes "title") then Some (Title (Some ssn))
@@ -46,7 +46,7 @@ route_named way (Some ssn) =
     else None
 
 -- the row of this name that leads to a point, and is routed there in a way
-abbrev pub row_leading : RowName → (point : ℕ) → Route → TitleEntry
+abbrev pub row_leading : RowName → (point : ℕ) → TitleRoute → TitleEntry
 row_leading name point route = record {
   translation = name.key.translation;
   plan = name.key.plan;

@@ -14,7 +14,7 @@ pub enum Command {
     Frame,
     /// `tick N`: so many ticks pass.
     Tick,
-    /// `submit HEX`: a user part hands over a message.
+    /// `submit HEX`: a user part submits a message.
     Submit,
     /// `take LINK`: the next frame that goes out on the link.
     Take,
@@ -22,7 +22,7 @@ pub enum Command {
     Wants,
     /// `activate LINK`: the link may open.
     Activate,
-    /// `deactivate LINK`: the link is taken out of service, and may not open.
+    /// `deactivate LINK`: the link goes out of service, and can't open.
     Deactivate,
     /// `title add T P N DIGITS POINT ROUTE SSN` or `title remove T P N DIGITS`: a translation row is added or removed.
     Title,

@@ -1,4 +1,4 @@
-//! The console of a node: what it shows, a line at a time, and the orders that it takes.
+//! The console of a node: what it shows, line by line, and the orders that it accepts.
 #![tactic(auto)]
 
 pub mod commands;

@@ -1,4 +1,4 @@
-//! The words of a line, one behind another.
+//! The words of a line, one after another.
 
 ghost use Rattle.std.specs.Prelude.{◌≡◌, ◌+◌, ◌≤◌, ◌++◌, length, decimal};
 ghost use Rattle.console.specs.Texts.{cause_text};
@@ -10,7 +10,7 @@ use stp_types::Cause;
 /// Octets of a line, at most.
 pub const LINE_OCTETS: usize = 128;
 
-/// Puts a word and a number in decimal digits behind what is there.
+/// Puts a word and a number in decimal digits at the end of the line.
 pub(crate) fn push_number(line: &mut ArrayString<LINE_OCTETS>, word: &str, number: u64)
     requires { length line.old.bytes + length word.now + 20 ≤ LINE_OCTETS }
     ensures text { line.new.bytes ≡ line.old.bytes ++ word.now ++ decimal number }

@@ -16,7 +16,7 @@ use stp_types::{Limits, LinkId};
 /// in the order of the settings. Q counts the messages that aren't confirmed, F and B are the numbers of the last
 /// message that was sent and of the last that was accepted.
 ///
-/// False past the last line, and then nothing is written.
+/// Returns false, and writes nothing, past the last line.
 pub fn show_links(exchange: &Exchange, k: usize, out: &mut ArrayString<LINE_OCTETS>) -> bool
     // For every abstract state that the exchange stands for, the line is that of the abstract state.
     ensures line { (a : Abstract) → StandsFor exchange.now a →

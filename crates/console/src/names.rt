@@ -5,7 +5,7 @@ ghost use Rattle.console.specs.Names.{name_in, set_name_in};
 
 use stp_types::{Limits, LinkId, SetId, Settings};
 
-/// The name of a link; nothing where no link has this number.
+/// The name of a link; nothing if no link has this number.
 pub fn link_name(settings: &Settings, link: LinkId) -> &str
     ensures name { result.now ≡ name_in settings.now link }
     ensures fits { length result.now ≤ Limits.NAME_OCTETS }

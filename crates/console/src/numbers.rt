@@ -3,7 +3,7 @@
 ghost use Rattle.std.specs.Prelude.{◌≡◌, ◌≤◌, IfSome};
 ghost use Rattle.console.specs.Numbers.{number_within, number_up_to, with_digit, with_digits};
 
-/// The number that a text writes in decimal digits without leading zeros, from the least to the most.
+/// The number that a text gives in decimal digits, without leading zeros, within these bounds.
 pub fn read_number(text: &[u8], least: u16, most: u16) -> Option<u16>
     ensures number { result ≡ number_within least most text.now }
     ensures above { IfSome result (λ number. least ≤ number) }

@@ -16,10 +16,10 @@ use stp_types::{Settings, TitleRow};
 pub enum OrderText<'a> {
     /// `activate LINK`: the link may open.
     Activate {
-        /// The link's name; no link need have it.
+        /// The link's name; there may be no such link.
         link: &'a [u8],
     },
-    /// `deactivate LINK`: the link fails if it isn't down, and may not open.
+    /// `deactivate LINK`: the link fails if it isn't down, and can't open.
     Deactivate {
         /// The link's name; no link need have it.
         link: &'a [u8],
@@ -43,14 +43,14 @@ pub enum OrderText<'a> {
 pub enum Parsed {
     /// This.
     Order(Order),
-    /// No link of the settings has the name that it names.
+    /// An order about a link that the settings don't have.
     NoSuchName,
     /// It is no order.
     Malformed,
 }
 
-/// What a text without a line end orders a node with these settings to do: `activate LINK`, `deactivate LINK`,
-/// `title add T P N DIGITS POINT ROUTE SSN` or `title remove T P N DIGITS`, with one space between the words.
+/// The order that a text, without its line end, gives to a node with these settings: `activate LINK`, `deactivate
+/// LINK`, `title add T P N DIGITS POINT ROUTE SSN` or `title remove T P N DIGITS`, with one space between the words.
 pub fn parse_order(text: &[u8], settings: &Settings) -> Parsed
     ensures { result ≡ parsed_order settings.now text.now }
 {
@@ -88,7 +88,7 @@ fn order_about(command: Command, link: &[u8]) -> Option<OrderText<'_>>
     }
 }
 
-/// The order that a command gives by these words behind it, of which there is more than one.
+/// The order that a command gives with these words after it, two or more.
 pub fn order_by(command: Command, behind: &[u8]) -> Option<OrderText<'_>>
     ensures { instruction_of result ≡ instructed_by command (words behind.now) }
 {

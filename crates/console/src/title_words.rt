@@ -14,7 +14,7 @@ use crate::numbers::read_number;
 use crate::words::cut;
 use arrayvec::ArrayVec;
 use exchange::{TitleDigits, TitleKey};
-use stp_types::{Limits, PointCode, Route, Ssn, TitleRow};
+use stp_types::{Limits, PointCode, Ssn, TitleRoute, TitleRow};
 
 /// The largest translation type.
 const LAST_TRANSLATION: u16 = 255;
@@ -81,7 +81,7 @@ fn row_of(name: &RowName, point: &[u8], route: &[u8], ssn: &[u8]) -> Option<Titl
 }
 
 /// The row of this name that leads to a point, and is routed there in a way.
-fn row_leading(name: &RowName, point: PointCode, route: Route) -> Option<TitleRow>
+fn row_leading(name: &RowName, point: PointCode, route: TitleRoute) -> Option<TitleRow>
     requires { HasTitleRanges name.now.key.plan name.now.key.nature name.now.digits.items }
     ensures { result ≡ Some (row_leading name.now point route) }
 {
@@ -151,13 +151,13 @@ fn digit_value(octet: u8) -> Option<u8>
     }
 }
 
-/// How addresses are routed by the way of this name, with this subsystem number, if any.
-fn route_named(way: &[u8], ssn: Option<Ssn>) -> Option<Route>
+/// How this word says that addresses are routed, with this subsystem number, if any.
+fn route_named(way: &[u8], ssn: Option<Ssn>) -> Option<TitleRoute>
     ensures { result ≡ route_named way.now ssn }
 {
     match ssn {
-        _ if way == b"title".as_slice() => Some(Route::Title(ssn)),
-        Some(ssn) if way == b"ssn".as_slice() => Some(Route::Ssn(ssn)),
+        _ if way == b"title".as_slice() => Some(TitleRoute::Title(ssn)),
+        Some(ssn) if way == b"ssn".as_slice() => Some(TitleRoute::Ssn(ssn)),
         _ => None,
     }
 }

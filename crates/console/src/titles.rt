@@ -8,11 +8,11 @@ ghost use Rattle.console.specs.Texts.{Shows, title_line, title_text, digit_octet
 use crate::line::{LINE_OCTETS, push_small};
 use arrayvec::ArrayString;
 use exchange::Exchange;
-use stp_types::{Limits, Route, Ssn, TitleRow};
+use stp_types::{Limits, Ssn, TitleRoute, TitleRow};
 
-/// Writes line `k`, from 0, of the text of the translation rows: `title T P N DIGITS POINT ROUTE SSN`, one line for each
-/// row, by translation type, plan, nature, then digits, a prefix before what it begins. ROUTE is `title` or `ssn`, and SSN
-/// `-` where the row has none.
+/// Writes line `k`, from 0, of the text of the translation rows: `title T P N DIGITS POINT ROUTE SSN`, one line for
+/// each row, by translation type, plan, nature, then digits, a prefix before the longer ones. ROUTE is `title` or
+/// `ssn`, and SSN `-` where the row has none.
 ///
 /// False past the last line, and then nothing is written.
 pub fn show_titles(exchange: &Exchange, k: usize, out: &mut ArrayString<LINE_OCTETS>) -> bool
@@ -79,13 +79,13 @@ fn digit_char(digit: u8) -> char
 }
 
 /// Puts behind what is there how addresses are routed: ` title SSN` or ` ssn SSN`.
-fn push_way(line: &mut ArrayString<LINE_OCTETS>, route: Route)
+fn push_way(line: &mut ArrayString<LINE_OCTETS>, route: TitleRoute)
     requires { length line.old.bytes + 12 ≤ LINE_OCTETS }
     ensures { line.new.bytes ≡ line.old.bytes ++ way_text route }
 {
     match route {
-        Route::Title(ssn) => push_ssn(line, ssn),
-        Route::Ssn(ssn) => push_small(line, " ssn ", u16::from(ssn.number())),
+        TitleRoute::Title(ssn) => push_ssn(line, ssn),
+        TitleRoute::Ssn(ssn) => push_small(line, " ssn ", u16::from(ssn.number())),
     }
 }
 

@@ -3,7 +3,7 @@
 ghost use Rattle.std.specs.Prelude.{◌≡◌, ◌∷◌};
 ghost use Rattle.console.specs.Words.{words, words_left};
 
-/// What parts the words of a line.
+/// What separates the words of a line.
 const SPACE: u8 = b' ';
 
 /// The first word, and what stands behind the space after it, where there is one.

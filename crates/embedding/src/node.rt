@@ -1,7 +1,7 @@
 //! One node, driven from one loop. Copy this file, and write a network and user parts of your own.
 
 use exchange::{
-    BUFFER_OCTETS, Event, Exchange, Frame, Limits, LinkId, Msu, Outcome, Wants, decode,
+    BUFFER_OCTETS, Event, Exchange, Frame, Limits, LinkId, MsuRef, Outcome, Wants, decode,
 };
 
 /// Statuses that wait on a link, at most: Alignment, Proving Normal and Ready (docs/ALIGNMENT.md).
@@ -127,10 +127,7 @@ fn receive_frame<U: UserParts>(exchange: &mut Exchange, link: LinkId, frame: &[u
 
 /// Takes a message of a user part, and tells it what became of it. A message for this point goes to its user parts.
 fn submit<U: UserParts>(exchange: &mut Exchange, sio: u8, sif: &[u8], users: &mut U) {
-    let outcome = match Msu::new(sio, sif) {
-        Ok(message) => exchange.step(&Event::Submit(message)),
-        Err(cause) => Outcome::Refused(cause),
-    };
+    let outcome = exchange.step(&Event::Submit(MsuRef { sio, sif }));
     if outcome == Outcome::Local {
         users.deliver(sio, sif);
     }

@@ -46,8 +46,8 @@ fn destination(alloc: Global, point: i64, set: &str) -> Result<DestinationDraft,
     Ok(DestinationDraft { point, sets })
 }
 
-/// The timers, in ticks of 200 ms (docs/MANUAL.md has the usual values). L4, the time of proving, is short here, so that
-/// the run is.
+/// The timers, in ticks of 200 ms (docs/MANUAL.md has the usual values). L4, the time of proving, is short here, so
+/// that the run is.
 fn timers() -> TimersDraft {
     TimersDraft {
         l1: 225,

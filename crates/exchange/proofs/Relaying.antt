@@ -22,9 +22,9 @@ titled s titles = with_node s (with_parts s.node (with_titles titles s.node.part
 abbrev refusal_by : Option Cause → Outcome → Option Cause
 refusal_by refusal outcome = option_or refusal (if is_memory_refused outcome then Some NoMemory else None)
 
-abbrev cause_of : {T : Type 0} → Cause → Result T Cause → Cause
-cause_of other (Ok done) = other
-cause_of other (Err cause) = cause
+abbrev cause_or : {T : Type 0} → Cause → Result T Cause → Cause
+cause_or other (Ok done) = other
+cause_or other (Err cause) = cause
 
 pub adding : {T Q : Type 0} (s : State Q) (row : TitleEntry) (refusal : Option Cause) (r : Result T Cause) (new : List TitleEntry)
     → OnOk r (new ≡ with_row row s.node.parts.titles) → OnErr r (new ≡ s.node.parts.titles) → ((cause : Cause) → refusal ≡ Some cause → r ≡ Err cause)
@@ -33,7 +33,7 @@ pub adding : {T Q : Type 0} (s : State Q) (row : TitleEntry) (refusal : Option C
 adding s row None (Ok done) new added unchanged refused memory = (refl, ap (titled s) added)
 adding s row (Some cause) (Ok done) new added unchanged refused memory = let wrong = refused cause refl in absurd cc
 adding s row (Some cause) (Err other) new added unchanged refused memory =
-    (ap (λ r. Refused (cause_of other r)) (refused cause refl), ap (titled s) unchanged)
+    (ap (λ r. Refused (cause_or other r)) (refused cause refl), ap (titled s) unchanged)
 adding s row None (Err other) new added unchanged refused memory =
     let only : other ≡ NoMemory = memory refl in
     rw only (refl, ap (titled s) unchanged)

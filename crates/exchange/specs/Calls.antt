@@ -3,6 +3,7 @@ use Rattle.std.specs.Prelude.{Bool, true, false, List, [], ◌∷◌}
 use Rattle.signalling_types.specs.declared.cause.Cause.TheVariants.{NoMemory}
 use Rattle.signalling_types.specs.declared.outcome.Outcome.{Outcome}
 use Rattle.signalling_types.specs.declared.outcome.Outcome.TheVariants.{Refused, Handled}
+use Rattle.signalling_types.specs.Lent.{lent}
 use Rattle.exchange.specs.declared.event.Answer.{Answer}
 use Rattle.exchange.specs.declared.event.Answer.TheVariants as answer
 use Rattle.exchange.specs.declared.event.Event.{Event}
@@ -33,7 +34,7 @@ happened (event.AssociationUp link) outcome = CameUp link
 happened (event.AssociationDown link) outcome = WentDown link
 happened (event.Frame link octets) outcome = FrameCame link octets.now
 happened event.Tick outcome = Ticked
-happened (event.Submit message) outcome = Submitted message
+happened (event.Submit message) outcome = Submitted (lent message)
 happened (event.Order order) outcome = ordered order (is_memory_refused outcome)
 
 -- what became of an event, by the answer to the call

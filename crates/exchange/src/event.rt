@@ -1,10 +1,10 @@
-//! What happens to an exchange, what it is asked for, and what it answers.
+//! Events, calls and answers of an exchange.
 
 use crate::frame_text::FrameText;
 use arrayvec::ArrayVec;
 use exchange_rules::Wants;
 use global_title::TitleKey;
-use stp_types::{Limits, LinkId, Msu, Outcome, TitleRow};
+use stp_types::{Limits, LinkId, MsuRef, Outcome, TitleRow};
 
 /// Digits of a translation row, 0 to 15 each.
 pub type TitleDigits = ArrayVec<u8, { Limits::TITLE_DIGITS }>;
@@ -14,7 +14,7 @@ pub type TitleDigits = ArrayVec<u8, { Limits::TITLE_DIGITS }>;
 pub enum Order {
     /// The link may open.
     Activate(LinkId),
-    /// The link fails if it isn't down, and may not open.
+    /// The link fails unless it is down, and can't open until it is activated.
     Deactivate(LinkId),
     /// The translation row is added.
     AddTitle(TitleRow),
@@ -25,16 +25,17 @@ pub enum Order {
 /// What happens to an exchange.
 #[derive(Drop)]
 pub enum Event<'a> {
-    /// The association of a link is up. Refused LinkNotReady or ChangeoverPending where the link doesn't want Open.
+    /// The association of a link is up. Refused LinkNotReady or ChangeoverPending if the link doesn't want Open.
     AssociationUp(LinkId),
-    /// The association of a link is gone, whoever ended it. Ignored where the link has none.
+    /// The association of a link is gone, whoever ended it. Ignored if the link has none.
     AssociationDown(LinkId),
-    /// One whole frame came by a link, of any length. Ignored while the link is down.
+    /// One whole frame, of any length, arrived on a link. Ignored while the link is down.
     Frame(LinkId, &'a [u8]),
-    /// One tick passed: whatever span of time the timers of the settings count.
+    /// One tick passed: the unit of time in which the settings give their timers.
     Tick,
-    /// A user part of this node hands over a message, with its label. Management and link tests are refused.
-    Submit(Msu),
+    /// A user part of this node submits a message, with its label; the octets are lent. Management and link tests are
+    /// refused, and a field of more than 272 octets is refused TooLong.
+    Submit(MsuRef<'a>),
     /// An operator gives an order.
     Order(Order),
 }
@@ -44,18 +45,18 @@ pub enum Event<'a> {
 pub enum Call<'a> {
     /// Something happens.
     Step(Event<'a>),
-    /// The next frame that goes out on a link is asked for.
+    /// Fetch the next frame to go out on a link.
     Take(LinkId),
-    /// It is asked what a link wants.
+    /// Ask what a link wants.
     Wants(LinkId),
 }
 
 /// What an exchange answers to a call.
 #[derive(Drop)]
 pub enum Answer {
-    /// What became of what happened.
+    /// The outcome of an event.
     Stepped(Outcome),
-    /// The frame that goes out, where there is one.
+    /// The frame to go out, if there is one.
     Taken(Option<FrameText>),
     /// What the link wants.
     Wanted(Wants),

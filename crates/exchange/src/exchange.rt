@@ -39,7 +39,8 @@ mod timing;
 mod views;
 
 use crate::event::{Event, Order};
-use cell_pool::RingLanes;
+use crate::frame_text::LONGEST_FRAME;
+use cell_pool::CellPool;
 use changeback::Changeback;
 use changeover::Changeover;
 use circular_buffer::HeapCircularBuffer;
@@ -55,12 +56,12 @@ use timer_wheel::Timers;
 
 /// The links, queues and messages of one node.
 ///
-/// It has no clock, no socket and no thread: what happens is handed in by `step`, and frames are
-/// fetched by `take`. All memory is taken by `boot`, but for the translation rows that an operator adds.
+/// It has no clock, no socket and no thread: events are handed in with `step`, and frames are fetched with `take`.
+/// `boot` allocates all memory, except for translation rows that an operator adds and for the answers of `run`.
 #[derive(Drop)]
 pub struct Exchange {
     settings: Settings,
-    lanes: RingLanes,
+    lanes: CellPool,
     sequences: Vec<Sequence>,
     links: NodeLinks,
     told: Told,
@@ -98,8 +99,8 @@ impl Model for Exchange {
 }
 
 impl Exchange {
-    /// Takes in what happened, and says what became of it. Only the order that adds a translation row takes memory, and
-    /// only it can be refused NoMemory: then nothing changed.
+    /// Handles an event, and returns its outcome. Only the order that adds a translation row allocates memory, and only
+    /// that order can be refused NoMemory; then nothing has changed.
     #[inline(always)]
     pub fn step(&mut self, event: &Event<'_>) -> Outcome
         // For every abstract state that the exchange stood for, the outcome is that of the abstract step,
@@ -116,12 +117,12 @@ impl Exchange {
         self.apply(event)
     }
 
-    /// Writes the next frame that goes out on a link to the front of `buffer`, and answers its length in
-    /// octets: a status that waits, else the next message while the window allows and the peer isn't busy, else the
-    /// acknowledgement that is owed (RFC 4165 §4). A message that it gives counts as sent: send it behind those given
-    /// before, or hand in AssociationDown.
+    /// Writes the next frame to go out on a link to the front of `buffer`, and returns its length in octets: a waiting
+    /// status, else the next message if the window allows and the peer isn't busy, else the acknowledgement that is due
+    /// (RFC 4165 §4). A message that it returns counts as sent: send it after those returned before, or hand in
+    /// AssociationDown.
     ///
-    /// None, and nothing is written, where the link isn't there or has nothing to send.
+    /// Returns `None`, and writes nothing, if there is no such link or it has nothing to send.
     #[inline(always)]
     pub fn take(&mut self, link: LinkId, buffer: &mut [u8; BUFFER_OCTETS]) -> Option<usize>
         // For every abstract state that the exchange stood for, the frame is that of the abstract take,
@@ -133,15 +134,16 @@ impl Exchange {
         // The same on what is kept.
         ensures kept_frame { Writes (frame_to_take kept self.old link) result buffer.old buffer.new }
         ensures kept_state { self.new ≡ taken kept self.old link }
-        ensures fits { IfSome result (λ count. count ≤ BUFFER_OCTETS) }
+        // It isn't longer than a frame with the longest message.
+        ensures fits { IfSome result (λ count. count ≤ LONGEST_FRAME) }
     {
         self.write_next_frame(link, buffer)
     }
 }
 
 impl Exchange {
-    /// Hands an event to its handler; then what is held no longer goes on, and adjacent points are told what they are
-    /// owed.
+    /// Passes an event to its handler; then releases messages that are no longer held, and queues the pending updates
+    /// for adjacent points.
     #[inline(always)]
     fn apply(&mut self, event: &Event<'_>) -> Outcome
         ensures { Ends self.old result self.new
@@ -164,7 +166,7 @@ impl Exchange {
             Event::AssociationDown(link) => self.association_down(*link),
             Event::Frame(link, octets) => self.receive(*link, octets),
             Event::Tick => self.tick(),
-            Event::Submit(message) => self.submit(message.lend()),
+            Event::Submit(message) => self.submit(*message),
             Event::Order(Order::Activate(link)) => self.activate(*link),
             Event::Order(Order::Deactivate(link)) => self.deactivate(*link),
             Event::Order(Order::AddTitle(row)) => self.add_title(*row),

@@ -3,13 +3,20 @@
 ghost use Rattle.std.specs.Prelude.{◌≡◌, ℕ, ◌≤◌, List, length};
 
 use arrayvec::ArrayVec;
-use m2pa_codec::BUFFER_OCTETS;
 use std::marker::Model;
+use stp_types::Limits;
+
+/// Octets in front of a message's field in its frame: both headers, the priority octet and the service information
+/// octet (RFC 4165 §2).
+const IN_FRONT_OF_FIELD: usize = 18;
+
+/// Octets of the longest frame that goes out: that of a message with the longest field.
+pub const LONGEST_FRAME: usize = IN_FRONT_OF_FIELD + Limits::SIF_OCTETS;
 
 /// The octets of a frame that went out.
 #[derive(Drop)]
 pub struct FrameText {
-    octets: ArrayVec<u8, BUFFER_OCTETS>,
+    octets: ArrayVec<u8, LONGEST_FRAME>,
 }
 
 impl Model for FrameText {
@@ -21,7 +28,7 @@ impl Model for FrameText {
 impl FrameText {
     /// These octets.
     pub fn new(octets: &[u8]) -> FrameText
-        requires { length octets.now ≤ BUFFER_OCTETS }
+        requires { length octets.now ≤ LONGEST_FRAME }
         ensures { result ≡ octets.now }
     {
         let mut text = ArrayVec::new();
@@ -31,7 +38,8 @@ impl FrameText {
 
     /// The octets, in the order in which they go out.
     pub fn octets(&self) -> &[u8]
-        ensures { result.now ≡ self.now }
+        ensures octets { result.now ≡ self.now }
+        ensures fits { length self.now ≤ LONGEST_FRAME }
     {
         self.octets.as_slice()
     }

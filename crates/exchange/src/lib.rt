@@ -1,5 +1,5 @@
-//! The exchange: the links, queues and messages of one node, as a machine without input or output.
-//! One call is one atomic step.
+//! The exchange: the links, queues and messages of one node, as a machine that does no input or
+//! output. Each call is one atomic step.
 #![tactic(auto)]
 
 pub mod event;
@@ -11,7 +11,7 @@ pub mod view;
 pub use event::{Answer, Call, Event, Order, TitleDigits};
 pub use exchange::Exchange;
 pub use exchange_rules::Wants;
-pub use frame_text::FrameText;
+pub use frame_text::{FrameText, LONGEST_FRAME};
 pub use global_title::TitleKey;
 pub use m2pa_codec::{BUFFER_OCTETS, Frame, Framer, Next, decode};
 pub use memory::NoMemory;
@@ -19,7 +19,7 @@ pub use route_table::RouteStatus;
 pub use routing_label::Label;
 pub use stp_types::{
     Cause, ChangeoverTimer, DestinationDraft, Draft, DraftFault, FailureReason, FaultKind,
-    FrameFault, Key, LateTimer, Limits, LinkDraft, LinkId, Msu, Notice, Outcome, PointCode, Route,
-    SetDraft, SetId, Settings, Sls, Ssn, TimersDraft, TitleDraft, TitleRow,
+    FrameFault, Key, LateTimer, Limits, LinkDraft, LinkId, Msu, MsuRef, Notice, Outcome, PointCode,
+    SetDraft, SetId, Settings, Sls, Ssn, TimersDraft, TitleDraft, TitleRoute, TitleRow,
 };
 pub use view::{LinkStanding, LinkView, RouteView};

@@ -8,16 +8,16 @@ use link_number::Number24;
 use route_table::{Route, RouteStatus};
 use stp_types::{PointCode, SetId};
 
-/// Where a link stands on its way into service (Q.703 §7, RFC 4165 §4.1.3), without what it remembers there.
+/// How far a link is on its way into service (Q.703 §7, RFC 4165 §4.1.3), without what it remembers there.
 #[derive(Clone, Copy, PartialEq, Eq)]
 pub enum LinkStanding {
     /// The link is out of use.
     Down,
     /// An association is there, and the peer isn't aligned yet.
     NotAligned,
-    /// The peer is aligned too, and will be proved.
+    /// The peer is aligned too; proving comes next.
     Aligned,
-    /// The link is proved.
+    /// The link is proving.
     Proving,
     /// The link is proved, and the peer isn't ready yet.
     AlignedReady,
@@ -73,9 +73,9 @@ pub struct LinkView {
 pub struct RouteView {
     /// Its point code.
     pub point: PointCode,
-    /// The set that messages take; `None` where no set leads there.
+    /// The set that messages take; `None` if no route is open.
     pub set: Option<SetId>,
-    /// Allowed or restricted, as that set is; Prohibited where no set leads there.
+    /// Allowed or restricted, as that set is; Prohibited if no route is open.
     pub status: RouteStatus,
 }
 

@@ -1,5 +1,5 @@
 -- Rules that make management alone, or change no queue: as many user messages stand after each as before.
-use Rattle.std.proofs.Common.{Bool, Err, List, None, Ok, Option, Result, Some, [], ap, arith, false, length, nat_lt, not, refl, suc, true, zero, ℕ, ◌%◌, ◌&&◌, ◌*◌, ◌+◌, ◌∙◌, ◌∷◌, ◌≡◌}
+use Rattle.std.proofs.Common.{Bool, Err, List, None, Ok, Option, Result, Some, [], ap, arith, false, length, nat_lt, not, refl, suc, true, zero, ℕ, ◌&&◌, ◌+◌, ◌∙◌, ◌∷◌, ◌≡◌}
 use Rattle.std.specs.Prelude.{if◌then◌else◌}
 use Rattle.changeback.specs.Codes.{is_outstanding}
 use Rattle.changeover.specs.Completion.{managements_of}
@@ -47,6 +47,7 @@ use Rattle.exchange_rules.specs.Routing.{facts, link_of}
 use Rattle.exchange_rules.specs.State.{Done, Node, answer, refuse, with_parts}
 use Rattle.exchange_rules.specs.Statuses.{act_by_status, act_by_timer, advance, enters, moved_on, on_link_status, return_if, run_out, serve_status}
 use Rattle.exchange_rules.specs.Telling.{answer_no_route, answered_parts, inhibited, is_inhibited, may_tell, on_route_test, prohibit, send_route_status, tell_each, tell_if, tell_owed, telling, told_parts}
+use Rattle.exchange_rules.proofs.OwnManagement.{made-management, answer-management}
 use Rattle.exchange_rules.proofs.Tallies.{no-user-behind, queue-same}
 use Rattle.link_alignment.specs.declared.action.Action.TheVariants as act
 use Rattle.signalling_types.specs.declared.cause.Cause.TheVariants as causes
@@ -57,20 +58,6 @@ use Rattle.signalling_types.specs.declared.notice.FailureReason.TheVariants as r
 use Rattle.m2pa_codec.specs.declared.status.LinkStatus.TheVariants as says
 use Rattle.route_management.specs.Told as told
 use Rattle.exchange_rules.specs.Telling as telling
-
--- ---- what this node makes is management
-
-made-indicator : (network : ℕ) → (network * 64 + 0) % 16 ≡ 0
-made-indicator network = omega arith
-
-tested-indicator : (network : ℕ) → (network * 64 + 1) % 16 ≡ 1
-tested-indicator network = omega arith
-
-pub made-management : (c : Configuration) (point : ℕ) (message : Management) → is_management (management_to c point message) ≡ true
-made-management c point message = ap (λ (indicator : ℕ). nat_lt indicator 2) (made-indicator c.network)
-
-answer-management : (c : Configuration) (point : ℕ) (test : LinkTestValue) → is_management (test_answer c point test) ≡ true
-answer-management c point test = ap (λ (indicator : ℕ). nat_lt indicator 2) (tested-indicator c.network)
 
 -- how many stand in a node
 abbrev pub stands : (Message → Bool) → Node WholeQueues → ℕ

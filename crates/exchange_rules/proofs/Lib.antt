@@ -58,6 +58,7 @@ pub mod Receiving
 pub mod Received
 pub mod Tallies
 pub mod Fitting
+pub mod OwnManagement
 pub mod Changes
 pub mod Moves
 pub mod Departing

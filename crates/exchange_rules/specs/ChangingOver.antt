@@ -101,7 +101,8 @@ module _ {Q : Type 0} (q : QueueKind Q) (c : Configuration) where
 
   -- the peer is told what was accepted on the link
   abbrev pub acknowledge_changeover : ℕ → Node Q → Node Q
-  acknowledge_changeover link node = send_routed q c (changeover_acknowledgement c link (q.last_accepted node.queues link)) node
+  acknowledge_changeover link node =
+      send_routed q c (changeover_acknowledgement c link (q.last_accepted node.queues link)) node
 
   -- the peer orders a changeover
   abbrev pub on_changeover_order : ℕ → Option ℕ → Node Q → Done Q

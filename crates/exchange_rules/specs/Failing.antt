@@ -64,7 +64,10 @@ module _ {Q : Type 0} (q : QueueKind Q) (c : Configuration) where
   abbrev pub make_unavailable : (serving : Bool) → ℕ → FailureReason → Node Q → Node Q
   make_unavailable true link why node =
       with_parts node
-      (node.parts ▷ suspended c link (q.unconfirmed node.queues link) ▷ fail_link link why ▷ without_tests_if_last c link)
+      (node.parts
+      ▷ suspended c link (q.unconfirmed node.queues link)
+      ▷ fail_link link why
+      ▷ without_tests_if_last c link)
   make_unavailable false link why node = with_parts node (fail_link link why node.parts)
 
   -- where a link of its set is left, an order goes out

@@ -65,8 +65,8 @@ abbrev pub at_turn : Configuration → (link : ℕ) → (known : Facts) → Node
 at_turn c link known before other = take_back_each whole c known (facts c before.parts) link other before
 
 -- a code holds what comes from another link of the set: a declaration with it stands at the end of the queue of that
--- link, the code was free, the least one that was so when the turn of that link came, and its acknowledgement is awaited
--- now
+-- link, the code was free, the least one that was so when the turn of that link came, and its acknowledgement is
+-- awaited now
 pub record IsByCode (c : Configuration) (link other code : ℕ) (turn before after : Node WholeQueues) : Type 0 where
   pub set : set_of c other ≡ set_of c link
   pub declared : (queue_at after.queues other).all ≡ (queue_at before.queues other).all ++ declaration c link code ∷ []

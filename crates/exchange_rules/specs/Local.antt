@@ -102,7 +102,8 @@ module _ {Q : Type 0} (q : QueueKind Q) (c : Configuration) where
   on_management (EmergencyChangeoverAcknowledgement slc) point node =
       do_acknowledgement (link_with_code c point slc) None node
   on_management (ChangebackDeclaration slc code) point node = on_changeback_declaration q c point slc code node
-  on_management (ChangebackAcknowledgement slc code) point node = on_changeback_acknowledgement q c (set_place c point) code node
+  on_management (ChangebackAcknowledgement slc code) point node =
+      on_changeback_acknowledgement q c (set_place c point) code node
   on_management (TransferProhibited about) point node =
       on_route_status q c status.Prohibited (route_about (set_place c point) (destination_place c about)) node
   on_management (TransferRestricted about) point node =

@@ -33,7 +33,8 @@ module _ {Q : Type 0} (q : QueueKind Q) (c : Configuration) where
   abbrev pub submit_to : Discrimination → Message → Node Q → Done Q
   submit_to (whither.Refused cause) m node = refuse cause node
   submit_to (whither.Here label) m node = (if is_management m then refuse NotInProfile node else local q c m node)
-  submit_to (whither.Transfer label) m node = (if is_management m then refuse NotInProfile node else transfer q c None m node)
+  submit_to (whither.Transfer label) m node =
+      (if is_management m then refuse NotInProfile node else transfer q c None m node)
 
   -- a message that a user part hands over
   abbrev pub submit : Message → Node Q → Done Q

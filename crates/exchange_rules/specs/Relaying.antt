@@ -26,8 +26,8 @@ in_place_of m sif = record m { sif = sif }
 module _ {Q : Type 0} (q : QueueKind Q) (c : Configuration) where
   -- ---- a refused message is returned
 
-  -- the UDTS that returns a message, if one does, goes the way of any message for another point; where it finds none, it
-  -- is dropped
+  -- the UDTS that returns a message, if one does, goes the way of any message for another point; where it finds none,
+  -- it is dropped
   abbrev pub send_udts : (udts : Option (List ℕ)) → Message → Node Q → Node Q
   send_udts (Some sif) m node = (transfer q c None (in_place_of m sif) node).left
   send_udts None m node = node

@@ -121,7 +121,8 @@ module _ {Q : Type 0} (q : QueueKind Q) (c : Configuration) where
       if is_own_point node.parts.told set destination
       then answer Ignored node
       else answer Handled
-      (send_route_status (hearing.answer_to_test (facts c node.parts) node.parts.told set destination test) set destination node)
+      (send_route_status
+      (hearing.answer_to_test (facts c node.parts) node.parts.told set destination test) set destination node)
 
   -- a test by which an adjacent point asks about a route
   abbrev pub on_route_test : RouteTest → Result (ℕ × ℕ) Outcome → Node Q → Done Q

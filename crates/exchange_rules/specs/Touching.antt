@@ -6,7 +6,8 @@ use Rattle.link_alignment.specs.declared.action.LinkTimer.{LinkTimer}
 use Rattle.link_alignment.specs.declared.action.LinkTimer.TheVariants.{L1, L2, L3, L4, L6, L7}
 use Rattle.link_sequence.specs.Queue.{Queue, emptied}
 use Rattle.timer_wheel.specs.Timers.{is_due, ticked}
-use Rattle.exchange_rules.specs.Happening.{Happening, CameUp, WentDown, FrameCame, Ticked, Submitted, Activated, Deactivated}
+use Rattle.exchange_rules.specs.Happening.{Happening, CameUp, WentDown, FrameCame, Ticked, Submitted}
+use Rattle.exchange_rules.specs.Happening.{Activated, Deactivated}
 use Rattle.exchange_rules.specs.Happening.{TitleAdded, TitleRemoved}
 use Rattle.exchange_rules.specs.State.{Parts, Node}
 use Rattle.exchange_rules.specs.Links.{in_service}

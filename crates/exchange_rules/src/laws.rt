@@ -92,10 +92,10 @@ pub fn flows_that_change_their_link_are_held()
 
 /// When a link returns to service, each flow that went by another link and goes by this one now is held by the
 /// procedure of that other link. It is a code exactly where a declaration with that code stands at the end of the other
-/// link's queue: both links are of one set, and the code is the least one free when the turn of the other link comes, in
-/// the order of links, so that no two links of one return have the same. Else it is time: the other link is of another
-/// set, or when its turn comes no code is free or management has no room. Every other pair, every other code and every
-/// other queue stays. This holds for every node that has all its places.
+/// link's queue: both links are of one set, and the code is the least one free when the turn of the other link comes,
+/// in the order of links, so that no two links of one return have the same. Else it is time: the other link is of
+/// another set, or when its turn comes no code is free or management has no room. Every other pair, every other code
+/// and every other queue stays. This holds for every node that has all its places.
 pub fn flows_return_by_the_procedures_of_their_links()
     ensures returned { flows_return_by_their_procedures }
     ensures entered { entries_are_returns }
@@ -167,13 +167,13 @@ pub fn what_was_received_is_counted()
 ///
 /// It brings the message that came or was submitted where its outcome is that this is queued or held, and no other: a
 /// message for another point as it came, an SCCP message for this point as its relay writes it. And it brings the UDTS
-/// that returns a refused one, where that finds its way. A peer accepts messages by the numbers of its User Data, oldest
-/// first, and by the number of its changeover. Those are lost that a completion leaves in doubt, and that have no route
-/// when they are released.
+/// that returns a refused one, where that finds its way. A peer accepts messages by the numbers of its User Data,
+/// oldest first, and by the number of its changeover. Those are lost that a completion leaves in doubt, and that have
+/// no route when they are released.
 ///
-/// This holds of every node that has all its places and whose links are steady, so of every one that comes of the first.
-/// A take changes no such number. So whatever happens and whatever is taken, all that ever came in stands, was accepted
-/// by a peer, or is named as lost.
+/// This holds of every node that has all its places and whose links are steady, so of every one that comes of the
+/// first. A take changes no such number. So whatever happens and whatever is taken, all that ever came in stands, was
+/// accepted by a peer, or is named as lost.
 ///
 /// And each user message that a frame newly carries, and each that is submitted, is queued, held, delivered or refused.
 pub fn user_messages_are_conserved()

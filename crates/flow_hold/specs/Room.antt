@@ -1,6 +1,7 @@
 -- How holds are kept: in a table of marks, each of which is a pair.
 use Rattle.std.specs.Prelude.{ℕ, zero, suc, ◌+◌, ◌-◌, ◌*◌, ◌/◌, ◌%◌, length, nat_lt, if◌then◌else◌}
 use Rattle.std.specs.FinSet.{FinSet, empty, insert, union}
+use Rattle.signalling_types.specs.declared.limits.TheConstants.Limits.{CHANGEBACK_CODES}
 use Rattle.flow_hold.specs.declared.procedure.Procedure.{Procedure}
 use Rattle.flow_hold.specs.declared.procedure.Procedure.TheVariants.{Changeover, Code, Time, Reroute}
 use Rattle.flow_hold.specs.Rows.{marks_at, has_mark}
@@ -13,8 +14,9 @@ abbrev pub procedure_at : HoldTable → ℕ → Procedure
 procedure_at t row =
     if nat_lt row t.links then Changeover row
     else if nat_lt row (2 * t.links) then Time (row - t.links)
-    else if nat_lt row (2 * t.links + 16 * t.sets) then Code ((row - 2 * t.links) / 16) ((row - 2 * t.links) % 16)
-    else Reroute (row - (2 * t.links + 16 * t.sets))
+    else if nat_lt row (2 * t.links + CHANGEBACK_CODES * t.sets)
+    then Code ((row - 2 * t.links) / CHANGEBACK_CODES) ((row - 2 * t.links) % CHANGEBACK_CODES)
+    else Reroute (row - (2 * t.links + CHANGEBACK_CODES * t.sets))
 
 -- the pair of a row and a flow
 abbrev pub hold_at : HoldTable → (row flow : ℕ) → Hold

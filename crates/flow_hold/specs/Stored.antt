@@ -30,14 +30,16 @@ same_procedure (Reroute destination) = refl
 
 pub same_hold : (hold : Hold) → hold_of (hold_numbers hold) ≡ hold
 same_hold hold =
-    ap (λ (p : Procedure). record { procedure = p; destination = hold.destination; sls = hold.sls }) (same_procedure hold.procedure)
+    ap (λ (p : Procedure). record { procedure = p; destination = hold.destination; sls = hold.sls })
+    (same_procedure hold.procedure)
 
 abbrev pub hold_code : Coded Hold
 hold_code = code_by (List ℕ) (coded_list coded_ℕ) hold_numbers hold_of same_hold
 
 abbrev pub hold_set_code : Coded HoldSet
 hold_set_code =
-    code_by (ℕ × (ℕ × (ℕ × set.FinSet by_numbers))) (coded× coded_ℕ (coded× coded_ℕ (coded× coded_ℕ (set.code hold_code))))
+    code_by (ℕ × (ℕ × (ℕ × set.FinSet by_numbers)))
+    (coded× coded_ℕ (coded× coded_ℕ (coded× coded_ℕ (set.code hold_code))))
     (λ h. (h.links, (h.sets, (h.destinations, h.pairs))))
     (λ p. record { links = p.0; sets = p.1.0; destinations = p.1.1.0; pairs = p.1.1.1 })
     (λ _. refl)

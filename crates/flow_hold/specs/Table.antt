@@ -5,6 +5,7 @@ use Rattle.std.specs.List.{range_with_len, list_any}
 use Rattle.signalling_types.specs.declared.limits.TheConstants.Limits.{CHANGEBACK_CODES}
 use Rattle.flow_hold.specs.declared.procedure.Procedure.{Procedure}
 use Rattle.flow_hold.specs.declared.procedure.Procedure.TheVariants.{Changeover, Code, Time, Reroute}
+use Rattle.flow_hold.specs.Holds.{selections}
 use Rattle.flow_hold.specs.Rows.{Marks, marks_at, place_of_flow, has_mark}
 
 -- how many links, sets and destinations there are, and the row of each procedure
@@ -16,16 +17,19 @@ pub record HoldTable : Type 0 where
 
 -- the number of a flow, where its destination is there
 abbrev pub flow_place : HoldTable → (destination sls : ℕ) → Option ℕ
-flow_place t destination sls = if nat_lt destination t.destinations then Some (16 * destination + sls) else None
+flow_place t destination sls = if nat_lt destination t.destinations then Some (selections * destination + sls) else None
 
 -- the row of a procedure, where it is there: first the changeovers of all links, then their times, then the codes of
 -- all sets, then the reroutings of all destinations
 abbrev pub place_of : HoldTable → Procedure → Option ℕ
 place_of t (Changeover link) = if nat_lt link t.links then Some link else None
 place_of t (Time link) = if nat_lt link t.links then Some (t.links + link) else None
-place_of t (Code set code) = if nat_lt set t.sets && nat_lt code CHANGEBACK_CODES then Some (2 * t.links + 16 * set + code) else None
+place_of t (Code set code) =
+    if nat_lt set t.sets && nat_lt code CHANGEBACK_CODES
+    then Some (2 * t.links + CHANGEBACK_CODES * set + code)
+    else None
 place_of t (Reroute destination) =
-    if nat_lt destination t.destinations then Some (2 * t.links + 16 * t.sets + destination) else None
+    if nat_lt destination t.destinations then Some (2 * t.links + CHANGEBACK_CODES * t.sets + destination) else None
 
 -- ---- which pairs are marked
 
@@ -56,8 +60,8 @@ has_flow t destination sls = any_has t (flow_place t destination sls)
 abbrev pub first_row : (shared destinations place : ℕ) → Marks
 first_row shared destinations place =
     if nat_lt place shared
-    then record { first = 0; marks = replicate (16 * destinations) false }
-    else record { first = 16 * (place - shared); marks = replicate 16 false }
+    then record { first = 0; marks = replicate (selections * destinations) false }
+    else record { first = selections * (place - shared); marks = replicate selections false }
 
 -- nothing is marked
 abbrev pub no_marks : (links sets destinations : ℕ) → HoldTable
@@ -65,8 +69,8 @@ no_marks links sets destinations = record {
   links = links;
   sets = sets;
   destinations = destinations;
-  rows = map (first_row (2 * links + 16 * sets) destinations)
-      (range_with_len 0 (2 * links + 16 * sets + destinations));
+  rows = map (first_row (2 * links + CHANGEBACK_CODES * sets) destinations)
+      (range_with_len 0 (2 * links + CHANGEBACK_CODES * sets + destinations));
 }
 
 -- ---- how they change

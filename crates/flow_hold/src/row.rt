@@ -8,12 +8,12 @@ use std::marker::Model;
 
 /// Marks of flows in a row, from a first one on: whether each is held.
 #[derive(Drop)]
-pub(crate) struct Row {
+pub(crate) struct HoldRow {
     first: usize,
     marks: Vec<bool>,
 }
 
-impl Model for Row {
+impl Model for HoldRow {
     ghost use Rattle.flow_hold.specs.Rows.{Marks};
 
     ghost Value = { Marks };
@@ -21,12 +21,12 @@ impl Model for Row {
     ghost view = { λ s. record { first = s.first; marks = s.marks.items } };
 }
 
-impl Row {
+impl HoldRow {
     /// Marks of so many flows; none is held.
-    pub(crate) fn new(alloc: Global, first: usize, count: usize) -> Result<Row, AllocError>
+    pub(crate) fn new(alloc: Global, first: usize, count: usize) -> Result<HoldRow, AllocError>
         ensures { IfOk result (λ row. row ≡ record { first = first; marks = replicate count false }) }
     {
-        Ok(Row {
+        Ok(HoldRow {
             first,
             marks: vec![in alloc; false; count]?,
         })

@@ -9,7 +9,7 @@ ghost use Rattle.flow_hold.specs.Table.{without_pairs, has_flow, marked_as_held}
 
 use crate::SELECTIONS;
 use crate::procedure::Procedure;
-use crate::row::Row;
+use crate::row::HoldRow;
 use signalling_types::Limits;
 use std::alloc::{AllocError, Global};
 use std::marker::Model;
@@ -24,7 +24,7 @@ pub(crate) struct Table {
     links: usize,
     sets: usize,
     destinations: usize,
-    rows: Vec<Row>,
+    rows: Vec<HoldRow>,
     counts: Vec<u16>,
 }
 
@@ -192,7 +192,7 @@ fn recount(counts: &mut Vec<u16>, flow: usize, before: bool, held: bool)
 
 /// The rows of so many procedures that may hold all flows, and of the reroutings of so many destinations. Nothing is
 /// held.
-fn first_rows(alloc: Global, shared: usize, destinations: usize) -> Result<Vec<Row>, AllocError>
+fn first_rows(alloc: Global, shared: usize, destinations: usize) -> Result<Vec<HoldRow>, AllocError>
     requires shared { shared ≤ 640 }
     requires destinations { destinations ≤ Limits.DESTINATIONS }
     ensures rows { IfOk result (λ rows. rows.items
@@ -220,14 +220,14 @@ fn first_row(
     shared: usize,
     destinations: usize,
     place: usize,
-) -> Result<Row, AllocError>
+) -> Result<HoldRow, AllocError>
     requires destinations { destinations ≤ Limits.DESTINATIONS }
     requires place { place < shared + destinations }
     ensures { IfOk result (λ row. row ≡ first_row shared destinations place) }
 {
     if place < shared {
-        Row::new(alloc, 0, FLOWS * destinations)
+        HoldRow::new(alloc, 0, FLOWS * destinations)
     } else {
-        Row::new(alloc, FLOWS * (place - shared), FLOWS)
+        HoldRow::new(alloc, FLOWS * (place - shared), FLOWS)
     }
 }

@@ -13,8 +13,8 @@ use Rattle.signalling_types.specs.declared.cause.Cause.{Cause}
 use Rattle.sccp_codec.specs.declared.title.TitleKey.{TitleKey}
 use Rattle.settings_rows.specs.Configuration.{TitleEntry}
 use Rattle.settings_rows.specs.Titles.{HasTitleRanges}
-use Rattle.settings_rows.specs.declared.title_row.Route.{Route}
-use Rattle.settings_rows.specs.declared.title_row.Route.TheVariants.{Title, Ssn}
+use Rattle.settings_rows.specs.declared.title_row.TitleRoute.{TitleRoute}
+use Rattle.settings_rows.specs.declared.title_row.TitleRoute.TheVariants.{Title, Ssn}
 use Rattle.global_title.specs.Rows.{key_of}
 use Rattle.global_title.specs.Translation.{longest, leads, has_key, IsTranslation, translation, translation_refusal, or_refusal}
 use Rattle.global_title.specs.Ways.{IsRow, IsRoute, IsSsn, key_digits, way_of, lead_of, leads_of, route_number, route_of, row_led}
@@ -33,7 +33,7 @@ route-back-ssn n h =
     let small : (256 + n) % 256 ≡ n = omega (arith, h.1) in
     rw (small, ne_eqb n 0 (λ e. omega (arith, e, h.0)), le-ltb (256 + n) 256 (omega arith)) refl
 
-route-back : (route : Route) → IsRoute route → route_of (route_number route) ≡ route
+route-back : (route : TitleRoute) → IsRoute route → route_of (route_number route) ≡ route
 route-back (Title None) h = refl
 route-back (Title (Some n)) h = route-back-title n h
 route-back (Ssn n) h = route-back-ssn n h
@@ -52,7 +52,7 @@ row-back row is =
       point = n;
       route = route_of (lead_of row / 2 ^ 14);
     }) parts.0
-    ∙ ap (λ (r : Route). record {
+    ∙ ap (λ (r : TitleRoute). record {
       translation = row.translation;
       plan = row.plan;
       nature = row.nature;

@@ -6,8 +6,8 @@ use Rattle.digit_trie.specs.Digits.{DigitMap}
 use Rattle.sccp_codec.specs.declared.title.TitleKey.{TitleKey}
 use Rattle.settings_rows.specs.Configuration.{TitleEntry}
 use Rattle.settings_rows.specs.Titles.{HasTitleRanges}
-use Rattle.settings_rows.specs.declared.title_row.Route.{Route}
-use Rattle.settings_rows.specs.declared.title_row.Route.TheVariants.{Title, Ssn}
+use Rattle.settings_rows.specs.declared.title_row.TitleRoute.{TitleRoute}
+use Rattle.settings_rows.specs.declared.title_row.TitleRoute.TheVariants.{Title, Ssn}
 use Rattle.global_title.specs.Rows.{key_of}
 
 -- the digits of a key: two of the translation type, the plan, two of the nature
@@ -23,11 +23,11 @@ abbrev pub ssn_number : Option ℕ → ℕ
 ssn_number None = 0
 ssn_number (Some ssn) = ssn
 
-abbrev pub route_number : Route → ℕ
+abbrev pub route_number : TitleRoute → ℕ
 route_number (Title ssn) = ssn_number ssn
 route_number (Ssn ssn) = 256 + ssn
 
-abbrev pub route_of : ℕ → Route
+abbrev pub route_of : ℕ → TitleRoute
 route_of number =
     if nat_eq (number % 256) 0 then Title None
     else if nat_lt number 256 then Title (Some (number % 256))
@@ -57,7 +57,7 @@ leads_of (row ∷ rows) way = if bytes_eq way (way_of row) then Some (lead_of ro
 abbrev pub IsSsn : ℕ → Type 0
 IsSsn ssn = (1 ≤ ssn) × (ssn < 2 ^ 8)
 
-abbrev pub IsRoute : Route → Type 0
+abbrev pub IsRoute : TitleRoute → Type 0
 IsRoute (Title ssn) = IfSome ssn IsSsn
 IsRoute (Ssn ssn) = IsSsn ssn
 

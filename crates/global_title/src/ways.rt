@@ -11,7 +11,7 @@ use crate::places::key_of;
 use arrayvec::ArrayVec;
 use digit_trie::{Trie, TrieFault};
 use sccp_codec::TitleKey;
-use settings_rows::{Route, TitleRow};
+use settings_rows::{TitleRoute, TitleRow};
 use signalling_types::{Limits, PointCode, Ssn};
 use std::alloc::{AllocError, Global};
 
@@ -62,14 +62,14 @@ pub(crate) fn lead_of(row: &TitleRow) -> u32
 }
 
 /// How a row is routed, as a number.
-fn route_number(route: Route) -> u32
+fn route_number(route: TitleRoute) -> u32
     ensures number { result ≡ route_number route }
     ensures fits { result < 2 ^ 9 }
     ensures route { IsRoute route }
 {
     match route {
-        Route::Title(ssn) => ssn_number(ssn),
-        Route::Ssn(ssn) => SUBSYSTEMS + u32::from(ssn.number()),
+        TitleRoute::Title(ssn) => ssn_number(ssn),
+        TitleRoute::Ssn(ssn) => SUBSYSTEMS + u32::from(ssn.number()),
     }
 }
 
@@ -86,13 +86,13 @@ fn ssn_number(ssn: Option<Ssn>) -> u32
 }
 
 /// How a row is routed, of such a number.
-fn route_of(number: u32) -> Route
+fn route_of(number: u32) -> TitleRoute
     ensures { result ≡ route_of number }
 {
     match Ssn::new((number % SUBSYSTEMS) as u8) {
-        None => Route::Title(None),
-        Some(ssn) if number < SUBSYSTEMS => Route::Title(Some(ssn)),
-        Some(ssn) => Route::Ssn(ssn),
+        None => TitleRoute::Title(None),
+        Some(ssn) if number < SUBSYSTEMS => TitleRoute::Title(Some(ssn)),
+        Some(ssn) => TitleRoute::Ssn(ssn),
     }
 }
 

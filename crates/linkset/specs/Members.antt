@@ -1,5 +1,6 @@
 -- The links of a set, in the order of their signalling link codes (Q.704 §15.2).
 use Rattle.std.specs.Prelude.{ℕ, zero, suc, Bool, ◌&&◌, List, [], ◌++◌, Option, position, nat_eq}
+use Rattle.std.specs.List.{list_any}
 use Rattle.std.specs.Option.{option_map, option_to_list}
 use Rattle.settings_rows.specs.Configuration.{LinkEntry}
 use Rattle.linkset.specs.declared.link_set.SetLink.{SetLink}
@@ -21,3 +22,7 @@ links_below (suc code) links set = links_below code links set ++ option_to_list 
 -- all links of a set, in the order of their codes, which have four bits
 abbrev pub links_of : (links : List LinkEntry) (set : ℕ) → List SetLink
 links_of links set = links_below 16 links set
+
+-- whether a link is one of these
+abbrev pub has_member : (link : ℕ) → List SetLink → Bool
+has_member link links = list_any (λ l. nat_eq l.link link) links

@@ -3,7 +3,7 @@
 ghost use Rattle.std.specs.Prelude.{◌≡◌, ◌+◌, ◌<◌, ◌≤◌, ◌++◌, length, position, IfSome};
 ghost use Rattle.std.specs.Option.{option_to_list};
 ghost use Rattle.arrayvec.specs.ArrayVec.{array_vec_len};
-ghost use Rattle.linkset.specs.Members.{has_code, link_with, links_of};
+ghost use Rattle.linkset.specs.Members.{has_code, has_member, link_with, links_of};
 ghost use Rattle.linkset.specs.Preference.{preference, first_in_service, first_tried, has_link, is_in_service};
 
 use arrayvec::ArrayVec;
@@ -125,6 +125,15 @@ impl LinkSet {
             selection /= count;
         }
         None
+    }
+
+    /// Whether a link is of this set.
+    pub fn has(&self, link: LinkId) -> bool
+        ensures { result ≡ has_member link self.now }
+    {
+        self.links
+            .iter()
+            .any(|member| member.link.index() == link.index())
     }
 
     /// Whether some link of the set is in service.

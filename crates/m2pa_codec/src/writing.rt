@@ -21,7 +21,7 @@ pub fn encode(frame: &Frame<'_>, out: &mut [u8; BUFFER_OCTETS]) -> usize
     requires { length (sif_of (value_of frame.now)) ≤ Limits.SIF_OCTETS }
     ensures count { result ≡ length (spelled (value_of frame.now)) }
     ensures text { take result out.new ≡ spelled (value_of frame.now) }
-    ensures room { result ≤ 300 }
+    ensures room { result ≤ 18 + Limits.SIF_OCTETS }
     ensures frame { IsFrame (take result out.new) (value_of frame.now) }
     ensures back { read_frame (take result out.new) ≡ Ok (value_of frame.now) }
 {

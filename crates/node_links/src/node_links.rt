@@ -22,8 +22,8 @@ use std::marker::Model;
 
 /// The state of each link, and the routes, which always know which links are in service.
 ///
-/// All room is made by `new`. Each call but `new`, `link_of`, `former_link`, `route_of` and those on statuses costs the same
-/// however many links there are.
+/// All room is made by `new`. The link of each flow stands in a table (`Routes`): `link_of` is one look-up, and where a
+/// link enters or leaves service, or a status changes, the flows that it matters for are looked at anew.
 #[derive(Drop)]
 pub struct NodeLinks {
     states: Vec<LinkState>,
@@ -95,7 +95,7 @@ impl NodeLinks {
 
     /// The link that a flow, which goes by this link, would take if this link were out of service (Q.704 §6.2). `None`
     /// where it doesn't go by this link, or would have no other. The link is in service; nothing changes in the end. It
-    /// costs at most two calls of `link_of`.
+    /// costs one look-up, and for a flow that goes by this link the sets that lead to its destination and their links.
     pub fn former_link(&mut self, link: LinkId, destination: usize, sls: Sls) -> Option<LinkId>
         requires there { link < length self.old.links }
         requires serves { is_in_service (link_in self.old.links link).alignment ≡ true }
@@ -128,10 +128,7 @@ impl NodeLinks {
         ensures set { result ≡ chosen_set (with_link link false (facts_of self.old)) destination }
         ensures links { self.new ≡ self.old }
     {
-        self.routes.set_link(link, false);
-        let route = self.routes.route_of(destination);
-        self.routes.set_link(link, true);
-        set_by(route)
+        set_by(self.routes.route_without(link, destination))
     }
 
     /// The link that a flow would take if a link in service weren't.
@@ -141,10 +138,7 @@ impl NodeLinks {
         ensures links { self.new ≡ self.old }
         ensures fits { IfSome result (λ from. from < length self.old.links) }
     {
-        self.routes.set_link(link, false);
-        let other = self.routes.link_of(destination, sls);
-        self.routes.set_link(link, true);
-        other
+        self.routes.link_without(link, destination, sls)
     }
 
     /// Whether some link of a set is in service; a set that isn't there has none.
@@ -161,10 +155,7 @@ impl NodeLinks {
             (set_at (facts_of self.old) set) }
         ensures links { self.new ≡ self.old }
     {
-        self.routes.set_link(link, false);
-        let others = self.routes.has_link(set);
-        self.routes.set_link(link, true);
-        others
+        self.routes.has_link_without(link, set)
     }
 
     /// The route that messages to a destination take, by the number of that destination. It is allowed or restricted;

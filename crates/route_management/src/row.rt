@@ -9,11 +9,11 @@ use std::marker::Model;
 
 /// What one adjacent point was told of each destination.
 #[derive(Drop)]
-pub(crate) struct Row {
+pub(crate) struct ToldRow {
     statuses: Vec<RouteStatus>,
 }
 
-impl Model for Row {
+impl Model for ToldRow {
     ghost use Rattle.std.specs.Prelude.{List};
     ghost use Rattle.route_table.specs.declared.route.RouteStatus.{RouteStatus};
 
@@ -22,12 +22,12 @@ impl Model for Row {
     ghost view = { λ s. s.statuses.items };
 }
 
-impl Row {
+impl ToldRow {
     /// So many destinations, all of them allowed.
-    pub(crate) fn new(alloc: Global, destinations: usize) -> Result<Row, AllocError>
+    pub(crate) fn new(alloc: Global, destinations: usize) -> Result<ToldRow, AllocError>
         ensures { IfOk result (λ row. row ≡ replicate destinations status.Allowed) }
     {
-        Ok(Row {
+        Ok(ToldRow {
             statuses: vec![in alloc; RouteStatus::Allowed; destinations]?,
         })
     }

@@ -9,7 +9,7 @@ ghost use Rattle.route_management.specs.Owed.{said_by, status_to_advertise, owed
 ghost use Rattle.route_management.specs.Hearing.{heard, answer_to_test};
 
 use crate::heard::{Heard, RouteTest, heard_of};
-use crate::row::Row;
+use crate::row::ToldRow;
 use node_links::NodeLinks;
 use route_table::{Route, RouteStatus};
 use settings_rows::{DestinationRow, SetRow};
@@ -25,7 +25,7 @@ use std::marker::Model;
 #[derive(Drop)]
 pub struct Told {
     adjacents: Vec<Option<usize>>,
-    rows: Vec<Row>,
+    rows: Vec<ToldRow>,
 }
 
 impl Model for Told {
@@ -193,12 +193,12 @@ fn adjacent_place(set: &SetRow, destinations: &[DestinationRow]) -> Option<usize
 }
 
 /// So many rows of so many destinations, all of them allowed.
-fn first_rows(alloc: Global, sets: usize, destinations: usize) -> Result<Vec<Row>, AllocError>
+fn first_rows(alloc: Global, sets: usize, destinations: usize) -> Result<Vec<ToldRow>, AllocError>
     ensures { IfOk result (λ rows. rows.items ≡ replicate sets (replicate destinations status.Allowed)) }
 {
     let mut rows = Vec::with_capacity(alloc, sets)?;
     for index in 0..sets {
-        rows.push_reserved(Row::new(alloc, destinations)?);
+        rows.push_reserved(ToldRow::new(alloc, destinations)?);
     }
     Ok(rows)
 }

@@ -8,7 +8,7 @@ use Rattle.route_table.specs.declared.route.Route.{Route}
 use Rattle.route_table.specs.declared.route.RouteStatus.{RouteStatus}
 use Rattle.route_table.specs.declared.route.RouteStatus.TheVariants.{Allowed, Restricted}
 use Rattle.route_table.specs.Facts.{Facts, set_at, routes_to}
-use Rattle.route_table.specs.Chosen.{status_number, is_open, open_route, chosen_set, chosen_link}
+use Rattle.route_table.specs.Chosen.{is_open, open_route, chosen_set, chosen_link}
 use Rattle.route_table.proofs.Opening.{found_passes}
 
 right-true : (a b : Bool) → (a && b) ≡ true → b ≡ true

@@ -5,3 +5,6 @@ pub mod Resetting
 pub mod Opening
 pub mod Searching
 pub mod Choosing
+pub mod Compiling
+pub mod Mending
+pub mod Restoring

@@ -1,4 +1,5 @@
 pub mod Facts
 pub mod Chosen
+pub mod Table
 pub mod Room
 pub mod Statuses

@@ -1,6 +1,24 @@
--- How routing facts are kept.
+-- How routing facts are kept, and the links of all flows beside them.
+use Rattle.std.specs.Prelude.{◌≡◌, ℕ, List, Option, length}
 use Rattle.route_table.specs.Facts.{Facts}
-use Rattle.route_table.specs.declared.routes.Routes.TheInside.{Inside}
+use Rattle.route_table.specs.Table.{selections, table_of}
+use Rattle.route_table.specs.declared.known.KnownRoutes.TheInside as known
+use Rattle.route_table.specs.declared.flow_links.FlowLinks.TheInside as flow_links
+use Rattle.route_table.specs.declared.routes.Routes.TheInside as routes
 
-abbrev pub facts_in : Inside → Facts
+abbrev pub facts_in : known.Inside → Facts
 facts_in s = record { sets = s.sets.items; in_service = s.in_service.items; routes = s.destinations.items }
+
+abbrev pub flow_links_in : flow_links.Inside → List (Option ℕ)
+flow_links_in s = s.links
+
+-- there is a place for each selection
+pub record HasPlaces (s : flow_links.Inside) : Type 0 where
+  pub places : length s.links ≡ selections
+
+abbrev pub known_in : routes.Inside → Facts
+known_in s = s.known
+
+-- the table has the links that follow from what is known
+pub record IsCompiled (s : routes.Inside) : Type 0 where
+  pub table : s.links.items ≡ table_of s.known

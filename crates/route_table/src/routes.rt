@@ -1,32 +1,32 @@
-//! Routing facts, and what follows from them.
+//! Routing facts, with the link of each flow in a table.
 
-ghost use Rattle.std.specs.Prelude.{◌≡◌, ◌≤◌, false, length, map, find, replicate, IfOk, slice_index_or};
-ghost use Rattle.std.specs.Option.{option_map};
-ghost use Rattle.linkset.specs.Preference.{first_in_service, has_link};
-ghost use Rattle.route_table.specs.Facts.{first_facts, first_sets, first_routes, set_at, routes_to};
-ghost use Rattle.route_table.specs.Facts.{with_link, with_status};
-ghost use Rattle.route_table.specs.Chosen.{chosen_route, chosen_set, chosen_link};
-ghost use Rattle.route_table.specs.Chosen.{open_route, is_open, open_link, link_by};
+ghost use Rattle.std.specs.Prelude.{◌≡◌, ◌≤◌, false, length, IfOk};
+ghost use Rattle.linkset.specs.Preference.{has_link};
+ghost use Rattle.route_table.specs.Facts.{first_facts, set_at, with_link, with_status};
+ghost use Rattle.route_table.specs.Chosen.{chosen_link, chosen_route};
+ghost use Rattle.route_table.specs.Statuses.{status_of, with_statuses_reset};
 
-mod statuses;
+mod table;
 
-use crate::route::{Route, RouteList, RouteStatus};
-use linkset::LinkSet;
+use crate::flow_links::FlowLinks;
+use crate::known::KnownRoutes;
+use crate::route::{Route, RouteStatus};
 use settings_rows::{DestinationRow, LinkRow};
 use signalling_types::{Limits, LinkId, SetId, Sls};
 use std::alloc::{AllocError, Global};
 use std::marker::Model;
+use table::{compiled, mend, mend_by_link, mend_by_set};
 
 /// Which links are in service, and by which sets each destination is reached with which status. A destination goes by
 /// its number in the order of the settings.
 ///
-/// All room is made by `new`. The set of a destination and the link of a flow are worked out on each call: that takes
-/// the sets that lead to the destination and their links, however many others there are.
+/// All room is made by `new`. The link of each flow stands in a table, which is mended as links and statuses change:
+/// `link_of` is one look-up. The route of a destination is worked out on each call: that takes the sets that lead to
+/// it and their links, however many others there are.
 #[derive(Drop)]
 pub struct Routes {
-    sets: Vec<LinkSet>,
-    in_service: Vec<bool>,
-    destinations: Vec<RouteList>,
+    known: KnownRoutes,
+    links: Vec<FlowLinks>,
 }
 
 impl Model for Routes {
@@ -34,9 +34,11 @@ impl Model for Routes {
 
     ghost Value = { Facts };
 
-    ghost use Rattle.route_table.specs.Room.{facts_in};
+    ghost use Rattle.route_table.specs.Room.{known_in, IsCompiled};
 
-    ghost view = { facts_in };
+    ghost view = { known_in };
+
+    ghost invariant = { IsCompiled };
 }
 
 impl Routes {
@@ -52,29 +54,49 @@ impl Routes {
         requires links { length links.now ≤ Limits.LINKS }
         ensures { IfOk result (λ routes. routes ≡ first_facts sets links.now destinations.now) }
     {
-        Ok(Routes {
-            sets: link_sets(alloc, sets, links)?,
-            in_service: none_in_service(alloc, links.len())?,
-            destinations: route_lists(alloc, destinations)?,
-        })
+        let known = KnownRoutes::new(alloc, sets, links, destinations)?;
+        let links = compiled(alloc, &known)?;
+        Ok(Routes { known, links })
     }
 
     /// A link enters service, or leaves it. A link that isn't there is left aside.
+    ///
+    /// Where that changes the link, the flows are looked at anew of each destination to which its set leads, and of no
+    /// other.
     pub fn set_link(&mut self, link: LinkId, in_service: bool)
         ensures { self.new ≡ with_link link in_service self.old }
     {
-        if let Some(is) = self.in_service.get_mut(link.index()) {
-            *is = in_service;
+        if self.known.is_in_service(link) != in_service {
+            self.known.set_link(link, in_service);
+            mend_by_link(&mut self.links, &self.known, link);
         }
     }
 
     /// The route to a destination by a set gets a status. A route that isn't there is left aside.
+    ///
+    /// The 16 flows to the destination are looked at anew.
     pub fn set_status(&mut self, destination: usize, set: SetId, status: RouteStatus)
         ensures { self.new ≡ with_status destination set status self.old }
     {
-        if let Some(routes) = self.destinations.get_mut(destination) {
-            routes.tell(set, status);
-        }
+        self.known.set_status(destination, set, status);
+        mend(&mut self.links, &self.known, destination);
+    }
+
+    /// All routes by a set are allowed again, as its first link enters service (Q.704 §13). It takes a step for each
+    /// route of the node; the flows to each destination to which the set leads are looked at anew.
+    pub fn reset_statuses(&mut self, set: SetId)
+        ensures { self.new ≡ with_statuses_reset set self.old }
+    {
+        self.known.reset_statuses(set);
+        mend_by_set(&mut self.links, &self.known, set);
+    }
+
+    /// The status of the route to a destination by a set. `None` where no such route is there. It takes a step for each
+    /// set that leads to the destination.
+    pub fn status_of(&self, destination: usize, set: SetId) -> Option<RouteStatus>
+        ensures { result ≡ status_of self.now destination set }
+    {
+        self.known.status_of(destination, set)
     }
 
     /// The route that messages to a destination take: by the first of its sets that has a link in service and is
@@ -82,54 +104,16 @@ impl Routes {
     pub fn route_of(&self, destination: usize) -> Option<Route>
         ensures { result ≡ chosen_route self.now destination }
     {
-        match self.open_route(destination, RouteStatus::Allowed) {
-            Some(route) => Some(route),
-            None => self.open_route(destination, RouteStatus::Restricted),
-        }
+        self.known.route_of(destination)
     }
 
     /// The link of a flow: of the set of its destination, the first in service in the order in which the selection
-    /// tries them (Q.704 §4.2).
-    #[tactic(auto, using(crate::proofs::Searching::chosen_is))]
+    /// tries them (Q.704 §4.2). It is one look-up.
     pub fn link_of(&self, destination: usize, sls: Sls) -> Option<LinkId>
         ensures { result ≡ chosen_link self.now destination sls }
     {
-        match self.open_link(destination, sls, RouteStatus::Allowed) {
-            Some(link) => Some(link),
-            None => self.open_link(destination, sls, RouteStatus::Restricted),
-        }
-    }
-
-    /// The link of a flow by the first route with this status that has one.
-    fn open_link(&self, destination: usize, sls: Sls, status: RouteStatus) -> Option<LinkId>
-        ensures { result ≡ open_link self.now sls status (routes_to self.now destination) }
-    {
-        for route in self.routes_to(destination) {
-            let link = self.link_by(*route, sls, status);
-            if link.is_some() {
-                return link;
-            }
-        }
-        None
-    }
-
-    /// The link of a flow by a route, where it has this status.
-    fn link_by(&self, route: Route, sls: Sls, status: RouteStatus) -> Option<LinkId>
-        ensures { result ≡ link_by self.now sls status route }
-    {
-        if route.status.is(status) {
-            self.link_in(route.set, sls)
-        } else {
-            None
-        }
-    }
-
-    /// The first link of a set in service that a selection tries.
-    fn link_in(&self, set: SetId, sls: Sls) -> Option<LinkId>
-        ensures { result ≡ first_in_service sls self.now.in_service (set_at self.now set) }
-    {
-        match self.sets.get(set.index()) {
-            Some(links) => links.first_in_service(sls, &self.in_service),
+        match self.links.get(destination) {
+            Some(links) => links.link(sls),
             None => None,
         }
     }
@@ -138,70 +122,40 @@ impl Routes {
     pub fn destinations(&self) -> usize
         ensures { result ≡ length self.now.routes }
     {
-        self.destinations.len()
+        self.known.destinations()
     }
 
     /// Whether some link of a set is in service; a set that isn't there has none.
     pub fn has_link(&self, set: SetId) -> bool
         ensures { result ≡ has_link self.now.in_service (set_at self.now set) }
     {
-        match self.sets.get(set.index()) {
-            Some(links) => links.has_link(&self.in_service),
-            None => false,
-        }
+        self.known.has_link(set)
     }
 
-    /// The routes to a destination.
-    fn routes_to(&self, destination: usize) -> &[Route]
-        ensures { result.now ≡ routes_to self.now destination }
+    /// The link that a flow would take if a link weren't in service. Nothing changes in the end.
+    ///
+    /// The table stays as it is; the link is worked out, which takes the sets of the destination and their links.
+    pub fn link_without(&mut self, link: LinkId, destination: usize, sls: Sls) -> Option<LinkId>
+        ensures link { result ≡ chosen_link (with_link link false self.old) destination sls }
+        ensures facts { self.new ≡ self.old }
     {
-        match self.destinations.get(destination) {
-            Some(routes) => routes.routes(),
-            None => &[],
-        }
+        self.known.link_without(link, destination, sls)
     }
 
-    /// The first route to a destination with this status whose set has a link in service.
-    fn open_route(&self, destination: usize, status: RouteStatus) -> Option<Route>
-        ensures { result ≡ open_route self.now destination status }
+    /// The route that messages to a destination would take if a link weren't in service. Nothing changes in the end.
+    pub fn route_without(&mut self, link: LinkId, destination: usize) -> Option<Route>
+        ensures route { result ≡ chosen_route (with_link link false self.old) destination }
+        ensures facts { self.new ≡ self.old }
     {
-        for route in self.routes_to(destination) {
-            if route.status.is(status) && self.has_link(route.set) {
-                return Some(*route);
-            }
-        }
-        None
+        self.known.route_without(link, destination)
     }
-}
 
-/// The first sets, so many of them, among the links of a node.
-#[tactic(auto, using(crate::proofs::Facts::sets))]
-fn link_sets(alloc: Global, sets: usize, links: &[LinkRow]) -> Result<Vec<LinkSet>, AllocError>
-    requires sets { sets ≤ Limits.SETS }
-    requires links { length links.now ≤ Limits.LINKS }
-    ensures { IfOk result (λ made. made.items ≡ first_sets sets links.now) }
-{
-    let mut made = Vec::with_capacity(alloc, sets)?;
-    for set in 0..sets {
-        made.push_reserved(LinkSet::of(links, SetId::new(set as u8)));
+    /// Whether some link of a set would be in service if a link weren't. Nothing changes in the end.
+    pub fn has_link_without(&mut self, link: LinkId, set: SetId) -> bool
+        ensures has { result
+            ≡ has_link (with_link link false self.old).in_service (set_at self.old set) }
+        ensures facts { self.new ≡ self.old }
+    {
+        self.known.has_link_without(link, set)
     }
-    Ok(made)
-}
-
-/// So many links, none in service.
-fn none_in_service(alloc: Global, links: usize) -> Result<Vec<bool>, AllocError>
-    ensures { IfOk result (λ made. made.items ≡ replicate links false) }
-{
-    Ok(vec![in alloc; false; links]?)
-}
-
-/// The routes to each destination, all of them allowed.
-fn route_lists(alloc: Global, destinations: &[DestinationRow]) -> Result<Vec<RouteList>, AllocError>
-    ensures { IfOk result (λ made. made.items ≡ map first_routes destinations.now) }
-{
-    let mut made = Vec::with_capacity(alloc, destinations.len())?;
-    for destination in destinations {
-        made.push_reserved(RouteList::new(destination));
-    }
-    Ok(made)
 }

@@ -7,8 +7,8 @@ use Rattle.signalling_types.specs.declared.cause.Cause.{Cause}
 use Rattle.signalling_types.specs.declared.cause.Cause.TheVariants.{NotInProfile, BadSccp, Unequipped, TooLong}
 use Rattle.signalling_types.specs.declared.limits.TheConstants.Limits.{SIF_OCTETS, TITLE_DIGITS}
 use Rattle.settings_rows.specs.Configuration.{TitleEntry}
-use Rattle.settings_rows.specs.declared.title_row.Route.{Route}
-use Rattle.settings_rows.specs.declared.title_row.Route.TheVariants as route
+use Rattle.settings_rows.specs.declared.title_row.TitleRoute.{TitleRoute}
+use Rattle.settings_rows.specs.declared.title_row.TitleRoute.TheVariants as route
 use Rattle.routing_label.specs.declared.label.Label.{Label}
 use Rattle.routing_label.specs.Label.{label_at, label_octets}
 use Rattle.sccp_codec.specs.declared.fault.SccpFault.{SccpFault}
@@ -41,8 +41,8 @@ is_equipped own None = false
 is_equipped own (Some ssn) = list_any (λ subsystem. nat_eq subsystem ssn) own.subsystems
 
 -- a message for a subsystem of this point
-abbrev pub distribute : OwnValue → Option ℕ → RelayedValue
-distribute own ssn = if is_equipped own ssn then Delivered else Refused Unequipped
+abbrev pub to_subsystem : OwnValue → Option ℕ → RelayedValue
+to_subsystem own ssn = if is_equipped own ssn then Delivered else Refused Unequipped
 
 -- ---- for another point
 
@@ -57,7 +57,7 @@ row_of rows address = row_of_title rows (read_title address.title_indicator addr
 
 -- by what the address is routed at the point that a row leads to, and the subsystem number there: that of the row,
 -- where it has one, else that of the address, where it has one
-abbrev pub routing_by : Route → Routing
+abbrev pub routing_by : TitleRoute → Routing
 routing_by (route.Title ssn) = routing.Title
 routing_by (route.Ssn ssn) = routing.Ssn
 
@@ -65,7 +65,7 @@ abbrev pub number_or : Option ℕ → Option ℕ → Option ℕ
 number_or None other = other
 number_or (Some number) other = Some number
 
-abbrev pub ssn_by : Route → Option ℕ → Option ℕ
+abbrev pub ssn_by : TitleRoute → Option ℕ → Option ℕ
 ssn_by (route.Title number) ssn = number_or number ssn
 ssn_by (route.Ssn number) ssn = Some number
 
@@ -107,9 +107,9 @@ onward None = Refused TooLong
 -- ---- a message
 
 -- the same message with other parts
-abbrev pub with_parts : UnitdataValue → PartsValue → UnitdataValue
-with_parts (UdtValue class_octet parts) others = UdtValue class_octet others
-with_parts (UdtsValue return_cause parts) others = UdtsValue return_cause others
+abbrev pub with_new_parts : UnitdataValue → PartsValue → UnitdataValue
+with_new_parts (UdtValue class_octet parts) others = UdtValue class_octet others
+with_new_parts (UdtsValue return_cause parts) others = UdtsValue return_cause others
 
 -- the parts, as a row leads them on
 abbrev pub led_on : TitleEntry → (sender : ℕ) → PartsValue → PartsValue
@@ -121,13 +121,13 @@ abbrev pub relay_by_row : OwnValue → Label → UnitdataValue → Result TitleE
 relay_by_row own label unitdata (Err cause) = Refused cause
 relay_by_row own label unitdata (Ok row) =
     if nat_eq row.point own.point
-    then distribute own (ssn_by row.route (parts_of unitdata).called.ssn)
-    else onward (written row.point own.point label (with_parts unitdata (led_on row label.opc (parts_of unitdata))))
+    then to_subsystem own (ssn_by row.route (parts_of unitdata).called.ssn)
+    else onward (written row.point own.point label (with_new_parts unitdata (led_on row label.opc (parts_of unitdata))))
 
 -- by subsystem number a message is for this point, whatever point the address names; by title a row leads it
-abbrev pub relay_by : Routing → OwnValue → List TitleEntry → Label → UnitdataValue → RelayedValue
-relay_by routing.Ssn own rows label unitdata = distribute own (parts_of unitdata).called.ssn
-relay_by routing.Title own rows label unitdata =
+abbrev pub relay_by_routing : Routing → OwnValue → List TitleEntry → Label → UnitdataValue → RelayedValue
+relay_by_routing routing.Ssn own rows label unitdata = to_subsystem own (parts_of unitdata).called.ssn
+relay_by_routing routing.Title own rows label unitdata =
     relay_by_row own label unitdata (row_of rows (parts_of unitdata).called)
 
 -- a UDT of a class above 1 asks for more than a connectionless service (Q.713 §3.6)
@@ -136,16 +136,16 @@ is_connectionless (UdtValue class_octet parts) = nat_le (class_octet % 16) 1
 is_connectionless (UdtsValue return_cause parts) = true
 
 -- why a message that can't be read is refused
-abbrev pub cause_of : SccpFault → Cause
-cause_of Short = BadSccp
-cause_of Pointer = BadSccp
-cause_of Kind = NotInProfile
+abbrev pub sccp_cause : SccpFault → Cause
+sccp_cause Short = BadSccp
+sccp_cause Pointer = BadSccp
+sccp_cause Kind = NotInProfile
 
 abbrev pub relay_read : OwnValue → List TitleEntry → Label → Result UnitdataValue SccpFault → RelayedValue
-relay_read own rows label (Err fault) = Refused (cause_of fault)
+relay_read own rows label (Err fault) = Refused (sccp_cause fault)
 relay_read own rows label (Ok unitdata) =
     if is_connectionless unitdata
-    then relay_by (parts_of unitdata).called.routing own rows label unitdata
+    then relay_by_routing (parts_of unitdata).called.routing own rows label unitdata
     else Refused NotInProfile
 
 -- what becomes of a message with this signalling information field

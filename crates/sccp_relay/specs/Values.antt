@@ -5,8 +5,8 @@ use Rattle.sccp_relay.specs.declared.relayed.Relayed.{Relayed}
 use Rattle.sccp_relay.specs.declared.relayed.Relayed.TheVariants as said
 use Rattle.sccp_relay.specs.Relay.{OwnValue, RelayedValue, Delivered, Onward, Refused}
 
-abbrev pub own_of : Own → OwnValue
-own_of own = record { point = own.point; subsystems = own.subsystems.now }
+abbrev pub own_value : Own → OwnValue
+own_value own = record { point = own.point; subsystems = own.subsystems.now }
 
 -- what became of a message, with what was written at the front of a field
 abbrev pub relayed_of : Relayed → List ℕ → RelayedValue

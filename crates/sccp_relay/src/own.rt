@@ -2,7 +2,7 @@
 
 ghost use Rattle.std.specs.Prelude.{◌≡◌};
 ghost use Rattle.sccp_relay.specs.Relay.{is_equipped};
-ghost use Rattle.sccp_relay.specs.Values.{own_of};
+ghost use Rattle.sccp_relay.specs.Values.{own_value};
 
 use signalling_types::PointCode;
 
@@ -18,7 +18,7 @@ pub struct Own<'a> {
 impl Own<'_> {
     /// Whether a subsystem of this number stands here; none does without a number.
     pub(crate) fn is_equipped(&self, ssn: Option<u8>) -> bool
-        ensures { result ≡ is_equipped (own_of self.now) ssn }
+        ensures { result ≡ is_equipped (own_value self.now) ssn }
     {
         match ssn {
             Some(ssn) => self.subsystems.contains(&ssn),

@@ -5,7 +5,7 @@ ghost use Rattle.routing_label.specs.Label.{label_at};
 ghost use Rattle.sccp_codec.specs.Messages.{parts_of};
 ghost use Rattle.sccp_codec.specs.Values.{address_of, parts_value, udt_of, udts_of, unitdata_of};
 ghost use Rattle.sccp_relay.specs.Relay as rule;
-ghost use Rattle.sccp_relay.specs.Values.{own_of, relayed_of, IfOnward};
+ghost use Rattle.sccp_relay.specs.Values.{own_value, relayed_of, IfOnward};
 
 use crate::own::Own;
 use crate::relayed::Relayed;
@@ -34,7 +34,7 @@ const LABEL_OCTETS: usize = 4;
 #[tactic(auto, unfolding(crate::specs::Relay::relay))]
 pub fn relay(sif: &[u8], rows: &Translations, own: &Own<'_>, field: &mut Field) -> Relayed
     requires label { 4 ≤ length sif.now }
-    ensures exact { relayed_of result field.new ≡ rule.relay (own_of own.now) rows.now sif.now }
+    ensures exact { relayed_of result field.new ≡ rule.relay (own_value own.now) rows.now sif.now }
     ensures label { IfOnward result (λ count. 4 ≤ count) }
     ensures fits { IfOnward result (λ count. count ≤ Limits.SIF_OCTETS) }
 {
@@ -42,7 +42,7 @@ pub fn relay(sif: &[u8], rows: &Translations, own: &Own<'_>, field: &mut Field) 
         unreachable!()
     };
     match Unitdata::read(behind_label(sif)) {
-        Err(fault) => Relayed::Refused(cause_of(fault)),
+        Err(fault) => Relayed::Refused(sccp_cause(fault)),
         Ok(unitdata) => relay_read(&unitdata, label, rows, own, field),
     }
 }
@@ -56,8 +56,8 @@ pub(crate) fn behind_label(sif: &[u8]) -> &[u8]
 }
 
 /// Why a message that can't be read is refused.
-fn cause_of(fault: SccpFault) -> Cause
-    ensures { result ≡ rule.cause_of fault }
+fn sccp_cause(fault: SccpFault) -> Cause
+    ensures { result ≡ rule.sccp_cause fault }
 {
     match fault {
         SccpFault::Short | SccpFault::Pointer => Cause::BadSccp,
@@ -74,7 +74,7 @@ fn relay_read(
     field: &mut Field,
 ) -> Relayed
     ensures exact { relayed_of result field.new
-        ≡ rule.relay_read (own_of own.now) rows.now label (Ok (unitdata_of unitdata.now)) }
+        ≡ rule.relay_read (own_value own.now) rows.now label (Ok (unitdata_of unitdata.now)) }
     ensures label { IfOnward result (λ count. 4 ≤ count) }
     ensures fits { IfOnward result (λ count. count ≤ Limits.SIF_OCTETS) }
 {
@@ -86,18 +86,18 @@ fn relay_read(
         Unitdata::Udts(udts) => &udts.parts.called,
     };
     if called.routing == Routing::Ssn {
-        return distribute(own, called.ssn);
+        return to_subsystem(own, called.ssn);
     }
     match row_of(rows, called) {
         Err(cause) => Relayed::Refused(cause),
-        Ok(row) if row.point() == own.point => distribute(own, ssn_by(row.route(), called.ssn)),
+        Ok(row) if row.point() == own.point => to_subsystem(own, ssn_by(row.route(), called.ssn)),
         Ok(row) => lead_on(unitdata, &row, label, own, field),
     }
 }
 
 /// A message for a subsystem of this point.
-fn distribute(own: &Own<'_>, ssn: Option<u8>) -> Relayed
-    ensures exact { (field : List ℕ) → relayed_of result field ≡ rule.distribute (own_of own.now) ssn }
+fn to_subsystem(own: &Own<'_>, ssn: Option<u8>) -> Relayed
+    ensures exact { (field : List ℕ) → relayed_of result field ≡ rule.to_subsystem (own_value own.now) ssn }
     ensures label { IfOnward result (λ count. 4 ≤ count) }
     ensures fits { IfOnward result (λ count. count ≤ Limits.SIF_OCTETS) }
 {
@@ -127,7 +127,7 @@ fn lead_on(
     field: &mut Field,
 ) -> Relayed
     ensures exact { relayed_of result field.new ≡ rule.onward (rule.written row.now.point own.now.point label
-        (rule.with_parts (unitdata_of unitdata.now)
+        (rule.with_new_parts (unitdata_of unitdata.now)
         (rule.led_on row.now label.opc (parts_of (unitdata_of unitdata.now))))) }
     ensures label { IfOnward result (λ count. 4 ≤ count) }
     ensures fits { IfOnward result (λ count. count ≤ Limits.SIF_OCTETS) }

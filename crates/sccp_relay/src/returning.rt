@@ -3,7 +3,7 @@
 ghost use Rattle.std.specs.Prelude.{◌≡◌, ◌≤◌, length, IfSome, Some, Ok};
 ghost use Rattle.sccp_codec.specs.Values.{parts_value, udts_of, unitdata_of};
 ghost use Rattle.sccp_relay.specs.Return as rule;
-ghost use Rattle.sccp_relay.specs.Values.{own_of, written_in};
+ghost use Rattle.sccp_relay.specs.Values.{own_value, written_in};
 
 use crate::own::Own;
 use crate::relaying::{behind_label, row_of};
@@ -32,7 +32,7 @@ pub fn returned(
     field: &mut Field,
 ) -> Option<usize>
     requires label { 4 ≤ length sif.now }
-    ensures exact { written_in result field.new ≡ rule.returned (own_of own.now) rows.now sif.now cause }
+    ensures exact { written_in result field.new ≡ rule.returned (own_value own.now) rows.now sif.now cause }
     ensures label { IfSome result (λ count. 4 ≤ count) }
     ensures fits { IfSome result (λ count. count ≤ Limits.SIF_OCTETS) }
 {
@@ -70,7 +70,7 @@ fn return_read(
     field: &mut Field,
 ) -> Option<usize>
     ensures text { written_in result field.new
-        ≡ rule.return_read (own_of own.now) rows.now label (Some number) (Ok (unitdata_of unitdata.now)) }
+        ≡ rule.return_read (own_value own.now) rows.now label (Some number) (Ok (unitdata_of unitdata.now)) }
     ensures label { IfSome result (λ count. 4 ≤ count) }
     ensures fits { IfSome result (λ count. count ≤ Limits.SIF_OCTETS) }
 {
@@ -93,7 +93,7 @@ fn return_by(
     field: &mut Field,
 ) -> Option<usize>
     ensures text { written_in result field.new ≡ rule.return_by (parts_value parts.now).calling.routing
-        (own_of own.now) rows.now label number (parts_value parts.now) }
+        (own_value own.now) rows.now label number (parts_value parts.now) }
     ensures label { IfSome result (λ count. 4 ≤ count) }
     ensures fits { IfSome result (λ count. count ≤ Limits.SIF_OCTETS) }
 {

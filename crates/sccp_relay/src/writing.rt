@@ -7,7 +7,7 @@ ghost use Rattle.sccp_relay.specs.Values.{written_in};
 
 use routing_label::Label;
 use sccp_codec::{Address, Field, Routing, Udt, Udts};
-use settings_rows::{Route, TitleRow};
+use settings_rows::{TitleRoute, TitleRow};
 use signalling_types::{Limits, PointCode, Ssn};
 
 /// Writes a UDT for another point behind a label from this one, which keeps the link selection, at the
@@ -60,12 +60,12 @@ fn label_to(point: PointCode, own: PointCode, label: Label) -> Label
 
 /// The subsystem number at the point that a row leads to: that of the row, where it has one, else that
 /// of the address, where it has one (Q.714 §2.4).
-pub(crate) fn ssn_by(route: Route, ssn: Option<u8>) -> Option<u8>
+pub(crate) fn ssn_by(route: TitleRoute, ssn: Option<u8>) -> Option<u8>
     ensures { result ≡ rule.ssn_by route ssn }
 {
     match route {
-        Route::Title(other) => number_or(other, ssn),
-        Route::Ssn(other) => Some(other.number()),
+        TitleRoute::Title(other) => number_or(other, ssn),
+        TitleRoute::Ssn(other) => Some(other.number()),
     }
 }
 
@@ -80,12 +80,12 @@ fn number_or(ssn: Option<Ssn>, other: Option<u8>) -> Option<u8>
 }
 
 /// By what an address is routed at that point.
-fn routing_by(route: Route) -> Routing
+fn routing_by(route: TitleRoute) -> Routing
     ensures { result ≡ rule.routing_by route }
 {
     match route {
-        Route::Title(_) => Routing::Title,
-        Route::Ssn(_) => Routing::Ssn,
+        TitleRoute::Title(_) => Routing::Title,
+        TitleRoute::Ssn(_) => Routing::Ssn,
     }
 }
 

@@ -18,13 +18,17 @@ up  e0|line 7 \"up  e0\": has an empty word: words are separated by one space, w
 up e0 |line 7 \"up e0 \": has an empty word: words are separated by one space, with none before or after them
 tick 0|line 7 \"tick 0\": must be tick N, where N is 1 to 65535
 tick 65536|line 7 \"tick 65536\": must be tick N, where N is 1 to 65535
-frame e0 0|line 7 \"frame e0 0\": must be frame LINK HEX, where HEX is 1 to 4096 octets of two hex digits each, without spaces
+frame e0 0|line 7 \"frame e0 0\": must be frame LINK HEX, \
+where HEX is 1 to 4096 octets of two hex digits each, without spaces
 submit 0g|line 7 \"submit 0g\": must be submit HEX, where HEX is 1 to 4096 octets of two hex digits each, without spaces
 show link|line 7 \"show link\": must be show links, show routes, show titles or show notices
 titel add 0 1 4 49 3 title -|line 7 \"titel add 0 1 4 49 3 title -\": no command is named titel; the nearest is title
-title add 0 1 4 49 3 ssn -|line 7 \"title add 0 1 4 49 3 ssn -\": must be title add T P N DIGITS POINT ROUTE SSN or title remove T P N DIGITS, where T is 0 to 255, P 0 to 15, N 0 to 127, DIGITS 1 to 32 of 0 to 9 and a to f, POINT 0 to 16383, ROUTE title or ssn, SSN 1 to 255, or - if ROUTE is title
+title add 0 1 4 49 3 ssn -|line 7 \"title add 0 1 4 49 3 ssn -\": must be title add T P N DIGITS POINT ROUTE SSN \
+or title remove T P N DIGITS, where T is 0 to 255, P 0 to 15, N 0 to 127, DIGITS 1 to 32 of 0 to 9 and a to f, \
+POINT 0 to 16383, ROUTE title or ssn, SSN 1 to 255, or - if ROUTE is title
 activate|line 7 \"activate\": must be activate LINK
-frame e0 01000b020000001400ffffff00ffffff0000000200000000000000000000x|line 7: must be frame LINK HEX, where HEX is 1 to 4096 octets of two hex digits each, without spaces";
+frame e0 01000b020000001400ffffff00ffffff0000000200000000000000000000x|line 7: must be frame LINK HEX, \
+where HEX is 1 to 4096 octets of two hex digits each, without spaces";
 
 /// Compares the sentence of a line.
 fn expect<T: Abort>(rt: &T, alloc: Global, line: &[u8], fault: LineFault, wanted: &str) {

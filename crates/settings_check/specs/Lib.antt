@@ -3,3 +3,4 @@ pub mod Meaning
 pub mod Titles
 pub mod FirstFault
 pub mod Checked
+pub mod Indexed

@@ -5,8 +5,8 @@ use Rattle.std.specs.Option.{option_map}
 use Rattle.std.specs.Str.{bytes_eq}
 use Rattle.settings_check.specs.Checks.{natural}
 use Rattle.settings_rows.specs.Configuration.{Configuration, SetEntry, LinkEntry, DestinationEntry, TitleEntry}
-use Rattle.settings_rows.specs.declared.title_row.Route.{Route}
-use Rattle.settings_rows.specs.declared.title_row.Route.TheVariants.{Title, Ssn}
+use Rattle.settings_rows.specs.declared.title_row.TitleRoute.{TitleRoute}
+use Rattle.settings_rows.specs.declared.title_row.TitleRoute.TheVariants.{Title, Ssn}
 use Rattle.settings_rows.specs.declared.timer_ticks.TimerTicks.{TimerTicks}
 use Rattle.settings_rows.specs.declared.draft.Draft.{Draft}
 use Rattle.settings_rows.specs.declared.draft.TimersDraft.{TimersDraft}
@@ -69,7 +69,7 @@ abbrev pub is_by_title : TitleDraft → Bool
 is_by_title t = bytes_eq (string_bytes t.route) (codes "title")
 
 -- a route by title has a subsystem number beside it, if any; any other is by its subsystem number
-abbrev pub route_of : Bool → Option ℕ → Route
+abbrev pub route_of : Bool → Option ℕ → TitleRoute
 route_of by_title ssn = if by_title then Title ssn else Ssn (unwrap_or ssn 0)
 
 abbrev pub title_of : TitleDraft → TitleEntry

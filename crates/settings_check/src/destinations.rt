@@ -1,7 +1,7 @@
 //! Destinations of settings.
 
-ghost use Rattle.std.specs.Prelude.{◌≡◌, ◌∷◌, ◌++◌, ◌≤◌, ◌⊎◌, [], None, Some, string_eq, length, map, IfOk, OnOk};
-ghost use Rattle.std.specs.Prelude.{IfErr, string_bytes};
+ghost use Rattle.std.specs.Prelude.{◌≡◌, ◌∷◌, ◌++◌, ◌<◌, ◌≤◌, ◌⊎◌, [], None, Some, string_eq, length, map};
+ghost use Rattle.std.specs.Prelude.{IfOk, OnOk, IfErr, string_bytes};
 ghost use Rattle.std.specs.List.{list_all};
 ghost use Rattle.settings_rows.specs.Names.{is_name};
 ghost use Rattle.settings_check.specs.Checks.{natural, fault_unless, has_repeat, entries_fault};
@@ -11,9 +11,9 @@ ghost use Rattle.settings_check.specs.FirstFault.{destination_fault, destination
 
 use crate::names::is_name;
 use crate::numbers::{count, ensure, far_point};
+use crate::points::PointIndex;
 use crate::sets::set_place;
 use arrayvec::ArrayVec;
-use indexmap::IndexSet;
 use settings_rows::{DestinationDraft, DestinationRow, DraftFault, FaultKind, Key, SetDraft};
 use signalling_types::{Limits, PointCode, SetId};
 use std::alloc::Global;
@@ -21,14 +21,15 @@ use std::alloc::Global;
 /// The point of a destination, after the destinations before it, whose points are `points`.
 fn destination_point(
     own: PointCode,
-    points: &mut IndexSet<u16>,
+    points: &mut PointIndex,
     earlier: &[DestinationDraft],
     destination: &DestinationDraft,
 ) -> Result<PointCode, DraftFault>
-    requires { points.old.keys ≡ points_of earlier.now }
+    requires fits { length earlier.now < Limits.DESTINATIONS }
+    requires points { points.old ≡ points_of earlier.now }
     ensures value { IfOk result (λ point. point ≡ natural destination.now.point) }
     ensures points { OnOk result
-        (points.new.keys ≡ points.old.keys ++ natural destination.now.point ∷ []) }
+        (points.new ≡ points.old ++ natural destination.now.point ∷ []) }
     ensures well { OnOk result (destination_point_fault own earlier.now destination.now ≡ None) }
     ensures fault { IfErr result (λ fault.
         (fault ≡ DraftFault.NoMemory)
@@ -36,7 +37,7 @@ fn destination_point(
 {
     let key = Key::DestinationPoint(earlier.len());
     let point = far_point(destination.point, own, key)?;
-    let is_new = points.insert(point.code())?;
+    let is_new = points.insert(point)?;
     ensure(is_new, FaultKind::Duplicate, key)?;
     Ok(point)
 }
@@ -107,15 +108,16 @@ fn set_list(
 fn destination_row(
     own: PointCode,
     sets: &[SetDraft],
-    points: &mut IndexSet<u16>,
+    points: &mut PointIndex,
     earlier: &[DestinationDraft],
     destination: &DestinationDraft,
 ) -> Result<DestinationRow, DraftFault>
     requires sets { length sets.now ≤ Limits.SETS }
-    requires points { points.old.keys ≡ points_of earlier.now }
+    requires fits { length earlier.now < Limits.DESTINATIONS }
+    requires points { points.old ≡ points_of earlier.now }
     ensures value { IfOk result (λ row. row ≡ destination_of sets.now destination.now) }
     ensures points { OnOk result
-        (points.new.keys ≡ points.old.keys ++ natural destination.now.point ∷ []) }
+        (points.new ≡ points.old ++ natural destination.now.point ∷ []) }
     ensures well { OnOk result (destination_fault own sets.now earlier.now destination.now ≡ None) }
     ensures fault { IfErr result (λ fault.
         (fault ≡ DraftFault.NoMemory)
@@ -133,10 +135,11 @@ fn destination_rows(
     own: PointCode,
     sets: &[SetDraft],
     destinations: &[DestinationDraft],
-) -> Result<(Vec<DestinationRow>, IndexSet<u16>), DraftFault>
-    requires { length sets.now ≤ Limits.SETS }
+) -> Result<(Vec<DestinationRow>, PointIndex), DraftFault>
+    requires sets { length sets.now ≤ Limits.SETS }
+    requires fits { length destinations.now ≤ Limits.DESTINATIONS }
     ensures value { IfOk result (λ r. r.0.items ≡ map (destination_of sets.now) destinations.now) }
-    ensures points { IfOk result (λ r. r.1.keys ≡ map (λ d. d.point) r.0.items) }
+    ensures points { IfOk result (λ r. r.1 ≡ map (λ d. d.point) r.0.items) }
     ensures well { OnOk result
         (entries_fault (destination_fault own sets.now) [] destinations.now ≡ None) }
     ensures fault { IfErr result (λ fault.
@@ -144,7 +147,7 @@ fn destination_rows(
         ⊎ (entries_fault (destination_fault own sets.now) [] destinations.now ≡ Some fault)) }
 {
     let mut rows = Vec::with_capacity(alloc, destinations.len())?;
-    let mut points = IndexSet::with_capacity(alloc, destinations.len())?;
+    let mut points = PointIndex::with_capacity(alloc, destinations.len())?;
     for i in 0..destinations.len() {
         let row = destination_row(own, sets, &mut points, &destinations[..i], &destinations[i])?;
         rows.push_reserved(row);
@@ -159,10 +162,10 @@ pub(crate) fn checked_destinations(
     own: PointCode,
     sets: &[SetDraft],
     destinations: &[DestinationDraft],
-) -> Result<(Vec<DestinationRow>, IndexSet<u16>), DraftFault>
+) -> Result<(Vec<DestinationRow>, PointIndex), DraftFault>
     requires { length sets.now ≤ Limits.SETS }
     ensures value { IfOk result (λ r. r.0.items ≡ map (destination_of sets.now) destinations.now) }
-    ensures points { IfOk result (λ r. r.1.keys ≡ map (λ d. d.point) r.0.items) }
+    ensures points { IfOk result (λ r. r.1 ≡ map (λ d. d.point) r.0.items) }
     ensures well { OnOk result (destinations_fault own sets.now destinations.now ≡ None) }
     ensures fault { IfErr result (λ fault.
         (fault ≡ DraftFault.NoMemory)

@@ -11,6 +11,7 @@ mod destinations;
 mod links;
 mod names;
 mod numbers;
+pub mod points;
 mod sets;
 mod timers;
 mod titles;
@@ -18,10 +19,10 @@ mod titles;
 use crate::destinations::checked_destinations;
 use crate::links::checked_links;
 use crate::numbers::{distinct_numbers, number, point};
+use crate::points::PointIndex;
 use crate::sets::{all_reached, checked_sets};
 use crate::timers::timer_ticks;
 use crate::titles::checked_titles;
-use indexmap::IndexSet;
 use settings_rows::{
     DestinationRow, Draft, DraftFault, Key, LinkRow, SetRow, TimerTicks, TitleRow,
 };
@@ -62,7 +63,7 @@ pub struct Checked {
     /// The translation rows.
     pub titles: Vec<TitleRow>,
     /// The point codes of the destinations, in their order.
-    pub points: IndexSet<u16>,
+    pub points: PointIndex,
 }
 
 /// Checks settings as they were written.
@@ -72,7 +73,7 @@ pub struct Checked {
 /// first. `NoMemory` may stand in place of any other, where a growth was refused.
 pub fn check_draft(alloc: Global, draft: &Draft) -> Result<Checked, DraftFault>
     ensures settings { IfOk result (λ c. configuration_in c ≡ settings_of draft.now) }
-    ensures points { IfOk result (λ c. c.points.keys ≡ map (λ d. d.point) c.destinations.items) }
+    ensures points { IfOk result (λ c. c.points ≡ map (λ d. d.point) c.destinations.items) }
     ensures well { OnOk result (first_fault draft.now ≡ None) }
     ensures fault { IfErr result (λ fault.
         (fault ≡ DraftFault.NoMemory) ⊎ (first_fault draft.now ≡ Some fault)) }
@@ -140,7 +141,7 @@ fn checked_scalars(draft: &Draft) -> Result<Scalars, DraftFault>
 #[derive(Drop)]
 struct Tables {
     destinations: Vec<DestinationRow>,
-    points: IndexSet<u16>,
+    points: PointIndex,
     titles: Vec<TitleRow>,
 }
 
@@ -151,7 +152,7 @@ fn checked_tables(alloc: Global, own: PointCode, draft: &Draft) -> Result<Tables
     requires sets { length draft.now.sets.items ≤ Limits.SETS }
     ensures destinations { IfOk result (λ t.
         t.destinations.items ≡ map (destination_of draft.now.sets.items) draft.now.destinations.items) }
-    ensures points { IfOk result (λ t. t.points.keys ≡ map (λ d. d.point) t.destinations.items) }
+    ensures points { IfOk result (λ t. t.points ≡ map (λ d. d.point) t.destinations.items) }
     ensures titles { IfOk result (λ t. t.titles.items ≡ map title_of draft.now.titles.items) }
     ensures well { OnOk result (tables_fault draft.now ≡ None) }
     ensures fault { IfErr result (λ fault.
@@ -190,7 +191,7 @@ fn checked_arrays(alloc: Global, own: PointCode, draft: &Draft) -> Result<Arrays
     ensures destinations { IfOk result (λ a.
         a.tables.destinations.items ≡ map (destination_of draft.now.sets.items) draft.now.destinations.items) }
     ensures points { IfOk result (λ a.
-        a.tables.points.keys ≡ map (λ d. d.point) a.tables.destinations.items) }
+        a.tables.points ≡ map (λ d. d.point) a.tables.destinations.items) }
     ensures titles { IfOk result (λ a. a.tables.titles.items ≡ map title_of draft.now.titles.items) }
     ensures well { OnOk result (arrays_fault draft.now ≡ None) }
     ensures fault { IfErr result (λ fault.

@@ -15,7 +15,7 @@ ghost use Rattle.settings_check.specs.FirstFault.{title_fault, titles_fault};
 use crate::numbers::{ensure, number, point};
 use arrayvec::ArrayVec;
 use indexmap::IndexSet;
-use settings_rows::{DraftFault, FaultKind, Key, Route, TitleDraft, TitleRow};
+use settings_rows::{DraftFault, FaultKind, Key, TitleDraft, TitleRoute, TitleRow};
 use signalling_types::{Limits, Ssn};
 use std::alloc::Global;
 
@@ -156,15 +156,15 @@ fn subsystem(ssn: Option<i64>, key: Key) -> Result<Option<Ssn>, DraftFault>
 }
 
 /// How a translation row is routed: by title or not, with this subsystem number, if any.
-fn route(by_title: bool, ssn: Option<Ssn>, key: Key) -> Result<Route, DraftFault>
+fn route(by_title: bool, ssn: Option<Ssn>, key: Key) -> Result<TitleRoute, DraftFault>
     ensures value { IfOk result (λ route. route ≡ route_of by_title ssn) }
     ensures well { OnOk result (fault_unless (by_title || is_some ssn) FaultKind.Range key ≡ None) }
     ensures fault { IfErr result (λ fault.
         fault_unless (by_title || is_some ssn) FaultKind.Range key ≡ Some fault) }
 {
     match ssn {
-        _ if by_title => Ok(Route::Title(ssn)),
-        Some(ssn) => Ok(Route::Ssn(ssn)),
+        _ if by_title => Ok(TitleRoute::Title(ssn)),
+        Some(ssn) => Ok(TitleRoute::Ssn(ssn)),
         None => Err(DraftFault::At(FaultKind::Range, key)),
     }
 }

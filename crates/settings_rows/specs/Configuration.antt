@@ -1,7 +1,7 @@
 -- The checked settings of a node, as plain data.
 use Rattle.std.specs.Prelude.{ℕ, List}
 use Rattle.settings_rows.specs.declared.timer_ticks.TimerTicks.{TimerTicks}
-use Rattle.settings_rows.specs.declared.title_row.Route.{Route}
+use Rattle.settings_rows.specs.declared.title_row.TitleRoute.{TitleRoute}
 
 -- a link set: its name, and the point that its links lead to
 pub record SetEntry : Type 0 where
@@ -26,7 +26,7 @@ pub record TitleEntry : Type 0 where
   pub nature : ℕ
   pub digits : List ℕ
   pub point : ℕ
-  pub route : Route
+  pub route : TitleRoute
 
 -- all settings of a node, its sets, links and destinations by number in the order of the settings
 pub record Configuration : Type 0 where

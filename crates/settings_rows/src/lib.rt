@@ -19,4 +19,4 @@ pub use key::{Key, TimerKey};
 pub use link_row::LinkRow;
 pub use set_row::SetRow;
 pub use timer_ticks::TimerTicks;
-pub use title_row::{Route, TitleRow};
+pub use title_row::{TitleRoute, TitleRow};

@@ -17,7 +17,7 @@ const LAST_DIGIT: u8 = 15;
 
 /// How an address is routed at the point that it is translated to (Q.714 §2.4).
 #[derive(Clone, Copy)]
-pub enum Route {
+pub enum TitleRoute {
     /// By its title, with this subsystem number beside it, if any.
     Title(Option<Ssn>),
     /// By this subsystem number.
@@ -34,7 +34,7 @@ pub struct TitleRow {
     digits: [u8; Limits::TITLE_DIGITS],
     len: u8,
     point: PointCode,
-    route: Route,
+    route: TitleRoute,
 }
 
 impl Model for TitleRow {
@@ -64,7 +64,7 @@ impl TitleRow {
         nature: u8,
         digits: &[u8],
         point: PointCode,
-        route: Route,
+        route: TitleRoute,
     ) -> Option<TitleRow>
         ensures fits { IsSome result ↔ HasTitleRanges plan nature digits.now }
         ensures value { IfSome result (λ row. row ≡ record {
@@ -134,7 +134,7 @@ impl TitleRow {
     }
 
     /// How it is routed there.
-    pub fn route(&self) -> Route
+    pub fn route(&self) -> TitleRoute
         ensures { result ≡ self.now.route }
     {
         self.route

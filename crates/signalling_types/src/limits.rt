@@ -46,8 +46,8 @@ impl Limits {
     /// Ticks of a timer, at most.
     pub const TICKS: usize = 65_535;
 
-    /// Octets of a frame that a framer or a script takes, at most. The longest frame of M2PA whose message isn't refused
-    /// TooLong has 290.
+    /// Octets of a frame that a framer or a script takes, at most. The longest frame of M2PA whose message isn't
+    /// refused TooLong has 290.
     pub const FRAME_OCTETS: usize = 4096;
 
     /// Notices that are kept.

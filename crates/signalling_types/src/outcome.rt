@@ -10,13 +10,14 @@ pub enum Outcome {
     Queued(LinkId),
     /// The message is held until its flow may go on.
     Held,
-    /// The message is for a user part or a subsystem of this node: the caller passes it on, also one that was submitted.
+    /// The message is for a user part or a subsystem of this node: the caller passes it on, also one that was
+    /// submitted.
     Local,
     /// The event was taken. A link may have failed by it.
     Handled,
     /// The event asks for nothing here. What accepting its frame did stands, and a frame that can't be read is noted.
     Ignored,
-    /// The event was refused, and changed nothing; but a refused message may be answered (TFP, UDTS), and what accepting
-    /// its frame did stands.
+    /// The event was refused, and changed nothing; but a refused message may be answered (TFP, UDTS), and what
+    /// accepting its frame did stands.
     Refused(Cause),
 }

@@ -31,8 +31,8 @@ stopped number s = record { text = line_fault number; state = s; fault = Some nu
 abbrev pub whole_line : List ℕ → Reading
 whole_line line = if nat_lt LINE_OCTETS (length line) then IsMalformed else parsed_line line
 
--- what such a line prints, and the state after it, and where memory is refused for a translation row that it adds, if it
--- is
+-- what such a line prints, and the state after it, and where memory is refused for a translation row that it adds, if
+-- it is
 abbrev pub line_run : {Q : Type 0} → QueueKind Q → ℕ → (lacks_memory : Bool) → Reading → State Q → Reached Q
 line_run q number lacks_memory Skips s = silent s
 line_run q number lacks_memory IsMalformed s = stopped number s
@@ -55,7 +55,8 @@ unless_ended (Some number) r next = r
 abbrev pub behind : {Q : Type 0} → Reached Q → (State Q → Reached Q) → Reached Q
 behind r next = unless_ended r.fault r next
 
--- of lines in a row, whether memory is refused at the first of them, and at those behind it; none is where the list ends
+-- of lines in a row, whether memory is refused at the first of them, and at those behind it; none is where the list
+-- ends
 abbrev pub first_of : List Bool → Bool
 first_of [] = false
 first_of (refused ∷ later) = refused

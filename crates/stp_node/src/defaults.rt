@@ -1,4 +1,4 @@
-//! The settings that a node runs with where it is given none.
+//! The built-in settings, for a node that is given none.
 
 ghost use Rattle.std.specs.Prelude.{◌≡◌, ◌∷◌, [], IfOk};
 ghost use Rattle.stp_node.specs.BuiltIn.{IsBuiltIn, built_in_ticks, IsSets, IsLinks, IsDestination, IsDestinations};
@@ -14,7 +14,7 @@ const LINK: &str = "e0";
 
 /// The settings of point 1 with one link, `e0`, to the adjacent point 2, and a destination 300 behind it.
 ///
-/// `AllocError` where memory ran out.
+/// Returns `AllocError` if memory ran out.
 pub fn built_in(alloc: Global) -> Result<Draft, AllocError>
     ensures { IfOk result IsBuiltIn }
 {

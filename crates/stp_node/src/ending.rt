@@ -14,8 +14,7 @@ use settings::SettingsFault;
 use std::alloc::{AllocError, Global};
 use std::io::{Error, ErrorKind};
 
-/// Refuses words that could not be read: they are other words than those of the program, unless
-/// memory ran out.
+/// Refuses words that couldn't be read: they aren't the program's, unless memory ran out.
 pub fn refuse_words<W: Sink, E: Sink>(error: &Error, writer: &mut W, errors: &mut E) -> Status
     ensures memory { error_kind error.now ≡ ErrorKind.OutOfMemory
         → EndsWith Status.Start (told no_memory) (W.output writer.old) (W.output writer.new) result
@@ -39,7 +38,7 @@ pub(crate) fn tell_usage<W: Sink, E: Sink>(writer: &mut W, errors: &mut E) -> St
     end_with(Status::Usage, b"usage\n", writer)
 }
 
-/// Prints a line, and ends so; or as a write that failed does.
+/// Prints a line, and ends with this status; or with that of a failed write.
 pub(crate) fn end_with<W: Sink>(status: Status, line: &[u8], writer: &mut W) -> Status
     ensures { EndsWith status line.now (W.output writer.old) (W.output writer.new) result }
 {

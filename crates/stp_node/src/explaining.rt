@@ -1,4 +1,4 @@
-//! What standard error is told: why the program doesn't do what was meant.
+//! What goes to standard error: why the program doesn't do what was meant.
 
 ghost use Rattle.std.specs.Prelude.{◌≡◌};
 ghost use Rattle.stp_node.specs.Explaining.{IsTold, IsToldMade, IsToldOf, usage_text, unread_text, unread_sentence};
@@ -63,7 +63,7 @@ fn unread_text(why: Unread) -> &'static str
     }
 }
 
-/// Warns of the keys in a settings file that no table knows.
+/// Warns about unknown keys in a settings file.
 pub(crate) fn warn<E: Sink>(alloc: Global, file: &str, octets: &[u8], errors: &mut E)
     ensures { IsWarned file.now (E.output errors.old) (E.output errors.new) }
 {

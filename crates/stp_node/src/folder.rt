@@ -54,7 +54,7 @@ fn file_fault(kind: ErrorKind) -> FileFault {
     }
 }
 
-/// The files of the machine, of which nothing is known beforehand.
+/// The machine's files, about which nothing is known in advance.
 #[derive(Clone, Copy)]
 pub struct Disk<'a, R> {
     rt: &'a R,

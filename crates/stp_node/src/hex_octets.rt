@@ -16,7 +16,7 @@ pub struct HexOctets<'a> {
 }
 
 impl<'a> HexOctets<'a> {
-    /// The text, where it is one of octets.
+    /// The text, if it is one of octets.
     pub fn read(text: &'a [u8]) -> Option<HexOctets<'a>>
         ensures found { IsSome result ↔ IsTrue (is_octets text.now) }
         ensures value { IfSome result (λ hex. hex.digits.now ≡ text.now) }
@@ -28,7 +28,7 @@ impl<'a> HexOctets<'a> {
         }
     }
 
-    /// Writes the octets to the front of the buffer, and answers how many.
+    /// Writes the octets to the front of the buffer, and returns how many.
     pub fn decode(self, buffer: &mut [u8; Limits::FRAME_OCTETS]) -> usize
         ensures above { 1 ≤ result }
         ensures below { result ≤ Limits.FRAME_OCTETS }
@@ -40,7 +40,7 @@ impl<'a> HexOctets<'a> {
     }
 }
 
-/// Writes the octets over the slice, which is as long as they are many.
+/// Writes the octets over the slice, which has exactly their length.
 #[tactic(auto, using(crate::proofs::Octets::octets_steps))]
 fn decode_whole(digits: &[u8], octets: &mut [u8])
     requires whole { is_octets digits.now ≡ true }

@@ -1,4 +1,5 @@
-//! The edge of the node: scripts, and the streams that they are read from and printed to.
+//! The edge of the node: scripts, the streams they are read from, and the streams their output goes
+//! to.
 #![tactic(auto)]
 
 pub mod defaults;

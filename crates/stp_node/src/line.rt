@@ -9,13 +9,13 @@ use crate::hex_octets::HexOctets;
 use console::words::cut;
 use console::{Command, OrderText, order_by, read_number};
 
-/// What a line begins with that is skipped.
+/// What a skipped line begins with.
 const REMARK: u8 = b'#';
 
 /// The most ticks that one line lets pass.
 const MOST_TICKS: u16 = 65_535;
 
-/// A line that is none of a script.
+/// A malformed line.
 #[derive(Clone, Copy, Debug, PartialEq, Eq)]
 pub struct Malformed;
 
@@ -45,7 +45,7 @@ pub enum Line<'a> {
         /// The link's name; no link need have it.
         link: &'a [u8],
     },
-    /// `frame LINK HEX`: these octets came by the link.
+    /// `frame LINK HEX`: these octets arrived on the link.
     Frame {
         /// The link's name; no link need have it.
         link: &'a [u8],
@@ -62,7 +62,7 @@ pub enum Line<'a> {
         /// The link's name; no link need have it.
         link: &'a [u8],
     },
-    /// `wants LINK`: what the link asks of its caller.
+    /// `wants LINK`: what the link wants from its caller.
     Wants {
         /// The link's name; no link need have it.
         link: &'a [u8],
@@ -84,7 +84,7 @@ pub enum Line<'a> {
     },
 }
 
-/// What a line without its end asks for: nothing where it is empty or begins with `#`.
+/// What a line without its end asks for: nothing if it is empty or begins with `#`.
 pub fn parse_line(line: &[u8]) -> Result<Option<Line<'_>>, Malformed>
     ensures { reading_of result ≡ parsed_line line.now }
 {

@@ -26,10 +26,10 @@ pub enum Reply {
     Lines(Show),
 }
 
-/// Does what a line asks for, and gives what is printed of it.
+/// Does what a line asks for, and returns what to print for it.
 ///
-/// A link of no name of the settings is refused NoSuchName, and a message with too long a signalling
-/// information field TooLong; neither reaches the exchange.
+/// A link name that isn't in the settings is refused NoSuchName, and a message whose signalling information field is
+/// too long, TooLong; neither reaches the exchange.
 pub fn perform(exchange: &mut Exchange, line: Line<'_>) -> Reply
     ensures text { reply_text kept result exchange.new
         ≡ printed kept (lacks_memory result) (asked_line line.entry) exchange.old }
@@ -56,7 +56,7 @@ pub fn perform(exchange: &mut Exchange, line: Line<'_>) -> Reply
         Line::Submit { octets } => {
             let count = octets.decode(&mut buffer);
             match Msu::new(buffer[0], &buffer[1..count]) {
-                Ok(message) => exchange.step(&Event::Submit(message)),
+                Ok(message) => exchange.step(&Event::Submit(message.lend())),
                 Err(cause) => Outcome::Refused(cause),
             }
         }

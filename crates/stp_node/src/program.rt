@@ -27,15 +27,15 @@ use words::{Words, read_words};
 /// How the program ends. The numbers are its exit statuses.
 #[derive(Clone, Copy, Debug, PartialEq, Eq)]
 pub enum Status {
-    /// All was done.
+    /// Everything was done.
     Done = 0,
-    /// Other words than those of the program.
+    /// Words that aren't the program's.
     Usage = 1,
     /// The settings, or the memory to start with.
     Start = 2,
     /// A line of the script.
     Line = 3,
-    /// A read or a write failed, or the script's end wasn't found in as many reads as are made.
+    /// A read or a write failed, or the end of the script wasn't reached within the limit of reads.
     Stream = 4,
 }
 
@@ -48,9 +48,9 @@ impl Status {
     }
 }
 
-/// The whole program: does what the words behind its name ask for. Settings files come from the folder,
-/// the script from the reader, and all that it prints goes to the writer. Why it doesn't do what was
-/// meant goes to `errors`, in sentences for a person.
+/// The whole program: does what the words after its name ask for. Settings files come from the folder, the script from
+/// the reader, and all that it prints goes to the writer. Why it doesn't do what was meant goes to `errors`, in
+/// sentences for a person.
 pub fn run_program<F: Folder, R: Source, W: Sink, E: Sink>(
     alloc: Global,
     words: &[String],
@@ -72,7 +72,7 @@ pub fn run_program<F: Folder, R: Source, W: Sink, E: Sink>(
     }
 }
 
-/// Runs the script on a node with the built-in settings, which have no fault: only memory can be wanting.
+/// Runs the script on a node with the built-in settings, which have no fault: it can only run out of memory.
 fn run_built_in<R: Source, W: Sink, E: Sink>(
     alloc: Global,
     reader: &mut R,
@@ -112,7 +112,7 @@ fn run_file<F: Folder, R: Source, W: Sink, E: Sink>(
     }
 }
 
-/// Runs the script on a node with the settings that the octets of a file are.
+/// Runs the script on a node with the settings in the octets of a file.
 fn run_octets<R: Source, W: Sink, E: Sink>(
     alloc: Global,
     file: &str,

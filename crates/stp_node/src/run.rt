@@ -48,15 +48,14 @@ impl Model for OpenLine {
     ghost invariant = { λ l. length l.octets.items ≤ LINE_OCTETS };
 }
 
-/// Does the lines of a script, in order, and prints what became of each, a line for a line.
+/// Does the lines of a script, in order, and prints the outcome of each, one line per line.
 ///
-/// Empty lines, and lines that begin with `#`, are skipped and print nothing. A line that is
-/// malformed, longer than 8,300 octets, or without a line feed at the end of the script, prints
-/// `fault` and its number and ends the script with `Line`; nothing of it is done. `Read` and `Write`
-/// come exactly where a read or a write failed. After `Write` the lines up to some line were taken:
-/// the output of those before it went out whole, and of its own the beginning. At most 4,194,304
-/// reads are made; where each of them found an octet, the lines that are whole by then are done, and
-/// the script ends with `TooManyReads`. It takes no memory.
+/// Empty lines, and lines that begin with `#`, are skipped and print nothing. A line that is malformed, longer than
+/// 8,300 octets, or without a line feed at the end of the script, prints `fault` and its number and ends the script
+/// with `Line`; nothing of it is done. Returns `Read` or `Write` exactly if a read or a write failed. After `Write` the
+/// lines up to some line were taken: the output of those before it was written in full, and the beginning of its own.
+/// At most 4,194,304 reads are made; where each of them found an octet, the lines that are whole by then are done, and
+/// the script ends with `TooManyReads`. It allocates no memory.
 pub fn run_script<R: Source, W: Sink>(
     exchange: &mut Exchange,
     reader: &mut R,
@@ -213,7 +212,7 @@ fn do_line<W: Sink>(
     }
 }
 
-/// Prints that a line is none, and ends the script.
+/// Prints that a line is malformed, and ends the script.
 fn fail<W: Sink>(number: u64, writer: &mut W) -> Result<(), ScriptFault>
     ensures writes { (W.output writer.new).failures ≡ writes_failed (W.output writer.old).failures result }
     ensures run { (s : Kept) → Does (stopped number s) result s

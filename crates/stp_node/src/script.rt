@@ -16,13 +16,13 @@ pub const LINE_OCTETS: usize = 8300;
 pub enum ScriptFault {
     /// A read of the script failed.
     Read,
-    /// A write of the output failed. What went out is the beginning of the output.
+    /// A write of the output failed. What was written is the beginning of the output.
     Write,
     /// This line, counted from 1, is malformed, too long, or without its end. Nothing of it was done.
     Line(u64),
     /// The script's end wasn't found in as many reads as are made.
     TooManyReads,
-    /// Memory ran out. No script ends so.
+    /// Memory ran out. No script ends this way.
     NoMemory,
 }
 

@@ -16,7 +16,7 @@ use arrayvec::ArrayString;
 use console::{LINE_OCTETS, show_links, show_notices, show_routes, show_titles};
 use exchange::Exchange;
 
-/// Prints what became of a line. It takes no memory.
+/// Prints the outcome of a line. It allocates no memory.
 pub fn print<W: Sink>(exchange: &Exchange, reply: &Reply, writer: &mut W) -> Result<(), WriteFailed>
     ensures all { OnOk result (Appends (W.output writer.old).written (W.output writer.new).written
         (reply_text kept reply.now exchange.now)) }

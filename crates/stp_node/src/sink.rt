@@ -15,7 +15,7 @@ pub struct WriteFailed;
 
 /// What a script's output is written to.
 ///
-/// It counts its failures, and tells the octets that were written where it knows them.
+/// It counts its failures, and knows, where it can, the octets that were written.
 pub trait Sink {
     // The octets that were written, where they are known, and the count of the writes that failed.
     ghost output: { Self → Output };

@@ -20,8 +20,8 @@ pub trait Source {
     // The octets that reads give from here on, where they are known, and the counts of its reads.
     ghost input: { Self → Input };
 
-    /// Reads the next octets to the front of the buffer, and answers how many: 0 only at the end, or
-    /// where the buffer is empty. After `ReadFailed` nothing was read.
+    /// Reads the next octets to the front of the buffer, and returns how many: 0 only at the end, or if the buffer is
+    /// empty. After `ReadFailed` nothing was read.
     fn read(&mut self, buffer: &mut [u8]) -> Result<usize, ReadFailed>
         ensures bound { IfOk result (λ count. count ≤ length buffer.new) }
         ensures octets { ReadConsumes (input self.old).remaining (input self.new).remaining result buffer.new }
@@ -75,7 +75,7 @@ impl<R: Read> Source for ReaderSource<R> {
     }
 }
 
-/// A source over octets in memory, which may be told to give few octets a read, and to fail at one.
+/// A source over octets in memory, which can be set to give only a few octets per read, and to fail at one read.
 #[derive(Drop)]
 pub struct MemorySource<'a> {
     rest: &'a [u8],

@@ -1,4 +1,4 @@
-//! What a script prints, a line at a time.
+//! What a script prints, line by line.
 
 ghost use Rattle.std.specs.Prelude.{◌≡◌, ◌+◌, ◌*◌, ◌≤◌, ◌<◌, ◌^◌, ◌++◌, [], length, codes, decimal};
 ghost use Rattle.hex.specs.Hex.{encode_lower};
@@ -38,7 +38,7 @@ impl Text {
         }
     }
 
-    /// Puts octets behind what is there.
+    /// Appends octets.
     fn push(&mut self, octets: &[u8])
         requires { length self.old + length octets.now ≤ TEXT_OCTETS }
         ensures { self.new ≡ self.old ++ octets.now }
@@ -151,7 +151,7 @@ pub fn none_line() -> Text
     text
 }
 
-/// The line that says which line of the script is none.
+/// The line that says which line of the script is malformed.
 pub fn line_fault(number: u64) -> Text
     ensures { result ≡ line_fault number }
 {

@@ -7,8 +7,8 @@ use Rattle.settings_rows.specs.Configuration.{Configuration, SetEntry, LinkEntry
 use Rattle.settings_rows.specs.Names.{is_name}
 use Rattle.settings_rows.specs.Titles.{HasTitleRanges}
 use Rattle.settings_rows.specs.declared.timer_ticks.TimerTicks.{TimerTicks}
-use Rattle.settings_rows.specs.declared.title_row.Route.{Route}
-use Rattle.settings_rows.specs.declared.title_row.Route.TheVariants.{Title, Ssn}
+use Rattle.settings_rows.specs.declared.title_row.TitleRoute.{TitleRoute}
+use Rattle.settings_rows.specs.declared.title_row.TitleRoute.TheVariants.{Title, Ssn}
 use Rattle.signalling_types.specs.declared.limits.TheConstants.Limits.{LINKS, LINKS_PER_SET, SETS, SETS_PER_DESTINATION}
 use Rattle.signalling_types.specs.declared.limits.TheConstants.Limits.{DESTINATIONS, TITLES, POOL, WINDOW, TICKS}
 
@@ -75,7 +75,7 @@ abbrev pub is_led_first : ℕ → ℕ → DestinationEntry → Bool
 is_led_first point set d = nat_eq d.point point && is_first set d.sets
 
 -- a route's subsystem number, if it has one, is an octet other than 0
-abbrev pub HasSubsystem : Route → Type 0
+abbrev pub HasSubsystem : TitleRoute → Type 0
 HasSubsystem (Title ssn) = IfSome ssn (IsWithin 1 255)
 HasSubsystem (Ssn ssn) = IsWithin 1 255 ssn
 

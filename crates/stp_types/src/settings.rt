@@ -38,9 +38,9 @@ impl Model for Settings {
 impl Settings {
     /// Checks settings as they were written.
     ///
-    /// Answers the settings, or the first fault: the keys in their order, the entries of an array
-    /// from the first on, and last of all a set whose adjacent point isn't a destination that it
-    /// leads to first. `NoMemory` may stand in place of any other, where a growth was refused.
+    /// Returns the settings, or the first fault: the keys in their order, the entries of an array from the first on,
+    /// and last of all a set whose adjacent point isn't a destination that it leads to first. If an allocation was
+    /// refused, it returns `NoMemory` instead.
     pub fn check(alloc: Global, draft: Draft) -> Result<Settings, DraftFault>
         ensures settings { IfOk result (λ settings. settings ≡ settings_of draft) }
         ensures well { OnOk result (first_fault draft ≡ None) }
@@ -73,7 +73,7 @@ impl Settings {
         self.checked.network
     }
 
-    /// How many messages may be sent on a link before one is confirmed.
+    /// How many messages may be sent on a link without being confirmed.
     pub fn window(&self) -> usize
         ensures value { result ≡ self.now.window }
         ensures above { 1 ≤ self.now.window }
@@ -91,14 +91,14 @@ impl Settings {
         self.checked.pool as usize
     }
 
-    /// Whether a user part of this service indicator stands on this node.
+    /// Whether this node has a user part with this service indicator.
     pub fn is_user(&self, service_indicator: u8) -> bool
         ensures { result ≡ list_any (λ user. nat_eq user service_indicator) self.now.users }
     {
         self.checked.users.contains(&service_indicator)
     }
 
-    /// The numbers of the subsystems that stand on this node.
+    /// The numbers of this node's subsystems.
     pub fn subsystems(&self) -> &[u8]
         ensures value { result.now ≡ self.now.subsystems }
         ensures numbers { All (IsWithin 1 255) self.now.subsystems }
@@ -162,7 +162,7 @@ impl Settings {
         self.checked.links.len()
     }
 
-    /// The name of a link, or `None` where no link has this number.
+    /// The name of a link, or `None` if no link has this number.
     pub fn link_name(&self, link: LinkId) -> Option<&str>
         ensures name { option_copied result ≡ option_map (λ row. row.name) (slice_get self.now.links link) }
         ensures fits { IfSome result (λ name. length name.now ≤ Limits.NAME_OCTETS) }
@@ -179,11 +179,11 @@ impl Settings {
         Some(LinkId::new(place as u8))
     }
 
-    /// The number of the destination of this point code.
+    /// The number of the destination of this point code. It costs one look-up, however many destinations there are.
     pub fn destination(&self, point: PointCode) -> Option<usize>
         ensures { result ≡ destination_place self.now point }
     {
-        self.checked.points.get_index_of(&point.code())
+        self.checked.points.place(point)
     }
 
     /// The set whose links lead to this point. It costs the same however many sets there are.
@@ -197,7 +197,7 @@ impl Settings {
     }
 }
 
-/// The first of these sets, where its links lead to this point.
+/// The first of these sets, if its links lead to this point.
 fn first_to(sets: &[SetRow], ids: &[SetId], point: PointCode) -> Option<SetId>
     ensures { result ≡ first_to sets.now ids.now point }
 {

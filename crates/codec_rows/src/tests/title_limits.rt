@@ -2,7 +2,7 @@
 
 use super::titles::row;
 use global_title::{TitleKey, Translations};
-use settings_rows::{Route, TitleRow};
+use settings_rows::{TitleRoute, TitleRow};
 use signalling_types::{Cause, PointCode};
 use std::test::*;
 
@@ -25,7 +25,7 @@ fn four_digits(number: u32) -> [u8; 4] {
 
 /// A row of this key that leads to this point, routed by its title.
 fn numbered(digits: &[u8], point: u16) -> Option<TitleRow> {
-    row(KEY, digits, PointCode::new(point)?, Route::Title(None))
+    row(KEY, digits, PointCode::new(point)?, TitleRoute::Title(None))
 }
 
 /// The answer as a row of the four digits of a number is added.

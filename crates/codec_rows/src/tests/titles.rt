@@ -2,7 +2,7 @@
 
 use super::word;
 use global_title::{TitleKey, Translations};
-use settings_rows::{Route, TitleRow};
+use settings_rows::{TitleRoute, TitleRow};
 use signalling_types::{Cause, Limits, PointCode, Ssn};
 use std::alloc::Global;
 use std::test::*;
@@ -98,7 +98,7 @@ pub(super) fn row(
     key: TitleKey,
     digits: &[u8],
     point: PointCode,
-    route: Route,
+    route: TitleRoute,
 ) -> Option<TitleRow> {
     TitleRow::new(key.translation, key.plan, key.nature, digits, point, route)
 }
@@ -111,10 +111,10 @@ pub(super) fn routed(
     word: &str,
 ) -> Option<TitleRow> {
     if word == "title" {
-        return row(key, digits, point, Route::Title(None));
+        return row(key, digits, point, TitleRoute::Title(None));
     }
     let ssn = Ssn::new(word.parse().ok()?)?;
-    row(key, digits, point, Route::Ssn(ssn))
+    row(key, digits, point, TitleRoute::Ssn(ssn))
 }
 
 /// The row that is added by a line.
@@ -158,8 +158,8 @@ fn removes(table: &mut Translations, line: &str) -> bool {
 fn leads(row: &TitleRow, point: &str, route: &str) -> bool {
     point.parse().ok() == Some(row.point().code())
         && match row.route() {
-            Route::Title(ssn) => ssn.is_none() && route == "title",
-            Route::Ssn(ssn) => route.parse().ok() == Some(ssn.number()),
+            TitleRoute::Title(ssn) => ssn.is_none() && route == "title",
+            TitleRoute::Ssn(ssn) => route.parse().ok() == Some(ssn.number()),
         }
 }
 

@@ -21,8 +21,8 @@ use routing_label::Label;
 use stp_types::{Cause, Limits, LinkId, MsuRef, Outcome, Sls};
 
 impl Exchange {
-    /// A message of this label for another point, with the link that it came by, if it came by one: a known
-    /// destination, then room, then no hold, then a route.
+    /// A message of this label for another point, with the link that it arrived on, if any: a known destination, then
+    /// room, then no hold, then a route.
     #[inline(always)]
     pub(super) fn transfer(
         &mut self,
@@ -59,7 +59,7 @@ impl Exchange {
         !message.is_management() && self.holds.is_held(destination, sls)
     }
 
-    /// A message that waits stands at the end of Held, where it has room.
+    /// Puts a message that must wait at the end of Held, if there is room.
     #[inline(never)]
     fn offer_held(&mut self, message: MsuRef<'_>) -> Outcome
         requires fits { length message.sif.now ≤ Limits.SIF_OCTETS }
@@ -74,8 +74,8 @@ impl Exchange {
         }
     }
 
-    /// A message to the destination of this number stands at the end of the queue of its link, where it has room. One
-    /// that came by a link and finds no route is answered.
+    /// Puts a message to the destination of this number at the end of its link's queue, if there is room. One that
+    /// arrived on a link and has no route is answered.
     #[inline(always)]
     fn offer_on(
         &mut self,

@@ -12,7 +12,7 @@ ghost use Rattle.exchange_rules.specs.Routing.{first_network_of};
 
 use super::Exchange;
 use crate::memory::NoMemory;
-use cell_pool::RingLanes;
+use cell_pool::CellPool;
 use changeback::Changeback;
 use changeover::Changeover;
 use circular_buffer::HeapCircularBuffer;
@@ -28,8 +28,8 @@ use timer_wheel::{NodeCounts, Timers};
 impl Exchange {
     /// An exchange with these settings, whose links are all down and want Open.
     ///
-    /// Takes all the memory that the exchange will ever use, but for translation rows that are added to those of the
-    /// settings; NoMemory comes only where a growth was refused.
+    /// Allocates all the memory that the exchange will ever use, except for translation rows added later and for the
+    /// answers of `run`. Returns NoMemory only if an allocation was refused.
     pub fn boot(alloc: Global, settings: Settings) -> Result<Exchange, NoMemory>
         // What is kept is that of the first state,
         ensures exact { IfOk result (λ exchange. exchange ≡ kept_of (first_state settings)) }
@@ -38,7 +38,7 @@ impl Exchange {
     {
         let count = settings.link_count();
         prove!(settings.window() <= Limits::WINDOW);
-        let lanes = RingLanes::new(alloc, count + 1, settings.pool())?;
+        let lanes = CellPool::new(alloc, count + 1, settings.pool())?;
         let sequences = first_sequences(alloc, count)?;
         let links = node_links(alloc, &settings)?;
         let told = nothing_told(alloc, &settings)?;
@@ -88,7 +88,7 @@ fn node_links(alloc: Global, settings: &Settings) -> Result<NodeLinks, AllocErro
     NodeLinks::new(alloc, sets, settings.links(), settings.destinations())
 }
 
-/// Each adjacent point takes each destination of these settings for allowed.
+/// Each adjacent point assumes that each destination of these settings is allowed.
 fn nothing_told(alloc: Global, settings: &Settings) -> Result<Told, AllocError>
     ensures told { IfOk result (λ told. told ≡ first_told settings.now.sets settings.now.destinations) }
     ensures shape { IfOk result (λ told. shape_of told

@@ -24,7 +24,7 @@ use stp_types::{Cause, LateTimer, Limits, LinkId, Notice, Outcome, PointCode, Se
 use timer_wheel::TimerName;
 
 impl Exchange {
-    /// A link that entered service takes back the flows that went by other links before. Those flows are held until the
+    /// A link that entered service takes back the flows that took other links before. Those flows are held until the
     /// declaration is acknowledged or a timer runs out (Q.704 §6.3, §6.4).
     pub(super) fn change_back(&mut self, link: LinkId)
         requires link { link < length self.old.settings.links }
@@ -51,7 +51,7 @@ impl Exchange {
         losing(&mut self.links, link)
     }
 
-    /// Holds each flow that a link takes over by the procedure that is given for the link which it comes from.
+    /// Holds each flow that a link takes over by the procedure given for the link that it comes from.
     fn hold_changes(&mut self, link: LinkId, holders: &[Option<Procedure>; Limits::LINKS])
         requires link { link < length self.old.settings.links }
         requires serves { in_service self.old.node.parts link ≡ true }
@@ -107,8 +107,8 @@ impl Exchange {
     }
 
     /// Begins the hold of the flows that a link takes over from another, and says by which procedure they are to be
-    /// held: by a code, with which a declaration goes out on the other link and T4 starts; or else by time, and T3
-    /// starts anew.
+    /// held: by a code, in which case a declaration with it goes out on the other link and T4 starts; or else by time,
+    /// and T3 restarts.
     fn declare_by(&mut self, link: LinkId, other: LinkId) -> Procedure
         requires link { link < length self.old.settings.links }
         requires other { other < length self.old.settings.links }
@@ -127,8 +127,8 @@ impl Exchange {
         }
     }
 
-    /// Sends the declaration that a link is back on another link of its set, where a code is free and the declaration
-    /// finds room. The code then waits for its answer, and T4 starts. Else nothing changes.
+    /// Sends a changeback declaration for a link on another link of its set, if a code is free and there is room. The
+    /// code then awaits its acknowledgement, and T4 starts. Otherwise nothing changes.
     fn declare_by_code(&mut self, link: LinkId, other: LinkId) -> Option<u8>
         requires link { link < length self.old.settings.links }
         requires other { other < length self.old.settings.links }
@@ -182,8 +182,8 @@ impl Exchange {
         Outcome::Handled
     }
 
-    /// An answer from the point of a set: what its code holds is held no longer, T4 stops, and the code is free.
-    /// Ignored, and nothing changes, where the code waits for none.
+    /// An acknowledgement from a set's point: lifts what its code holds, stops T4, and frees the code. Ignored, with
+    /// nothing changed, if the code awaits none.
     pub(super) fn on_changeback_acknowledgement(&mut self, set: Option<SetId>, code: u8) -> Outcome
         ensures { Ends self.old result self.new
             (rule.on_changeback_acknowledgement kept self.old.settings set code self.old.node) }
@@ -199,7 +199,7 @@ impl Exchange {
         Outcome::Handled
     }
 
-    /// T3 of a link ran out: what it holds by time is held no longer.
+    /// T3 of a link ran out: the hold by time is lifted.
     pub(super) fn expire_time(&mut self, link: LinkId)
         ensures { self.new ≡ with_node self.old
             (with_parts self.old.node (rule.late_time link self.old.node.parts)) }
@@ -208,7 +208,7 @@ impl Exchange {
         self.end_late(Procedure::Time(link), notice);
     }
 
-    /// T4 of a code ran out: what it holds is held no longer. The code still waits for its answer.
+    /// T4 of a code ran out: its hold is lifted. The code still awaits its acknowledgement.
     pub(super) fn expire_code(&mut self, set: SetId, code: u8)
         ensures { self.new ≡ with_node self.old
             (with_parts self.old.node (rule.late_code set code self.old.node.parts)) }

@@ -29,7 +29,8 @@ impl Exchange {
     /// one. It is answered in every case.
     pub(super) fn on_changeover_order(&mut self, link: LinkId, number: Option<Number24>) -> Outcome
         requires { link < length self.old.settings.links }
-        ensures { Ends self.old result self.new (rule.on_changeover_order kept self.old.settings link number self.old.node) }
+        ensures { Ends self.old result self.new
+            (rule.on_changeover_order kept self.old.settings link number self.old.node) }
     {
         if !self.links.state(link).is_down() {
             self.fail_by_peer(link);
@@ -44,14 +45,15 @@ impl Exchange {
     /// Tells the peer the number of the last message that was accepted on a link.
     fn acknowledge_changeover(&mut self, link: LinkId)
         requires { link < length self.old.settings.links }
-        ensures { self.new ≡ with_node self.old (rule.acknowledge_changeover kept self.old.settings link self.old.node) }
+        ensures { self.new
+            ≡ with_node self.old (rule.acknowledge_changeover kept self.old.settings link self.old.node) }
     {
         let number = self.sequences[link.index()].last_accepted();
         let answer = Management::ExtendedChangeoverAcknowledgement(self.code_of(link), number);
         self.send_management(self.peer_of(link), &answer);
     }
 
-    /// The peer answers an order about a link; ignored where no answer is awaited.
+    /// The peer answers an order about a link; ignored if no answer is awaited.
     pub(super) fn on_changeover_acknowledgement(
         &mut self,
         link: LinkId,
@@ -73,7 +75,8 @@ impl Exchange {
 
     /// A timer of a link's changeover ran out: it is completed without a number.
     pub(super) fn on_changeover_timer(&mut self, timer: ChangeoverTimer, link: LinkId)
-        ensures { self.new ≡ with_node self.old (rule.on_changeover_timer kept self.old.settings timer link self.old.node) }
+        ensures { self.new
+            ≡ with_node self.old (rule.on_changeover_timer kept self.old.settings timer link self.old.node) }
     {
         if !self.links.has(link) {
             return;
@@ -87,9 +90,9 @@ impl Exchange {
         }
     }
 
-    /// Does with the messages of a failed link what the peer's number says: those that it accepted are gone, user
-    /// messages behind them go before all of Held, and management goes out anew. Without a reasonable number those that
-    /// were sent are lost.
+    /// Does with the messages of a failed link what the peer's number says: those that it accepted are dropped, user
+    /// messages after them go in front of Held, and management is requeued. Without a reasonable number those that were
+    /// sent are lost.
     fn conclude(&mut self, link: LinkId, number: Option<Number24>)
         requires { link < length self.old.settings.links }
         ensures { self.new ≡ with_node self.old (rule.conclude kept self.old.settings
@@ -139,6 +142,7 @@ impl Exchange {
         ensures { self.new ≡ with_node self.old (with_parts self.old.node
             (draining.lose_one (slice_get (link_lane self.old.node.queues link) place) self.old.node.parts)) }
     {
+        self.note_place(link, place);
         if let Some(head) = self.head_at(link, place)
             && !head.is_management
         {
@@ -165,7 +169,7 @@ impl Exchange {
         self.timers.clear(TimerName::T1(link));
     }
 
-    /// The user messages that move go before all of Held; the management messages are left in the link's list.
+    /// Puts the user messages that move in front of Held; leaves the management messages in the link's list.
     fn splice(&mut self, link: LinkId, number: Option<Number24>)
         requires { link < length self.old.settings.links }
         ensures state { self.new ≡ with_node self.old (record self.old.node {
@@ -180,7 +184,7 @@ impl Exchange {
         complete(&mut self.lanes, lane_of(link), HELD, sequence, number);
     }
 
-    /// The management messages in the list of a link go out anew, each on the link of its flow.
+    /// The management messages in the list of a link are requeued, each on the link of its flow.
     fn send_all(&mut self, link: LinkId)
         requires { link < length self.old.settings.links }
         ensures { self.new ≡ with_node self.old (draining.drained (draining.anew self.old.settings)

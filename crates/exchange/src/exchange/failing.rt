@@ -25,7 +25,8 @@ impl Exchange {
         }
     }
 
-    /// A link fails since its peer tells so. Where it was in service, its changeover begins, with no order to the peer.
+    /// A link fails because its peer orders it. Where it was in service, its changeover begins, with no order to the
+    /// peer.
     pub(super) fn fail_by_peer(&mut self, link: LinkId)
         requires { link < length self.old.settings.links }
         ensures { self.new ≡ with_node self.old (rule.fail_by_peer kept self.old.settings link self.old.node) }
@@ -35,8 +36,8 @@ impl Exchange {
         }
     }
 
-    /// A link goes down, and says whether it was in service. Then the flows that its changeover is to hold are held
-    /// first: until then it is their link.
+    /// A link goes down, and says whether it was in service. If it was, the flows that its changeover holds are held
+    /// first, while it is still their link.
     fn make_unavailable(&mut self, link: LinkId, why: FailureReason) -> bool
         requires { link < length self.old.settings.links }
         ensures served { result ≡ in_service self.old.node.parts link }
@@ -54,8 +55,7 @@ impl Exchange {
         served
     }
 
-    /// Where no link of its set is left, the point that a link leads to is tested about no route any more
-    /// (Q.704 §13.5).
+    /// If no link of its set is left, the set's point is no longer asked about routes (Q.704 §13.5).
     fn stop_tests_if_last(&mut self, link: LinkId)
         requires { link < length self.old.settings.links }
         ensures { self.new ≡ with_node self.old
@@ -70,7 +70,8 @@ impl Exchange {
     /// A link is down, its timers don't run, and that is noted.
     fn fail_link(&mut self, link: LinkId, why: FailureReason)
         requires { link < length self.old.settings.links }
-        ensures { self.new ≡ with_node self.old (with_parts self.old.node (rule.fail_link link why self.old.node.parts)) }
+        ensures { self.new
+            ≡ with_node self.old (with_parts self.old.node (rule.fail_link link why self.old.node.parts)) }
     {
         self.fail_state(link);
         self.stop_all(link);

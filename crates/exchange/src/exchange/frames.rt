@@ -1,4 +1,4 @@
-//! A frame that came by a link.
+//! A frame that arrived on a link.
 
 ghost use Rattle.std.specs.Prelude.{◌≡◌, ◌<◌, length};
 ghost use Rattle.m2pa_codec.specs.Values.{value_of};
@@ -78,7 +78,8 @@ impl Exchange {
         }
     }
 
-    /// User Data, by the state of its link. On a link in service the alignment would change nothing, and isn't asked.
+    /// User Data, by the state of its link. On a link in service the alignment table would change nothing, and isn't
+    /// consulted.
     #[inline(always)]
     fn receive_data(&mut self, link: LinkId, data: &UserData<'_>) -> Outcome
         requires { link < length self.old.settings.links }

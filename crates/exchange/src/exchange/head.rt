@@ -1,4 +1,4 @@
-//! What is read of a message that stands in a list.
+//! What is read of a message in a list.
 
 ghost use Rattle.std.specs.Prelude.{◌≡◌, ◌<◌, length, slice_get};
 ghost use Rattle.std.specs.Option.{option_map};
@@ -10,7 +10,7 @@ ghost use Rattle.exchange.specs.Head.{head_of};
 
 use super::Exchange;
 use super::lanes::{HELD, lane_of};
-use cell_pool::{Lanes, RingLanes};
+use cell_pool::{CellPool, Lanes};
 use routing_label::Label;
 use stp_types::{LinkId, Msu};
 
@@ -53,7 +53,7 @@ impl Exchange {
 }
 
 /// What is read of the message at a place of a list, where there is one.
-fn head_in(lanes: &RingLanes, lane: usize, place: usize) -> Option<Head>
+fn head_in(lanes: &CellPool, lane: usize, place: usize) -> Option<Head>
     requires { lane < length lanes.now.lists }
     ensures { result ≡ option_map head_of (slice_get (lane_at lanes.now.lists lane) place) }
 {

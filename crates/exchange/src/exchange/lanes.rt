@@ -1,4 +1,4 @@
-//! The lists of messages: the first one is Held, and behind it comes one for each link.
+//! The lists of messages: first Held, then one for each link.
 
 ghost use Rattle.std.specs.Prelude.{◌≡◌, ◌<◌, ◌≤◌, length, None, Some, true, IfErr, OnOk, is_ok, if◌then◌else◌};
 ghost use Rattle.signalling_types.specs.Lent.{lent};
@@ -88,6 +88,14 @@ impl Exchange {
         ensures { result ≡ length (link_lane self.now.node.queues link) }
     {
         self.lanes.count(lane_of(link))
+    }
+
+    /// Notes a place of a link's list: the message there, and the next one, are found at once then.
+    pub(super) fn note_place(&mut self, link: LinkId, place: usize)
+        requires { link < length self.old.settings.links }
+        ensures { self.new ≡ self.old }
+    {
+        self.lanes.note(lane_of(link), place);
     }
 
     /// Drops the messages of a link's list.

@@ -11,7 +11,7 @@ use link_alignment::{Action, Input};
 use stp_types::LinkId;
 
 impl Exchange {
-    /// A link owes an acknowledgement from now on, or not.
+    /// Sets whether a link has an acknowledgement to send.
     #[inline(always)]
     pub(super) fn set_owed(&mut self, link: LinkId, owed: bool)
         requires { link < length self.old.settings.links }
@@ -21,7 +21,7 @@ impl Exchange {
         self.links.set_owed(link, owed);
     }
 
-    /// A link knows its peer busy from now on, or not.
+    /// Sets whether a link's peer is busy.
     pub(super) fn set_peer_busy(&mut self, link: LinkId, busy: bool)
         requires { link < length self.old.settings.links }
         ensures { self.new ≡ with_node self.old (with_parts self.old.node (with_link self.old.node.parts link
@@ -30,7 +30,7 @@ impl Exchange {
         self.links.set_peer_busy(link, busy);
     }
 
-    /// A link forgets the status that waited longest, if one waits.
+    /// Drops the status that has waited longest, if there is one.
     pub(super) fn drop_status(&mut self, link: LinkId)
         requires { link < length self.old.settings.links }
         ensures { self.new ≡ with_node self.old (with_parts self.old.node (with_link self.old.node.parts link
@@ -50,7 +50,7 @@ impl Exchange {
         self.links.lose_association(link);
     }
 
-    /// A link may open from now on, or not.
+    /// Sets whether a link may open.
     pub(super) fn set_active(&mut self, link: LinkId, active: bool)
         requires { link < length self.old.settings.links }
         ensures { self.new ≡ with_node self.old (with_parts self.old.node (with_link self.old.node.parts link

@@ -81,7 +81,7 @@ impl Exchange {
         }
     }
 
-    /// A management or test message, by the link that it came by. Only an adjacent point is heard.
+    /// A management or test message, with the link that it arrived on. Only those of adjacent points are accepted.
     fn manage(&mut self, link: LinkId, label: Label, message: MsuRef<'_>) -> Outcome
         requires link { link < length self.old.settings.links }
         requires label { label ≡ label_at message.sif.now }
@@ -114,7 +114,7 @@ impl Exchange {
         }
     }
 
-    /// Answers a link test on the link that it came by (Q.707 §2.2).
+    /// Answers a link test on the link that it arrived on (Q.707 §2.2).
     fn answer_test(&mut self, link: LinkId, point: PointCode, test: &LinkTest<'_>)
         requires link { link < length self.old.settings.links }
         requires pattern { length test.now.pattern.now ≤ 15 }
@@ -141,7 +141,7 @@ impl Exchange {
         }
     }
 
-    /// Does what a management message from an adjacent point asks; that it has restarted asks nothing.
+    /// Does what a management message from an adjacent point asks; TRA asks nothing.
     fn on_management(&mut self, point: PointCode, message: Management) -> Outcome
         ensures { Ends self.old result self.new
             (rule.on_management kept self.old.settings message point self.old.node) }

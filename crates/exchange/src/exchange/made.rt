@@ -28,7 +28,7 @@ impl Exchange {
         self.settings.network() * 64 + service_indicator
     }
 
-    /// A message made here for a point goes out on this link. Where it finds no room it is dropped, and that is noted.
+    /// A message made here for a point goes out on this link. If there is no room it is dropped, with a notice.
     pub(super) fn send_on(&mut self, link: LinkId, point: PointCode, message: MsuRef<'_>)
         requires link { link < length self.old.settings.links }
         requires point { point ≡ dpc_of (lent message) }
@@ -84,8 +84,8 @@ impl Exchange {
         )
     }
 
-    /// A message made here goes out on the link of its flow. Where it finds no room or no link it is dropped, and that
-    /// is noted.
+    /// A message made here goes out on the link of its flow. If there is no room or no link it is dropped, with a
+    /// notice.
     fn send_routed(&mut self, message: MsuRef<'_>)
         requires label { 4 ≤ length message.sif.now }
         requires fits { length message.sif.now ≤ Limits.SIF_OCTETS }

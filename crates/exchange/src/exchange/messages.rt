@@ -1,4 +1,4 @@
-//! A message: where it goes, and what becomes of it.
+//! A message: where it goes, and what happens to it.
 
 ghost use Rattle.std.specs.Prelude.{◌≡◌, ◌<◌, ◌≤◌, length};
 ghost use Rattle.signalling_types.specs.Lent.{lent};
@@ -43,7 +43,7 @@ impl Exchange {
         }
     }
 
-    /// A message that a user part hands over.
+    /// A message that a user part submits.
     pub(super) fn submit(&mut self, message: MsuRef<'_>) -> Outcome
         ensures { Ends self.old result self.new
             (rule.submit kept self.old.settings (lent message.entry) self.old.node) }

@@ -1,4 +1,4 @@
-//! Notices: what an operator is told.
+//! Notices: what the operator can read.
 
 ghost use Rattle.std.specs.Prelude.{◌≡◌};
 ghost use Rattle.exchange_rules.specs.State.{with_node, with_parts};
@@ -15,7 +15,7 @@ impl Exchange {
         self.lost_any = true;
     }
 
-    /// Keeps a notice. Of more than 64 the oldest is forgotten.
+    /// Keeps a notice. Beyond 64 the oldest is dropped.
     #[inline(never)]
     pub(super) fn note(&mut self, notice: Notice)
         ensures { self.new ≡ with_node self.old (with_parts self.old.node (rule.note notice self.old.node.parts)) }

@@ -1,4 +1,4 @@
-//! Associations that come and go, and the operator's word on a link.
+//! Associations that come up and go down, and operator's orders about a link.
 
 ghost use Rattle.std.specs.Prelude.{◌≡◌, ◌<◌, length};
 ghost use Rattle.exchange_rules.specs.State.{with_node};
@@ -15,10 +15,10 @@ use link_sequence::Sequence;
 use stp_types::{Cause, FailureReason, LinkId, Outcome};
 
 impl Exchange {
-    /// What a link asks of its caller; Nothing where the link isn't there.
+    /// What a link wants from its caller; Nothing if there is no such link.
     ///
-    /// Open where it is down without an association, the operator lets it open, its changeover is complete and no
-    /// answer to its changeover order is awaited; Close where it is down with an association.
+    /// Open if it is down without an association, isn't deactivated, its changeover is complete and no acknowledgement
+    /// of its changeover order is awaited; Close if it is down with an association.
     pub fn wants(&self, link: LinkId) -> Wants
         ensures wants { (a : Abstract) → StandsFor self.now a → result ≡ wants_of a link }
         ensures kept_wants { result ≡ wants_of self.now link }

@@ -1,4 +1,4 @@
-//! What the settings say of links, of the points that sets lead to, and of destinations.
+//! What the settings say about links, about the points that sets lead to, and about destinations.
 
 ghost use Rattle.std.specs.Prelude.{◌≡◌, ◌<◌, length, IfOk};
 ghost use Rattle.stp_types.specs.Readings.{destination_place, set_place};
@@ -72,8 +72,8 @@ impl Exchange {
         destination as u16
     }
 
-    /// The route that an adjacent point speaks of: the set that leads to that point, and the destination. Refused
-    /// UnknownDestination where it speaks of no destination; ignored where no set leads to it.
+    /// The route that an adjacent point's message is about: the set that leads to that point, and the destination.
+    /// Refused UnknownDestination where it speaks of no destination; ignored where no set leads to it.
     pub(super) fn route_about(
         &self,
         point: PointCode,

@@ -3,7 +3,7 @@
 ghost use Rattle.std.specs.Prelude.{◌≡◌, ◌≤◌, length};
 ghost use Rattle.signalling_types.specs.Lent.{lent};
 ghost use Rattle.sccp_relay.specs.Relay.{relay};
-ghost use Rattle.sccp_relay.specs.Values.{own_of};
+ghost use Rattle.sccp_relay.specs.Values.{own_value};
 ghost use Rattle.exchange_rules.specs.State.{with_node};
 ghost use Rattle.exchange.specs.KeptQueues.{kept};
 ghost use Rattle.exchange.specs.Calls.{is_memory_refused};
@@ -19,8 +19,8 @@ use sccp_relay::{Own, Relayed, relay, returned};
 use stp_types::{Cause, Limits, MsuRef, Outcome, TitleRow};
 
 impl Exchange {
-    /// An SCCP message for this point: a subsystem here gets it, or it goes on by the title of its called address. One
-    /// that is refused is returned where it asks for that (Q.714 §2.3, §4.2).
+    /// An SCCP message for this point: it is for a subsystem here, or goes on by the title of its called address. One
+    /// that is refused is returned if it asks for that (Q.714 §2.3, §4.2).
     #[inline(never)]
     pub(super) fn on_unitdata(&mut self, message: MsuRef<'_>) -> Outcome
         requires { 4 ≤ length message.sif.now }
@@ -34,7 +34,7 @@ impl Exchange {
         outcome
     }
 
-    /// What becomes of an SCCP message, before it is returned. One that goes on is written anew, and goes the way of any
+    /// What happens to an SCCP message, before it is returned. One that goes on is rewritten, and handled like any
     /// message for another point.
     fn relay(&mut self, message: MsuRef<'_>) -> Outcome
         requires { 4 ≤ length message.sif.now }
@@ -56,8 +56,8 @@ impl Exchange {
         }
     }
 
-    /// Returns an SCCP message that was refused for this cause, if it is to be: the UDTS goes the way of any message for
-    /// another point, and is dropped where it finds none.
+    /// Returns an SCCP message that was refused for this cause, if it should be: the UDTS is handled like any message
+    /// for another point, and dropped if it has no way to go.
     fn return_unitdata(&mut self, cause: Cause, message: MsuRef<'_>)
         requires { 4 ≤ length message.sif.now }
         ensures { self.new ≡ with_node self.old (rule.return_unitdata kept self.old.settings cause
@@ -88,7 +88,7 @@ impl Exchange {
 
     /// The point that this node is, and its subsystems.
     fn own(&self) -> Own<'_>
-        ensures { own_of result ≡ rule.own_of self.now.settings }
+        ensures { own_value result ≡ rule.own_of self.now.settings }
     {
         Own {
             point: self.settings.own(),
@@ -96,8 +96,8 @@ impl Exchange {
         }
     }
 
-    /// An operator adds a translation row. Nothing changes where it is refused: DuplicateRow where a row of its key and
-    /// digits is there, else TableFull, else NoMemory where a growth was refused.
+    /// An operator adds a translation row. If it is refused, nothing changes: DuplicateRow if there is a row with its
+    /// key and digits, else TableFull, else NoMemory if an allocation was refused.
     pub(super) fn add_title(&mut self, row: TitleRow) -> Outcome
         ensures { Ends self.old result self.new
             (rule.add_title row (is_memory_refused result) self.old.node) }
@@ -113,7 +113,7 @@ impl Exchange {
     }
 }
 
-/// What an order is answered that the table did, or refused.
+/// The outcome of an order that the table carried out, or refused.
 fn handled_or_refused(answer: Result<(), Cause>) -> Outcome
     ensures { result ≡ handled_or_refused answer }
 {

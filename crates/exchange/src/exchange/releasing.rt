@@ -14,8 +14,8 @@ use cell_pool::Lanes;
 use stp_types::Cause;
 
 impl Exchange {
-    /// Lets go what is held no longer. Unless a hold changed in the event, each message of Held waits, and nothing is
-    /// to be done.
+    /// Releases messages that are no longer held. Unless a hold changed in the event, each message of Held still waits,
+    /// and there is nothing to do.
     #[inline(always)]
     pub(super) fn release_if_due(&mut self)
         ensures { self.new ≡ with_node self.old (rule.release kept self.old.settings self.old.node) }
@@ -25,7 +25,7 @@ impl Exchange {
         }
     }
 
-    /// Each message of Held goes where it is to go, in order; what still waits stands in Held again.
+    /// Each message of Held goes where it is to go, in order; those that still wait are in Held again.
     fn release(&mut self)
         ensures { self.new ≡ with_node self.old (rule.release kept self.old.settings self.old.node) }
     {
@@ -42,7 +42,8 @@ impl Exchange {
         }
     }
 
-    /// The first message of Held goes to the end of Held where it waits, else to its link; without one it is lost.
+    /// The first message of Held goes to the end of Held if it still waits, otherwise to its link; if it has none it is
+    /// lost.
     fn release_first(&mut self)
         ensures { self.new ≡ with_node self.old
             (draining.first_gone (draining.onward self.old.settings) held_lane self.old.node) }

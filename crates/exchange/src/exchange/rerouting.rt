@@ -1,4 +1,4 @@
-//! What adjacent points say of routes, and what that does to flows.
+//! What adjacent points say about routes, and what that does to flows.
 
 ghost use Rattle.std.specs.Prelude.{◌≡◌, ◌<◌, length};
 ghost use Rattle.stp_types.specs.Readings.{destination_place, set_place};
@@ -23,8 +23,8 @@ use stp_types::{Outcome, PointCode, SetId};
 use timer_wheel::{RouteTimer, TimerName};
 
 impl Exchange {
-    /// A status that an adjacent point tells of another (Q.704 §13.2 to §13.4). It is ignored where the other is that
-    /// very point, or isn't reached by its set.
+    /// A status that an adjacent point reports for another (Q.704 §13.2 to §13.4). It is ignored where the other is
+    /// that very point, or isn't reached by its set.
     pub(super) fn on_route_status(
         &mut self,
         status: RouteStatus,
@@ -91,8 +91,8 @@ impl Exchange {
         }
     }
 
-    /// Controlled rerouting: the route to a destination over a set gets a status. Flows to that destination that go
-    /// from one link to another for it are held, and where there are such flows, T6 starts anew.
+    /// Controlled rerouting: the route to a destination over a set gets a status. Flows to that destination that move
+    /// from one link to another as a result are held, and if there are any, T6 restarts.
     fn reroute(&mut self, set: SetId, destination: usize, status: RouteStatus)
         requires destination { destination < length self.old.settings.destinations }
         ensures { self.new ≡ with_node self.old (with_parts self.old.node
@@ -106,7 +106,7 @@ impl Exchange {
         }
     }
 
-    /// T6 of a destination ran out: its rerouting holds nothing any more.
+    /// T6 of a destination ran out: its hold is lifted.
     pub(super) fn end_rerouting(&mut self, destination: u16)
         ensures { self.new ≡ with_node self.old
             (with_parts self.old.node (rule.rerouting_ended destination self.old.node.parts)) }
@@ -116,8 +116,8 @@ impl Exchange {
             .lift(Procedure::Reroute(usize::from(destination)));
     }
 
-    /// The first link of a set enters service: all routes over it are allowed, its adjacent point takes all
-    /// destinations for allowed, and T8 and T10 of the set stop.
+    /// The first link of a set enters service: all routes over it are allowed, its adjacent point assumes that all
+    /// destinations are allowed, and T8 and T10 of the set stop.
     pub(super) fn reset_set(&mut self, set: SetId)
         ensures { self.new ≡ with_node self.old
             (with_parts self.old.node (rule.with_set_reset self.old.settings set self.old.node.parts)) }

@@ -20,9 +20,9 @@ use std::alloc::Global;
 use stp_types::LinkId;
 
 impl Exchange {
-    /// Makes calls in a row, and answers what each of them answered.
+    /// Makes calls in a row, and returns the answer to each.
     ///
-    /// NoMemory comes only where there was no room for the answers; then no call was made.
+    /// Returns NoMemory only if there is no memory for the answers; then no call was made.
     pub fn run(&mut self, alloc: Global, calls: &[Call<'_>]) -> Result<Vec<Answer>, NoMemory>
         // For every abstract state that the exchange stood for, the answers are those of the abstract exchange,
         ensures answers { (a : Abstract) → StandsFor self.old a →

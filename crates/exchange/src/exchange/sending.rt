@@ -13,7 +13,8 @@ ghost use Rattle.exchange.specs.Taking.{Writes, frame_of, message_out, owed_out,
 
 use super::Exchange;
 use super::lanes::lane_of;
-use cell_pool::RingLanes;
+use crate::frame_text::LONGEST_FRAME;
+use cell_pool::CellPool;
 use link_alignment::LinkTimer;
 use link_sequence::Sequence;
 use m2pa_codec::{BUFFER_OCTETS, Frame, LinkStatus, encode};
@@ -28,7 +29,7 @@ impl Exchange {
     ) -> Option<usize>
         ensures frame { Writes (frame_to_take kept self.old link) result buffer.old buffer.new }
         ensures state { self.new ≡ taken kept self.old link }
-        ensures fits { IfSome result (λ count. count ≤ BUFFER_OCTETS) }
+        ensures fits { IfSome result (λ count. count ≤ LONGEST_FRAME) }
     {
         if !self.links.has(link) {
             return None;
@@ -52,7 +53,7 @@ impl Exchange {
         ensures frame { Writes (frame_of self.old link (rule.SendsStatus status)) (Some result) buffer.old buffer.new }
         ensures state { self.new ≡
             with_node self.old (with_parts self.old.node (rule.without_status link self.old.node.parts)) }
-        ensures fits { result ≤ BUFFER_OCTETS }
+        ensures fits { result ≤ LONGEST_FRAME }
     {
         let index = link.index();
         self.drop_status(link);
@@ -62,12 +63,12 @@ impl Exchange {
         encode(&Frame::Status { bsn, fsn, status }, buffer)
     }
 
-    /// The next message goes out, else the acknowledgement that is owed.
+    /// The next message goes out, or else the acknowledgement that is due.
     fn write_data(&mut self, link: LinkId, buffer: &mut [u8; BUFFER_OCTETS]) -> Option<usize>
         requires { link < length self.old.settings.links }
         ensures frame { Writes (frame_of self.old link (data_out self.old link)) result buffer.old buffer.new }
         ensures state { self.new ≡ sent self.old link (data_out self.old link) }
-        ensures fits { IfSome result (λ count. count ≤ BUFFER_OCTETS) }
+        ensures fits { IfSome result (λ count. count ≤ LONGEST_FRAME) }
     {
         match self.write_next_message(link, buffer) {
             Some(count) => Some(count),
@@ -84,7 +85,7 @@ impl Exchange {
         requires { link < length self.old.settings.links }
         ensures frame { Writes (frame_of self.old link (message_out self.old link)) result buffer.old buffer.new }
         ensures state { self.new ≡ sent self.old link (message_out self.old link) }
-        ensures fits { IfSome result (λ count. count ≤ BUFFER_OCTETS) }
+        ensures fits { IfSome result (λ count. count ≤ LONGEST_FRAME) }
     {
         let index = link.index();
         let state = self.links.state(link);
@@ -92,6 +93,8 @@ impl Exchange {
             return None;
         }
         let window = self.settings.window();
+        let outstanding = self.sequences[index].outstanding();
+        self.note_place(link, outstanding);
         let sequence = &mut self.sequences[index];
         let count = write_message(sequence, &self.lanes, lane_of(link), window, buffer)?;
         self.set_owed(link, false);
@@ -108,7 +111,7 @@ impl Exchange {
         requires { link < length self.old.settings.links }
         ensures frame { Writes (frame_of self.old link (owed_out self.old link)) result buffer.old buffer.new }
         ensures state { self.new ≡ sent self.old link (owed_out self.old link) }
-        ensures fits { IfSome result (λ count. count ≤ BUFFER_OCTETS) }
+        ensures fits { IfSome result (λ count. count ≤ LONGEST_FRAME) }
     {
         let index = link.index();
         if !self.links.state(link).owes_acknowledgement() {
@@ -125,7 +128,7 @@ impl Exchange {
 /// Writes the next message of a link to the front of `buffer`, if one may go out; it counts as sent from now on.
 fn write_message(
     sequence: &mut Sequence,
-    lanes: &RingLanes,
+    lanes: &CellPool,
     lane: usize,
     window: usize,
     buffer: &mut [u8; BUFFER_OCTETS],
@@ -136,7 +139,7 @@ fn write_message(
         result buffer.old buffer.new }
     ensures sent { is_some result ≡ is_some (kept_to_send sequence.old (lane_at lanes.now.lists lane) window) }
     ensures counts { sequence.new ≡ kept_sent_one sequence.old (lane_at lanes.now.lists lane) window }
-    ensures fits { IfSome result (λ count. count ≤ BUFFER_OCTETS) }
+    ensures fits { IfSome result (λ count. count ≤ LONGEST_FRAME) }
 {
     let bsn = sequence.last_accepted();
     match sequence.next_to_send(lanes, lane, window) {

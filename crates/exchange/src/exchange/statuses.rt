@@ -1,4 +1,4 @@
-//! Link Status, and the timers of a link that run out, by the table of the alignment.
+//! Link Status, and the timers of a link that run out, by the alignment table.
 
 ghost use Rattle.std.specs.Prelude.{◌≡◌, ◌<◌, length, true, false};
 ghost use Rattle.exchange_rules.specs.State.{with_node, with_parts};
@@ -18,9 +18,9 @@ use m2pa_codec::LinkStatus;
 use stp_types::{FailureReason, LinkId, Outcome};
 
 impl Exchange {
-    /// A link does what its alignment does about an input, and says what that is. Where it is the first of its set to
-    /// enter service, all that is known over that set begins anew; where it enters service, it takes its flows back;
-    /// where it is to fail, nothing changes here.
+    /// A link does what its alignment does about an input, and says what that is. If it is the first of its set to
+    /// enter service, everything known over that set is reset; if it enters service, it takes its flows back; if it has
+    /// to fail, nothing changes here.
     #[inline(always)]
     pub(super) fn act_by(&mut self, link: LinkId, input: Input) -> Action
         requires { link < length self.old.settings.links }
@@ -36,8 +36,8 @@ impl Exchange {
         action
     }
 
-    /// A link entered service. Where it is the first of its set, all that is known over that set begins anew. Then it
-    /// takes its flows back.
+    /// A link entered service. If it is the first of its set, everything known over that set is reset. Then it takes
+    /// its flows back.
     #[inline(never)]
     fn enter_service(&mut self, link: LinkId)
         requires link { link < length self.old.settings.links }
@@ -50,8 +50,7 @@ impl Exchange {
         self.change_back(link);
     }
 
-    /// Whether no other link of its set is in service beside a link: that is taken out of service to see it, and put
-    /// back.
+    /// Whether a link is the only one of its set in service: it is taken out of service to find out, and put back.
     fn is_first(&mut self, link: LinkId) -> bool
         requires link { link < length self.old.settings.links }
         requires serves { in_service self.old.node.parts link ≡ true }

@@ -18,7 +18,7 @@ use flow_hold::{Procedure, SELECTIONS};
 use stp_types::{LinkId, Sls};
 
 impl Exchange {
-    /// The changeover of a link holds each flow that goes by it, and each that has a user message there that isn't
+    /// The changeover of a link holds each flow that takes it, and each that has a user message there that isn't
     /// confirmed.
     pub(super) fn suspend(&mut self, link: LinkId)
         requires { link < length self.old.settings.links }
@@ -83,6 +83,7 @@ impl Exchange {
         ensures { self.new ≡ with_holds self.old (with_head self.old.settings link
             (slice_get (kept.unconfirmed self.old.node.queues link) place) self.old.node.parts.holds) }
     {
+        self.note_place(link, place);
         if let Some(head) = self.head_at(link, place) {
             self.hold_flow_of(link, &head);
         }

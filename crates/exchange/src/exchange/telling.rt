@@ -1,4 +1,4 @@
-//! What adjacent points are told of routes.
+//! What adjacent points are told about routes.
 
 ghost use Rattle.std.specs.Prelude.{◌≡◌, ◌<◌, length, Some, IfSome};
 ghost use Rattle.stp_types.specs.Readings.{destination_place, set_place};
@@ -21,12 +21,11 @@ use route_table::RouteStatus;
 use stp_types::{LinkId, Outcome, PointCode, SetId};
 use timer_wheel::TimerName;
 
-/// What is owed is told while fewer management messages than this stand in the node.
+/// Pending updates are queued while the node has fewer management messages than this.
 const TOLD_BELOW: usize = 128;
 
 impl Exchange {
-    /// Tells adjacent points what they are owed, while there is room for it. Unless telling is due, they are owed
-    /// nothing.
+    /// Queues the pending updates for adjacent points, while there is room. Unless telling is due, there are none.
     #[inline(always)]
     pub(super) fn tell_owed(&mut self)
         ensures { self.new ≡ with_node self.old (rule.tell_owed kept self.old.settings self.old.node) }
@@ -117,7 +116,7 @@ impl Exchange {
         self.told.tell(set, destination, status);
     }
 
-    /// T8 starts for a set and a destination, anew where it runs already.
+    /// Starts or restarts T8 for a set and a destination.
     fn inhibit(&mut self, set: SetId, destination: usize)
         requires { destination < length self.old.settings.destinations }
         ensures { self.new ≡ with_node self.old (with_parts self.old.node
@@ -138,7 +137,7 @@ impl Exchange {
         self.send_management(self.adjacent_of(set), &telling(status, about));
     }
 
-    /// A message to the destination of this number found no route. If it came by a link, transfer-prohibited about the
+    /// A message to the destination of this number has no route. If it arrived on a link, transfer-prohibited about the
     /// destination goes to the point at the other end of that link, and T8 starts. None goes while T8 runs, where that
     /// point is the destination itself, or where there is no room (Q.704 §13.2).
     #[inline(never)]
@@ -169,7 +168,7 @@ impl Exchange {
     }
 
     /// A test of an adjacent point about another (Q.704 §13.5). It is ignored where the other is that very point. It is
-    /// answered where the point is to be told something else than it asks about.
+    /// answered if the point should be told something other than what it asks about.
     pub(super) fn on_route_test(
         &mut self,
         test: RouteTest,
@@ -205,7 +204,8 @@ impl Exchange {
         requires set { set < length self.old.settings.sets }
         requires destination { destination < length self.old.settings.destinations }
         ensures { self.new ≡ with_node self.old (rule.send_route_status kept self.old.settings
-            (hearing.answer_to_test (facts self.old.settings self.old.node.parts) self.old.node.parts.told set destination test)
+            (hearing.answer_to_test (facts self.old.settings self.old.node.parts)
+            self.old.node.parts.told set destination test)
             set destination self.old.node) }
     {
         let answer = self
@@ -226,7 +226,7 @@ impl Exchange {
         self.told.tell(set, destination, status);
     }
 
-    /// Whether few enough management messages stand in the node to tell more of routes.
+    /// Whether the node has few enough management messages to queue another update.
     fn may_tell(&self) -> bool
         ensures { result ≡ rule.may_tell kept self.now.settings self.now.node }
     {

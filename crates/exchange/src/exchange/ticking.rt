@@ -21,7 +21,7 @@ impl Exchange {
         Outcome::Handled
     }
 
-    /// Runs the timers that are due, in name order, but for those that an earlier one stopped or set.
+    /// Runs the timers that are due, in name order, except those that an earlier one stopped or set.
     fn run_all(&mut self)
         ensures { self.new ≡ with_node self.old (rule.run_all kept self.old.settings self.old.node) }
     {
@@ -39,7 +39,7 @@ impl Exchange {
         }
     }
 
-    /// Runs a timer. That T8 did is all that it is for.
+    /// Runs a timer. T8 does nothing more when it runs out.
     fn run_timer(&mut self, name: TimerName)
         ensures { self.new ≡ with_node self.old (rule.run_timer kept self.old.settings name self.old.node) }
     {

@@ -25,7 +25,7 @@ impl Exchange {
         }
     }
 
-    /// Starts a timer of a link, anew where it runs already.
+    /// Starts or restarts a timer of a link.
     pub(super) fn start(&mut self, link: LinkId, timer: LinkTimer)
         ensures { self.new ≡ with_node self.old (with_timers self.old.node
             (rule.with_timer self.old.settings link timer self.old.node.parts.timers)) }
@@ -34,7 +34,7 @@ impl Exchange {
         self.timers.set(timer_name(link, timer), ticks);
     }
 
-    /// Starts a timer of a link where it doesn't run.
+    /// Starts a timer of a link unless it is running.
     pub(super) fn start_unless_running(&mut self, link: LinkId, timer: LinkTimer)
         ensures { self.new ≡ with_node self.old (with_timers self.old.node (start_unless_running
             (rule.timer_name link timer) (rule.ticks_of self.old.settings.timers timer)

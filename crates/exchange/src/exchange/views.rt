@@ -33,8 +33,8 @@ impl Exchange {
         self.lost_any
     }
 
-    /// Whether messages of a flow may have gone out of order since `boot`: T3 or T4 ran out, so that what a changeback
-    /// held went on before the answer came. Once true it stays true.
+    /// Whether messages of a flow may have gone out of order since `boot`: T3 or T4 ran out, so a changeback released
+    /// messages before the acknowledgement arrived. Once true it stays true.
     pub fn late_any(&self) -> bool
         ensures late { (a : Abstract) → StandsFor self.now a → result ≡ a.node.parts.late_any }
         ensures kept_late { result ≡ self.now.node.parts.late_any }
@@ -42,8 +42,8 @@ impl Exchange {
         self.late_any
     }
 
-    /// The last 64 notices, the oldest first. Reading removes none; once there are 64, each new one drops the oldest, and
-    /// nothing tells how many were made.
+    /// The last 64 notices, the oldest first. Reading removes none; once there are 64, each new one drops the oldest,
+    /// and nothing says how many there were in all.
     pub fn notices(&self) -> &HeapCircularBuffer<Notice>
         ensures notices { (a : Abstract) → StandsFor self.now a → result.now.items ≡ a.node.parts.notices }
         ensures kept_notices { result.now.items ≡ self.now.node.parts.notices }
@@ -51,7 +51,7 @@ impl Exchange {
         &self.notices
     }
 
-    /// A link as it is shown; `None` where it isn't there.
+    /// A link as it is shown; `None` if there is no such link.
     pub fn link(&self, link: LinkId) -> Option<LinkView>
         ensures link { (a : Abstract) → StandsFor self.now a → result ≡ link_view whole a link }
         ensures kept_link { result ≡ link_view kept self.now link }
@@ -78,7 +78,7 @@ impl Exchange {
     }
 
     /// A translation row, by its number in the order of the rows: by translation type, plan, nature, then digit by
-    /// digit, a prefix before what it begins. `None` past the last.
+    /// digit, a prefix before the longer ones. `None` past the last.
     pub fn title(&self, index: usize) -> Option<TitleRow>
         ensures title { (a : Abstract) → StandsFor self.now a → result ≡ slice_get a.node.parts.titles index }
         ensures kept_title { result ≡ slice_get self.now.node.parts.titles index }

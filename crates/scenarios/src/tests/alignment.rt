@@ -114,7 +114,7 @@ fn tick(exchange: &mut Exchange, ticks: usize) -> Outcome {
 /// Submits a message for the point behind the link.
 fn submit(exchange: &mut Exchange) -> Outcome {
     match Msu::new(0x85, &[0x02, 0x40, 0x00, 0x50, 0xaa, 0xbb]) {
-        Ok(message) => exchange.step(&Event::Submit(message)),
+        Ok(message) => exchange.step(&Event::Submit(message.lend())),
         Err(cause) => Outcome::Refused(cause),
     }
 }

@@ -42,7 +42,7 @@ fn made<T: Abort>(rt: &T, alloc: Global, exchange: &mut Exchange, message: Msu) 
         Call::Take(link),
         Call::Step(Event::Frame(link, &COMES)),
         Call::Step(Event::Frame(link, &OTHER_VERSION)),
-        Call::Step(Event::Submit(message)),
+        Call::Step(Event::Submit(message.lend())),
         Call::Take(link),
         Call::Take(link),
         Call::Wants(link),

@@ -2,7 +2,7 @@
 
 use super::lines::expect_row;
 use super::{POOL, booted};
-use exchange::{Cause, Event, Exchange, Order, Outcome, PointCode, Route, TitleRow};
+use exchange::{Cause, Event, Exchange, Order, Outcome, PointCode, TitleRoute, TitleRow};
 use std::process::Abort;
 
 /// A script on a node with the built-in settings, which have no translation row; what it prints; and the number of the
@@ -64,7 +64,10 @@ const LINES: &str = "\
 /// by title.
 fn row<T: Abort>(rt: &T) -> TitleRow {
     let point = PointCode::new(3).expect(rt, "a code of 14 bits");
-    TitleRow::new(0, 1, 4, &[4, 9], point, Route::Title(None)).expect(rt, "a row in its ranges")
+    TitleRow::new(0, 1, 4, &[4, 9], point, TitleRoute::Title(None)).expect(
+        rt,
+        "a row in its ranges",
+    )
 }
 
 /// Adds a row where there is memory, and once more.

@@ -5,8 +5,8 @@ use std::alloc::{AllocError, Global};
 use std::test::*;
 use timer_wheel::{NodeCounts, TimerName, Timers};
 
-/// Four timers that run out in one tick, set out of order; a fifth that was set again, and one that was stopped. Of those
-/// that are started unless they run only L6 didn't.
+/// Four timers that run out in one tick, set out of order; a fifth that was set again, and one that was stopped. Of
+/// those that are started unless they run only L6 didn't.
 fn start(timers: &mut Timers) {
     timers.set(TimerName::T10(SetId::new(0), 1), 1);
     timers.set(TimerName::T6(0), 1);

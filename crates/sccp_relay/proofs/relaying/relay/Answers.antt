@@ -6,7 +6,7 @@ use Rattle.sccp_relay.proofs.relaying.relay.Goals as goal
 
 pub returns-in-Err-clause-exact : goal.returns-in-Err-clause-exact
 unfolding relay
-returns-in-Err-clause-exact c = rw (← c.behind_label.ensures, c.in-Err.ensures.exact, c.cause_of.ensures) refl
+returns-in-Err-clause-exact c = rw (← c.behind_label.ensures, c.in-Err.ensures.exact, c.sccp_cause.ensures) refl
 
 pub returns-in-Ok-clause-exact : goal.returns-in-Ok-clause-exact
 unfolding relay

@@ -22,7 +22,7 @@ loop-i-preserved c =
       room = rw c.push_reserved.ensures.capacity c.loop-i.invariant.room;
       rows = rw c.push_reserved.ensures.items (next_row (destination_of c.args.sets.now) c.args.destinations.now c.loop-i.i c.index-destinations-i.result _ _ _ l c.index-destinations-i.is c.loop-i.invariant.rows c.in_ok-row.ensures.value);
       points = c.in_ok-row.ensures.points ∙ next_row (λ (d : DestinationDraft). natural d.point) c.args.destinations.now c.loop-i.i c.index-destinations-i.result _ _ _ l c.index-destinations-i.is c.loop-i.invariant.points refl;
-      indexed = rw c.push_reserved.ensures.items (c.in_ok-row.ensures.points ∙ pushed_map (λ (d : DestinationEntry). d.point) c.loop-i.rows.items c.in_ok-row.row c.loop-i.points.keys _ c.loop-i.invariant.indexed (rw c.in_ok-row.ensures.value refl));
+      indexed = rw c.push_reserved.ensures.items (c.in_ok-row.ensures.points ∙ pushed_map (λ (d : DestinationEntry). d.point) c.loop-i.rows.items c.in_ok-row.row c.loop-i.points _ c.loop-i.invariant.indexed (rw c.in_ok-row.ensures.value refl));
       fault = past_entry (destination_fault c.args.own c.args.sets.now) c.args.destinations.now c.loop-i.i c.index-destinations-i.result _ l c.index-destinations-i.is c.in_ok-row.ensures.well ∙ c.loop-i.invariant.fault;
     }
 

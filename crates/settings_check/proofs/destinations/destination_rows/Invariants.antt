@@ -9,7 +9,7 @@ invariant-loop-i l = record {
   len : vec_len l.rows ≡ l.i;
   room : length l.destinations ≤ vec_capacity l.rows;
   rows : l.rows.items ≡ map (destination_of l.sets) (take l.i l.destinations);
-  points : l.points.keys ≡ points_of (take l.i l.destinations);
-  indexed : l.points.keys ≡ map (λ d. d.point) l.rows.items;
+  points : l.points ≡ points_of (take l.i l.destinations);
+  indexed : l.points ≡ map (λ d. d.point) l.rows.items;
   fault : entries_fault (destination_fault l.own l.sets) (take l.i l.destinations) (drop l.i l.destinations) ≡ entries_fault (destination_fault l.own l.sets) [] l.destinations;
 }

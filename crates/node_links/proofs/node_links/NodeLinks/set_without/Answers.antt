@@ -1,29 +1,22 @@
--- The routes know which links are in service, and the link that was taken out is put back.
-use Rattle.std.proofs.Common.{ap, ◌∙◌, false, true, Bool, List, slice_set}
+-- The routes know which links are in service, before and after.
+use Rattle.std.proofs.Common.{ap, ◌∙◌, false}
 use Rattle.std.specs.Prelude.{Option}
 use Rattle.std.specs.Option.{option_map}
 use Rattle.route_table.specs.declared.route.Route.{Route}
 use Rattle.route_table.specs.Facts.{Facts, with_link}
 use Rattle.route_table.specs.Chosen.{chosen_set}
-use Rattle.node_links.specs.LinkState.{is_in_service}
-use Rattle.node_links.specs.Network.{Network, facts_of, link_in}
+use Rattle.node_links.specs.Network.{facts_of}
 use Rattle.node_links.proofs.Chosen.{facts_kept, set_of_route}
-use Rattle.node_links.proofs.Serving.{serving_again}
 use Rattle.node_links.proofs.node_links.NodeLinks.set_without.Goals as goal
 
 pub invariant_of-self : goal.invariant_of-self
 invariant_of-self c = record {
-  serving =
-      ap (λ (f : Facts). f.in_service) c.set_link-2.ensures
-      ∙ ap (λ (f : Facts). slice_set f.in_service c.args.link true) c.set_link.ensures
-      ∙ ap (λ (bs : List Bool). slice_set (slice_set bs c.args.link false) c.args.link true) c.self.invariant.serving
-      ∙ serving_again c.self.inside.states.items c.args.link
-      (ap (λ (n : Network). is_in_service (link_in n.links c.args.link).alignment) c.self.view_is ∙ c.requires);
+  serving = ap (λ (f : Facts). f.in_service) c.route_without.ensures.facts ∙ c.self.invariant.serving;
 }
 
 pub returns-clause-set : goal.returns-clause-set
 returns-clause-set c =
-    c.set_by.ensures ∙ ap (λ (o : Option Route). option_map (λ (route : Route). route.set) o) c.route_of-route.ensures
+    c.set_by.ensures ∙ ap (λ (o : Option Route). option_map (λ (route : Route). route.set) o) c.route_without.ensures.route
     ∙ set_of_route _ c.args.destination
-    ∙ ap (λ (f : Facts). chosen_set f c.args.destination)
-    (c.set_link.ensures ∙ ap (with_link c.args.link false) (facts_kept c.self.inside.routes c.self.inside.states.items c.self.invariant.serving ∙ ap facts_of c.self.view_is))
+    ∙ ap (λ (f : Facts). chosen_set (with_link c.args.link false f) c.args.destination)
+    (facts_kept c.self.inside.routes c.self.inside.states.items c.self.invariant.serving ∙ ap facts_of c.self.view_is)

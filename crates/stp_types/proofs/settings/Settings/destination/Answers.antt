@@ -4,4 +4,4 @@ use Rattle.stp_types.proofs.settings.Settings.destination.Goals as goal
 
 pub returns : goal.returns
 returns c =
-    rw (c.get_index_of.ensures.index, c.self.invariant.indexed, ← c.self.view_is, c.code.ensures.value) (position-map (nat_eq c.args.point) (λ d. d.point) c.self.inside.checked.destinations.items)
+    rw (c.place.ensures, c.self.invariant.indexed, ← c.self.view_is) (position-map (nat_eq c.args.point) (λ d. d.point) c.self.inside.checked.destinations.items)

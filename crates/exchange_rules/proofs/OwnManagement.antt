@@ -1,0 +1,20 @@
+-- What a node makes itself is management.
+use Rattle.std.proofs.Common.{ap, arith, nat_lt, true, ℕ, ◌%◌, ◌*◌, ◌+◌, ◌≡◌}
+use Rattle.mgmt_codec.specs.LinkTests.{LinkTestValue}
+use Rattle.mgmt_codec.specs.declared.management.Management.{Management}
+use Rattle.settings_rows.specs.Configuration.{Configuration}
+use Rattle.signalling_types.specs.Message.{is_management}
+use Rattle.exchange_rules.specs.Local.{test_answer}
+use Rattle.exchange_rules.specs.Made.{management_to}
+
+made-indicator : (network : ℕ) → (network * 64 + 0) % 16 ≡ 0
+made-indicator network = omega arith
+
+tested-indicator : (network : ℕ) → (network * 64 + 1) % 16 ≡ 1
+tested-indicator network = omega arith
+
+pub made-management : (c : Configuration) (point : ℕ) (message : Management) → is_management (management_to c point message) ≡ true
+made-management c point message = ap (λ (indicator : ℕ). nat_lt indicator 2) (made-indicator c.network)
+
+pub answer-management : (c : Configuration) (point : ℕ) (test : LinkTestValue) → is_management (test_answer c point test) ≡ true
+answer-management c point test = ap (λ (indicator : ℕ). nat_lt indicator 2) (tested-indicator c.network)

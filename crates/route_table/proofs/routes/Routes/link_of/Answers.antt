@@ -1,0 +1,14 @@
+-- The row of the destination has the link.
+use Rattle.std.proofs.Common.{◌∙◌, ap, arith, rules}
+use Rattle.std.proofs.lemmas.Bool.Decides.{nat_tests}
+use Rattle.route_table.specs.Facts.{Facts}
+use Rattle.route_table.specs.Chosen.{chosen_link}
+use Rattle.route_table.proofs.Compiling.{found_row}
+use Rattle.route_table.proofs.routes.Routes.link_of.Goals as goal
+
+pub returns-in-Some : goal.returns-in-Some
+returns-in-Some c =
+    c.link.ensures
+    ∙ found_row c.self.inside.known c.deref.result.now c.in-Some.links.now c.args.destination c.args.sls
+    (c.deref.ensures.value ∙ c.self.invariant.table) (grind (arith, nat_tests, c.in-Some.ensures.lookup.0)) c.in-Some.ensures.lookup.1 (search rules)
+    ∙ ap (λ (f : Facts). chosen_link f c.args.destination c.args.sls) c.self.view_is
