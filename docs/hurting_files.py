@@ -1,11 +1,11 @@
-"""Settings files that might take a program long, and how long `stp check` takes for them.
+"""Settings files that might be slow to check, and how long `stp check` takes for them.
 
     python3 docs/hurting_files.py most > examples/settings_files/most_destinations.toml
     python3 docs/hurting_files.py measure crates/stp/out/stp
 
-`most` prints a settings file with as many destinations as there may be. `measure` makes each file in three
-sizes, each twice the one before, lets the program check it, and prints what the program printed, and the
-least time of three. The files are made in a folder of their own, which is removed again.
+`most` prints a settings file with the most destinations that a node may have. `measure` makes each file in
+three sizes, each twice the one before, has the program check it, and prints what the program printed, and
+the least time of three. The files are made in a temporary folder.
 """
 import subprocess
 import sys
@@ -25,7 +25,7 @@ def link_sets(count):
 
 
 def destinations(count, sets):
-    # each set comes first somewhere, so that its adjacent point is led to
+    # each set comes first for some destination, as its adjacent point needs it to
     lists = [", ".join(f'"{name}"' for name in SETS[i:sets] + SETS[:i]) for i in range(sets)]
     entries = "".join(f"{{point = {2 + i}, sets = [{lists[i % sets]}]}},\n" for i in range(count))
     return f"destination = [\n{entries}]\n"
@@ -40,20 +40,20 @@ def nested(opening, closing, count):
 
 
 FILES = [
-    ("a list, nested", lambda n: nested("[", "]", n), 524_288),
-    ("a list, nested and never closed", lambda n: nested("[", "", n), 1_048_576),
-    ("a table, nested", lambda n: nested("{a=", "}", n), 262_144),
-    ("a key of so many parts", lambda n: settings(more=".".join(["a"] * n) + " = 1\n"), 524_288),
-    ("a key, so many times", lambda n: settings(more="own = 1\n" * n), 1_000_000),
-    ("other keys", lambda n: settings(more="".join(f"k{i} = 0\n" for i in range(n))), 100_000),
-    ("users", lambda n: settings(users="users = [" + "5, " * n + "]\n"), 1_000_000),
-    ("destinations by one set", lambda n: settings(count=n), 512),
-    ("destinations by 8 sets", lambda n: settings(sets=8, count=n, behind=8), 1_024),
+    ("lists, nested and closed again", lambda n: nested("[", "]", n), 524_288),
+    ("lists, never closed", lambda n: nested("[", "", n), 1_048_576),
+    ("tables, nested", lambda n: nested("{a=", "}", n), 262_144),
+    ("one key with many parts", lambda n: settings(more=".".join(["a"] * n) + " = 1\n"), 524_288),
+    ("one key, repeated", lambda n: settings(more="own = 1\n" * n), 1_000_000),
+    ("unknown keys", lambda n: settings(more="".join(f"k{i} = 0\n" for i in range(n))), 100_000),
+    ("one user, repeated", lambda n: settings(users="users = [" + "5, " * n + "]\n"), 1_000_000),
+    ("destinations with one set each", lambda n: settings(count=n), 512),
+    ("destinations with 8 sets each", lambda n: settings(sets=8, count=n, behind=8), 1_024),
 ]
 
 
 def checked(program, text):
-    """What the program prints of this text, and the least seconds of three."""
+    """What the program prints for this text, and the least seconds of three."""
     with tempfile.TemporaryDirectory() as folder:
         file = Path(folder) / "node.toml"
         file.write_text(text)
