@@ -7,6 +7,7 @@ mod facing;
 mod lines;
 mod long_lines;
 mod lost;
+mod pair;
 mod program;
 mod sentences;
 mod statuses;

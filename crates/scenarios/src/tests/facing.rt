@@ -41,7 +41,7 @@ fn expect_row<R: Abort>(rt: &R, alloc: Global, row: &str) -> Result<(), Fail> {
 }
 
 /// The node with these changes to the built-in settings.
-fn node(alloc: Global, changes: &str) -> Result<Settings, Fail> {
+pub(super) fn node(alloc: Global, changes: &str) -> Result<Settings, Fail> {
     let mut draft = built_in(alloc)?;
     for change in changes.split("; ") {
         make(alloc, &mut draft, change)?;
