@@ -5,7 +5,7 @@ use super::{POOL, booted};
 use exchange::{Answer, Call, Event, Exchange, Order, Wants};
 use std::alloc::Global;
 use std::process::Abort;
-use stp_types::{FrameFault, LinkId, Msu, Notice, Outcome};
+use stp_types::{FrameFault, LinkId, Msu, MsuRef, Notice, Outcome};
 
 /// A frame with a message from point 2 to point 300, the first of its link. It confirms the first that went out.
 const COMES: [u8; 24] = [
@@ -22,17 +22,23 @@ const GOES: [u8; 24] = [
 /// A frame of another version.
 const OTHER_VERSION: [u8; 8] = [0x02, 0x00, 0x0b, 0x02, 0x00, 0x00, 0x00, 0x08];
 
+/// The frames of the calls.
+#[derive(Drop)]
+struct Frames<'a> {
+    proving: &'a [u8],
+    ready: &'a [u8],
+    comes: &'a [u8],
+    other_version: &'a [u8],
+}
+
 /// Brings a link into service, takes what its adjacent point is told of point 300, and lets a message through; then an
 /// operator closes the link, its association goes, and he lets it open again, which it may once its changeover has
 /// ended by T1.
-fn made<T: Abort>(rt: &T, alloc: Global, exchange: &mut Exchange, message: Msu) -> Vec<Answer> {
-    let link = LinkId::new(0);
-    let proving = status_frame(2);
-    let ready = status_frame(4);
-    let calls = [
+fn calls<'a>(link: LinkId, frames: Frames<'a>, message: MsuRef<'a>) -> [Call<'a>; 28] {
+    [
         Call::Step(Event::AssociationUp(link)),
-        Call::Step(Event::Frame(link, &proving)),
-        Call::Step(Event::Frame(link, &ready)),
+        Call::Step(Event::Frame(link, frames.proving)),
+        Call::Step(Event::Frame(link, frames.ready)),
         Call::Step(Event::Tick),
         Call::Step(Event::Tick),
         Call::Step(Event::Tick),
@@ -40,9 +46,9 @@ fn made<T: Abort>(rt: &T, alloc: Global, exchange: &mut Exchange, message: Msu) 
         Call::Take(link),
         Call::Take(link),
         Call::Take(link),
-        Call::Step(Event::Frame(link, &COMES)),
-        Call::Step(Event::Frame(link, &OTHER_VERSION)),
-        Call::Step(Event::Submit(message.lend())),
+        Call::Step(Event::Frame(link, frames.comes)),
+        Call::Step(Event::Frame(link, frames.other_version)),
+        Call::Step(Event::Submit(message)),
         Call::Take(link),
         Call::Take(link),
         Call::Wants(link),
@@ -58,7 +64,20 @@ fn made<T: Abort>(rt: &T, alloc: Global, exchange: &mut Exchange, message: Msu) 
         Call::Step(Event::Tick),
         Call::Step(Event::Tick),
         Call::Wants(link),
-    ];
+    ]
+}
+
+/// What an exchange answers to these calls.
+fn made<T: Abort>(rt: &T, alloc: Global, exchange: &mut Exchange, message: Msu) -> Vec<Answer> {
+    let proving = status_frame(2);
+    let ready = status_frame(4);
+    let frames = Frames {
+        proving: &proving,
+        ready: &ready,
+        comes: &COMES,
+        other_version: &OTHER_VERSION,
+    };
+    let calls = calls(LinkId::new(0), frames, message.lend());
     exchange.run(alloc, &calls).expect(rt, "memory")
 }
 
