@@ -3,9 +3,8 @@
 use super::facing::node;
 use pair_world::{End, Pair, PairFault, Step};
 use std::alloc::Global;
-use std::process::Abort;
 use std::test::*;
-use stp_types::{LinkId, Msu, Outcome};
+use stp_types::{LinkId, Msu, Outcome, Settings};
 
 /// How the near node differs from the built-in settings: three links lead to point 2.
 const NEAR: &str = "link e0/east/0 e1/east/1 e2/east/2; destination 2/east";
@@ -16,17 +15,8 @@ const FAR: &str = "own 2; set east/1; link e0/east/0 e1/east/1 e2/east/2; destin
 /// So many links are between them: e0, e1 and e2.
 const LINKS: u8 = 3;
 
-/// The link that the order to change over, its answer and the moved message go by.
-const E0: u8 = 0;
-
-/// The link that fails.
-const E1: u8 = 1;
-
-/// So many ticks is a link in proving: timer L4.
-const PROVING_TICKS: u8 = 3;
-
-/// In so many rounds all is carried.
-const ROUNDS: u8 = 20;
+/// In so many rounds the links come into service, and all that follows is carried. A tick passes at both ends in each.
+const ROUNDS: u8 = 8;
 
 /// The service information octet of the message: ISUP in the international network.
 const SIO: u8 = 0x85;
@@ -34,177 +24,227 @@ const SIO: u8 = 0x85;
 /// The message, for the near node's peer, on the flow of selection 1.
 const MESSAGE: [u8; 5] = [0x02, 0x40, 0x00, 0x10, 0xaa];
 
+/// What is done, about a link by its number.
+#[derive(Clone, Copy)]
+enum Act {
+    /// The near end submits the message.
+    Submit,
+    Take(End, u8),
+    Deliver(End, u8),
+    Lose(End, u8),
+    Open(u8),
+}
+
+/// What is to become of it.
+#[derive(Clone, Copy)]
+enum Want {
+    /// It is queued on e1.
+    Queued,
+    Handled,
+    Ignored,
+    Local,
+}
+
+/// The near end submits the message and sends it on e1.
+const SENDS: [(Act, Want); 2] = [
+    (Act::Submit, Want::Queued),
+    (Act::Take(End::One, 1), Want::Handled),
+];
+
+/// The far end gets the message by e1.
+const GETS: [(Act, Want); 1] = [(Act::Deliver(End::Two, 1), Want::Local)];
+
+/// The near end loses e1, and the order to change over and its answer are carried by e0, and what the near end sends
+/// next.
+const CHANGES_OVER: [(Act, Want); 6] = [
+    (Act::Lose(End::One, 1), Want::Handled),
+    (Act::Take(End::One, 0), Want::Handled),
+    (Act::Deliver(End::Two, 0), Want::Handled),
+    (Act::Take(End::Two, 0), Want::Handled),
+    (Act::Deliver(End::One, 0), Want::Handled),
+    (Act::Take(End::One, 0), Want::Handled),
+];
+
+/// That was the message.
+const CROSSES: [(Act, Want); 1] = [(Act::Deliver(End::Two, 0), Want::Local)];
+
+/// That was an acknowledgement, and no message is left.
+const ACKNOWLEDGES: [(Act, Want); 2] = [
+    (Act::Deliver(End::Two, 0), Want::Handled),
+    (Act::Take(End::One, 0), Want::Ignored),
+];
+
+/// E1 opens again once both ends have lost it.
+const OPENS_AGAIN: [(Act, Want); 3] = [
+    (Act::Open(1), Want::Ignored),
+    (Act::Lose(End::Two, 1), Want::Handled),
+    (Act::Open(1), Want::Handled),
+];
+
 #[test]
 fn lost_before_delivery(rt: HostRuntime) -> Result<(), Fail> {
-    let mut pair = pair_in_service(rt.alloc())?;
-    send(&rt, &mut pair)?;
-    change_over(&rt, &mut pair)?;
-    expect(&rt, carry(&mut pair, End::One, E0)?, Outcome::Local);
-    expect_crossed(&rt, &pair)?;
-    open_again(&rt, &mut pair)
+    expect_crossing(rt.alloc(), &[], &CROSSES)
 }
 
 #[test]
 fn delivered_before_the_loss(rt: HostRuntime) -> Result<(), Fail> {
-    let mut pair = pair_in_service(rt.alloc())?;
-    send(&rt, &mut pair)?;
-    expect(&rt, deliver(&mut pair, End::Two, E1)?, Outcome::Local);
-    change_over(&rt, &mut pair)?;
-    // an acknowledgement is all that is left
-    expect(&rt, carry(&mut pair, End::One, E0)?, Outcome::Handled);
-    expect(&rt, take(&mut pair, End::One, E0)?, Outcome::Ignored);
-    expect_crossed(&rt, &pair)?;
-    open_again(&rt, &mut pair)
+    expect_crossing(rt.alloc(), &GETS, &ACKNOWLEDGES)
 }
 
 #[test]
 fn no_pair_of_nodes_that_do_not_face(rt: HostRuntime) -> Result<(), Fail> {
-    match new_pair(rt.alloc(), NEAR, NEAR)? {
-        Some(_) => Err(Fail::new("a pair of nodes that don't face each other")),
-        None => Ok(()),
+    let near = node(rt.alloc(), NEAR)?;
+    let same = node(rt.alloc(), NEAR)?;
+    expect_no_pair(new_pair(rt.alloc(), near, same))
+}
+
+/// Expects that there is no pair, since its nodes don't face each other.
+fn expect_no_pair(pair: Result<Pair, PairFault>) -> Result<(), Fail> {
+    match pair {
+        Err(PairFault::NotFacing) => Ok(()),
+        _ => Err(Fail::new("a pair of nodes that don't face each other")),
     }
 }
 
-/// The near end submits the message and sends it on e1.
-fn send<R: Abort>(rt: &R, pair: &mut Pair) -> Result<(), Fail> {
-    let submitted = turn(pair, Step::Submit(End::One, message()?))?;
-    expect(rt, submitted, Outcome::Queued(LinkId::new(E1)));
-    expect(rt, take(pair, End::One, E1)?, Outcome::Handled);
-    Ok(())
+/// Brings a pair into service, and loses e1 with the message on it: what is done before the loss, and what after the
+/// changeover, is given.
+fn expect_crossing(
+    alloc: Global,
+    before: &[(Act, Want)],
+    after: &[(Act, Want)],
+) -> Result<(), Fail> {
+    let near = node(alloc, NEAR)?;
+    let far = node(alloc, FAR)?;
+    let mut pair = new_pair(alloc, near, far)?;
+    cross(&mut pair, before, after)
 }
 
-/// The near end loses e1; the far end gets the order to change over, and its answer is carried back.
-fn change_over<R: Abort>(rt: &R, pair: &mut Pair) -> Result<(), Fail> {
-    expect(rt, lose(pair, End::One, E1)?, Outcome::Handled);
-    expect(rt, carry(pair, End::One, E0)?, Outcome::Handled);
-    expect(rt, carry(pair, End::Two, E0)?, Outcome::Handled);
-    Ok(())
+/// The same, of a pair that was just made.
+fn cross(pair: &mut Pair, before: &[(Act, Want)], after: &[(Act, Want)]) -> Result<(), Fail> {
+    bring_up(pair)?;
+    play_all(pair, &[&SENDS, before, &CHANGES_OVER, after])?;
+    expect_crossed(pair)?;
+    play(pair, &OPENS_AGAIN)
 }
 
-/// E1 opens again once both ends have lost it.
-fn open_again<R: Abort>(rt: &R, pair: &mut Pair) -> Result<(), Fail> {
-    expect(rt, open(pair, E1)?, Outcome::Ignored);
-    expect(rt, lose(pair, End::Two, E1)?, Outcome::Handled);
-    expect(rt, open(pair, E1)?, Outcome::Handled);
-    Ok(())
-}
-
-/// The message was accepted and received once, no other was, and neither end says that one was lost or late.
-fn expect_crossed<R: Abort>(rt: &R, pair: &Pair) -> Result<(), Fail> {
-    let message = [message()?];
-    assert!(rt;
-        accepted(pair, End::One) == message.as_slice(),
-        "not accepted once"
-    );
-    assert!(rt;
-        received(pair, End::Two) == message.as_slice(),
-        "not received once"
-    );
-    assert!(rt; accepted(pair, End::Two).is_empty(), "another accepted");
-    assert!(rt; received(pair, End::One).is_empty(), "another received");
-    assert!(rt; lost_none(pair, End::One), "lost at one");
-    assert!(rt; lost_none(pair, End::Two), "lost at two");
-    Ok(())
-}
-
-/// Compares an outcome with the one that is wanted.
-fn expect<R: Abort>(rt: &R, outcome: Outcome, wanted: Outcome) {
-    assert_eq!(rt; outcome, wanted);
-}
-
-/// The two nodes with all links in service, and every declaration of a changeback answered.
-fn pair_in_service(alloc: Global) -> Result<Pair, Fail> {
-    let mut pair = new_pair(alloc, NEAR, FAR)?.ok_or("no pair of nodes that face each other")?;
+/// All links come into service, and every declaration of a changeback is answered.
+fn bring_up(pair: &mut Pair) -> Result<(), Fail> {
     for link in 0..LINKS {
-        open(&mut pair, link)?;
+        turn(pair, Step::Open(LinkId::new(link)))?;
     }
-    carry_all(&mut pair)?;
-    for _ in 0..PROVING_TICKS {
-        turn(&mut pair, Step::Tick(End::One))?;
-        turn(&mut pair, Step::Tick(End::Two))?;
-    }
-    carry_all(&mut pair)?;
-    Ok(pair)
-}
-
-/// Carries frames round by round, until there is none.
-fn carry_all(pair: &mut Pair) -> Result<(), Fail> {
     for _ in 0..ROUNDS {
-        let near = carry_each(pair, End::One)?;
-        let far = carry_each(pair, End::Two)?;
-        if !near && !far {
-            return Ok(());
-        }
+        pass_round(pair)?;
     }
-    Err(Fail::new("there is always a frame"))
+    Ok(())
 }
 
-/// Carries a frame of each link from an end to the other, and answers whether there was one.
-fn carry_each(pair: &mut Pair, from: End) -> Result<bool, Fail> {
-    let mut any = false;
-    for link in 0..LINKS {
-        let delivered = carry(pair, from, link)?;
-        any = any || delivered != Outcome::Ignored;
+/// A tick passes at both ends, and frames are carried.
+fn pass_round(pair: &mut Pair) -> Result<(), Fail> {
+    turn(pair, Step::Tick(End::One))?;
+    turn(pair, Step::Tick(End::Two))?;
+    carry_each(pair, End::One, End::Two)?;
+    carry_each(pair, End::Two, End::One)
+}
+
+/// Carries frames of each link from an end to the other.
+fn carry_each(pair: &mut Pair, from: End, to: End) -> Result<(), Fail> {
+    for number in 0..LINKS {
+        carry(pair, from, to, LinkId::new(number))?;
     }
-    Ok(any)
+    Ok(())
 }
 
-/// Carries the next frame of a link from an end to the other, and returns what became of it there: Ignored where there
-/// is none.
-fn carry(pair: &mut Pair, from: End, link: u8) -> Result<Outcome, Fail> {
-    take(pair, from, link)?;
-    match from {
-        End::One => deliver(pair, End::Two, link),
-        End::Two => deliver(pair, End::One, link),
+/// Carries two frames of a link from an end to the other, where there are as many.
+fn carry(pair: &mut Pair, from: End, to: End, link: LinkId) -> Result<(), Fail> {
+    turn(pair, Step::Take(from, link))?;
+    turn(pair, Step::Take(from, link))?;
+    turn(pair, Step::Deliver(to, link))?;
+    turn(pair, Step::Deliver(to, link))?;
+    Ok(())
+}
+
+/// Plays some lists, one behind the other.
+fn play_all(pair: &mut Pair, lists: &[&[(Act, Want)]]) -> Result<(), Fail> {
+    for list in lists {
+        play(pair, list)?;
+    }
+    Ok(())
+}
+
+/// Does all of a list, and expects what is wanted of each.
+fn play(pair: &mut Pair, list: &[(Act, Want)]) -> Result<(), Fail> {
+    for (act, want) in list {
+        play_one(pair, *act, *want)?;
+    }
+    Ok(())
+}
+
+/// Does one thing, and expects what is wanted.
+fn play_one(pair: &mut Pair, act: Act, want: Want) -> Result<(), Fail> {
+    let outcome = turn(pair, step(act)?)?;
+    if outcome == wanted(want) {
+        Ok(())
+    } else {
+        Err(Fail::new("another outcome"))
     }
 }
 
-fn take(pair: &mut Pair, end: End, link: u8) -> Result<Outcome, Fail> {
-    turn(pair, Step::Take(end, LinkId::new(link)))
+/// A pair. What calls this, or `turn`, sees no clause of `Pair`, and is proved quickly.
+fn new_pair(alloc: Global, near: Settings, far: Settings) -> Result<Pair, PairFault> {
+    Pair::new(alloc, near, far)
 }
 
-fn deliver(pair: &mut Pair, end: End, link: u8) -> Result<Outcome, Fail> {
-    turn(pair, Step::Deliver(end, LinkId::new(link)))
-}
-
-fn lose(pair: &mut Pair, end: End, link: u8) -> Result<Outcome, Fail> {
-    turn(pair, Step::Lose(end, LinkId::new(link)))
-}
-
-fn open(pair: &mut Pair, link: u8) -> Result<Outcome, Fail> {
-    turn(pair, Step::Open(LinkId::new(link)))
-}
-
-/// Takes a step. The functions here see no clause of `Pair` but through this one and the four below, which keeps their
-/// proofs short.
+/// Takes a step.
 fn turn(pair: &mut Pair, step: Step) -> Result<Outcome, Fail> {
     Ok(pair.turn(step)?)
 }
 
-/// A pair of two nodes, each by its changes to the built-in settings, if they face each other.
-fn new_pair(alloc: Global, near: &str, far: &str) -> Result<Option<Pair>, Fail> {
-    match Pair::new(alloc, node(alloc, near)?, node(alloc, far)?) {
-        Ok(pair) => Ok(Some(pair)),
-        Err(PairFault::NotFacing) => Ok(None),
-        Err(fault) => Err(Fail::from(fault)),
+/// The step that does this.
+fn step(act: Act) -> Result<Step, Fail> {
+    Ok(match act {
+        Act::Submit => Step::Submit(End::One, Msu::new(SIO, &MESSAGE)?),
+        Act::Take(end, link) => Step::Take(end, LinkId::new(link)),
+        Act::Deliver(end, link) => Step::Deliver(end, LinkId::new(link)),
+        Act::Lose(end, link) => Step::Lose(end, LinkId::new(link)),
+        Act::Open(link) => Step::Open(LinkId::new(link)),
+    })
+}
+
+/// The outcome that is wanted.
+fn wanted(want: Want) -> Outcome {
+    match want {
+        Want::Queued => Outcome::Queued(LinkId::new(1)),
+        Want::Handled => Outcome::Handled,
+        Want::Ignored => Outcome::Ignored,
+        Want::Local => Outcome::Local,
     }
 }
 
-fn accepted(pair: &Pair, end: End) -> &[Msu] {
-    pair.accepted(end)
+/// The message was accepted and received once, no other was, and neither end says that one was lost or late.
+fn expect_crossed(pair: &Pair) -> Result<(), Fail> {
+    if has_message(pair.accepted(End::One))
+        && has_message(pair.received(End::Two))
+        && pair.accepted(End::Two).is_empty()
+        && pair.received(End::One).is_empty()
+        && has_lost_none(pair, End::One)
+        && has_lost_none(pair, End::Two)
+    {
+        Ok(())
+    } else {
+        Err(Fail::new("the message did not cross once"))
+    }
 }
 
-fn received(pair: &Pair, end: End) -> &[Msu] {
-    pair.received(end)
+/// Whether these are the message alone.
+fn has_message(messages: &[Msu]) -> bool {
+    match messages {
+        [message] => message.sif() == MESSAGE.as_slice(),
+        _ => false,
+    }
 }
 
 /// Whether an end says that no message was lost, and none late.
-fn lost_none(pair: &Pair, end: End) -> bool {
+fn has_lost_none(pair: &Pair, end: End) -> bool {
     let exchange = pair.at(end);
     !exchange.lost_any() && !exchange.late_any()
-}
-
-/// The message.
-fn message() -> Result<Msu, Fail> {
-    Ok(Msu::new(SIO, &MESSAGE)?)
 }
