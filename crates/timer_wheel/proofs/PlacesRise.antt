@@ -1,4 +1,4 @@
--- No more timers run than the node has names: each name has a number of its own below their count, and the numbers rise with the names.
+-- The places of the timers that a node has: they rise in name order, and are as many as its names.
 use Rattle.std.proofs.Common.{◌≡◌, ℕ, zero, suc, nat_lt, ◌+◌, ◌*◌, ◌<◌, ◌≤◌, true, List, [], ◌∷◌, length, take, get_or, inl, inr, refl, ap, ◌∙◌, arith}
 use Rattle.std.specs.Prelude.{◌&&◌}
 use Rattle.std.proofs.Math.Nat.{mul-le-mul_right}
@@ -6,11 +6,9 @@ use Rattle.std.proofs.lemmas.Bool.{cases_order}
 use Rattle.std.proofs.lemmas.Bool.Decides.{nat_tests}
 use Rattle.timer_wheel.specs.declared.name.TimerName.{TimerName}
 use Rattle.timer_wheel.specs.declared.name.TimerName.TheVariants.{L1, L2, L3, L4, L6, L7, T1, T2, T3, T4, T6, T8, T10}
-use Rattle.timer_wheel.specs.declared.name.Key.{Key}
 use Rattle.timer_wheel.specs.declared.name.NodeCounts.{NodeCounts}
-use Rattle.timer_wheel.specs.declared.named.Timer.{Timer}
-use Rattle.timer_wheel.specs.Names.{key, key_of, is_key_before, has_name, count_of}
-use Rattle.timer_wheel.specs.Kept.{AreAfter, DoRise, AreNamed}
+use Rattle.timer_wheel.specs.Names.{Key, key, key_of, is_key_before, is_before, has_name, count_of}
+use Rattle.timer_wheel.specs.Places.{place_in}
 
 -- how many names each kind has, and how many columns its table of names has
 abbrev pub sizes : NodeCounts → List ℕ
@@ -144,19 +142,31 @@ rising n x y p q h =
     no_higher_kind : (x y : Key) → is_key_before x y ≡ true → y.kind < x.kind → ⊥
     no_higher_kind x y h higher = grind (arith, nat_tests)
 
-counted_from : (n : NodeCounts) (t : Timer) (ts : List Timer) → AreAfter t.name ts → DoRise ts → has_name n t.name ≡ true → AreNamed n ts
-    → number_of n (key_of t.name) + 1 + length ts ≤ count_of n
-counted_from n t [] a r h k =
-    let w = within n t.name h in
-    let l = w.place in
-    let f = total-front (sizes n) (key_of t.name).kind 13 w.kind in
-    let s = all_sizes n in
-    omega arith
-counted_from n t (u ∷ us) a r h k =
-    let less = rising n (key_of t.name) (key_of u.name) (within n t.name h) (within n u.name k.0) a.0 in
-    let rest = counted_from n u us r.0 r.1 k.0 k.1 in
-    omega arith
 
-pub counted : (n : NodeCounts) (ts : List Timer) → DoRise ts → AreNamed n ts → length ts ≤ count_of n
-counted n [] r k = omega arith
-counted n (t ∷ ts) r k = omega (arith, counted_from n t ts r.0 r.1 k.0 k.1)
+-- ---- the place of a name is its number
+
+place-number : (n : NodeCounts) (name : TimerName) → place_in n name ≡ number_of n (key_of name)
+place-number n (L1 link) = omega arith
+place-number n (L2 link) = omega arith
+place-number n (L3 link) = omega arith
+place-number n (L4 link) = omega arith
+place-number n (L6 link) = omega arith
+place-number n (L7 link) = omega arith
+place-number n (T1 link) = omega arith
+place-number n (T2 link) = omega arith
+place-number n (T3 link) = omega arith
+place-number n (T4 set code) = omega arith
+place-number n (T6 destination) = omega arith
+place-number n (T8 set destination) = omega arith
+place-number n (T10 set destination) = omega arith
+
+pub place-fits : (n : NodeCounts) (name : TimerName) → has_name n name ≡ true → place_in n name < count_of n
+place-fits n name h =
+    let w = within n name h in
+    let k = (key_of name).kind in
+    let row = w.place in
+    omega (arith, row, total-front (sizes n) k 13 w.kind, all_sizes n, place-number n name)
+
+pub place-rises : (n : NodeCounts) (x y : TimerName) → has_name n x ≡ true → has_name n y ≡ true → is_before x y ≡ true → place_in n x < place_in n y
+place-rises n x y h k before =
+    omega (arith, rising n (key_of x) (key_of y) (within n x h) (within n y k) before, place-number n x, place-number n y)
