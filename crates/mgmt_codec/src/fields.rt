@@ -43,10 +43,8 @@ pub(crate) fn point_in(fields: &[u8]) -> Result<PointCode, MgmtFault>
     let [low, high, ..] = *fields else {
         return Err(MgmtFault::Short);
     };
-    let Some(point) = PointCode::new(u16::from_le_bytes([low, high]) % (1 << 14)) else {
-        unreachable!()
-    };
-    Ok(point)
+    let number = u16::from_le_bytes([low, high]);
+    Ok(PointCode::of_low_bits(number.into()))
 }
 
 /// The two octets of a point code, low octet first.

@@ -205,10 +205,7 @@ impl Management {
 fn no_link_code() -> Sls
     ensures { result ≡ 0 }
 {
-    let Some(code) = Sls::new(0) else {
-        unreachable!()
-    };
-    code
+    Sls::of_low_bits(0)
 }
 
 /// Every message within its ranges, written from one point to another, is read back, and so is its label. It has eight

@@ -2,7 +2,7 @@
 
 ghost use Rattle.std.specs.Prelude.{◌≡◌, ℕ, ◌<◌, ◌++◌, List, All};
 ghost use Rattle.signalling_types.specs.Message.{label_number};
-ghost use Rattle.routing_label.specs.Label.{IsLabel, label_in, label_octets, number_of_label};
+ghost use Rattle.routing_label.specs.Label.{IsLabel, label_at, label_in, label_octets, number_of_label};
 ghost use Rattle.routing_label.specs.declared.label.Label.{Label};
 
 use signalling_types::{PointCode, Sls};
@@ -23,12 +23,26 @@ impl Label {
     pub fn read(sif: &[u8]) -> Option<Label>
         ensures { result ≡ label_in sif.now }
     {
-        let number = u32::from_le_bytes(*sif.first_chunk::<4>()?);
-        Some(Label {
-            dpc: PointCode::new((number & 0x3fff) as u16)?,
-            opc: PointCode::new((number >> 14 & 0x3fff) as u16)?,
-            sls: Sls::new((number >> 28) as u8)?,
-        })
+        Some(Label::of_octets(*sif.first_chunk::<4>()?))
+    }
+
+    /// The label at the front of a signalling information field; octets that are missing count as 0.
+    pub fn at(sif: &[u8]) -> Label
+        ensures { result ≡ label_at sif.now }
+    {
+        Label::of_octets(first_octets(sif))
+    }
+
+    /// The label of its four octets, low octet first.
+    pub fn of_octets(octets: [u8; 4]) -> Label
+        ensures { result ≡ label_at octets }
+    {
+        let number = u32::from_le_bytes(octets);
+        Label {
+            dpc: PointCode::of_low_bits(number),
+            opc: PointCode::of_low_bits(number >> 14),
+            sls: Sls::of_low_bits(number >> 28),
+        }
     }
 
     /// The label's four octets, low octet first.
@@ -41,6 +55,19 @@ impl Label {
             + ((self.opc.code() as u32) << 14)
             + ((self.sls.number() as u32) << 28);
         number.to_le_bytes()
+    }
+}
+
+/// The first four octets of a field; those that are missing are 0.
+fn first_octets(sif: &[u8]) -> [u8; 4]
+    ensures { label_number result ≡ label_number sif.now }
+{
+    match *sif {
+        [first, second, third, fourth, ..] => [first, second, third, fourth],
+        [first, second, third] => [first, second, third, 0],
+        [first, second] => [first, second, 0, 0],
+        [first] => [first, 0, 0, 0],
+        [] => [0; 4],
     }
 }
 

@@ -38,9 +38,7 @@ pub fn relay(sif: &[u8], rows: &Translations, own: &Own<'_>, field: &mut Field) 
     ensures label { IfOnward result (λ count. 4 ≤ count) }
     ensures fits { IfOnward result (λ count. count ≤ Limits.SIF_OCTETS) }
 {
-    let Some(label) = Label::read(sif) else {
-        unreachable!()
-    };
+    let label = Label::at(sif);
     match Unitdata::read(behind_label(sif)) {
         Err(fault) => Relayed::Refused(sccp_cause(fault)),
         Ok(unitdata) => relay_read(&unitdata, label, rows, own, field),

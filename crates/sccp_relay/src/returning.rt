@@ -36,9 +36,7 @@ pub fn returned(
     ensures label { IfSome result (λ count. 4 ≤ count) }
     ensures fits { IfSome result (λ count. count ≤ Limits.SIF_OCTETS) }
 {
-    let Some(label) = Label::read(sif) else {
-        unreachable!()
-    };
+    let label = Label::at(sif);
     let number = return_cause(cause)?;
     match Unitdata::read(behind_label(sif)) {
         Ok(unitdata) => return_read(&unitdata, number, label, rows, own, field),

@@ -1,6 +1,6 @@
 //! Points, links, link sets and flows by number.
 
-ghost use Rattle.std.specs.Prelude.{◌≡◌, ℕ, ◌^◌, ◌<◌, ◌↔◌, IsSome, IfSome};
+ghost use Rattle.std.specs.Prelude.{◌≡◌, ℕ, ◌%◌, ◌^◌, ◌<◌, ◌↔◌, IsSome, IfSome};
 
 use std::marker::Model;
 
@@ -30,6 +30,16 @@ impl PointCode {
             Some(PointCode { code })
         } else {
             None
+        }
+    }
+
+    /// The point of a number's low 14 bits. The bits above them are left out.
+    #[inline(always)]
+    pub fn of_low_bits(number: u32) -> PointCode
+        ensures { result ≡ number % 2 ^ 14 }
+    {
+        PointCode {
+            code: (number % (1 << 14)) as u16,
         }
     }
 
@@ -68,6 +78,16 @@ impl Sls {
             Some(Sls { number })
         } else {
             None
+        }
+    }
+
+    /// The selection of a number's low four bits. The bits above them are left out.
+    #[inline(always)]
+    pub fn of_low_bits(number: u32) -> Sls
+        ensures { result ≡ number % 2 ^ 4 }
+    {
+        Sls {
+            number: (number % (1 << 4)) as u8,
         }
     }
 

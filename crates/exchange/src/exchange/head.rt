@@ -2,8 +2,6 @@
 
 ghost use Rattle.std.specs.Prelude.{◌≡◌, ◌<◌, length, slice_get};
 ghost use Rattle.std.specs.Option.{option_map};
-ghost use Rattle.routing_label.specs.Label.{label_at};
-ghost use Rattle.signalling_types.specs.Message.{label_number};
 ghost use Rattle.cell_pool.specs.Lanes.{lane_at};
 ghost use Rattle.exchange.specs.KeptQueues.{kept, link_lane};
 ghost use Rattle.exchange.specs.Head.{head_of};
@@ -29,7 +27,7 @@ impl Head {
         ensures { result ≡ head_of message.now }
     {
         Head {
-            label: label_of(message.sif()),
+            label: Label::at(message.sif()),
             is_management: message.is_management(),
         }
     }
@@ -60,28 +58,5 @@ fn head_in(lanes: &CellPool, lane: usize, place: usize) -> Option<Head>
     match lanes.get(lane, place) {
         Some(message) => Some(Head::of(message)),
         None => None,
-    }
-}
-
-/// The label of a field; octets that are missing count as 0.
-fn label_of(sif: &[u8]) -> Label
-    ensures { result ≡ label_at sif.now }
-{
-    let Some(label) = Label::read(&label_octets(sif)) else {
-        unreachable!()
-    };
-    label
-}
-
-/// The octets of a field's label; those that are missing are 0.
-fn label_octets(sif: &[u8]) -> [u8; 4]
-    ensures { label_number result ≡ label_number sif.now }
-{
-    match *sif {
-        [first, second, third, fourth, ..] => [first, second, third, fourth],
-        [first, second, third] => [first, second, third, 0],
-        [first, second] => [first, second, 0, 0],
-        [first] => [first, 0, 0, 0],
-        [] => [0; 4],
     }
 }

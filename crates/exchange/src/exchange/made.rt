@@ -92,9 +92,7 @@ impl Exchange {
         ensures { self.new ≡
             with_node self.old (rule.send_routed kept self.old.settings (lent message.entry) self.old.node) }
     {
-        let Some(label) = Label::read(message.sif) else {
-            unreachable!()
-        };
+        let label = Label::at(message.sif);
         if let Some(cause) = self.lanes.refusal(message) {
             self.unsent(cause, label.dpc);
             return;

@@ -80,10 +80,7 @@ impl Exchange {
         ensures { Ends self.old result self.new
             (transfer kept self.old.settings None (lent message.entry) self.old.node) }
     {
-        let Some(label) = Label::read(message.sif) else {
-            unreachable!()
-        };
-        self.transfer(None, label, message)
+        self.transfer(None, Label::at(message.sif), message)
     }
 
     /// The point that this node is, and its subsystems.

@@ -1,7 +1,6 @@
 -- What is read behind the label is what the rule reads there.
 use Rattle.std.proofs.Common.{refl}
 use Rattle.sccp_relay.specs.Relay.{relay}
-use Rattle.sccp_relay.proofs.Labels.{label_known}
 use Rattle.sccp_relay.proofs.relaying.relay.Goals as goal
 
 pub returns-in-Err-clause-exact : goal.returns-in-Err-clause-exact
@@ -11,5 +10,4 @@ returns-in-Err-clause-exact c = rw (← c.behind_label.ensures, c.in-Err.ensures
 pub returns-in-Ok-clause-exact : goal.returns-in-Ok-clause-exact
 unfolding relay
 returns-in-Ok-clause-exact c =
-    let known = label_known c.args.sif.now c.in-Some.label _ c.requires.label c.read.ensures c.in-Some.is in
-    rw (← known, ← c.behind_label.ensures, c.in-Ok.ensures.exact) c.relay_read.ensures.exact
+    rw (← c.at-label.ensures, ← c.behind_label.ensures, c.in-Ok.ensures.exact) c.relay_read.ensures.exact

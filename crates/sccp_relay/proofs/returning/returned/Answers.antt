@@ -2,15 +2,13 @@
 use Rattle.std.proofs.Common.{◌≡◌, refl, sym, ◌∙◌, Some}
 use Rattle.sccp_relay.specs.Return as rule
 use Rattle.sccp_relay.specs.Return.{returned}
-use Rattle.sccp_relay.proofs.Labels.{label_known}
 use Rattle.sccp_relay.proofs.returning.returned.Goals as goal
 
 pub returns-in-Ok-clause-exact : goal.returns-in-Ok-clause-exact
 unfolding returned
 returns-in-Ok-clause-exact c =
-    let known = label_known c.args.sif.now c.in-Some.label _ c.requires.label c.read.ensures c.in-Some.is in
     let number : rule.return_cause c.args.cause ≡ Some c.in_ok-number.number = sym c.return_cause.ensures ∙ c.in_ok-number.was in
-    rw (← known, ← c.behind_label.ensures, c.in-Ok.ensures.exact, number) c.return_read.ensures.text
+    rw (← c.at-label.ensures, ← c.behind_label.ensures, c.in-Ok.ensures.exact, number) c.return_read.ensures.text
 
 pub returns-in-Err-clause-exact : goal.returns-in-Err-clause-exact
 unfolding returned
