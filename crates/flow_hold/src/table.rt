@@ -1,6 +1,6 @@
 //! The table in which holds are kept.
 
-ghost use Rattle.std.specs.Prelude.{◌≡◌, ℕ, ◌+◌, ◌-◌, ◌*◌, ◌^◌, ◌<◌, ◌≤◌, All, length, map, replicate, IfOk, IfSome};
+ghost use Rattle.std.specs.Prelude.{◌≡◌, ℕ, ◌+◌, ◌-◌, ◌*◌, ◌^◌, ◌<◌, ◌≤◌, true, All, length, map, replicate, IfOk, IfSome};
 ghost use Rattle.std.specs.Prelude.{slice_index_or, slice_set};
 ghost use Rattle.std.specs.List.{range_with_len};
 ghost use Rattle.flow_hold.specs.Rows.{marks_at, as_count};
@@ -76,7 +76,7 @@ impl Table {
             return;
         };
         if let Some(place) = self.rows[row].place(flow) {
-            self.put(row, place, true);
+            self.put(row, place);
         }
     }
 
@@ -149,23 +149,15 @@ impl Table {
         }
     }
 
-    /// Marks the flow at a place of a row as held or not, and counts it.
-    fn put(&mut self, row: usize, place: usize, held: bool)
+    /// Marks the flow at a place of a row, and counts it unless it was marked.
+    fn put(&mut self, row: usize, place: usize)
         requires row { row < length self.old.rows }
         requires place { place < length (marks_at self.old.rows row).marks }
-        ensures { self.new ≡ with_mark self.old row place held }
+        ensures { self.new ≡ with_mark self.old row place true }
     {
         let flow = self.rows[row].first() + place;
-        let before = self.rows[row].put(place, held);
-        recount(&mut self.counts, flow, before, held);
-    }
-
-    /// How many flows a row has.
-    fn marks(&self, row: usize) -> usize
-        requires { row < length self.now.rows }
-        ensures { result ≡ length (marks_at self.now.rows row).marks }
-    {
-        self.rows[row].count()
+        let before = self.rows[row].put(place);
+        count_once(&mut self.counts, flow, before);
     }
 
     /// No flow of a row is held.
@@ -173,21 +165,19 @@ impl Table {
         requires { row < length self.old.rows }
         ensures { self.new ≡ cleared self.old row }
     {
-        for place in 0..self.marks(row) {
-            self.put(row, place, false);
-        }
+        self.rows[row].clear(&mut self.counts);
     }
 }
 
-/// The count of a flow by which one mark changes it.
-fn recount(counts: &mut Vec<u16>, flow: usize, before: bool, held: bool)
+/// Counts a flow that is marked, where it wasn't before.
+fn count_once(counts: &mut Vec<u16>, flow: usize, before: bool)
     requires flow { flow < length counts.old.items }
     requires counted { as_count before ≤ slice_index_or counts.old.items flow 0 }
     requires few { slice_index_or counts.old.items flow 0 < 2 ^ 15 }
     ensures { counts.new.items ≡ slice_set counts.old.items flow
-        (slice_index_or counts.old.items flow 0 - as_count before + as_count held) }
+        (slice_index_or counts.old.items flow 0 - as_count before + 1) }
 {
-    counts[flow] = counts[flow] - u16::from(before) + u16::from(held);
+    counts[flow] = counts[flow] - u16::from(before) + 1;
 }
 
 /// The rows of so many procedures that may hold all flows, and of the reroutings of so many destinations. Nothing is
