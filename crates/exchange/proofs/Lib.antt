@@ -5,6 +5,7 @@ pub mod Rooms
 pub mod Draining
 pub mod Suspending
 pub mod Passing
+pub mod Pending
 pub mod Concluding
 pub mod Standing
 pub mod Ticking

@@ -1,4 +1,4 @@
--- What an exchange keeps has its room still, and telling is due where it has to be, as links and what was told change.
+-- What an exchange keeps has its room still, and nothing is owed but what may be pending, as links and what was told change.
 use Rattle.std.proofs.Common.{◌≡◌, ◌<◌, ◌+◌, ℕ, Bool, true, false, ◌||◌, not, length, replicate, List, refl, ap, sym, subst, ◌∙◌}
 use Rattle.std.specs.Prelude.{map, [], ◌∷◌, slice_index_or, if◌then◌else◌, Option, Some, None}
 use Rattle.std.proofs.lemmas.List.{length-set, get_or-set_same}
@@ -17,29 +17,29 @@ use Rattle.flow_hold.specs.Holds.{HoldSet}
 use Rattle.changeback.specs.Codes.{Codes}
 use Rattle.changeback.specs.Return.{FlowChange, with_change, held_by}
 use Rattle.route_management.specs.Told.{ToldTable, shape_of, with_told}
-use Rattle.route_management.specs.Owed.{status_to_advertise, owes_nothing}
+use Rattle.route_management.specs.Owed.{status_to_advertise}
 use Rattle.route_management.proofs.Shape.{told_shape}
-use Rattle.route_management.proofs.Settled.{answered_owes_no_more, none_from_owes_nothing, owes_nothing_from_none}
 use Rattle.exchange_rules.specs.State.{State}
-use Rattle.exchange.specs.KeptQueues.{KeptQueues, kept, held_lane}
+use Rattle.exchange.specs.KeptQueues.{KeptQueues, held_lane}
 use Rattle.exchange_rules.specs.Holding.{all_wait}
 use Rattle.exchange_rules.specs.Routing.{facts}
-use Rattle.exchange_rules.specs.Telling.{may_tell, is_all_told}
+use Rattle.exchange.specs.declared.exchange.pending.Pending.{Pending}
+use Rattle.exchange.specs.Pending.{all_pending, OwesNoneBut}
+use Rattle.exchange.proofs.Pending.{before_all, told_owes_no_more}
 use Rattle.exchange.specs.Room.{HasRoom, kept_in}
 use Rattle.exchange_rules.specs.Places.{HasHoldsFor, HasCodes}
 use Rattle.exchange_rules.proofs.Places.{with_hold-fits}
 use Rattle.settings_rows.specs.Configuration.{Configuration}
-use Rattle.exchange.proofs.Settling.{or-true}
 use Rattle.exchange.specs.declared.exchange.Exchange.TheInside.{Inside}
 
 -- whatever changes but queues, the changeovers and the notices
-pub any_room : (e : Inside) (n : Network) (t : ToldTable) (k : Codes) (u : HoldSet) (r : Running) (late release due : Bool) → HasRoom e
+pub any_room : (e : Inside) (n : Network) (t : ToldTable) (k : Codes) (u : HoldSet) (r : Running) (late release : Bool) (pending : Pending) → HasRoom e
     → length n.links ≡ length e.links.links → n.sets ≡ e.links.sets → length n.routes ≡ length e.links.routes → shape_of t ≡ shape_of e.told
     → HasCodes (length e.settings.sets) k → HasHoldsFor e.settings u
     → (release || all_wait e.settings u (lane_at e.lanes.lists held_lane)) ≡ true
-    → (due || owes_nothing (facts_of n) t) ≡ true
-    → HasRoom (record e { links = n; told = t; changeback = k; holds = u; timers = r; late_any = late; release_due = release; telling_due = due })
-any_room e n t k u r late release due h many sets routes shape codes holds waiting telling = record {
+    → OwesNoneBut pending (facts_of n) t
+    → HasRoom (record e { links = n; told = t; changeback = k; holds = u; timers = r; late_any = late; release_due = release; pending = pending })
+any_room e n t k u r late release pending h many sets routes shape codes holds waiting owes = record {
   lanes = h.lanes ∙ ap (λ (k : ℕ). k + 1) (sym many);
   sequences = h.sequences ∙ sym many;
   changeovers = h.changeovers ∙ sym many;
@@ -53,25 +53,25 @@ any_room e n t k u r late release due h many sets routes shape codes holds waiti
   codes = codes;
   holds = holds;
   waiting = waiting;
-  telling = telling;
+  pending = owes;
 }
 
 -- links, what was told and timers change
-pub changed_room : (e : Inside) (n : Network) (t : ToldTable) (r : Running) (due : Bool) → HasRoom e
+pub changed_room : (e : Inside) (n : Network) (t : ToldTable) (r : Running) (pending : Pending) → HasRoom e
     → length n.links ≡ length e.links.links → n.sets ≡ e.links.sets → length n.routes ≡ length e.links.routes → shape_of t ≡ shape_of e.told
-    → (due || owes_nothing (facts_of n) t) ≡ true
-    → HasRoom (record e { links = n; told = t; timers = r; telling_due = due })
-changed_room e n t r due h many sets routes shape telling =
-    any_room e n t e.changeback e.holds r e.late_any e.release_due due h many sets routes shape h.codes h.holds h.waiting telling
+    → OwesNoneBut pending (facts_of n) t
+    → HasRoom (record e { links = n; told = t; timers = r; pending = pending })
+changed_room e n t r pending h many sets routes shape owes =
+    any_room e n t e.changeback e.holds r e.late_any e.release_due pending h many sets routes shape h.codes h.holds h.waiting owes
 
 -- what is held changes, a release is due, and codes and timers may change with it
 pub held_room : (e : Inside) (n : Network) (k : Codes) (u : HoldSet) (r : Running) (late : Bool) → HasRoom e
     → n ≡ e.links → HasCodes (length e.settings.sets) k → HasHoldsFor e.settings u
     → HasRoom (record e { links = n; changeback = k; holds = u; timers = r; late_any = late; release_due = true })
 held_room e n k u r late h same codes holds =
-    any_room e n e.told k u r late true e.telling_due h (ap (λ (m : Network). length m.links) same) (ap (λ (m : Network). m.sets) same)
+    any_room e n e.told k u r late true e.pending h (ap (λ (m : Network). length m.links) same) (ap (λ (m : Network). m.sets) same)
     (ap (λ (m : Network). length m.routes) same) refl codes holds refl
-    (ap (λ (m : Network). e.telling_due || owes_nothing (facts_of m) e.told) same ∙ h.telling)
+    (subst (λ (m : Network). OwesNoneBut e.pending (facts_of m) e.told) (sym same) h.pending)
 
 -- a status changes no count of routes
 pub status_routes : (n m : Network) (destination set : ℕ) (status : RouteStatus) → m ≡ with_route_status destination set status n → length m.routes ≡ length n.routes
@@ -79,67 +79,69 @@ status_routes n m destination set status e =
     ap (λ (m : Network). length m.routes) e
     ∙ length-set n.routes destination (map (with_status_over set status) (slice_index_or n.routes destination []))
 
--- routes and what is held change, and a release and telling are due
+-- routes and what is held change, a release is due, and anything may be pending
 pub rerouted_room : (e : Inside) (n : Network) (u : HoldSet) (r : Running) → HasRoom e
     → n.links ≡ e.links.links → n.sets ≡ e.links.sets → length n.routes ≡ length e.links.routes → HasHoldsFor e.settings u
-    → HasRoom (record e { links = n; holds = u; timers = r; release_due = true; telling_due = true })
+    → HasRoom (record e { links = n; holds = u; timers = r; release_due = true; pending = all_pending })
 rerouted_room e n u r h links sets routes holds =
-    any_room e n e.told e.changeback u r e.late_any true true h (ap (λ (ls : List Link). length ls) links) sets routes refl h.codes holds refl refl
+    any_room e n e.told e.changeback u r e.late_any true all_pending h (ap (λ (ls : List Link). length ls) links) sets routes refl h.codes holds refl
+    (before_all (facts_of n) e.told)
 
 -- one link changes
-pub link_room : (e : Inside) (n : Network) (link : ℕ) (state : Link) (due : Bool) → HasRoom e → n ≡ with_state e.links link state
-    → (due || owes_nothing (facts_of (with_state e.links link state)) e.told) ≡ true
-    → HasRoom (record e { links = n; telling_due = due })
-link_room e n link state due h same telling =
-    subst (λ (m : Network). HasRoom (record e { links = m; telling_due = due })) (sym same)
-    (changed_room e (with_state e.links link state) e.told e.timers due h (length-set e.links.links link state) refl refl refl telling)
+pub link_room : (e : Inside) (n : Network) (link : ℕ) (state : Link) (pending : Pending) → HasRoom e → n ≡ with_state e.links link state
+    → OwesNoneBut pending (facts_of (with_state e.links link state)) e.told
+    → HasRoom (record e { links = n; pending = pending })
+link_room e n link state pending h same owes =
+    subst (λ (m : Network). HasRoom (record e { links = m; pending = pending })) (sym same)
+    (changed_room e (with_state e.links link state) e.told e.timers pending h (length-set e.links.links link state) refl refl refl owes)
 
 -- whatever changes, what was owed nothing is owed nothing
-still : (e : Inside) (link : ℕ) (state : Link) (due : Bool) → is_in_service state.alignment ≡ is_in_service (link_in e.links.links link).alignment
-    → (due || owes_nothing (facts_of e.links) e.told) ≡ true → (due || owes_nothing (facts_of (with_state e.links link state)) e.told) ≡ true
-still e link state due serves telling = ap (λ (f : Facts). due || owes_nothing f e.told) (facts_alike e.links link state serves) ∙ telling
+still : (e : Inside) (link : ℕ) (state : Link) → is_in_service state.alignment ≡ is_in_service (link_in e.links.links link).alignment
+    → HasRoom e → OwesNoneBut e.pending (facts_of (with_state e.links link state)) e.told
+still e link state serves h = subst (λ (f : Facts). OwesNoneBut e.pending f e.told) (sym (facts_alike e.links link state serves)) h.pending
 
 -- neither in service before nor now, or both
 pub still_room : (e : Inside) (n : Network) (link : ℕ) (state : Link) → HasRoom e → n ≡ with_state e.links link state
     → is_in_service state.alignment ≡ is_in_service (link_in e.links.links link).alignment
     → HasRoom (record e { links = n })
-still_room e n link state h same serves = link_room e n link state e.telling_due h same (still e link state e.telling_due serves h.telling)
+still_room e n link state h same serves = link_room e n link state e.pending h same (still e link state serves h)
 
--- where it was in service and is no more, telling is due
-left-by : (e : Inside) (link : ℕ) (state : Link) (due served : Bool) → is_in_service (link_in e.links.links link).alignment ≡ served → is_in_service state.alignment ≡ false
-    → (due || owes_nothing (facts_of e.links) e.told) ≡ true
-    → ((due || served) || owes_nothing (facts_of (with_state e.links link state)) e.told) ≡ true
-left-by e link state true served was out telling = refl
-left-by e link state false true was out telling = refl
-left-by e link state false false was out telling = still e link state false (out ∙ sym was) telling
+-- where it was in service and is no more, anything may be pending
+left-by : (e : Inside) (link : ℕ) (state : Link) (served : Bool) → is_in_service (link_in e.links.links link).alignment ≡ served → is_in_service state.alignment ≡ false
+    → HasRoom e → OwesNoneBut (if served then all_pending else e.pending) (facts_of (with_state e.links link state)) e.told
+left-by e link state true was out h = before_all (facts_of (with_state e.links link state)) e.told
+left-by e link state false was out h = still e link state (out ∙ sym was) h
 
-pub left_room : (e : Inside) (n : Network) (link : ℕ) (state : Link) (served : Bool) → HasRoom e → n ≡ with_state e.links link state
+pub left_room : (e : Inside) (n : Network) (link : ℕ) (state : Link) (served : Bool) (pending : Pending) → HasRoom e → n ≡ with_state e.links link state
     → served ≡ is_in_service (link_in e.links.links link).alignment → is_in_service state.alignment ≡ false
-    → HasRoom (record e { links = n; telling_due = e.telling_due || served })
-left_room e n link state served h same was out =
-    link_room e n link state (e.telling_due || served) h same (left-by e link state e.telling_due served (sym was) out h.telling)
+    → pending ≡ (if served then all_pending else e.pending)
+    → HasRoom (record e { links = n; pending = pending })
+left_room e n link state served pending h same was out is =
+    link_room e n link state pending h same
+    (subst (λ (p : Pending). OwesNoneBut p (facts_of (with_state e.links link state)) e.told) (sym is) (left-by e link state served (sym was) out h))
 
--- where it entered or left service, telling is due
-moved-by : (e : Inside) (link : ℕ) (state : Link) (due before now : Bool) → is_in_service (link_in e.links.links link).alignment ≡ before → is_in_service state.alignment ≡ now
-    → (due || owes_nothing (facts_of e.links) e.told) ≡ true
-    → ((due || (if before then not now else now)) || owes_nothing (facts_of (with_state e.links link state)) e.told) ≡ true
-moved-by e link state true before now was is telling = refl
-moved-by e link state false true true was is telling = still e link state false (is ∙ sym was) telling
-moved-by e link state false true false was is telling = refl
-moved-by e link state false false true was is telling = refl
-moved-by e link state false false false was is telling = still e link state false (is ∙ sym was) telling
+-- where it entered or left service, anything may be pending
+moved-by : (e : Inside) (link : ℕ) (state : Link) (before now : Bool) → is_in_service (link_in e.links.links link).alignment ≡ before → is_in_service state.alignment ≡ now
+    → HasRoom e → OwesNoneBut (if (if before then not now else now) then all_pending else e.pending) (facts_of (with_state e.links link state)) e.told
+moved-by e link state true true was is h = still e link state (is ∙ sym was) h
+moved-by e link state true false was is h = before_all (facts_of (with_state e.links link state)) e.told
+moved-by e link state false true was is h = before_all (facts_of (with_state e.links link state)) e.told
+moved-by e link state false false was is h = still e link state (is ∙ sym was) h
 
-pub moved_room : (e : Inside) (n : Network) (link : ℕ) (state : Link) (before now changed : Bool) → HasRoom e → n ≡ with_state e.links link state
+pub moved_room : (e : Inside) (n : Network) (link : ℕ) (state : Link) (before now changed : Bool) (pending : Pending) → HasRoom e
+    → n ≡ with_state e.links link state
     → before ≡ is_in_service (link_in e.links.links link).alignment → now ≡ is_in_service (link_in n.links link).alignment
-    → changed ≡ (if before then not now else now) → link < length e.links.links
-    → HasRoom (record e { links = n; telling_due = e.telling_due || changed })
-moved_room e n link state before now changed h same was is differs there =
+    → changed ≡ (if before then not now else now) → pending ≡ (if changed then all_pending else e.pending) → link < length e.links.links
+    → HasRoom (record e { links = n; pending = pending })
+moved_room e n link state before now changed pending h same was is differs may there =
     let now_is : now ≡ is_in_service state.alignment =
     is ∙ ap (λ (l : Link). is_in_service l.alignment)
     (ap (λ (m : Network). link_in m.links link) same ∙ get_or-set_same e.links.links link state down_link there) in
-    link_room e n link state (e.telling_due || changed) h same
-    (ap (λ (b : Bool). (e.telling_due || b) || owes_nothing (facts_of (with_state e.links link state)) e.told) differs
-    ∙ moved-by e link state e.telling_due before now (sym was) (sym now_is) h.telling)
+    let whole : pending ≡ (if (if before then not now else now) then all_pending else e.pending) =
+    may ∙ ap (λ (b : Bool). if b then all_pending else e.pending) differs in
+    link_room e n link state pending h same
+    (subst (λ (p : Pending). OwesNoneBut p (facts_of (with_state e.links link state)) e.told) (sym whole)
+    (moved-by e link state before now (sym was) (sym now_is) h))
 
 -- ---- what is said of what an exchange shows
 
@@ -157,41 +159,33 @@ pub view_shape : (e : Inside) (s : State KeptQueues) → HasRoom e → kept_in e
 view_shape e s h view =
     subst (λ (x : State KeptQueues). shape_of x.node.parts.told ≡ replicate (length x.settings.sets) (length x.settings.destinations)) view h.told
 
--- unless telling is due, nothing is owed
-pub view_telling : (e : Inside) (s : State KeptQueues) → HasRoom e → kept_in e ≡ s → e.telling_due ≡ false
-    → owes_nothing (facts s.settings s.node.parts) s.node.parts.told ≡ true
-view_telling e s h view due =
-    ap (λ (f : Facts). owes_nothing f s.node.parts.told) (view_facts e s h view)
-    ∙ ap (owes_nothing (facts_of e.links)) (view_told e s view)
-    ∙ or-true e.telling_due (owes_nothing (facts_of e.links) e.told) due h.telling
+-- nothing is owed but what may be pending
+pub view_pending : (e : Inside) (s : State KeptQueues) (pending : Pending) → HasRoom e → kept_in e ≡ s → e.pending ≡ pending
+    → OwesNoneBut pending (facts s.settings s.node.parts) s.node.parts.told
+view_pending e s pending h view is =
+    subst (λ (f : Facts). OwesNoneBut pending f s.node.parts.told) (sym (view_facts e s h view))
+    (subst (OwesNoneBut pending (facts_of e.links)) (sym (view_told e s view))
+    (subst (λ (p : Pending). OwesNoneBut p (facts_of e.links) e.told) is h.pending))
 
--- all was told that finds room
-pub told_room : (e : Inside) (s : State KeptQueues) (room : Bool) → HasRoom e → kept_in e ≡ s → room ≡ may_tell kept s.settings s.node → is_all_told kept s.settings s.node ≡ true
-    → HasRoom (record e { telling_due = not room })
-told_room e s room h view same told =
-    changed_room e e.links e.told e.timers (not room) h refl refl refl refl
-    (ap (λ (b : Bool). not b || owes_nothing (facts_of e.links) e.told) same
-    ∙ ap (λ (f : Facts). not (may_tell kept s.settings s.node) || owes_nothing f e.told) (sym (view_facts e s h view))
-    ∙ ap (λ (t : ToldTable). not (may_tell kept s.settings s.node) || owes_nothing (facts s.settings s.node.parts) t) (sym (view_told e s view))
-    ∙ told)
+-- what may be pending is found anew
+pub pending_room : (e : Inside) (s : State KeptQueues) (pending : Pending) → HasRoom e → kept_in e ≡ s
+    → OwesNoneBut pending (facts s.settings s.node.parts) s.node.parts.told
+    → HasRoom (record e { pending = pending })
+pending_room e s pending h view owes =
+    changed_room e e.links e.told e.timers pending h refl refl refl refl
+    (subst (λ (f : Facts). OwesNoneBut pending f e.told) (view_facts e s h view)
+    (subst (OwesNoneBut pending (facts s.settings s.node.parts)) (view_told e s view) owes))
 
 -- what is to be told was told
-answered-by : (f : Facts) (t : ToldTable) (set destination : ℕ) (due : Bool) → (due || owes_nothing f t) ≡ true
-    → (due || owes_nothing f (with_told set destination (status_to_advertise f set destination) t)) ≡ true
-answered-by f t set destination true e = refl
-answered-by f t set destination false e =
-    owes_nothing_from_none f (with_told set destination (status_to_advertise f set destination) t)
-    (answered_owes_no_more f t set destination (none_from_owes_nothing f t e))
-
 pub answered_room : (e : Inside) (s : State KeptQueues) (t : ToldTable) (set destination : ℕ) (status : RouteStatus) → HasRoom e → kept_in e ≡ s
     → status ≡ status_to_advertise (facts s.settings s.node.parts) set destination → t ≡ with_told set destination status e.told
     → HasRoom (record e { told = t })
 answered_room e s t set destination status h view is same =
     let all : t ≡ with_told set destination (status_to_advertise (facts_of e.links) set destination) e.told =
     same ∙ ap (λ (x : RouteStatus). with_told set destination x e.told) (is ∙ ap (λ (f : Facts). status_to_advertise f set destination) (view_facts e s h view)) in
-    changed_room e e.links t e.timers e.telling_due h refl refl refl (ap shape_of same ∙ told_shape e.told set destination status)
-    (ap (λ (x : ToldTable). e.telling_due || owes_nothing (facts_of e.links) x) all
-    ∙ answered-by (facts_of e.links) e.told set destination e.telling_due h.telling)
+    changed_room e e.links t e.timers e.pending h refl refl refl (ap shape_of same ∙ told_shape e.told set destination status)
+    (subst (OwesNoneBut e.pending (facts_of e.links)) (sym all)
+    (told_owes_no_more (facts_of e.links) e.told set destination e.pending h.pending))
 
 -- what a link takes over is held by procedures of the node
 with_change-fits : (c : Configuration) (t : HoldSet) (change : FlowChange) (holder : Option Procedure) → HasHoldsFor c t → HasHoldsFor c (with_change t change holder)

@@ -5,14 +5,14 @@ use Rattle.settings_rows.specs.Configuration.{Configuration}
 use Rattle.route_table.specs.Facts.{Facts}
 use Rattle.route_table.specs.declared.route.RouteStatus.{RouteStatus}
 use Rattle.route_management.specs.Told.{ToldTable, shape_of}
-use Rattle.route_management.specs.Owed.{Owed, owed_at, owed_from, owed_to, owed_by_sets, owed}
+use Rattle.route_management.specs.Owed.{Owed, owed_at, owed_from, owed_to, owed_by_sets}
 use Rattle.route_management.proofs.Walking.{next_is_owed, next_is_not_owed, later_stay_owed, next_set, owed_are_to, others_stay_owed}
 use Rattle.route_management.proofs.Shape.{row_by_shape, rows_by_shape}
 use Rattle.exchange_rules.specs.State.{QueueKind, Node, State, with_node}
 use Rattle.exchange.specs.KeptQueues.{KeptQueues, kept}
 use Rattle.exchange_rules.specs.Routing.{facts}
 use Rattle.exchange_rules.specs.Telling.{may_tell, tell, tell_if, tell_each, tell_owed}
-use Rattle.exchange.specs.Telling.{tell_at}
+use Rattle.exchange.specs.Telling.{tell_at, told_at_place, told_set}
 use Rattle.exchange_rules.proofs.Telling.{tell-facts, tell-told, tell_each-facts, tell_each-row, tell_each-adjacents}
 
 module _ {Q : Type 0} (q : QueueKind Q) (c : Configuration) where
@@ -74,9 +74,6 @@ module _ {Q : Type 0} (q : QueueKind Q) (c : Configuration) where
 
 -- ---- the same of a state of the code
 
-abbrev known : State KeptQueues → Facts
-known s = facts s.settings s.node.parts
-
 -- a state once the adjacent point of a set was told of so many destinations from one on
 abbrev pub row_rest : (set from count : ℕ) → State KeptQueues → State KeptQueues
 row_rest set from count s = with_node s (row_left kept s.settings set from count s.node)
@@ -84,15 +81,6 @@ row_rest set from count s = with_node s (row_left kept s.settings set from count
 -- and once those of so many sets from one on were told all
 abbrev pub sets_rest : (from count : ℕ) → State KeptQueues → State KeptQueues
 sets_rest from count s = with_node s (sets_left kept s.settings from count s.node)
-
--- one destination was told
-abbrev pub told_at_place : (set destination : ℕ) → State KeptQueues → State KeptQueues
-told_at_place set destination s =
-    with_node s (tell_at kept s.settings set destination (owed_at (known s) s.node.parts.told set destination) s.node)
-
--- one set was told all
-abbrev pub told_set : (set : ℕ) → State KeptQueues → State KeptQueues
-told_set set s = with_node s (tell_each kept s.settings (owed_to (known s) s.node.parts.told set) s.node)
 
 pub row_step : (s next : State KeptQueues) (set from end : ℕ) → from < end → next ≡ told_at_place set from s
     → row_rest set (from + 1) (end - (from + 1)) next ≡ row_rest set from (end - from) s

@@ -1,5 +1,6 @@
 pub mod Calls
 pub mod KeptQueues
+pub mod Pending
 pub mod Carried
 pub mod Entering
 pub mod Telling

@@ -4,12 +4,12 @@ use Rattle.std.specs.Prelude.{◌≡◌, ◌≤◌, ◌+◌, ◌||◌, true, len
 use Rattle.cell_pool.specs.Lanes.{lane_at}
 use Rattle.node_links.specs.Network.{facts_of}
 use Rattle.route_management.specs.Told.{shape_of}
-use Rattle.route_management.specs.Owed.{owes_nothing}
 use Rattle.exchange_rules.specs.Holding.{all_wait}
 use Rattle.exchange_rules.specs.State.{State}
 use Rattle.exchange_rules.specs.Places.{HasHoldsFor, HasCodes}
 use Rattle.exchange_rules.specs.Routing.{sets_in}
 use Rattle.exchange.specs.KeptQueues.{KeptQueues, held_lane}
+use Rattle.exchange.specs.Pending.{OwesNoneBut}
 use Rattle.exchange.specs.declared.exchange.Exchange.TheInside.{Inside}
 
 abbrev pub kept_in : Inside → State KeptQueues
@@ -36,7 +36,7 @@ kept_in e = record {
 -- Held and each link have their list, each link its numbers, its state and its changeover, and links and sets are those
 -- of the settings; the pool and the notices have the room that they are to have; of each set it is known what its point
 -- was told of each destination; links, routes, codes and holds have their places. Unless a release is due, each message
--- of Held waits; unless telling is due, no adjacent point is owed anything
+-- of Held waits; no adjacent point is owed anything but what may be pending
 pub record HasRoom (e : Inside) : Type 0 where
   pub lanes : length e.lanes.lists ≡ length e.links.links + 1
   pub sequences : vec_len e.sequences ≡ length e.links.links
@@ -51,4 +51,4 @@ pub record HasRoom (e : Inside) : Type 0 where
   pub codes : HasCodes (length e.settings.sets) e.changeback
   pub holds : HasHoldsFor e.settings e.holds
   pub waiting : (e.release_due || all_wait e.settings e.holds (lane_at e.lanes.lists held_lane)) ≡ true
-  pub telling : (e.telling_due || owes_nothing (facts_of e.links) e.told) ≡ true
+  pub pending : OwesNoneBut e.pending (facts_of e.links) e.told

@@ -25,6 +25,7 @@ mod made;
 mod messages;
 mod noting;
 mod opening;
+mod pending;
 mod points;
 mod relaying;
 mod releasing;
@@ -49,6 +50,7 @@ use global_title::Translations;
 use link_sequence::Sequence;
 use m2pa_codec::BUFFER_OCTETS;
 use node_links::NodeLinks;
+use pending::Pending;
 use route_management::Told;
 use std::marker::Model;
 use stp_types::{LinkId, Notice, Outcome, Settings};
@@ -75,8 +77,8 @@ pub struct Exchange {
     late_any: bool,
     // whether a hold changed since the messages of Held were last gone through
     release_due: bool,
-    // whether an adjacent point may be owed word of a destination
-    telling_due: bool,
+    // which updates for adjacent points may be pending
+    pending: Pending,
 }
 
 impl Model for Exchange {

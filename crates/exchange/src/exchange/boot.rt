@@ -11,6 +11,7 @@ ghost use Rattle.exchange_rules.specs.First.{first_state, counts_in};
 ghost use Rattle.exchange_rules.specs.Routing.{first_network_of};
 
 use super::Exchange;
+use super::pending::Pending;
 use crate::memory::NoMemory;
 use cell_pool::CellPool;
 use changeback::Changeback;
@@ -64,7 +65,7 @@ impl Exchange {
             late_any: false,
             release_due: false,
             // nothing is owed yet, which the first event finds out
-            telling_due: true,
+            pending: Pending::all(),
         })
     }
 }

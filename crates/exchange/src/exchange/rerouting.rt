@@ -14,6 +14,7 @@ ghost use Rattle.route_management.specs.Hearing.{heard};
 ghost use Rattle.exchange_rules.specs.Rerouting as rule;
 
 use super::Exchange;
+use super::pending::Pending;
 use changeback::reroute;
 use flow_hold::Procedure;
 use mgmt_codec::Management;
@@ -69,7 +70,7 @@ impl Exchange {
     {
         self.time_status(set, destination, status);
         if status.is(RouteStatus::Prohibited) {
-            self.telling_due = true;
+            self.pending = Pending::all();
             self.links.set_status(destination, set, status);
         } else {
             self.reroute(set, destination, status);
@@ -99,7 +100,7 @@ impl Exchange {
             (rule.controlled self.old.settings set destination status self.old.node.parts)) }
     {
         let timer = TimerName::T6(self.number_of(destination));
-        self.telling_due = true;
+        self.pending = Pending::all();
         self.release_due = true;
         if reroute(&mut self.links, &mut self.holds, destination, set, status) {
             self.timers.set(timer, self.settings.timers().t6);
@@ -122,7 +123,7 @@ impl Exchange {
         ensures { self.new ≡ with_node self.old
             (with_parts self.old.node (rule.with_set_reset self.old.settings set self.old.node.parts)) }
     {
-        self.telling_due = true;
+        self.pending = Pending::all();
         self.links.reset_statuses(set);
         self.told.reset(set);
         self.timers.clear_set(RouteTimer::T8, set);

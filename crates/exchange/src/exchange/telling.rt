@@ -1,9 +1,9 @@
 //! What adjacent points are told about routes.
 
-ghost use Rattle.std.specs.Prelude.{◌≡◌, ◌<◌, length, Some, IfSome};
+ghost use Rattle.std.specs.Prelude.{◌≡◌, ◌<◌, true, false, length, Some, IfSome};
 ghost use Rattle.stp_types.specs.Readings.{destination_place, set_place};
 ghost use Rattle.route_management.specs.Hearing as hearing;
-ghost use Rattle.route_management.specs.Owed.{owed_at, owed_to, status_to_advertise};
+ghost use Rattle.route_management.specs.Owed.{status_to_advertise};
 ghost use Rattle.exchange_rules.specs.State.{with_node, with_parts};
 ghost use Rattle.exchange.specs.KeptQueues.{kept};
 ghost use Rattle.exchange_rules.specs.Exchange.{Ends};
@@ -11,9 +11,11 @@ ghost use Rattle.exchange_rules.specs.Made.{send_routed};
 ghost use Rattle.exchange_rules.specs.Routing.{facts};
 ghost use Rattle.exchange_rules.specs.Points.{route_about};
 ghost use Rattle.exchange_rules.specs.Telling as rule;
-ghost use Rattle.exchange.specs.Telling as one;
+ghost use Rattle.exchange.specs.Telling.{known, told_set, told_at_place};
+ghost use Rattle.exchange.specs.Pending.{OwesNoneBefore, OwesNoneBut, OwesNoneUpTo};
 
 use super::Exchange;
+use super::pending::Pending;
 use cell_pool::Lanes;
 use mgmt_codec::Management;
 use route_management::RouteTest;
@@ -25,75 +27,105 @@ use timer_wheel::TimerName;
 const TOLD_BELOW: usize = 128;
 
 impl Exchange {
-    /// Queues the pending updates for adjacent points, while there is room. Unless telling is due, there are none.
+    /// Queues the pending updates for adjacent points, while there is room.
     #[inline(always)]
     pub(super) fn tell_owed(&mut self)
         ensures { self.new ≡ with_node self.old (rule.tell_owed kept self.old.settings self.old.node) }
     {
-        if self.telling_due && self.may_tell() {
-            self.tell_all();
+        let pending = self.pending;
+        if let Pending::From(set, destination) = pending {
+            self.tell_if_room(set, destination);
         }
     }
 
-    /// Tells each adjacent point what it is owed, by set and then by destination.
+    /// Queues the pending updates, none of which stands before a place, while there is room.
+    #[inline(always)]
+    fn tell_if_room(&mut self, set: SetId, destination: usize)
+        requires { OwesNoneBefore (known self.old) self.old.node.parts.told set destination }
+        ensures { self.new ≡ with_node self.old (rule.tell_owed kept self.old.settings self.old.node) }
+    {
+        if self.may_tell() {
+            self.tell_all(set, destination);
+        }
+    }
+
+    /// Queues the pending updates, none of which stands before a place, until there is no room for more. What is left
+    /// stays pending.
     #[inline(never)]
-    fn tell_all(&mut self)
+    fn tell_all(&mut self, set: SetId, destination: usize)
+        requires { OwesNoneBefore (known self.old) self.old.node.parts.told set destination }
         ensures { self.new ≡ with_node self.old (rule.tell_owed kept self.old.settings self.old.node) }
     {
-        self.tell_sets();
-        self.telling_due = !self.may_tell();
+        self.pending = Pending::all();
+        let pending = self.tell_sets(set, destination);
+        self.pending = pending;
     }
 
-    /// Tells each adjacent point what it is owed; telling stays due.
-    fn tell_sets(&mut self)
-        ensures { self.new ≡ with_node self.old (rule.tell_owed kept self.old.settings self.old.node) }
+    /// Tells each adjacent point what it is owed, from a place on, before which nothing is. Returns what may still be
+    /// pending. Meanwhile anything may.
+    fn tell_sets(&mut self, from: SetId, destination: usize) -> Pending
+        requires { OwesNoneBefore (known self.old) self.old.node.parts.told from destination }
+        ensures state { self.new ≡ with_node self.old (rule.tell_owed kept self.old.settings self.old.node) }
+        ensures pending { OwesNoneBut result (known self.new) self.new.node.parts.told }
     {
-        for set in 0..self.settings.sets().len() {
-            self.tell_set(SetId::new(set as u8));
+        let mut first = destination;
+        for set in from.index()..self.settings.sets().len() {
+            let set = SetId::new(set as u8);
+            if let Some(stopped) = self.tell_set(set, first) {
+                return Pending::From(set, stopped);
+            }
+            first = 0;
         }
+        Pending::Nothing
     }
 
-    /// Tells the adjacent point of a set what it is owed, by destination.
-    fn tell_set(&mut self, set: SetId)
-        requires { set < length self.old.settings.sets }
-        ensures { self.new ≡ with_node self.old (rule.tell_each kept self.old.settings
-            (owed_to (facts self.old.settings self.old.node.parts) self.old.node.parts.told set) self.old.node) }
+    /// Tells the adjacent point of a set what it is owed, from a destination on, before which nothing is. Returns the
+    /// destination at which there was no more room.
+    fn tell_set(&mut self, set: SetId, first: usize) -> Option<usize>
+        requires set { set < length self.old.settings.sets }
+        requires before { OwesNoneBefore (known self.old) self.old.node.parts.told set first }
+        ensures state { self.new ≡ told_set set self.old }
+        ensures full { IfSome result (λ _. rule.may_tell kept self.new.settings self.new.node ≡ false) }
+        ensures pending { OwesNoneUpTo result (known self.new) self.new.node.parts.told set }
     {
         if self.links.has_link(set) {
-            self.tell_row(set);
+            self.tell_row(set, first)
+        } else {
+            None
         }
     }
 
-    /// Tells the adjacent point of a set with a link in service what it is owed, by destination.
-    fn tell_row(&mut self, set: SetId)
-        requires { set < length self.old.settings.sets }
-        ensures { self.new ≡ with_node self.old (rule.tell_each kept self.old.settings
-            (owed_to (facts self.old.settings self.old.node.parts) self.old.node.parts.told set) self.old.node) }
+    /// Tells the adjacent point of a set with a link in service what it is owed, from a destination on, before which
+    /// nothing is. Returns the destination at which there was no more room.
+    fn tell_row(&mut self, set: SetId, first: usize) -> Option<usize>
+        requires set { set < length self.old.settings.sets }
+        requires before { OwesNoneBefore (known self.old) self.old.node.parts.told set first }
+        ensures state { self.new ≡ told_set set self.old }
+        ensures full { IfSome result (λ _. rule.may_tell kept self.new.settings self.new.node ≡ false) }
+        ensures pending { OwesNoneUpTo result (known self.new) self.new.node.parts.told set }
     {
-        for destination in 0..self.settings.destinations().len() {
+        for destination in first..self.settings.destinations().len() {
+            if !self.may_tell() {
+                return Some(destination);
+            }
             self.tell_at(set, destination);
         }
+        None
     }
 
-    /// Tells the adjacent point of a set what it is owed of a destination, where there is room for it. Telling stays
-    /// due.
+    /// Tells the adjacent point of a set what it is owed of a destination, while there is room for it.
     fn tell_at(&mut self, set: SetId, destination: usize)
         requires set { set < length self.old.settings.sets }
         requires destination { destination < length self.old.settings.destinations }
-        ensures { self.new ≡ with_node self.old (one.tell_at kept self.old.settings set destination
-            (owed_at (facts self.old.settings self.old.node.parts) self.old.node.parts.told set destination)
-            self.old.node) }
+        requires room { rule.may_tell kept self.old.settings self.old.node ≡ true }
+        ensures { self.new ≡ told_at_place set destination self.old }
     {
-        self.telling_due = true;
-        if !self.may_tell() {
-            return;
-        }
         if let Some(status) = self.told.owed(&self.links, set, destination) {
             self.tell(set, destination, status);
         }
     }
 
-    /// Tells the adjacent point of a set a status that it is owed of a destination. Telling stays due.
+    /// Tells the adjacent point of a set a status that it is owed of a destination. Anything may be pending, then.
     fn tell(&mut self, set: SetId, destination: usize, status: RouteStatus)
         requires set { set < length self.old.settings.sets }
         requires destination { destination < length self.old.settings.destinations }
@@ -107,12 +139,12 @@ impl Exchange {
         self.send_status(set, destination, status);
     }
 
-    /// The adjacent point of a set was told a status of a destination. Telling is due.
+    /// The adjacent point of a set was told a status of a destination. Anything may be pending, then.
     fn record_told(&mut self, set: SetId, destination: usize, status: RouteStatus)
         ensures { self.new ≡ with_node self.old (with_parts self.old.node
             (rule.answered_parts set destination status self.old.node.parts)) }
     {
-        self.telling_due = true;
+        self.pending = Pending::all();
         self.told.tell(set, destination, status);
     }
 

@@ -1,4 +1,4 @@
--- Where the link was in service, telling is due.
+-- Where the link was in service, anything may be pending.
 use Rattle.std.proofs.Common.{refl, ap, ◌∙◌}
 use Rattle.node_links.specs.Link.{Link}
 use Rattle.node_links.specs.LinkState.{opened, is_in_service}
@@ -8,5 +8,5 @@ use Rattle.exchange.proofs.exchange.Exchange.begin_to_align.Goals as goal
 
 pub invariant_of-self : goal.invariant_of-self
 invariant_of-self c =
-    left_room c.self.inside c.open.new.self c.args.link (opened (link_in c.self.inside.links.links c.args.link)) c.is_in_service.result
-    c.self.invariant c.open.ensures (c.is_in_service.ensures ∙ ap (λ (l : Link). is_in_service l.alignment) c.state.ensures) refl
+    left_room c.self.inside c.open.new.self c.args.link (opened (link_in c.self.inside.links.links c.args.link)) c.is_in_service.result c.or_all.result
+    c.self.invariant c.open.ensures (c.is_in_service.ensures ∙ ap (λ (l : Link). is_in_service l.alignment) c.state.ensures) refl c.or_all.ensures

@@ -15,6 +15,7 @@ use Rattle.cell_pool.specs.Stored.{Stored}
 use Rattle.route_table.specs.Facts.{first_routes}
 use Rattle.exchange_rules.specs.Places.{HasHoldsFor, HasCodes}
 use Rattle.exchange_rules.proofs.Places.{no_codes-fits, no_holds-fits}
+use Rattle.exchange.proofs.Pending.{before_all}
 use Rattle.exchange.proofs.Standing.{first-kept, stands-first}
 use Rattle.exchange.proofs.exchange.Exchange.boot.Goals as goal
 
@@ -52,5 +53,5 @@ invariant_of-result c =
       codes = subst (HasCodes (length c.args.settings.sets)) (sym c.in_ok-changeback.ensures) (no_codes-fits (length c.args.settings.sets));
       holds = subst (HasHoldsFor c.args.settings) (sym c.in_ok-holds.ensures) (no_holds-fits c.args.settings);
       waiting = ap (λ (ls : List (List Message)). all_wait c.args.settings c.in_ok-holds.holds (lane_at ls held_lane)) lists;
-      telling = refl;
+      pending = before_all _ _;
     }

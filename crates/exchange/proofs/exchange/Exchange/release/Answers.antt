@@ -24,6 +24,6 @@ invariant_of-self c =
       routes = c.self.invariant.routes;
       codes = c.self.invariant.codes;
       holds = c.self.invariant.holds;
-      telling = c.self.invariant.telling;
+      pending = c.self.invariant.pending;
       waiting = subst (λ (x : State KeptQueues). all_wait x.settings x.node.parts.holds (kept.held x.node.queues) ≡ true) (sym c.self.view_is) wait;
     }

@@ -1,4 +1,4 @@
--- Each link, set and destination has its places still, and a release and telling are due.
+-- Each link, set and destination has its places still, and a release is due, and anything may be pending.
 use Rattle.std.proofs.Common.{ap, sym, subst}
 use Rattle.node_links.specs.Network.{Network, facts_of}
 use Rattle.changeback.specs.Rerouting.{rerouted}

@@ -1,24 +1,71 @@
--- One destination after the other.
-use Rattle.std.proofs.Common.{◌≡◌, ◌<◌, ◌≤◌, length, arith, ap, sym, ◌∙◌}
-use Rattle.exchange_rules.specs.State.{State}
-use Rattle.exchange.specs.KeptQueues.{KeptQueues}
+-- One destination after the other, while there is room.
+use Rattle.std.proofs.Common.{◌≡◌, ◌<◌, ◌≤◌, ◌+◌, ◌-◌, true, false, length, arith, refl, ap, sym, subst, ◌∙◌}
+use Rattle.route_management.specs.Told.{row_of, shape_of}
+use Rattle.route_management.specs.Owed.{owed_at, owed_from}
+use Rattle.route_management.proofs.Shape.{row_by_shape}
+use Rattle.exchange_rules.specs.State.{State, Node, with_node}
+use Rattle.exchange_rules.specs.Telling.{may_tell}
+use Rattle.exchange_rules.proofs.Telling.{none_told}
+use Rattle.exchange.specs.KeptQueues.{KeptQueues, kept}
+use Rattle.exchange.specs.Pending.{OwesNoneBefore}
+use Rattle.exchange.specs.Telling.{known}
+use Rattle.exchange.proofs.Pending.{row_from, row_done, place_done, place_shape}
 use Rattle.exchange.proofs.Telling.{row_step, row_end, row_whole}
 use Rattle.exchange.proofs.Rooms.{view_shape}
 use Rattle.exchange.proofs.exchange.Exchange.tell_row.Goals as goal
 
+pub loop-destination-init : goal.loop-destination-init
+loop-destination-init c =
+    let s : State KeptQueues = c.args.self.now in (
+      ap (λ (n : Node KeptQueues). with_node s n)
+          (row_from kept s.settings c.args.set c.args.first (length s.settings.destinations) s.node c.requires.before.row),
+      c.requires.before,
+      refl,
+    )
+
+pub returns-then-not-may_tell-clause-state : goal.returns-then-not-may_tell-clause-state
+returns-then-not-may_tell-clause-state c =
+    let s : State KeptQueues = c.loop-destination.self in
+    let full : may_tell kept s.settings s.node ≡ false = sym c.may_tell.ensures ∙ c.if-not-may_tell.true in
+    sym (ap (λ (n : Node KeptQueues). with_node s n) (none_told kept s.settings
+    (owed_from (known s) s.node.parts.told c.args.set c.loop-destination.destination
+    (length c.args.self.now.settings.destinations - c.loop-destination.destination)) s.node full))
+    ∙ c.loop-destination.invariant.0
+    ∙ row_whole c.args.self.now c.args.set c.requires.set (view_shape c.self.inside c.args.self.now c.self.invariant c.self.view_is)
+
 pub loop-destination-preserved : goal.loop-destination-preserved
 loop-destination-preserved c =
+    let s : State KeptQueues = c.loop-destination.self in
     let rows : length c.destinations-destination-end.result.now ≡ length c.args.self.now.settings.destinations =
     ap length c.destinations-destination-end.ensures.rows ∙ ap (λ (s : State KeptQueues). length s.settings.destinations) c.self.view_is in
     let left : c.loop-destination.destination < length c.args.self.now.settings.destinations = omega (arith, c.loop-destination-test.true, rows) in
-    row_step c.loop-destination.self c.tell_at.new.self c.args.set c.loop-destination.destination (length c.args.self.now.settings.destinations) left c.tell_at.ensures
-    ∙ c.loop-destination.invariant
+    let room : may_tell kept s.settings s.node ≡ true = sym c.may_tell.ensures ∙ c.if-not-may_tell.false in (
+      row_step s c.tell_at.new.self c.args.set c.loop-destination.destination (length c.args.self.now.settings.destinations) left c.tell_at.ensures
+          ∙ c.loop-destination.invariant.0,
+      subst (λ (x : State KeptQueues). OwesNoneBefore (known x) x.node.parts.told c.args.set (c.loop-destination.destination + 1)) (sym c.tell_at.ensures)
+          (place_done kept s.settings c.args.set c.loop-destination.destination s.node room c.loop-destination.invariant.1),
+      ap (λ (x : State KeptQueues). shape_of x.node.parts.told) c.tell_at.ensures
+          ∙ place_shape kept s.settings c.args.set c.loop-destination.destination
+          (owed_at (known s) s.node.parts.told c.args.set c.loop-destination.destination) s.node
+          ∙ c.loop-destination.invariant.2,
+    )
 
-pub returns : goal.returns
-returns c =
+pub returns-clause-state : goal.returns-clause-state
+returns-clause-state c =
     let rows : length c.destinations-destination-end.result.now ≡ length c.args.self.now.settings.destinations =
     ap length c.destinations-destination-end.ensures.rows ∙ ap (λ (s : State KeptQueues). length s.settings.destinations) c.self.view_is in
     let done : length c.args.self.now.settings.destinations ≤ c.loop-destination.destination = omega (arith, c.loop-destination-test.false, rows) in
     sym (row_end c.loop-destination.self c.args.set c.loop-destination.destination (length c.args.self.now.settings.destinations) done)
-    ∙ c.loop-destination.invariant
-    ∙ row_whole c.args.self.now c.args.set c.requires (view_shape c.self.inside c.args.self.now c.self.invariant c.self.view_is)
+    ∙ c.loop-destination.invariant.0
+    ∙ row_whole c.args.self.now c.args.set c.requires.set (view_shape c.self.inside c.args.self.now c.self.invariant c.self.view_is)
+
+pub returns-clause-pending : goal.returns-clause-pending
+returns-clause-pending c =
+    let s : State KeptQueues = c.loop-destination.self in
+    let rows : length c.destinations-destination-end.result.now ≡ length c.args.self.now.settings.destinations =
+    ap length c.destinations-destination-end.ensures.rows ∙ ap (λ (s : State KeptQueues). length s.settings.destinations) c.self.view_is in
+    let whole : length (row_of s.node.parts.told c.args.set) ≡ length c.args.self.now.settings.destinations =
+    row_by_shape s.node.parts.told (length c.args.self.now.settings.sets) (length c.args.self.now.settings.destinations) c.args.set
+    (c.loop-destination.invariant.2 ∙ view_shape c.self.inside c.args.self.now c.self.invariant c.self.view_is) c.requires.set in
+    row_done (known s) s.node.parts.told c.args.set c.loop-destination.destination c.loop-destination.invariant.1
+    (omega (arith, c.loop-destination-test.false, rows, whole))

@@ -1,9 +1,14 @@
--- What is left to tell, and what was told, is all that the row says.
+-- What is left to tell, and what was told, is all that the row says; nothing is owed of what the walk has passed.
 use Rattle.std.proofs.Common.{◌≡◌, ◌-◌, length}
+use Rattle.route_management.specs.Told.{shape_of}
+use Rattle.exchange.specs.Pending.{OwesNoneBefore}
+use Rattle.exchange.specs.Telling.{known}
 use Rattle.exchange.proofs.Telling.{row_rest}
 use Rattle.exchange.proofs.exchange.Exchange.tell_row.Given as goal
 
 abbrev pub invariant-loop-destination : goal.invariant-loop-destination
 invariant-loop-destination l =
-    row_rest l.set l.destination (length l.fn.self.settings.destinations - l.destination) l.self
-    ≡ row_rest l.set 0 (length l.fn.self.settings.destinations) l.fn.self
+    (row_rest l.set l.destination (length l.fn.self.settings.destinations - l.destination) l.self
+    ≡ row_rest l.set 0 (length l.fn.self.settings.destinations) l.fn.self)
+    × OwesNoneBefore (known l.self) l.self.node.parts.told l.set l.destination
+    × (shape_of l.self.node.parts.told ≡ shape_of l.fn.self.node.parts.told)

@@ -8,14 +8,22 @@ use Rattle.exchange_rules.specs.State.{State, with_node}
 use Rattle.exchange.specs.KeptQueues.{KeptQueues, kept}
 use Rattle.exchange_rules.specs.Routing.{facts}
 use Rattle.exchange_rules.specs.Telling.{tell_each}
+use Rattle.exchange.proofs.Pending.{unreached_done}
 use Rattle.exchange.proofs.Rooms.{view_facts}
 use Rattle.exchange.proofs.exchange.Exchange.tell_set.Goals as goal
 
-pub returns-else-has_link : goal.returns-else-has_link
-returns-else-has_link c =
+pub returns-else-has_link-clause-state : goal.returns-else-has_link-clause-state
+returns-else-has_link-clause-state c =
     let s : State KeptQueues = c.args.self.now in
     let f : Facts = facts s.settings s.node.parts in
     ap (λ (os : List Owed). with_node s (tell_each kept s.settings os s.node))
     (sym (unreached_is_owed_nothing f s.node.parts.told c.args.set
     (ap (λ (f : Facts). has_link f.in_service (set_at f c.args.set)) (view_facts c.self.inside s c.self.invariant c.self.view_is)
     ∙ sym c.has_link.ensures ∙ c.if-has_link.false)))
+
+pub returns-else-has_link-clause-pending : goal.returns-else-has_link-clause-pending
+returns-else-has_link-clause-pending c =
+    let s : State KeptQueues = c.args.self.now in
+    unreached_done (facts s.settings s.node.parts) s.node.parts.told c.args.set c.args.first c.requires.before
+    (ap (λ (f : Facts). has_link f.in_service (set_at f c.args.set)) (view_facts c.self.inside s c.self.invariant c.self.view_is)
+    ∙ sym c.has_link.ensures ∙ c.if-has_link.false)

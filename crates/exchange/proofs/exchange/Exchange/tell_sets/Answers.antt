@@ -1,30 +1,72 @@
--- One set after the other.
-use Rattle.std.proofs.Common.{◌≡◌, ◌<◌, ◌≤◌, ℕ, length, arith, ap, sym, ◌∙◌}
-use Rattle.exchange_rules.specs.State.{State}
-use Rattle.exchange.specs.KeptQueues.{KeptQueues}
-use Rattle.exchange.proofs.Telling.{told_set, set_step, sets_end, sets_whole}
+-- One set after the other, until there is no room.
+use Rattle.std.proofs.Common.{◌≡◌, ◌<◌, ◌≤◌, ◌+◌, ◌-◌, ℕ, length, arith, refl, ap, sym, subst, ◌∙◌}
+use Rattle.route_management.specs.Told.{shape_of}
+use Rattle.route_management.specs.Owed.{owed_to, owed_by_sets}
+use Rattle.route_management.proofs.Shape.{rows_by_shape}
+use Rattle.exchange_rules.specs.State.{State, Node, with_node}
+use Rattle.exchange_rules.proofs.Telling.{none_told}
+use Rattle.exchange.specs.KeptQueues.{KeptQueues, kept}
+use Rattle.exchange.specs.Pending.{OwesNoneBefore}
+use Rattle.exchange.specs.Telling.{known, told_set}
+use Rattle.exchange.proofs.Pending.{sets_from, sets_done, each_shape}
+use Rattle.exchange.proofs.Telling.{set_step, sets_end, sets_whole}
 use Rattle.exchange.proofs.Rooms.{view_shape}
 use Rattle.exchange.proofs.exchange.Exchange.tell_sets.Goals as goal
 
-pub loop-set-preserved : goal.loop-set-preserved
-loop-set-preserved c =
+pub loop-set-init : goal.loop-set-init
+loop-set-init c =
+    let s : State KeptQueues = c.args.self.now in (
+      ap (λ (n : Node KeptQueues). with_node s n)
+          (sets_from kept s.settings c.index-set.result (length s.settings.sets) s.node
+          (λ earlier about l. c.requires.sets earlier about (omega (arith, l, c.index-set.ensures.value)))),
+      subst (λ (k : ℕ). OwesNoneBefore (known s) s.node.parts.told k c.args.destination) (sym c.index-set.ensures.value) c.requires,
+      refl,
+    )
+
+pub returns-in-Some-clause-state : goal.returns-in-Some-clause-state
+returns-in-Some-clause-state c =
+    let end : ℕ = length c.args.self.now.settings.sets in
+    let next : State KeptQueues = c.tell_set.new.self in
     let rows : length c.sets-set-end.result.now ≡ length c.args.self.now.settings.sets =
     ap length c.sets-set-end.ensures.rows ∙ ap (λ (s : State KeptQueues). length s.settings.sets) c.self.view_is in
     let left : c.loop-set.set < length c.args.self.now.settings.sets = omega (arith, c.loop-set-test.true, rows) in
-    set_step c.loop-set.self c.tell_set.new.self c.loop-set.set (length c.args.self.now.settings.sets) left
-    (c.tell_set.ensures ∙ ap (λ (k : ℕ). told_set k c.loop-set.self) c.new.ensures) ∙ c.loop-set.invariant
+    sym (ap (λ (n : Node KeptQueues). with_node next n) (none_told kept next.settings
+    (owed_by_sets (known next) next.node.parts.told (c.loop-set.set + 1) (end - (c.loop-set.set + 1))) next.node c.in-Some.ensures.full))
+    ∙ set_step c.loop-set.self next c.loop-set.set end left (c.tell_set.ensures.state ∙ ap (λ (k : ℕ). told_set k c.loop-set.self) c.new-set.ensures)
+    ∙ c.loop-set.invariant.0
+    ∙ sets_whole c.args.self.now (view_shape c.self.inside c.args.self.now c.self.invariant c.self.view_is)
 
-pub tell_set-requires : goal.tell_set-requires
-tell_set-requires c =
+pub loop-set-preserved : goal.loop-set-preserved
+loop-set-preserved c =
+    let s : State KeptQueues = c.loop-set.self in
+    let next : State KeptQueues = c.tell_set.new.self in
     let rows : length c.sets-set-end.result.now ≡ length c.args.self.now.settings.sets =
     ap length c.sets-set-end.ensures.rows ∙ ap (λ (s : State KeptQueues). length s.settings.sets) c.self.view_is in
-    omega (arith, c.new.ensures, c.loop-set-test.true, rows, ap (λ (s : State KeptQueues). length s.settings.sets) c.loop-set.invariant)
+    let left : c.loop-set.set < length c.args.self.now.settings.sets = omega (arith, c.loop-set-test.true, rows) in
+    let told : next ≡ told_set c.loop-set.set s = c.tell_set.ensures.state ∙ ap (λ (k : ℕ). told_set k s) c.new-set.ensures in (
+      set_step s next c.loop-set.set (length c.args.self.now.settings.sets) left told ∙ c.loop-set.invariant.0,
+      subst (λ (k : ℕ). OwesNoneBefore (known next) next.node.parts.told (k + 1) 0) c.new-set.ensures c.in_default.ensures.pending,
+      ap (λ (x : State KeptQueues). shape_of x.node.parts.told) told
+          ∙ each_shape kept s.settings (owed_to (known s) s.node.parts.told c.loop-set.set) s.node
+          ∙ c.loop-set.invariant.2,
+    )
 
-pub returns : goal.returns
-returns c =
+pub returns-clause-state : goal.returns-clause-state
+returns-clause-state c =
     let rows : length c.sets-set-end.result.now ≡ length c.args.self.now.settings.sets =
     ap length c.sets-set-end.ensures.rows ∙ ap (λ (s : State KeptQueues). length s.settings.sets) c.self.view_is in
     let done : length c.args.self.now.settings.sets ≤ c.loop-set.set = omega (arith, c.loop-set-test.false, rows) in
     sym (sets_end c.loop-set.self c.loop-set.set (length c.args.self.now.settings.sets) done)
-    ∙ c.loop-set.invariant
+    ∙ c.loop-set.invariant.0
     ∙ sets_whole c.args.self.now (view_shape c.self.inside c.args.self.now c.self.invariant c.self.view_is)
+
+pub returns-clause-pending : goal.returns-clause-pending
+returns-clause-pending c =
+    let s : State KeptQueues = c.loop-set.self in
+    let rows : length c.sets-set-end.result.now ≡ length c.args.self.now.settings.sets =
+    ap length c.sets-set-end.ensures.rows ∙ ap (λ (s : State KeptQueues). length s.settings.sets) c.self.view_is in
+    let whole : length s.node.parts.told.rows ≡ length c.args.self.now.settings.sets =
+    rows_by_shape s.node.parts.told (length c.args.self.now.settings.sets) (length c.args.self.now.settings.destinations)
+    (c.loop-set.invariant.2 ∙ view_shape c.self.inside c.args.self.now c.self.invariant c.self.view_is) in
+    sets_done (known s) s.node.parts.told c.loop-set.set c.loop-set.first c.loop-set.invariant.1
+    (omega (arith, c.loop-set-test.false, rows, whole))

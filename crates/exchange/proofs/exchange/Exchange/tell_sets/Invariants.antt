@@ -1,9 +1,14 @@
--- What is left to tell, and what was told, is all that is owed.
+-- What is left to tell, and what was told, is all that is owed; nothing is owed of what the walk has passed.
 use Rattle.std.proofs.Common.{◌≡◌, ◌-◌, length}
+use Rattle.route_management.specs.Told.{shape_of}
+use Rattle.exchange.specs.Pending.{OwesNoneBefore}
+use Rattle.exchange.specs.Telling.{known}
 use Rattle.exchange.proofs.Telling.{sets_rest}
 use Rattle.exchange.proofs.exchange.Exchange.tell_sets.Given as goal
 
 abbrev pub invariant-loop-set : goal.invariant-loop-set
 invariant-loop-set l =
-    sets_rest l.set (length l.fn.self.settings.sets - l.set) l.self
-    ≡ sets_rest 0 (length l.fn.self.settings.sets) l.fn.self
+    (sets_rest l.set (length l.fn.self.settings.sets - l.set) l.self
+    ≡ sets_rest 0 (length l.fn.self.settings.sets) l.fn.self)
+    × OwesNoneBefore (known l.self) l.self.node.parts.told l.set l.first
+    × (shape_of l.self.node.parts.told ≡ shape_of l.fn.self.node.parts.told)
