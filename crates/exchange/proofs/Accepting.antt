@@ -11,7 +11,7 @@ use Rattle.cell_pool.specs.Lanes.{dropped}
 use Rattle.link_sequence.specs.declared.fault.SeqFault.{SeqFault}
 use Rattle.link_sequence.specs.Queue.{count_confirmed}
 use Rattle.link_sequence.specs.Counts.{Counts, kept_first, kept_after_answer}
-use Rattle.exchange_rules.specs.State.{State, Done, with_node}
+use Rattle.exchange_rules.specs.State.{State, with_node}
 use Rattle.exchange_rules.specs.Exchange.{Ends}
 use Rattle.exchange_rules.specs.Failing.{fail}
 use Rattle.exchange_rules.specs.Frames.{handle, handle_by}

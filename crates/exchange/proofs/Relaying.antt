@@ -1,5 +1,5 @@
 -- What the table of translation rows answers to an order, and what it leaves, is what the rule does.
-use Rattle.std.proofs.Common.{◌≡◌, Bool, true, false, List, Option, Some, None, Result, Ok, Err, refl, ap, sym, ◌∙◌}
+use Rattle.std.proofs.Common.{◌≡◌, List, Option, Some, None, Result, Ok, Err, refl, ap}
 use Rattle.std.specs.Prelude.{OnOk, OnErr, IfErr, if◌then◌else◌}
 use Rattle.std.specs.Option.{option_or}
 use Rattle.settings_rows.specs.Configuration.{TitleEntry}
@@ -8,7 +8,7 @@ use Rattle.signalling_types.specs.declared.cause.Cause.TheVariants.{NoMemory}
 use Rattle.signalling_types.specs.declared.outcome.Outcome.{Outcome}
 use Rattle.signalling_types.specs.declared.outcome.Outcome.TheVariants.{Refused}
 use Rattle.global_title.specs.Rows.{with_row}
-use Rattle.exchange_rules.specs.State.{State, Node, Done, with_node, with_parts}
+use Rattle.exchange_rules.specs.State.{State, with_node, with_parts}
 use Rattle.exchange_rules.specs.Exchange.{Ends}
 use Rattle.exchange_rules.specs.Relaying.{with_titles, add_title_unless}
 use Rattle.exchange.specs.Calls.{is_memory_refused}

@@ -2,7 +2,6 @@
 use Rattle.std.proofs.Common.{◌≡◌, ◌<◌, ◌+◌, ℕ, Bool, true, false, ◌||◌, not, length, replicate, List, refl, ap, sym, subst, ◌∙◌}
 use Rattle.std.specs.Prelude.{map, [], ◌∷◌, slice_index_or, if◌then◌else◌, Option, Some, None}
 use Rattle.std.proofs.lemmas.List.{length-set, get_or-set_same}
-use Rattle.linkset.specs.declared.link_set.SetLink.{SetLink}
 use Rattle.route_table.specs.declared.route.RouteStatus.{RouteStatus}
 use Rattle.route_table.specs.Facts.{Facts, with_status_over}
 use Rattle.node_links.specs.Link.{Link}
@@ -80,12 +79,12 @@ status_routes n m destination set status e =
     ∙ length-set n.routes destination (map (with_status_over set status) (slice_index_or n.routes destination []))
 
 -- routes and what is held change, a release is due, and anything may be pending
-pub rerouted_room : (e : Inside) (n : Network) (u : HoldSet) (r : Running) → HasRoom e
+pub rerouted_room : (e : Inside) (n : Network) (u : HoldSet) (r : Running) (pending : Pending) → HasRoom e
     → n.links ≡ e.links.links → n.sets ≡ e.links.sets → length n.routes ≡ length e.links.routes → HasHoldsFor e.settings u
-    → HasRoom (record e { links = n; holds = u; timers = r; release_due = true; pending = all_pending })
-rerouted_room e n u r h links sets routes holds =
-    any_room e n e.told e.changeback u r e.late_any true all_pending h (ap (λ (ls : List Link). length ls) links) sets routes refl h.codes holds refl
-    (before_all (facts_of n) e.told)
+    → pending ≡ all_pending → HasRoom (record e { links = n; holds = u; timers = r; release_due = true; pending = pending })
+rerouted_room e n u r pending h links sets routes holds all =
+    any_room e n e.told e.changeback u r e.late_any true pending h (ap (λ (ls : List Link). length ls) links) sets routes refl h.codes holds refl
+    (subst (λ (p : Pending). OwesNoneBut p (facts_of n) e.told) (sym all) (before_all (facts_of n) e.told))
 
 -- one link changes
 pub link_room : (e : Inside) (n : Network) (link : ℕ) (state : Link) (pending : Pending) → HasRoom e → n ≡ with_state e.links link state
@@ -149,7 +148,7 @@ moved_room e n link state before now changed pending h same was is differs may t
 pub view_facts : (e : Inside) (s : State KeptQueues) → HasRoom e → kept_in e ≡ s → facts s.settings s.node.parts ≡ facts_of e.links
 view_facts e s h view =
     ap (λ (x : State KeptQueues). facts x.settings x.node.parts) (sym view)
-    ∙ ap (λ (sets : List (List SetLink)). record { sets = sets; in_service = serving e.links.links; routes = e.links.routes }) (sym h.sets)
+    ∙ ap (λ (sets : List (List ℕ)). record { sets = sets; in_service = serving e.links.links; routes = e.links.routes }) (sym h.sets)
 
 pub view_told : (e : Inside) (s : State KeptQueues) → kept_in e ≡ s → s.node.parts.told ≡ e.told
 view_told e s view = ap (λ (x : State KeptQueues). x.node.parts.told) (sym view)

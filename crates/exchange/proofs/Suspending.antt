@@ -10,7 +10,8 @@ use Rattle.stp_types.specs.Readings.{destination_place}
 use Rattle.route_table.specs.Facts.{Facts}
 use Rattle.route_table.specs.Chosen.{chosen_link}
 use Rattle.flow_hold.specs.declared.procedure.Procedure.TheVariants.{Changeover}
-use Rattle.flow_hold.specs.Holds.{HoldSet, selections, with_hold}
+use Rattle.signalling_types.specs.declared.limits.TheConstants.Limits.{SELECTIONS}
+use Rattle.flow_hold.specs.Holds.{HoldSet, with_hold}
 use Rattle.flow_hold.proofs.Holding.{may_parts}
 use Rattle.flow_hold.proofs.Adding.{Adds, adds-none, adds-one, adds-more, adds-alike, added_flows}
 use Rattle.exchange_rules.specs.State.{Parts}
@@ -36,7 +37,7 @@ unfolding with_destinations
 no_destinations f link holds = refl
 
 pub more_destinations : (f : Facts) (link count : ℕ) (holds : HoldSet)
-    → with_selections f link count selections (with_destinations f link count holds) ≡ with_destinations f link (count + 1) holds
+    → with_selections f link count SELECTIONS (with_destinations f link count holds) ≡ with_destinations f link (count + 1) holds
 unfolding with_destinations
 more_destinations f link count holds = ap (λ (n : ℕ). with_destinations f link n holds) (one-more count)
 
@@ -118,15 +119,15 @@ module _ (f : Facts) (link : ℕ) where
       (λ d s may. ap (λ (b : Bool). b && goes d s) (none-below d)) (adds-none h (Changeover link))
   adds-destinations h (suc count) =
       let k : HoldSet = with_destinations f link count h in
-      adds-alike h (with_selections f link count selections k) (Changeover link)
-      (λ d s. (nat_lt d count && goes d s) || (nat_eq d count && (nat_lt s selections && goes d s)))
+      adds-alike h (with_selections f link count SELECTIONS k) (Changeover link)
+      (λ d s. (nat_lt d count && goes d s) || (nat_eq d count && (nat_lt s SELECTIONS && goes d s)))
       (λ d s. nat_lt d (suc count) && goes d s)
       (λ d s may.
-      destination-more (nat_lt d count) (nat_eq d count) (goes d s) (nat_lt s selections) (few-selections s (may_parts h (Changeover link) d s may).few)
+      destination-more (nat_lt d count) (nat_eq d count) (goes d s) (nat_lt s SELECTIONS) (few-selections s (may_parts h (Changeover link) d s may).few)
       ∙ ap (λ (b : Bool). b && goes d s) (one-behind d count))
-      (adds-more h k (with_selections f link count selections k) (Changeover link) _ _ (adds-destinations h count) (adds-selections k count selections))
+      (adds-more h k (with_selections f link count SELECTIONS k) (Changeover link) _ _ (adds-destinations h count) (adds-selections k count SELECTIONS))
     where
-      few-selections : (s : ℕ) → s < selections → nat_lt s selections ≡ true
+      few-selections : (s : ℕ) → s < SELECTIONS → nat_lt s SELECTIONS ≡ true
       few-selections s few = grind (arith, nat_tests, few)
 
   -- all of them, in a node of so many destinations

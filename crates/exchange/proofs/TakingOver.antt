@@ -5,12 +5,12 @@ use Rattle.std.specs.Prelude.{if◌then◌else◌, slice_index_or, slice_set, Co
 use Rattle.std.proofs.Math.Logic.{⊎_elim}
 use Rattle.std.proofs.lemmas.Bool.{cases_lt, cases_eq, eq-eqb, eqb-true}
 use Rattle.std.proofs.lemmas.List.{get_or-set_same, get_or-set_other, length-set, length-replicate}
-use Rattle.signalling_types.specs.declared.limits.TheConstants.Limits.{LINKS}
+use Rattle.signalling_types.specs.declared.limits.TheConstants.Limits.{LINKS, SELECTIONS}
 use Rattle.settings_rows.specs.Configuration.{Configuration}
 use Rattle.route_table.specs.Facts.{Facts}
 use Rattle.route_table.specs.Chosen.{chosen_link}
 use Rattle.flow_hold.specs.declared.procedure.Procedure.{Procedure}
-use Rattle.flow_hold.specs.Holds.{HoldSet, selections, holds, may_hold}
+use Rattle.flow_hold.specs.Holds.{HoldSet, holds, may_hold}
 use Rattle.flow_hold.specs.Pairs.{IsAnyFlow}
 use Rattle.flow_hold.proofs.Holding.{may_parts}
 use Rattle.flow_hold.proofs.Flows.{IsSameNode, same_holds}
@@ -76,7 +76,7 @@ module _ {Q : Type 0} (q : QueueKind Q) (c : Configuration) (link : ℕ) (before
   loses other = loses_flows c before after other link
 
   -- a flow that the link takes back from another is a change
-  moved-so : (other destination sls : ℕ) → other ≢ link → sls < selections → is_taken_back before after other link destination sls ≡ true
+  moved-so : (other destination sls : ℕ) → other ≢ link → sls < SELECTIONS → is_taken_back before after other link destination sls ≡ true
       → IsMoved link before after (record { destination = destination; sls = sls; from = other })
   moved-so other destination sls apart few taken =
       let links : (chosen_link before destination sls ≡ Some other) × (chosen_link after destination sls ≡ Some link) = went before after other link destination sls taken in
@@ -238,7 +238,7 @@ module _ {Q : Type 0} (q : QueueKind Q) (c : Configuration) (link : ℕ) (before
       (λ (t : IsToHold (holders q c link loses (length c.links) n) changes procedure destination sls).
       let moved : IsMoved link before after t.change = moved_of link before after t.change t.among in
       let it : IsNoted (length c.links) t.change.from procedure = noted (length c.links) t.change.from procedure fits.few_links t.holder in
-      let few : sls < selections = subst (λ (s : ℕ). s < selections) t.selection moved.selection in
+      let few : sls < SELECTIONS = subst (λ (s : ℕ). s < SELECTIONS) t.selection moved.selection in
       let is : chosen_link after destination sls ≡ Some link =
       ap (λ (d : ℕ). chosen_link after d sls) (sym t.to) ∙ ap (λ (s : ℕ). chosen_link after t.change.destination s) (sym t.selection) ∙ moved.is in
       let was : chosen_link before destination sls ≡ Some t.change.from =
@@ -258,7 +258,7 @@ module _ {Q : Type 0} (q : QueueKind Q) (c : Configuration) (link : ℕ) (before
   ruled-walked procedure destination sls e =
       ⊎_elim
       (λ (t : IsTakenFrom q c before after link (length c.links) n procedure destination sls).
-      let few : sls < selections = (may_parts n.parts.holds procedure destination sls t.may).few in
+      let few : sls < SELECTIONS = (may_parts n.parts.holds procedure destination sls t.may).few in
       let change : FlowChange = record { destination = destination; sls = sls; from = t.other } in
       change_pairs (holders q c link loses (length c.links) n) changes n.parts.holds procedure destination sls (record {
         change = change;

@@ -6,7 +6,8 @@ use Rattle.stp_types.specs.Readings.{destination_place}
 use Rattle.route_table.specs.Facts.{Facts}
 use Rattle.route_table.specs.Chosen.{chosen_link}
 use Rattle.flow_hold.specs.declared.procedure.Procedure.TheVariants.{Changeover}
-use Rattle.flow_hold.specs.Holds.{HoldSet, selections, with_hold}
+use Rattle.signalling_types.specs.declared.limits.TheConstants.Limits.{SELECTIONS}
+use Rattle.flow_hold.specs.Holds.{HoldSet, with_hold}
 use Rattle.exchange_rules.specs.Routing.{goes_by}
 
 module _ (f : Facts) (link : ℕ) where
@@ -23,7 +24,7 @@ module _ (f : Facts) (link : ℕ) where
   -- and those to the first so many destinations
   unfoldable pub with_destinations : (count : ℕ) → HoldSet → HoldSet
   with_destinations zero holds = holds
-  with_destinations (suc count) holds = with_selections count selections (with_destinations count holds)
+  with_destinations (suc count) holds = with_selections count SELECTIONS (with_destinations count holds)
 
 module _ (c : Configuration) (link : ℕ) where
   -- a flow to a destination that is there is held

@@ -6,7 +6,8 @@ ghost use Rattle.exchange_rules.specs.State.{with_node, with_parts};
 ghost use Rattle.exchange.specs.KeptQueues.{kept};
 ghost use Rattle.exchange_rules.specs.Routing.{facts};
 ghost use Rattle.flow_hold.specs.declared.procedure.Procedure.TheVariants as holder;
-ghost use Rattle.flow_hold.specs.Holds.{selections, with_hold};
+ghost use Rattle.signalling_types.specs.declared.limits.TheConstants.Limits.{SELECTIONS};
+ghost use Rattle.flow_hold.specs.Holds.{with_hold};
 ghost use Rattle.exchange.specs.Head.{with_holds, with_head, with_read};
 ghost use Rattle.exchange.specs.Suspending as walk;
 ghost use Rattle.exchange_rules.specs.Places.{HasPlacesFor};
@@ -14,8 +15,8 @@ ghost use Rattle.exchange_rules.specs.Suspending.{suspended};
 
 use super::Exchange;
 use super::head::Head;
-use flow_hold::{Procedure, SELECTIONS};
-use stp_types::{LinkId, Sls};
+use flow_hold::Procedure;
+use stp_types::{Limits, LinkId, Sls};
 
 impl Exchange {
     /// The changeover of a link holds each flow that takes it, and each that has a user message there that isn't
@@ -44,17 +45,17 @@ impl Exchange {
     /// Holds the flows to one destination that go by a link.
     fn hold_destination(&mut self, link: LinkId, destination: usize)
         ensures { self.new ≡ with_holds self.old (walk.with_selections
-            (facts self.old.settings self.old.node.parts) link destination selections
+            (facts self.old.settings self.old.node.parts) link destination SELECTIONS
             self.old.node.parts.holds) }
     {
-        for selection in 0..SELECTIONS {
+        for selection in 0..Limits::SELECTIONS as u8 {
             self.hold_selection(link, destination, selection);
         }
     }
 
     /// Holds one flow, where it goes by a link.
     fn hold_selection(&mut self, link: LinkId, destination: usize, selection: u8)
-        requires { selection < selections }
+        requires { selection < SELECTIONS }
         ensures { self.new ≡ with_holds self.old (walk.with_flow
             (facts self.old.settings self.old.node.parts) link destination selection self.old.node.parts.holds) }
     {

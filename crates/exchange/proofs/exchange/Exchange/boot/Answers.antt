@@ -1,11 +1,11 @@
 -- The parts are those of the first state.
-use Rattle.std.proofs.Common.{◌≡◌, ◌+◌, ℕ, suc, List, [], length, replicate, refl, ap, sym, subst, ◌∙◌, arith}
+use Rattle.std.proofs.Common.{◌≡◌, ◌+◌, ℕ, suc, List, [], length, replicate, ap, sym, subst, ◌∙◌, arith}
 use Rattle.std.proofs.lemmas.List.{length-replicate, length-map}
 use Rattle.signalling_types.specs.Message.{Message}
 use Rattle.link_sequence.specs.Counts.{kept_first}
 use Rattle.changeover.specs.Standing.{no_changeover}
 use Rattle.node_links.specs.LinkState.{down_link}
-use Rattle.node_links.specs.Network.{Network}
+use Rattle.node_links.specs.Network.{Network, facts_of}
 use Rattle.cell_pool.specs.Lanes.{lane_at}
 use Rattle.exchange.specs.KeptQueues.{held_lane}
 use Rattle.exchange_rules.specs.Holding.{all_wait}
@@ -15,6 +15,8 @@ use Rattle.cell_pool.specs.Stored.{Stored}
 use Rattle.route_table.specs.Facts.{first_routes}
 use Rattle.exchange_rules.specs.Places.{HasHoldsFor, HasCodes}
 use Rattle.exchange_rules.proofs.Places.{no_codes-fits, no_holds-fits}
+use Rattle.exchange.specs.declared.exchange.pending.Pending.{Pending}
+use Rattle.exchange.specs.Pending.{OwesNoneBut}
 use Rattle.exchange.proofs.Pending.{before_all}
 use Rattle.exchange.proofs.Standing.{first-kept, stands-first}
 use Rattle.exchange.proofs.exchange.Exchange.boot.Goals as goal
@@ -53,5 +55,7 @@ invariant_of-result c =
       codes = subst (HasCodes (length c.args.settings.sets)) (sym c.in_ok-changeback.ensures) (no_codes-fits (length c.args.settings.sets));
       holds = subst (HasHoldsFor c.args.settings) (sym c.in_ok-holds.ensures) (no_holds-fits c.args.settings);
       waiting = ap (λ (ls : List (List Message)). all_wait c.args.settings c.in_ok-holds.holds (lane_at ls held_lane)) lists;
-      pending = before_all _ _;
+      pending =
+          subst (λ (p : Pending). OwesNoneBut p (facts_of c.in_ok-links.links) c.in_ok-told.told) (sym c.all.ensures)
+          (before_all (facts_of c.in_ok-links.links) c.in_ok-told.told);
     }

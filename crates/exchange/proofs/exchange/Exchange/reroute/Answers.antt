@@ -9,9 +9,10 @@ use Rattle.exchange.proofs.exchange.Exchange.reroute.Goals as goal
 
 pub invariant_of-self : goal.invariant_of-self
 invariant_of-self c =
-    rerouted_room c.self.inside c.reroute.new.links c.reroute.new.holds c.set.new.self c.self.invariant
+    rerouted_room c.self.inside c.reroute.new.links c.reroute.new.holds c.set.new.self c.all-self-inside.result c.self.invariant
     (ap (λ (n : Network). n.links) c.reroute.ensures.links) (ap (λ (n : Network). n.sets) c.reroute.ensures.links)
     (status_routes c.self.inside.links c.reroute.new.links c.args.destination c.args.set c.args.status c.reroute.ensures.links)
     (subst (HasHoldsFor c.self.inside.settings) (sym c.reroute.ensures.holds)
     (held_for-fits c.self.inside.settings c.self.inside.holds c.args.destination
     (rerouted (facts_of c.self.inside.links) (facts_of c.reroute.new.links) c.args.destination) c.self.invariant.holds))
+    c.all-self-inside.ensures

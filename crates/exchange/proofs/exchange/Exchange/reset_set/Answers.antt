@@ -1,20 +1,22 @@
 -- What was told keeps its shape, and anything may be pending.
-use Rattle.std.proofs.Common.{length, map, refl, ap, ◌∙◌}
+use Rattle.std.proofs.Common.{length, map, ap, sym, subst, ◌∙◌}
 use Rattle.std.proofs.lemmas.List.{length-map}
 use Rattle.route_table.specs.declared.route.RouteStatus.TheVariants.{Allowed}
 use Rattle.route_table.specs.Facts as facts
 use Rattle.node_links.specs.Network.{Network, facts_of}
 use Rattle.route_management.specs.Told.{shape_of}
 use Rattle.route_management.proofs.Shape.{reset_shape}
-use Rattle.exchange.specs.Pending.{all_pending}
+use Rattle.exchange.specs.declared.exchange.pending.Pending.{Pending}
+use Rattle.exchange.specs.Pending.{OwesNoneBut}
 use Rattle.exchange.proofs.Pending.{before_all}
 use Rattle.exchange.proofs.Rooms.{changed_room}
 use Rattle.exchange.proofs.exchange.Exchange.reset_set.Goals as goal
 
 pub invariant_of-self : goal.invariant_of-self
 invariant_of-self c =
-    changed_room c.self.inside c.reset_statuses.new.self c.reset.new.self c.clear_set-2.new.self all_pending c.self.invariant
+    changed_room c.self.inside c.reset_statuses.new.self c.reset.new.self c.clear_set-2.new.self c.all-self-inside.result c.self.invariant
     (ap (λ (n : Network). length n.links) c.reset_statuses.ensures) (ap (λ (n : Network). n.sets) c.reset_statuses.ensures)
     (ap (λ (n : Network). length n.routes) c.reset_statuses.ensures ∙ length-map c.self.inside.links.routes (map (facts.with_status_over c.args.set Allowed)))
     (ap shape_of c.reset.ensures ∙ reset_shape c.self.inside.told c.args.set)
-    (before_all (facts_of c.reset_statuses.new.self) c.reset.new.self)
+    (subst (λ (p : Pending). OwesNoneBut p (facts_of c.reset_statuses.new.self) c.reset.new.self) (sym c.all-self-inside.ensures)
+    (before_all (facts_of c.reset_statuses.new.self) c.reset.new.self))

@@ -1,7 +1,6 @@
 -- What the walk holds is what fails with the link.
-use Rattle.std.proofs.Common.{ap, ◌∙◌, length}
+use Rattle.std.proofs.Common.{ap, ◌∙◌}
 use Rattle.exchange_rules.specs.State.{State, Parts, with_node, with_parts}
-use Rattle.exchange_rules.specs.Routing.{facts}
 use Rattle.exchange.specs.KeptQueues.{KeptQueues, kept}
 use Rattle.exchange.specs.Head.{with_holds}
 use Rattle.exchange.specs.Suspending.{with_messages}
