@@ -30,9 +30,6 @@ const CODE_AT: usize = 23;
 /// Octets of its frame.
 const DECLARATION_OCTETS: u8 = 24;
 
-/// How many selections a flow can have (Q.704 §2.2.4).
-const SELECTIONS: u8 = 16;
-
 /// The exchange, and the peer at the other end of its link.
 #[derive(Drop)]
 pub(crate) struct Peer {
@@ -139,7 +136,7 @@ impl Peer {
     /// The selection whose flows try the link that carries the messages first, where it is the last one of its set.
     /// That is its signalling link code, too.
     pub(crate) fn selection(&self) -> Sls {
-        Sls::new(self.link.index() as u8 % SELECTIONS).unwrap()
+        Sls::new((self.link.index() % Limits::SELECTIONS) as u8).unwrap()
     }
 
     /// The association of the link that carries the messages goes down.

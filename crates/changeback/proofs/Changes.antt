@@ -4,7 +4,8 @@ use Rattle.std.specs.Prelude.{Option, Some, None}
 use Rattle.route_table.specs.Facts.{Facts, with_link}
 use Rattle.node_links.specs.Network.{Network, facts_of}
 use Rattle.flow_hold.specs.declared.procedure.Procedure.{Procedure}
-use Rattle.flow_hold.specs.Holds.{HoldSet, selections}
+use Rattle.signalling_types.specs.declared.limits.TheConstants.Limits.{SELECTIONS}
+use Rattle.flow_hold.specs.Holds.{HoldSet}
 use Rattle.changeback.specs.Return.{FlowChange, former_link_of, change_from, changes_of, changes, comes_from, gives_up, with_change, held_by}
 
 pub no_changes_of : (to : ℕ) (before after : Facts) (destination : ℕ) → changes_of to before after destination 0 ≡ []
@@ -21,7 +22,7 @@ unfolding changes
 no_changes to before after = refl
 
 pub more_changes : (to : ℕ) (before after : Facts) (count : ℕ)
-    → changes to before after (count + 1) ≡ changes to before after count ++ changes_of to before after count selections
+    → changes to before after (count + 1) ≡ changes to before after count ++ changes_of to before after count SELECTIONS
 unfolding changes
 more_changes to before after count = ap (λ (n : ℕ). changes to before after n) (add-one count)
 
@@ -114,13 +115,13 @@ all_marks_begin count n link other = none_set count other
 
 pub all_marks_go_on : (m1 m2 : List Bool) (n now : Network) (link count : ℕ) → now ≡ n
     → ((other : ℕ) → slice_index_or m1 other false ≡ gives_up (taken n link count) other)
-    → ((other : ℕ) → slice_index_or m2 other false ≡ (slice_index_or m1 other false || gives_up (taken_to now link count selections) other))
+    → ((other : ℕ) → slice_index_or m2 other false ≡ (slice_index_or m1 other false || gives_up (taken_to now link count SELECTIONS) other))
     → (other : ℕ) → slice_index_or m2 other false ≡ gives_up (taken n link (count + 1)) other
 all_marks_go_on m1 m2 n now link count same f g other =
     g other
-    ∙ ap (λ (b : Bool). b || gives_up (taken_to now link count selections) other) (f other)
-    ∙ ap (λ (n' : Network). gives_up (taken n link count) other || gives_up (taken_to n' link count selections) other) same
-    ∙ sym (gives_up-append (taken n link count) (taken_to n link count selections) other)
+    ∙ ap (λ (b : Bool). b || gives_up (taken_to now link count SELECTIONS) other) (f other)
+    ∙ ap (λ (n' : Network). gives_up (taken n link count) other || gives_up (taken_to n' link count SELECTIONS) other) same
+    ∙ sym (gives_up-append (taken n link count) (taken_to n link count SELECTIONS) other)
     ∙ ap (λ (cs : List FlowChange). gives_up cs other) (sym (more_changes link (with_link link false (facts_of n)) (facts_of n) count))
 
 pub holds_begin : (holders : List (Option Procedure)) (t : HoldSet) (n : Network) (link destination : ℕ)
@@ -146,11 +147,11 @@ all_holds_begin holders t n link = refl
 
 pub all_holds_go_on : (holders : List (Option Procedure)) (t0 t1 t2 : HoldSet) (n now : Network) (link count : ℕ) → now ≡ n
     → t1 ≡ held_by holders (taken n link count) t0
-    → t2 ≡ held_by holders (taken_to now link count selections) t1
+    → t2 ≡ held_by holders (taken_to now link count SELECTIONS) t1
     → t2 ≡ held_by holders (taken n link (count + 1)) t0
 all_holds_go_on holders t0 t1 t2 n now link count same f g =
     g
-    ∙ ap (λ (n : Network). held_by holders (taken_to n link count selections) t1) same
-    ∙ ap (λ (t : HoldSet). held_by holders (taken_to n link count selections) t) f
-    ∙ sym (held_by-append holders (taken n link count) (taken_to n link count selections) t0)
+    ∙ ap (λ (n : Network). held_by holders (taken_to n link count SELECTIONS) t1) same
+    ∙ ap (λ (t : HoldSet). held_by holders (taken_to n link count SELECTIONS) t) f
+    ∙ sym (held_by-append holders (taken n link count) (taken_to n link count SELECTIONS) t0)
     ∙ ap (λ (cs : List FlowChange). held_by holders cs t0) (sym (more_changes link (with_link link false (facts_of n)) (facts_of n) count))

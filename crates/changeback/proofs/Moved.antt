@@ -6,7 +6,7 @@ use Rattle.std.proofs.lemmas.List.Elements.{Contains-get_or, Contains-append_lef
 use Rattle.route_table.specs.Facts.{Facts}
 use Rattle.route_table.specs.Chosen.{chosen_link}
 use Rattle.node_links.specs.FormerLink.{former_link}
-use Rattle.flow_hold.specs.Holds.{selections}
+use Rattle.signalling_types.specs.declared.limits.TheConstants.Limits.{SELECTIONS}
 use Rattle.changeback.specs.Return.{FlowChange, former_link_of, change_from, changes_of, changes, returned}
 use Rattle.changeback.specs.Laws.{IsMoved, each_is_moved, each_moved_is_found}
 
@@ -21,7 +21,7 @@ none c (k, l, e) = omega (arith, l)
 -- ---- each flow that is taken over is moved
 
 module _ (to : ℕ) (before after : Facts) where
-  one-moved : (destination sls from now : ℕ) (test : Bool) → destination < length after.routes → sls < selections
+  one-moved : (destination sls from now : ℕ) (test : Bool) → destination < length after.routes → sls < SELECTIONS
       → chosen_link before destination sls ≡ Some from → chosen_link after destination sls ≡ Some now
       → (nat_eq now to && not (nat_eq from to)) ≡ test
       → (c : FlowChange) → Contains (change_from destination sls (if test then Some from else None)) c → IsMoved to before after c
@@ -36,14 +36,14 @@ module _ (to : ℕ) (before after : Facts) where
       })
   one-moved destination sls from now false there selection was is e c h = absurd (none c h)
 
-  flow-moved : (destination sls : ℕ) (b a : Option ℕ) → destination < length after.routes → sls < selections
+  flow-moved : (destination sls : ℕ) (b a : Option ℕ) → destination < length after.routes → sls < SELECTIONS
       → chosen_link before destination sls ≡ b → chosen_link after destination sls ≡ a
       → (c : FlowChange) → Contains (change_from destination sls (former_link to b a)) c → IsMoved to before after c
   flow-moved destination sls (Some from) (Some now) there selection was is c h = one-moved destination sls from now _ there selection was is refl c h
   flow-moved destination sls (Some from) None there selection was is c h = absurd (none c h)
   flow-moved destination sls None a there selection was is c h = absurd (none c h)
 
-  moved-to : (destination count : ℕ) → destination < length after.routes → count ≤ selections
+  moved-to : (destination count : ℕ) → destination < length after.routes → count ≤ SELECTIONS
       → (c : FlowChange) → Contains (changes_of to before after destination count) c → IsMoved to before after c
   unfolding changes_of
   moved-to destination zero there few c h = absurd (none c h)
@@ -59,7 +59,7 @@ module _ (to : ℕ) (before after : Facts) where
   moved-all (suc count) few c h =
       elim (Contains-append_cases (changes to before after count) _ c h) [
         | inl earlier ↦ moved-all count (omega (arith, few)) c earlier
-        | inr last ↦ moved-to count selections (omega (arith, few)) (omega arith) c last
+        | inr last ↦ moved-to count SELECTIONS (omega (arith, few)) (omega arith) c last
       ]
 
   -- ---- each flow that is moved is taken over
@@ -89,7 +89,7 @@ module _ (to : ℕ) (before after : Facts) where
   found-all c moved (suc count) false l e =
       let same : c.destination ≡ count = grind (arith, nat_tests, e, l) in
       Contains-append_right (changes to before after count) _ c
-      (subst (λ (n : ℕ). Contains (changes_of to before after n selections) c) same (found-to c moved selections _ moved.selection refl))
+      (subst (λ (n : ℕ). Contains (changes_of to before after n SELECTIONS) c) same (found-to c moved SELECTIONS _ moved.selection refl))
 
 pub moved_of : (to : ℕ) (before after : Facts) (c : FlowChange) → Contains (returned to before after) c → IsMoved to before after c
 moved_of to before after c h = moved-all to before after (length after.routes) (omega arith) c h

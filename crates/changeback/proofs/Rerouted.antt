@@ -8,7 +8,8 @@ use Rattle.std.proofs.lemmas.List.FromFn.{filter_of_map_range_with_len_more}
 use Rattle.route_table.specs.Facts.{Facts}
 use Rattle.route_table.specs.Chosen.{chosen_link}
 use Rattle.flow_hold.specs.declared.procedure.Procedure.TheVariants.{Reroute}
-use Rattle.flow_hold.specs.Holds.{HoldSet, selections, with_hold}
+use Rattle.signalling_types.specs.declared.limits.TheConstants.Limits.{SELECTIONS}
+use Rattle.flow_hold.specs.Holds.{HoldSet, with_hold}
 use Rattle.changeback.specs.Rerouting.{is_other_link, changes_link, rerouted, moved_from, held_for}
 
 -- ---- the flows
@@ -42,11 +43,11 @@ more_moved links after destination count = one_more (λ sls. is_other_link (slic
 
 -- the links from before are those of the facts from before
 pub moved_alike : (links : List (Option ℕ)) (before after : Facts) (destination : ℕ)
-    → ((sls : ℕ) → sls < selections → slice_index_or links sls None ≡ chosen_link before destination sls)
-    → moved_from links after destination selections ≡ rerouted before after destination
+    → ((sls : ℕ) → sls < SELECTIONS → slice_index_or links sls None ≡ chosen_link before destination sls)
+    → moved_from links after destination SELECTIONS ≡ rerouted before after destination
 unfolding moved_from rerouted
 moved_alike links before after destination h =
-    agreed (λ sls. is_other_link (slice_index_or links sls None) (chosen_link after destination sls)) (changes_link before after destination) selections
+    agreed (λ sls. is_other_link (slice_index_or links sls None) (chosen_link after destination sls)) (changes_link before after destination) SELECTIONS
     (λ sls l. ap (λ (o : Option ℕ). is_other_link o (chosen_link after destination sls)) (h sls l))
 
 -- ---- the holds

@@ -6,13 +6,12 @@ use Rattle.std.proofs.Math.ListN.{set}
 use Rattle.std.proofs.Math.Logic.{⊎_elim, inl, inr}
 use Rattle.std.proofs.lemmas.Bool.{cases_eq, ltb-true}
 use Rattle.std.proofs.lemmas.List.{get_or-set_other}
-use Rattle.signalling_types.specs.declared.limits.TheConstants.Limits.{SETS}
+use Rattle.signalling_types.specs.declared.limits.TheConstants.Limits.{SETS, SELECTIONS}
 use Rattle.linkset.specs.Preference.{first_in_service}
 use Rattle.route_table.specs.Facts.{Facts, set_at, with_link}
 use Rattle.route_table.specs.Chosen.{chosen_set}
 use Rattle.node_links.specs.Network.{Network, facts_of}
 use Rattle.node_links.specs.FormerLink.{former_link}
-use Rattle.flow_hold.specs.Holds.{selections}
 use Rattle.changeback.specs.Return.{change_from, former_link_of, changes_of, comes_from, gives_up}
 use Rattle.changeback.specs.Seen.{number_of_pair, no_pairs, has_pair, with_pair, IsSeen}
 use Rattle.changeback.proofs.Changes.{gives_up-append, gives_up-one}
@@ -74,34 +73,34 @@ absorbed false false f = refl
 -- a destination that went by no set, or goes by none, loses nothing
 pub unmarked_before : (n : Network) (link destination : ℕ) (losing : List Bool) → None ≡ chosen_set (with_link link false (facts_of n)) destination → (other : ℕ)
     → slice_index_or losing other false
-    ≡ (slice_index_or losing other false || gives_up (changes_of link (with_link link false (facts_of n)) (facts_of n) destination selections) other)
+    ≡ (slice_index_or losing other false || gives_up (changes_of link (with_link link false (facts_of n)) (facts_of n) destination SELECTIONS) other)
 unmarked_before n link destination losing e other =
     let f : Facts = with_link link false (facts_of n) in
     let g : Facts = facts_of n in
     kept_mark (slice_index_or losing other false)
     ∙ ap (λ (b : Bool). slice_index_or losing other false || b)
-    (sym (lost-by_sets link f g destination selections other
-    ∙ ap (λ (o : Option ℕ). lost link f g o (chosen_set g destination) selections other) (sym e)
-    ∙ none_before link f g (chosen_set g destination) selections other))
+    (sym (lost-by_sets link f g destination SELECTIONS other
+    ∙ ap (λ (o : Option ℕ). lost link f g o (chosen_set g destination) SELECTIONS other) (sym e)
+    ∙ none_before link f g (chosen_set g destination) SELECTIONS other))
 
 pub unmarked_after : (n : Network) (link destination : ℕ) (losing : List Bool) → None ≡ chosen_set (facts_of n) destination → (other : ℕ)
     → slice_index_or losing other false
-    ≡ (slice_index_or losing other false || gives_up (changes_of link (with_link link false (facts_of n)) (facts_of n) destination selections) other)
+    ≡ (slice_index_or losing other false || gives_up (changes_of link (with_link link false (facts_of n)) (facts_of n) destination SELECTIONS) other)
 unmarked_after n link destination losing e other =
     let f : Facts = with_link link false (facts_of n) in
     let g : Facts = facts_of n in
     kept_mark (slice_index_or losing other false)
     ∙ ap (λ (b : Bool). slice_index_or losing other false || b)
-    (sym (lost-by_sets link f g destination selections other
-    ∙ ap (λ (o : Option ℕ). lost link f g (chosen_set f destination) o selections other) (sym e)
-    ∙ none_after link f g (chosen_set f destination) selections other))
+    (sym (lost-by_sets link f g destination SELECTIONS other
+    ∙ ap (λ (o : Option ℕ). lost link f g (chosen_set f destination) o SELECTIONS other) (sym e)
+    ∙ none_after link f g (chosen_set f destination) SELECTIONS other))
 
 -- one of a pair that was looked at loses nothing more
 pub marked_already : (n : Network) (link destination first second : ℕ) (seen losing : List Bool) → IsSeen n link seen losing
     → has_pair seen first second ≡ true
     → Some first ≡ chosen_set (with_link link false (facts_of n)) destination → Some second ≡ chosen_set (facts_of n) destination → (other : ℕ)
     → slice_index_or losing other false
-    ≡ (slice_index_or losing other false || gives_up (changes_of link (with_link link false (facts_of n)) (facts_of n) destination selections) other)
+    ≡ (slice_index_or losing other false || gives_up (changes_of link (with_link link false (facts_of n)) (facts_of n) destination SELECTIONS) other)
 marked_already n link destination first second seen losing s h b a other =
     absorbed (slice_index_or losing other false) _ (λ e. s.marked first second destination other h (sym b) (sym a) e)
 
@@ -158,7 +157,7 @@ or_left x g e = ap (λ (b : Bool). b || g) e
 pub one_seen : (n : Network) (link destination first second : ℕ) (seen old new : List Bool) → IsSeen n link seen old
     → Some first ≡ chosen_set (with_link link false (facts_of n)) destination → Some second ≡ chosen_set (facts_of n) destination
     → ((other : ℕ) → slice_index_or new other false
-    ≡ (slice_index_or old other false || gives_up (changes_of link (with_link link false (facts_of n)) (facts_of n) destination selections) other))
+    ≡ (slice_index_or old other false || gives_up (changes_of link (with_link link false (facts_of n)) (facts_of n) destination SELECTIONS) other))
     → IsSeen n link (with_pair seen first second) new
 one_seen n link destination first second seen old new s b a m = record {
   marked = λ x y d other h p q g.
@@ -170,9 +169,9 @@ one_seen n link destination first second seen old new s b a m = record {
       or_left (slice_index_or old other false) _ (s.marked x y d other e p q g))
       (λ (e : (first ≡ x) × (second ≡ y)).
       or_right (slice_index_or old other false) _
-      (lost-by_sets link f k destination selections other
-      ∙ ap (λ (o : Option ℕ). lost link f k o (chosen_set k destination) selections other) (sym b ∙ ap (λ (i : ℕ). Some i) e.0 ∙ sym p)
-      ∙ ap (λ (o : Option ℕ). lost link f k (chosen_set f d) o selections other) (sym a ∙ ap (λ (i : ℕ). Some i) e.1 ∙ sym q)
-      ∙ sym (lost-by_sets link f k d selections other) ∙ g))
+      (lost-by_sets link f k destination SELECTIONS other
+      ∙ ap (λ (o : Option ℕ). lost link f k o (chosen_set k destination) SELECTIONS other) (sym b ∙ ap (λ (i : ℕ). Some i) e.0 ∙ sym p)
+      ∙ ap (λ (o : Option ℕ). lost link f k (chosen_set f d) o SELECTIONS other) (sym a ∙ ap (λ (i : ℕ). Some i) e.1 ∙ sym q)
+      ∙ sym (lost-by_sets link f k d SELECTIONS other) ∙ g))
       (pair_there seen first second x y h);
 }

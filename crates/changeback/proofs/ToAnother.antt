@@ -9,7 +9,8 @@ use Rattle.route_table.specs.Facts.{Facts}
 use Rattle.route_table.specs.Chosen.{chosen_link}
 use Rattle.flow_hold.specs.declared.procedure.Procedure.{Procedure}
 use Rattle.flow_hold.specs.declared.procedure.Procedure.TheVariants.{Reroute}
-use Rattle.flow_hold.specs.Holds.{HoldSet, selections, holds, may_hold, with_hold}
+use Rattle.signalling_types.specs.declared.limits.TheConstants.Limits.{SELECTIONS}
+use Rattle.flow_hold.specs.Holds.{HoldSet, holds, may_hold, with_hold}
 use Rattle.flow_hold.proofs.Pairing.{held_by}
 use Rattle.flow_hold.proofs.Holding.{adds_its_pair, keeps_pairs, hold-leaves_others, keeps_flows_held, may-still}
 use Rattle.changeback.specs.Rerouting.{is_other_link, changes_link, rerouted, held_for}
@@ -63,7 +64,7 @@ above n x l = (x, subst (λ m. x < m) (sym (length-range_with_len 0 n)) l, get_o
 
 -- ---- from one link to another
 
-goes : (before after : Facts) (destination sls : ℕ) (b a : Option ℕ) → sls < selections
+goes : (before after : Facts) (destination sls : ℕ) (b a : Option ℕ) → sls < SELECTIONS
     → chosen_link before destination sls ≡ b → chosen_link after destination sls ≡ a → is_other_link b a ≡ true → GoesToAnother before after destination sls
 goes before after destination sls (Some from) (Some to) l was is t =
     record { from = from; to = to; selection = l; was = was; is = is; other = λ same. grind (arith, nat_tests, t, same) }
@@ -73,9 +74,9 @@ goes before after destination sls None a l was is t = absurd cc
 pub goes_to_another : each_rerouted_goes_to_another
 unfolding rerouted
 goes_to_another before after destination sls h =
-    let k : Passes (changes_link before after destination) (range_with_len 0 selections) sls =
-    kept (changes_link before after destination) (range_with_len 0 selections) sls h in
-    goes before after destination sls _ _ (below selections sls k.0) refl refl k.1
+    let k : Passes (changes_link before after destination) (range_with_len 0 SELECTIONS) sls =
+    kept (changes_link before after destination) (range_with_len 0 SELECTIONS) sls h in
+    goes before after destination sls _ _ (below SELECTIONS sls k.0) refl refl k.1
 
 changed : (b a : Option ℕ) (from to : ℕ) → b ≡ Some from → a ≡ Some to → from ≢ to → is_other_link b a ≡ true
 changed b a from to was is other =
@@ -84,7 +85,7 @@ changed b a from to was is other =
 pub is_rerouted : each_that_goes_to_another_is_rerouted
 unfolding rerouted
 is_rerouted before after destination sls g =
-    passed (changes_link before after destination) (range_with_len 0 selections) sls (above selections sls g.selection)
+    passed (changes_link before after destination) (range_with_len 0 SELECTIONS) sls (above SELECTIONS sls g.selection)
     (changed (chosen_link before destination sls) (chosen_link after destination sls) g.from g.to g.was g.is g.other)
 
 apart : (o : Option ℕ) (link : ℕ) → o ≡ None → o ≡ Some link → ⊥
@@ -111,10 +112,10 @@ own : (n : ℕ) → nat_eq n n ≡ true
 own n = grind (arith, nat_tests)
 
 -- the rerouting of a destination that is there may hold each flow to it
-rerouting_may_hold : (h : HoldSet) (destination sls : ℕ) → destination < h.destinations → sls < selections → may_hold h (Reroute destination) destination sls ≡ true
+rerouting_may_hold : (h : HoldSet) (destination sls : ℕ) → destination < h.destinations → sls < SELECTIONS → may_hold h (Reroute destination) destination sls ≡ true
 rerouting_may_hold h destination sls there few =
-    and_from (nat_eq destination destination) (nat_lt destination h.destinations && nat_lt sls selections) (own destination)
-    (and_from (nat_lt destination h.destinations) (nat_lt sls selections) (grind (arith, nat_tests, there)) (grind (arith, nat_tests, few)))
+    and_from (nat_eq destination destination) (nat_lt destination h.destinations && nat_lt sls SELECTIONS) (own destination)
+    (and_from (nat_lt destination h.destinations) (nat_lt sls SELECTIONS) (grind (arith, nat_tests, there)) (grind (arith, nat_tests, few)))
 
 pairs-stay : (destination : ℕ) (xs : List ℕ) (h : HoldSet) (procedure : Procedure) (other sls : ℕ) → holds h procedure other sls ≡ true →
     holds (held_for destination xs h) procedure other sls ≡ true

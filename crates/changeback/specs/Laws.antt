@@ -4,14 +4,15 @@ use Rattle.route_table.specs.Facts.{Facts}
 use Rattle.route_table.specs.Chosen.{chosen_link}
 use Rattle.flow_hold.specs.declared.procedure.Procedure.{Procedure}
 use Rattle.flow_hold.specs.declared.procedure.Procedure.TheVariants.{Reroute}
-use Rattle.flow_hold.specs.Holds.{HoldSet, selections, holds, is_held, may_hold}
+use Rattle.signalling_types.specs.declared.limits.TheConstants.Limits.{SELECTIONS}
+use Rattle.flow_hold.specs.Holds.{HoldSet, holds, is_held, may_hold}
 use Rattle.changeback.specs.Return.{FlowChange, returned, held_by}
 use Rattle.changeback.specs.Rerouting.{rerouted, held_for}
 
 -- the flow is there, went by the link that it comes from, and goes by this one now
 pub record IsMoved (to : ℕ) (before after : Facts) (c : FlowChange) : Type 0 where
   pub there : c.destination < length after.routes
-  pub selection : c.sls < selections
+  pub selection : c.sls < SELECTIONS
   pub was : chosen_link before c.destination c.sls ≡ Some c.from
   pub is : chosen_link after c.destination c.sls ≡ Some to
   pub other : c.from ≢ to
@@ -56,7 +57,7 @@ changes_leave_other_pairs =
 pub record GoesToAnother (before after : Facts) (destination sls : ℕ) : Type 0 where
   pub from : ℕ
   pub to : ℕ
-  pub selection : sls < selections
+  pub selection : sls < SELECTIONS
   pub was : chosen_link before destination sls ≡ Some from
   pub is : chosen_link after destination sls ≡ Some to
   pub other : from ≢ to

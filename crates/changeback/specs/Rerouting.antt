@@ -4,7 +4,8 @@ use Rattle.std.specs.List.{filter, range_with_len}
 use Rattle.route_table.specs.Facts.{Facts}
 use Rattle.route_table.specs.Chosen.{chosen_link}
 use Rattle.flow_hold.specs.declared.procedure.Procedure.TheVariants.{Reroute}
-use Rattle.flow_hold.specs.Holds.{HoldSet, selections, with_hold}
+use Rattle.signalling_types.specs.declared.limits.TheConstants.Limits.{SELECTIONS}
+use Rattle.flow_hold.specs.Holds.{HoldSet, with_hold}
 
 -- whether a flow goes from one link to another; one that had no link, or has none now, doesn't
 abbrev pub is_other_link : (before after : Option ℕ) → Bool
@@ -19,7 +20,7 @@ module _ (before after : Facts) (destination : ℕ) where
 
   -- the selections of the flows to a destination that go from one link to another
   unfoldable pub rerouted : List ℕ
-  rerouted = filter changes_link (range_with_len 0 selections)
+  rerouted = filter changes_link (range_with_len 0 SELECTIONS)
 
 -- the same among the first so many selections, by the list of the links that their flows took before
 unfoldable pub moved_from : (before : List (Option ℕ)) → (after : Facts) → (destination count : ℕ) → List ℕ

@@ -5,7 +5,8 @@ use Rattle.std.specs.List.{list_any}
 use Rattle.route_table.specs.Facts.{Facts}
 use Rattle.route_table.specs.Chosen.{chosen_link}
 use Rattle.flow_hold.specs.declared.procedure.Procedure.{Procedure}
-use Rattle.flow_hold.specs.Holds.{HoldSet, selections, with_hold}
+use Rattle.signalling_types.specs.declared.limits.TheConstants.Limits.{SELECTIONS}
+use Rattle.flow_hold.specs.Holds.{HoldSet, with_hold}
 use Rattle.node_links.specs.FormerLink.{former_link}
 
 -- a flow that changes its link: its destination, its selection, and the link that it comes from
@@ -34,7 +35,7 @@ module _ (to : ℕ) (before after : Facts) where
   -- and those to the first so many destinations
   unfoldable pub changes : (count : ℕ) → List FlowChange
   changes zero = []
-  changes (suc count) = changes count ++ changes_of count selections
+  changes (suc count) = changes count ++ changes_of count SELECTIONS
 
   -- all flows that it takes over
   abbrev pub returned : List FlowChange

@@ -1,11 +1,10 @@
 -- Pairs of link sets that were looked at: the sets by which flows to a destination went before, and go now.
 use Rattle.std.specs.Prelude.{◌≡◌, ℕ, ◌+◌, ◌*◌, ◌&&◌, Bool, true, false, List, Some, length, replicate, nat_lt}
 use Rattle.std.specs.Prelude.{if◌then◌else◌, slice_index_or, slice_set}
-use Rattle.signalling_types.specs.declared.limits.TheConstants.Limits.{SETS}
+use Rattle.signalling_types.specs.declared.limits.TheConstants.Limits.{SETS, SELECTIONS}
 use Rattle.route_table.specs.Facts.{with_link}
 use Rattle.route_table.specs.Chosen.{chosen_set}
 use Rattle.node_links.specs.Network.{Network, facts_of}
-use Rattle.flow_hold.specs.Holds.{selections}
 use Rattle.changeback.specs.Return.{changes_of, gives_up}
 use Rattle.changeback.specs.declared.set_pairs.SetPairs.TheInside.{Inside}
 
@@ -30,7 +29,7 @@ pub record IsSeen (n : Network) (link : ℕ) (seen losing : List Bool) : Type 0 
   pub marked : (first second destination other : ℕ) → has_pair seen first second ≡ true →
       chosen_set (with_link link false (facts_of n)) destination ≡ Some first →
       chosen_set (facts_of n) destination ≡ Some second →
-      gives_up (changes_of link (with_link link false (facts_of n)) (facts_of n) destination selections) other ≡ true →
+      gives_up (changes_of link (with_link link false (facts_of n)) (facts_of n) destination SELECTIONS) other ≡ true →
       slice_index_or losing other false ≡ true
 
 -- how the pairs are kept

@@ -4,13 +4,13 @@ ghost use Rattle.std.specs.Prelude.{◌≡◌, ℕ, ◌<◌, [], ◌∷◌, None
 ghost use Rattle.route_table.specs.Chosen.{chosen_link};
 ghost use Rattle.node_links.specs.Network.{facts_of};
 ghost use Rattle.node_links.specs.Statuses.{with_route_status};
-ghost use Rattle.flow_hold.specs.Holds.{selections};
+ghost use Rattle.signalling_types.specs.declared.limits.TheConstants.Limits.{SELECTIONS};
 ghost use Rattle.changeback.specs.Rerouting.{is_other_link, rerouted, moved_from, held_for};
 
-use flow_hold::{Holds, Procedure, SELECTIONS};
+use flow_hold::{Holds, Procedure};
 use node_links::NodeLinks;
 use route_table::RouteStatus;
-use signalling_types::{LinkId, SetId, Sls};
+use signalling_types::{Limits, LinkId, SetId, Sls};
 
 /// Gives the route to a destination over a set a status, and holds each flow to that destination that goes from one
 /// link to another for it, by the rerouting of the destination (Q.704 §8). Says whether there is such a flow. A route
@@ -36,12 +36,12 @@ pub fn reroute(
 }
 
 /// The links that the flows to a destination take, by their selections.
-fn links_to(links: &NodeLinks, destination: usize) -> [Option<LinkId>; SELECTIONS as usize]
-    ensures { (sls : ℕ) → sls < selections
+fn links_to(links: &NodeLinks, destination: usize) -> [Option<LinkId>; Limits::SELECTIONS]
+    ensures { (sls : ℕ) → sls < SELECTIONS
         → slice_index_or result sls None ≡ chosen_link (facts_of links.now) destination sls }
 {
-    let mut taken = [None; SELECTIONS as usize];
-    for selection in 0..SELECTIONS {
+    let mut taken = [None; Limits::SELECTIONS];
+    for selection in 0..Limits::SELECTIONS as u8 {
         taken[usize::from(selection)] = link_of(links, destination, selection);
     }
     taken
@@ -50,17 +50,17 @@ fn links_to(links: &NodeLinks, destination: usize) -> [Option<LinkId>; SELECTION
 /// Holds the flows to a destination that go from one link to another. Says whether there is one.
 fn hold_moved(
     links: &NodeLinks,
-    before: &[Option<LinkId>; SELECTIONS as usize],
+    before: &[Option<LinkId>; Limits::SELECTIONS],
     destination: usize,
     holds: &mut Holds,
 ) -> bool
     ensures holds { holds.new ≡ held_for destination
-        (moved_from before.now (facts_of links.now) destination selections) holds.old }
+        (moved_from before.now (facts_of links.now) destination SELECTIONS) holds.old }
     ensures moved { result
-        ≡ nat_lt 0 (length (moved_from before.now (facts_of links.now) destination selections)) }
+        ≡ nat_lt 0 (length (moved_from before.now (facts_of links.now) destination SELECTIONS)) }
 {
     let mut moved = false;
-    for selection in 0..SELECTIONS {
+    for selection in 0..Limits::SELECTIONS as u8 {
         let former = before[usize::from(selection)];
         moved |= hold_if_moved(links, former, destination, selection, holds);
     }
@@ -75,7 +75,7 @@ fn hold_if_moved(
     selection: u8,
     holds: &mut Holds,
 ) -> bool
-    requires selection { selection < selections }
+    requires selection { selection < SELECTIONS }
     ensures moved { result ≡ is_other_link before (chosen_link (facts_of links.now) destination selection) }
     ensures holds { holds.new ≡ held_for destination (if result then selection ∷ [] else []) holds.old }
 {
@@ -91,7 +91,7 @@ fn hold_if_moved(
 
 /// The link that a flow takes.
 fn link_of(links: &NodeLinks, destination: usize, selection: u8) -> Option<LinkId>
-    requires selection { selection < selections }
+    requires selection { selection < SELECTIONS }
     ensures { result ≡ chosen_link (facts_of links.now) destination selection }
 {
     match Sls::new(selection) {

@@ -2,7 +2,8 @@
 
 ghost use Rattle.std.specs.Prelude.{◌≡◌, ℕ, ◌<◌, ◌≤◌, ◌||◌, false, true, length, slice_index_or, IfSome};
 ghost use Rattle.route_table.specs.Facts.{with_link};
-ghost use Rattle.flow_hold.specs.Holds.{HoldSet, selections};
+ghost use Rattle.signalling_types.specs.declared.limits.TheConstants.Limits.{SELECTIONS};
+ghost use Rattle.flow_hold.specs.Holds.{HoldSet};
 ghost use Rattle.node_links.specs.LinkState.{is_in_service};
 ghost use Rattle.node_links.specs.Network.{facts_of, link_in};
 ghost use Rattle.changeback.specs.Return.{former_link_of, change_from, changes_of, returned};
@@ -10,7 +11,7 @@ ghost use Rattle.changeback.specs.Return.{comes_from, gives_up, held_by};
 ghost use Rattle.changeback.specs.Seen.{IsSeen};
 
 use crate::set_pairs::SetPairs;
-use flow_hold::{Holds, Procedure, SELECTIONS};
+use flow_hold::{Holds, Procedure};
 use node_links::NodeLinks;
 use signalling_types::{Limits, LinkId, SetId, Sls};
 
@@ -72,7 +73,7 @@ fn look_at(
     requires seen { IsSeen links.old link seen.old losing.old }
     ensures losing { (other : ℕ) → slice_index_or losing.new other false
         ≡ (slice_index_or losing.old other false || gives_up (changes_of link
-        (with_link link false (facts_of links.old)) (facts_of links.old) destination selections) other) }
+        (with_link link false (facts_of links.old)) (facts_of links.old) destination SELECTIONS) other) }
     ensures seen { IsSeen links.new link seen.new losing.new }
     ensures links { links.new ≡ links.old }
 {
@@ -101,10 +102,10 @@ fn mark_losing(
     requires serves { is_in_service (link_in links.old.links link).alignment ≡ true }
     ensures losing { (other : ℕ) → slice_index_or losing.new other false
         ≡ (slice_index_or losing.old other false || gives_up (changes_of link
-        (with_link link false (facts_of links.old)) (facts_of links.old) destination selections) other) }
+        (with_link link false (facts_of links.old)) (facts_of links.old) destination SELECTIONS) other) }
     ensures links { links.new ≡ links.old }
 {
-    for selection in 0..SELECTIONS {
+    for selection in 0..Limits::SELECTIONS as u8 {
         let from = former_link(links, link, destination, selection);
         mark(losing, from);
     }
@@ -131,7 +132,7 @@ fn former_link(
     requires few { length links.old.links ≤ Limits.LINKS }
     requires there { link < length links.old.links }
     requires serves { is_in_service (link_in links.old.links link).alignment ≡ true }
-    requires selection { selection < selections }
+    requires selection { selection < SELECTIONS }
     ensures from { result ≡ former_link_of link (with_link link false (facts_of links.old)) (facts_of links.old)
         destination selection }
     ensures links { links.new ≡ links.old }
@@ -155,10 +156,10 @@ fn hold_changes_to(
     requires there { link < length links.old.links }
     requires serves { is_in_service (link_in links.old.links link).alignment ≡ true }
     ensures holds { holds.new ≡ held_by holders.now (changes_of link
-        (with_link link false (facts_of links.old)) (facts_of links.old) destination selections) holds.old }
+        (with_link link false (facts_of links.old)) (facts_of links.old) destination SELECTIONS) holds.old }
     ensures links { links.new ≡ links.old }
 {
-    for selection in 0..SELECTIONS {
+    for selection in 0..Limits::SELECTIONS as u8 {
         hold_change(links, link, destination, selection, holders, holds);
     }
 }
@@ -175,7 +176,7 @@ fn hold_change(
     requires few { length links.old.links ≤ Limits.LINKS }
     requires there { link < length links.old.links }
     requires serves { is_in_service (link_in links.old.links link).alignment ≡ true }
-    requires selection { selection < selections }
+    requires selection { selection < SELECTIONS }
     ensures holds { holds.new ≡ held_by holders.now (change_from destination selection (former_link_of link
         (with_link link false (facts_of links.old)) (facts_of links.old) destination selection)) holds.old }
     ensures links { links.new ≡ links.old }

@@ -6,7 +6,6 @@ use Rattle.std.proofs.Math.Logic.{⊎_elim}
 use Rattle.std.proofs.lemmas.Bool.{cases_lt, cases_eq}
 use Rattle.std.proofs.lemmas.Option.{same_Some}
 use Rattle.std.proofs.lemmas.List.{get_or_past, get_or-set_same, get_or-set_other, length-set, length-map}
-use Rattle.linkset.specs.declared.link_set.SetLink.{SetLink}
 use Rattle.linkset.specs.Preference.{is_in_service, has_link, preference, first_in_service}
 use Rattle.linkset.proofs.InService.{first_serves}
 use Rattle.route_table.specs.declared.route.Route.{Route}
@@ -32,7 +31,7 @@ use Rattle.exchange_rules.specs.LawsOfReturns.{entries_hold_changed_flows}
 use Rattle.exchange_rules.proofs.Entering.{known_links}
 use Rattle.exchange_rules.proofs.TakenPairs.{IsAlike, take_back_each-alike}
 use Rattle.exchange_rules.proofs.TakenBack.{taken_flows_held}
-use Rattle.exchange_rules.proofs.Belonging.{HasNumber, first-of}
+use Rattle.exchange_rules.proofs.Belonging.{first-of}
 
 or-true : (b : Bool) → (b || true) ≡ true
 or-true true = refl
@@ -63,14 +62,14 @@ serves-more serving link other e =
 
 -- ---- the first link in service
 
-first-step : (with_it without : Bool) (x : SetLink) (o p : Option SetLink) (link now : ℕ)
-    → (x.link ≡ link) ⊎ (without ≡ with_it) → (x.link ≡ link → without ≡ false)
-    → (option_map (λ l. l.link) o ≡ Some now → (now ≡ link) ⊎ (option_map (λ l. l.link) p ≡ Some now))
-    → option_map (λ l. l.link) (cond with_it (Some x) o) ≡ Some now
-    → (now ≡ link) ⊎ (option_map (λ l. l.link) (cond without (Some x) p) ≡ Some now)
+first-step : (with_it without : Bool) (x : ℕ) (o p : Option ℕ) (link now : ℕ)
+    → (x ≡ link) ⊎ (without ≡ with_it) → (x ≡ link → without ≡ false)
+    → (o ≡ Some now → (now ≡ link) ⊎ (p ≡ Some now))
+    → cond with_it (Some x) o ≡ Some now
+    → (now ≡ link) ⊎ (cond without (Some x) p ≡ Some now)
 first-step true true x o p link now c g rest e = inr e
 first-step true false x o p link now (inl same) g rest e =
-    let number : x.link ≡ now = cc in
+    let number : x ≡ now = same_Some x now e in
     inl (sym number ∙ same)
 first-step true false x o p link now (inr alike) g rest e = absurd cc
 first-step false false x o p link now c g rest e = rest e
@@ -83,47 +82,46 @@ same-or-alike : (serving : List Bool) (link other : ℕ) → (other ≡ link) �
 same-or-alike serving link other =
     ⊎_elim (λ (same : other ≡ link). inl same) (λ (d : other ≢ link). inr (others serving link other d)) (cases_eq other link)
 
-first-found : (serving : List Bool) (link now : ℕ) (xs : List SetLink) → option_map (λ l. l.link) (find (λ l. is_in_service serving l.link) xs) ≡ Some now
-    → (now ≡ link) ⊎ (option_map (λ l. l.link) (find (λ l. is_in_service (slice_set serving link false) l.link) xs) ≡ Some now)
+first-found : (serving : List Bool) (link now : ℕ) (xs : List ℕ) → find (λ l. is_in_service serving l) xs ≡ Some now
+    → (now ≡ link) ⊎ (find (λ l. is_in_service (slice_set serving link false) l) xs ≡ Some now)
 first-found serving link now [] e = absurd cc
 first-found serving link now (x ∷ xs) e =
-    first-step (is_in_service serving x.link) (is_in_service (slice_set serving link false) x.link) x
-    (find (λ l. is_in_service serving l.link) xs) (find (λ l. is_in_service (slice_set serving link false) l.link) xs) link now
-    (same-or-alike serving link x.link)
+    first-step (is_in_service serving x) (is_in_service (slice_set serving link false) x) x
+    (find (λ l. is_in_service serving l) xs) (find (λ l. is_in_service (slice_set serving link false) l) xs) link now
+    (same-or-alike serving link x)
     (λ same. ap (is_in_service (slice_set serving link false)) same ∙ out serving link)
     (first-found serving link now xs) e
 
 -- ---- the first set
 
-has-from : (serving : List Bool) (xs : List SetLink) (l : SetLink) → Contains xs l → is_in_service serving l.link ≡ true → has_link serving xs ≡ true
+has-from : (serving : List Bool) (xs : List ℕ) (l : ℕ) → Contains xs l → is_in_service serving l ≡ true → has_link serving xs ≡ true
 has-from serving [] l (k, h, e) up = absurd (omega (arith, h))
 has-from serving (x ∷ xs) l (zero, h, e) up =
-    ap (λ (b : Bool). b || has_link serving xs) (ap (λ (x : SetLink). is_in_service serving x.link) e ∙ up)
+    ap (λ (b : Bool). b || has_link serving xs) (ap (λ (x : ℕ). is_in_service serving x) e ∙ up)
 has-from serving (x ∷ xs) l (suc k, h, e) up =
-    ap (λ (b : Bool). is_in_service serving x.link || b) (has-from serving xs l (k, omega (arith, h), e) up) ∙ or-true (is_in_service serving x.link)
+    ap (λ (b : Bool). is_in_service serving x || b) (has-from serving xs l (k, omega (arith, h), e) up) ∙ or-true (is_in_service serving x)
 
 either-more : (a b d e : Bool) → (a ≡ true → b ≡ true) → (d ≡ true → e ≡ true) → (a || d) ≡ true → (b || e) ≡ true
 either-more true b d e f g h = ap (λ (b : Bool). b || e) (f refl)
 either-more false b d e f g h = ap (λ (e : Bool). b || e) (g h) ∙ or-true b
 
-has-more : (serving : List Bool) (link : ℕ) (xs : List SetLink) → has_link (slice_set serving link false) xs ≡ true → has_link serving xs ≡ true
+has-more : (serving : List Bool) (link : ℕ) (xs : List ℕ) → has_link (slice_set serving link false) xs ≡ true → has_link serving xs ≡ true
 has-more serving link [] e = e
 has-more serving link (x ∷ xs) e =
-    either-more (is_in_service (slice_set serving link false) x.link) (is_in_service serving x.link)
+    either-more (is_in_service (slice_set serving link false) x) (is_in_service serving x)
     (has_link (slice_set serving link false) xs) (has_link serving xs)
-    (serves-more serving link x.link) (has-more serving link xs) e
+    (serves-more serving link x) (has-more serving link xs) e
 
 -- the link of a set that has no other in service
-only-one : (serving : List Bool) (link sls now : ℕ) (xs : List SetLink) → has_link (slice_set serving link false) xs ≡ false
+only-one : (serving : List Bool) (link sls now : ℕ) (xs : List ℕ) → has_link (slice_set serving link false) xs ≡ false
     → first_in_service sls serving xs ≡ Some now → now ≡ link
 only-one serving link sls now xs closed e =
     ⊎_elim
     (λ (same : now ≡ link). same)
     (λ (f : first_in_service sls (slice_set serving link false) xs ≡ Some now).
-    let one : HasNumber xs now = first-of sls (slice_set serving link false) xs now f in
-    let up : is_in_service (slice_set serving link false) one.member.link ≡ true =
-    ap (is_in_service (slice_set serving link false)) one.number ∙ first_serves sls (slice_set serving link false) xs now f in
-    let opened : has_link (slice_set serving link false) xs ≡ true = has-from (slice_set serving link false) xs one.member one.stands up in
+    let one : Contains xs now = first-of sls (slice_set serving link false) xs now f in
+    let up : is_in_service (slice_set serving link false) now ≡ true = first_serves sls (slice_set serving link false) xs now f in
+    let opened : has_link (slice_set serving link false) xs ≡ true = has-from (slice_set serving link false) xs now one up in
     absurd cc)
     (first-found serving link now (preference sls xs) e)
 

@@ -4,13 +4,13 @@ use Rattle.std.specs.Prelude.{Option, Some, None, Contains, find, position, slic
 use Rattle.std.specs.Option.{option_map, option_or, option_and_then, option_to_list}
 use Rattle.std.proofs.Math.Logic.{⊎_elim}
 use Rattle.std.proofs.lemmas.Bool.{cases_lt}
+use Rattle.std.proofs.lemmas.Option.{same_Some}
 use Rattle.std.proofs.lemmas.Bool.Decides.{nat_tests}
 use Rattle.std.proofs.lemmas.List.{get_or_past, get_or_append_left, get_or-append_right, length-append}
 use Rattle.std.proofs.lemmas.List.Elements.{Contains-append_right, Contains-append_cases}
 use Rattle.std.proofs.lemmas.List.Quantifiers.{position-Some}
 use Rattle.std.proofs.lemmas.List.Sorted.{Contains-permutation, IsPermutation-sym}
 use Rattle.settings_rows.specs.Configuration.{Configuration, LinkEntry}
-use Rattle.linkset.specs.declared.link_set.SetLink.{SetLink}
 use Rattle.linkset.specs.Members.{has_code, links_below, links_of}
 use Rattle.linkset.specs.Preference.{is_in_service, preference, first_in_service}
 use Rattle.linkset.proofs.Preference.{preference-permutation}
@@ -34,27 +34,27 @@ record IsLinkOf (links : List LinkEntry) (set link : ℕ) : Type 0 where
   pub there : link < length links
   pub of_set : (slice_index_or links link no_entry).set ≡ set
 
-only : (x l : SetLink) → Contains (x ∷ []) l → x ≡ l
+only : (x l : ℕ) → Contains (x ∷ []) l → x ≡ l
 only x l (zero, h, e) = e
 only x l (suc k, h, e) = absurd (omega (arith, h))
 
-none : (l : SetLink) → Contains {X = SetLink} [] l → ⊥
+none : (l : ℕ) → Contains {X = ℕ} [] l → ⊥
 none l (k, h, e) = omega (arith, h)
 
 first-same : (a b : ℕ) (other : Bool) → (nat_eq a b && other) ≡ true → a ≡ b
 first-same a b other e = grind (arith, nat_tests, e)
 
 with_code-of : (links : List LinkEntry) (set code : ℕ) (at : Option ℕ) → position (has_code set code) links ≡ at
-    → (l : SetLink) → Contains (option_to_list (option_map (λ number. record { slc = code; link = number }) at)) l → IsLinkOf links set l.link
+    → (l : ℕ) → Contains (option_to_list at) l → IsLinkOf links set l
 with_code-of links set code (Some number) e l h =
     let found = position-Some (has_code set code) links number no_entry e in
-    subst (λ (l : SetLink). IsLinkOf links set l.link) (only (record { slc = code; link = number }) l h) (record {
+    subst (IsLinkOf links set) (only number l h) (record {
       there = found.0;
       of_set = first-same (slice_index_or links number no_entry).set set (nat_eq (slice_index_or links number no_entry).slc code) found.1;
     })
 with_code-of links set code None e l h = absurd (none l h)
 
-below-of : (links : List LinkEntry) (set limit : ℕ) (l : SetLink) → Contains (links_below limit links set) l → IsLinkOf links set l.link
+below-of : (links : List LinkEntry) (set limit : ℕ) (l : ℕ) → Contains (links_below limit links set) l → IsLinkOf links set l
 unfolding links_below
 below-of links set zero l h = absurd (none l h)
 below-of links set (suc code) l h =
@@ -76,55 +76,44 @@ length-sets zero links = refl
 length-sets (suc sets) links =
     length-append (first_sets sets links) (links_of links sets ∷ []) ∙ omega (arith, length-sets sets links)
 
-last-of : (links : List LinkEntry) (set place : ℕ) (l : SetLink) → Contains (slice_index_or (links_of links set ∷ []) place []) l → IsLinkIn (suc set) links l.link
+last-of : (links : List LinkEntry) (set place : ℕ) (l : ℕ) → Contains (slice_index_or (links_of links set ∷ []) place []) l → IsLinkIn (suc set) links l
 last-of links set zero l h =
-    let one : IsLinkOf links set l.link = below-of links set 16 l h in
+    let one : IsLinkOf links set l = below-of links set 16 l h in
     record { there = one.there; set = omega (arith, one.of_set) }
-last-of links set (suc place) l h = absurd (none l (subst (λ (xs : List SetLink). Contains xs l) (get_or_past (links_of links set ∷ []) (suc place) [] (omega arith)) h))
+last-of links set (suc place) l h = absurd (none l (subst (λ (xs : List ℕ). Contains xs l) (get_or_past (links_of links set ∷ []) (suc place) [] (omega arith)) h))
 
 more-sets : (sets : ℕ) (links : List LinkEntry) (link : ℕ) → IsLinkIn sets links link → IsLinkIn (suc sets) links link
 more-sets sets links link h = record { there = h.there; set = omega (arith, h.set) }
 
-set-of : (links : List LinkEntry) (sets set : ℕ) (l : SetLink) → Contains (slice_index_or (first_sets sets links) set []) l → IsLinkIn sets links l.link
+set-of : (links : List LinkEntry) (sets set : ℕ) (l : ℕ) → Contains (slice_index_or (first_sets sets links) set []) l → IsLinkIn sets links l
 unfolding first_sets
-set-of links zero set l h = absurd (none l (subst (λ (xs : List SetLink). Contains xs l) (get_or_past [] set [] (omega arith)) h))
+set-of links zero set l h = absurd (none l (subst (λ (xs : List ℕ). Contains xs l) (get_or_past [] set [] (omega arith)) h))
 set-of links (suc sets) set l h =
     ⊎_elim
-    (λ (e : set < sets). more-sets sets links l.link (set-of links sets set l
-    (subst (λ (xs : List SetLink). Contains xs l)
+    (λ (e : set < sets). more-sets sets links l (set-of links sets set l
+    (subst (λ (xs : List ℕ). Contains xs l)
     (get_or_append_left (first_sets sets links) (links_of links sets ∷ []) [] set (omega (arith, e, length-sets sets links))) h)))
     (λ (e : sets ≤ set). last-of links sets (set - sets) l
-    (subst (λ (xs : List SetLink). Contains xs l)
+    (subst (λ (xs : List ℕ). Contains xs l)
     (get_or-append_right (first_sets sets links) (links_of links sets ∷ []) sets set [] (length-sets sets links) e) h))
     (cases_lt set sets)
 
 -- ---- the link of a flow
 
--- a list has a link of this number
-pub record HasNumber (links : List SetLink) (link : ℕ) : Type 0 where
-  pub member : SetLink
-  pub stands : Contains links member
-  pub number : member.link ≡ link
+found-by : (passes : Bool) (x : ℕ) (xs : List ℕ) (o : Option ℕ) (link : ℕ) → (o ≡ Some link → Contains xs link)
+    → cond passes (Some x) o ≡ Some link → Contains (x ∷ xs) link
+found-by true x xs o link rest e = (0, omega arith, same_Some x link e)
+found-by false x xs o link rest e = Contains-append_right (x ∷ []) xs link (rest e)
 
-found-by : (passes : Bool) (x : SetLink) (xs : List SetLink) (o : Option SetLink) (link : ℕ) → (option_map (λ l. l.link) o ≡ Some link → HasNumber xs link)
-    → option_map (λ l. l.link) (cond passes (Some x) o) ≡ Some link → HasNumber (x ∷ xs) link
-found-by true x xs o link rest e = record { member = x; stands = (0, omega arith, refl); number = cc }
-found-by false x xs o link rest e =
-    let found : HasNumber xs link = rest e in
-    record { member = found.member; stands = Contains-append_right (x ∷ []) xs found.member found.stands; number = found.number }
-
-found : (p : SetLink → Bool) (xs : List SetLink) (link : ℕ) → option_map (λ l. l.link) (find p xs) ≡ Some link → HasNumber xs link
+found : (p : ℕ → Bool) (xs : List ℕ) (link : ℕ) → find p xs ≡ Some link → Contains xs link
 found p [] link e = absurd cc
 found p (x ∷ xs) link e = found-by (p x) x xs (find p xs) link (found p xs link) e
 
-pub first-of : (sls : ℕ) (serving : List Bool) (links : List SetLink) (link : ℕ) → first_in_service sls serving links ≡ Some link → HasNumber links link
+-- the link that a flow takes in a set is one of the set
+pub first-of : (sls : ℕ) (serving : List Bool) (links : List ℕ) (link : ℕ) → first_in_service sls serving links ≡ Some link → Contains links link
 first-of sls serving links link e =
-    let one : HasNumber (preference sls links) link = found (λ l. is_in_service serving l.link) (preference sls links) link e in
-    record {
-      member = one.member;
-      stands = Contains-permutation (preference sls links) links one.member (IsPermutation-sym links (preference sls links) (preference-permutation sls links)) one.stands;
-      number = one.number;
-    }
+    Contains-permutation (preference sls links) links link (IsPermutation-sym links (preference sls links) (preference-permutation sls links))
+    (found (λ l. is_in_service serving l) (preference sls links) link e)
 
 -- a link of the settings, of a set of the settings
 pub record IsListed (c : Configuration) (link : ℕ) : Type 0 where
@@ -135,9 +124,9 @@ listed-by : (c : Configuration) (p : Parts) (chosen : Option ℕ) (sls link : �
     → option_and_then (λ set. first_in_service sls (facts c p).in_service (set_at (facts c p) set)) chosen ≡ Some link → IsListed c link
 listed-by c p None sls link e = absurd cc
 listed-by c p (Some set) sls link e =
-    let one : HasNumber (set_at (facts c p) set) link = first-of sls (facts c p).in_service (set_at (facts c p) set) link e in
-    let known : IsLinkIn (length c.sets) c.links one.member.link = set-of c.links (length c.sets) set one.member one.stands in
-    subst (IsListed c) one.number (record { there = known.there; set = known.set })
+    let one : Contains (set_at (facts c p) set) link = first-of sls (facts c p).in_service (set_at (facts c p) set) link e in
+    let known : IsLinkIn (length c.sets) c.links link = set-of c.links (length c.sets) set link one in
+    record { there = known.there; set = known.set }
 
 pub chosen_listed : (c : Configuration) (p : Parts) (destination sls link : ℕ) → chosen_link (facts c p) destination sls ≡ Some link → IsListed c link
 chosen_listed c p destination sls link e = listed-by c p (chosen_set (facts c p) destination) sls link e

@@ -18,7 +18,8 @@ use Rattle.route_table.specs.Chosen.{chosen_link}
 use Rattle.node_links.specs.Link.{Link}
 use Rattle.node_links.specs.LinkState.{down_link, is_in_service}
 use Rattle.flow_hold.specs.declared.procedure.Procedure.TheVariants.{Changeover}
-use Rattle.flow_hold.specs.Holds.{HoldSet, selections, holds, may_hold}
+use Rattle.signalling_types.specs.declared.limits.TheConstants.Limits.{SELECTIONS}
+use Rattle.flow_hold.specs.Holds.{HoldSet, holds, may_hold}
 use Rattle.flow_hold.specs.Flows.{with_flows}
 use Rattle.flow_hold.proofs.Flows.{flows_leave}
 use Rattle.flow_hold.proofs.FlowPairs.{IsAddedPair, flows_has, flows_keep, flows_was}
@@ -177,7 +178,7 @@ module _ (c : Configuration) where
       none : false ≡ true → ⊥
       none e = absurd cc
 
-  may-suspend : (n : Node WholeQueues) (link destination sls : ℕ) → HasPlacesFor c n.parts → in_service n.parts link ≡ true → destination < length c.destinations → sls < selections
+  may-suspend : (n : Node WholeQueues) (link destination sls : ℕ) → HasPlacesFor c n.parts → in_service n.parts link ≡ true → destination < length c.destinations → sls < SELECTIONS
       → may_hold n.parts.holds (Changeover link) destination sls ≡ true
   may-suspend n link destination sls fits serves there few =
       let here : link < n.parts.holds.links = omega (arith, serving-there n.parts link serves, fits.links, fits.holds.links) in

@@ -10,7 +10,6 @@ use Rattle.exchange_rules.proofs.Lists.{map-set_alike, sum_by-map}
 use Rattle.std.proofs.Common.{true, false, ◌&&◌, ◌||◌, not, length, replicate}
 use Rattle.std.specs.Prelude.{Some, None, nat_lt, drop, slice_index_or, if◌then◌else◌}
 use Rattle.settings_rows.specs.Configuration.{Configuration}
-use Rattle.linkset.specs.declared.link_set.SetLink.{SetLink}
 use Rattle.linkset.specs.Preference.{has_link}
 use Rattle.route_table.specs.Facts.{Facts, set_at}
 use Rattle.node_links.specs.Link.{Link}
@@ -79,9 +78,9 @@ module _ (c : Configuration) where
 
 -- ---- at first no adjacent point is reached, and none is owed a word
 
-none-serves : (serving : List Bool) (links : List SetLink) → ((link : ℕ) → slice_index_or serving link false ≡ false) → has_link serving links ≡ false
+none-serves : (serving : List Bool) (links : List ℕ) → ((link : ℕ) → slice_index_or serving link false ≡ false) → has_link serving links ≡ false
 none-serves serving [] none = refl
-none-serves serving (l ∷ links) none = ap (λ (b : Bool). b || has_link serving links) (none l.link) ∙ none-serves serving links none
+none-serves serving (l ∷ links) none = ap (λ (b : Bool). b || has_link serving links) (none l) ∙ none-serves serving links none
 
 none-reached : (c : Configuration) (place : ℕ) → is_reachable (facts c (first_state c).node.parts) place ≡ false
 none-reached c place =

@@ -8,7 +8,8 @@ use Rattle.signalling_types.specs.declared.cause.Cause.{Cause}
 use Rattle.settings_rows.specs.Configuration.{Configuration}
 use Rattle.route_table.specs.Facts.{Facts}
 use Rattle.route_table.specs.Chosen.{chosen_link}
-use Rattle.flow_hold.specs.Holds.{HoldSet, selections, holds, may_hold}
+use Rattle.signalling_types.specs.declared.limits.TheConstants.Limits.{SELECTIONS}
+use Rattle.flow_hold.specs.Holds.{HoldSet, holds, may_hold}
 use Rattle.flow_hold.specs.Flows.{any_flow}
 use Rattle.flow_hold.specs.Pairs.{IsAnyFlow}
 use Rattle.flow_hold.proofs.Pairing.{held_by}
@@ -56,7 +57,7 @@ module _ {Q : Type 0} (q : QueueKind Q) (c : Configuration) where
       either-below limit (nat_eq (set_of c other) (set_of c link)) (usable q c link (free_code n.parts.codes (set_of c link)) n) None
       (usable-below limit link (free_code n.parts.codes (set_of c link)) n (free-below n.parts.codes (set_of c link))) (none-below limit)
 
-  procedure-there : (h : HoldSet) (link destination sls : ℕ) (o : Option ℕ) → link < h.links → set_of c link < h.sets → IsBelow 16 o → destination < h.destinations → sls < selections
+  procedure-there : (h : HoldSet) (link destination sls : ℕ) (o : Option ℕ) → link < h.links → set_of c link < h.sets → IsBelow 16 o → destination < h.destinations → sls < SELECTIONS
       → may_hold h (procedure_by c link o) destination sls ≡ true
   procedure-there h link destination sls (Some code) l s limit there few =
       let below : code < 16 = limit.below code refl in
@@ -64,7 +65,7 @@ module _ {Q : Type 0} (q : QueueKind Q) (c : Configuration) where
   procedure-there h link destination sls None l s limit there few = grind (arith, nat_tests, l, there, few)
 
   -- what holds the flows that come from another link may hold each flow that goes by the link now
-  pub holder_may : (before : Facts) (link other : ℕ) (n : Node Q) (destination sls : ℕ) → HasPlacesFor c n.parts → sls < selections
+  pub holder_may : (before : Facts) (link other : ℕ) (n : Node Q) (destination sls : ℕ) → HasPlacesFor c n.parts → sls < SELECTIONS
       → chosen_link (facts c n.parts) destination sls ≡ Some link
       → may_hold n.parts.holds (holder_of q c before (facts c n.parts) link other n) destination sls ≡ true
   holder_may before link other n destination sls fits few is =
@@ -95,7 +96,7 @@ taken-so before after other link destination sls was is =
     both (goes_by (chosen_link before destination sls) other) (goes_by (chosen_link after destination sls) link)
     (goes-true (chosen_link before destination sls) other was) (goes-true (chosen_link after destination sls) link is)
 
-pub loses-so : (c : Configuration) (before after : Facts) (other link destination sls : ℕ) → other ≢ link → destination < length c.destinations → sls < selections
+pub loses-so : (c : Configuration) (before after : Facts) (other link destination sls : ℕ) → other ≢ link → destination < length c.destinations → sls < SELECTIONS
     → is_taken_back before after other link destination sls ≡ true → loses_flows c before after other link ≡ true
 loses-so c before after other link destination sls apart there few taken =
     both (not (nat_eq other link)) (any_flow (length c.destinations) (is_taken_back before after other link)) (ap not (ne_eqb other link apart))
@@ -129,7 +130,7 @@ some_lost c before after other link e =
 
 -- the procedure of its former link holds it
 pub taken_flow_held : (c : Configuration) (link : ℕ) (before : Facts) (node : Node WholeQueues) (destination sls from : ℕ)
-    → HasPlacesFor c node.parts → sls < selections → from < length c.links → from ≢ link
+    → HasPlacesFor c node.parts → sls < SELECTIONS → from < length c.links → from ≢ link
     → chosen_link before destination sls ≡ Some from → chosen_link (facts c node.parts) destination sls ≡ Some link
     → holds (change_back whole c link before node).parts.holds (holder_of whole c before (facts c node.parts) link from node) destination sls ≡ true
 taken_flow_held c link before node destination sls from fits few there other was is =

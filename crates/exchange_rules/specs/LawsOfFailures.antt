@@ -7,7 +7,8 @@ use Rattle.stp_types.specs.Readings.{destination_place}
 use Rattle.route_table.specs.Chosen.{chosen_link}
 use Rattle.flow_hold.specs.declared.procedure.Procedure.{Procedure}
 use Rattle.flow_hold.specs.declared.procedure.Procedure.TheVariants.{Changeover}
-use Rattle.flow_hold.specs.Holds.{selections, holds}
+use Rattle.signalling_types.specs.declared.limits.TheConstants.Limits.{SELECTIONS}
+use Rattle.flow_hold.specs.Holds.{holds}
 use Rattle.exchange_rules.specs.State.{Node}
 use Rattle.exchange_rules.specs.Links.{in_service}
 use Rattle.exchange_rules.specs.Routing.{facts}
@@ -31,7 +32,7 @@ FailsWith c node link destination sls =
 -- afterwards the changeover of the link holds each flow that it held, and each that failed with the link; what other
 -- procedures hold stays
 pub record IsFailure (c : Configuration) (link : ℕ) (before after : Node WholeQueues) : Type 0 where
-  pub own : (destination sls : ℕ) → destination < length c.destinations → sls < selections →
+  pub own : (destination sls : ℕ) → destination < length c.destinations → sls < SELECTIONS →
       (holds after.parts.holds (Changeover link) destination sls ≡ true)
       ↔ (FailsWith c before link destination sls ⊎ (holds before.parts.holds (Changeover link) destination sls ≡ true))
   pub others : (procedure : Procedure) (destination sls : ℕ) → procedure ≢ Changeover link →

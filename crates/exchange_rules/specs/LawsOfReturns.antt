@@ -1,13 +1,13 @@
 -- What a return to service holds, and by what: laws.
 use Rattle.std.specs.Prelude.{◌≡◌, ◌≢◌, ◌<◌, ◌≤◌, ◌⊎◌, ◌++◌, ℕ, true, false, [], ◌∷◌, Some, None}
 use Rattle.settings_rows.specs.Configuration.{Configuration}
-use Rattle.signalling_types.specs.declared.limits.TheConstants.Limits.{MANAGEMENT_MESSAGES}
+use Rattle.signalling_types.specs.declared.limits.TheConstants.Limits.{MANAGEMENT_MESSAGES, SELECTIONS}
 use Rattle.link_alignment.specs.declared.action.Transition.{Transition}
 use Rattle.route_table.specs.Facts.{Facts}
 use Rattle.route_table.specs.Chosen.{chosen_link}
 use Rattle.flow_hold.specs.declared.procedure.Procedure.{Procedure}
 use Rattle.flow_hold.specs.declared.procedure.Procedure.TheVariants.{Code, Time}
-use Rattle.flow_hold.specs.Holds.{selections, holds, is_held}
+use Rattle.flow_hold.specs.Holds.{holds, is_held}
 use Rattle.changeback.specs.Codes.{free_code, is_outstanding}
 use Rattle.exchange_rules.specs.State.{Parts, Node, with_parts}
 use Rattle.exchange_rules.specs.Points.{set_of}
@@ -24,7 +24,7 @@ use Rattle.exchange_rules.specs.Lasting.{HasAllPlaces}
 abbrev pub entries_hold_changed_flows : Type 0
 entries_hold_changed_flows =
     (c : Configuration) (link : ℕ) (step : Transition) (node : Node WholeQueues) (destination sls from to : ℕ) →
-    HasPlacesFor c node.parts → sls < selections → enters link step node.parts ≡ true →
+    HasPlacesFor c node.parts → sls < SELECTIONS → enters link step node.parts ≡ true →
     chosen_link (facts c node.parts) destination sls ≡ Some from →
     chosen_link (facts c (advance whole c link step node).parts) destination sls ≡ Some to → from ≢ to →
     is_held (advance whole c link step node).parts.holds destination sls ≡ true
@@ -33,7 +33,7 @@ entries_hold_changed_flows =
 abbrev pub changed_flows_are_held : Type 0
 changed_flows_are_held =
     (c : Configuration) (link : ℕ) (before : Parts) (node : Node WholeQueues) (destination sls from : ℕ) →
-    HasPlacesFor c node.parts → sls < selections → from ≢ link →
+    HasPlacesFor c node.parts → sls < SELECTIONS → from ≢ link →
     chosen_link (facts c before) destination sls ≡ Some from →
     chosen_link (facts c node.parts) destination sls ≡ Some link →
     is_held (change_back whole c link (facts c before) node).parts.holds destination sls ≡ true
@@ -49,7 +49,7 @@ returns_keep_holds =
 
 -- a flow went by another link before, and goes by the link now that returned
 pub record HasReturned (before after : Facts) (other link destination sls : ℕ) : Type 0 where
-  pub selection : sls < selections
+  pub selection : sls < SELECTIONS
   pub was : chosen_link before destination sls ≡ Some other
   pub is : chosen_link after destination sls ≡ Some link
   pub apart : other ≢ link

@@ -4,14 +4,13 @@ use Rattle.std.specs.Option.{option_and_then}
 use Rattle.signalling_types.specs.declared.point.Flow.{Flow}
 use Rattle.settings_rows.specs.Configuration.{Configuration}
 use Rattle.stp_types.specs.Readings.{destination_place}
-use Rattle.linkset.specs.declared.link_set.SetLink.{SetLink}
 use Rattle.route_table.specs.Facts.{Facts, first_sets}
 use Rattle.route_table.specs.Chosen.{chosen_link}
 use Rattle.node_links.specs.Network.{Network, facts_of, first_network}
 use Rattle.exchange_rules.specs.State.{Parts}
 
 -- the links of each set
-abbrev pub sets_in : Configuration → List (List SetLink)
+abbrev pub sets_in : Configuration → List (List ℕ)
 sets_in c = first_sets (length c.sets) c.links
 
 -- the links, sets and routes of a node at first

@@ -8,7 +8,8 @@ use Rattle.std.proofs.lemmas.Bool.Decides.{nat_tests}
 use Rattle.std.proofs.lemmas.List.{get_or_past}
 use Rattle.std.proofs.lemmas.List.FromFn.{length-map-range_with_len, get_or-map-range_with_len}
 use Rattle.flow_hold.specs.declared.procedure.Procedure.{Procedure}
-use Rattle.flow_hold.specs.Holds.{Hold, by_numbers, selections, holds, is_held, no_holds, may_hold_to, may_hold, with_hold, is_same, lifted}
+use Rattle.signalling_types.specs.declared.limits.TheConstants.Limits.{SELECTIONS}
+use Rattle.flow_hold.specs.Holds.{Hold, by_numbers, holds, is_held, no_holds, may_hold_to, may_hold, with_hold, is_same, lifted}
 use Rattle.flow_hold.specs.Rows.{Marks, marks_at, has_mark}
 use Rattle.flow_hold.specs.Table.{HoldTable, HasPlaces, place_of, flow_place, row_has, first_row, has_pair, has_flow, no_marks, with_row_cleared, with_pair, without_pairs}
 use Rattle.flow_hold.specs.Room.{set_of}
@@ -31,7 +32,7 @@ same-bool false false f g = refl
 
 -- two tables whose marks for a pair are alike have the pair alike
 alike-at : (t u : HoldTable) (hold : Hold) → HasPlaces t → HasPlaces u →
-    (hold.sls < selections → has_pair u hold.procedure hold.destination hold.sls ≡ has_pair t hold.procedure hold.destination hold.sls) →
+    (hold.sls < SELECTIONS → has_pair u hold.procedure hold.destination hold.sls ≡ has_pair t hold.procedure hold.destination hold.sls) →
     contains (set_of u).pairs hold ≡ contains (set_of t).pairs hold
 alike-at t u hold h k alike =
     same-bool (contains (set_of u).pairs hold) (contains (set_of t).pairs hold)
@@ -75,8 +76,8 @@ set-with_pair-may t procedure destination sls h may =
     ∙ sym (contains-insert in_order (set_of t).pairs hold other)))
 
 -- a pair that may not be held is left aside
-not-held : (t : HoldTable) (procedure : Procedure) (destination sls : ℕ) (to there few : Bool) → HasPlaces t → sls < selections →
-    may_hold_to (set_of t) procedure destination ≡ to → nat_lt destination t.destinations ≡ there → nat_lt sls selections ≡ few → (to && (there && few)) ≡ false →
+not-held : (t : HoldTable) (procedure : Procedure) (destination sls : ℕ) (to there few : Bool) → HasPlaces t → sls < SELECTIONS →
+    may_hold_to (set_of t) procedure destination ≡ to → nat_lt destination t.destinations ≡ there → nat_lt sls SELECTIONS ≡ few → (to && (there && few)) ≡ false →
     with_pair t procedure destination sls ≡ t
 not-held t procedure destination sls true true true h k a b d e = absurd cc
 not-held t procedure destination sls true true false h k a b d e = absurd (true≢false (sym (grind (arith, nat_tests, k)) ∙ d))
@@ -84,14 +85,14 @@ not-held t procedure destination sls true false few h k a b d e = table.no-desti
 not-held t procedure destination sls false false few h k a b d e = table.no-destination t procedure destination sls b
 not-held t procedure destination sls false true few h k a b d e = table.left_aside t procedure destination sls h a (grind (arith, nat_tests, b)) k
 
-set-with_pair-case : (t : HoldTable) (procedure : Procedure) (destination sls : ℕ) (may : Bool) → HasPlaces t → sls < selections → may_hold (set_of t) procedure destination sls ≡ may →
+set-with_pair-case : (t : HoldTable) (procedure : Procedure) (destination sls : ℕ) (may : Bool) → HasPlaces t → sls < SELECTIONS → may_hold (set_of t) procedure destination sls ≡ may →
     set_of (with_pair t procedure destination sls)
     ≡ record (set_of t) { pairs = if may then insert (set_of t).pairs (record { procedure = procedure; destination = destination; sls = sls }) else (set_of t).pairs }
 set-with_pair-case t procedure destination sls true h few e = set-with_pair-may t procedure destination sls h (may_parts (set_of t) procedure destination sls e)
 set-with_pair-case t procedure destination sls false h few e =
-    ap set_of (not-held t procedure destination sls (may_hold_to (set_of t) procedure destination) (nat_lt destination t.destinations) (nat_lt sls selections) h few refl refl refl e)
+    ap set_of (not-held t procedure destination sls (may_hold_to (set_of t) procedure destination) (nat_lt destination t.destinations) (nat_lt sls SELECTIONS) h few refl refl refl e)
 
-pub set-with_pair : (t : HoldTable) (procedure : Procedure) (destination sls : ℕ) → HasPlaces t → sls < selections →
+pub set-with_pair : (t : HoldTable) (procedure : Procedure) (destination sls : ℕ) → HasPlaces t → sls < SELECTIONS →
     set_of (with_pair t procedure destination sls) ≡ with_hold (set_of t) procedure destination sls
 set-with_pair t procedure destination sls h few = set-with_pair-case t procedure destination sls (may_hold (set_of t) procedure destination sls) h few refl
 
@@ -139,7 +140,7 @@ set-without_pairs t procedure h =
 
 -- ---- a flow that is held
 
-pub set-has_flow : (t : HoldTable) (destination sls : ℕ) → HasPlaces t → sls < selections → has_flow t destination sls ≡ is_held (set_of t) destination sls
+pub set-has_flow : (t : HoldTable) (destination sls : ℕ) → HasPlaces t → sls < SELECTIONS → has_flow t destination sls ≡ is_held (set_of t) destination sls
 set-has_flow t destination sls h few =
     same-bool (has_flow t destination sls) (is_held (set_of t) destination sls)
     (λ e. let found : (procedure : Procedure) × (has_pair t procedure destination sls ≡ true) = marked_by t destination sls (count t h) e in

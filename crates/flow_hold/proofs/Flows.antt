@@ -7,7 +7,8 @@ use Rattle.std.proofs.Math.Logic.{⊎_elim}
 use Rattle.std.proofs.lemmas.Bool.{and_parts, cases_eq}
 use Rattle.std.proofs.lemmas.List.Folds.{list_any-append}
 use Rattle.flow_hold.specs.declared.procedure.Procedure.{Procedure}
-use Rattle.flow_hold.specs.Holds.{Hold, HoldSet, by_numbers, selections, holds, may_hold, with_hold}
+use Rattle.signalling_types.specs.declared.limits.TheConstants.Limits.{SELECTIONS}
+use Rattle.flow_hold.specs.Holds.{Hold, HoldSet, by_numbers, holds, may_hold, with_hold}
 use Rattle.flow_hold.specs.Flows.{NodeFlow, flows_to, flows, passes, any_flow, with_each, with_flows}
 use Rattle.flow_hold.specs.Pairs.{IsOfNode, some_flow_passes, flows_add_their_pairs, flows_leave_others, flows_are_of_node}
 use Rattle.flow_hold.proofs.Numbers.{in_order, only_same_tie, tied, tied-same, untied}
@@ -81,7 +82,7 @@ any-of test (n ∷ ns) =
 pub record IsThere (destinations : ℕ) (test : NodeFlow → Bool) : Type 0 where
   pub flow : NodeFlow
   pub there : flow.destination < destinations
-  pub selection : flow.sls < selections
+  pub selection : flow.sls < SELECTIONS
   pub passing : test flow ≡ true
 
 pub found_flow : (destinations : ℕ) (test : NodeFlow → Bool) → list_any test (flows destinations) ≡ true → IsThere destinations test
@@ -89,8 +90,8 @@ unfolding flows
 found_flow destinations test e =
     let place : IsInRange (λ destination. list_any test (flows_to destination)) 0 destinations =
     in-range (λ destination. list_any test (flows_to destination)) 0 destinations (sym (any-of test (range_with_len 0 destinations)) ∙ e) in
-    let one : IsInRange (λ sls. test (record { destination = place.number; sls = sls })) 0 selections =
-    in-range (λ sls. test (record { destination = place.number; sls = sls })) 0 selections (sym (any-to test place.number (range_with_len 0 selections)) ∙ place.passing) in
+    let one : IsInRange (λ sls. test (record { destination = place.number; sls = sls })) 0 SELECTIONS =
+    in-range (λ sls. test (record { destination = place.number; sls = sls })) 0 SELECTIONS (sym (any-to test place.number (range_with_len 0 SELECTIONS)) ∙ place.passing) in
     record {
       flow = record { destination = place.number; sls = one.number };
       there = omega (arith, place.below);
@@ -98,14 +99,14 @@ found_flow destinations test e =
       passing = one.passing;
     }
 
-pub flow_there : (destinations : ℕ) (test : NodeFlow → Bool) (flow : NodeFlow) → flow.destination < destinations → flow.sls < selections → test flow ≡ true →
+pub flow_there : (destinations : ℕ) (test : NodeFlow → Bool) (flow : NodeFlow) → flow.destination < destinations → flow.sls < SELECTIONS → test flow ≡ true →
     list_any test (flows destinations) ≡ true
 unfolding flows
 flow_there destinations test flow there few e =
     any-of test (range_with_len 0 destinations)
     ∙ any-in-range (λ destination. list_any test (flows_to destination)) 0 destinations flow.destination (omega arith) (omega (arith, there))
-    (any-to test flow.destination (range_with_len 0 selections)
-    ∙ any-in-range (λ sls. test (record { destination = flow.destination; sls = sls })) 0 selections flow.sls (omega arith) (omega (arith, few)) e)
+    (any-to test flow.destination (range_with_len 0 SELECTIONS)
+    ∙ any-in-range (λ sls. test (record { destination = flow.destination; sls = sls })) 0 SELECTIONS flow.sls (omega arith) (omega (arith, few)) e)
 
 pub some_passes : some_flow_passes
 unfolding any_flow

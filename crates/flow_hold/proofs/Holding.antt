@@ -5,7 +5,8 @@ use Rattle.std.specs.Ordering.{eq_by_cmp}
 use Rattle.std.specs.FinSet.{contains, insert, contains-insert}
 use Rattle.std.proofs.lemmas.Bool.{and_parts, ltb-true}
 use Rattle.flow_hold.specs.declared.procedure.Procedure.{Procedure}
-use Rattle.flow_hold.specs.Holds.{Hold, HoldSet, by_numbers, selections, holds, is_held, may_hold_to, may_hold, with_hold}
+use Rattle.signalling_types.specs.declared.limits.TheConstants.Limits.{SELECTIONS}
+use Rattle.flow_hold.specs.Holds.{Hold, HoldSet, by_numbers, holds, is_held, may_hold_to, may_hold, with_hold}
 use Rattle.flow_hold.specs.Pairs.{IsOfNode, pair, hold_is_of_node, hold_adds_its_pair, hold_leaves_others, may_not_leaves, hold_holds_its_flow, hold_keeps_flows_held}
 use Rattle.flow_hold.proofs.Numbers.{in_order, tied, tied-same, untied}
 use Rattle.flow_hold.proofs.Pairing.{held_by, may-alike}
@@ -15,14 +16,14 @@ use Rattle.flow_hold.proofs.Pairing.{held_by, may-alike}
 pub record MayHold (h : HoldSet) (procedure : Procedure) (destination sls : ℕ) : Type 0 where
   pub to : may_hold_to h procedure destination ≡ true
   pub there : destination < h.destinations
-  pub few : sls < selections
+  pub few : sls < SELECTIONS
 
 pub may_parts : (h : HoldSet) (procedure : Procedure) (destination sls : ℕ) → may_hold h procedure destination sls ≡ true → MayHold h procedure destination sls
 may_parts h procedure destination sls may =
-    let parts : (may_hold_to h procedure destination ≡ true) × ((nat_lt destination h.destinations && nat_lt sls selections) ≡ true) =
-    and_parts (may_hold_to h procedure destination) (nat_lt destination h.destinations && nat_lt sls selections) may in
-    let flow : (nat_lt destination h.destinations ≡ true) × (nat_lt sls selections ≡ true) = and_parts (nat_lt destination h.destinations) (nat_lt sls selections) parts.1 in
-    record { to = parts.0; there = ltb-true destination h.destinations flow.0; few = ltb-true sls selections flow.1 }
+    let parts : (may_hold_to h procedure destination ≡ true) × ((nat_lt destination h.destinations && nat_lt sls SELECTIONS) ≡ true) =
+    and_parts (may_hold_to h procedure destination) (nat_lt destination h.destinations && nat_lt sls SELECTIONS) may in
+    let flow : (nat_lt destination h.destinations ≡ true) × (nat_lt sls SELECTIONS ≡ true) = and_parts (nat_lt destination h.destinations) (nat_lt sls SELECTIONS) parts.1 in
+    record { to = parts.0; there = ltb-true destination h.destinations flow.0; few = ltb-true sls SELECTIONS flow.1 }
 
 -- a flow that is held is one of the node
 pub flows_there : (h : HoldSet) (destination sls : ℕ) → IsOfNode h → is_held h destination sls ≡ true → destination < h.destinations

@@ -6,10 +6,10 @@ use Rattle.std.specs.Ordering.{eq_by_cmp}
 use Rattle.std.specs.FinSet.{contains, items, contains-items, contains-empty, contains-retain}
 use Rattle.std.proofs.lemmas.Bool.{and_parts, true≢false}
 use Rattle.std.proofs.lemmas.Bool.Decides.{nat_tests}
-use Rattle.signalling_types.specs.declared.limits.TheConstants.Limits.{CHANGEBACK_CODES}
+use Rattle.signalling_types.specs.declared.limits.TheConstants.Limits.{CHANGEBACK_CODES, SELECTIONS}
 use Rattle.flow_hold.specs.declared.procedure.Procedure.{Procedure}
 use Rattle.flow_hold.specs.declared.procedure.Procedure.TheVariants.{Changeover, Code, Time, Reroute}
-use Rattle.flow_hold.specs.Holds.{Hold, HoldSet, by_numbers, holds, is_of_flow, selections, is_same, may_hold_to, may_hold, lifted}
+use Rattle.flow_hold.specs.Holds.{Hold, HoldSet, by_numbers, holds, is_of_flow, is_same, may_hold_to, may_hold, lifted}
 use Rattle.flow_hold.specs.Pairs.{first_holds_nothing, first_is_of_node, held_by_a_procedure, lift_is_of_node, lift_leaves_others, lift_ends_its_own}
 use Rattle.flow_hold.proofs.Numbers.{only_same_tie, tied, tied-same, same-itself, not-same}
 
@@ -129,8 +129,8 @@ may_to-alike h k (Reroute rerouted) destination links sets = refl
 pub may-alike : (h k : HoldSet) (procedure : Procedure) (destination sls : ℕ) → k.links ≡ h.links → k.sets ≡ h.sets → k.destinations ≡ h.destinations →
     may_hold k procedure destination sls ≡ may_hold h procedure destination sls
 may-alike h k procedure destination sls links sets destinations =
-    ap (λ (b : Bool). b && (nat_lt destination k.destinations && nat_lt sls selections)) (may_to-alike h k procedure destination links sets)
-    ∙ ap (λ (n : ℕ). may_hold_to h procedure destination && (nat_lt destination n && nat_lt sls selections)) destinations
+    ap (λ (b : Bool). b && (nat_lt destination k.destinations && nat_lt sls SELECTIONS)) (may_to-alike h k procedure destination links sets)
+    ∙ ap (λ (n : ℕ). may_hold_to h procedure destination && (nat_lt destination n && nat_lt sls SELECTIONS)) destinations
 
 pub lifted_of_node : lift_is_of_node
 lifted_of_node h procedure of_node = record {

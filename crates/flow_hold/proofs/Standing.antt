@@ -8,7 +8,8 @@ use Rattle.std.proofs.lemmas.Bool.{true≢false}
 use Rattle.std.proofs.lemmas.Bool.Decides.{nat_tests}
 use Rattle.flow_hold.specs.declared.procedure.Procedure.{Procedure}
 use Rattle.flow_hold.specs.Rows.{marks_at, has_mark}
-use Rattle.flow_hold.specs.Holds.{Hold, by_numbers, selections}
+use Rattle.signalling_types.specs.declared.limits.TheConstants.Limits.{SELECTIONS}
+use Rattle.flow_hold.specs.Holds.{Hold, by_numbers}
 use Rattle.flow_hold.specs.Table.{HoldTable, place_of, flow_place, row_has, has_pair}
 use Rattle.flow_hold.specs.Room.{procedure_at, hold_at, pairs_of_row, pairs_of_rows, set_of}
 use Rattle.flow_hold.proofs.Numbers.{in_order, tied, tied-same}
@@ -80,7 +81,7 @@ in-row t row (suc count) flow e h =
 -- ---- the pairs of all rows
 
 abbrev flows : HoldTable → ℕ
-flows t = selections * t.destinations
+flows t = SELECTIONS * t.destinations
 
 record IsInTable (t : HoldTable) (count : ℕ) (hold : Hold) : Type 0 where
   pub row : ℕ
@@ -124,19 +125,19 @@ pub record HasAllRows (t : HoldTable) : Type 0 where
 
 -- a pair of a selection that there is, marked in the table
 pub record IsPair (t : HoldTable) (hold : Hold) : Type 0 where
-  pub few : hold.sls < selections
+  pub few : hold.sls < SELECTIONS
   pub mark : has_pair t hold.procedure hold.destination hold.sls ≡ true
 
-flow-there : (t : HoldTable) (flow : ℕ) → flow < flows t → flow_place t (flow / selections) (flow % selections) ≡ Some flow
+flow-there : (t : HoldTable) (flow : ℕ) → flow < flows t → flow_place t (flow / SELECTIONS) (flow % SELECTIONS) ≡ Some flow
 flow-there t flow h =
-    let test : nat_lt (flow / selections) t.destinations ≡ true = grind (arith, nat_tests, h) in
-    ap (λ (b : Bool). if b then Some (16 * (flow / selections) + flow % selections) else None) test
+    let test : nat_lt (flow / SELECTIONS) t.destinations ≡ true = grind (arith, nat_tests, h) in
+    ap (λ (b : Bool). if b then Some (16 * (flow / SELECTIONS) + flow % SELECTIONS) else None) test
     ∙ ap (λ (n : ℕ). Some n) (omega arith)
 
 at-is-pair : (t : HoldTable) (row flow : ℕ) → HasAllRows t → row < length t.rows → flow < flows t → has_mark flow (marks_at t.rows row) ≡ true → IsPair t (hold_at t row flow)
 at-is-pair t row flow h r f m = record {
   few = omega arith;
-  mark = ap (λ (o : Option ℕ). row_has t o (flow_place t (flow / selections) (flow % selections))) (placed t row (omega (arith, r, h.rows)))
+  mark = ap (λ (o : Option ℕ). row_has t o (flow_place t (flow / SELECTIONS) (flow % SELECTIONS))) (placed t row (omega (arith, r, h.rows)))
       ∙ ap (λ (o : Option ℕ). row_has t (Some row) o) (flow-there t flow f)
       ∙ m;
 }
@@ -168,13 +169,13 @@ number-parts t destination sls number e = parts-case (nat_lt destination t.desti
     parts-case false b e = absurd cc
 
 -- the pair of a row and a flow, where these are those of a pair
-same-pair : (t : HoldTable) (hold : Hold) (row number : ℕ) → procedure_at t row ≡ hold.procedure → number ≡ selections * hold.destination + hold.sls → hold.sls < selections →
+same-pair : (t : HoldTable) (hold : Hold) (row number : ℕ) → procedure_at t row ≡ hold.procedure → number ≡ SELECTIONS * hold.destination + hold.sls → hold.sls < SELECTIONS →
     hold_at t row number ≡ hold
 same-pair t hold row number named numbered few =
-    let place : number / selections ≡ hold.destination = omega (arith, numbered, few) in
-    let selection : number % selections ≡ hold.sls = omega (arith, numbered, few) in
-    ap (λ (q : Procedure). record { procedure = q; destination = number / selections; sls = number % selections }) named
-    ∙ ap (λ (d : ℕ). record { procedure = hold.procedure; destination = d; sls = number % selections }) place
+    let place : number / SELECTIONS ≡ hold.destination = omega (arith, numbered, few) in
+    let selection : number % SELECTIONS ≡ hold.sls = omega (arith, numbered, few) in
+    ap (λ (q : Procedure). record { procedure = q; destination = number / SELECTIONS; sls = number % SELECTIONS }) named
+    ∙ ap (λ (d : ℕ). record { procedure = hold.procedure; destination = d; sls = number % SELECTIONS }) place
     ∙ ap (λ (s : ℕ). record { procedure = hold.procedure; destination = hold.destination; sls = s }) selection
 
 pub mark-to-set : (t : HoldTable) (hold : Hold) → IsPair t hold → contains (set_of t).pairs hold ≡ true

@@ -2,7 +2,8 @@
 use Rattle.std.specs.Prelude.{ℕ, Bool, List, [], ◌∷◌, map}
 use Rattle.std.specs.List.{filter, flat_map, list_any, range_with_len}
 use Rattle.flow_hold.specs.declared.procedure.Procedure.{Procedure}
-use Rattle.flow_hold.specs.Holds.{HoldSet, selections, with_hold}
+use Rattle.signalling_types.specs.declared.limits.TheConstants.Limits.{SELECTIONS}
+use Rattle.flow_hold.specs.Holds.{HoldSet, with_hold}
 
 -- a flow of a node: its destination, by its place in the settings, and its selection
 pub record NodeFlow : Type 0 where
@@ -11,7 +12,7 @@ pub record NodeFlow : Type 0 where
 
 -- the flows to a destination
 abbrev pub flows_to : (destination : ℕ) → List NodeFlow
-flows_to destination = map (λ sls. record { destination = destination; sls = sls }) (range_with_len 0 selections)
+flows_to destination = map (λ sls. record { destination = destination; sls = sls }) (range_with_len 0 SELECTIONS)
 
 -- the flows of a node with so many destinations
 unfoldable pub flows : (destinations : ℕ) → List NodeFlow

@@ -5,13 +5,9 @@ use Rattle.std.specs.declared.cmp.Ordering.{Ordering}
 use Rattle.std.specs.Ordering.{nat_cmp, on}
 use Rattle.std.specs.Cmp.Lexicographic.{slice_cmp, pointwise}
 use Rattle.std.specs.FinSet.{FinSet, empty, contains, insert, retain, items}
-use Rattle.signalling_types.specs.declared.limits.TheConstants.Limits.{CHANGEBACK_CODES}
+use Rattle.signalling_types.specs.declared.limits.TheConstants.Limits.{CHANGEBACK_CODES, SELECTIONS}
 use Rattle.flow_hold.specs.declared.procedure.Procedure.{Procedure}
 use Rattle.flow_hold.specs.declared.procedure.Procedure.TheVariants.{Changeover, Code, Time, Reroute}
-
--- how many signalling link selections there are (Q.704 §2.2.4)
-abbrev pub selections : ℕ
-selections = 16
 
 -- a pair: a procedure holds the flow to a destination, by its place in the settings, with a selection
 pub record Hold : Type 0 where
@@ -72,7 +68,7 @@ may_hold_to h (Reroute rerouted) destination = nat_eq rerouted destination
 -- whether a procedure may hold a flow, and both are there
 abbrev pub may_hold : HoldSet → Procedure → (destination sls : ℕ) → Bool
 may_hold h procedure destination sls =
-    may_hold_to h procedure destination && (nat_lt destination h.destinations && nat_lt sls selections)
+    may_hold_to h procedure destination && (nat_lt destination h.destinations && nat_lt sls SELECTIONS)
 
 -- a procedure holds a flow from now on, if it may
 abbrev pub with_hold : HoldSet → Procedure → (destination sls : ℕ) → HoldSet

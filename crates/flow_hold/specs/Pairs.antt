@@ -2,7 +2,8 @@
 use Rattle.std.specs.Prelude.{◌≡◌, ◌≢◌, ◌<◌, ◌↔◌, ◌&&◌, ◌||◌, ℕ, Bool, true, false}
 use Rattle.std.specs.FinSet.{contains}
 use Rattle.flow_hold.specs.declared.procedure.Procedure.{Procedure}
-use Rattle.flow_hold.specs.Holds.{Hold, HoldSet, selections, no_holds, holds, is_held, may_hold, with_hold, lifted}
+use Rattle.signalling_types.specs.declared.limits.TheConstants.Limits.{SELECTIONS}
+use Rattle.flow_hold.specs.Holds.{Hold, HoldSet, no_holds, holds, is_held, may_hold, with_hold, lifted}
 use Rattle.flow_hold.specs.Flows.{NodeFlow, passes, any_flow, with_flows}
 
 -- at first no procedure holds anything
@@ -76,7 +77,7 @@ hold_keeps_flows_held =
 pub record IsAnyFlow (destinations : ℕ) (test : (destination sls : ℕ) → Bool) : Type 0 where
   pub flow : NodeFlow
   pub there : flow.destination < destinations
-  pub selection : flow.sls < selections
+  pub selection : flow.sls < SELECTIONS
   pub passing : passes test flow ≡ true
 
 abbrev pub some_flow_passes : Type 0

@@ -1,11 +1,11 @@
 -- How holds are kept: in a table of marks, each of which is a pair.
 use Rattle.std.specs.Prelude.{ℕ, zero, suc, ◌+◌, ◌-◌, ◌*◌, ◌/◌, ◌%◌, length, nat_lt, if◌then◌else◌}
 use Rattle.std.specs.FinSet.{FinSet, empty, insert, union}
-use Rattle.signalling_types.specs.declared.limits.TheConstants.Limits.{CHANGEBACK_CODES}
+use Rattle.signalling_types.specs.declared.limits.TheConstants.Limits.{CHANGEBACK_CODES, SELECTIONS}
 use Rattle.flow_hold.specs.declared.procedure.Procedure.{Procedure}
 use Rattle.flow_hold.specs.declared.procedure.Procedure.TheVariants.{Changeover, Code, Time, Reroute}
 use Rattle.flow_hold.specs.Rows.{marks_at, has_mark}
-use Rattle.flow_hold.specs.Holds.{Hold, HoldSet, by_numbers, selections}
+use Rattle.flow_hold.specs.Holds.{Hold, HoldSet, by_numbers}
 use Rattle.flow_hold.specs.Table.{HoldTable, HasPlaces}
 use Rattle.flow_hold.specs.declared.holds.Holds.TheInside.{Inside}
 
@@ -21,7 +21,7 @@ procedure_at t row =
 -- the pair of a row and a flow
 abbrev pub hold_at : HoldTable → (row flow : ℕ) → Hold
 hold_at t row flow =
-    record { procedure = procedure_at t row; destination = flow / selections; sls = flow % selections }
+    record { procedure = procedure_at t row; destination = flow / SELECTIONS; sls = flow % SELECTIONS }
 
 -- the pairs of a row that are marked, among the first so many flows
 unfoldable pub pairs_of_row : HoldTable → (row count : ℕ) → FinSet by_numbers
@@ -34,7 +34,7 @@ pairs_of_row t row (suc flow) =
 -- and of the first so many rows
 unfoldable pub pairs_of_rows : HoldTable → (count : ℕ) → FinSet by_numbers
 pairs_of_rows t zero = empty
-pairs_of_rows t (suc row) = union (pairs_of_rows t row) (pairs_of_row t row (selections * t.destinations))
+pairs_of_rows t (suc row) = union (pairs_of_rows t row) (pairs_of_row t row (SELECTIONS * t.destinations))
 
 -- a table stands for the pairs that it marks
 abbrev pub set_of : HoldTable → HoldSet

@@ -2,10 +2,9 @@
 use Rattle.std.specs.Prelude.{◌≡◌, ℕ, ◌+◌, ◌-◌, ◌*◌, Bool, ◌&&◌, true, false, List, length, map, replicate, nat_lt}
 use Rattle.std.specs.Prelude.{slice_set, if◌then◌else◌, Option, Some, None, count_by}
 use Rattle.std.specs.List.{range_with_len, list_any}
-use Rattle.signalling_types.specs.declared.limits.TheConstants.Limits.{CHANGEBACK_CODES}
+use Rattle.signalling_types.specs.declared.limits.TheConstants.Limits.{CHANGEBACK_CODES, SELECTIONS}
 use Rattle.flow_hold.specs.declared.procedure.Procedure.{Procedure}
 use Rattle.flow_hold.specs.declared.procedure.Procedure.TheVariants.{Changeover, Code, Time, Reroute}
-use Rattle.flow_hold.specs.Holds.{selections}
 use Rattle.flow_hold.specs.Rows.{Marks, marks_at, place_of_flow, has_mark}
 
 -- how many links, sets and destinations there are, and the row of each procedure
@@ -17,7 +16,7 @@ pub record HoldTable : Type 0 where
 
 -- the number of a flow, where its destination is there
 abbrev pub flow_place : HoldTable → (destination sls : ℕ) → Option ℕ
-flow_place t destination sls = if nat_lt destination t.destinations then Some (selections * destination + sls) else None
+flow_place t destination sls = if nat_lt destination t.destinations then Some (SELECTIONS * destination + sls) else None
 
 -- the row of a procedure, where it is there: first the changeovers of all links, then their times, then the codes of
 -- all sets, then the reroutings of all destinations
@@ -60,8 +59,8 @@ has_flow t destination sls = any_has t (flow_place t destination sls)
 abbrev pub first_row : (shared destinations place : ℕ) → Marks
 first_row shared destinations place =
     if nat_lt place shared
-    then record { first = 0; marks = replicate (selections * destinations) false }
-    else record { first = selections * (place - shared); marks = replicate selections false }
+    then record { first = 0; marks = replicate (SELECTIONS * destinations) false }
+    else record { first = SELECTIONS * (place - shared); marks = replicate SELECTIONS false }
 
 -- nothing is marked
 abbrev pub no_marks : (links sets destinations : ℕ) → HoldTable

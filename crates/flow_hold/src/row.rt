@@ -1,6 +1,7 @@
 //! The flows that one procedure may hold.
 
-ghost use Rattle.std.specs.Prelude.{◌≡◌, ℕ, ◌+◌, ◌-◌, ◌<◌, ◌≤◌, true, false, length, replicate, slice_index_or, slice_set, IfOk};
+ghost use Rattle.std.specs.Prelude.{◌≡◌, ℕ, ◌+◌, ◌-◌, ◌<◌, ◌≤◌, true, false, length, replicate};
+ghost use Rattle.std.specs.Prelude.{slice_index_or, slice_set, IfOk};
 ghost use Rattle.flow_hold.specs.Rows.{place_of_flow, has_mark, as_count};
 
 use std::alloc::{AllocError, Global};

@@ -1,21 +1,18 @@
 //! The table in which holds are kept.
 
-ghost use Rattle.std.specs.Prelude.{◌≡◌, ℕ, ◌+◌, ◌-◌, ◌*◌, ◌^◌, ◌<◌, ◌≤◌, true, All, length, map, replicate, IfOk, IfSome};
+ghost use Rattle.std.specs.Prelude.{◌≡◌, ℕ, ◌+◌, ◌-◌, ◌*◌, ◌^◌, ◌<◌, ◌≤◌, true, All, length, map, replicate};
+ghost use Rattle.std.specs.Prelude.{IfOk, IfSome};
 ghost use Rattle.std.specs.Prelude.{slice_index_or, slice_set};
 ghost use Rattle.std.specs.List.{range_with_len};
 ghost use Rattle.flow_hold.specs.Rows.{marks_at, as_count};
 ghost use Rattle.flow_hold.specs.Table.{no_marks, first_row, place_of, flow_place, with_mark, with_pair, cleared};
 ghost use Rattle.flow_hold.specs.Table.{without_pairs, has_flow, marked_as_held};
 
-use crate::SELECTIONS;
 use crate::procedure::Procedure;
 use crate::row::HoldRow;
 use signalling_types::Limits;
 use std::alloc::{AllocError, Global};
 use std::marker::Model;
-
-/// How many flows go to one destination.
-const FLOWS: usize = SELECTIONS as usize;
 
 /// A row of marks for each procedure: whether it holds each of the flows that it may hold. Beside them stands how many
 /// procedures hold each flow.
@@ -62,7 +59,7 @@ impl Table {
                 2 * links + Limits::CHANGEBACK_CODES * sets,
                 destinations,
             )?,
-            counts: no_counts(alloc, FLOWS * destinations)?,
+            counts: no_counts(alloc, Limits::SELECTIONS * destinations)?,
         })
     }
 
@@ -143,7 +140,7 @@ impl Table {
         ensures { result ≡ flow_place self.now destination selection }
     {
         if destination < self.destinations {
-            Some(FLOWS * destination + usize::from(selection))
+            Some(Limits::SELECTIONS * destination + usize::from(selection))
         } else {
             None
         }
@@ -216,8 +213,12 @@ fn first_row(
     ensures { IfOk result (λ row. row ≡ first_row shared destinations place) }
 {
     if place < shared {
-        HoldRow::new(alloc, 0, FLOWS * destinations)
+        HoldRow::new(alloc, 0, Limits::SELECTIONS * destinations)
     } else {
-        HoldRow::new(alloc, FLOWS * (place - shared), FLOWS)
+        HoldRow::new(
+            alloc,
+            Limits::SELECTIONS * (place - shared),
+            Limits::SELECTIONS,
+        )
     }
 }

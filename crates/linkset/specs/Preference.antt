@@ -2,8 +2,6 @@
 use Rattle.std.specs.Prelude.{ℕ, zero, suc, ◌/◌, ◌%◌, Bool, false, List, [], ◌∷◌, Option}
 use Rattle.std.specs.Prelude.{length, find, slice_get, slice_index_or}
 use Rattle.std.specs.List.{remove, list_any}
-use Rattle.std.specs.Option.{option_map}
-use Rattle.linkset.specs.declared.link_set.SetLink.{SetLink}
 
 -- the order in which n links are tried: first the one at the selection modulo n, then the others by the quotient
 abbrev pub order_of : {A : Type 0} → ℕ → ℕ → List A → List A
@@ -22,14 +20,14 @@ abbrev pub is_in_service : List Bool → ℕ → Bool
 is_in_service in_service link = slice_index_or in_service link false
 
 -- whether some link of a set is in service
-abbrev pub has_link : List Bool → List SetLink → Bool
-has_link in_service links = list_any (λ l. is_in_service in_service l.link) links
+abbrev pub has_link : List Bool → List ℕ → Bool
+has_link in_service links = list_any (λ l. is_in_service in_service l) links
 
 -- the first link in service that a flow of this selection tries
-abbrev pub first_in_service : ℕ → List Bool → List SetLink → Option ℕ
+abbrev pub first_in_service : ℕ → List Bool → List ℕ → Option ℕ
 first_in_service selection in_service links =
-    option_map (λ l. l.link) (find (λ l. is_in_service in_service l.link) (preference selection links))
+    find (λ l. is_in_service in_service l) (preference selection links)
 
 -- the link that a flow of this selection tries first
-abbrev pub first_tried : ℕ → List SetLink → Option ℕ
-first_tried selection links = option_map (λ l. l.link) (slice_get (preference selection links) 0)
+abbrev pub first_tried : ℕ → List ℕ → Option ℕ
+first_tried selection links = slice_get (preference selection links) 0

@@ -4,4 +4,4 @@
 pub mod laws;
 pub mod link_set;
 
-pub use link_set::{LinkSet, SetLink};
+pub use link_set::LinkSet;

@@ -11,35 +11,16 @@ use settings_rows::LinkRow;
 use signalling_types::{Limits, LinkId, SetId, Sls};
 use std::marker::Model;
 
-/// A link of a link set.
-#[derive(Clone, Copy, PartialEq, Eq)]
-pub struct SetLink {
-    /// Its signalling link code in the set (Q.704 §15.2).
-    pub slc: u8,
-    /// The link.
-    pub link: LinkId,
-}
-
-impl Default for SetLink {
-    fn default() -> SetLink {
-        SetLink {
-            slc: 0,
-            link: LinkId::new(0),
-        }
-    }
-}
-
 /// The links of one link set, at most 16, in the order of their signalling link codes (Q.704 §15.2).
 #[derive(Drop)]
 pub struct LinkSet {
-    links: ArrayVec<SetLink, { Limits::LINKS_PER_SET }>,
+    links: ArrayVec<LinkId, { Limits::LINKS_PER_SET }>,
 }
 
 impl Model for LinkSet {
-    ghost use Rattle.std.specs.Prelude.{List};
-    ghost use Rattle.linkset.specs.declared.link_set.SetLink.{SetLink};
+    ghost use Rattle.std.specs.Prelude.{ℕ, List};
 
-    ghost Value = { List SetLink };
+    ghost Value = { List ℕ };
 
     ghost view = { λ s. s.links.items };
 }
@@ -60,7 +41,7 @@ impl LinkSet {
 
     /// The links, in the order in which a flow of this selection tries them: first the one at the selection modulo
     /// their count, then the others in the same way by the quotient.
-    pub fn preference(&self, sls: Sls) -> ArrayVec<SetLink, { Limits::LINKS_PER_SET }>
+    pub fn preference(&self, sls: Sls) -> ArrayVec<LinkId, { Limits::LINKS_PER_SET }>
         ensures { result.items ≡ preference sls self.now }
     {
         let mut left = copied(&self.links);
@@ -93,7 +74,7 @@ impl LinkSet {
         if links.is_empty() {
             return None;
         }
-        Some(links[usize::from(sls.number()) % links.len()].link)
+        Some(links[usize::from(sls.number()) % links.len()])
     }
 
     /// The same as `first_in_service`. Where the link that is tried first is in service this isn't needed, and stays
@@ -118,7 +99,7 @@ impl LinkSet {
         let mut selection = usize::from(sls.number());
         for _ in 0..self.links.len() {
             let count = left.len();
-            let link = left.remove(selection % count).link;
+            let link = left.remove(selection % count);
             if is_in_service(in_service, link) {
                 return Some(link);
             }
@@ -133,7 +114,7 @@ impl LinkSet {
     {
         self.links
             .iter()
-            .any(|member| member.link.index() == link.index())
+            .any(|member| member.index() == link.index())
     }
 
     /// Whether some link of the set is in service.
@@ -142,12 +123,12 @@ impl LinkSet {
     {
         self.links
             .iter()
-            .any(|member| is_in_service(in_service, member.link))
+            .any(|member| is_in_service(in_service, *member))
     }
 }
 
 /// Puts a link behind the others, if there is one.
-fn add(links: &mut ArrayVec<SetLink, { Limits::LINKS_PER_SET }>, link: Option<SetLink>)
+fn add(links: &mut ArrayVec<LinkId, { Limits::LINKS_PER_SET }>, link: Option<LinkId>)
     requires { array_vec_len links.old < Limits.LINKS_PER_SET }
     ensures links { links.new.items ≡ links.old.items ++ option_to_list link }
     ensures count { array_vec_len links.new ≤ array_vec_len links.old + 1 }
@@ -158,15 +139,12 @@ fn add(links: &mut ArrayVec<SetLink, { Limits::LINKS_PER_SET }>, link: Option<Se
 }
 
 /// The link of a set that has this code.
-fn link_with(links: &[LinkRow], set: SetId, slc: u8) -> Option<SetLink>
+fn link_with(links: &[LinkRow], set: SetId, slc: u8) -> Option<LinkId>
     requires { length links.now ≤ Limits.LINKS }
     ensures { result ≡ link_with links.now set slc }
 {
     match place_of(links, set, slc) {
-        Some(place) => Some(SetLink {
-            slc,
-            link: LinkId::new(place as u8),
-        }),
+        Some(place) => Some(LinkId::new(place as u8)),
         None => None,
     }
 }
@@ -181,8 +159,8 @@ fn place_of(links: &[LinkRow], set: SetId, slc: u8) -> Option<usize>
 
 /// The same links again.
 fn copied(
-    links: &ArrayVec<SetLink, { Limits::LINKS_PER_SET }>,
-) -> ArrayVec<SetLink, { Limits::LINKS_PER_SET }>
+    links: &ArrayVec<LinkId, { Limits::LINKS_PER_SET }>,
+) -> ArrayVec<LinkId, { Limits::LINKS_PER_SET }>
     ensures { result.items ≡ links.now.items }
 {
     let mut copy = ArrayVec::new();

@@ -1,7 +1,6 @@
 -- The links of a node, the links of each set, and the routes to each destination.
 use Rattle.std.specs.Prelude.{ℕ, Bool, List, map, length, replicate, slice_index_or, slice_set}
 use Rattle.settings_rows.specs.Configuration.{LinkEntry, DestinationEntry}
-use Rattle.linkset.specs.declared.link_set.SetLink.{SetLink}
 use Rattle.route_table.specs.declared.route.Route.{Route}
 use Rattle.route_table.specs.Facts.{Facts, first_sets, first_routes}
 use Rattle.node_links.specs.Link.{Link}
@@ -9,7 +8,7 @@ use Rattle.node_links.specs.LinkState.{down_link, is_in_service}
 
 pub record Network : Type 0 where
   pub links : List Link
-  pub sets : List (List SetLink)
+  pub sets : List (List ℕ)
   pub routes : List (List Route)
 
 -- of each link, whether it is in service

@@ -4,6 +4,7 @@ use Rattle.std.specs.Prelude.{if◌then◌else◌}
 use Rattle.std.proofs.Math.Logic.{⊎_elim}
 use Rattle.std.proofs.Math.Path.{fun_ext}
 use Rattle.std.proofs.lemmas.Bool.{and_from, lt-ltb, ltb-true}
+use Rattle.signalling_types.specs.declared.limits.TheConstants.Limits.{SELECTIONS}
 use Rattle.signalling_types.specs.Message.{Message}
 use Rattle.signalling_types.specs.declared.point.Flow.{Flow}
 use Rattle.settings_rows.specs.Configuration.{Configuration}
@@ -181,7 +182,7 @@ module _ (c z : Configuration) (j : IsJoined c z) where
         let served : in_service p other ≡ true = chosen_serving (network_of c p) 0 flow.sls other l.routed.chosen in
         let apart : other ≢ link = λ same. differs (sym i.unserved ∙ subst (λ (k : ℕ). in_service p k ≡ true) same served) in
         differs (sym e
-        ∙ loses-so c before after other link 0 flow.sls apart (omega (arith, j.destinations)) (ltb-true flow.sls hold.selections l.routed.selection)
+        ∙ loses-so c before after other link 0 flow.sls apart (omega (arith, j.destinations)) (ltb-true flow.sls SELECTIONS l.routed.selection)
         (taken-so before after other link 0 flow.sls l.routed.chosen l.takes))
       where
         differs : false ≡ true → ⊥

@@ -5,6 +5,7 @@ use Rattle.std.specs.List.{list_all}
 use Rattle.std.specs.Option.{option_and_then, option_map, option_or}
 use Rattle.std.proofs.Math.Logic.{⊎_elim}
 use Rattle.std.proofs.lemmas.Bool.{and_parts}
+use Rattle.signalling_types.specs.declared.limits.TheConstants.Limits.{SELECTIONS}
 use Rattle.signalling_types.specs.declared.point.Flow.{Flow}
 use Rattle.settings_rows.specs.Configuration.{Configuration}
 use Rattle.stp_types.specs.Readings.{destination_place}
@@ -16,7 +17,6 @@ use Rattle.link_alignment.specs.declared.action.Input.{Input}
 use Rattle.link_alignment.specs.declared.action.Transition.{Transition}
 use Rattle.link_alignment.specs.Table.{Effect, Fails, Remembers, Enters, EntersServing, Serves, Cell, table, state_number, is_same_input, effect_in, action_of, action_at}
 use Rattle.node_links.specs.LinkState.{is_down}
-use Rattle.flow_hold.specs.Holds as hold
 use Rattle.linkset.specs.Preference.{has_link, first_in_service}
 use Rattle.linkset.proofs.InService.{some_serves}
 use Rattle.route_table.specs.declared.route.Route.{Route}
@@ -127,7 +127,7 @@ pub record IsKnown (c : Configuration) (link : ℕ) (p q : Parts) : Type 0 where
   pub known : (destination sls : ℕ) → chosen_link (with_link link false (facts c q)) destination sls ≡ chosen_link (facts c p) destination sls
 
 module _ (c z : Configuration) (j : IsJoined c z) where
-  pub route-there : (p : Parts) (flow : Flow) → nat_lt flow.sls hold.selections ≡ true → flow.point ≡ z.own → route_of c p flow ≡ chosen_link (facts c p) 0 flow.sls
+  pub route-there : (p : Parts) (flow : Flow) → nat_lt flow.sls SELECTIONS ≡ true → flow.point ≡ z.own → route_of c p flow ≡ chosen_link (facts c p) 0 flow.sls
   route-there p flow few e =
       ap (λ (b : Bool). if b then link_of c p flow else None) few
       ∙ ap (λ (o : Option ℕ). option_and_then (λ place. chosen_link (facts c p) place flow.sls) o) (ap (destination_place c) e ∙ j.place)

@@ -1,4 +1,5 @@
 -- A link in service fails, with an order or without one: by moves.
+use Rattle.signalling_types.specs.declared.limits.TheConstants.Limits.{SELECTIONS}
 use Rattle.exchange_rules.specs.Routing.{goes_by}
 use Rattle.pair_rules.proofs.Lines.{end_by, end-by, link-here, link-other, standing-here, standing-other}
 use Rattle.node_links.specs.LinkState.{is_down}
@@ -54,9 +55,9 @@ module _ (c z : Configuration) (j : IsJoined c z) where
   hold-others h link test (ends.Code code) sls d = flows_leave h (held_by.Changeover link) (held_by.Code 0 code) test 0 sls (λ e. absurd cc)
   hold-others h link test (ends.Time other) sls d = flows_leave h (held_by.Changeover link) (held_by.Time other) test 0 sls (λ e. absurd cc)
 
-  may-hold : (h : HoldSet) (link sls : ℕ) → nat_lt link h.links ≡ true → nat_lt 0 h.destinations ≡ true → nat_lt sls hold.selections ≡ true
+  may-hold : (h : HoldSet) (link sls : ℕ) → nat_lt link h.links ≡ true → nat_lt 0 h.destinations ≡ true → nat_lt sls SELECTIONS ≡ true
       → hold.may_hold h (held_by.Changeover link) 0 sls ≡ true
-  may-hold h link sls a b d = and-true (nat_lt link h.links) (nat_lt 0 h.destinations && nat_lt sls hold.selections) a (and-true (nat_lt 0 h.destinations) (nat_lt sls hold.selections) b d)
+  may-hold h link sls a b d = and-true (nat_lt link h.links) (nat_lt 0 h.destinations && nat_lt sls SELECTIONS) a (and-true (nat_lt 0 h.destinations) (nat_lt sls SELECTIONS) b d)
 
   -- ---- a link in service fails: holds begin, the link goes down, its changeover isn't complete
 

@@ -5,13 +5,12 @@ use Rattle.std.specs.Option.{option_and_then, option_map}
 use Rattle.std.specs.List.{IsDistinct}
 use Rattle.std.specs.FinSet.{contains-empty}
 use Rattle.signalling_types.specs.declared.point.Flow.{Flow}
-use Rattle.signalling_types.specs.declared.limits.TheConstants.Limits.{CHANGEBACK_CODES}
+use Rattle.signalling_types.specs.declared.limits.TheConstants.Limits.{CHANGEBACK_CODES, SELECTIONS}
 use Rattle.std.proofs.lemmas.Bool.Decides.{nat_tests}
 use Rattle.settings_rows.specs.Configuration.{Configuration, DestinationEntry}
 use Rattle.stp_types.specs.Facing.{IsFacing, LeadsOnlyTo}
 use Rattle.stp_types.specs.Readings.{destination_place}
 use Rattle.stp_types.specs.Well.{IsWell, IsDestination}
-use Rattle.linkset.specs.declared.link_set.SetLink.{SetLink}
 use Rattle.linkset.specs.Preference.{preference, first_in_service, is_in_service}
 use Rattle.route_table.specs.Facts.{first_route, first_routes, set_at}
 use Rattle.route_table.specs.Chosen.{chosen_set, chosen_link}
@@ -20,7 +19,7 @@ use Rattle.node_links.specs.Link.{Link}
 use Rattle.node_links.specs.LinkState.{down_link, is_down}
 use Rattle.node_links.specs.LinkState as state
 use Rattle.node_links.proofs.Serving.{serving_none}
-use Rattle.flow_hold.specs.Holds.{by_numbers, holds, selections}
+use Rattle.flow_hold.specs.Holds.{by_numbers, holds}
 use Rattle.changeback.specs.Codes.{no_codes, is_outstanding}
 use Rattle.changeover.specs.Standing.{Standing, no_changeover}
 use Rattle.link_sequence.specs.Queue.{Queue, IsQueue, first_queue}
@@ -138,9 +137,9 @@ module _ (c : Configuration) where
       ap (λ (serving : List Bool). get_or serving link false) (serving_none (length c.links))
       ∙ each-replicate (λ (b : Bool). b ≡ false) (length c.links) link false refl
 
-  none-in : (selection : ℕ) (links : List SetLink) → first_in_service selection (facts c p).in_service links ≡ None
+  none-in : (selection : ℕ) (links : List ℕ) → first_in_service selection (facts c p).in_service links ≡ None
   none-in selection links =
-      ap (option_map (λ (l : SetLink). l.link)) (none-found (λ (l : SetLink). is_in_service (facts c p).in_service l.link) (preference selection links) (λ l. none-serves l.link))
+      none-found (λ l. is_in_service (facts c p).in_service l) (preference selection links) (λ l. none-serves l)
 
   none-chosen : (place selection : ℕ) → chosen_link (facts c p) place selection ≡ None
   none-chosen place selection =
@@ -149,7 +148,7 @@ module _ (c : Configuration) where
 
   route-none : (flow : Flow) → route_of c p flow ≡ None
   route-none flow =
-      either-none (nat_lt flow.sls selections) (link_of c p flow)
+      either-none (nat_lt flow.sls SELECTIONS) (link_of c p flow)
       (none-then (λ place. chosen_link (facts c p) place flow.sls) (destination_place c flow.point) (λ place. none-chosen place flow.sls))
 
   holds-none : (far : ℕ) (procedure : Procedure) (flow : Flow) → holds_of far p procedure flow ≡ false

@@ -2,6 +2,7 @@
 use Rattle.std.proofs.Common.{◌≡◌, ℕ, Bool, not, List, Option, None, ap, sym, ◌∙◌, nat_lt}
 use Rattle.std.specs.Prelude.{if◌then◌else◌, slice_set}
 use Rattle.std.specs.Option.{option_and_then}
+use Rattle.signalling_types.specs.declared.limits.TheConstants.Limits.{SELECTIONS}
 use Rattle.signalling_types.specs.Message.{Message}
 use Rattle.signalling_types.specs.declared.point.Flow.{Flow}
 use Rattle.signalling_types.specs.declared.notice.Notice.{Notice}
@@ -12,7 +13,6 @@ use Rattle.settings_rows.specs.Configuration.{Configuration}
 use Rattle.stp_types.specs.Readings.{destination_place}
 use Rattle.link_alignment.specs.declared.alignment.Alignment.{Alignment}
 use Rattle.timer_wheel.specs.Timers.{Running}
-use Rattle.flow_hold.specs.Holds as hold
 use Rattle.node_links.specs.Link.{Link}
 use Rattle.node_links.specs.LinkState.{down_link, is_down, is_in_service}
 use Rattle.node_links.proofs.Serving.{serving_alike}
@@ -34,7 +34,7 @@ use Rattle.pair_rules.proofs.Going.{goes-same, goes-none}
 module _ (c z : Configuration) where
   -- the link of a flow by what is known of routes
   abbrev pub route_by : Facts → Flow → Option ℕ
-  route_by f flow = if nat_lt flow.sls hold.selections then option_and_then (λ place. chosen_link f place flow.sls) (destination_place c flow.point) else None
+  route_by f flow = if nat_lt flow.sls SELECTIONS then option_and_then (λ place. chosen_link f place flow.sls) (destination_place c flow.point) else None
 
   -- lines and routes are shown as they were
   pub same-shown : (w : World) (n o : Node WholeQueues) (arrived loose : List Message) (build : (ℕ → Line) → (Flow → Option ℕ) → Pair)

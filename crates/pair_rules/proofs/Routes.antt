@@ -2,12 +2,12 @@
 use Rattle.std.proofs.Common.{◌≡◌, ◌≢◌, ◌<◌, ◌&&◌, ◌||◌, ℕ, Bool, true, false, List, Option, Some, None, refl, ap, sym, ◌∙◌, nat_eq, nat_lt, arith}
 use Rattle.std.specs.Prelude.{if◌then◌else◌, slice_set}
 use Rattle.std.specs.Option.{option_and_then}
+use Rattle.signalling_types.specs.declared.limits.TheConstants.Limits.{SELECTIONS}
 use Rattle.stp_types.specs.Readings.{destination_place}
 use Rattle.std.proofs.Math.Logic.{⊎_elim}
 use Rattle.std.proofs.lemmas.Bool.Decides.{nat_tests}
 use Rattle.signalling_types.specs.declared.point.Flow.{Flow}
 use Rattle.settings_rows.specs.Configuration.{Configuration}
-use Rattle.flow_hold.specs.Holds as hold
 use Rattle.flow_hold.specs.Holds.{HoldSet}
 use Rattle.node_links.specs.Link.{Link}
 use Rattle.node_links.specs.LinkState.{after_failure}
@@ -89,21 +89,21 @@ module _ (c z : Configuration) (j : IsJoined c z) where
 
   pub route-stays : (p q : Parts) (link other : ℕ) (flow : Flow) → facts c q ≡ with_link link false (facts c p) → other ≢ link → route_of c p flow ≡ Some other → route_of c q flow ≡ Some other
   route-stays p q link other flow e d =
-      if-some (nat_lt flow.sls hold.selections) (link_of c p flow) (link_of c q flow) other
+      if-some (nat_lt flow.sls SELECTIONS) (link_of c p flow) (link_of c q flow) other
       (flow-stays link other flow.sls (facts c p) (facts c q) e d (destination_place c flow.point))
 
   -- a flow that has a link is one to the far point
   pub record IsRouted (p : Parts) (flow : Flow) (link : ℕ) : Type 0 where
-    pub selection : nat_lt flow.sls hold.selections ≡ true
+    pub selection : nat_lt flow.sls SELECTIONS ≡ true
     pub point : flow.point ≡ z.own
     pub chosen : chosen_link (facts c p) 0 flow.sls ≡ Some link
 
   pub is-routed : (p : Parts) (flow : Flow) (link : ℕ) → route_of c p flow ≡ Some link → IsRouted p flow link
   is-routed p flow link e =
       let h : HasPlace (destination_place c flow.point) (λ place. chosen_link (facts c p) place flow.sls) link =
-      has-place (destination_place c flow.point) (λ place. chosen_link (facts c p) place flow.sls) link (if-value (nat_lt flow.sls hold.selections) (link_of c p flow) link e) in
+      has-place (destination_place c flow.point) (λ place. chosen_link (facts c p) place flow.sls) link (if-value (nat_lt flow.sls SELECTIONS) (link_of c p flow) link e) in
       record {
-        selection = if-test (nat_lt flow.sls hold.selections) (link_of c p flow) link e;
+        selection = if-test (nat_lt flow.sls SELECTIONS) (link_of c p flow) link e;
         point = (j.only flow.point h.place h.is).0;
         chosen = ap (λ (place : ℕ). chosen_link (facts c p) place flow.sls) (sym (j.only flow.point h.place h.is).1) ∙ h.goes;
       }

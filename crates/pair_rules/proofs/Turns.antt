@@ -4,6 +4,7 @@ use Rattle.std.specs.Option.{option_and_then}
 use Rattle.std.specs.Prelude.{if◌then◌else◌}
 use Rattle.std.proofs.Math.Logic.{⊎_elim}
 use Rattle.std.proofs.lemmas.Bool.{and_from, cases_order, eq-eqb, le-ltb, lt-ltb}
+use Rattle.signalling_types.specs.declared.limits.TheConstants.Limits.{SELECTIONS}
 use Rattle.signalling_types.specs.declared.point.Flow.{Flow}
 use Rattle.settings_rows.specs.Configuration.{Configuration}
 use Rattle.stp_types.specs.Readings.{destination_place}
@@ -52,7 +53,7 @@ turned-yet former many after l = ap (λ (b : Bool). if b then after else Some fo
 
 -- by what is known of routes
 abbrev pub route_by : Configuration → Facts → Flow → Option ℕ
-route_by c f flow = if nat_lt flow.sls hold.selections then option_and_then (λ place. chosen_link f place flow.sls) (destination_place c flow.point) else None
+route_by c f flow = if nat_lt flow.sls SELECTIONS then option_and_then (λ place. chosen_link f place flow.sls) (destination_place c flow.point) else None
 
 more-held : (a b d : Bool) → (b ≡ true → d ≡ true) → (a && b) ≡ true → (a && d) ≡ true
 more-held true b d f e = f e
@@ -63,10 +64,10 @@ apart-time link (ends.Changeover k) apart e = absurd cc
 apart-time link (ends.Code code) apart e = absurd cc
 apart-time link (ends.Time k) apart e = (let same : k ≡ link = cc in apart (ap ends.Time same))
 
-may-hold : (h : HoldSet) (procedure : Procedure) (sls : ℕ) → hold.may_hold_to h procedure 0 ≡ true → h.destinations ≡ 1 → nat_lt sls hold.selections ≡ true → hold.may_hold h procedure 0 sls ≡ true
+may-hold : (h : HoldSet) (procedure : Procedure) (sls : ℕ) → hold.may_hold_to h procedure 0 ≡ true → h.destinations ≡ 1 → nat_lt sls SELECTIONS ≡ true → hold.may_hold h procedure 0 sls ≡ true
 may-hold h procedure sls to one few =
-    and_from (hold.may_hold_to h procedure 0) (nat_lt 0 h.destinations && nat_lt sls hold.selections) to
-    (and_from (nat_lt 0 h.destinations) (nat_lt sls hold.selections) (ap (λ (k : ℕ). nat_lt 0 k) one) few)
+    and_from (hold.may_hold_to h procedure 0) (nat_lt 0 h.destinations && nat_lt sls SELECTIONS) to
+    (and_from (nat_lt 0 h.destinations) (nat_lt sls SELECTIONS) (ap (λ (k : ℕ). nat_lt 0 k) one) few)
 
 module _ (c z : Configuration) (j : IsJoined c z) where
   -- a flow leaves a link for the one that entered

@@ -1,6 +1,7 @@
 -- Two nodes in the midst of an event at the near one, and the machine of moves as it shows them.
 use Rattle.std.proofs.Common.{ℕ, Bool, not, nat_eq, nat_lt, List, Option, Some, None, length, Ok, Err, Result, ◌&&◌}
 use Rattle.std.specs.Prelude.{if◌then◌else◌, position, map}
+use Rattle.signalling_types.specs.declared.limits.TheConstants.Limits.{SELECTIONS}
 use Rattle.signalling_types.specs.Message.{Message, is_management}
 use Rattle.signalling_types.specs.declared.point.Flow.{Flow}
 use Rattle.settings_rows.specs.Configuration.{Configuration, LinkEntry}
@@ -91,7 +92,7 @@ abbrev pub holds_of : (far : ℕ) → Parts → ends.Procedure → Flow → Bool
 holds_of far p procedure flow = nat_eq flow.point far && hold.holds p.holds (procedure_of procedure) 0 flow.sls
 
 abbrev pub route_of : Configuration → Parts → Flow → Option ℕ
-route_of c p flow = if nat_lt flow.sls hold.selections then link_of c p flow else None
+route_of c p flow = if nat_lt flow.sls SELECTIONS then link_of c p flow else None
 
 abbrev pub side_by : (far : ℕ) → (Flow → Option ℕ) → Mid → Side
 side_by far route m = record {

@@ -5,28 +5,28 @@ use Rattle.std.proofs.Math.ListN.{get_or-map}
 use Rattle.std.proofs.lemmas.List.FromFn.{fill_by_all, get_or-map-range_with_len}
 use Rattle.std.specs.Prelude.{Option, Some, None, slice_index_or, slice_set, if◌then◌else◌}
 use Rattle.std.specs.Option.{option_map, option_map_or, option_or, option_and_then}
-use Rattle.linkset.specs.declared.link_set.SetLink.{SetLink}
 use Rattle.linkset.specs.Preference.{first_in_service}
 use Rattle.route_table.specs.declared.route.Route.{Route}
 use Rattle.route_table.specs.declared.route.RouteStatus.{RouteStatus}
 use Rattle.route_table.specs.declared.route.RouteStatus.TheVariants.{Allowed, Restricted}
 use Rattle.route_table.specs.Facts.{Facts, set_at as links_at, routes_to, with_status_over, with_status}
 use Rattle.route_table.specs.Chosen.{open_route, chosen_link}
-use Rattle.route_table.specs.Table.{selections, no_links, links_of_set, links_over, route_among, links_among, table_of, mended_at, mended_below}
+use Rattle.signalling_types.specs.declared.limits.TheConstants.Limits.{SELECTIONS}
+use Rattle.route_table.specs.Table.{no_links, links_of_set, links_over, route_among, links_among, table_of, mended_at, mended_below}
 
 -- ---- a look-up
 
-none_is : (selection : ℕ) → selection < selections → slice_index_or no_links selection None ≡ None
+none_is : (selection : ℕ) → selection < SELECTIONS → slice_index_or no_links selection None ≡ None
 unfolding no_links
-none_is selection l = get_or-replicate selections selection None None l
+none_is selection l = get_or-replicate SELECTIONS selection None None l
 
-over_is : (in_service : List Bool) (links : List SetLink) (selection : ℕ) → selection < selections
+over_is : (in_service : List Bool) (links : List ℕ) (selection : ℕ) → selection < SELECTIONS
     → slice_index_or (links_of_set in_service links) selection None ≡ first_in_service selection in_service links
 unfolding links_of_set
 over_is in_service links selection l =
-    get_or-map-range_with_len (λ s. first_in_service s in_service links) 0 selections selection selection None l (omega arith)
+    get_or-map-range_with_len (λ s. first_in_service s in_service links) 0 SELECTIONS selection selection None l (omega arith)
 
-among_is : (f : Facts) (selection : ℕ) → selection < selections → (a r : Option Route)
+among_is : (f : Facts) (selection : ℕ) → selection < SELECTIONS → (a r : Option Route)
     → slice_index_or (option_map_or (λ route. links_over f route.set) (option_or a r) no_links) selection None
     ≡ option_and_then (λ set. first_in_service selection f.in_service (links_at f set))
     (option_or (option_map (λ route. route.set) a) (option_map (λ route. route.set) r))
@@ -34,7 +34,7 @@ among_is f selection l (Some route) r = over_is f.in_service (links_at f route.s
 among_is f selection l None (Some route) = over_is f.in_service (links_at f route.set) selection l
 among_is f selection l None None = none_is selection l
 
-pub looked_up : (f : Facts) (destination selection : ℕ) → selection < selections
+pub looked_up : (f : Facts) (destination selection : ℕ) → selection < SELECTIONS
     → slice_index_or (links_among f (routes_to f destination)) selection None ≡ chosen_link f destination selection
 unfolding links_among
 looked_up f destination selection l = among_is f selection l (open_route f destination Allowed) (open_route f destination Restricted)
@@ -52,15 +52,15 @@ unfolding links_among
 among_none f routes e = ap (λ (o : Option Route). option_map_or (λ r. links_over f r.set) o no_links) e
 
 -- a row that says the link of each selection
-pub filled : (in_service : List Bool) (links : List SetLink) (row : List (Option ℕ)) → length row ≡ selections
-    → ((selection : ℕ) → selection < selections → slice_index_or row selection None ≡ first_in_service selection in_service links)
+pub filled : (in_service : List Bool) (links : List ℕ) (row : List (Option ℕ)) → length row ≡ SELECTIONS
+    → ((selection : ℕ) → selection < SELECTIONS → slice_index_or row selection None ≡ first_in_service selection in_service links)
     → row ≡ links_of_set in_service links
 unfolding links_of_set
-filled in_service links row e each = fill_by_all (λ s. first_in_service s in_service links) row selections None e each
+filled in_service links row e each = fill_by_all (λ s. first_in_service s in_service links) row SELECTIONS None e each
 
 -- a row that stands in the table
 pub found_row : (f : Facts) (rows : List (List (Option ℕ))) (row : List (Option ℕ)) (destination selection : ℕ) → rows ≡ table_of f
-    → destination < length rows → row ≡ slice_index_or rows destination row → selection < selections
+    → destination < length rows → row ≡ slice_index_or rows destination row → selection < SELECTIONS
     → slice_index_or row selection None ≡ chosen_link f destination selection
 found_row f rows row destination selection e within is l =
     ap (λ (r : List (Option ℕ)). slice_index_or r selection None)

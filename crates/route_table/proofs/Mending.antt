@@ -6,8 +6,7 @@ use Rattle.std.proofs.lemmas.List.{get_or-map as get_or-map-within, get_or-set_o
 use Rattle.std.proofs.lemmas.List.Sorted.{list_any-IsPermutation}
 use Rattle.std.specs.List.{range_with_len}
 use Rattle.std.specs.Prelude.{Option, Some, None, nat_eq, slice_index_or, slice_set, if◌then◌else◌}
-use Rattle.std.specs.Option.{option_map, option_map_or, option_or}
-use Rattle.linkset.specs.declared.link_set.SetLink.{SetLink}
+use Rattle.std.specs.Option.{option_map_or, option_or}
 use Rattle.linkset.specs.Members.{has_member}
 use Rattle.linkset.specs.Preference.{preference, first_in_service, has_link, is_in_service}
 use Rattle.linkset.proofs.Preference.{preference-permutation}
@@ -17,7 +16,8 @@ use Rattle.route_table.specs.declared.route.RouteStatus.TheVariants.{Allowed, Re
 use Rattle.route_table.specs.Facts.{Facts, set_at, routes_to, with_link, with_status_over}
 use Rattle.route_table.specs.Chosen.{status_number, is_open}
 use Rattle.route_table.specs.Statuses.{leads_by, with_statuses_reset}
-use Rattle.route_table.specs.Table.{selections, no_links, links_of_set, links_over, route_among, links_among, table_of, mended_below, goes_by_link, goes_by_set}
+use Rattle.signalling_types.specs.declared.limits.TheConstants.Limits.{SELECTIONS}
+use Rattle.route_table.specs.Table.{no_links, links_of_set, links_over, route_among, links_among, table_of, mended_below, goes_by_link, goes_by_set}
 use Rattle.route_table.proofs.Compiling.{below_is, same_links}
 
 neither_left : (a b : Bool) → (a || b) ≡ false → a ≡ false
@@ -34,33 +34,32 @@ module _ (in_service : List Bool) (link : ℕ) (up : Bool) where
   abbrev after : List Bool
   after = slice_set in_service link up
 
-  member_alike : (l : SetLink) → nat_eq l.link link ≡ false → is_in_service in_service l.link ≡ is_in_service after l.link
-  member_alike l e = sym (get_or-set_other in_service link l.link up false (eqb-false l.link link e))
+  member_alike : (l : ℕ) → nat_eq l link ≡ false → is_in_service in_service l ≡ is_in_service after l
+  member_alike l e = sym (get_or-set_other in_service link l up false (eqb-false l link e))
 
-  any_alike : (links : List SetLink) → has_member link links ≡ false → has_link in_service links ≡ has_link after links
+  any_alike : (links : List ℕ) → has_member link links ≡ false → has_link in_service links ≡ has_link after links
   any_alike [] e = refl
   any_alike (l ∷ links) e =
-      ap (λ (b : Bool). b || has_link in_service links) (member_alike l (neither_left (nat_eq l.link link) _ e))
-      ∙ ap (λ (b : Bool). is_in_service after l.link || b) (any_alike links (neither_right (nat_eq l.link link) _ e))
+      ap (λ (b : Bool). b || has_link in_service links) (member_alike l (neither_left (nat_eq l link) _ e))
+      ∙ ap (λ (b : Bool). is_in_service after l || b) (any_alike links (neither_right (nat_eq l link) _ e))
 
-  found_alike : (links : List SetLink) → has_member link links ≡ false
-      → find (λ l. is_in_service in_service l.link) links ≡ find (λ l. is_in_service after l.link) links
+  found_alike : (links : List ℕ) → has_member link links ≡ false
+      → find (λ l. is_in_service in_service l) links ≡ find (λ l. is_in_service after l) links
   found_alike [] e = refl
   found_alike (l ∷ links) e =
-      ap (λ (b : Bool). cond b (Some l) (find (λ m. is_in_service in_service m.link) links)) (member_alike l (neither_left (nat_eq l.link link) _ e))
-      ∙ ap (λ (o : Option SetLink). cond (is_in_service after l.link) (Some l) o) (found_alike links (neither_right (nat_eq l.link link) _ e))
+      ap (λ (b : Bool). cond b (Some l) (find (λ m. is_in_service in_service m) links)) (member_alike l (neither_left (nat_eq l link) _ e))
+      ∙ ap (λ (o : Option ℕ). cond (is_in_service after l) (Some l) o) (found_alike links (neither_right (nat_eq l link) _ e))
 
-  first_alike : (links : List SetLink) → has_member link links ≡ false → (selection : ℕ)
+  first_alike : (links : List ℕ) → has_member link links ≡ false → (selection : ℕ)
       → first_in_service selection in_service links ≡ first_in_service selection after links
   first_alike links e selection =
-      ap (λ (o : Option SetLink). option_map (λ l. l.link) o)
-      (found_alike (preference selection links)
-      (sym (list_any-IsPermutation (λ (l : SetLink). nat_eq l.link link) links (preference selection links) (preference-permutation selection links)) ∙ e))
+      found_alike (preference selection links)
+      (sym (list_any-IsPermutation (λ (l : ℕ). nat_eq l link) links (preference selection links) (preference-permutation selection links)) ∙ e)
 
-  set_alike : (links : List SetLink) → has_member link links ≡ false → links_of_set in_service links ≡ links_of_set after links
+  set_alike : (links : List ℕ) → has_member link links ≡ false → links_of_set in_service links ≡ links_of_set after links
   unfolding links_of_set
   set_alike links e =
-      ap (λ (g : ℕ → Option ℕ). map g (range_with_len 0 selections)) (λ i. λ selection. first_alike links e selection i)
+      ap (λ (g : ℕ → Option ℕ). map g (range_with_len 0 SELECTIONS)) (λ i. λ selection. first_alike links e selection i)
 
 -- ---- a destination to which the set of the link doesn't lead
 

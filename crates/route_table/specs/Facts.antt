@@ -2,7 +2,6 @@
 use Rattle.std.specs.Prelude.{ℕ, zero, suc, Bool, false, List, [], ◌∷◌, ◌++◌, length, map, replicate}
 use Rattle.std.specs.Prelude.{nat_eq, slice_index_or, slice_set, if◌then◌else◌}
 use Rattle.settings_rows.specs.Configuration.{LinkEntry, DestinationEntry}
-use Rattle.linkset.specs.declared.link_set.SetLink.{SetLink}
 use Rattle.linkset.specs.Members.{links_of}
 use Rattle.route_table.specs.declared.route.Route.{Route}
 use Rattle.route_table.specs.declared.route.RouteStatus.{RouteStatus}
@@ -11,12 +10,12 @@ use Rattle.route_table.specs.declared.route.RouteStatus.TheVariants.{Allowed}
 -- routing facts: the links of each set, by their codes; of each link, whether it is in service; the routes of each
 -- destination, by the sets that lead there, the preferred one first
 pub record Facts : Type 0 where
-  pub sets : List (List SetLink)
+  pub sets : List (List ℕ)
   pub in_service : List Bool
   pub routes : List (List Route)
 
 -- the links of one set
-abbrev pub set_at : Facts → ℕ → List SetLink
+abbrev pub set_at : Facts → ℕ → List ℕ
 set_at f set = slice_index_or f.sets set []
 
 -- the routes to one destination
@@ -34,7 +33,7 @@ abbrev pub first_routes : DestinationEntry → List Route
 first_routes d = map first_route d.sets
 
 -- the links of the first n sets
-unfoldable pub first_sets : ℕ → List LinkEntry → List (List SetLink)
+unfoldable pub first_sets : ℕ → List LinkEntry → List (List ℕ)
 first_sets zero links = []
 first_sets (suc n) links = first_sets n links ++ links_of links n ∷ []
 

@@ -1,7 +1,8 @@
 -- How routing facts are kept, and the links of all flows beside them.
 use Rattle.std.specs.Prelude.{◌≡◌, ℕ, List, Option, length}
 use Rattle.route_table.specs.Facts.{Facts}
-use Rattle.route_table.specs.Table.{selections, table_of}
+use Rattle.signalling_types.specs.declared.limits.TheConstants.Limits.{SELECTIONS}
+use Rattle.route_table.specs.Table.{table_of}
 use Rattle.route_table.specs.declared.known.KnownRoutes.TheInside as known
 use Rattle.route_table.specs.declared.flow_links.FlowLinks.TheInside as flow_links
 use Rattle.route_table.specs.declared.routes.Routes.TheInside as routes
@@ -14,7 +15,7 @@ flow_links_in s = s.links
 
 -- there is a place for each selection
 pub record HasPlaces (s : flow_links.Inside) : Type 0 where
-  pub places : length s.links ≡ selections
+  pub places : length s.links ≡ SELECTIONS
 
 abbrev pub known_in : routes.Inside → Facts
 known_in s = s.known

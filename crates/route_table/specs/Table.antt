@@ -3,7 +3,7 @@ use Rattle.std.specs.Prelude.{ℕ, zero, suc, Bool, List, Option, None, find, ma
 use Rattle.std.specs.Prelude.{slice_set, if◌then◌else◌}
 use Rattle.std.specs.List.{list_any, range_with_len}
 use Rattle.std.specs.Option.{option_or, option_map_or}
-use Rattle.linkset.specs.declared.link_set.SetLink.{SetLink}
+use Rattle.signalling_types.specs.declared.limits.TheConstants.Limits.{SELECTIONS}
 use Rattle.linkset.specs.Members.{has_member}
 use Rattle.linkset.specs.Preference.{first_in_service}
 use Rattle.route_table.specs.declared.route.Route.{Route}
@@ -12,18 +12,14 @@ use Rattle.route_table.specs.Facts.{Facts, set_at, routes_to}
 use Rattle.route_table.specs.Chosen.{is_open}
 use Rattle.route_table.specs.Statuses.{leads_by}
 
--- selections, which have four bits (Q.704 §2.2.4)
-abbrev pub selections : ℕ
-selections = 16
-
 -- no flow has a link
 unfoldable pub no_links : List (Option ℕ)
-no_links = replicate selections None
+no_links = replicate SELECTIONS None
 
 -- the links of the flows that take these links of a set
-unfoldable pub links_of_set : List Bool → List SetLink → List (Option ℕ)
+unfoldable pub links_of_set : List Bool → List ℕ → List (Option ℕ)
 links_of_set in_service links =
-    map (λ selection. first_in_service selection in_service links) (range_with_len 0 selections)
+    map (λ selection. first_in_service selection in_service links) (range_with_len 0 SELECTIONS)
 
 -- those of the flows that take a set
 abbrev pub links_over : Facts → (set : ℕ) → List (Option ℕ)

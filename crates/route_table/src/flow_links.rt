@@ -2,19 +2,17 @@
 
 ghost use Rattle.std.specs.Prelude.{◌≡◌, ◌<◌, None, slice_index_or};
 ghost use Rattle.linkset.specs.Preference.{first_in_service};
-ghost use Rattle.route_table.specs.Table.{no_links, links_of_set, selections};
+ghost use Rattle.signalling_types.specs.declared.limits.TheConstants.Limits.{SELECTIONS};
+ghost use Rattle.route_table.specs.Table.{no_links, links_of_set};
 
 use linkset::LinkSet;
-use signalling_types::{LinkId, Sls};
+use signalling_types::{Limits, LinkId, Sls};
 use std::marker::Model;
-
-/// Signalling link selections, which have four bits (Q.704 §2.2.4).
-const SELECTIONS: usize = 16;
 
 /// The links of the flows to one destination, by their selections.
 #[derive(Drop)]
 pub(crate) struct FlowLinks {
-    links: [Option<LinkId>; SELECTIONS],
+    links: [Option<LinkId>; Limits::SELECTIONS],
 }
 
 impl Model for FlowLinks {
@@ -36,7 +34,7 @@ impl FlowLinks {
         ensures { result ≡ no_links }
     {
         FlowLinks {
-            links: [None; SELECTIONS],
+            links: [None; Limits::SELECTIONS],
         }
     }
 
@@ -58,11 +56,11 @@ impl FlowLinks {
 }
 
 /// The link that each selection takes in a set.
-fn links_of_set(set: &LinkSet, in_service: &[bool]) -> [Option<LinkId>; SELECTIONS]
+fn links_of_set(set: &LinkSet, in_service: &[bool]) -> [Option<LinkId>; Limits::SELECTIONS]
     ensures { result ≡ links_of_set in_service.now set.now }
 {
-    let mut links = [None; SELECTIONS];
-    for selection in 0..SELECTIONS {
+    let mut links = [None; Limits::SELECTIONS];
+    for selection in 0..Limits::SELECTIONS {
         links[selection] = first_in_service(set, selection as u8, in_service);
     }
     links
@@ -70,7 +68,7 @@ fn links_of_set(set: &LinkSet, in_service: &[bool]) -> [Option<LinkId>; SELECTIO
 
 /// The first link of a set in service that this selection tries.
 fn first_in_service(set: &LinkSet, selection: u8, in_service: &[bool]) -> Option<LinkId>
-    requires { selection < selections }
+    requires { selection < SELECTIONS }
     ensures { result ≡ first_in_service selection in_service.now set.now }
 {
     match Sls::new(selection) {

@@ -10,6 +10,9 @@ impl Limits {
     /// Links of a node.
     pub const LINKS: usize = 64;
 
+    /// Signalling link selections, which have four bits (Q.704 §2.2.4).
+    pub const SELECTIONS: usize = 16;
+
     /// Links of one link set (Q.704 §2.2.4: four bits of link selection).
     pub const LINKS_PER_SET: usize = 16;
 

@@ -101,7 +101,7 @@ impl Sls {
 }
 
 /// A link, by its number in the order of the settings, from 0. It may name no link of a node.
-#[derive(Clone, Copy, Debug, PartialEq, Eq, Hash)]
+#[derive(Clone, Copy, Debug, Default, PartialEq, Eq, Hash)]
 pub struct LinkId {
     number: u8,
 }

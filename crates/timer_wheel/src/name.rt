@@ -4,7 +4,7 @@ ghost use Rattle.std.specs.Prelude.{◌≡◌, ◌≤◌};
 ghost use Rattle.timer_wheel.specs.Names.{key_of, is_before, has_name, is_of_set, count_of};
 ghost use Rattle.timer_wheel.specs.Places.{place_of};
 
-use signalling_types::{LinkId, SetId};
+use signalling_types::{Limits, LinkId, SetId};
 
 /// A timer by what it is for. Names come in the order of these kinds, and within a kind in the order of
 /// the settings: by link, by set and code, by destination, by set and destination.
@@ -50,7 +50,7 @@ pub enum RouteTimer {
 
 impl TimerName {
     /// Whether this name comes before the other.
-    pub fn is_before(&self, other: &TimerName) -> bool
+    pub(crate) fn is_before(&self, other: &TimerName) -> bool
         ensures { result ≡ is_before self.now other.now }
     {
         let (one, other) = (self.key(), other.key());
@@ -60,7 +60,7 @@ impl TimerName {
     }
 
     /// Whether this is the timer of the set, for whatever destination.
-    pub fn is_of_set(&self, timer: RouteTimer, set: SetId) -> bool
+    pub(crate) fn is_of_set(&self, timer: RouteTimer, set: SetId) -> bool
         ensures { result ≡ is_of_set timer set self.now }
     {
         match (timer, *self) {
@@ -165,14 +165,11 @@ pub struct NodeCounts {
 
 impl NodeCounts {
     /// No node has more timers.
-    pub const MOST: usize = 0xffff_ffff_ffff;
-
-    /// Changeback codes of one adjacent point (Q.704 §6).
-    pub const CODES: u8 = 16;
+    pub(crate) const MOST: usize = 0xffff_ffff_ffff;
 
     /// Whether the node has a timer of this name: its link, set and destination are of the node, and its
-    /// code is one of 16.
-    pub fn has(&self, name: &TimerName) -> bool
+    /// code is one of those that are used.
+    pub(crate) fn has(&self, name: &TimerName) -> bool
         ensures { result ≡ has_name self.now name.now }
     {
         match *name {
@@ -185,7 +182,9 @@ impl NodeCounts {
             | TimerName::T1(link)
             | TimerName::T2(link)
             | TimerName::T3(link) => link.index() < self.links.into(),
-            TimerName::T4(set, code) => set.index() < self.sets.into() && code < NodeCounts::CODES,
+            TimerName::T4(set, code) => {
+                set.index() < self.sets.into() && usize::from(code) < Limits::CHANGEBACK_CODES
+            }
             TimerName::T6(destination) => destination < self.destinations,
             TimerName::T8(set, destination) | TimerName::T10(set, destination) => {
                 set.index() < self.sets.into() && destination < self.destinations
@@ -194,13 +193,13 @@ impl NodeCounts {
     }
 
     /// How many timers the node has, if all of them run.
-    pub fn count(self) -> usize
+    pub(crate) fn count(self) -> usize
         ensures count { result ≡ count_of self }
         ensures fits { result ≤ NodeCounts.MOST }
     {
         let links = usize::from(self.links);
         let sets = usize::from(self.sets);
         let destinations = usize::from(self.destinations);
-        9 * links + 16 * sets + destinations + 2 * (sets * destinations)
+        9 * links + Limits::CHANGEBACK_CODES * sets + destinations + 2 * (sets * destinations)
     }
 }

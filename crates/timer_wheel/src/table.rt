@@ -69,8 +69,8 @@ impl LinkTimers {
         }
     }
 
-    /// The timer of a kind and a link has so many ticks left from now on, unless it runs. A link that isn't there is left
-    /// aside.
+    /// The timer of a kind and a link has so many ticks left from now on, unless it runs. A link that isn't there
+    /// is left aside.
     pub fn start(&mut self, kind: u8, link: usize, left: u16)
         ensures { self.new ≡ with_link_started kind link left self.old }
     {

@@ -64,8 +64,8 @@ impl Timers {
         }
     }
 
-    /// Starts a timer, as `set` does, unless it runs: one that runs keeps its moment, also where it is due and not handed
-    /// out yet.
+    /// Starts a timer, as `set` does, unless it runs: one that runs keeps its moment, also where it is due and not
+    /// handed out yet.
     ///
     /// For a timer of a link that runs this is one read.
     #[inline(always)]

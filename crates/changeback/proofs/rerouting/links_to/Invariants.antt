@@ -2,11 +2,11 @@
 use Rattle.std.proofs.Common.{◌≡◌, ℕ, ◌<◌, None, length, slice_index_or}
 use Rattle.route_table.specs.Chosen.{chosen_link}
 use Rattle.node_links.specs.Network.{facts_of}
-use Rattle.flow_hold.specs.Holds.{selections}
+use Rattle.signalling_types.specs.declared.limits.TheConstants.Limits.{SELECTIONS}
 use Rattle.changeback.proofs.rerouting.links_to.Given as goal
 
 abbrev pub invariant-loop-selection : goal.invariant-loop-selection
 invariant-loop-selection l = record {
-  room : length l.taken ≡ selections;
+  room : length l.taken ≡ SELECTIONS;
   taken : (sls : ℕ) → sls < l.selection → slice_index_or l.taken sls None ≡ chosen_link (facts_of l.links) l.destination sls;
 }

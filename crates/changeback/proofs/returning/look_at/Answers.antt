@@ -3,7 +3,7 @@ use Rattle.std.proofs.Common.{◌≡◌, ◌||◌, Bool, false, List, ℕ, ap, s
 use Rattle.route_table.specs.Facts.{with_link}
 use Rattle.route_table.specs.Chosen.{chosen_set}
 use Rattle.node_links.specs.Network.{Network, facts_of}
-use Rattle.flow_hold.specs.Holds.{selections}
+use Rattle.signalling_types.specs.declared.limits.TheConstants.Limits.{SELECTIONS}
 use Rattle.changeback.specs.Return.{changes_of, gives_up}
 use Rattle.changeback.specs.Seen.{with_pair, IsSeen}
 use Rattle.changeback.proofs.Sets.{unmarked_before, unmarked_after, one_seen}
@@ -21,10 +21,10 @@ pub returns-clause-seen : goal.returns-clause-seen
 returns-clause-seen c =
     let marked : ((other : ℕ) → slice_index_or c.mark_losing.new.losing other false
     ≡ (slice_index_or c.args.losing.now other false || gives_up
-    (changes_of c.args.link (with_link c.args.link false (facts_of c.args.links.now)) (facts_of c.args.links.now) c.args.destination selections) other)) =
+    (changes_of c.args.link (with_link c.args.link false (facts_of c.args.links.now)) (facts_of c.args.links.now) c.args.destination SELECTIONS) other)) =
     λ other. c.mark_losing.ensures.losing other
     ∙ ap (λ (n : Network). slice_index_or c.args.losing.now other false || gives_up
-    (changes_of c.args.link (with_link c.args.link false (facts_of n)) (facts_of n) c.args.destination selections) other) c.set_without.ensures.links in
+    (changes_of c.args.link (with_link c.args.link false (facts_of n)) (facts_of n) c.args.destination SELECTIONS) other) c.set_without.ensures.links in
     subst (λ (seen : List Bool). IsSeen c.mark_losing.new.links c.args.link seen c.mark_losing.new.losing) (sym c.add.ensures)
     (subst (λ (n : Network). IsSeen n c.args.link (with_pair c.args.seen.now c.in-Some.before c.in-Some-set_of.after) c.mark_losing.new.losing)
     (sym (c.mark_losing.ensures.links ∙ c.set_without.ensures.links))
