@@ -1,0 +1,61 @@
+//! What tells the messages of a run apart.
+
+use crate::settings::{INTERNATIONAL, ISUP};
+use exchange::Label;
+use stp_types::{Msu, PointCode, Sls};
+
+/// Octets of a routing label, which stands in front of each message (Q.704 §2.2).
+const LABEL_OCTETS: usize = 4;
+
+/// How many flows there are to a point.
+pub(crate) const FLOWS: u8 = 16;
+
+/// What no two messages that an end had accepted have in common: their flow, and their number in it. The accepted
+/// messages of a flow have the numbers 1, 2, 3 and so on.
+#[derive(Clone, Copy)]
+pub(crate) struct Mark {
+    /// The flow: the signalling link selection (Q.704 §2.2.4).
+    pub flow: u8,
+    /// The number.
+    pub number: u16,
+}
+
+impl Mark {
+    /// The message of this mark from a point to another: two octets behind the label have its number.
+    pub(crate) fn message(self, own: u16, adjacent: u16) -> Option<Msu> {
+        let label = Label {
+            dpc: PointCode::new(adjacent)?,
+            opc: PointCode::new(own)?,
+            sls: Sls::new(self.flow)?,
+        };
+        let [a, b, c, d] = label.write();
+        let [high, low] = self.number.to_be_bytes();
+        Msu::new(INTERNATIONAL << 6 | ISUP, &[a, b, c, d, high, low]).ok()
+    }
+
+    /// The mark of a message.
+    pub(crate) fn of(message: &Msu) -> Option<Mark> {
+        let label = Label::read(message.sif())?;
+        let number = message.sif().get(LABEL_OCTETS..)?;
+        Some(Mark {
+            flow: label.sls.number(),
+            number: u16::from_be_bytes(*number.first_chunk::<2>()?),
+        })
+    }
+
+    /// The place of this mark where all stand by their numbers, and by their flows.
+    pub(crate) fn place(self) -> usize {
+        self.number as usize * FLOWS as usize + self.flow as usize
+    }
+}
+
+/// How many of these marks are of a flow.
+pub(crate) fn count_of_flow(flow: u8, marks: &[Mark]) -> u16 {
+    let mut count = 0u16;
+    for mark in marks {
+        if mark.flow == flow {
+            count = count.wrapping_add(1);
+        }
+    }
+    count
+}
