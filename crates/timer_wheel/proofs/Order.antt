@@ -2,8 +2,7 @@
 use Rattle.std.proofs.Common.{refl, sym, ◌∙◌, ◌≡◌, true, false, arith}
 use Rattle.std.proofs.lemmas.Bool.Decides.{nat_tests}
 use Rattle.timer_wheel.specs.declared.name.TimerName.{TimerName}
-use Rattle.timer_wheel.specs.declared.name.Key.{Key}
-use Rattle.timer_wheel.specs.Names.{key_of, is_key_before, is_before}
+use Rattle.timer_wheel.specs.Names.{Key, key_of, is_key_before, is_before}
 
 key-asym : (x y : Key) → is_key_before x y ≡ true → is_key_before y x ≡ false
 key-asym x y h = grind (arith, nat_tests)

@@ -3,8 +3,7 @@ use Rattle.std.proofs.Common.{◌≡◌, ◌≢◌, true, false, refl, sym, ap, 
 use Rattle.std.proofs.lemmas.Bool.{false≢true}
 use Rattle.std.proofs.lemmas.Bool.Decides.{nat_tests}
 use Rattle.timer_wheel.specs.declared.name.TimerName.{TimerName}
-use Rattle.timer_wheel.specs.declared.name.Key.{Key}
-use Rattle.timer_wheel.specs.Names.{key_of, is_key_before, is_before, is_same_key, is_same}
+use Rattle.timer_wheel.specs.Names.{Key, key_of, is_key_before, is_before, is_same_key, is_same}
 use Rattle.timer_wheel.proofs.Keys.{one_name}
 use Rattle.timer_wheel.proofs.Order.{before-itself}
 

@@ -5,10 +5,15 @@ use Rattle.timer_wheel.specs.declared.name.TimerName.{TimerName}
 use Rattle.timer_wheel.specs.declared.name.TimerName.TheVariants.{L1, L2, L3, L4, L6, L7, T1, T2, T3, T4, T6, T8, T10}
 use Rattle.timer_wheel.specs.declared.name.RouteTimer.{RouteTimer}
 use Rattle.timer_wheel.specs.declared.name.RouteTimer.TheVariants as route
-use Rattle.timer_wheel.specs.declared.name.Key.{Key}
 use Rattle.timer_wheel.specs.declared.name.NodeCounts.{NodeCounts}
 
 -- ---- name order: by kind, then in the order of the settings
+
+-- what the order goes by: the kind, then the place in the order of the settings
+pub record Key : Type 0 where
+  pub kind : ℕ
+  pub row : ℕ
+  pub column : ℕ
 
 abbrev pub key : (kind row column : ℕ) → Key
 key kind row column = record { kind = kind; row = row; column = column }

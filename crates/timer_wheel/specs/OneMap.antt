@@ -9,9 +9,8 @@ use base.Stored.{coded_via}
 use mathlib.Core.HLevel.{Σ_prop_path}
 use Rattle.timer_wheel.specs.declared.name.TimerName.{TimerName}
 use Rattle.timer_wheel.specs.declared.name.TimerName.TheVariants.{L1, L2, L3, L4, L6, L7, T1, T2, T3, T4, T6, T8, T10}
-use Rattle.timer_wheel.specs.declared.name.Key.{Key}
 use Rattle.timer_wheel.specs.declared.name.NodeCounts.{NodeCounts}
-use Rattle.timer_wheel.specs.Names.{key_of, has_name}
+use Rattle.timer_wheel.specs.Names.{Key, key_of, has_name}
 use Rattle.timer_wheel.specs.Timers.{Running}
 
 -- ---- the same left to each name

@@ -1,0 +1,157 @@
+-- The leaves beneath a node: what the node's moment says of them.
+use Rattle.std.proofs.Common.{◌≡◌, ◌≢◌, ℕ, zero, suc, ◌+◌, ◌-◌, ◌*◌, ◌^◌, ◌<◌, ◌≤◌, inl, inr, min, Bool, true, false, cond, List, [], ◌∷◌, ◌++◌, length, get_or, take, drop, refl, sym, ap, subst, ◌∙◌, arith}
+use Rattle.std.proofs.Math.Nat.{pow-suc, mul-le-mul_left}
+use Rattle.std.proofs.lemmas.Nat.{pow_pos}
+use Rattle.std.proofs.lemmas.List.{take-append-drop, take-take, drop-take, drop-drop, drop_more}
+use Rattle.std.proofs.lemmas.List.Sums.{sum_by-append}
+use Rattle.std.proofs.lemmas.Bool.{cases_lt}
+use Rattle.std.proofs.lemmas.Bool.Decides.{nat_tests}
+use Rattle.std.specs.List.{count_by}
+use Rattle.timer_wheel.specs.Tree.{never, has_come, at, least, child, first_below, count_below, IsMended, AreMended}
+
+take-add : (m n : ℕ) (xs : List ℕ) → take (m + n) xs ≡ take m xs ++ take n (drop m xs)
+take-add m n xs = sym (take-append-drop m (take (m + n) xs)) ∙ (λ i. take-take m (m + n) xs (omega arith) i ++ drop-take m n xs i)
+
+-- ---- tests
+
+pub come-yes : (clock moment : ℕ) → moment ≤ clock → has_come clock moment ≡ true
+come-yes clock moment h = grind (arith, nat_tests)
+
+pub come-no : (clock moment : ℕ) → clock < moment → has_come clock moment ≡ false
+come-no clock moment h = grind (arith, nat_tests)
+
+came_by : (clock moment : ℕ) → has_come clock moment ≡ true → moment ≤ clock
+came_by clock moment h = grind (arith, nat_tests, h)
+
+gone_by : (clock moment : ℕ) → has_come clock moment ≡ false → clock < moment
+gone_by clock moment h = grind (arith, nat_tests, h)
+
+both_above : (c a b : ℕ) → c < min a b → (c < a) × (c < b)
+both_above c a b h = (grind (arith, h), grind (arith, h))
+
+second_come : (c a b : ℕ) → min a b ≤ c → c < a → b ≤ c
+second_come c a b h k = grind (arith, h, k)
+
+-- ---- rows
+
+double : (k : ℕ) → 2 ^ suc k ≡ 2 ^ k + 2 ^ k
+double k = omega (arith, pow-suc 2 k)
+
+-- where the row of the node begins, seen from the two nodes below it
+row_left : (k node : ℕ) → node * 2 ^ suc k ≡ (2 * node) * 2 ^ k
+row_left k node = let d = double k in ap (λ p. node * p) d ∙ halves node (2 ^ k)
+  where
+    halves : (n p : ℕ) → n * (p + p) ≡ (2 * n) * p
+    halves n p = omega arith
+
+row_right : (k node : ℕ) → (2 * node + 1) * 2 ^ k ≡ node * 2 ^ suc k + 2 ^ k
+row_right k node = omega (arith, row_left k node)
+
+row_end : (k node : ℕ) → (node + 1) * 2 ^ suc k ≡ (2 * node + 1 + 1) * 2 ^ k
+row_end k node = omega (arith, row_left k node, double k)
+
+-- ---- each node holds the least
+
+-- a node so many levels above the leaves
+pub record IsOver (leaves k node : ℕ) : Type 0 where
+  pub some : 1 ≤ node
+  pub fits : (node + 1) * 2 ^ k ≤ 2 * leaves
+
+over-left : (leaves k node : ℕ) → IsOver leaves (suc k) node → IsOver leaves k (2 * node)
+over-left leaves k node o = record { some = omega (arith, o.some); fits = omega (arith, o.fits, row_end k node) }
+
+over-right : (leaves k node : ℕ) → IsOver leaves (suc k) node → IsOver leaves k (2 * node + 1)
+over-right leaves k node o = record { some = omega arith; fits = omega (arith, o.fits, row_end k node) }
+
+inner : (leaves k node : ℕ) → IsOver leaves (suc k) node → node < leaves
+inner leaves k node o =
+    let some : 1 ≤ 2 ^ k = omega (arith, pow_pos k) in
+    let wide : (2 * node + 1 + 1) * 1 ≤ (2 * node + 1 + 1) * 2 ^ k = mul-le-mul_left (2 * node + 1 + 1) some in
+    omega (arith, wide, o.fits, row_end k node)
+
+below-mended : (leaves k node : ℕ) (nodes : List ℕ) → IsMended leaves nodes → IsOver leaves k node → AreMended k node nodes
+below-mended leaves zero node nodes m o = tt
+below-mended leaves (suc k) node nodes m o = (
+  m.holds node o.some (inner leaves k node o),
+  below-mended leaves k (2 * node) nodes m (over-left leaves k node o),
+  below-mended leaves k (2 * node + 1) nodes m (over-right leaves k node o),
+)
+
+-- the whole tree
+pub all-mended : (levels : ℕ) (nodes : List ℕ) → IsMended (2 ^ levels) nodes → AreMended levels 1 nodes
+all-mended levels nodes m = below-mended (2 ^ levels) levels 1 nodes m (record { some = omega arith; fits = omega arith })
+
+-- ---- the moment of a node is that of its first leaf
+
+module _ (clock : ℕ) (nodes : List ℕ) where
+  -- nothing has come below a node that gone_by
+  pub late : (k node : ℕ) → AreMended k node nodes → clock < at nodes node → (leaf : ℕ) → node * 2 ^ k ≤ leaf → leaf < (node + 1) * 2 ^ k → clock < at nodes leaf
+  late zero node m h leaf low high = let e : node ≡ leaf = omega (arith, low, high) in subst (λ i. clock < at nodes i) e h
+  late (suc k) node m h leaf low high =
+      let both = both_above clock (at nodes (2 * node)) (at nodes (2 * node + 1)) (subst (λ a. clock < a) m.0 h) in
+      elim (cases_lt leaf ((2 * node + 1) * 2 ^ k)) [
+        | inl left ↦ late k (2 * node) m.1 both.0 leaf (omega (arith, low, row_left k node)) left
+        | inr right ↦ late k (2 * node + 1) m.2 both.1 leaf right (omega (arith, high, row_end k node))
+      ]
+
+  pub none-below : (k node : ℕ) → AreMended k node nodes → clock < at nodes node → count_below clock nodes k node ≡ 0
+  none-below zero node m h = ap (λ b. cond b 1 0) (come-no clock (at nodes node) h)
+  none-below (suc k) node m h =
+      let both = both_above clock (at nodes (2 * node)) (at nodes (2 * node + 1)) (subst (λ a. clock < a) m.0 h) in
+      omega (arith, none-below k (2 * node) m.1 both.0, none-below k (2 * node + 1) m.2 both.1)
+
+  -- the first leaf of the row of a node that has come
+  pub record IsFirst (k node leaf : ℕ) : Type 0 where
+    pub low : node * 2 ^ k ≤ leaf
+    pub high : leaf < (node + 1) * 2 ^ k
+    pub come : at nodes leaf ≤ clock
+    pub before : (other : ℕ) → node * 2 ^ k ≤ other → other < leaf → clock < at nodes other
+
+  pub first-is : (k node : ℕ) → AreMended k node nodes → at nodes node ≤ clock → IsFirst k node (first_below clock nodes k node)
+  first-is zero node m h = record { low = omega arith; high = omega arith; come = h; before = λ other low high. absurd (omega (arith, low, high)) }
+  first-is (suc k) node m h =
+      elim (has_come clock (at nodes (2 * node))) as (λ b. has_come clock (at nodes (2 * node)) ≡ b → IsFirst (suc k) node (first_below clock nodes k (cond b (2 * node) (2 * node + 1)))) [
+        | true ↦ λ e. left (first-is k (2 * node) m.1 (came_by clock (at nodes (2 * node)) e))
+        | false ↦ λ e.
+            let gone = gone_by clock (at nodes (2 * node)) e in
+            right gone (first-is k (2 * node + 1) m.2 (second_come clock (at nodes (2 * node)) (at nodes (2 * node + 1)) (subst (λ a. a ≤ clock) m.0 h) gone))
+      ] refl
+    where
+      left : {leaf : ℕ} → IsFirst k (2 * node) leaf → IsFirst (suc k) node leaf
+      left {leaf} f = record {
+        low = omega (arith, f.low, row_left k node);
+        high = omega (arith, f.high, row_left k node, row_right k node, double k, row_end k node);
+        come = f.come;
+        before = λ other low high. f.before other (omega (arith, low, row_left k node)) high;
+      }
+
+      right : {leaf : ℕ} → clock < at nodes (2 * node) → IsFirst k (2 * node + 1) leaf → IsFirst (suc k) node leaf
+      right {leaf} gone f = record {
+        low = omega (arith, f.low, row_right k node);
+        high = omega (arith, f.high, row_end k node);
+        come = f.come;
+        before = λ other low high. elim (cases_lt other ((2 * node + 1) * 2 ^ k)) [
+          | inl skipped ↦ late k (2 * node) m.1 gone other (omega (arith, low, row_left k node)) skipped
+          | inr there ↦ f.before other there high
+        ];
+      }
+
+  -- ---- as many leaves have come as a test of the row lets through
+
+  pub count-row : (k node : ℕ) → (node + 1) * 2 ^ k ≤ length nodes → count_below clock nodes k node ≡ count_by (has_come clock) (take (2 ^ k) (drop (node * 2 ^ k) nodes))
+  count-row zero node h =
+      let within : node < length nodes = omega (arith, h) in
+      let start : node * 2 ^ 0 ≡ node = omega arith in
+      sym (ap (λ i. count_by (has_come clock) (take 1 (drop i nodes))) start ∙ ap (λ xs. count_by (has_come clock) (take 1 xs)) (drop_more nodes node never within))
+  count-row (suc k) node h =
+      let p = 2 ^ k in
+      let from = node * 2 ^ suc k in
+      let left = count-row k (2 * node) (omega (arith, h, row_end k node, row_right k node, row_left k node, double k)) in
+      let right = count-row k (2 * node + 1) (omega (arith, h, row_end k node)) in
+      let begins : (2 * node) * p ≡ from = sym (row_left k node) in
+      let goes_on : drop ((2 * node + 1) * p) nodes ≡ drop p (drop from nodes) = ap (λ i. drop i nodes) (row_right k node) ∙ sym (drop-drop p from nodes) in
+      (λ i. left i + right i)
+      ∙ (λ i. count_by (has_come clock) (take p (drop (begins i) nodes)) + count_by (has_come clock) (take p (goes_on i)))
+      ∙ sym (sum_by-append (λ m. cond (has_come clock m) 1 0) (take p (drop from nodes)) (take p (drop p (drop from nodes))))
+      ∙ ap (count_by (has_come clock)) (sym (take-add p p (drop from nodes)))
+      ∙ ap (λ n. count_by (has_come clock) (take n (drop from nodes))) (sym (double k))
