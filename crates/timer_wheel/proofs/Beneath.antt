@@ -50,6 +50,41 @@ row_right k node = omega (arith, row_left k node)
 row_end : (k node : ℕ) → (node + 1) * 2 ^ suc k ≡ (2 * node + 1 + 1) * 2 ^ k
 row_end k node = omega (arith, row_left k node, double k)
 
+-- a row that has levels below it
+deeper : (levels : ℕ) → 0 < levels → levels ≡ suc (levels - 1)
+deeper levels h = omega (arith, h)
+
+wider : (levels node n : ℕ) → 0 < levels → (node + 1) * 2 ^ levels ≤ n → (node + 1) * 2 ^ suc (levels - 1) ≤ n
+wider levels node n h k = subst (λ l. (node + 1) * 2 ^ l ≤ n) (deeper levels h) k
+
+pub row-first : (levels node n : ℕ) → 0 < levels → (node + 1) * 2 ^ levels ≤ n → (2 * node + 1) * 2 ^ (levels - 1) ≤ n
+row-first levels node n h k = omega (arith, wider levels node n h k, row_end (levels - 1) node)
+
+pub row-second : (levels node n : ℕ) → 0 < levels → (node + 1) * 2 ^ levels ≤ n → (2 * node + 1 + 1) * 2 ^ (levels - 1) ≤ n
+row-second levels node n h k = omega (arith, wider levels node n h k, row_end (levels - 1) node)
+
+pub two-halves : (levels : ℕ) → 0 < levels → 2 ^ levels ≡ 2 ^ (levels - 1) + 2 ^ (levels - 1)
+two-halves levels h = ap (λ l. 2 ^ l) (deeper levels h) ∙ double (levels - 1)
+
+pub row-within : (levels node n : ℕ) → (node + 1) * 2 ^ levels ≤ n → node < n
+row-within levels node n h =
+    let some : 1 ≤ 2 ^ levels = omega (arith, pow_pos levels) in
+    let wide : (node + 1) * 1 ≤ (node + 1) * 2 ^ levels = mul-le-mul_left (node + 1) some in
+    omega (arith, wide, h)
+
+pub row-child : (clock : ℕ) (nodes : List ℕ) (levels node n : ℕ) → (node + 1) * 2 ^ suc levels ≤ n → (child clock nodes node + 1) * 2 ^ levels ≤ n
+row-child clock nodes levels node n h =
+    elim (has_come clock (at nodes (2 * node))) as (λ b. (cond b (2 * node) (2 * node + 1) + 1) * 2 ^ levels ≤ n) [
+      | true ↦ (let goal : (2 * node + 1) * 2 ^ levels ≤ n = omega (arith, h, row_end levels node) in goal)
+      | false ↦ (let goal : (2 * node + 1 + 1) * 2 ^ levels ≤ n = omega (arith, h, row_end levels node) in goal)
+    ]
+
+pub mended-first : (levels node : ℕ) (nodes : List ℕ) → 0 < levels → AreMended levels node nodes → AreMended (levels - 1) (2 * node) nodes
+mended-first levels node nodes h m = (subst (λ l. AreMended l node nodes) (deeper levels h) m).1
+
+pub mended-second : (levels node : ℕ) (nodes : List ℕ) → 0 < levels → AreMended levels node nodes → AreMended (levels - 1) (2 * node + 1) nodes
+mended-second levels node nodes h m = (subst (λ l. AreMended l node nodes) (deeper levels h) m).2
+
 -- ---- each node holds the least
 
 -- a node so many levels above the leaves
@@ -142,7 +177,10 @@ module _ (clock : ℕ) (nodes : List ℕ) where
   count-row zero node h =
       let within : node < length nodes = omega (arith, h) in
       let start : node * 2 ^ 0 ≡ node = omega arith in
-      sym (ap (λ i. count_by (has_come clock) (take 1 (drop i nodes))) start ∙ ap (λ xs. count_by (has_come clock) (take 1 xs)) (drop_more nodes node never within))
+      sym (ap (λ i. count_by (has_come clock) (take 1 (drop i nodes))) start ∙ ap (λ xs. count_by (has_come clock) (take 1 xs)) (drop_more nodes node never within) ∙ single (at nodes node) (drop (node + 1) nodes))
+    where
+      single : (x : ℕ) (xs : List ℕ) → count_by (has_come clock) (take 1 (x ∷ xs)) ≡ cond (has_come clock x) 1 0
+      single x xs = let e : 0 + cond (has_come clock x) 1 0 ≡ cond (has_come clock x) 1 0 = omega arith in e
   count-row (suc k) node h =
       let p = 2 ^ k in
       let from = node * 2 ^ suc k in

@@ -1,6 +1,6 @@
 -- What the calls of the table come to, for the map that it says.
 use Rattle.std.proofs.Common.{◌≡◌, ℕ, Bool, true, false, cond, refl, sym, ap, subst, ◌∙◌}
-use Rattle.std.specs.Prelude.{Option, Some, None, is_some, max, get_or}
+use Rattle.std.specs.Prelude.{Option, Some, None, is_some, max, get_or, length, slice_set, ◌<◌}
 use Rattle.std.specs.Option.{option_map}
 use Rattle.timer_wheel.specs.declared.name.TimerName.{TimerName}
 use Rattle.timer_wheel.specs.declared.name.NodeCounts.{NodeCounts}
@@ -9,7 +9,7 @@ use Rattle.timer_wheel.specs.Places.{named_sets, place_in, place_of, name_at}
 use Rattle.timer_wheel.specs.Timers.{Running, is_running, set_timer, start_unless_running, clear_timer, ticked, due_name, after_due}
 use Rattle.timer_wheel.specs.Table.{Table, has_place, left_to, map_of, IsWhole}
 use Rattle.timer_wheel.proofs.OnTable.{put, put_at, put_in, start_at, ticked_in, due_place, due_in, after_due_in}
-use Rattle.timer_wheel.proofs.InTable.{left-there, left-absent, whole-put_at, whole-ticked}
+use Rattle.timer_wheel.proofs.InTable.{within, left-there, left-absent, whole-put_at, whole-ticked}
 use Rattle.timer_wheel.proofs.Viewed.{map-set, map-start, map-clear, map-ticked, map-running, map-due, map-after}
 
 -- the table says this map, and is whole
@@ -42,6 +42,18 @@ none-left name t e = at (has_place name t) refl e
     at : (b : Bool) → has_place name t ≡ b → cond b (Some (place_in (named_sets t.counts) name)) None ≡ None → left_to name t ≡ None
     at true h e = absurd cc
     at false h e = left-absent name t h
+
+pub place_fits : (place : ℕ) (name : TimerName) (t : Table) → IsWhole t → Some place ≡ place_for name t → place < length t.left
+place_fits place name t w e = at (has_place name t) refl (sym e)
+  where
+    at : (b : Bool) → has_place name t ≡ b → cond b (Some (place_in (named_sets t.counts) name)) None ≡ Some place → place < length t.left
+    at true h e = subst (λ p. p < length t.left) (some_is e) (within name t w h)
+    at false h e = absurd cc
+
+-- a place that is started, in a table
+pub started : (b : Bool) (t : Table) (place : ℕ) (left : Option ℕ) → record t { left = cond b t.left (slice_set t.left place left) } ≡ cond b t (put place left t)
+started true t place left = refl
+started false t place left = refl
 
 pub set_meets : (o : Option ℕ) (name : TimerName) (ticks : ℕ) (t s : Table) → IsWhole t → has_place name t ≡ has_name t.counts name → o ≡ place_for name t → s ≡ put_at o (Some (max 1 ticks)) t
     → Meets s (set_timer name ticks (map_of t))

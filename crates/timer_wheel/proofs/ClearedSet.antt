@@ -1,5 +1,5 @@
 -- A timer of a set is stopped, destination by destination.
-use Rattle.std.proofs.Common.{◌≡◌, ℕ, zero, suc, ◌==◌, nat_lt, ◌<◌, ◌≤◌, inl, inr, Bool, true, false, refl, sym, ap, subst, ◌∙◌, arith}
+use Rattle.std.proofs.Common.{◌≡◌, ℕ, zero, suc, ◌+◌, ◌==◌, nat_lt, ◌<◌, ◌≤◌, inl, inr, Bool, true, false, refl, sym, ap, subst, ◌∙◌, arith}
 use Rattle.std.proofs.lemmas.Bool.{cases_eq, cases_lt, false≢true}
 use Rattle.std.proofs.lemmas.Bool.Decides.{nat_tests}
 use Rattle.std.specs.Prelude.{None, ◌&&◌}
@@ -18,6 +18,11 @@ use Rattle.timer_wheel.proofs.Maps.{left-clear, left-clear_other, counts-clear, 
 abbrev pub cleared_below : RouteTimer → (set destinations : ℕ) → Running → Running
 cleared_below timer set zero r = r
 cleared_below timer set (suc destinations) r = clear_timer (name_of_route timer set destinations) (cleared_below timer set destinations r)
+
+-- one more
+pub cleared-more : (timer : RouteTimer) (set destinations : ℕ) (r : Running)
+    → cleared_below timer set (destinations + 1) r ≡ clear_timer (name_of_route timer set destinations) (cleared_below timer set destinations r)
+cleared-more timer set destinations r = let e : destinations + 1 ≡ suc destinations = omega arith in ap (λ n. cleared_below timer set n r) e
 
 counts-below : (timer : RouteTimer) (set destinations : ℕ) (r : Running) → (cleared_below timer set destinations r).counts ≡ r.counts
 counts-below timer set zero r = refl
@@ -72,14 +77,14 @@ stays timer set (suc d) name r h =
     left-clear_other (name_of_route timer set d) name (cleared_below timer set d r) (λ e. false≢true (sym h ∙ ap (is_of_set timer set) (sym e) ∙ is_route timer set d))
     ∙ stays timer set d name r h
 
+past : (b : Bool) (d m : ℕ) → m ≤ d → (b && nat_lt d m) ≡ false
+past true d m h = grind (arith, nat_tests, h)
+past false d m h = refl
+
 -- it exists for the destinations of the node alone
 no_further : (timer : RouteTimer) (set d : ℕ) (n : NodeCounts) → n.destinations ≤ d → has_name n (name_of_route timer set d) ≡ false
 no_further route.T8 set d n h = past (nat_lt set n.sets) d n.destinations h
-  where
-    past : (b : Bool) (d m : ℕ) → m ≤ d → (b && nat_lt d m) ≡ false
-    past true d m h = grind (arith, nat_tests, h)
-    past false d m h = refl
-no_further route.T10 set d n h = no_further route.T8 set d n h
+no_further route.T10 set d n h = past (nat_lt set n.sets) d n.destinations h
 
 pub all-cleared : (timer : RouteTimer) (set : ℕ) (r : Running) → cleared_below timer set r.counts.destinations r ≡ clear_set timer set r
 all-cleared timer set r =
@@ -91,7 +96,7 @@ all-cleared timer set r =
         let m = cleared_below timer set r.counts.destinations r in
         elim (cases_lt o.destination r.counts.destinations) [
           | inl there ↦ ap (λ x. m.left x) o.named ∙ gone timer set r.counts.destinations o.destination r there
-          | inr past ↦ m.only name (ap (λ n. has_name n name) (counts-below timer set r.counts.destinations r) ∙ ap (has_name r.counts) o.named ∙ no_further timer set o.destination r.counts past)
+          | inr further ↦ m.only name (ap (λ n. has_name n name) (counts-below timer set r.counts.destinations r) ∙ ap (has_name r.counts) o.named ∙ no_further timer set o.destination r.counts further)
         ]
 
     each : (name : TimerName) → (cleared_below timer set r.counts.destinations r).left name ≡ (clear_set timer set r).left name

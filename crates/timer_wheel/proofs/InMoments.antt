@@ -1,6 +1,6 @@
 -- The ticks that are left, read from the leaves of a tree of moments.
 use Rattle.std.proofs.Common.{◌≡◌, ◌≢◌, ℕ, zero, suc, nat_lt, ◌+◌, ◌-◌, ◌*◌, ◌^◌, ◌<◌, ◌≤◌, ◌==◌, inl, inr, min, Bool, true, false, cond, List, [], ◌∷◌, length, map, get_or, take, drop, slice_set, replicate, refl, sym, ap, subst, ◌∙◌, arith}
-use Rattle.std.proofs.lemmas.List.{map-set, get_or-set_other, get_or-take, get_or-drop, length-set, length-map, length-drop, length-take-le, drop-map, take-map, take_rest, take-replicate, drop-replicate, get_or-replicate, length-replicate}
+use Rattle.std.proofs.lemmas.List.{map-set, get_or-set_other, get_or-take, get_or-drop, length-set, length-map, length-drop, length-take-le, drop-map, take-map, take_rest, take-replicate, drop-replicate, get_or-replicate, length-replicate, get_or_read}
 use Rattle.std.proofs.lemmas.List as list
 use Rattle.std.proofs.lemmas.List.Sums.{sum_by-take-drop, length-filter, position_or_len_is}
 use Rattle.std.proofs.lemmas.Bool.{cases_lt}
@@ -10,7 +10,7 @@ use Rattle.std.specs.List.{count_by, position_or_len}
 use Rattle.timer_wheel.specs.Timers.{one_less, no_tick_left}
 use Rattle.timer_wheel.specs.Tree.{never, left_at, has_come, rebased, at, least, first_below, count_below, IsMended, AreMended}
 use Rattle.timer_wheel.specs.Moments.{left_in, IsTree}
-use Rattle.timer_wheel.proofs.Beneath.{come-yes, come-no, all-mended, late, IsFirst, first-is, count-row}
+use Rattle.timer_wheel.proofs.Beneath.{come-yes, come-no, all-mended, late, IsFirst, first-is, count-row, row-within}
 
 -- ---- one moment
 
@@ -221,7 +221,7 @@ left-counted clock places levels leaves nodes t =
     let wide : 2 ^ levels ≡ length nodes - leaves = omega (arith, t.halves, t.size) in
     let row = count-row clock nodes levels 1 (all_rows clock places levels leaves nodes t) in
     let all = (λ i. count_by (has_come clock) (take (wide i) (drop (start i) nodes))) ∙ ap (count_by (has_come clock)) (take_rest nodes leaves) in
-    let parts = sum_by-take-drop (λ m. cond (has_come clock m) 1 0) (drop leaves nodes) places in
+    let parts : count_by (has_come clock) (take places (drop leaves nodes)) + count_by (has_come clock) (drop places (drop leaves nodes)) ≡ count_by (has_come clock) (drop leaves nodes) = sum_by-take-drop (λ m. cond (has_come clock m) 1 0) (drop leaves nodes) places in
     let rest = none-counted clock (drop places (drop leaves nodes)) early (λ i. get_or-drop places (drop leaves nodes) i never ∙ t.idle (places + i) (omega arith)) in
     let few = counted clock (take places (drop leaves nodes)) early in
     omega (arith, row, all, parts, rest, few)
@@ -290,3 +290,10 @@ module _ (clock places levels leaves : ℕ) (nodes : List ℕ) (t : IsTree clock
           let inside : k < places = omega (arith, lower, length-left clock places levels leaves nodes t) in
           due-at k inside
           ∙ come-no clock (at nodes (leaves + k)) (late clock nodes levels 1 (mended clock places levels leaves nodes t) h (leaves + k) (omega (arith, t.halves)) (omega (arith, t.halves, inside, t.room)))
+
+  -- what was read at the top
+  pub top : (moment : ℕ) → moment ≡ get_or nodes 1 moment → moment ≡ at nodes 1
+  top moment e = get_or_read nodes 1 moment (row-within levels 1 (length nodes) (all_rows clock places levels leaves nodes t)) e never
+
+  pub leaf-found : (moment leaf : ℕ) → moment ≡ get_or nodes 1 moment → moment ≤ clock → leaf ≡ first_below clock nodes levels 1 → IsFirstPlace leaf
+  leaf-found moment leaf e h same = subst IsFirstPlace (sym same) (left-first (let read = top moment e in omega (arith, read, h)))

@@ -35,7 +35,7 @@ pub left-absent : (name : TimerName) (t : Table) → has_place name t ≡ false 
 unfolding left_to
 left-absent name t h = ap (λ b. cond b (get_or t.left (place_for name t) None) None) h
 
-within : (name : TimerName) (t : Table) → IsWhole t → has_place name t ≡ true → place_for name t < length t.left
+pub within : (name : TimerName) (t : Table) → IsWhole t → has_place name t ≡ true → place_for name t < length t.left
 within name t w h = let f = place-fits (named_sets t.counts) name h in omega (arith, f, w.places)
 
 pub placed : (name : TimerName) (n : NodeCounts) (p : ℕ) → place_of n name ≡ Some p → place_in n name ≡ p

@@ -23,3 +23,5 @@ pub record IsTree (clock places levels leaves : ℕ) (nodes : List ℕ) : Type 0
 
 pub record AreMoments (s : Inside) : Type 0 where
   pub tree : IsTree s.clock s.places s.levels s.leaves s.nodes.items
+  -- the leaves can be counted
+  pub few : s.levels ≤ 48

@@ -143,7 +143,7 @@ fn levels_for(leaves: usize) -> u32
 fn leaves_at(levels: u32) -> usize
     requires { levels ≤ 48 }
     ensures count { result ≡ 2 ^ levels }
-    ensures fits { result ≤ 2 ^ 48 }
+    ensures fits { result < 2 ^ 49 }
 {
     1 << levels
 }

@@ -129,7 +129,15 @@ fn t10_from(counts: NodeCounts) -> usize
     ensures value { result ≡ t10_from counts }
     ensures fits { result < 2 ^ 33 }
 {
-    t8_from(counts) + usize::from(counts.sets) * usize::from(counts.destinations)
+    t8_from(counts) + routes(counts)
+}
+
+/// How many timers of each kind that a set has for a destination there are.
+fn routes(counts: NodeCounts) -> usize
+    ensures value { result ≡ counts.sets * counts.destinations }
+    ensures fits { result < 2 ^ 32 }
+{
+    usize::from(counts.sets) * usize::from(counts.destinations)
 }
 
 /// How many places there are.
@@ -137,7 +145,7 @@ pub(crate) fn count_of(counts: NodeCounts) -> usize
     ensures count { result ≡ count_of counts }
     ensures fits { result < 2 ^ 48 }
 {
-    t10_from(counts) + usize::from(counts.sets) * usize::from(counts.destinations)
+    t10_from(counts) + routes(counts)
 }
 
 /// The name of the timer at a place.

@@ -75,6 +75,7 @@ fn child(nodes: &[u32], clock: u32, node: usize) -> usize
 /// How many leaves have come, so many levels below a node.
 pub(crate) fn count_below(nodes: &[u32], clock: u32, levels: u32, node: usize) -> usize
     requires size { (node + 1) * 2 ^ levels ≤ length nodes.now }
+    requires few { levels ≤ 48 }
     requires mended { AreMended levels node nodes.now }
     ensures count { result ≡ count_below clock nodes.now levels node }
     ensures fits { result ≤ 2 ^ levels }
