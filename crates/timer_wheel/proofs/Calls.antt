@@ -3,12 +3,11 @@ use Rattle.std.proofs.Common.{◌≡◌, ℕ, Bool, true, false, cond, refl, sym
 use Rattle.std.specs.Prelude.{Option, Some, None, is_some, max, get_or, length, slice_set, ◌<◌}
 use Rattle.std.specs.Option.{option_map}
 use Rattle.timer_wheel.specs.declared.name.TimerName.{TimerName}
-use Rattle.timer_wheel.specs.declared.name.NodeCounts.{NodeCounts}
 use Rattle.timer_wheel.specs.Names.{has_name}
 use Rattle.timer_wheel.specs.Places.{named_sets, place_in, place_of, name_at}
 use Rattle.timer_wheel.specs.Timers.{Running, is_running, set_timer, start_unless_running, clear_timer, ticked, due_name, after_due}
 use Rattle.timer_wheel.specs.Table.{Table, has_place, left_to, map_of, IsWhole}
-use Rattle.timer_wheel.proofs.OnTable.{put, put_at, put_in, start_at, ticked_in, due_place, due_in, after_due_in}
+use Rattle.timer_wheel.proofs.OnTable.{put, put_at, put_in, start_at, ticked_in, due_place, after_due_in}
 use Rattle.timer_wheel.proofs.InTable.{within, left-there, left-absent, whole-put_at, whole-ticked}
 use Rattle.timer_wheel.proofs.Viewed.{map-set, map-start, map-clear, map-ticked, map-running, map-due, map-after}
 

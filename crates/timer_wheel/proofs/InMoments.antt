@@ -1,5 +1,5 @@
 -- The ticks that are left, read from the leaves of a tree of moments.
-use Rattle.std.proofs.Common.{◌≡◌, ◌≢◌, ℕ, zero, suc, nat_lt, ◌+◌, ◌-◌, ◌*◌, ◌^◌, ◌<◌, ◌≤◌, ◌==◌, inl, inr, min, Bool, true, false, cond, List, [], ◌∷◌, length, map, get_or, take, drop, slice_set, replicate, refl, sym, ap, subst, ◌∙◌, arith}
+use Rattle.std.proofs.Common.{◌≡◌, ℕ, zero, suc, nat_lt, ◌+◌, ◌-◌, ◌*◌, ◌^◌, ◌<◌, ◌≤◌, ◌==◌, inl, inr, min, Bool, true, false, cond, List, [], ◌∷◌, length, map, get_or, take, drop, slice_set, replicate, refl, sym, ap, subst, ◌∙◌, arith}
 use Rattle.std.proofs.lemmas.List.{map-set, get_or-set_other, get_or-take, get_or-drop, length-set, length-map, length-drop, length-take-le, drop-map, take-map, take_rest, take-replicate, drop-replicate, get_or-replicate, length-replicate, get_or_read}
 use Rattle.std.proofs.lemmas.List as list
 use Rattle.std.proofs.lemmas.List.Sums.{sum_by-take-drop, length-filter, position_or_len_is}
@@ -8,7 +8,7 @@ use Rattle.std.proofs.lemmas.Bool.Decides.{nat_tests}
 use Rattle.std.specs.Prelude.{Option, Some, None, is_some, filter, position}
 use Rattle.std.specs.List.{count_by, position_or_len}
 use Rattle.timer_wheel.specs.Timers.{one_less, no_tick_left}
-use Rattle.timer_wheel.specs.Tree.{never, left_at, has_come, rebased, at, least, first_below, count_below, IsMended, AreMended}
+use Rattle.timer_wheel.specs.Tree.{never, left_at, has_come, rebased, at, first_below, count_below, IsMended, AreMended}
 use Rattle.timer_wheel.specs.Moments.{left_in, IsTree}
 use Rattle.timer_wheel.proofs.Beneath.{come-yes, come-no, all-mended, late, IsFirst, first-is, count-row, row-within}
 
@@ -257,10 +257,10 @@ module _ (clock places levels leaves : ℕ) (nodes : List ℕ) (t : IsTree clock
       let within = come-within place h in
       let len = length-left clock places levels leaves nodes t in
       found place (left_in clock places leaves nodes)
-        (position_or_len_is no_tick_left (left_in clock places leaves nodes) place None (omega (arith, within, len))
-          (λ k lower. due-at k (omega (arith, lower, within)) ∙ come-no clock (at nodes (leaves + k)) (before k lower))
-          (λ l. due-at place within ∙ come-yes clock (at nodes (leaves + place)) h))
-        (omega (arith, within, len))
+      (position_or_len_is no_tick_left (left_in clock places leaves nodes) place None (omega (arith, within, len))
+      (λ k lower. due-at k (omega (arith, lower, within)) ∙ come-no clock (at nodes (leaves + k)) (before k lower))
+      (λ l. due-at place within ∙ come-yes clock (at nodes (leaves + place)) h))
+      (omega (arith, within, len))
 
   pub record IsFirstPlace (leaf : ℕ) : Type 0 where
     pub low : leaves ≤ leaf

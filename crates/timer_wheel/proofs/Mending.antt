@@ -1,5 +1,5 @@
 -- A moment is written, and the nodes above it are mended one by one.
-use Rattle.std.proofs.Common.{◌≡◌, ◌≢◌, ℕ, ◌+◌, ◌*◌, ◌/◌, ◌<◌, ◌≤◌, inl, inr, min, List, length, slice_set, sym, ap, subst, ◌∙◌, arith}
+use Rattle.std.proofs.Common.{◌≡◌, ◌≢◌, ℕ, ◌+◌, ◌*◌, ◌/◌, ◌<◌, ◌≤◌, inl, inr, min, List, length, slice_set, sym, subst, ◌∙◌, arith}
 use Rattle.std.proofs.lemmas.Bool.{cases_eq}
 use Rattle.std.proofs.lemmas.List.{get_or-set_same, get_or-set_other}
 use Rattle.timer_wheel.specs.Tree.{never, at, least, IsMended, IsMendedBut}
@@ -8,8 +8,8 @@ use Rattle.timer_wheel.specs.Tree.{never, at, least, IsMended, IsMendedBut}
 least-set : (nodes : List ℕ) (node other moment : ℕ) → other ≢ node / 2 → least (slice_set nodes node moment) other ≡ least nodes other
 least-set nodes node other moment apart =
     λ i. min
-      (get_or-set_other nodes node (2 * other) moment never (λ e. apart (omega (arith, e))) i)
-      (get_or-set_other nodes node (2 * other + 1) moment never (λ e. apart (omega (arith, e))) i)
+    (get_or-set_other nodes node (2 * other) moment never (λ e. apart (omega (arith, e))) i)
+    (get_or-set_other nodes node (2 * other + 1) moment never (λ e. apart (omega (arith, e))) i)
 
 -- only the node above may then be wrong
 pub mended-set : (leaves node moment : ℕ) (nodes : List ℕ) → leaves ≤ node → IsMended leaves nodes → IsMendedBut leaves (node / 2) (slice_set nodes node moment)

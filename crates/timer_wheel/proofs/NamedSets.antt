@@ -1,5 +1,5 @@
 -- The sets that an octet names are the node's, or none is missing.
-use Rattle.std.proofs.Common.{◌≡◌, ℕ, nat_lt, ◌<◌, ◌≤◌, min, ap, arith}
+use Rattle.std.proofs.Common.{◌≡◌, ℕ, nat_lt, ◌<◌, min, ap, arith}
 use Rattle.std.proofs.lemmas.Bool.Decides.{nat_tests}
 use Rattle.std.specs.Prelude.{◌&&◌}
 use Rattle.timer_wheel.specs.declared.name.TimerName.TheVariants.{T4, T8, T10}

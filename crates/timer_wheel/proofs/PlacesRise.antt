@@ -1,5 +1,5 @@
 -- The places of the timers that a node has: they rise in name order, and are as many as its names.
-use Rattle.std.proofs.Common.{◌≡◌, ℕ, zero, suc, nat_lt, ◌+◌, ◌*◌, ◌<◌, ◌≤◌, true, List, [], ◌∷◌, length, take, get_or, inl, inr, refl, ap, ◌∙◌, arith}
+use Rattle.std.proofs.Common.{◌≡◌, ℕ, zero, suc, nat_lt, ◌+◌, ◌*◌, ◌<◌, ◌≤◌, true, List, [], ◌∷◌, take, get_or, inl, inr, refl, ap, ◌∙◌, arith}
 use Rattle.std.specs.Prelude.{◌&&◌}
 use Rattle.std.proofs.Math.Nat.{mul-le-mul_right}
 use Rattle.std.proofs.lemmas.Bool.{cases_order}
@@ -141,7 +141,6 @@ rising n x y p q h =
 
     no_higher_kind : (x y : Key) → is_key_before x y ≡ true → y.kind < x.kind → ⊥
     no_higher_kind x y h higher = grind (arith, nat_tests)
-
 
 -- ---- the place of a name is its number
 

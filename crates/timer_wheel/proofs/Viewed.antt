@@ -10,7 +10,7 @@ use Rattle.timer_wheel.specs.Places.{named_sets, place_of}
 use Rattle.timer_wheel.specs.Timers.{Running, none_running, is_running, set_timer, start_unless_running, clear_timer, one_less, ticked, due_name, after_due, due_count}
 use Rattle.timer_wheel.specs.OneMap.{one_map}
 use Rattle.timer_wheel.specs.Table.{Table, has_place, left_to, map_of, IsWhole}
-use Rattle.timer_wheel.proofs.OnTable.{none_in, put_at, put_in, ticked_in, due_place, due_in, after_due_in, count_in}
+use Rattle.timer_wheel.proofs.OnTable.{none_in, put_in, ticked_in, due_place, due_in, after_due_in, count_in}
 use Rattle.timer_wheel.proofs.Same.{same_is, is_itself}
 use Rattle.timer_wheel.proofs.InTable as table
 use Rattle.timer_wheel.proofs.Maps as map

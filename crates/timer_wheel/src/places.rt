@@ -73,8 +73,9 @@ fn code_place(counts: NodeCounts, set: SetId, code: u8) -> Option<usize>
 {
     let set = set.index();
     let code = usize::from(code);
-    (set < usize::from(counts.sets) && code < Limits::CHANGEBACK_CODES)
-        .then_some(codes_from(counts) + (set * Limits::CHANGEBACK_CODES + code))
+    (set < usize::from(counts.sets) && code < Limits::CHANGEBACK_CODES).then_some(
+        codes_from(counts) + (set * Limits::CHANGEBACK_CODES + code),
+    )
 }
 
 /// The place of a destination's T6.
@@ -83,8 +84,9 @@ fn destination_place(counts: NodeCounts, destination: u16) -> Option<usize>
         ≡ if nat_lt destination counts.destinations
         then Some (destinations_from counts + destination) else None }
 {
-    (destination < counts.destinations)
-        .then_some(destinations_from(counts) + usize::from(destination))
+    (destination < counts.destinations).then_some(
+        destinations_from(counts) + usize::from(destination),
+    )
 }
 
 /// The place of a timer of a set and a destination, where those of its kind begin here.
@@ -96,8 +98,9 @@ fn route_place(counts: NodeCounts, from: usize, set: SetId, destination: u16) ->
     ensures named { set < 256 }
 {
     let set = set.index();
-    (set < usize::from(counts.sets) && destination < counts.destinations)
-        .then_some(from + (set * usize::from(counts.destinations) + usize::from(destination)))
+    (set < usize::from(counts.sets) && destination < counts.destinations).then_some(
+        from + (set * usize::from(counts.destinations) + usize::from(destination)),
+    )
 }
 
 /// Where the places of T4 begin.

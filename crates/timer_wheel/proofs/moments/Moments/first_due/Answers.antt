@@ -1,4 +1,4 @@
-use Rattle.std.proofs.Common.{◌≡◌, ◌<◌, ◌≤◌, length, ap, ◌∙◌, arith}
+use Rattle.std.proofs.Common.{length, ap, ◌∙◌, arith}
 use Rattle.std.specs.Prelude.{position}
 use Rattle.timer_wheel.specs.Timers.{no_tick_left}
 use Rattle.timer_wheel.specs.Tree.{first_below}

@@ -3,7 +3,7 @@ use Rattle.std.proofs.Common.{length, slice_set, sym, ap, subst, ◌∙◌, arit
 use Rattle.std.proofs.lemmas.List.{with_items_is}
 use Rattle.timer_wheel.specs.Tree.{IsMended}
 use Rattle.timer_wheel.proofs.InMoments.{length-left}
-use Rattle.timer_wheel.proofs.Ticking.{Leaves, put_leaves}
+use Rattle.timer_wheel.proofs.Ticking.{put_leaves}
 use Rattle.timer_wheel.proofs.moments.Moments.put.Goals as goal
 
 pub set_leaf-requires-clause-size : goal.set_leaf-requires-clause-size
@@ -22,8 +22,8 @@ invariant_of-self c =
     let s = c.self.inside in
     record {
       tree = (put_leaves s.clock s.places s.levels s.leaves c.args.place c.moment_of-moment.result c.args.left s.nodes.items c.deref_mut.result.now c.set_leaf.new.nodes _
-        c.self.invariant.tree c.deref_mut.ensures.value (omega (arith, c.requires, ap length c.self.view_is)) c.moment_of-moment.ensures c.set_leaf.ensures.size c.set_leaf.ensures.mended c.set_leaf.ensures.leaves
-        (with_items_is s.nodes c.set_leaf.new.nodes (c.set_leaf.ensures.size ∙ c.deref_mut.ensures.len))).tree;
+          c.self.invariant.tree c.deref_mut.ensures.value (omega (arith, c.requires, ap length c.self.view_is)) c.moment_of-moment.ensures c.set_leaf.ensures.size c.set_leaf.ensures.mended c.set_leaf.ensures.leaves
+          (with_items_is s.nodes c.set_leaf.new.nodes (c.set_leaf.ensures.size ∙ c.deref_mut.ensures.len))).tree;
       few = c.self.invariant.few;
     }
 
@@ -31,6 +31,6 @@ pub returns : goal.returns
 returns c =
     let s = c.self.inside in
     (put_leaves s.clock s.places s.levels s.leaves c.args.place c.moment_of-moment.result c.args.left s.nodes.items c.deref_mut.result.now c.set_leaf.new.nodes _
-      c.self.invariant.tree c.deref_mut.ensures.value (omega (arith, c.requires, ap length c.self.view_is)) c.moment_of-moment.ensures c.set_leaf.ensures.size c.set_leaf.ensures.mended c.set_leaf.ensures.leaves
-      (with_items_is s.nodes c.set_leaf.new.nodes (c.set_leaf.ensures.size ∙ c.deref_mut.ensures.len))).view
+    c.self.invariant.tree c.deref_mut.ensures.value (omega (arith, c.requires, ap length c.self.view_is)) c.moment_of-moment.ensures c.set_leaf.ensures.size c.set_leaf.ensures.mended c.set_leaf.ensures.leaves
+    (with_items_is s.nodes c.set_leaf.new.nodes (c.set_leaf.ensures.size ∙ c.deref_mut.ensures.len))).view
     ∙ ap (λ xs. slice_set xs c.args.place c.args.left) c.self.view_is

@@ -1,7 +1,7 @@
-use Rattle.std.proofs.Common.{refl, sym, ap, ◌∙◌}
+use Rattle.std.proofs.Common.{refl, sym, ◌∙◌}
 use Rattle.std.specs.Prelude.{Some, None}
 use Rattle.timer_wheel.specs.Table.{table_in}
-use Rattle.timer_wheel.proofs.Calls.{Meets, place_fits, clear_meets}
+use Rattle.timer_wheel.proofs.Calls.{place_fits, clear_meets}
 use Rattle.timer_wheel.proofs.timers.Timers.clear.Goals as goal
 
 pub put-requires : goal.put-requires

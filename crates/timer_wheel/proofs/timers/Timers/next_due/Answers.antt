@@ -2,7 +2,7 @@ use Rattle.std.proofs.Common.{refl, sym, ap, ◌∙◌}
 use Rattle.std.specs.Prelude.{Some, None}
 use Rattle.timer_wheel.specs.Places.{name_at}
 use Rattle.timer_wheel.specs.Table.{table_in}
-use Rattle.timer_wheel.proofs.Calls.{Meets, due_named, due_meets}
+use Rattle.timer_wheel.proofs.Calls.{due_named, due_meets}
 use Rattle.timer_wheel.proofs.timers.Timers.next_due.Goals as goal
 
 pub returns-in-Some-clause-name : goal.returns-in-Some-clause-name

@@ -1,7 +1,7 @@
 use Rattle.std.proofs.Common.{refl, slice_set, sym, ap, ◌∙◌}
 use Rattle.std.specs.Prelude.{Some, None}
 use Rattle.timer_wheel.specs.Table.{table_in}
-use Rattle.timer_wheel.proofs.Calls.{Meets, place_fits, set_meets}
+use Rattle.timer_wheel.proofs.Calls.{place_fits, set_meets}
 use Rattle.timer_wheel.proofs.timers.Timers.set.Goals as goal
 
 pub put-requires : goal.put-requires

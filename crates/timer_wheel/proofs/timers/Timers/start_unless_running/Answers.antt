@@ -1,7 +1,7 @@
 use Rattle.std.proofs.Common.{refl, slice_set, cond, get_or, sym, ap, ◌∙◌}
 use Rattle.std.specs.Prelude.{Some, None, is_some}
 use Rattle.timer_wheel.specs.Table.{table_in}
-use Rattle.timer_wheel.proofs.Calls.{Meets, place_fits, started, start_meets}
+use Rattle.timer_wheel.proofs.Calls.{place_fits, started, start_meets}
 use Rattle.timer_wheel.proofs.timers.Timers.start_unless_running.Goals as goal
 
 pub start-requires : goal.start-requires

@@ -1,5 +1,5 @@
 use Rattle.timer_wheel.specs.Table.{table_in}
-use Rattle.timer_wheel.proofs.Calls.{Meets, tick_meets}
+use Rattle.timer_wheel.proofs.Calls.{tick_meets}
 use Rattle.timer_wheel.proofs.timers.Timers.tick.Goals as goal
 
 pub returns : goal.returns
