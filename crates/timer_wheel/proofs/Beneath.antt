@@ -1,4 +1,4 @@
--- The leaves beneath a node: what the node's moment says of them.
+-- The leaves beneath a node: what the node's bound says of them.
 use Rattle.std.proofs.Common.{◌≡◌, ℕ, zero, suc, ◌+◌, ◌-◌, ◌*◌, ◌^◌, ◌<◌, ◌≤◌, inl, inr, min, true, false, cond, List, ◌∷◌, ◌++◌, length, take, drop, refl, sym, ap, subst, ◌∙◌, arith}
 use Rattle.std.proofs.Math.Nat.{pow-suc, mul-le-mul_left}
 use Rattle.std.proofs.lemmas.Nat.{pow_pos}
@@ -6,8 +6,10 @@ use Rattle.std.proofs.lemmas.List.{take-append-drop, take-take, drop-take, drop-
 use Rattle.std.proofs.lemmas.List.Sums.{sum_by-append}
 use Rattle.std.proofs.lemmas.Bool.{cases_lt}
 use Rattle.std.proofs.lemmas.Bool.Decides.{nat_tests}
+use Rattle.std.specs.Prelude.{Option, Some, None}
+use Rattle.std.specs.Option.{option_or}
 use Rattle.std.specs.List.{count_by}
-use Rattle.timer_wheel.specs.Tree.{never, has_come, at, child, first_below, count_below, IsMended, AreMended}
+use Rattle.timer_wheel.specs.Tree.{never, has_come, at, first_below, count_below, IsBounded, AreBounded}
 
 take-add : (m n : ℕ) (xs : List ℕ) → take (m + n) xs ≡ take m xs ++ take n (drop m xs)
 take-add m n xs = sym (take-append-drop m (take (m + n) xs)) ∙ (λ i. take-take m (m + n) xs (omega arith) i ++ drop-take m n xs i)
@@ -26,11 +28,8 @@ came_by clock moment h = grind (arith, nat_tests, h)
 gone_by : (clock moment : ℕ) → has_come clock moment ≡ false → clock < moment
 gone_by clock moment h = grind (arith, nat_tests, h)
 
-both_above : (c a b : ℕ) → c < min a b → (c < a) × (c < b)
-both_above c a b h = (grind (arith, h), grind (arith, h))
-
-second_come : (c a b : ℕ) → min a b ≤ c → c < a → b ≤ c
-second_come c a b h k = grind (arith, h, k)
+both_above : (c n a b : ℕ) → c < n → n ≤ min a b → (c < a) × (c < b)
+both_above c n a b h k = (grind (arith, h, k), grind (arith, h, k))
 
 -- ---- rows
 
@@ -72,20 +71,13 @@ row-within levels node n h =
     let wide : (node + 1) * 1 ≤ (node + 1) * 2 ^ levels = mul-le-mul_left (node + 1) some in
     omega (arith, wide, h)
 
-pub row-child : (clock : ℕ) (nodes : List ℕ) (levels node n : ℕ) → (node + 1) * 2 ^ suc levels ≤ n → (child clock nodes node + 1) * 2 ^ levels ≤ n
-row-child clock nodes levels node n h =
-    elim (has_come clock (at nodes (2 * node))) as (λ b. (cond b (2 * node) (2 * node + 1) + 1) * 2 ^ levels ≤ n) [
-      | true ↦ (let goal : (2 * node + 1) * 2 ^ levels ≤ n = omega (arith, h, row_end levels node) in goal)
-      | false ↦ (let goal : (2 * node + 1 + 1) * 2 ^ levels ≤ n = omega (arith, h, row_end levels node) in goal)
-    ]
+pub bounded-first : (levels node : ℕ) (nodes : List ℕ) → 0 < levels → AreBounded levels node nodes → AreBounded (levels - 1) (2 * node) nodes
+bounded-first levels node nodes h m = (subst (λ l. AreBounded l node nodes) (deeper levels h) m).1
 
-pub mended-first : (levels node : ℕ) (nodes : List ℕ) → 0 < levels → AreMended levels node nodes → AreMended (levels - 1) (2 * node) nodes
-mended-first levels node nodes h m = (subst (λ l. AreMended l node nodes) (deeper levels h) m).1
+pub bounded-second : (levels node : ℕ) (nodes : List ℕ) → 0 < levels → AreBounded levels node nodes → AreBounded (levels - 1) (2 * node + 1) nodes
+bounded-second levels node nodes h m = (subst (λ l. AreBounded l node nodes) (deeper levels h) m).2
 
-pub mended-second : (levels node : ℕ) (nodes : List ℕ) → 0 < levels → AreMended levels node nodes → AreMended (levels - 1) (2 * node + 1) nodes
-mended-second levels node nodes h m = (subst (λ l. AreMended l node nodes) (deeper levels h) m).2
-
--- ---- each node holds the least
+-- ---- each node holds a bound
 
 -- a node so many levels above the leaves
 pub record IsOver (leaves k node : ℕ) : Type 0 where
@@ -104,36 +96,34 @@ inner leaves k node o =
     let wide : (2 * node + 1 + 1) * 1 ≤ (2 * node + 1 + 1) * 2 ^ k = mul-le-mul_left (2 * node + 1 + 1) some in
     omega (arith, wide, o.fits, row_end k node)
 
-below-mended : (leaves k node : ℕ) (nodes : List ℕ) → IsMended leaves nodes → IsOver leaves k node → AreMended k node nodes
-below-mended leaves zero node nodes m o = tt
-below-mended leaves (suc k) node nodes m o = (
+below-bounded : (leaves k node : ℕ) (nodes : List ℕ) → IsBounded leaves nodes → IsOver leaves k node → AreBounded k node nodes
+below-bounded leaves zero node nodes m o = tt
+below-bounded leaves (suc k) node nodes m o = (
   m.holds node o.some (inner leaves k node o),
-  below-mended leaves k (2 * node) nodes m (over-left leaves k node o),
-  below-mended leaves k (2 * node + 1) nodes m (over-right leaves k node o),
+  below-bounded leaves k (2 * node) nodes m (over-left leaves k node o),
+  below-bounded leaves k (2 * node + 1) nodes m (over-right leaves k node o),
 )
 
 -- the whole tree
-pub all-mended : (levels : ℕ) (nodes : List ℕ) → IsMended (2 ^ levels) nodes → AreMended levels 1 nodes
-all-mended levels nodes m = below-mended (2 ^ levels) levels 1 nodes m (record { some = omega arith; fits = omega arith })
+pub all-bounded : (levels : ℕ) (nodes : List ℕ) → IsBounded (2 ^ levels) nodes → AreBounded levels 1 nodes
+all-bounded levels nodes m = below-bounded (2 ^ levels) levels 1 nodes m (record { some = omega arith; fits = omega arith })
 
--- ---- the moment of a node is that of its first leaf
+-- ---- nothing has come below a node that hasn't
 
 module _ (clock : ℕ) (nodes : List ℕ) where
-  -- nothing has come below a node that gone_by
-  pub late : (k node : ℕ) → AreMended k node nodes → clock < at nodes node → (leaf : ℕ) → node * 2 ^ k ≤ leaf → leaf < (node + 1) * 2 ^ k → clock < at nodes leaf
-  late zero node m h leaf low high = let e : node ≡ leaf = omega (arith, low, high) in subst (λ i. clock < at nodes i) e h
-  late (suc k) node m h leaf low high =
-      let both = both_above clock (at nodes (2 * node)) (at nodes (2 * node + 1)) (subst (λ a. clock < a) m.0 h) in
-      elim (cases_lt leaf ((2 * node + 1) * 2 ^ k)) [
-        | inl left ↦ late k (2 * node) m.1 both.0 leaf (omega (arith, low, row_left k node)) left
-        | inr right ↦ late k (2 * node + 1) m.2 both.1 leaf right (omega (arith, high, row_end k node))
-      ]
-
-  pub none-below : (k node : ℕ) → AreMended k node nodes → clock < at nodes node → count_below clock nodes k node ≡ 0
+  pub none-below : (k node : ℕ) → AreBounded k node nodes → clock < at nodes node → count_below clock nodes k node ≡ 0
   none-below zero node m h = ap (λ b. cond b 1 0) (come-no clock (at nodes node) h)
   none-below (suc k) node m h =
-      let both = both_above clock (at nodes (2 * node)) (at nodes (2 * node + 1)) (subst (λ a. clock < a) m.0 h) in
+      let both = both_above clock (at nodes node) (at nodes (2 * node)) (at nodes (2 * node + 1)) h m.0 in
       omega (arith, none-below k (2 * node) m.1 both.0, none-below k (2 * node + 1) m.2 both.1)
+
+  pub none-first : (k node : ℕ) → AreBounded k node nodes → clock < at nodes node → first_below clock nodes k node ≡ None
+  none-first zero node m h = ap (λ b. cond b (Some node) None) (come-no clock (at nodes node) h)
+  none-first (suc k) node m h =
+      let both = both_above clock (at nodes node) (at nodes (2 * node)) (at nodes (2 * node + 1)) h m.0 in
+      λ i. option_or (none-first k (2 * node) m.1 both.0 i) (none-first k (2 * node + 1) m.2 both.1 i)
+
+  -- ---- what a search says
 
   -- the first leaf of the row of a node that has come
   pub record IsFirst (k node leaf : ℕ) : Type 0 where
@@ -142,32 +132,46 @@ module _ (clock : ℕ) (nodes : List ℕ) where
     pub come : at nodes leaf ≤ clock
     pub before : (other : ℕ) → node * 2 ^ k ≤ other → other < leaf → clock < at nodes other
 
-  pub first-is : (k node : ℕ) → AreMended k node nodes → at nodes node ≤ clock → IsFirst k node (first_below clock nodes k node)
-  first-is zero node m h = record { low = omega arith; high = omega arith; come = h; before = λ other low high. absurd (omega (arith, low, high)) }
-  first-is (suc k) node m h =
-      elim (has_come clock (at nodes (2 * node))) as (λ b. has_come clock (at nodes (2 * node)) ≡ b → IsFirst (suc k) node (first_below clock nodes k (cond b (2 * node) (2 * node + 1)))) [
-        | true ↦ λ e. left (first-is k (2 * node) m.1 (came_by clock (at nodes (2 * node)) e))
-        | false ↦ λ e.
-            let gone = gone_by clock (at nodes (2 * node)) e in
-            right gone (first-is k (2 * node + 1) m.2 (second_come clock (at nodes (2 * node)) (at nodes (2 * node + 1)) (subst (λ a. a ≤ clock) m.0 h) gone))
+  -- no leaf of the row has
+  pub record AreLate (k node : ℕ) : Type 0 where
+    pub all : (leaf : ℕ) → node * 2 ^ k ≤ leaf → leaf < (node + 1) * 2 ^ k → clock < at nodes leaf
+
+  abbrev pub IsAnswer : (k node : ℕ) → Option ℕ → Type 0
+  IsAnswer k node (Some leaf) = IsFirst k node leaf
+  IsAnswer k node None = AreLate k node
+
+  pub first-is : (k node : ℕ) → IsAnswer k node (first_below clock nodes k node)
+  first-is zero node =
+      elim (has_come clock (at nodes node)) as (λ b. has_come clock (at nodes node) ≡ b → IsAnswer 0 node (cond b (Some node) None)) [
+        | true ↦ λ e. record { low = omega arith; high = omega arith; come = came_by clock (at nodes node) e; before = λ other low high. absurd (omega (arith, low, high)) }
+        | false ↦ λ e. record {
+            all = λ leaf low high.
+                let same : node ≡ leaf = omega (arith, low, high) in
+                subst (λ i. clock < at nodes i) same (gone_by clock (at nodes node) e);
+          }
       ] refl
+  first-is (suc k) node = either (first_below clock nodes k (2 * node)) (first_below clock nodes k (2 * node + 1)) (first-is k (2 * node)) (first-is k (2 * node + 1))
     where
-      left : {leaf : ℕ} → IsFirst k (2 * node) leaf → IsFirst (suc k) node leaf
-      left {leaf} f = record {
+      either : (left right : Option ℕ) → IsAnswer k (2 * node) left → IsAnswer k (2 * node + 1) right → IsAnswer (suc k) node (option_or left right)
+      either (Some leaf) right f g = record {
         low = omega (arith, f.low, row_left k node);
         high = omega (arith, f.high, row_left k node, row_right k node, double k, row_end k node);
         come = f.come;
         before = λ other low high. f.before other (omega (arith, low, row_left k node)) high;
       }
-
-      right : {leaf : ℕ} → clock < at nodes (2 * node) → IsFirst k (2 * node + 1) leaf → IsFirst (suc k) node leaf
-      right {leaf} gone f = record {
-        low = omega (arith, f.low, row_right k node);
-        high = omega (arith, f.high, row_end k node);
-        come = f.come;
+      either None (Some leaf) f g = record {
+        low = omega (arith, g.low, row_right k node);
+        high = omega (arith, g.high, row_end k node);
+        come = g.come;
         before = λ other low high. elim (cases_lt other ((2 * node + 1) * 2 ^ k)) [
-          | inl skipped ↦ late k (2 * node) m.1 gone other (omega (arith, low, row_left k node)) skipped
-          | inr there ↦ f.before other there high
+          | inl skipped ↦ f.all other (omega (arith, low, row_left k node)) skipped
+          | inr there ↦ g.before other there high
+        ];
+      }
+      either None None f g = record {
+        all = λ leaf low high. elim (cases_lt leaf ((2 * node + 1) * 2 ^ k)) [
+          | inl left ↦ f.all leaf (omega (arith, low, row_left k node)) left
+          | inr right ↦ g.all leaf right (omega (arith, high, row_end k node))
         ];
       }
 

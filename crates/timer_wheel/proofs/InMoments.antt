@@ -8,9 +8,9 @@ use Rattle.std.proofs.lemmas.Bool.Decides.{nat_tests}
 use Rattle.std.specs.Prelude.{Option, Some, None, is_some, filter, position}
 use Rattle.std.specs.List.{count_by, position_or_len}
 use Rattle.timer_wheel.specs.Timers.{one_less, no_tick_left}
-use Rattle.timer_wheel.specs.Tree.{never, left_at, has_come, rebased, at, first_below, count_below, IsMended, AreMended}
+use Rattle.timer_wheel.specs.Tree.{never, left_at, has_come, rebased, at, least, first_below, count_below, IsBounded, AreBounded}
 use Rattle.timer_wheel.specs.Moments.{left_in, IsTree}
-use Rattle.timer_wheel.proofs.Beneath.{come-yes, come-no, all-mended, late, IsFirst, first-is, count-row, row-within}
+use Rattle.timer_wheel.proofs.Beneath.{come-yes, come-no, all-bounded, IsFirst, AreLate, IsAnswer, first-is, count-row}
 
 -- ---- one moment
 
@@ -82,18 +82,28 @@ pub left-runs : (clock places levels leaves place moment : ℕ) (nodes : List �
 left-runs clock places levels leaves place moment nodes t h e =
     sym (ap is_some (left-read clock places levels leaves place nodes t h) ∙ runs clock (at nodes (leaves + place)) ∙ ap (λ m. nat_lt m never) (sym e))
 
-pub tree-set : (clock places levels leaves place moment : ℕ) (nodes new : List ℕ) → IsTree clock places levels leaves nodes → place < places → length new ≡ length nodes → IsMended leaves new
+pub tree-set : (clock places levels leaves place moment : ℕ) (nodes new : List ℕ) → IsTree clock places levels leaves nodes → place < places → length new ≡ length nodes → IsBounded leaves new
     → drop leaves new ≡ slice_set (drop leaves nodes) place moment → IsTree clock places levels leaves new
-tree-set clock places levels leaves place moment nodes new t h len mended e = record {
+tree-set clock places levels leaves place moment nodes new t h len bounded e = record {
   early = t.early;
   halves = t.halves;
   size = len ∙ t.size;
   room = t.room;
-  mended = mended;
+  bounded = bounded;
   idle = λ leaf far.
       ap (λ xs. get_or xs leaf never) e
       ∙ get_or-set_other (drop leaves nodes) place leaf moment never (λ same. absurd (omega (arith, same, far, h)))
       ∙ t.idle leaf far;
+}
+
+pub tree-mended : (clock places levels leaves : ℕ) (nodes new : List ℕ) → IsTree clock places levels leaves nodes → length new ≡ length nodes → IsBounded leaves new → drop leaves new ≡ drop leaves nodes → IsTree clock places levels leaves new
+tree-mended clock places levels leaves nodes new t len bounded e = record {
+  early = t.early;
+  halves = t.halves;
+  size = len ∙ t.size;
+  room = t.room;
+  bounded = bounded;
+  idle = λ leaf far. ap (λ xs. get_or xs leaf never) e ∙ t.idle leaf far;
 }
 
 -- ---- at first
@@ -104,7 +114,11 @@ tree-none places levels leaves nodes room halves e = record {
   halves = halves;
   size = ap length e ∙ length-replicate (2 * leaves) never;
   room = omega (arith, room, halves);
-  mended = record { holds = λ node some inside. all node ∙ sym (λ i. min (all (2 * node) i) (all (2 * node + 1) i)) };
+  bounded = record {
+    holds = λ node some inside.
+        let below : never ≡ least nodes node = λ i. min (sym (all (2 * node)) i) (sym (all (2 * node + 1)) i) in
+        omega (arith, all node, below);
+  };
   idle = λ leaf far. ap (λ xs. get_or (drop leaves xs) leaf never) e ∙ get_or-drop leaves (replicate (2 * leaves) never) leaf never ∙ none (2 * leaves) (leaves + leaf);
 }
   where
@@ -146,7 +160,7 @@ tree-later clock places levels leaves nodes t h = record {
   halves = t.halves;
   size = t.size;
   room = t.room;
-  mended = t.mended;
+  bounded = t.bounded;
   idle = t.idle;
 }
 
@@ -156,9 +170,12 @@ left-again clock places leaves nodes =
     ∙ ap (map (left_at 1)) (take-map (rebased clock) places (drop leaves nodes))
     ∙ map-again clock (take places (drop leaves nodes))
 
--- the least of two moments stays the least
+-- the lesser of two moments stays the lesser
 least-rebased : (clock a b : ℕ) → min (rebased clock a) (rebased clock b) ≡ rebased clock (min a b)
 least-rebased clock a b = grind (arith, nat_tests)
+
+rebased-le : (clock a b : ℕ) → a ≤ b → rebased clock a ≤ rebased clock b
+rebased-le clock a b h = grind (arith, nat_tests, h)
 
 at-rebased : (clock : ℕ) (nodes : List ℕ) (i : ℕ) → at (map (rebased clock) nodes) i ≡ rebased clock (at nodes i)
 at-rebased clock [] i = refl
@@ -171,12 +188,13 @@ tree-again clock places levels leaves nodes t = record {
   halves = t.halves;
   size = length-map nodes (rebased clock) ∙ t.size;
   room = t.room;
-  mended = record {
+  bounded = record {
     holds = λ node some inside.
-        at-rebased clock nodes node
-        ∙ ap (rebased clock) (t.mended.holds node some inside)
-        ∙ sym (least-rebased clock (at nodes (2 * node)) (at nodes (2 * node + 1)))
-        ∙ sym (λ i. min (at-rebased clock nodes (2 * node) i) (at-rebased clock nodes (2 * node + 1) i));
+        let here = at-rebased clock nodes node in
+        let below =
+            (λ i. min (at-rebased clock nodes (2 * node) i) (at-rebased clock nodes (2 * node + 1) i))
+            ∙ least-rebased clock (at nodes (2 * node)) (at nodes (2 * node + 1)) in
+        omega (arith, here, below, rebased-le clock (at nodes node) (least nodes node) (t.bounded.holds node some inside));
   };
   idle = λ leaf far.
       ap (λ xs. get_or xs leaf never) (drop-map (rebased clock) leaves nodes)
@@ -189,8 +207,8 @@ tree-again clock places levels leaves nodes t = record {
 pub all_rows : (clock places levels leaves : ℕ) (nodes : List ℕ) → IsTree clock places levels leaves nodes → (1 + 1) * 2 ^ levels ≤ length nodes
 all_rows clock places levels leaves nodes t = omega (arith, t.size, t.halves)
 
-pub mended : (clock places levels leaves : ℕ) (nodes : List ℕ) → IsTree clock places levels leaves nodes → AreMended levels 1 nodes
-mended clock places levels leaves nodes t = all-mended levels nodes (subst (λ n. IsMended n nodes) t.halves t.mended)
+pub bounded : (clock places levels leaves : ℕ) (nodes : List ℕ) → IsTree clock places levels leaves nodes → AreBounded levels 1 nodes
+bounded clock places levels leaves nodes t = all-bounded levels nodes (subst (λ n. IsBounded n nodes) t.halves t.bounded)
 
 counted : (clock : ℕ) (xs : List ℕ) → clock < never → length (filter no_tick_left (map (left_at clock) xs)) ≡ count_by (has_come clock) xs
 counted clock xs h = each xs ∙ length-filter (has_come clock) xs
@@ -278,22 +296,19 @@ module _ (clock places levels leaves : ℕ) (nodes : List ℕ) (t : IsTree clock
         first = first-place (leaf - leaves) h (λ k lower. f.before (leaves + k) (omega (arith, t.halves)) (omega (arith, lower, whole)));
       }
 
-  pub left-first : at nodes 1 ≤ clock → IsFirstPlace (first_below clock nodes levels 1)
-  left-first h = first-leaf (first_below clock nodes levels 1) (first-is clock nodes levels 1 (mended clock places levels leaves nodes t) h)
+  -- what a search of the whole row says
+  pub leaf-found : (leaf : ℕ) → first_below clock nodes levels 1 ≡ Some leaf → IsFirstPlace leaf
+  leaf-found leaf e = first-leaf leaf (subst (IsAnswer clock nodes levels 1) e (first-is clock nodes levels 1))
 
-  pub left-idle : clock < at nodes 1 → None ≡ position no_tick_left (left_in clock places leaves nodes)
-  left-idle h =
+  pub none-found : first_below clock nodes levels 1 ≡ None → None ≡ position no_tick_left (left_in clock places leaves nodes)
+  none-found e =
       not_found (left_in clock places leaves nodes) (position_or_len_is no_tick_left (left_in clock places leaves nodes) (length (left_in clock places leaves nodes)) None (omega arith) before (λ l. absurd (omega (arith, l))))
     where
+      late : AreLate clock nodes levels 1
+      late = subst (IsAnswer clock nodes levels 1) e (first-is clock nodes levels 1)
+
       before : (k : ℕ) → k < length (left_in clock places leaves nodes) → no_tick_left (get_or (left_in clock places leaves nodes) k None) ≡ false
       before k lower =
           let inside : k < places = omega (arith, lower, length-left clock places levels leaves nodes t) in
           due-at k inside
-          ∙ come-no clock (at nodes (leaves + k)) (late clock nodes levels 1 (mended clock places levels leaves nodes t) h (leaves + k) (omega (arith, t.halves)) (omega (arith, t.halves, inside, t.room)))
-
-  -- what was read at the top
-  pub top : (moment : ℕ) → moment ≡ get_or nodes 1 moment → moment ≡ at nodes 1
-  top moment e = get_or_read nodes 1 moment (row-within levels 1 (length nodes) (all_rows clock places levels leaves nodes t)) e never
-
-  pub leaf-found : (moment leaf : ℕ) → moment ≡ get_or nodes 1 moment → moment ≤ clock → leaf ≡ first_below clock nodes levels 1 → IsFirstPlace leaf
-  leaf-found moment leaf e h same = subst IsFirstPlace (sym same) (left-first (let read = top moment e in omega (arith, read, h)))
+          ∙ come-no clock (at nodes (leaves + k)) (late.all (leaves + k) (omega (arith, t.halves)) (omega (arith, t.halves, inside, t.room)))

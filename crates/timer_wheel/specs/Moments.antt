@@ -1,7 +1,7 @@
 -- How the ticks that are left are kept: as moments, in a tree.
 use Rattle.std.specs.Prelude.{◌≡◌, ℕ, ◌+◌, ◌*◌, ◌^◌, ◌≤◌, Option, List, length, map, take, drop, get_or}
 use Rattle.timer_wheel.specs.declared.moments.Moments.TheInside.{Inside}
-use Rattle.timer_wheel.specs.Tree.{never, left_at, IsMended}
+use Rattle.timer_wheel.specs.Tree.{never, left_at, IsBounded}
 
 -- the ticks that are left at so many places, as the leaves say
 abbrev pub left_in : (clock places leaves : ℕ) → List ℕ → List (Option ℕ)
@@ -17,7 +17,7 @@ pub record IsTree (clock places levels leaves : ℕ) (nodes : List ℕ) : Type 0
   pub halves : leaves ≡ 2 ^ levels
   pub size : length nodes ≡ 2 * leaves
   pub room : places ≤ leaves
-  pub mended : IsMended leaves nodes
+  pub bounded : IsBounded leaves nodes
   -- at the other leaves nothing runs
   pub idle : (leaf : ℕ) → places ≤ leaf → get_or (drop leaves nodes) leaf never ≡ never
 

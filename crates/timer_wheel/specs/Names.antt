@@ -1,6 +1,7 @@
 -- The names of timers: their order, and which of them a node has.
 use Rattle.std.specs.Prelude.{◌≡◌, ℕ, ◌+◌, ◌*◌, ◌==◌, nat_lt, Bool, true, false, ◌&&◌, ◌||◌, List, [], ◌∷◌, map}
 use Rattle.std.specs.List.{AllByRecursion, flat_map, range_with_len}
+use Rattle.signalling_types.specs.declared.limits.TheConstants.Limits.{CHANGEBACK_CODES}
 use Rattle.timer_wheel.specs.declared.name.TimerName.{TimerName}
 use Rattle.timer_wheel.specs.declared.name.TimerName.TheVariants.{L1, L2, L3, L4, L6, L7, T1, T2, T3, T4, T6, T8, T10}
 use Rattle.timer_wheel.specs.declared.name.RouteTimer.{RouteTimer}
@@ -62,7 +63,7 @@ has_name n (L7 link) = nat_lt link n.links
 has_name n (T1 link) = nat_lt link n.links
 has_name n (T2 link) = nat_lt link n.links
 has_name n (T3 link) = nat_lt link n.links
-has_name n (T4 set code) = nat_lt set n.sets && nat_lt code 16
+has_name n (T4 set code) = nat_lt set n.sets && nat_lt code CHANGEBACK_CODES
 has_name n (T6 destination) = nat_lt destination n.destinations
 has_name n (T8 set destination) = nat_lt set n.sets && nat_lt destination n.destinations
 has_name n (T10 set destination) = nat_lt set n.sets && nat_lt destination n.destinations
@@ -70,7 +71,7 @@ has_name n (T10 set destination) = nat_lt set n.sets && nat_lt destination n.des
 -- how many names those are: nine for each link, 16 codes for each set, one for each destination, two for each set and
 -- destination
 abbrev pub count_of : NodeCounts → ℕ
-count_of n = 9 * n.links + 16 * n.sets + n.destinations + 2 * (n.sets * n.destinations)
+count_of n = 9 * n.links + CHANGEBACK_CODES * n.sets + n.destinations + 2 * (n.sets * n.destinations)
 
 -- so many names of one kind
 abbrev pub each : (ℕ → TimerName) → ℕ → List TimerName
@@ -92,7 +93,7 @@ names_by_kind n =
     ∷ each T1 n.links
     ∷ each T2 n.links
     ∷ each T3 n.links
-    ∷ each_in_rows T4 n.sets 16
+    ∷ each_in_rows T4 n.sets CHANGEBACK_CODES
     ∷ each T6 n.destinations
     ∷ each_in_rows T8 n.sets n.destinations
     ∷ each_in_rows T10 n.sets n.destinations

@@ -1,5 +1,6 @@
 -- Timers to which the same is left are the same, so that what is left to each name of a node is a code of its timers.
-use Rattle.std.specs.Prelude.{◌≡◌, ℕ, ◌+◌, ◌<◌, ◌==◌, ◌&&◌, nat_lt, Bool, true, false, if◌then◌else◌, Option, None, List, [], map, get_or}
+use Rattle.std.specs.Prelude.{◌≡◌, ℕ, ◌+◌, ◌<◌, ◌==◌, ◌&&◌, nat_lt, Bool, true, false, if◌then◌else◌}
+use Rattle.std.specs.Prelude.{Option, None, List, [], map, get_or}
 use Rattle.std.specs.List.{range_with_len}
 use Rattle.std.proofs.Common.{refl, sym, ap, ◌∙◌, arith}
 use Rattle.std.proofs.lemmas.Bool.Decides.{nat_tests}
@@ -7,6 +8,7 @@ use Rattle.std.proofs.lemmas.List.FromFn.{get_or-map-range_with_len}
 use Rattle.std.specs.Coded.{Coded, Coded-set, code_by, coded_ℕ, coded_option, coded_list, coded×, Π_prop, →_prop}
 use base.Stored.{coded_via}
 use mathlib.Core.HLevel.{Σ_prop_path}
+use Rattle.signalling_types.specs.declared.limits.TheConstants.Limits.{CHANGEBACK_CODES}
 use Rattle.timer_wheel.specs.declared.name.TimerName.{TimerName}
 use Rattle.timer_wheel.specs.declared.name.TimerName.TheVariants.{L1, L2, L3, L4, L6, L7, T1, T2, T3, T4, T6, T8, T10}
 use Rattle.timer_wheel.specs.declared.name.NodeCounts.{NodeCounts}
@@ -27,7 +29,8 @@ only_prop p = Π_prop (λ name. →_prop (Coded-set (coded_option coded_ℕ) (p.
 
 pub one_map : (r s : Running) → r.counts ≡ s.counts → ((name : TimerName) → r.left name ≡ s.left name) → r ≡ s
 one_map r s counts left =
-    let whole : ◌≡◌ {A = (p : Data) × IsOnly p} ((r.counts, r.left), r.only) ((s.counts, s.left), s.only) = Σ_prop_path only_prop (λ i. (counts i, λ name. left name i)) in
+    let whole : ◌≡◌ {A = (p : Data) × IsOnly p} ((r.counts, r.left), r.only) ((s.counts, s.left), s.only) =
+    Σ_prop_path only_prop (λ i. (counts i, λ name. left name i)) in
     λ i. record { counts = (whole i).0.0; left = (whole i).0.1; only = (whole i).1 }
 
 -- ---- a name by its key
@@ -72,7 +75,7 @@ abbrev rows : NodeCounts → ℕ
 rows n = n.links + n.sets + n.destinations
 
 abbrev columns : NodeCounts → ℕ
-columns n = 16 + n.destinations
+columns n = CHANGEBACK_CODES + n.destinations
 
 record IsWithin (n : NodeCounts) (k : Key) : Type 0 where
   kind : k.kind < 13
@@ -92,7 +95,8 @@ of_link n k kind link column = record {
   column = omega (arith, column);
 }
 
-of_set : (n : NodeCounts) (k : Key) (width : ℕ) → k.kind < 13 → (nat_lt k.row n.sets && nat_lt k.column width) ≡ true → (width < columns n + 1) → IsWithin n k
+of_set : (n : NodeCounts) (k : Key) (width : ℕ) → k.kind < 13 → (nat_lt k.row n.sets && nat_lt k.column width) ≡ true
+    → (width < columns n + 1) → IsWithin n k
 of_set n k width kind set fits =
     let b = both_below k.row n.sets k.column width set in
     record { kind = kind; row = omega (arith, b.0); column = omega (arith, b.1, fits) }
@@ -107,8 +111,12 @@ within n (L7 link) h = of_link n (key_of (L7 link)) (omega arith) h refl
 within n (T1 link) h = of_link n (key_of (T1 link)) (omega arith) h refl
 within n (T2 link) h = of_link n (key_of (T2 link)) (omega arith) h refl
 within n (T3 link) h = of_link n (key_of (T3 link)) (omega arith) h refl
-within n (T4 set code) h = of_set n (key_of (T4 set code)) 16 (omega arith) h (omega arith)
-within n (T6 destination) h = record { kind = omega arith; row = omega (arith, below destination n.destinations h); column = omega arith }
+within n (T4 set code) h = of_set n (key_of (T4 set code)) CHANGEBACK_CODES (omega arith) h (omega arith)
+within n (T6 destination) h = record {
+  kind = omega arith;
+  row = omega (arith, below destination n.destinations h);
+  column = omega arith;
+}
 within n (T8 set destination) h = of_set n (key_of (T8 set destination)) n.destinations (omega arith) h (omega arith)
 within n (T10 set destination) h = of_set n (key_of (T10 set destination)) n.destinations (omega arith) h (omega arith)
 
@@ -122,21 +130,29 @@ abbrev Lefts : Type 0
 Lefts = List (List (List (Option ℕ)))
 
 abbrev lefts : (kinds rows columns : ℕ) → (TimerName → Option ℕ) → Lefts
-lefts kinds rows columns left = tabled kinds (λ kind. tabled rows (λ row. tabled columns (λ column. left (name_with kind row column))))
+lefts kinds rows columns left =
+    tabled kinds (λ kind. tabled rows (λ row. tabled columns (λ column. left (name_with kind row column))))
 
 abbrev entry : Key → Lefts → Option ℕ
 entry k table = get_or (get_or (get_or table k.kind []) k.row []) k.column None
 
-entry-left : (kinds rows columns : ℕ) (k : Key) (left : TimerName → Option ℕ) → k.kind < kinds → k.row < rows → k.column < columns → entry k (lefts kinds rows columns left) ≡ left (name_of_key k)
+entry-left : (kinds rows columns : ℕ) (k : Key) (left : TimerName → Option ℕ) → k.kind < kinds → k.row < rows
+    → k.column < columns → entry k (lefts kinds rows columns left) ≡ left (name_of_key k)
 entry-left kinds rows columns k left a b c =
-    ap (λ (table : List (List (Option ℕ))). get_or (get_or table k.row []) k.column None) (at_place kinds k.kind (λ kind. tabled rows (λ row. tabled columns (λ column. left (name_with kind row column)))) [] a)
-    ∙ ap (λ (table : List (Option ℕ)). get_or table k.column None) (at_place rows k.row (λ row. tabled columns (λ column. left (name_with k.kind row column))) [] b)
+    ap (λ (table : List (List (Option ℕ))). get_or (get_or table k.row []) k.column None)
+    (at_place kinds k.kind
+    (λ kind. tabled rows (λ row. tabled columns (λ column. left (name_with kind row column)))) [] a)
+    ∙ ap (λ (table : List (Option ℕ)). get_or table k.column None)
+    (at_place rows k.row (λ row. tabled columns (λ column. left (name_with k.kind row column))) [] b)
     ∙ at_place columns k.column (λ column. left (name_with k.kind k.row column)) None c
 
 -- ---- the code
 
 abbrev pub counts_code : Coded NodeCounts
-counts_code = code_by (ℕ × (ℕ × ℕ)) (coded× coded_ℕ (coded× coded_ℕ coded_ℕ)) (λ n. (n.links, (n.sets, n.destinations))) (λ p. record { links = p.0; sets = p.1.0; destinations = p.1.1 }) (λ _. refl)
+counts_code =
+    code_by (ℕ × (ℕ × ℕ)) (coded× coded_ℕ (coded× coded_ℕ coded_ℕ))
+    (λ n. (n.links, (n.sets, n.destinations)))
+    (λ p. record { links = p.0; sets = p.1.0; destinations = p.1.1 }) (λ _. refl)
 
 abbrev pub listed : Running → NodeCounts × Lefts
 listed r = (r.counts, lefts 13 (rows r.counts) (columns r.counts) r.left)
@@ -147,14 +163,21 @@ listed-one r s e = one_map r s counts (λ name. at name (has_name r.counts name)
     counts : r.counts ≡ s.counts
     counts = ap (λ (p : NodeCounts × Lefts). p.0) e
 
-    table : (t : Running) (name : TimerName) → has_name t.counts name ≡ true → entry (key_of name) (listed t).1 ≡ t.left name
+    table : (t : Running) (name : TimerName) → has_name t.counts name ≡ true
+        → entry (key_of name) (listed t).1 ≡ t.left name
     table t name h =
         let w = within t.counts name h in
-        entry-left 13 (rows t.counts) (columns t.counts) (key_of name) t.left w.kind w.row w.column ∙ ap t.left (name-key name)
+        entry-left 13 (rows t.counts) (columns t.counts) (key_of name) t.left w.kind w.row w.column
+        ∙ ap t.left (name-key name)
 
     at : (name : TimerName) (has : Bool) → has_name r.counts name ≡ has → r.left name ≡ s.left name
-    at name true h = sym (table r name h) ∙ ap (λ (p : NodeCounts × Lefts). entry (key_of name) p.1) e ∙ table s name (ap (λ n. has_name n name) (sym counts) ∙ h)
-    at name false h = r.only name h ∙ sym (s.only name (ap (λ n. has_name n name) (sym counts) ∙ h))
+    at name true h =
+        sym (table r name h)
+        ∙ ap (λ (p : NodeCounts × Lefts). entry (key_of name) p.1) e
+        ∙ table s name (ap (λ n. has_name n name) (sym counts) ∙ h)
+    at name false h =
+        r.only name h ∙ sym (s.only name (ap (λ n. has_name n name) (sym counts) ∙ h))
 
 abbrev pub running_code : Coded Running
-running_code = coded_via (coded× counts_code (coded_list (coded_list (coded_list (coded_option coded_ℕ))))) listed listed-one
+running_code =
+    coded_via (coded× counts_code (coded_list (coded_list (coded_list (coded_option coded_ℕ))))) listed listed-one

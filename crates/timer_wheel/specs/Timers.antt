@@ -35,7 +35,8 @@ is_running name r = is_some (r.left name)
 -- a timer runs out after so many ticks, at the next one where that is 0, whatever it was set to before; a name that
 -- doesn't exist is left aside
 unfoldable pub set_timer : TimerName → ℕ → Running → Running
-set_timer name ticks r = running_with r.counts (λ other. if is_same name other then Some (max 1 ticks) else r.left other)
+set_timer name ticks r =
+    running_with r.counts (λ other. if is_same name other then Some (max 1 ticks) else r.left other)
 
 -- a timer that runs goes on, and another is set
 unfoldable pub start_unless_running : TimerName → ℕ → Running → Running

@@ -1,4 +1,5 @@
-//! What holds of the definitions themselves: the timers of a node are a finite map from names to the ticks that are left.
+//! What holds of the definitions themselves: the timers of a node are a finite map from names to the ticks that are
+//! left.
 
 ghost use Rattle.std.specs.Prelude.{◌≡◌, ◌≢◌, ◌+◌, ◌≤◌, ℕ, true, false, max, Some, None};
 ghost use Rattle.std.specs.List.{list_any};

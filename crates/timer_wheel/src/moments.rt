@@ -5,7 +5,9 @@ ghost use Rattle.std.specs.Prelude.{length, filter, map, position, replicate, sl
 ghost use Rattle.timer_wheel.specs.Tree.{never, left_at};
 ghost use Rattle.timer_wheel.specs.Timers.{one_less, no_tick_left};
 
-use crate::tree::{NEVER, count_below, first_below, new_nodes, rebase, set_leaf};
+use crate::tree::{
+    NEVER, clear_leaf, count_below, first_below, new_nodes, rebase, refresh, set_leaf, take_leaf,
+};
 use std::alloc::{AllocError, Global};
 use std::marker::Model;
 
@@ -18,9 +20,10 @@ const LEVELS: u32 = 48;
 /// The ticks that are left at each place, if a timer runs there.
 ///
 /// The clock goes on with each tick, and a place holds the moment at which its timer runs out. The
-/// places are the first leaves of a tree in which each node holds the least moment below it. So a
-/// tick touches no timer, what is due is found from the top, and a timer that starts or stops costs
-/// the part of one path to the top that changes.
+/// places are the first leaves of a tree in which no node holds more than the moments below it. So
+/// a tick touches no timer, what is due is found from the top, a timer that stops costs one write,
+/// and one that starts the part of one path to the top that holds later moments. What a timer that
+/// was stopped leaves above it stays until it has come: then a tick mends it.
 #[derive(Drop)]
 pub struct Moments {
     /// Ticks that have passed.
@@ -63,14 +66,31 @@ impl Moments {
         })
     }
 
-    /// The timer at a place has so many ticks left, or doesn't run.
+    /// The timer at a place has so many ticks left.
     #[inline]
-    pub fn put(&mut self, place: usize, left: Option<u16>)
+    pub fn put(&mut self, place: usize, left: u16)
         requires { place < length self.old }
-        ensures { self.new ≡ slice_set self.old place left }
+        ensures { self.new ≡ slice_set self.old place (Some left) }
     {
         let moment = moment_of(self.clock, left);
         set_leaf(&mut self.nodes, self.leaves, place, moment);
+    }
+
+    /// The timer at a place doesn't run.
+    #[inline]
+    pub fn clear(&mut self, place: usize)
+        requires { place < length self.old }
+        ensures { self.new ≡ slice_set self.old place None }
+    {
+        clear_leaf(&mut self.nodes, self.leaves, place);
+    }
+
+    /// The timer at a place doesn't run, and nothing of it stays in the nodes above.
+    pub fn take(&mut self, place: usize)
+        requires { place < length self.old }
+        ensures { self.new ≡ slice_set self.old place None }
+    {
+        take_leaf(&mut self.nodes, self.leaves, place);
     }
 
     /// The timer at a place has so many ticks left, unless it runs.
@@ -82,7 +102,7 @@ impl Moments {
             else slice_set self.old place (Some left) }
     {
         if !self.is_running(place) {
-            self.put(place, Some(left));
+            self.put(place, left);
         }
     }
 
@@ -94,8 +114,20 @@ impl Moments {
         self.nodes[self.leaves + place] < NEVER
     }
 
-    /// Takes one tick from each timer. Once in four billion ticks it counts from 0 again.
+    /// Takes one tick from each timer.
+    ///
+    /// Where nothing has come this is one addition and one look at the top.
     pub fn tick(&mut self)
+        ensures { self.new ≡ map one_less self.old }
+    {
+        self.advance();
+        if self.nodes[1] <= self.clock {
+            self.mend();
+        }
+    }
+
+    /// The clock goes on. Once in four billion ticks it counts from 0 again.
+    fn advance(&mut self)
         ensures { self.new ≡ map one_less self.old }
     {
         if self.clock < LAST {
@@ -106,15 +138,22 @@ impl Moments {
         }
     }
 
+    /// No node has come any more but where a timer below it is due.
+    fn mend(&mut self)
+        ensures { self.new ≡ self.old }
+    {
+        refresh(&mut self.nodes, self.clock, self.leaves, 1);
+    }
+
     /// The first place whose timer is due.
     pub fn first_due(&self) -> Option<usize>
         ensures place { result ≡ position no_tick_left self.now }
         ensures fits { IfSome result (λ place. place < length self.now) }
     {
-        if self.nodes[1] > self.clock {
-            return None;
+        match first_below(&self.nodes, self.clock, self.levels, 1) {
+            Some(leaf) => Some(leaf - self.leaves),
+            None => None,
         }
-        Some(first_below(&self.nodes, self.clock, self.levels, 1) - self.leaves)
     }
 
     /// How many timers are due.
@@ -149,12 +188,9 @@ fn leaves_at(levels: u32) -> usize
 }
 
 /// The moment at which a timer runs out that has so many ticks left.
-fn moment_of(clock: u32, left: Option<u16>) -> u32
+fn moment_of(clock: u32, left: u16) -> u32
     requires { clock + 65536 ≤ never }
-    ensures { left_at clock result ≡ left }
+    ensures { left_at clock result ≡ Some left }
 {
-    match left {
-        Some(left) => clock + u32::from(left),
-        None => NEVER,
-    }
+    clock + u32::from(left)
 }

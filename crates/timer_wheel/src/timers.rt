@@ -16,8 +16,8 @@ use std::marker::Model;
 /// call does to it.
 ///
 /// Each timer that the node has stands at a place of its own, and places rise in name order.
-/// Setting or stopping one costs at most one path of a tree over the places; a tick costs the
-/// timers that run out in it, and a constant.
+/// Setting one costs at most one path of a tree over the places, stopping one a write; a tick costs
+/// the timers that run out in it, or that were stopped or set anew and would have, and a constant.
 #[derive(Drop)]
 pub struct Timers {
     counts: NodeCounts,
@@ -60,7 +60,7 @@ impl Timers {
         ensures { self.new ≡ set_timer name ticks self.old }
     {
         if let Some(place) = place_of(self.counts, name) {
-            self.left.put(place, Some(at_least_one(ticks)));
+            self.left.put(place, at_least_one(ticks));
         }
     }
 
@@ -83,7 +83,7 @@ impl Timers {
         ensures { self.new ≡ clear_timer name self.old }
     {
         if let Some(place) = place_of(self.counts, name) {
-            self.left.put(place, None);
+            self.left.clear(place);
         }
     }
 
@@ -133,7 +133,7 @@ impl Timers {
     {
         match self.left.first_due() {
             Some(place) => {
-                self.left.put(place, None);
+                self.left.take(place);
                 Some(name_at(named_sets(self.counts), place))
             }
             None => None,

@@ -1,14 +1,14 @@
 use Rattle.std.proofs.Common.{length, sym, ap, subst, ◌∙◌}
 use Rattle.std.specs.Prelude.{filter}
 use Rattle.timer_wheel.specs.Timers.{no_tick_left}
-use Rattle.timer_wheel.specs.Tree.{count_below, AreMended}
-use Rattle.timer_wheel.proofs.InMoments.{mended, left-counted}
+use Rattle.timer_wheel.specs.Tree.{count_below, AreBounded}
+use Rattle.timer_wheel.proofs.InMoments.{bounded, left-counted}
 use Rattle.timer_wheel.proofs.moments.Moments.due_count.Goals as goal
 
-pub count_below-requires-clause-mended : goal.count_below-requires-clause-mended
-count_below-requires-clause-mended c =
+pub count_below-requires-clause-bounded : goal.count_below-requires-clause-bounded
+count_below-requires-clause-bounded c =
     let s = c.self.inside in
-    subst (AreMended s.levels 1) (sym c.deref.ensures.value) (mended s.clock s.places s.levels s.leaves s.nodes.items c.self.invariant.tree)
+    subst (AreBounded s.levels 1) (sym c.deref.ensures.value) (bounded s.clock s.places s.levels s.leaves s.nodes.items c.self.invariant.tree)
 
 pub returns : goal.returns
 returns c =

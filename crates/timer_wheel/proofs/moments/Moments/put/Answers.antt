@@ -1,7 +1,8 @@
--- The leaf is written, and the tree is mended above it.
+-- The leaf is written, and the nodes above it lowered.
 use Rattle.std.proofs.Common.{length, slice_set, sym, ap, subst, ◌∙◌, arith}
+use Rattle.std.specs.Prelude.{Some}
 use Rattle.std.proofs.lemmas.List.{with_items_is}
-use Rattle.timer_wheel.specs.Tree.{IsMended}
+use Rattle.timer_wheel.specs.Tree.{IsBounded}
 use Rattle.timer_wheel.proofs.InMoments.{length-left}
 use Rattle.timer_wheel.proofs.Ticking.{put_leaves}
 use Rattle.timer_wheel.proofs.moments.Moments.put.Goals as goal
@@ -14,15 +15,15 @@ set_leaf-requires-clause-place c =
     let s = c.self.inside in
     omega (arith, c.requires, ap length c.self.view_is, length-left s.clock s.places s.levels s.leaves s.nodes.items c.self.invariant.tree, c.self.invariant.tree.room)
 
-pub set_leaf-requires-clause-mended : goal.set_leaf-requires-clause-mended
-set_leaf-requires-clause-mended c = subst (IsMended c.self.inside.leaves) (sym c.deref_mut.ensures.value) c.self.invariant.tree.mended
+pub set_leaf-requires-clause-bounded : goal.set_leaf-requires-clause-bounded
+set_leaf-requires-clause-bounded c = subst (IsBounded c.self.inside.leaves) (sym c.deref_mut.ensures.value) c.self.invariant.tree.bounded
 
 pub invariant_of-self : goal.invariant_of-self
 invariant_of-self c =
     let s = c.self.inside in
     record {
-      tree = (put_leaves s.clock s.places s.levels s.leaves c.args.place c.moment_of-moment.result c.args.left s.nodes.items c.deref_mut.result.now c.set_leaf.new.nodes _
-          c.self.invariant.tree c.deref_mut.ensures.value (omega (arith, c.requires, ap length c.self.view_is)) c.moment_of-moment.ensures c.set_leaf.ensures.size c.set_leaf.ensures.mended c.set_leaf.ensures.leaves
+      tree = (put_leaves s.clock s.places s.levels s.leaves c.args.place c.moment_of-moment.result (Some c.args.left) s.nodes.items c.deref_mut.result.now c.set_leaf.new.nodes _
+          c.self.invariant.tree c.deref_mut.ensures.value (omega (arith, c.requires, ap length c.self.view_is)) c.moment_of-moment.ensures c.set_leaf.ensures.size c.set_leaf.ensures.bounded c.set_leaf.ensures.leaves
           (with_items_is s.nodes c.set_leaf.new.nodes (c.set_leaf.ensures.size ∙ c.deref_mut.ensures.len))).tree;
       few = c.self.invariant.few;
     }
@@ -30,7 +31,7 @@ invariant_of-self c =
 pub returns : goal.returns
 returns c =
     let s = c.self.inside in
-    (put_leaves s.clock s.places s.levels s.leaves c.args.place c.moment_of-moment.result c.args.left s.nodes.items c.deref_mut.result.now c.set_leaf.new.nodes _
-    c.self.invariant.tree c.deref_mut.ensures.value (omega (arith, c.requires, ap length c.self.view_is)) c.moment_of-moment.ensures c.set_leaf.ensures.size c.set_leaf.ensures.mended c.set_leaf.ensures.leaves
+    (put_leaves s.clock s.places s.levels s.leaves c.args.place c.moment_of-moment.result (Some c.args.left) s.nodes.items c.deref_mut.result.now c.set_leaf.new.nodes _
+    c.self.invariant.tree c.deref_mut.ensures.value (omega (arith, c.requires, ap length c.self.view_is)) c.moment_of-moment.ensures c.set_leaf.ensures.size c.set_leaf.ensures.bounded c.set_leaf.ensures.leaves
     (with_items_is s.nodes c.set_leaf.new.nodes (c.set_leaf.ensures.size ∙ c.deref_mut.ensures.len))).view
-    ∙ ap (λ xs. slice_set xs c.args.place c.args.left) c.self.view_is
+    ∙ ap (λ xs. slice_set xs c.args.place (Some c.args.left)) c.self.view_is

@@ -11,7 +11,7 @@ returns-in-Some-clause-name c =
 
 pub returns-in-Some-clause-timers : goal.returns-in-Some-clause-timers
 returns-in-Some-clause-timers c =
-    rw (← c.self.view_is) (due_meets (Some c.in-Some.place) (table_in c.self.inside) _ c.self.invariant.whole (sym c.in-Some.is ∙ c.first_due.ensures.place) (λ i. record { counts = c.self.inside.counts; left = c.put.ensures i })).view
+    rw (← c.self.view_is) (due_meets (Some c.in-Some.place) (table_in c.self.inside) _ c.self.invariant.whole (sym c.in-Some.is ∙ c.first_due.ensures.place) (λ i. record { counts = c.self.inside.counts; left = c.take.ensures i })).view
 
 pub returns-in-None-clause-name : goal.returns-in-None-clause-name
 returns-in-None-clause-name c = rw (← c.self.view_is) (due_named None (table_in c.self.inside) c.self.invariant.whole (sym c.in-None.is ∙ c.first_due.ensures.place))

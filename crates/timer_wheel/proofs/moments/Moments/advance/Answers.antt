@@ -2,7 +2,7 @@ use Rattle.std.proofs.Common.{map, ap, ◌∙◌, arith}
 use Rattle.std.proofs.lemmas.List.{with_items_is}
 use Rattle.timer_wheel.specs.Timers.{one_less}
 use Rattle.timer_wheel.proofs.Ticking.{tick_leaves, rebase_leaves, rebase_size}
-use Rattle.timer_wheel.proofs.moments.Moments.tick.Goals as goal
+use Rattle.timer_wheel.proofs.moments.Moments.advance.Goals as goal
 
 pub invariant_of-self-else-self-lt-LAST : goal.invariant_of-self-else-self-lt-LAST
 invariant_of-self-else-self-lt-LAST c =
