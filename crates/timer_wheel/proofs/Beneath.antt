@@ -77,6 +77,8 @@ bounded-first levels node nodes h m = (subst (λ l. AreBounded l node nodes) (de
 pub bounded-second : (levels node : ℕ) (nodes : List ℕ) → 0 < levels → AreBounded levels node nodes → AreBounded (levels - 1) (2 * node + 1) nodes
 bounded-second levels node nodes h m = (subst (λ l. AreBounded l node nodes) (deeper levels h) m).2
 
+pub ruleset below = (row-first, row-second, bounded-first, bounded-second)
+
 -- ---- each node holds a bound
 
 -- a node so many levels above the leaves
@@ -145,10 +147,10 @@ module _ (clock : ℕ) (nodes : List ℕ) where
       elim (has_come clock (at nodes node)) as (λ b. has_come clock (at nodes node) ≡ b → IsAnswer 0 node (cond b (Some node) None)) [
         | true ↦ λ e. record { low = omega arith; high = omega arith; come = came_by clock (at nodes node) e; before = λ other low high. absurd (omega (arith, low, high)) }
         | false ↦ λ e. record {
-            all = λ leaf low high.
-                let same : node ≡ leaf = omega (arith, low, high) in
-                subst (λ i. clock < at nodes i) same (gone_by clock (at nodes node) e);
-          }
+          all = λ leaf low high.
+              let same : node ≡ leaf = omega (arith, low, high) in
+              subst (λ i. clock < at nodes i) same (gone_by clock (at nodes node) e);
+        }
       ] refl
   first-is (suc k) node = either (first_below clock nodes k (2 * node)) (first_below clock nodes k (2 * node + 1)) (first-is k (2 * node)) (first-is k (2 * node + 1))
     where

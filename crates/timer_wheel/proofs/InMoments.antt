@@ -192,8 +192,8 @@ tree-again clock places levels leaves nodes t = record {
     holds = λ node some inside.
         let here = at-rebased clock nodes node in
         let below =
-            (λ i. min (at-rebased clock nodes (2 * node) i) (at-rebased clock nodes (2 * node + 1) i))
-            ∙ least-rebased clock (at nodes (2 * node)) (at nodes (2 * node + 1)) in
+        (λ i. min (at-rebased clock nodes (2 * node) i) (at-rebased clock nodes (2 * node + 1) i))
+        ∙ least-rebased clock (at nodes (2 * node)) (at nodes (2 * node + 1)) in
         omega (arith, here, below, rebased-le clock (at nodes node) (least nodes node) (t.bounded.holds node some inside));
   };
   idle = λ leaf far.

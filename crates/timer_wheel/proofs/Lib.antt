@@ -10,7 +10,6 @@ pub mod NamedSets
 pub mod PlacesRise
 pub mod PlaceNames
 pub mod Beneath
-pub mod Bounds
 pub mod InMoments
 pub mod Ticking
 pub mod OnTable

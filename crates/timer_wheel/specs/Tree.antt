@@ -1,6 +1,6 @@
 -- A tree of moments, in one list: the node i has the nodes 2 * i and 2 * i + 1 below it, and holds a bound: no moment
 -- below it is less. The node 1 is the top; the leaves stand in the second half of the list.
-use Rattle.std.specs.Prelude.{ℕ, zero, suc, ◌+◌, ◌-◌, ◌*◌, ◌≤◌, ◌<◌, nat_lt, nat_le, min, Bool, if◌then◌else◌}
+use Rattle.std.specs.Prelude.{◌≢◌, ℕ, zero, suc, ◌+◌, ◌-◌, ◌*◌, ◌≤◌, ◌<◌, nat_lt, nat_le, min, Bool, if◌then◌else◌}
 use Rattle.std.specs.Prelude.{Option, None, Some, List, get_or}
 use Rattle.std.specs.Option.{option_or}
 
@@ -32,7 +32,12 @@ least nodes node = min (at nodes (2 * node)) (at nodes (2 * node + 1))
 pub record IsBounded (leaves : ℕ) (nodes : List ℕ) : Type 0 where
   pub holds : (node : ℕ) → 1 ≤ node → node < leaves → at nodes node ≤ least nodes node
 
--- nor does the node so many levels above the leaves, and each below it
+-- but one, just above what is being lowered: it may hold more than that moment
+pub record IsBoundedBut (leaves but moment : ℕ) (nodes : List ℕ) : Type 0 where
+  pub others : (node : ℕ) → node ≢ but → 1 ≤ node → node < leaves → at nodes node ≤ least nodes node
+  pub last : 1 ≤ but → but < leaves → min (at nodes but) moment ≤ least nodes but
+
+-- the node so many levels above the leaves, and each below it, holds no more than the two below it
 abbrev pub AreBounded : (levels node : ℕ) → List ℕ → Type 0
 AreBounded zero node nodes = Unit {0}
 AreBounded (suc levels) node nodes =

@@ -101,6 +101,7 @@ fn least(nodes: &[u32], node: usize) -> u32
 }
 
 /// The first leaf that has come, so many levels below a node.
+#[tactic(auto, using(crate::proofs::Beneath::below))]
 pub(crate) fn first_below(nodes: &[u32], clock: u32, levels: u32, node: usize) -> Option<usize>
     requires size { (node + 1) * 2 ^ levels ≤ length nodes.now }
     requires bounded { AreBounded levels node nodes.now }

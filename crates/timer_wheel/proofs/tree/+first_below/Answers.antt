@@ -1,18 +1,8 @@
 use Rattle.std.proofs.Common.{◌<◌, length, sym, arith}
 use Rattle.std.proofs.lemmas.List.{get_or_default}
 use Rattle.timer_wheel.specs.Tree.{never}
-use Rattle.timer_wheel.proofs.Beneath.{row-first, row-second, row-within, bounded-first, bounded-second, none-first}
+use Rattle.timer_wheel.proofs.Beneath.{row-within, none-first}
 use Rattle.timer_wheel.proofs.tree.+first_below.Goals as goal
-
-pub first_below-requires : goal.first_below-requires
-first_below-requires t c =
-    let some : 0 < c.args.levels = omega arith in
-    (omega arith, (row-first c.args.levels c.args.node (length c.args.nodes.now) some c.requires.size, bounded-first c.args.levels c.args.node c.args.nodes.now some c.requires.bounded))
-
-pub first_below-requires-in-None : goal.first_below-requires-in-None
-first_below-requires-in-None t c =
-    let some : 0 < c.args.levels = omega arith in
-    (omega arith, (row-second c.args.levels c.args.node (length c.args.nodes.now) some c.requires.size, bounded-second c.args.levels c.args.node c.args.nodes.now some c.requires.bounded))
 
 pub returns-then-nodes-node : goal.returns-then-nodes-node
 returns-then-nodes-node t c =

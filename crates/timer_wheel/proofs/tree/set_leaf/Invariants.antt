@@ -1,5 +1,5 @@
 use Rattle.std.proofs.Common.{◌≡◌, ◌<◌, drop, slice_set}
-use Rattle.timer_wheel.proofs.Bounds.{IsBoundedBut}
+use Rattle.timer_wheel.specs.Tree.{IsBoundedBut}
 use Rattle.timer_wheel.proofs.tree.set_leaf.Given as goal
 
 abbrev pub invariant-loop-node : goal.invariant-loop-node
