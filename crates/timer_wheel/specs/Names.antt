@@ -68,8 +68,8 @@ has_name n (T6 destination) = nat_lt destination n.destinations
 has_name n (T8 set destination) = nat_lt set n.sets && nat_lt destination n.destinations
 has_name n (T10 set destination) = nat_lt set n.sets && nat_lt destination n.destinations
 
--- how many names those are: nine for each link, 16 codes for each set, one for each destination, two for each set and
--- destination
+-- how many names those are: nine for each link, one for each set and changeback code, one for each
+-- destination, two for each set and destination
 abbrev pub count_of : NodeCounts → ℕ
 count_of n = 9 * n.links + CHANGEBACK_CODES * n.sets + n.destinations + 2 * (n.sets * n.destinations)
 

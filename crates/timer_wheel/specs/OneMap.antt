@@ -1,4 +1,5 @@
--- Timers to which the same is left are the same, so that what is left to each name of a node is a code of its timers.
+-- Timers to which the same is left are the same, so that what is left to each name of a node is a
+-- code of its timers.
 use Rattle.std.specs.Prelude.{◌≡◌, ℕ, ◌+◌, ◌<◌, ◌==◌, ◌&&◌, nat_lt, Bool, true, false, if◌then◌else◌}
 use Rattle.std.specs.Prelude.{Option, None, List, [], map, get_or}
 use Rattle.std.specs.List.{range_with_len}

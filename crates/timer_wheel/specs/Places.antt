@@ -1,5 +1,5 @@
--- The places of the timers that a node has. They rise in name order: kind by kind, and within a kind in the order of
--- the settings.
+-- The places of the timers that a node has. They rise in name order: kind by kind, and within a
+-- kind in the order of the settings.
 use Rattle.std.specs.Prelude.{ℕ, ◌+◌, ◌-◌, ◌*◌, ◌/◌, ◌%◌, ◌==◌, nat_lt, min, if◌then◌else◌, Option, None, Some}
 use Rattle.signalling_types.specs.declared.limits.TheConstants.Limits.{CHANGEBACK_CODES}
 use Rattle.timer_wheel.specs.declared.name.TimerName.{TimerName}
