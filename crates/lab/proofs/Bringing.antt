@@ -3,12 +3,12 @@ use Rattle.std.proofs.Common.{◌≡◌, ◌⊎◌, ◌≤◌, ◌<◌, ◌+◌,
 use Rattle.std.proofs.lemmas.List.{take_all}
 use Rattle.std.proofs.lemmas.Bool.Decides.{nat_tests}
 use Rattle.std.specs.Io.KnownBytes.{Consumes}
-use Rattle.std.proofs.lemmas.Io.KnownBytes.{Consumes-nil, Consumes-trans}
 use Rattle.signalling_types.specs.declared.limits.TheConstants.Limits.{FRAME_OCTETS}
 use Rattle.m2pa_codec.specs.Streams.{IsText, next_in, is_broken, room_for, taken_of}
 use Rattle.m2pa_codec.specs.declared.framer.Next.TheVariants.{Whole, Wait, Broken}
 use Rattle.m2pa_codec.proofs.StreamTexts.{next_in-whole}
 use Rattle.stp_node.specs.Streams.{Input, counted}
+use Rattle.stp_node.proofs.Running.{consumes-consumes, consumes-nothing}
 use Rattle.lab.specs.Carrying.{GivesText, Holds}
 
 -- a stream of which more is waited for isn't broken
@@ -27,12 +27,12 @@ pub record HoldsMore (source source_now : Input) (held held_now : List ℕ) : Ty
   pub behind : held_now ≡ held ++ read
 
 pub holds-nothing : (source : Input) (held : List ℕ) → HoldsMore source source held held
-holds-nothing source held = record { read = []; consumed = Consumes-nil source.remaining; behind = sym (append-nil held) }
+holds-nothing source held = record { read = []; consumed = consumes-nothing source.remaining; behind = sym (append-nil held) }
 
 pub holds-more : (s0 s1 s2 : Input) (h0 h1 h2 : List ℕ) → HoldsMore s0 s1 h0 h1 → Holds true s1 s2 h1 h2 → HoldsMore s0 s2 h0 h2
 holds-more s0 s1 s2 h0 h1 h2 m h = record {
   read = m.read ++ h.0;
-  consumed = Consumes-trans _ _ _ m.read h.0 m.consumed h.1;
+  consumed = consumes-consumes _ _ _ m.read h.0 m.consumed h.1;
   behind = h.2 ∙ ap (λ (x : List ℕ). x ++ h.0) m.behind ∙ append_assoc h0 m.read h.0;
 }
 

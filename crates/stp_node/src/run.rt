@@ -129,7 +129,9 @@ impl OpenLine {
     }
 
     /// What was read of the line.
-    pub fn octets(&self) -> &[u8] {
+    pub fn octets(&self) -> &[u8]
+        ensures { result.now ≡ self.now.octets }
+    {
         self.octets.as_slice()
     }
 
@@ -177,7 +179,7 @@ impl OpenLine {
             Grown::Open => Ok(()),
             Grown::TooLong => fail(self.number, writer),
             Grown::Whole => {
-                do_line(self.octets.as_slice(), self.number, exchange, writer)?;
+                do_line(self.octets(), self.number, exchange, writer)?;
                 self.begin_next();
                 Ok(())
             }
