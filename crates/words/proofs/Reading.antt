@@ -268,7 +268,7 @@ on-lab ((x ∷ xs) ∷ (y ∷ ys) ∷ []) e =
     let plain = plain-first x (both _ _ e).0 in
     let plain-2 = plain-first y (both _ _ (both _ _ e).1).0 in
     Taken (fault-lab _ ∙ lab-files x y xs ys plain plain-2)
-    (ap found (rows-lab ((x ∷ xs) ∷ (y ∷ ys) ∷ [])) ∙ found-lab (codes "lab") _ lab-is-lab
+    (ap found (rows-lab ((x ∷ xs) ∷ (y ∷ ys) ∷ [])) ∙ found-lab (codes "lab") (rows_after lab.rules [] ((x ∷ xs) ∷ (y ∷ ys) ∷ [])) lab-is-lab
     ∙ ap₂ asked_by_lab (lab-near-named x y xs ys plain plain-2) (lab-far-named x y xs ys plain plain-2)
     ∙ asked-lab (x ∷ xs) (y ∷ ys) (both _ _ e).0 (both _ _ (both _ _ e).1).0)
 on-lab ((x ∷ xs) ∷ (y ∷ ys) ∷ [] ∷ more) e = absurd (true≢false (sym (both _ _ (both _ _ e).1).1))

@@ -55,11 +55,14 @@ abbrev pub asked_by_lab : (near far : Option (List ℕ)) → Task
 asked_by_lab (Some near) (Some far) = LabRun near far
 asked_by_lab near far = OtherWords
 
+-- what a command asks for that was parsed, by the files behind it
+abbrev pub found_by : List ℕ → (file near far : Option (List ℕ)) → Task
+found_by command file near far =
+    if bytes_eq command (codes "lab") then asked_by_lab near far else asked_by_command command file
+
 abbrev pub found : Option (Text × List Row) → Task
 found None = OtherWords
-found (Some p) =
-    if bytes_eq p.0 (codes "lab") then asked_by_lab (first_of (codes "near") p.1) (first_of (codes "far") p.1)
-    else asked_by_command p.0 (first_of (codes "file") p.1)
+found (Some p) = found_by p.0 (first_of (codes "file") p.1) (first_of (codes "near") p.1) (first_of (codes "far") p.1)
 
 abbrev pub are_plain : List (String Global) → Bool
 are_plain words = list_all (λ word. is_plain (string_bytes word)) words

@@ -6,7 +6,7 @@ ghost use Rattle.std.specs.List.{list_all};
 ghost use Rattle.clap.specs.Words.{app_of, kind_of, subcommand_rows_of};
 ghost use Rattle.clap.specs.declared.builder.command.Command.TheViews.{out-Command as fields_of};
 ghost use Rattle.clap.specs.declared.error.kind.ErrorKind.TheVariants.{OutOfMemory};
-ghost use Rattle.words.specs.Words.{asked, asked_by_command, asked_by_lab, are_plain, found, is_plain, said};
+ghost use Rattle.words.specs.Words.{asked, asked_by_command, asked_by_lab, are_plain, found, found_by, is_plain, said};
 ghost use Rattle.words.specs.Words.{OtherWords, AreReadAs};
 ghost use Rattle.words.specs.Grammar.{stp, bare, run, check, lab};
 
@@ -78,9 +78,31 @@ fn found(alloc: Global, matches: &ArgMatches<'_>) -> Result<Words, AllocError>
     ensures { IfOk result (λ read. said read ≡ Some (found (subcommand_rows_of matches.now))) }
 {
     match matches.subcommand() {
-        Some(("lab", inner)) => with_two_files(alloc, inner.get_str("near"), inner.get_str("far")),
-        Some((command, inner)) => with_file(alloc, command, inner.get_str("file")),
+        Some((command, inner)) => {
+            let file = inner.get_str("file");
+            let near = inner.get_str("near");
+            let far = inner.get_str("far");
+            with_files(alloc, command, file, near, far)
+        }
         None => Ok(Words::Usage),
+    }
+}
+
+/// What a command asks for, by the files behind it.
+fn with_files(
+    alloc: Global,
+    command: &str,
+    file: Option<&str>,
+    near: Option<&str>,
+    far: Option<&str>,
+) -> Result<Words, AllocError>
+    ensures { IfOk result (λ read. said read ≡ Some (found_by command.now (option_map (λ name. name.now) file.entry)
+        (option_map (λ name. name.now) near.entry) (option_map (λ name. name.now) far.entry))) }
+{
+    if command == "lab" {
+        with_two_files(alloc, near, far)
+    } else {
+        with_file(alloc, command, file)
     }
 }
 
