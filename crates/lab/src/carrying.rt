@@ -55,6 +55,24 @@ pub fn carry<W: Sink, R: Source>(
         (carriage (W.output sink.new) (R.input source.new) framer.new) }
     ensures few { (R.input source.new).reads ≤ (R.input source.old).reads + MOVE_READS }
 {
+    carry_frame(near, far, from, to, sink, source, framer)
+}
+
+/// The same, on what is kept.
+fn carry_frame<W: Sink, R: Source>(
+    near: &mut Exchange,
+    far: &mut Exchange,
+    from: LinkId,
+    to: LinkId,
+    sink: &mut W,
+    source: &mut R,
+    framer: &mut Framer,
+) -> Carried
+    ensures carried { Carries kept from to result near.old near.new far.old far.new
+        (carriage (W.output sink.old) (R.input source.old) framer.old)
+        (carriage (W.output sink.new) (R.input source.new) framer.new) }
+    ensures few { (R.input source.new).reads ≤ (R.input source.old).reads + MOVE_READS }
+{
     let Some(frame) = next_frame(near, from) else {
         return Carried::Nothing;
     };
@@ -96,7 +114,9 @@ fn bring<W: Sink, R: Source>(
         return None;
     };
     let mut text = [0; Limits::FRAME_OCTETS];
-    let count = next_text(source, framer, &mut text)?;
+    let Some(count) = next_text(source, framer, &mut text) else {
+        return None;
+    };
     Some(far.step(&Event::Frame(to, &text[..count])))
 }
 
