@@ -2,12 +2,12 @@
 use Rattle.std.proofs.Common.{◌≡◌, ◌⊎◌, ◌≤◌, ◌<◌, ◌+◌, ◌-◌, ◌^◌, ◌∙◌, ℕ, Bool, true, false, List, [], ◌∷◌, ◌++◌, length, take, drop, Option, Some, None, refl, sym, ap, subst, inl, inr, min, arith, append_assoc, append-nil}
 use Rattle.std.proofs.lemmas.List.{take_all}
 use Rattle.std.proofs.lemmas.Bool.Decides.{nat_tests}
-use Rattle.std.specs.Io.KnownBytes.{Consumes}
+use Rattle.std.specs.Io.KnownBytes.{Appends, Consumes}
 use Rattle.signalling_types.specs.declared.limits.TheConstants.Limits.{FRAME_OCTETS}
 use Rattle.m2pa_codec.specs.Streams.{IsText, next_in, is_broken, room_for, taken_of}
 use Rattle.m2pa_codec.specs.declared.framer.Next.TheVariants.{Whole, Wait, Broken}
 use Rattle.m2pa_codec.proofs.StreamTexts.{next_in-whole}
-use Rattle.stp_node.specs.Streams.{Input, counted}
+use Rattle.stp_node.specs.Streams.{AppendsFirst, Input, counted}
 use Rattle.stp_node.proofs.Running.{consumes-consumes, consumes-nothing}
 use Rattle.lab.specs.Carrying.{GivesText, Holds}
 
@@ -48,3 +48,8 @@ gives-text source source_now held held_now left text m whole cut = record {
 
 pub whole-fits : (held : List ℕ) (count : ℕ) → Whole count ≡ next_in held → count ≤ FRAME_OCTETS
 whole-fits held count e = (next_in-whole held count (sym e)).limit
+
+-- octets that were written whole are the first of them, all of them
+pub all-first : (w0 w1 : Option (List ℕ)) (octets : List ℕ) → Appends w0 w1 octets → AppendsFirst w0 w1 octets
+all-first w0 w1 octets h =
+    (length octets, subst (λ (written : List ℕ). Appends w0 w1 written) (sym (take_all (length octets) octets (omega arith))) h)

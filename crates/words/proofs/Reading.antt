@@ -234,12 +234,12 @@ on-run ([] ∷ more) e = absurd (true≢false (sym e))
 on-run ((x ∷ xs) ∷ []) e =
     let plain = plain-first x (both _ _ e).0 in
     Taken (fault-run _ ∙ run-file x xs plain)
-    (ap found (rows-run ((x ∷ xs) ∷ [])) ∙ found-other (codes "run") _ run-is-not-lab ∙ ap (asked_by_command (codes "run")) (run-file-named x xs plain) ∙ rw plain refl)
+    (ap found (rows-run ((x ∷ xs) ∷ [])) ∙ found-other (codes "run") (rows_after run.rules [] ((x ∷ xs) ∷ [])) run-is-not-lab ∙ ap (asked_by_command (codes "run")) (run-file-named x xs plain) ∙ rw plain refl)
 on-run ((x ∷ xs) ∷ [] ∷ more) e = absurd (true≢false (sym (both _ _ e).1))
 on-run ((x ∷ xs) ∷ (y ∷ ys) ∷ more) e =
     let plain = plain-first x (both _ _ e).0 in
     let plain-2 = plain-first y (both _ _ (both _ _ e).1).0 in
-    Refused (not-nil _ _ _ (fault-run _ ∙ run-more x y xs ys more plain plain-2)) (unasked-more (codes "run") _ _ more run-is-not-lab)
+    Refused (not-nil _ _ _ (fault-run _ ∙ run-more x y xs ys more plain plain-2)) (unasked-more (codes "run") (x ∷ xs) (y ∷ ys) more run-is-not-lab)
 
 on-check : (words : List Text) → list_all is_plain words ≡ true → Verdict (codes "check" ∷ words)
 on-check [] e = Refused (not-nil _ _ _ (fault-check [] ∙ check-alone)) refl
@@ -247,15 +247,18 @@ on-check ([] ∷ more) e = absurd (true≢false (sym e))
 on-check ((x ∷ xs) ∷ []) e =
     let plain = plain-first x (both _ _ e).0 in
     Taken (fault-check _ ∙ check-file x xs plain)
-    (ap found (rows-check ((x ∷ xs) ∷ [])) ∙ found-other (codes "check") _ check-is-not-lab ∙ ap (asked_by_command (codes "check")) (check-file-named x xs plain) ∙ rw plain refl)
+    (ap found (rows-check ((x ∷ xs) ∷ [])) ∙ found-other (codes "check") (rows_after check.rules [] ((x ∷ xs) ∷ [])) check-is-not-lab ∙ ap (asked_by_command (codes "check")) (check-file-named x xs plain) ∙ rw plain refl)
 on-check ((x ∷ xs) ∷ [] ∷ more) e = absurd (true≢false (sym (both _ _ e).1))
 on-check ((x ∷ xs) ∷ (y ∷ ys) ∷ more) e =
     let plain = plain-first x (both _ _ e).0 in
     let plain-2 = plain-first y (both _ _ (both _ _ e).1).0 in
-    Refused (not-nil _ _ _ (fault-check _ ∙ check-more x y xs ys more plain plain-2)) (unasked-more (codes "check") _ _ more check-is-not-lab)
+    Refused (not-nil _ _ _ (fault-check _ ∙ check-more x y xs ys more plain plain-2)) (unasked-more (codes "check") (x ∷ xs) (y ∷ ys) more check-is-not-lab)
+
+asked-two : (command near far : Text) → bytes_eq command (codes "lab") ≡ true → asked_with_two command near far ≡ LabRun near far
+asked-two command near far e = rw e refl
 
 asked-lab : (near far : Text) → is_plain near ≡ true → is_plain far ≡ true → LabRun near far ≡ asked_by (codes "lab" ∷ near ∷ far ∷ [])
-asked-lab near far e f = rw (e, f, lab-is-lab) refl
+asked-lab near far e f = rw (e, f) (sym (asked-two (codes "lab") near far lab-is-lab))
 
 on-lab : (words : List Text) → list_all is_plain words ≡ true → Verdict (codes "lab" ∷ words)
 on-lab [] e = Refused (not-nil _ _ _ (fault-lab [] ∙ lab-alone)) refl

@@ -1,4 +1,4 @@
-use Rattle.std.proofs.Common.{◌∙◌, sym, ap, List, Option, Some, codes, ℕ, map}
+use Rattle.std.proofs.Common.{◌∙◌, sym, ap, List, Option, Some, codes, ℕ}
 use Rattle.std.specs.Prelude.{option_map}
 use Rattle.std.proofs.lemmas.Result.{IfOk-weaker}
 use Rattle.clap.specs.Words.{found_of, rows_of, first_of}
