@@ -191,10 +191,11 @@ impl OpenLine {
         ensures line { Grows result octet self.old self.new }
         ensures short { length self.new.octets ≤ LINE_OCTETS }
     {
+        let is_full = self.octets.is_full();
         if octet == LINE_FEED {
             return Grown::Whole;
         }
-        if self.octets.is_full() {
+        if is_full {
             self.wrong = LineFault::TooLong(LINE_OCTETS);
             return Grown::TooLong;
         }

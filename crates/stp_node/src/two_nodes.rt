@@ -1,6 +1,6 @@
 //! Two nodes that a lab joins, with the settings of two files.
 
-ghost use Rattle.std.specs.Prelude.{◌≡◌, ◌↔◌, IsTrue, map};
+ghost use Rattle.std.specs.Prelude.{◌≡◌, ◌↔◌, IfOk, IsTrue, map};
 ghost use Rattle.stp_types.specs.Facing.{IsFacing};
 ghost use Rattle.stp_node.specs.Faults.{MakesReads, reads_failed, writes_failed};
 ghost use Rattle.stp_node.specs.Naming.{link_names};
@@ -54,11 +54,26 @@ pub(crate) fn run_files<F: Folder, L: Lab, R: Source, W: Sink, E: Sink>(
         Ok(settings) => settings,
         Err(status) => return status,
     };
-    if !near.faces(&far) || !are_named_alike(&near, &far) {
-        explain_strangers(alloc, files.0, files.1, errors);
-        return end_with(Status::Start, b"fault NotFacing\n", writer);
+    run_if_facing(alloc, near, far, files, lab, reader, writer, errors)
+}
+
+/// Runs the lab script on two nodes with these settings, which files of these names have, if they face each other and
+/// name their links alike.
+fn run_if_facing<L: Lab, R: Source, W: Sink, E: Sink>(
+    alloc: Global,
+    near: Settings,
+    far: Settings,
+    files: (&str, &str),
+    lab: &mut L,
+    reader: &mut R,
+    writer: &mut W,
+    errors: &mut E,
+) -> Status {
+    if near.faces(&far) && are_named_alike(&near, &far) {
+        return run_between(alloc, near, far, lab, reader, writer, errors);
     }
-    run_between(alloc, near, far, lab, reader, writer, errors)
+    explain_strangers(alloc, files.0, files.1, errors);
+    end_with(Status::Start, b"fault NotFacing\n", writer)
 }
 
 /// The settings of a file, or how the program ends without them.
@@ -98,16 +113,67 @@ fn run_between<L: Lab, R: Source, W: Sink, E: Sink>(
     requires facing { IsFacing near far }
     requires alike { link_names near ≡ link_names far }
 {
-    let (Ok(mut near), Ok(mut far)) = (Exchange::boot(alloc, near), Exchange::boot(alloc, far)) else {
+    let Ok(mut near) = booted(alloc, near) else {
         return tell_no_memory(writer);
     };
-    match lab.run(alloc, &mut near, &mut far, reader, writer) {
-        Err(ScriptFault::NoMemory) => tell_no_memory(writer),
-        script => {
-            explain_lab_end(alloc, script, errors);
-            status_after(script)
-        }
+    run_beside(alloc, &mut near, far, lab, reader, writer, errors)
+}
+
+/// The same, where the near node is booted.
+fn run_beside<L: Lab, R: Source, W: Sink, E: Sink>(
+    alloc: Global,
+    near: &mut Exchange,
+    far: Settings,
+    lab: &mut L,
+    reader: &mut R,
+    writer: &mut W,
+    errors: &mut E,
+) -> Status
+    requires facing { IsFacing near.old.settings far }
+    requires alike { link_names near.old.settings ≡ link_names far }
+{
+    let Ok(mut far) = booted(alloc, far) else {
+        return tell_no_memory(writer);
+    };
+    run_booted(alloc, near, &mut far, lab, reader, writer, errors)
+}
+
+/// The same, where both nodes are booted.
+fn run_booted<L: Lab, R: Source, W: Sink, E: Sink>(
+    alloc: Global,
+    near: &mut Exchange,
+    far: &mut Exchange,
+    lab: &mut L,
+    reader: &mut R,
+    writer: &mut W,
+    errors: &mut E,
+) -> Status
+    requires facing { IsFacing near.old.settings far.old.settings }
+    requires alike { link_names near.old.settings ≡ link_names far.old.settings }
+{
+    let script = lab.run(alloc, near, far, reader, writer);
+    end_lab(alloc, script, writer, errors)
+}
+
+/// The node with these settings, before its first event.
+fn booted(alloc: Global, settings: Settings) -> Result<Exchange, NoMemory>
+    ensures { IfOk result (λ node. node.settings ≡ settings) }
+{
+    Exchange::boot(alloc, settings)
+}
+
+/// Tells why a lab script ended before its end, if it did, and how the program ends.
+fn end_lab<W: Sink, E: Sink>(
+    alloc: Global,
+    script: Result<(), ScriptFault>,
+    writer: &mut W,
+    errors: &mut E,
+) -> Status {
+    if let Err(ScriptFault::NoMemory) = script {
+        return tell_no_memory(writer);
     }
+    explain_lab_end(alloc, script, errors);
+    status_after(script)
 }
 
 /// Whether both have as many links, and each link of one has the name of the other's link of the same number.
@@ -121,7 +187,13 @@ pub fn are_named_alike(near: &Settings, far: &Settings) -> bool
 fn have_same_names(near: &[LinkRow], far: &[LinkRow]) -> bool
     ensures { IsTrue result ↔ (map (λ l. l.name) near.now ≡ map (λ l. l.name) far.now) }
 {
-    let near_names = near.iter().map(|row| row.name());
-    let far_names = far.iter().map(|row| row.name());
-    near.len() == far.len() && near_names.zip(far_names).all(|(near, far)| near == far)
+    if near.len() != far.len() {
+        return false;
+    }
+    for i in 0..near.len() {
+        if near[i].name() != far[i].name() {
+            return false;
+        }
+    }
+    true
 }

@@ -1,6 +1,7 @@
 //! Labs whose streams, script or output fail. What a lab does else is in the transcripts.
 
 use super::facing::node;
+use super::streams::Endless;
 use super::{compare, end_of, joiner};
 use exchange::Exchange;
 use lab::{MemoryJoiner, run_lab};
@@ -180,4 +181,19 @@ fn expect_failing_write<T: Abort>(rt: &T, alloc: Global, writes: u64) -> Result<
     let (printed, _) = LINES.get(writes as usize).copied().unwrap_or((0, 0));
     compare(rt, SCRIPT.as_bytes(), writer.written(), PRINTED.get(..printed).unwrap_or(""));
     Ok(())
+}
+
+/// Reads a lab script that has no end.
+fn expect_endless<T: Abort>(rt: &T, alloc: Global) -> Result<(), Fail> {
+    let mut reader = Endless::new();
+    let mut writer = MemorySink::new(alloc);
+    let ended = run(alloc, &mut joiner(rt, alloc), &mut reader, &mut writer)?;
+    assert_eq!(rt; ended, Err(ScriptFault::TooManyReads));
+    assert_eq!(rt; (reader.reads(), writer.written().len()), (4_194_304, 0));
+    Ok(())
+}
+
+#[test]
+fn too_many_reads(rt: HostRuntime) -> Result<(), Fail> {
+    expect_endless(&rt, rt.alloc())
 }

@@ -1,16 +1,20 @@
-use Rattle.std.proofs.Common.{rules, tests, arith, map, ap, ◌∙◌, ◌≡◌}
+use Rattle.std.proofs.Common.{◌≡◌, ◌<◌, rules, tests, length, arith, sym, true≢false}
 use Rattle.std.proofs.lemmas.Grind.{common_steps}
-use Rattle.std.proofs.lemmas.Iterator.{YieldsList-from_slice, YieldsList-from_map, YieldsList-from_zip, same_from_all}
+use Rattle.stp_node.proofs.Naming.{names-differ, names-next}
 use Rattle.stp_node.proofs.two_nodes.have_same_names.Goals as goal
 
-pub returns-then-near-far : goal.returns-then-near-far
-returns-then-near-far c =
-    let near : c.zip.result.a.iter.rest.now ≡ c.args.near.now = cc in
-    let far : c.zip.result.b.iter.rest.now ≡ c.args.far.now = cc in
-    let near_closure = ap (λ m. m.f) c.zip.ensures.first ∙ c.map-near_names.ensures.closure in
-    let far_closure = ap (λ m. m.f) c.zip.ensures.second ∙ c.map-far_names.ensures.closure in
-    same_from_all c.all.new.self _ _ (map (λ l. l.name) c.args.near.now) (map (λ l. l.name) c.args.far.now) c.all.ensures.ran
-    (YieldsList-from_zip
-    (YieldsList-from_map _ _ (YieldsList-from_slice c.args.near.now near) near_closure (λ x r q k. search rules))
-    (YieldsList-from_map _ _ (YieldsList-from_slice c.args.far.now far) far_closure (λ x r q k. search rules)))
-    (grind (arith, common_steps)) (λ x q k. search (rules, tests)) (λ x q k. search (rules, tests))
+pub returns-then-ne : goal.returns-then-ne
+returns-then-ne c =
+    let near = c.args.near.now in
+    let far = c.args.far.now in
+    let in_far : c.loop-i.i < length far = grind (arith, common_steps) in
+    ((λ t. absurd (true≢false (sym t))), (λ e. absurd (names-differ near far c.loop-i.i c.index-near-i.result c.index-far-i.result c.loop-i-test.true in_far c.index-near-i.is c.index-far-i.is
+    (λ same. search (rules, tests)) e)))
+
+pub loop-i-preserved : goal.loop-i-preserved
+loop-i-preserved c =
+    let near = c.args.near.now in
+    let far = c.args.far.now in
+    let in_far : c.loop-i.i < length far = grind (arith, common_steps) in
+    let same : c.index-near-i.result.name ≡ c.index-far-i.result.name = search (rules, tests) in
+    names-next near far c.loop-i.i c.index-near-i.result c.index-far-i.result c.loop-i-test.true in_far c.index-near-i.is c.index-far-i.is same c.loop-i.invariant
