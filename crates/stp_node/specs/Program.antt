@@ -1,11 +1,10 @@
 -- What the program does for what its words ask, and its exit statuses.
-use Rattle.std.specs.Prelude.{◌≡◌, ◌⊎◌, ℕ, List, ◌++◌, codes, Some, Result, Ok, Err, String, true}
+use Rattle.std.specs.Prelude.{◌≡◌, ◌⊎◌, ℕ, List, ◌++◌, codes, Result, Ok, Err, String, true}
 use Rattle.std.specs.Global.{Global}
 use Rattle.std.specs.Io.KnownBytes.{Appends}
 use Rattle.settings_rows.specs.Configuration.{Configuration}
 use Rattle.settings.specs.Faults.{fault_line, no_memory}
 use Rattle.settings.specs.declared.fault.SettingsFault.{SettingsFault}
-use Rattle.settings.specs.declared.fault.SettingsFault.TheVariants as settings_fault
 use Rattle.exchange_rules.specs.Sound.{Abstract}
 use Rattle.exchange_rules.specs.First.{first_state}
 use Rattle.exchange_rules.specs.Queues.{whole}
