@@ -5,7 +5,7 @@ use Rattle.lab.proofs.run.run_pieces.Goals as goal
 
 pub loop-init : goal.loop-init
 loop-init g c = record {
-  number = rw (c.first.ensures) (omega arith);
+  number = rw (c.first-line.ensures) (omega arith);
   most = omega arith;
   least = omega arith;
   reads = refl;
