@@ -1,9 +1,10 @@
 //! What was accepted, compared with what was received.
 //!
-//! What is judged is what `Pair::received` promises. While neither end has said that a message may be lost, each one that
-//! was accepted has come once, or waits. While besides the end that accepted hasn't said that one may be late, the first
-//! of each flow have come, in order, and the others wait. So what came until then is judged. Where no end said so to the
-//! last, nothing may be waiting any more.
+//! What is judged is what `Pair::received` promises. While neither end has said that a message may
+//! be lost, each one that was accepted has come once, or waits. While besides the end that accepted
+//! hasn't said that one may be late, the first of each flow have come, in order, and the others
+//! wait. So what came until then is judged. Where no end said so to the last, nothing may be
+//! waiting any more.
 
 ghost use Rattle.std.specs.Prelude.{◌≡◌};
 ghost use Rattle.link_stops.specs.Counting.{counts_up_from, is_out_of_turn, last_with};

@@ -43,7 +43,8 @@ impl Total {
         world
     }
 
-    /// A run ended, and whether as it was to. Only here is a world dropped, since a function that does it has a long proof.
+    /// A run ended, and whether as it was to. Only here is a world dropped, since a function that does
+    /// it has a long proof.
     pub(crate) fn end(&mut self, alloc: Global, world: World, ended: bool) {
         self.add(alloc, &world, ended);
     }

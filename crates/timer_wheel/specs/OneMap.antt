@@ -180,4 +180,5 @@ listed-one r s e = one_map r s counts (λ name. at name (has_name r.counts name)
         r.only name h ∙ sym (s.only name (ap (λ n. has_name n name) (sym counts) ∙ h))
 
 abbrev pub running_code : Coded Running
-running_code = coded_via (coded× counts_code (coded_list (coded_list (coded_list (coded_option coded_ℕ))))) listed listed-one
+running_code =
+    coded_via (coded× counts_code (coded_list (coded_list (coded_list (coded_option coded_ℕ))))) listed listed-one
