@@ -4,9 +4,8 @@ use Rattle.std.proofs.lemmas.Bool.Decides.{nat_tests}
 use Rattle.std.specs.List.{AllByRecursion, range_with_len}
 use Rattle.timer_wheel.specs.declared.name.TimerName.{TimerName}
 use Rattle.timer_wheel.specs.declared.name.TimerName.TheVariants.{L1, L2, L3, L4, L6, L7, T1, T2, T3, T4, T6, T8, T10}
-use Rattle.timer_wheel.specs.declared.name.Key.{Key}
 use Rattle.timer_wheel.specs.declared.name.NodeCounts.{NodeCounts}
-use Rattle.timer_wheel.specs.Names.{key, key_of, is_key_before, is_before, each, each_in_rows, names_by_kind, names_of, AreInOrder}
+use Rattle.timer_wheel.specs.Names.{Key, key, key_of, is_key_before, is_before, each, each_in_rows, names_by_kind, names_of, AreInOrder}
 use Rattle.timer_wheel.proofs.Elements.{all-append, all-weaker}
 use Rattle.timer_wheel.proofs.NamesOf.{◌&◌, all-each, all-rows, rows, joined}
 

@@ -1,12 +1,9 @@
 -- Two names are one, or one comes before the other.
-use Rattle.std.proofs.Common.{◌≡◌, ◌≢◌, true, false, refl, sym, ap, ◌∙◌, arith}
-use Rattle.std.proofs.lemmas.Bool.{false≢true}
+use Rattle.std.proofs.Common.{◌≡◌, ◌≢◌, true, false, refl, arith}
 use Rattle.std.proofs.lemmas.Bool.Decides.{nat_tests}
 use Rattle.timer_wheel.specs.declared.name.TimerName.{TimerName}
-use Rattle.timer_wheel.specs.declared.name.Key.{Key}
-use Rattle.timer_wheel.specs.Names.{key_of, is_key_before, is_before, is_same_key, is_same}
+use Rattle.timer_wheel.specs.Names.{Key, key_of, is_key_before, is_before, is_same_key, is_same}
 use Rattle.timer_wheel.proofs.Keys.{one_name}
-use Rattle.timer_wheel.proofs.Order.{before-itself}
 
 same-key : (x y : Key) → is_same_key x y ≡ true → x ≡ y
 same-key x y h =
@@ -36,13 +33,3 @@ key-total x y h k = grind (arith, nat_tests)
 
 pub before-total : (x y : TimerName) → x ≢ y → is_before x y ≡ false → is_before y x ≡ true
 before-total x y h k = key-total (key_of x) (key_of y) (other_is_not x y h) k
-
-pub before-differs : (x y : TimerName) → is_before x y ≡ true → is_same x y ≡ false
-before-differs x y h = other_is_not x y (λ e. false≢true (sym (before-itself y) ∙ ap (λ z. is_before z y) (sym e) ∙ h))
-
-key-neither : (x y : Key) → is_key_before x y ≡ false → is_key_before y x ≡ false → is_same_key x y ≡ true
-key-neither x y h k = grind (arith, nat_tests)
-
--- of two names of which neither comes first, each is the other
-pub neither-before : (x y : TimerName) → is_before x y ≡ false → is_before y x ≡ false → is_same x y ≡ true
-neither-before x y h k = key-neither (key_of x) (key_of y) h k

@@ -2,9 +2,6 @@ pub mod Names
 pub mod Timers
 pub mod OneMap
 pub mod Places
+pub mod Tree
+pub mod Moments
 pub mod Table
-pub mod TableRoom
-pub mod Named
-pub mod Kept
-pub mod Lists
-pub mod Tables

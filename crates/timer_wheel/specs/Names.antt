@@ -6,10 +6,15 @@ use Rattle.timer_wheel.specs.declared.name.TimerName.{TimerName}
 use Rattle.timer_wheel.specs.declared.name.TimerName.TheVariants.{L1, L2, L3, L4, L6, L7, T1, T2, T3, T4, T6, T8, T10}
 use Rattle.timer_wheel.specs.declared.name.RouteTimer.{RouteTimer}
 use Rattle.timer_wheel.specs.declared.name.RouteTimer.TheVariants as route
-use Rattle.timer_wheel.specs.declared.name.Key.{Key}
 use Rattle.timer_wheel.specs.declared.name.NodeCounts.{NodeCounts}
 
 -- ---- name order: by kind, then in the order of the settings
+
+-- what the order goes by: the kind, then the place in the order of the settings
+pub record Key : Type 0 where
+  pub kind : ℕ
+  pub row : ℕ
+  pub column : ℕ
 
 abbrev pub key : (kind row column : ℕ) → Key
 key kind row column = record { kind = kind; row = row; column = column }
@@ -63,8 +68,8 @@ has_name n (T6 destination) = nat_lt destination n.destinations
 has_name n (T8 set destination) = nat_lt set n.sets && nat_lt destination n.destinations
 has_name n (T10 set destination) = nat_lt set n.sets && nat_lt destination n.destinations
 
--- how many names those are: nine for each link, 16 codes for each set, one for each destination, two for each set and
--- destination
+-- how many names those are: nine for each link, one for each set and changeback code, one for each
+-- destination, two for each set and destination
 abbrev pub count_of : NodeCounts → ℕ
 count_of n = 9 * n.links + CHANGEBACK_CODES * n.sets + n.destinations + 2 * (n.sets * n.destinations)
 

@@ -1,4 +1,5 @@
--- Timers to which the same is left are the same, so that what is left to each name of a node is a code of its timers.
+-- Timers to which the same is left are the same, so that what is left to each name of a node is a
+-- code of its timers.
 use Rattle.std.specs.Prelude.{◌≡◌, ℕ, ◌+◌, ◌<◌, ◌==◌, ◌&&◌, nat_lt, Bool, true, false, if◌then◌else◌}
 use Rattle.std.specs.Prelude.{Option, None, List, [], map, get_or}
 use Rattle.std.specs.List.{range_with_len}
@@ -11,9 +12,8 @@ use mathlib.Core.HLevel.{Σ_prop_path}
 use Rattle.signalling_types.specs.declared.limits.TheConstants.Limits.{CHANGEBACK_CODES}
 use Rattle.timer_wheel.specs.declared.name.TimerName.{TimerName}
 use Rattle.timer_wheel.specs.declared.name.TimerName.TheVariants.{L1, L2, L3, L4, L6, L7, T1, T2, T3, T4, T6, T8, T10}
-use Rattle.timer_wheel.specs.declared.name.Key.{Key}
 use Rattle.timer_wheel.specs.declared.name.NodeCounts.{NodeCounts}
-use Rattle.timer_wheel.specs.Names.{key_of, has_name}
+use Rattle.timer_wheel.specs.Names.{Key, key_of, has_name}
 use Rattle.timer_wheel.specs.Timers.{Running}
 
 -- ---- the same left to each name

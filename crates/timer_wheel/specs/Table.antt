@@ -1,45 +1,39 @@
--- The timers of links: a table of the ticks that are left, kind by kind, and within a kind link by link.
-use Rattle.std.specs.Prelude.{ℕ, ◌+◌, ◌*◌, nat_lt, if◌then◌else◌, Option, None, Some, is_some}
-use Rattle.std.specs.Prelude.{List, length, map, filter, position, slice_set, get_or}
-use Rattle.timer_wheel.specs.Timers.{one_less, no_tick_left}
+-- The timers of a node by their places, and the map that they say.
+use Rattle.std.specs.Prelude.{◌≡◌, ℕ, Bool, if◌then◌else◌, Option, None, List, length, get_or}
+use Rattle.timer_wheel.specs.declared.name.TimerName.{TimerName}
+use Rattle.timer_wheel.specs.declared.name.NodeCounts.{NodeCounts}
+use Rattle.timer_wheel.specs.declared.timers.Timers.TheInside.{Inside}
+use Rattle.timer_wheel.specs.Names.{has_name, count_of}
+use Rattle.timer_wheel.specs.Places.{named_sets, place_in}
+use Rattle.timer_wheel.specs.Timers.{Running, running_with}
 
 pub record Table : Type 0 where
-  -- how many links
-  pub links : ℕ
-  -- the ticks that are left to each timer that runs; 0 where it is due
+  -- how many links, sets and destinations the node has
+  pub counts : NodeCounts
+  -- the ticks that are left at each place
   pub left : List (Option ℕ)
 
--- where the timer of a kind and a link stands
-abbrev pub place_in : ℕ → (kind link : ℕ) → ℕ
-place_in links kind link = kind * links + link
+-- whether a timer has a place
+abbrev pub has_place : TimerName → Table → Bool
+has_place name t = has_name (named_sets t.counts) name
 
--- the ticks that are left to the timer of a kind and a link
-abbrev pub link_left : (kind link : ℕ) → Table → Option ℕ
-link_left kind link t = if nat_lt link t.links then get_or t.left (place_in t.links kind link) None else None
+-- the ticks that are left to a timer
+unfoldable pub left_to : TimerName → Table → Option ℕ
+left_to name t = if has_place name t then get_or t.left (place_in (named_sets t.counts) name) None else None
 
--- one timer has so many ticks left, or doesn't run; a place that isn't there is left aside
-abbrev pub with_left : ℕ → Option ℕ → Table → Table
-with_left place left t =
-    if nat_lt place (length t.left) then record t { left = slice_set t.left place left } else t
+-- the map that the table says
+unfoldable pub map_of : Table → Running
+map_of t = running_with t.counts (λ name. left_to name t)
 
--- the timer of a kind and a link has so many ticks left, or doesn't run; a link that isn't there is left aside
-abbrev pub with_link_left : (kind link : ℕ) → Option ℕ → Table → Table
-with_link_left kind link left t =
-    if nat_lt link t.links then with_left (place_in t.links kind link) left t else t
+-- there is a place for each name
+pub record IsWhole (t : Table) : Type 0 where
+  pub places : length t.left ≡ count_of (named_sets t.counts)
 
--- the timer of a kind and a link has so many ticks left, unless it runs
-abbrev pub with_link_started : (kind link left : ℕ) → Table → Table
-with_link_started kind link left t =
-    if is_some (link_left kind link t) then t else with_link_left kind link (Some left) t
+abbrev pub table_in : Inside → Table
+table_in s = record { counts = s.counts; left = s.left }
 
--- a tick lowers all
-abbrev pub ticked_table : Table → Table
-ticked_table t = record t { left = map one_less t.left }
+abbrev pub map_in : Inside → Running
+map_in s = map_of (table_in s)
 
--- the first place that is due: of the first kind, and within it of the first link
-abbrev pub due_place : Table → Option ℕ
-due_place t = position no_tick_left t.left
-
--- how many are due
-abbrev pub count_places : Table → ℕ
-count_places t = length (filter no_tick_left t.left)
+pub record ArePlaced (s : Inside) : Type 0 where
+  pub whole : IsWhole (table_in s)

@@ -2,11 +2,11 @@
 #![tactic(auto)]
 
 pub mod laws;
-mod list;
+mod moments;
 pub mod name;
-mod named;
-mod table;
+mod places;
 pub mod timers;
+mod tree;
 
 pub use name::{NodeCounts, RouteTimer, TimerName};
 pub use timers::Timers;

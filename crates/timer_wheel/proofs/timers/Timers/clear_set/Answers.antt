@@ -1,15 +1,14 @@
-use Rattle.std.proofs.Common.{ap, ◌∙◌}
-use Rattle.timer_wheel.specs.Timers.{clear_set}
-use Rattle.timer_wheel.specs.Tables.{tables_in, map_of}
-use Rattle.timer_wheel.proofs.Calls.{Meets, clear_set_meets}
+use Rattle.std.proofs.Common.{◌≡◌, sym, ap, ◌∙◌, arith}
+use Rattle.timer_wheel.specs.declared.name.NodeCounts.{NodeCounts}
+use Rattle.timer_wheel.specs.Timers.{Running}
+use Rattle.timer_wheel.specs.Table.{table_in}
+use Rattle.timer_wheel.proofs.Viewed.{counts-map}
+use Rattle.timer_wheel.proofs.ClearedSet.{cleared_below, all-cleared}
 use Rattle.timer_wheel.proofs.timers.Timers.clear_set.Goals as goal
 
-in_list : (c : goal.After-clear_set) → Meets (record { links = c.self.inside.links; others = c.clear_set.new.self }) (clear_set c.args.timer c.args.set (map_of (tables_in c.self.inside)))
-in_list c =
-    clear_set_meets c.args.timer c.args.set (tables_in c.self.inside) _ c.self.invariant.whole (λ i. record { links = c.self.inside.links; others = c.clear_set.ensures i })
-
-pub invariant_of-self : goal.invariant_of-self
-invariant_of-self c = record { whole = (in_list c).whole }
-
 pub returns : goal.returns
-returns c = (in_list c).view ∙ ap (λ r. clear_set c.args.timer c.args.set r) c.self.view_is
+returns c =
+    let r = c.args.self.now in
+    let counts : c.self.inside.counts.destinations ≡ r.counts.destinations = ap (λ (n : NodeCounts). n.destinations) (sym (counts-map (table_in c.self.inside)) ∙ ap (λ (r : Running). r.counts) c.self.view_is) in
+    let end : c.loop-destination.destination ≡ r.counts.destinations = omega (arith, counts, c.loop-destination-test.false, c.loop-destination.auto.destination-end) in
+    c.loop-destination.invariant ∙ ap (λ n. cleared_below c.args.timer c.args.set n r) end ∙ all-cleared c.args.timer c.args.set r

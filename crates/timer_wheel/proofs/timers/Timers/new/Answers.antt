@@ -1,7 +1,11 @@
-use Rattle.std.proofs.Common.{ap, ◌∙◌}
-use Rattle.timer_wheel.specs.Tables.{map_of}
+use Rattle.std.proofs.Common.{replicate, ap, ◌∙◌}
+use Rattle.std.specs.Prelude.{ℕ, Option, None}
+use Rattle.timer_wheel.specs.Names.{count_of}
+use Rattle.timer_wheel.specs.Table.{map_of}
 use Rattle.timer_wheel.proofs.Viewed.{map-none}
 use Rattle.timer_wheel.proofs.timers.Timers.new.Goals as goal
 
 pub returns : goal.returns
-returns c = ap map_of (λ i. record { links = c.in_ok-new.ensures i; others = c.in_ok-new-2.ensures i }) ∙ map-none c.args.counts
+returns c =
+    let left = c.in_ok-new.ensures ∙ ap (λ (n : ℕ). replicate {A = Option ℕ} n None) (c.count_of.ensures.count ∙ ap count_of c.named_sets.ensures.value) in
+    ap map_of (λ i. record { counts = c.args.counts; left = left i }) ∙ map-none c.args.counts

@@ -1,26 +1,18 @@
-use Rattle.std.proofs.Common.{sym, ap, ◌∙◌}
-use Rattle.std.specs.Prelude.{Some, None}
-use Rattle.timer_wheel.specs.Timers.{start_unless_running}
-use Rattle.timer_wheel.specs.Table.{with_link_started}
-use Rattle.timer_wheel.specs.Tables.{tables_in, map_of}
-use Rattle.timer_wheel.proofs.Calls.{Meets, start_meets}
+use Rattle.std.proofs.Common.{refl, slice_set, cond, get_or, sym, ap, ◌∙◌}
+use Rattle.std.specs.Prelude.{Some, None, is_some}
+use Rattle.timer_wheel.specs.Table.{table_in}
+use Rattle.timer_wheel.proofs.Calls.{place_fits, started, start_meets}
 use Rattle.timer_wheel.proofs.timers.Timers.start_unless_running.Goals as goal
 
-in_table : (c : goal.After-start) → Meets (record { links = c.start.new.self; others = c.self.inside.others }) (start_unless_running c.args.name c.args.ticks (map_of (tables_in c.self.inside)))
-in_table c =
-    let p = c.in-Some.place in
-    let links = c.start.ensures ∙ ap (λ ticks. with_link_started p.kind p.link ticks c.self.inside.links) c.at_least_one.ensures in
-    start_meets (Some p) c.args.name c.args.ticks (tables_in c.self.inside) _ c.self.invariant.whole (sym c.in-Some.is ∙ c.place.ensures) (λ i. record { links = links i; others = c.self.inside.others })
-
-in_list : (c : goal.After-start-in-None) → Meets (record { links = c.self.inside.links; others = c.start-in-None.new.self }) (start_unless_running c.args.name c.args.ticks (map_of (tables_in c.self.inside)))
-in_list c =
-    start_meets None c.args.name c.args.ticks (tables_in c.self.inside) _ c.self.invariant.whole (sym c.in-None.is ∙ c.place.ensures) (λ i. record { links = c.self.inside.links; others = c.start-in-None.ensures i })
-
-pub invariant_of-self-in-None : goal.invariant_of-self-in-None
-invariant_of-self-in-None c = record { whole = (in_list c).whole }
+pub start-requires : goal.start-requires
+start-requires c = place_fits c.in-Some.place c.args.name (table_in c.self.inside) c.self.invariant.whole (sym c.in-Some.is ∙ c.place_of.ensures.place)
 
 pub returns-in-Some : goal.returns-in-Some
-returns-in-Some c = (in_table c).view ∙ ap (λ r. start_unless_running c.args.name c.args.ticks r) c.self.view_is
+returns-in-Some c =
+    let old = c.self.inside.left in
+    let place = c.in-Some.place in
+    let left = c.start.ensures ∙ ap (λ ticks. cond (is_some (get_or old place None)) old (slice_set old place (Some ticks))) c.at_least_one.ensures in
+    rw (← c.self.view_is) (start_meets (Some place) c.args.name c.args.ticks (table_in c.self.inside) _ c.self.invariant.whole c.place_of.ensures.named (sym c.in-Some.is ∙ c.place_of.ensures.place) ((λ i. record { counts = c.self.inside.counts; left = left i }) ∙ started (is_some (get_or old place None)) (table_in c.self.inside) place _)).view
 
-pub returns-in-None : goal.returns-in-None
-returns-in-None c = (in_list c).view ∙ ap (λ r. start_unless_running c.args.name c.args.ticks r) c.self.view_is
+pub returns-in_default : goal.returns-in_default
+returns-in_default c = rw (← c.self.view_is) (start_meets None c.args.name c.args.ticks (table_in c.self.inside) (table_in c.self.inside) c.self.invariant.whole c.place_of.ensures.named (sym c.in_default.is ∙ c.place_of.ensures.place) refl).view
