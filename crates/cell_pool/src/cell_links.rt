@@ -78,6 +78,7 @@ impl CellLinks {
     }
 
     /// Puts the first free cell at the end of a list.
+    #[inline(always)]
     fn take_free(&mut self, ring: usize)
         requires ring { ring < length self.old.rings }
         requires some { 1 ≤ length self.old.free }
@@ -217,7 +218,7 @@ impl CellLinks {
         ensures { self.new ≡ self.old }
     {
         let chain = self.chains[ring];
-        if index < chain.count() {
+        if index < chain.count() && index != chain.place() {
             let cell = self.cell_at(ring, index);
             self.chains[ring] = chain.noting(index, cell);
         }
@@ -236,8 +237,31 @@ impl CellLinks {
         }
     }
 
-    /// The cell at a place of a list: the last one is known, and the way to others begins at the noted one or at the
-    /// first.
+    /// The first cell of a list, where there is one.
+    pub(crate) fn first(&self, ring: usize) -> Option<CellNumber>
+        requires { ring < length self.now.rings }
+        ensures number { result ≡ slice_get (ring_at self.now.rings ring) 0 }
+        ensures within { IfSome result (λ number. number < self.now.used) }
+    {
+        if self.count(ring) > 0 {
+            Some(self.first_of(ring))
+        } else {
+            None
+        }
+    }
+
+    /// The first cell of a list that has one.
+    fn first_of(&self, ring: usize) -> CellNumber
+        requires ring { ring < length self.now.rings }
+        requires some { 0 < length (ring_at self.now.rings ring) }
+        ensures cell { result ≡ slice_index_or (ring_at self.now.rings ring) 0 0 }
+        ensures within { result < self.now.used }
+    {
+        self.chains[ring].first()
+    }
+
+    /// The cell at a place of a list: the noted one and the last one are known, and the way to others begins at the
+    /// noted one or at the first.
     fn cell_at(&self, ring: usize, index: usize) -> CellNumber
         requires ring { ring < length self.now.rings }
         requires index { index < length (ring_at self.now.rings ring) }
@@ -245,16 +269,48 @@ impl CellLinks {
         ensures within { result < self.now.used }
     {
         let chain = &self.chains[ring];
-        if index + 1 == chain.count() {
+        if index == chain.place() {
+            chain.noted()
+        } else if index + 1 == chain.count() {
             chain.last()
-        } else if chain.place() <= index {
-            self.walked(ring, chain.place(), chain.noted(), index)
+        } else if chain.place() < index {
+            self.onward(ring, chain.place(), chain.noted(), index)
         } else {
             self.walked(ring, 0, chain.first(), index)
         }
     }
 
+    /// The cell at a place of a list, by way of one before that place, which mostly is the one just before.
+    #[inline(always)]
+    fn onward(&self, ring: usize, place: usize, cell: CellNumber, index: usize) -> CellNumber
+        requires ring { ring < length self.now.rings }
+        requires index { index < length (ring_at self.now.rings ring) }
+        requires place { place < index }
+        requires cell { cell ≡ slice_index_or (ring_at self.now.rings ring) place 0 }
+        ensures cell { result ≡ slice_index_or (ring_at self.now.rings ring) index 0 }
+        ensures within { result < self.now.used }
+    {
+        let next = self.behind(ring, place, cell);
+        if index == place + 1 {
+            next
+        } else {
+            self.walked(ring, place + 1, next, index)
+        }
+    }
+
+    /// The cell behind one at a place of a list.
+    fn behind(&self, ring: usize, place: usize, cell: CellNumber) -> CellNumber
+        requires ring { ring < length self.now.rings }
+        requires place { place + 1 < length (ring_at self.now.rings ring) }
+        requires cell { cell ≡ slice_index_or (ring_at self.now.rings ring) place 0 }
+        ensures cell { result ≡ slice_index_or (ring_at self.now.rings ring) (place + 1) 0 }
+        ensures within { result < self.now.used }
+    {
+        self.next[cell.index()]
+    }
+
     /// The cell at a place of a list, by way of one at or before that place.
+    #[inline(never)]
     fn walked(&self, ring: usize, place: usize, cell: CellNumber, index: usize) -> CellNumber
         requires ring { ring < length self.now.rings }
         requires index { index < length (ring_at self.now.rings ring) }

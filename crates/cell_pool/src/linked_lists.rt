@@ -61,6 +61,15 @@ impl LinkedLists {
         self.links.count(list)
     }
 
+    /// The first message of a list, where there is one.
+    pub(crate) fn first(&self, list: usize) -> Option<&Msu>
+        requires { list < length self.now.lists }
+        ensures { option_copied result ≡ slice_get (lane_at self.now.lists list) 0 }
+    {
+        let cell = self.links.first(list)?;
+        Some(&self.cells[cell.index()])
+    }
+
     /// The message at a place of a list, where there is one.
     pub(crate) fn get(&self, list: usize, index: usize) -> Option<&Msu>
         requires { list < length self.now.lists }

@@ -69,7 +69,7 @@ impl CellPool {
         requires { lane < length self.old.lists }
         ensures { self.new ≡ record self.old { lists = dropped self.old.lists lane 1 } }
     {
-        if let Some(message) = self.lists.get(lane, 0) {
+        if let Some(message) = self.lists.first(lane) {
             if message.is_management() {
                 self.managements -= 1;
             } else {
@@ -94,7 +94,7 @@ impl CellPool {
         requires to { to < length self.old.lists }
         ensures { self.new ≡ record self.old { lists = turned (P.picks pick.now) self.old.lists from to } }
     {
-        let picked = match self.lists.get(from, 0) {
+        let picked = match self.lists.first(from) {
             Some(message) => pick.picks(message),
             None => false,
         };
@@ -138,7 +138,7 @@ impl Lanes for CellPool {
     }
 
     fn pop_front(&mut self, lane: usize) -> Option<Msu> {
-        let first = self.lists.get(lane, 0).copied();
+        let first = self.lists.first(lane).copied();
         self.drop_first(lane);
         first
     }

@@ -31,8 +31,8 @@ invariant_of-self c =
       small = c.self.invariant.small;
     })
 
-pub returns-then-index-count : goal.returns-then-index-count
-returns-then-index-count c =
+pub returns-then-index-place : goal.returns-then-index-place
+returns-then-index-place c =
     let next : List ℕ = c.self.inside.next.items in
     let chains : List Chained = c.self.inside.chains.items in
     let inside : c.args.ring < length chains = within_chains c.self.inside _ c.args.ring c.self.view_is c.requires in
