@@ -1,5 +1,5 @@
 -- What the lists are after a message was written into a cell of the row or behind it, and after cells were relinked.
-use Rattle.std.proofs.Common.{◌≡◌, ◌≢◌, ℕ, zero, suc, ◌+◌, ◌<◌, ◌≤◌, Bool, true, false, List, [], ◌∷◌, ◌++◌, length, get_or, take, drop, refl, ap, sym, ◌∙◌, arith, nat_lt}
+use Rattle.std.proofs.Common.{◌≡◌, ◌≢◌, ℕ, ◌+◌, ◌<◌, ◌≤◌, Bool, true, false, List, [], ◌∷◌, ◌++◌, length, take, drop, refl, ap, sym, ◌∙◌, arith, nat_lt}
 use Rattle.std.specs.Prelude.{sum_by, if◌then◌else◌}
 use Rattle.std.proofs.Math.ListN.{set}
 use Rattle.std.proofs.lemmas.Bool.{ltb-true, ltb-false, lt-ltb, le-ltb}
@@ -14,7 +14,7 @@ use Rattle.cell_pool.specs.Links.{IsReached}
 use Rattle.cell_pool.specs.Cells.{Occupied, message_at, messages_at, lists_at}
 use Rattle.cell_pool.specs.LinkedRow.{occupied_in, written}
 use Rattle.cell_pool.specs.declared.linked_lists.LinkedLists.TheInside.{Inside}
-use Rattle.cell_pool.proofs.Sharing.{use_of, uses-cons}
+use Rattle.cell_pool.proofs.Sharing.{uses-cons}
 use Rattle.cell_pool.proofs.Reading.{unused-apart, list_at, pushed-lists, moved-behind}
 use Rattle.cell_pool.proofs.Walks.{get_or-push_other}
 

@@ -96,7 +96,7 @@ impl CellLinks {
     }
 
     /// Frees the first cell of a list.
-    fn free_first(&mut self, ring: usize)
+    pub(crate) fn free_first(&mut self, ring: usize)
         requires ring { ring < length self.old.rings }
         requires some { 1 ≤ length (ring_at self.old.rings ring) }
         ensures { self.new ≡ record self.old {
@@ -150,19 +150,6 @@ impl CellLinks {
         let cell = self.first_free();
         self.take_free(ring);
         cell
-    }
-
-    /// Frees the first cell of a list, where there is one.
-    pub(crate) fn release(&mut self, ring: usize)
-        requires { ring < length self.old.rings }
-        ensures { self.new ≡ record self.old {
-          free = take 1 (ring_at self.old.rings ring) ++ self.old.free;
-          rings = slice_set self.old.rings ring (drop 1 (ring_at self.old.rings ring));
-        } }
-    {
-        if self.count(ring) > 0 {
-            self.free_first(ring);
-        }
     }
 
     /// Moves the first cell of a list, where there is one, to the end of a list, also of its own: it is freed, and

@@ -91,12 +91,13 @@ impl LinkedLists {
         write(&mut self.cells, cell.index(), message);
     }
 
-    /// Drops the first message of a list, where there is one.
+    /// Drops the first message of a list.
     pub(crate) fn drop_first(&mut self, list: usize)
-        requires { list < length self.old.lists }
+        requires list { list < length self.old.lists }
+        requires some { 1 ≤ length (lane_at self.old.lists list) }
         ensures { self.new ≡ record self.old { lists = dropped self.old.lists list 1 } }
     {
-        self.links.release(list);
+        self.links.free_first(list);
     }
 
     /// Moves the first message of a list, where there is one, to the end of a list, also of its own: its cell stays.

@@ -51,6 +51,7 @@ impl Exchange {
 }
 
 /// What is read of the message at a place of a list, where there is one.
+#[inline(always)]
 fn head_in(lanes: &CellPool, lane: usize, place: usize) -> Option<Head>
     requires { lane < length lanes.now.lists }
     ensures { result ≡ option_map head_of (slice_get (lane_at lanes.now.lists lane) place) }

@@ -1,7 +1,5 @@
 -- A message is in its cell, which stood in the row or comes behind it.
-use Rattle.std.proofs.Common.{◌≡◌, ℕ, ◌<◌, ◌≤◌, List, [], length, arith, ap, sym, ◌∙◌}
-use Rattle.std.proofs.Math.ListN.{set}
-use Rattle.signalling_types.specs.Message.{Message}
+use Rattle.std.proofs.Common.{[], arith}
 use Rattle.signalling_types.specs.Lent.{lent}
 use Rattle.cell_pool.proofs.LinkedReading.{written-behind, written-in}
 use Rattle.cell_pool.proofs.linked_lists.write.Goals as goal

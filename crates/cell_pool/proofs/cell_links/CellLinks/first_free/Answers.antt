@@ -1,5 +1,5 @@
 -- A free cell is in no list.
-use Rattle.std.proofs.Common.{◌≡◌, ℕ, ◌<◌, ◌≤◌, List, arith, ap, sym, ◌∙◌}
+use Rattle.std.proofs.Common.{arith, ap, sym, ◌∙◌}
 use Rattle.std.specs.Prelude.{sum_by}
 use Rattle.cell_pool.specs.Numbering.{uses}
 use Rattle.cell_pool.specs.Links.{Linked}

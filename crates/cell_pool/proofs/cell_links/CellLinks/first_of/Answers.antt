@@ -1,6 +1,5 @@
 -- The first cell is known.
 use Rattle.std.proofs.Common.{◌≡◌, ℕ, ◌<◌, ◌≤◌, List, length, get_or, arith, ap, sym, ◌∙◌}
-use Rattle.cell_pool.specs.Numbering.{ring_at}
 use Rattle.cell_pool.specs.Chains.{Chained, no_cells, chain_at}
 use Rattle.cell_pool.specs.Links.{Linked}
 use Rattle.cell_pool.proofs.Walks.{read-is, walk-first}

@@ -1,5 +1,5 @@
 -- A cell that was never used is in no list: each list stays as it was.
-use Rattle.std.proofs.Common.{◌≡◌, ℕ, ◌+◌, ◌∷◌, [], ◌++◌, List, length, arith, ap, sym, ◌∙◌}
+use Rattle.std.proofs.Common.{◌≡◌, ℕ, ◌∷◌, [], ◌++◌, List, length, arith, ap, ◌∙◌}
 use Rattle.std.proofs.lemmas.List.{length_push}
 use Rattle.cell_pool.specs.Chains.{Chained, walk, rings_of}
 use Rattle.cell_pool.specs.Links.{Linked}

@@ -1,5 +1,5 @@
 -- Each cell names the next one of its list.
-use Rattle.std.proofs.Common.{◌≡◌, ℕ, ◌+◌, ◌<◌, length, get_or, arith, ap, sym, ◌∙◌}
+use Rattle.std.proofs.Common.{◌≡◌, ◌<◌, length, get_or, arith, ap, sym, ◌∙◌}
 use Rattle.cell_pool.specs.Numbering.{ring_at}
 use Rattle.cell_pool.specs.Links.{Linked}
 use Rattle.cell_pool.proofs.Walks.{read-is}

@@ -1,9 +1,8 @@
 -- No list has the cell that is written.
-use Rattle.std.proofs.Common.{◌≡◌, ℕ, ◌<◌, ◌≤◌, List, ◌∷◌, [], ◌++◌, length, arith, ap, sym, ◌∙◌}
+use Rattle.std.proofs.Common.{◌<◌, ◌≤◌, List, length, arith, ap}
 use Rattle.signalling_types.specs.Message.{Message}
 use Rattle.signalling_types.specs.Lent.{lent}
-use Rattle.cell_pool.specs.Numbering.{ring_at}
-use Rattle.cell_pool.proofs.LinkedReading.{within_linked, written-lists, length-written, reached-less}
+use Rattle.cell_pool.proofs.LinkedReading.{within_linked, written-lists}
 use Rattle.cell_pool.proofs.linked_lists.LinkedLists.push_back.Goals as goal
 
 pub returns : goal.returns

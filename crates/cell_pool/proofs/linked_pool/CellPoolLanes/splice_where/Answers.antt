@@ -1,5 +1,5 @@
 -- What was put behind a list comes before it, where the list is turned round at its old end.
-use Rattle.std.proofs.Common.{◌≡◌, ℕ, Bool, not, length, ap, ◌∙◌}
+use Rattle.std.proofs.Common.{Bool, not, ap, ◌∙◌}
 use Rattle.std.specs.Prelude.{filter}
 use Rattle.signalling_types.specs.Message.{Message}
 use Rattle.cell_pool.specs.Stored.{Stored}
