@@ -130,16 +130,12 @@ impl Chain {
     pub(crate) fn without_first(&self, second: CellNumber) -> Chain
         ensures { result ≡ shortened self.now second }
     {
-        let (place, noted) = match self.place {
-            0 => (0, second),
-            place => (place - 1, self.noted),
-        };
         Chain {
             first: second,
             last: self.last,
             count: self.count.saturating_sub(1),
-            place,
-            noted,
+            place: self.place.saturating_sub(1),
+            noted: if self.place == 0 { second } else { self.noted },
         }
     }
 
