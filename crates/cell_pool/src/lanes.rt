@@ -45,6 +45,14 @@ pub trait Lanes {
             ≡ (if is_ok result then pushed (lists self.old) lane (lent message.entry) else lists self.old) }
         ensures pool { pool self.new ≡ pool self.old };
 
+    /// Puts a copy of a message, which wouldn't be refused, at the end of a list.
+    fn push_within_room(&mut self, lane: usize, message: MsuRef<'_>)
+        requires lane { lane < length (lists self.old) }
+        requires fits { length message.sif.now ≤ Limits.SIF_OCTETS }
+        requires room { push_refusal (pool self.old) (lists self.old) (lent message) ≡ None }
+        ensures lists { lists self.new ≡ pushed (lists self.old) lane (lent message.entry) }
+        ensures pool { pool self.new ≡ pool self.old };
+
     /// Takes the first message of a list, where there is one.
     fn pop_front(&mut self, lane: usize) -> Option<Msu>
         requires { lane < length (lists self.old) }

@@ -141,13 +141,18 @@ impl Lanes for RingLanes {
         if let Some(cause) = self.refusal(message) {
             return Err(cause);
         }
+        self.push_within_room(lane, message);
+        Ok(())
+    }
+
+    #[inline(always)]
+    fn push_within_room(&mut self, lane: usize, message: MsuRef<'_>) {
         self.lists.push_back(lane, message);
         if message.is_management() {
             self.managements += 1;
         } else {
             self.users += 1;
         }
-        Ok(())
     }
 
     fn pop_front(&mut self, lane: usize) -> Option<Msu> {

@@ -75,8 +75,8 @@ impl Exchange {
         }
     }
 
-    /// Puts a message to the destination of this number at the end of its link's queue, if there is room. One that
-    /// arrived on a link and has no route is answered.
+    /// Puts a message to the destination of this number, for which there is room, at the end of its link's queue. One
+    /// that arrived on a link and has no route is answered.
     #[inline(always)]
     fn offer_on(
         &mut self,
@@ -97,10 +97,8 @@ impl Exchange {
             self.answer_no_route(from, destination);
             return Outcome::Refused(Cause::NoRoute);
         };
-        match self.queue(link, message) {
-            Ok(()) => Outcome::Queued(link),
-            Err(cause) => Outcome::Refused(cause),
-        }
+        self.queue_within_room(link, message);
+        Outcome::Queued(link)
     }
 
     /// The link of a flow to the destination of this number.

@@ -41,6 +41,18 @@ impl Exchange {
         self.lanes.push_back(lane_of(link), message)
     }
 
+    /// Puts a message for which there is room at the end of a link's list.
+    #[inline(always)]
+    pub(super) fn queue_within_room(&mut self, link: LinkId, message: MsuRef<'_>)
+        requires link { link < length self.old.settings.links }
+        requires fits { length message.sif.now ≤ Limits.SIF_OCTETS }
+        requires room { no_room kept self.old.settings (lent message) self.old.node.queues ≡ None }
+        ensures { self.new
+            ≡ with_node self.old (queue_on kept self.old.settings link (lent message.entry) self.old.node) }
+    {
+        self.lanes.push_within_room(lane_of(link), message);
+    }
+
     /// Puts a message whose flow has a hold at the end of Held; refused where there is no room for it.
     #[inline(never)]
     pub(super) fn hold(&mut self, message: MsuRef<'_>) -> Result<(), Cause>
