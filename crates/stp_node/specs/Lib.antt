@@ -11,4 +11,5 @@ pub mod Runs
 pub mod BuiltIn
 pub mod Folders
 pub mod Explaining
+pub mod Naming
 pub mod Program
