@@ -7,3 +7,4 @@ pub mod WellLinks
 pub mod WellDestinations
 pub mod WellTitles
 pub mod Well
+pub mod SameNames

@@ -2,3 +2,4 @@ pub mod Well
 pub mod Readings
 pub mod Kept
 pub mod Facing
+pub mod Naming

@@ -2,6 +2,7 @@
 #![tactic(auto)]
 
 mod facing;
+mod naming;
 pub mod settings;
 
 pub use settings::Settings;
