@@ -4,16 +4,16 @@ ghost use Rattle.std.specs.Prelude.{◌≡◌, None};
 
 use crate::carrying::{Carried, carry};
 use crate::line::End;
+use crate::wire::Wire;
 use exchange::{Exchange, Framer};
 use std::alloc::{AllocError, Global};
 use std::io::{Read, Write};
-use stp_node::{ReaderSource, WriterSink};
 use stp_types::LinkId;
 
 /// A node's end of a link's streams.
 #[derive(Drop)]
 struct Port<S> {
-    stream: S,
+    wire: Wire<S>,
     framer: Framer,
 }
 
@@ -21,7 +21,7 @@ impl<S: Read + Write> Port<S> {
     /// An end that nothing came to yet.
     fn new(stream: S) -> Port<S> {
         Port {
-            stream,
+            wire: Wire::new(stream),
             framer: Framer::new(),
         }
     }
@@ -34,15 +34,13 @@ impl<S: Read + Write> Port<S> {
         other_node: &mut Exchange,
         link: LinkId,
     ) -> Carried {
-        let mut sink = WriterSink::new(&mut self.stream);
-        let mut source = ReaderSource::new(&mut other.stream);
         carry(
             node,
             other_node,
             link,
             link,
-            &mut sink,
-            &mut source,
+            &mut self.wire,
+            &mut other.wire,
             &mut other.framer,
         )
     }

@@ -11,6 +11,7 @@ mod machine;
 mod memory;
 mod run;
 mod sockets;
+mod wire;
 
 pub use carrying::{Carried, MOVE_READS, carry};
 pub use joining::{JoinFault, Joiner};

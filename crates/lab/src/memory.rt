@@ -115,16 +115,13 @@ impl Read for MemoryStream {
         let Ok(mut octets) = self.incoming.try_borrow_mut() else {
             return Err(io::Error::from(ErrorKind::ConnectionReset));
         };
-        let count = buffer.len().min(self.most);
-        let mut given = 0;
+        let count = octets.len().min(buffer.len()).min(self.most);
         for place in buffer[..count].iter_mut() {
-            let Some(octet) = octets.pop_front() else {
-                break;
-            };
-            *place = octet;
-            given += 1;
+            if let Some(octet) = octets.pop_front() {
+                *place = octet;
+            }
         }
-        Ok(given)
+        Ok(count)
     }
 }
 

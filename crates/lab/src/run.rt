@@ -3,7 +3,7 @@
 ghost use Rattle.std.specs.Prelude.{◌≡◌, ◌+◌, ◌≤◌, ◌<◌, ◌^◌, length};
 ghost use Rattle.stp_types.specs.Facing.{IsFacing};
 ghost use Rattle.stp_node.specs.Faults.{MakesReads, reads_failed, writes_failed, EndsAtLine};
-ghost use Rattle.stp_node.specs.Naming.{link_names};
+ghost use Rattle.stp_types.specs.Naming.{link_names};
 ghost use Rattle.stp_node.specs.Steps.{first_line};
 
 use crate::circuit::{Circuit, closed_circuits};

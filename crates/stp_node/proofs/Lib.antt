@@ -13,4 +13,3 @@ pub mod Standing
 pub mod Passing
 pub mod Written
 pub mod Told
-pub mod Naming

@@ -11,5 +11,4 @@ pub mod Runs
 pub mod BuiltIn
 pub mod Folders
 pub mod Explaining
-pub mod Naming
 pub mod Program

@@ -1,9 +1,9 @@
 //! Two nodes that a lab joins, with the settings of two files.
 
-ghost use Rattle.std.specs.Prelude.{◌≡◌, ◌↔◌, IfOk, IsTrue, map};
+ghost use Rattle.std.specs.Prelude.{◌≡◌, IfOk};
 ghost use Rattle.stp_types.specs.Facing.{IsFacing};
 ghost use Rattle.stp_node.specs.Faults.{MakesReads, reads_failed, writes_failed};
-ghost use Rattle.stp_node.specs.Naming.{link_names};
+ghost use Rattle.stp_types.specs.Naming.{link_names};
 
 use crate::ending::{end_with, tell_file_fault, tell_no_memory};
 use crate::explaining::{explain_lab_end, explain_strangers, explain_unread, warn};
@@ -14,7 +14,7 @@ use crate::sink::Sink;
 use crate::source::Source;
 use exchange::{Exchange, NoMemory};
 use std::alloc::Global;
-use stp_types::{LinkRow, Settings};
+use stp_types::Settings;
 
 /// What runs the scripts of two nodes: it joins their links.
 pub trait Lab {
@@ -69,7 +69,7 @@ fn run_if_facing<L: Lab, R: Source, W: Sink, E: Sink>(
     writer: &mut W,
     errors: &mut E,
 ) -> Status {
-    if near.faces(&far) && are_named_alike(&near, &far) {
+    if near.faces(&far) && near.named_alike(&far) {
         return run_between(alloc, near, far, lab, reader, writer, errors);
     }
     explain_strangers(alloc, files.0, files.1, errors);
@@ -174,26 +174,4 @@ fn end_lab<W: Sink, E: Sink>(
     }
     explain_lab_end(alloc, script, errors);
     status_after(script)
-}
-
-/// Whether both have as many links, and each link of one has the name of the other's link of the same number.
-pub fn are_named_alike(near: &Settings, far: &Settings) -> bool
-    ensures { IsTrue result ↔ (link_names near.now ≡ link_names far.now) }
-{
-    have_same_names(near.links(), far.links())
-}
-
-/// Whether the links have the same names in the same order.
-fn have_same_names(near: &[LinkRow], far: &[LinkRow]) -> bool
-    ensures { IsTrue result ↔ (map (λ l. l.name) near.now ≡ map (λ l. l.name) far.now) }
-{
-    if near.len() != far.len() {
-        return false;
-    }
-    for i in 0..near.len() {
-        if near[i].name() != far[i].name() {
-            return false;
-        }
-    }
-    true
 }

@@ -8,7 +8,7 @@ use lab::{MemoryJoiner, run_lab};
 use std::alloc::Global;
 use std::process::Abort;
 use std::test::*;
-use stp_node::{MemorySink, MemorySource, ScriptFault, Sink, Source, are_named_alike};
+use stp_node::{MemorySink, MemorySource, ScriptFault, Sink, Source};
 
 /// How the near node differs from the built-in settings: one link leads to point 2.
 const NEAR: &str = "destination 2/east";
@@ -25,7 +25,7 @@ fn run<R: Source, W: Sink>(
 ) -> Result<Result<(), ScriptFault>, Fail> {
     let near = node(alloc, NEAR)?;
     let far = node(alloc, FAR)?;
-    if !near.faces(&far) || !are_named_alike(&near, &far) {
+    if !near.faces(&far) || !near.named_alike(&far) {
         return Err(Fail::new("two nodes that don't face each other"));
     }
     let mut near = Exchange::boot(alloc, near)?;
