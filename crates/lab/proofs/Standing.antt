@@ -66,12 +66,18 @@ carries-stands from to (Got outcome) k t m u a b old new s r h =
       far = after whole (FrameCame to hands.text) b;
       near_stands = stands-by (taken kept k from) t (taken whole a from) h.2 (stands-taken from k a s);
       far_stands = stands-by _ u _ hands.left (stands-after (FrameCame to hands.text) m b r);
-      carries = (h.0, sym (text-stands from k a s) ∙ h.1, refl, h.3, record {
-        text = hands.text;
-        came = hands.came;
-        answer = hands.answer ∙ stands-outcome (FrameCame to hands.text) m b r;
-        left = refl;
-      });
+      carries = (
+        h.0,
+        sym (text-stands from k a s) ∙ h.1,
+        refl,
+        h.3,
+        record {
+          text = hands.text;
+          came = hands.came;
+          answer = hands.answer ∙ stands-outcome (FrameCame to hands.text) m b r;
+          left = refl;
+        },
+      );
     }
 carries-stands from to Lost k t m u a b old new s r h = record {
   near = after whole (WentDown from) (taken whole a from);

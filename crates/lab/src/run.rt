@@ -88,7 +88,15 @@ fn run_pieces<J: Joiner, R: Source, W: Sink>(
         if count == 0 {
             return line.end(writer);
         }
-        take_all(&mut line, &piece[..count], near, far, joiner, circuits, writer)?;
+        take_all(
+            &mut line,
+            &piece[..count],
+            near,
+            far,
+            joiner,
+            circuits,
+            writer,
+        )?;
     }
     Err(ScriptFault::TooManyReads)
 }

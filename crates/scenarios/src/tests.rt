@@ -15,8 +15,8 @@ mod statuses;
 mod streams;
 mod titles;
 
-use lab::{JoinedLab, MemoryJoiner};
 use exchange::Exchange;
+use lab::{JoinedLab, MemoryJoiner};
 use std::alloc::Global;
 use std::process::Abort;
 use stp_node::{MemorySink, MemorySource, ScriptFault, Sink, Source, built_in, run_script};

@@ -129,8 +129,7 @@ fn explain_script<E: Sink>(
 /// Tells that the nodes of two files don't face each other.
 pub(crate) fn explain_strangers<E: Sink>(alloc: Global, near: &str, far: &str, errors: &mut E) {
     tell_made(
-        format!(
-            in alloc;
+        format!(in alloc;
             "{near} and {far} don't face each other: docs/MANUAL.md says what that needs\n"
         ),
         errors,
@@ -145,8 +144,7 @@ pub(crate) fn explain_lab_end<E: Sink>(
 ) {
     if let Err(ScriptFault::Line(number)) = script {
         tell_made(
-            format!(
-                in alloc;
+            format!(in alloc;
                 "line {number}: not a line of a lab script; docs/MANUAL.md lists them\n"
             ),
             errors,

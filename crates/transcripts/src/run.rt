@@ -206,7 +206,15 @@ fn printed<F: Folder>(alloc: Global, words: &[String], folder: &F, script: &[u8]
     let mut writer = MemorySink::new(alloc);
     let mut errors = MemorySink::new(alloc);
     let mut lab = lab_in_memory(alloc)?;
-    let status = run_program(alloc, words, folder, &mut lab, &mut reader, &mut writer, &mut errors);
+    let status = run_program(
+        alloc,
+        words,
+        folder,
+        &mut lab,
+        &mut reader,
+        &mut writer,
+        &mut errors,
+    );
     if reader.failures() != 0 || writer.failures() != 0 {
         bail!("a stream in memory failed");
     }

@@ -120,11 +120,7 @@ fn with_file(alloc: Global, command: &str, file: Option<&str>) -> Result<Words, 
 }
 
 /// What `lab` asks for, by the files behind it.
-fn with_two_files(
-    alloc: Global,
-    near: Option<&str>,
-    far: Option<&str>,
-) -> Result<Words, AllocError>
+fn with_two_files(alloc: Global, near: Option<&str>, far: Option<&str>) -> Result<Words, AllocError>
     ensures { IfOk result (λ read. said read
         ≡ Some (asked_by_lab (option_map (λ name. name.now) near.entry) (option_map (λ name. name.now) far.entry))) }
 {

@@ -90,7 +90,14 @@ fn lines_of_a_lab(rt: HostRuntime) -> Result<(), Fail> {
 fn expect_row<T: Abort>(rt: &T, alloc: Global, row: &str) -> Result<(), Fail> {
     let (script, rest) = row.split_once('|').ok_or("a row without an answer")?;
     let (printed, line) = rest.split_once('|').ok_or("a row without an end")?;
-    expect(rt, alloc, &mut joiner(rt, alloc), script, printed, end_of(line))
+    expect(
+        rt,
+        alloc,
+        &mut joiner(rt, alloc),
+        script,
+        printed,
+        end_of(line),
+    )
 }
 
 /// A link that opens, of which a frame of 20 octets is carried, octet by octet; it opens again where it was lost.
@@ -112,7 +119,14 @@ fn printed_of(calls: u64) -> &'static str {
 fn each_call_of_the_streams_failing_in_turn(rt: HostRuntime) -> Result<(), Fail> {
     for calls in 0..=CALLS {
         let mut joiner = joiner(&rt, rt.alloc()).failing_after(calls);
-        expect(&rt, rt.alloc(), &mut joiner, OPENS, printed_of(calls), Ok(()))?;
+        expect(
+            &rt,
+            rt.alloc(),
+            &mut joiner,
+            OPENS,
+            printed_of(calls),
+            Ok(()),
+        )?;
     }
     Ok(())
 }
@@ -179,7 +193,12 @@ fn expect_failing_write<T: Abort>(rt: &T, alloc: Global, writes: u64) -> Result<
     assert_eq!(rt; ended, Err(ScriptFault::Write));
     assert_eq!(rt; writer.failures(), 1);
     let (printed, _) = LINES.get(writes as usize).copied().unwrap_or((0, 0));
-    compare(rt, SCRIPT.as_bytes(), writer.written(), PRINTED.get(..printed).unwrap_or(""));
+    compare(
+        rt,
+        SCRIPT.as_bytes(),
+        writer.written(),
+        PRINTED.get(..printed).unwrap_or(""),
+    );
     Ok(())
 }
 
