@@ -1,5 +1,6 @@
 //! What standard error is told, in sentences for a person. Standard output and statuses are in the transcripts.
 
+use super::lab_in_memory;
 use super::program::{expect, words};
 use std::alloc::Global;
 use std::process::Abort;
