@@ -1,5 +1,5 @@
 -- What is read of a message that stands in a list, and what is done by it.
-use Rattle.std.specs.Prelude.{ℕ, Bool, not, ◌&&◌, Option, Some, None, if◌then◌else◌}
+use Rattle.std.specs.Prelude.{ℕ, Option, Some, None, if◌then◌else◌}
 use Rattle.signalling_types.specs.Message.{Message, is_management}
 use Rattle.settings_rows.specs.Configuration.{Configuration}
 use Rattle.stp_types.specs.Readings.{destination_place}
@@ -8,7 +8,6 @@ use Rattle.flow_hold.specs.Holds.{HoldSet}
 use Rattle.exchange.specs.declared.exchange.head.Head.{Head}
 use Rattle.exchange_rules.specs.State.{State, with_node, with_parts}
 use Rattle.exchange.specs.KeptQueues.{KeptQueues}
-use Rattle.exchange_rules.specs.Holding.{is_held_at}
 use Rattle.exchange.specs.Suspending.{with_flow_to, with_message}
 
 abbrev pub head_of : Message → Head
@@ -28,8 +27,3 @@ with_read c link head holds =
 abbrev pub with_head : Configuration → ℕ → Option Message → HoldSet → HoldSet
 with_head c link (Some m) holds = with_message c link m holds
 with_head c link None holds = holds
-
--- whether a message waits, by what is read of it
-abbrev pub waits_by : Configuration → HoldSet → Head → Bool
-waits_by c holds head =
-    not head.is_management && is_held_at holds (destination_place c head.label.dpc) head.label.sls

@@ -1,6 +1,7 @@
 //! The arrival of a message for another point.
 
 ghost use Rattle.std.specs.Prelude.{◌≡◌, ◌<◌, ◌≤◌, ◌&&◌, None, Some, true, false, not, length, IfSome};
+ghost use Rattle.std.specs.Option.{option_and_then};
 ghost use Rattle.signalling_types.specs.Lent.{lent};
 ghost use Rattle.signalling_types.specs.Message.{is_management, dpc_of};
 ghost use Rattle.routing_label.specs.Label.{label_at};
@@ -116,9 +117,15 @@ impl Exchange {
             (record { point = label.now.dpc; sls = label.now.sls }) }
         ensures fits { IfSome result (λ link. link < length self.now.settings.links) }
     {
-        match self.settings.destination(label.dpc) {
-            Some(destination) => self.link_to(destination, label.sls),
-            None => None,
-        }
+        self.link_toward(self.settings.destination(label.dpc), label)
+    }
+
+    /// The link of the flow of a label to the destination of this number, if there is one.
+    pub(super) fn link_toward(&self, destination: Option<usize>, label: &Label) -> Option<LinkId>
+        ensures link { result ≡ option_and_then
+            (λ place. chosen_link (facts self.now.settings self.now.node.parts) place label.now.sls) destination }
+        ensures fits { IfSome result (λ link. link < length self.now.settings.links) }
+    {
+        self.link_to(destination?, label.sls)
     }
 }

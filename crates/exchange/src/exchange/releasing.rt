@@ -1,9 +1,10 @@
 //! The end of each event: the messages of Held whose flows have no hold any more go on.
 
-ghost use Rattle.std.specs.Prelude.{◌≡◌, length};
+ghost use Rattle.std.specs.Prelude.{◌≡◌, ◌&&◌, not, length};
 ghost use Rattle.exchange_rules.specs.State.{with_node, with_parts};
 ghost use Rattle.exchange.specs.KeptQueues.{kept, held_lane};
-ghost use Rattle.exchange.specs.Head as heads;
+ghost use Rattle.stp_types.specs.Readings.{destination_place};
+ghost use Rattle.exchange_rules.specs.Holding.{is_held_at};
 ghost use Rattle.exchange.specs.Draining as draining;
 ghost use Rattle.exchange_rules.specs.Releasing as rule;
 
@@ -52,11 +53,12 @@ impl Exchange {
         let Some(head) = self.held_head() else {
             return;
         };
-        if self.waits(&head) {
+        let destination = self.destination_of(&head);
+        if self.waits(&head, destination) {
             self.lanes.move_first(HELD, HELD);
             return;
         }
-        match self.link_of(&head.label) {
+        match self.link_toward(destination, &head.label) {
             Some(link) => self.lanes.move_first(HELD, lane_of(link)),
             None => {
                 self.lanes.drop_front(HELD, 1);
@@ -65,14 +67,23 @@ impl Exchange {
         }
     }
 
-    /// Whether a message waits: a user message whose flow has a hold.
-    fn waits(&self, head: &Head) -> bool
-        ensures { result ≡ heads.waits_by self.now.settings self.now.node.parts.holds head.now }
+    /// The number of the destination of a message, if there is one.
+    fn destination_of(&self, head: &Head) -> Option<usize>
+        ensures { result ≡ destination_place self.now.settings head.now.label.dpc }
+    {
+        self.settings.destination(head.label.dpc)
+    }
+
+    /// Whether a message to the destination of this number, if there is one, waits: a user message whose flow has a
+    /// hold.
+    fn waits(&self, head: &Head, destination: Option<usize>) -> bool
+        ensures { result ≡
+            (not head.now.is_management && is_held_at self.now.node.parts.holds destination head.now.label.sls) }
     {
         if head.is_management {
             return false;
         }
-        match self.settings.destination(head.label.dpc) {
+        match destination {
             Some(destination) => self.holds.is_held(destination, head.label.sls),
             None => false,
         }
