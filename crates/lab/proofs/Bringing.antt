@@ -1,13 +1,13 @@
 -- Texts that are read octet by octet.
-use Rattle.std.proofs.Common.{◌≡◌, ◌⊎◌, ◌≤◌, ◌<◌, ◌+◌, ◌-◌, ◌^◌, ◌∙◌, ℕ, Bool, true, false, List, [], ◌∷◌, ◌++◌, length, take, drop, Option, Some, None, refl, sym, ap, subst, inl, inr, min, arith, append_assoc, append-nil}
+use Rattle.std.proofs.Common.{◌≡◌, ◌≤◌, ◌<◌, ◌+◌, ◌-◌, ◌∙◌, ℕ, true, false, List, [], ◌++◌, length, Option, sym, ap, subst, arith, append_assoc, append-nil}
 use Rattle.std.proofs.lemmas.List.{take_all}
 use Rattle.std.proofs.lemmas.Bool.Decides.{nat_tests}
 use Rattle.std.specs.Io.KnownBytes.{Appends, Consumes}
 use Rattle.signalling_types.specs.declared.limits.TheConstants.Limits.{FRAME_OCTETS}
-use Rattle.m2pa_codec.specs.Streams.{IsText, next_in, is_broken, room_for, taken_of}
-use Rattle.m2pa_codec.specs.declared.framer.Next.TheVariants.{Whole, Wait, Broken}
+use Rattle.m2pa_codec.specs.Streams.{IsText, next_in, is_broken, taken_of}
+use Rattle.m2pa_codec.specs.declared.framer.Next.TheVariants.{Whole, Wait}
 use Rattle.m2pa_codec.proofs.StreamTexts.{next_in-whole}
-use Rattle.stp_node.specs.Streams.{AppendsFirst, Input, counted}
+use Rattle.stp_node.specs.Streams.{AppendsFirst, Input}
 use Rattle.stp_node.proofs.Running.{consumes-consumes, consumes-nothing}
 use Rattle.lab.specs.Carrying.{GivesText, Holds}
 

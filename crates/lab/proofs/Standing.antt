@@ -1,5 +1,5 @@
 -- What is carried between exchanges is what is carried between the abstract exchanges that they stand for.
-use Rattle.std.proofs.Common.{◌≡◌, ◌∙◌, ℕ, List, Option, Some, None, refl, sym, ap, subst}
+use Rattle.std.proofs.Common.{◌≡◌, ◌∙◌, ℕ, Option, Some, None, refl, sym, ap, subst}
 use Rattle.std.specs.Option.{option_map}
 use Rattle.settings_rows.specs.Configuration.{Configuration}
 use Rattle.m2pa_codec.specs.Frames.{FrameValue, spelled}
@@ -7,12 +7,12 @@ use Rattle.exchange_rules.specs.State.{Node, QueueKind, State}
 use Rattle.exchange_rules.specs.Queues.{whole}
 use Rattle.exchange_rules.specs.Happening.{WentDown, FrameCame}
 use Rattle.exchange_rules.specs.Sending.{Outgoing, SendsStatus, SendsMessage, Acknowledges, SendsNothing, frame_from, after_sending, goes_out}
-use Rattle.exchange_rules.specs.Exchange.{after, outcome_of, frame_to_take, taken}
+use Rattle.exchange_rules.specs.Exchange.{after, frame_to_take, taken}
 use Rattle.exchange_rules.specs.Sound.{Abstract}
 use Rattle.exchange.specs.KeptQueues.{kept}
 use Rattle.exchange.specs.Stands.{Kept, StandsFor}
 use Rattle.exchange.proofs.Standing.{stands-after, stands-outcome, stands-frame, stands-taken}
-use Rattle.lab.specs.Carrying.{Carriage, Carries, HandsIn, text_to_take}
+use Rattle.lab.specs.Carrying.{Carriage, Carries, text_to_take}
 use Rattle.lab.specs.declared.carrying.Carried.{Carried}
 use Rattle.lab.specs.declared.carrying.Carried.TheVariants.{Nothing, Got, Lost}
 

@@ -4,7 +4,6 @@ ghost use Rattle.std.specs.Prelude.{◌≡◌, ◌+◌, ◌≤◌, ◌<◌, ◌^
 ghost use Rattle.stp_types.specs.Facing.{IsFacing};
 ghost use Rattle.stp_node.specs.Faults.{MakesReads, reads_failed, writes_failed, EndsAtLine};
 ghost use Rattle.stp_types.specs.Naming.{link_names};
-ghost use Rattle.stp_node.specs.Steps.{first_line};
 
 use crate::circuit::{Circuit, closed_circuits};
 use crate::doing::{do_asked, node_at};

@@ -1,4 +1,4 @@
-use Rattle.std.proofs.Common.{◌≡◌, ◌≤◌, ◌+◌, ◌∙◌, sym, refl, arith}
+use Rattle.std.proofs.Common.{◌∙◌, sym, refl, arith}
 use Rattle.std.proofs.lemmas.Grind.{common_steps}
 use Rattle.stp_node.proofs.Running.{line-reads-failed, line-reads-made}
 use Rattle.lab.proofs.run.run_pieces.Goals as goal

@@ -1,4 +1,4 @@
-use Rattle.std.proofs.Common.{◌≤◌, ◌+◌, arith}
+use Rattle.std.proofs.Common.{arith}
 use Rattle.lab.proofs.run.take_all.Goals as goal
 
 pub loop-octet-preserved : goal.loop-octet-preserved
