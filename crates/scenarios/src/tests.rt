@@ -4,6 +4,7 @@ mod alignment;
 mod calls;
 mod checked_settings;
 mod facing;
+mod labs;
 mod lines;
 mod long_lines;
 mod lost;
@@ -15,6 +16,7 @@ mod streams;
 mod titles;
 
 use exchange::Exchange;
+use lab::{JoinedLab, MemoryJoiner};
 use std::alloc::Global;
 use std::process::Abort;
 use stp_node::{MemorySink, MemorySource, ScriptFault, Sink, Source, built_in, run_script};
@@ -68,6 +70,17 @@ fn expect_script<T: Abort>(
     end: Result<(), ScriptFault>,
 ) {
     expect_run(rt, alloc, POOL, script, printed, end);
+}
+
+/// The lab whose links are streams in memory, of which each read gives one octet.
+fn lab_in_memory<T: Abort>(rt: &T, alloc: Global) -> JoinedLab<MemoryJoiner> {
+    JoinedLab::new(joiner(rt, alloc))
+}
+
+/// What joins its links.
+fn joiner<T: Abort>(rt: &T, alloc: Global) -> MemoryJoiner {
+    let joiner = MemoryJoiner::new(alloc).ok().expect(rt, "memory");
+    joiner.in_pieces_of(1)
 }
 
 /// Compares what a script printed.

@@ -1,18 +1,17 @@
 -- The built-in settings as they were written have no fault.
-use Rattle.std.proofs.Common.{◌≡◌, ℕ, ℤ, pos, Bool, true, false, List, [], ◌∷◌, Option, Some, None, map, refl, ap, sym, ◌∙◌, codes, string_bytes, length}
+use Rattle.std.proofs.Common.{◌≡◌, ℤ, pos, true, List, [], ◌∷◌, None, map, refl, codes, string_bytes}
 use Rattle.std.specs.declared.alloc.Global.{Global}
 use Rattle.std.specs.Prelude.{String}
 use Rattle.settings_check.specs.FirstFault.{first_fault, scalars_fault, timers_fault, arrays_fault, tables_fault, sets_fault, links_fault, destinations_fault, titles_fault, unreached_fault, set_list_fault, is_first_name}
-use Rattle.settings_check.specs.Checks.{numbers_fault, first_of}
+use Rattle.settings_check.specs.Checks.{numbers_fault}
 use Rattle.settings_rows.specs.declared.key.Key.{Key}
 use Rattle.settings_rows.specs.declared.key.Key.TheVariants.{Users, Subsystems}
-use Rattle.settings_rows.specs.declared.fault.DraftFault.{DraftFault}
 use Rattle.settings_rows.specs.declared.draft.Draft.{Draft}
 use Rattle.settings_rows.specs.declared.draft.SetDraft.{SetDraft}
 use Rattle.settings_rows.specs.declared.draft.LinkDraft.{LinkDraft}
 use Rattle.settings_rows.specs.declared.draft.DestinationDraft.{DestinationDraft}
 use Rattle.settings_rows.specs.declared.draft.TitleDraft.{TitleDraft}
-use Rattle.stp_node.specs.BuiltIn.{IsBuiltIn, IsSets, IsLinks, IsDestination, IsDestinations, built_in_ticks}
+use Rattle.stp_node.specs.BuiltIn.{IsBuiltIn, IsSets, IsLinks, IsDestinations, built_in_ticks}
 
 scalars : (d : Draft) → IsBuiltIn d → scalars_fault d ≡ None
 unfolding scalars_fault

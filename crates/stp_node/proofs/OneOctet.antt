@@ -8,7 +8,8 @@ use Rattle.stp_node.specs.Asking.{Reading, IsMalformed, parsed_line}
 use Rattle.stp_node.specs.Lines.{lines}
 use Rattle.stp_node.specs.Streams.{AppendsFirst, AppendsAtLeast}
 use Rattle.stp_node.specs.Runs.{Reached, silent, stopped, line_run, whole_line, open_run, onto, unless_ended, behind, first_of, behind_first, lines_run, Does}
-use Rattle.stp_node.specs.Steps.{LineSoFar, rest_run, HasTaken, DoesLine}
+use Rattle.stp_node.specs.Steps.{LineSoFar, Grows, rest_run, HasTaken, DoesLine}
+use Rattle.stp_node.specs.declared.run.Grown.TheVariants.{Open, TooLong, Whole}
 use Rattle.stp_node.specs.declared.script.TheConstants.{LINE_OCTETS}
 use Rattle.stp_node.specs.declared.script.ScriptFault.{ScriptFault}
 use Rattle.stp_node.specs.declared.script.ScriptFault.TheVariants.{Read, Write, Line, TooManyReads, NoMemory}
@@ -212,3 +213,37 @@ line-broken octet line next text s after fault w0 w1 feed short same (lacking, h
     subst (λ (n : ℕ). HasTaken (n ∷ []) (Err fault) line next s after w0 w1) (sym feed)
     (feed-broken lacking line next s after fault w0 w1 short
     (subst (λ (octets : List ℕ). Does (line_run kept line.number lacking (parsed_line octets) s) (Err fault) after w0 w1) same h))
+
+-- ---- the same by what the octet does to the open line
+
+pub grown-kept : (octet : ℕ) (line next : LineSoFar) (s : Kept) (w : Option (List ℕ)) → Grows Open octet line next
+    → HasTaken (octet ∷ []) (Ok tt) line next s s w w
+grown-kept octet line next s w g =
+    subst (λ (n : LineSoFar). HasTaken (octet ∷ []) (Ok tt) line n s s w w) (sym g.1) (octet-kept octet line s w g.0)
+
+pub grown-too_long : (octet : ℕ) (line next : LineSoFar) (s : Kept) (result : Result Unit ScriptFault) (w0 w1 : Option (List ℕ))
+    → Grows TooLong octet line next → length next.octets ≤ LINE_OCTETS → Does (stopped next.number s) result s w0 w1
+    → HasTaken (octet ∷ []) result line next s s w0 w1
+grown-too_long octet line next s result w0 w1 g short d =
+    octet-too_many octet line next s result w0 w1 g.0
+    (subst (λ (n : LineSoFar). length n.octets ≤ LINE_OCTETS) g.2 short) g.1
+    (subst (λ (n : LineSoFar). Does (stopped n.number s) result s w0 w1) g.2 d)
+
+pub grown-done : (octet : ℕ) (line next : LineSoFar) (text : List ℕ) (s after : Kept) (x : Unit) (w0 w1 : Option (List ℕ))
+    → Grows Whole octet line next → length next.octets ≤ LINE_OCTETS → text ≡ next.octets
+    → DoesLine next.number (parsed_line text) s (Ok x) after w0 w1
+    → HasTaken (octet ∷ []) (Ok tt) line (record { octets = []; number = next.number + 1 }) s after w0 w1
+grown-done octet line next text s after x w0 w1 g short same d =
+    subst (λ (n : LineSoFar). HasTaken (octet ∷ []) (Ok tt) line (record { octets = []; number = n.number + 1 }) s after w0 w1) (sym g.1)
+    (line-done octet line text s after x w0 w1 g.0
+    (subst (λ (n : LineSoFar). length n.octets ≤ LINE_OCTETS) g.1 short) (same ∙ ap (λ (n : LineSoFar). n.octets) g.1)
+    (subst (λ (n : LineSoFar). DoesLine n.number (parsed_line text) s (Ok x) after w0 w1) g.1 d))
+
+pub grown-broken : (octet : ℕ) (line next : LineSoFar) (text : List ℕ) (s after : Kept) (fault : ScriptFault) (w0 w1 : Option (List ℕ))
+    → Grows Whole octet line next → length next.octets ≤ LINE_OCTETS → text ≡ next.octets
+    → DoesLine next.number (parsed_line text) s (Err fault) after w0 w1
+    → HasTaken (octet ∷ []) (Err fault) line next s after w0 w1
+grown-broken octet line next text s after fault w0 w1 g short same d =
+    line-broken octet line next text s after fault w0 w1 g.0
+    (subst (λ (n : LineSoFar). length n.octets ≤ LINE_OCTETS) g.1 short) (same ∙ ap (λ (n : LineSoFar). n.octets) g.1)
+    (subst (λ (n : LineSoFar). DoesLine n.number (parsed_line text) s (Err fault) after w0 w1) g.1 d)

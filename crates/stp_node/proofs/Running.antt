@@ -7,7 +7,7 @@ use Rattle.stp_node.specs.Lines.{lines}
 use Rattle.stp_node.specs.Streams.{AppendsAtLeast}
 use Rattle.stp_node.specs.Runs.{Reached, silent, onto, lines_run, run_so_far, whole_run, Does, RunsBy, Runs}
 use Rattle.stp_node.specs.Steps.{LineSoFar, first_line, rest_run, GoesOn, HasTaken}
-use Rattle.stp_node.specs.Faults.{reads_failed, MakesReads}
+use Rattle.stp_node.specs.Faults.{EndsAtLine, reads_failed, MakesReads}
 use Rattle.stp_node.specs.declared.script.TheConstants.{LINE_OCTETS, READS}
 use Rattle.stp_node.specs.declared.script.ScriptFault.{ScriptFault}
 use Rattle.stp_node.specs.declared.script.ScriptFault.TheVariants.{Read, Write, Line, TooManyReads, NoMemory}
@@ -18,7 +18,7 @@ use Rattle.stp_node.proofs.Taken.{taken-nothing, taken-more}
 
 -- ---- piece by piece
 
-consumes-consumes : (a b c : Option (List ℕ)) (xs ys : List ℕ) → Consumes a b xs → Consumes b c ys → Consumes a c (xs ++ ys)
+pub consumes-consumes : (a b c : Option (List ℕ)) (xs ys : List ℕ) → Consumes a b xs → Consumes b c ys → Consumes a c (xs ++ ys)
 consumes-consumes None b c xs ys h k = tt
 consumes-consumes (Some a) None c xs ys h k = absurd h
 consumes-consumes (Some a) (Some b) None xs ys h k = absurd k
@@ -30,7 +30,7 @@ consumes-keeps (Some a) None c xs h k = absurd h
 consumes-keeps (Some a) (Some b) None xs h k = absurd k
 consumes-keeps (Some a) (Some b) (Some c) xs h k = h ∙ ap (λ (v : List ℕ). xs ++ v) (sym k)
 
-consumes-nothing : (a : Option (List ℕ)) → Consumes a a []
+pub consumes-nothing : (a : Option (List ℕ)) → Consumes a a []
 consumes-nothing None = tt
 consumes-nothing (Some a) = refl
 
@@ -218,3 +218,20 @@ end-reads-made r (Err Write) s w0 w1 old new h k = k
 end-reads-made r (Err Read) s w0 w1 old new h k = absurd h
 end-reads-made r (Err TooManyReads) s w0 w1 old new h k = absurd h
 end-reads-made r (Err NoMemory) s w0 w1 old new h k = absurd h
+
+-- the same of a line that ended the script
+pub line-reads-failed : (result : Result Unit ScriptFault) (n : ℕ) → EndsAtLine result → reads_failed n result ≡ n
+line-reads-failed (Ok x) n h = refl
+line-reads-failed (Err (Line number)) n h = refl
+line-reads-failed (Err Write) n h = refl
+line-reads-failed (Err Read) n h = absurd h
+line-reads-failed (Err TooManyReads) n h = absurd h
+line-reads-failed (Err NoMemory) n h = absurd h
+
+pub line-reads-made : (result : Result Unit ScriptFault) (old new : ℕ) → EndsAtLine result → new ≤ old + READS → MakesReads result old new
+line-reads-made (Ok x) old new h k = k
+line-reads-made (Err (Line number)) old new h k = k
+line-reads-made (Err Write) old new h k = k
+line-reads-made (Err Read) old new h k = absurd h
+line-reads-made (Err TooManyReads) old new h k = absurd h
+line-reads-made (Err NoMemory) old new h k = absurd h

@@ -1,5 +1,5 @@
 -- What the lines of a script ask for.
-use Rattle.std.specs.Prelude.{ℕ, ◌==◌, ◌&&◌, if◌then◌else◌, List, [], ◌∷◌, codes}
+use Rattle.std.specs.Prelude.{ℕ, Bool, true, ◌==◌, ◌&&◌, if◌then◌else◌, List, [], ◌∷◌, codes}
 use Rattle.std.specs.Prelude.{Option, None, Some, Result, Ok, Err, bytes_eq}
 use Rattle.std.specs.Option.{option_map}
 use Rattle.console.specs.Commands.{command_named}
@@ -81,10 +81,14 @@ abbrev pub asks_or_malformed : Option Asked → Reading
 asks_or_malformed None = IsMalformed
 asks_or_malformed (Some asked) = Asks asked
 
--- a line without its end: an empty one, and one that begins with a number sign (35), is skipped
+-- an empty line, and one that begins with a number sign (35), is skipped
+abbrev pub is_skipped : List ℕ → Bool
+is_skipped [] = true
+is_skipped (octet ∷ rest) = octet == 35
+
+-- a line without its end
 abbrev pub parsed_line : List ℕ → Reading
-parsed_line [] = Skips
-parsed_line (octet ∷ rest) = if octet == 35 then Skips else asks_or_malformed (asked_by (words (octet ∷ rest)))
+parsed_line line = if is_skipped line then Skips else asks_or_malformed (asked_by (words line))
 
 abbrev pub asked_line : Line → Asked
 asked_line (line.Up link) = AskUp link.now

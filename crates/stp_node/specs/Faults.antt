@@ -31,6 +31,15 @@ writes_failed n (Err (Line line)) = n
 writes_failed n (Err TooManyReads) = n
 writes_failed n (Err NoMemory) = n
 
+-- a script that a line ended, by its fault or by a write that failed, if it ended
+abbrev pub EndsAtLine : {A : Type 0} → Result A ScriptFault → Type 0
+EndsAtLine (Ok x) = Unit {0}
+EndsAtLine (Err (Line line)) = Unit {0}
+EndsAtLine (Err Write) = Unit {0}
+EndsAtLine (Err Read) = ⊥
+EndsAtLine (Err TooManyReads) = ⊥
+EndsAtLine (Err NoMemory) = ⊥
+
 -- no more than 4,194,304 reads (READS) were made, and all of them where the script's end wasn't found (a count of 64
 -- bits stays at its greatest value)
 abbrev pub MakesReads : {A : Type 0} → Result A ScriptFault → ℕ → ℕ → Type 0

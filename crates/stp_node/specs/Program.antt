@@ -1,11 +1,10 @@
 -- What the program does for what its words ask, and its exit statuses.
-use Rattle.std.specs.Prelude.{◌≡◌, ◌⊎◌, ℕ, List, ◌++◌, codes, Some, Result, Ok, Err, String, true}
+use Rattle.std.specs.Prelude.{◌≡◌, ◌⊎◌, ℕ, List, ◌++◌, codes, Result, Ok, Err, String, true}
 use Rattle.std.specs.Global.{Global}
 use Rattle.std.specs.Io.KnownBytes.{Appends}
 use Rattle.settings_rows.specs.Configuration.{Configuration}
 use Rattle.settings.specs.Faults.{fault_line, no_memory}
 use Rattle.settings.specs.declared.fault.SettingsFault.{SettingsFault}
-use Rattle.settings.specs.declared.fault.SettingsFault.TheVariants as settings_fault
 use Rattle.exchange_rules.specs.Sound.{Abstract}
 use Rattle.exchange_rules.specs.First.{first_state}
 use Rattle.exchange_rules.specs.Queues.{whole}
@@ -21,7 +20,7 @@ use Rattle.stp_node.specs.declared.script.ScriptFault.{ScriptFault}
 use Rattle.stp_node.specs.declared.script.ScriptFault.TheVariants as fault
 use Rattle.stp_node.specs.declared.program.Status.{Status}
 use Rattle.stp_node.specs.declared.program.Status.TheVariants as status
-use Rattle.words.specs.Words.{Task, BuiltInRun, FileRun, FileCheck, OtherWords, are_plain, asked}
+use Rattle.words.specs.Words.{Task, BuiltInRun, FileRun, FileCheck, LabRun, OtherWords, are_plain, asked}
 
 -- the exit statuses
 abbrev pub status_number : Status → ℕ
@@ -105,7 +104,7 @@ ChecksFile file (Err (file_fault.Unread why)) output output_new errors errors_ne
 ChecksFile file (Err file_fault.NoMemory) output output_new errors errors_new ended =
     EndsWith status.Start (told no_memory) output output_new ended × (errors_new ≡ errors)
 
--- what the program does for a task, where a file is read as `reads` says
+-- what the program does for a task, where a file is read as `reads` says; of a lab, nothing is said here
 abbrev pub DoesTask : Task → (List ℕ → FileRead → Type 0) → Streams → Streams → Status → Type 0
 DoesTask BuiltInRun reads old new ended =
     RunsNode (λ settings. settings ≡ built_in_settings) (λ why. why ≡ no_memory) NoText old new ended
@@ -114,6 +113,7 @@ DoesTask (FileRun file) reads old new ended =
 DoesTask (FileCheck file) reads old new ended =
     (read : FileRead) × reads file read
     × ChecksFile file read old.output new.output old.errors new.errors ended × (new.input ≡ old.input)
+DoesTask (LabRun near far) reads old new ended = Unit {0}
 DoesTask OtherWords reads old new ended =
     EndsWith status.Usage (codes "usage\n") old.output new.output ended × (new.input ≡ old.input)
     × IsTold usage_text old.errors new.errors

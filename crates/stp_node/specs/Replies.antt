@@ -4,8 +4,8 @@ use Rattle.exchange.specs.Calls.{is_memory_refused}
 use Rattle.exchange_rules.specs.State.{QueueKind, State}
 use Rattle.stp_node.specs.Doing.{report}
 use Rattle.stp_node.specs.Showing.{shown_text}
-use Rattle.stp_node.specs.declared.perform.Reply.{Reply}
-use Rattle.stp_node.specs.declared.perform.Reply.TheVariants.{Became, Line, Lines}
+use Rattle.stp_node.specs.declared.performing.Reply.{Reply}
+use Rattle.stp_node.specs.declared.performing.Reply.TheVariants.{Became, Line, Lines}
 
 -- the line of an outcome, another line, or what is shown of a state
 abbrev pub reply_text : {Q : Type 0} → QueueKind Q → Reply → State Q → List ℕ

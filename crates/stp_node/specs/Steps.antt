@@ -1,5 +1,5 @@
 -- How a script is gone through: the line that is open, and the octets that come behind.
-use Rattle.std.specs.Prelude.{◌≡◌, ℕ, Bool, ◌≤◌, List, [], ◌∷◌, ◌++◌, length, Option, Some, Result, Ok, Err}
+use Rattle.std.specs.Prelude.{◌≡◌, ◌≢◌, ℕ, Bool, ◌≤◌, List, [], ◌∷◌, ◌++◌, length, Option, Some, Result, Ok, Err}
 use Rattle.std.specs.Io.KnownBytes.{Appends}
 use Rattle.exchange.specs.KeptQueues.{KeptQueues, kept}
 use Rattle.exchange.specs.Stands.{Kept}
@@ -8,6 +8,8 @@ use Rattle.stp_node.specs.Lines.{lines}
 use Rattle.stp_node.specs.Streams.{AppendsAtLeast}
 use Rattle.stp_node.specs.Asking.{Reading}
 use Rattle.stp_node.specs.Runs.{Reached, line_run, lines_run, onto, Does}
+use Rattle.stp_node.specs.declared.run.Grown.{Grown}
+use Rattle.stp_node.specs.declared.run.Grown.TheVariants.{Open, TooLong, Whole}
 use Rattle.stp_node.specs.declared.script.TheConstants.{LINE_OCTETS}
 use Rattle.stp_node.specs.declared.script.ScriptFault.{ScriptFault}
 use Rattle.stp_node.specs.declared.script.ScriptFault.TheVariants.{Read, Write, Line, TooManyReads, NoMemory}
@@ -20,6 +22,12 @@ pub record LineSoFar : Type 0 where
 -- the line before the first octet of a script
 abbrev pub first_line : LineSoFar
 first_line = record { octets = []; number = 1 }
+
+-- an octet becomes part of the open line; or it doesn't, since the line is full, or since it is the line feed (10)
+abbrev pub Grows : Grown → (octet : ℕ) → (line next : LineSoFar) → Type 0
+Grows Open octet line next = (octet ≢ 10) × (next ≡ record line { octets = line.octets ++ octet ∷ [] })
+Grows TooLong octet line next = (octet ≢ 10) × (LINE_OCTETS ≤ length line.octets) × (next ≡ line)
+Grows Whole octet line next = (octet ≡ 10) × (next ≡ line)
 
 -- the open line, and the octets behind it
 abbrev pub rest_run : (most : ℕ) → (refused : List Bool) → LineSoFar → List ℕ → Kept → Reached KeptQueues

@@ -14,9 +14,10 @@ use std::alloc::{AllocError, Global};
 
 /// The words of the program, and their meaning.
 const USAGE: &[u8] = b"\
-stp run         runs the script on standard input, with the built-in settings
-stp run FILE    runs it with the settings in FILE
-stp check FILE  prints ok, or the first fault of the settings in FILE
+stp run           runs the script on standard input, with the built-in settings
+stp run FILE      runs it with the settings in FILE
+stp check FILE    prints ok, or the first fault of the settings in FILE
+stp lab NEAR FAR  runs the lab script on standard input, on two nodes that it joins
 The lines of a script, the settings and the exit statuses are in docs/MANUAL.md.
 ";
 
@@ -122,5 +123,33 @@ fn explain_script<E: Sink>(
             errors,
         ),
         ScriptFault::NoMemory => {}
+    }
+}
+
+/// Tells that the nodes of two files don't face each other.
+pub(crate) fn explain_strangers<E: Sink>(alloc: Global, near: &str, far: &str, errors: &mut E) {
+    tell_made(
+        format!(in alloc;
+            "{near} and {far} don't face each other: docs/MANUAL.md says what that needs\n"
+        ),
+        errors,
+    );
+}
+
+/// Tells why a lab script ended before its end, if it did.
+pub(crate) fn explain_lab_end<E: Sink>(
+    alloc: Global,
+    script: Result<(), ScriptFault>,
+    errors: &mut E,
+) {
+    if let Err(ScriptFault::Line(number)) = script {
+        tell_made(
+            format!(in alloc;
+                "line {number}: not a line of a lab script; docs/MANUAL.md lists them\n"
+            ),
+            errors,
+        );
+    } else {
+        explain_end(alloc, script, b"", LineFault::Malformed, errors);
     }
 }

@@ -2,7 +2,7 @@
 
 ghost use Rattle.std.specs.Prelude.{◌≡◌};
 ghost use Rattle.console.specs.Words.{words};
-ghost use Rattle.stp_node.specs.Asking.{parsed_line, asked_by, asked_with_one, asked_with_two};
+ghost use Rattle.stp_node.specs.Asking.{parsed_line, asked_by, asked_with_one, asked_with_two, is_skipped};
 ghost use Rattle.stp_node.specs.Asking.{show_named, asked_of, reading_of};
 
 use crate::hex_octets::HexOctets;
@@ -84,11 +84,21 @@ pub enum Line<'a> {
     },
 }
 
+/// Whether a line asks for nothing: an empty one, and one that begins with `#`.
+pub fn is_skipped(line: &[u8]) -> bool
+    ensures { result ≡ is_skipped line.now }
+{
+    match line {
+        [] | [REMARK, ..] => true,
+        _ => false,
+    }
+}
+
 /// What a line without its end asks for: nothing if it is empty or begins with `#`.
 pub fn parse_line(line: &[u8]) -> Result<Option<Line<'_>>, Malformed>
     ensures { reading_of result ≡ parsed_line line.now }
 {
-    if line.is_empty() || line[0] == REMARK {
+    if is_skipped(line) {
         return Ok(None);
     }
     match asked(line) {
@@ -107,7 +117,7 @@ fn asked(line: &[u8]) -> Option<Line<'_>>
     let behind = rest?;
     let (first, rest) = cut(behind);
     let Some(rest) = rest else {
-        return asked_with_one(command, first);
+        return line_with_one_word(command, first);
     };
     match cut(rest) {
         (second, None) => asked_with_two(command, first, second),
@@ -119,7 +129,7 @@ fn asked(line: &[u8]) -> Option<Line<'_>>
 }
 
 /// What a command with one word behind it asks for.
-fn asked_with_one(command: Command, word: &[u8]) -> Option<Line<'_>>
+pub fn line_with_one_word(command: Command, word: &[u8]) -> Option<Line<'_>>
     ensures { asked_of result ≡ asked_with_one command word.now }
 {
     match command {

@@ -5,11 +5,12 @@ use crate::folder::Disk;
 use crate::program::run_program;
 use crate::sink::WriterSink;
 use crate::source::ReaderSource;
+use crate::two_nodes::Lab;
 use std::process::ExitCode;
 use std::{env, io};
 
-/// The program `stp` with the machine's words, files and standard streams: `main` is this call.
-pub fn run_on_machine(rt: &HostRuntime) -> ExitCode {
+/// The program `stp` with the machine's words, files and standard streams, and with this lab.
+pub fn run_on_machine<L: Lab>(rt: &HostRuntime, lab: &mut L) -> ExitCode {
     let mut reader = ReaderSource::new(rt.stdin());
     let mut writer = WriterSink::new(io::writer(rt));
     let mut errors = WriterSink::new(rt.stderr());
@@ -18,6 +19,7 @@ pub fn run_on_machine(rt: &HostRuntime) -> ExitCode {
             rt.alloc(),
             words.as_slice(),
             &Disk::new(rt),
+            lab,
             &mut reader,
             &mut writer,
             &mut errors,

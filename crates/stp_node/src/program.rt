@@ -18,6 +18,7 @@ use crate::run::{OpenLine, run_pieces};
 use crate::script::ScriptFault;
 use crate::sink::Sink;
 use crate::source::Source;
+use crate::two_nodes::{Lab, run_files};
 use exchange::{Exchange, NoMemory};
 use settings::SettingsFault;
 use std::alloc::Global;
@@ -50,11 +51,12 @@ impl Status {
 
 /// The whole program: does what the words after its name ask for. Settings files come from the folder, the script from
 /// the reader, and all that it prints goes to the writer. Why it doesn't do what was meant goes to `errors`, in
-/// sentences for a person.
-pub fn run_program<F: Folder, R: Source, W: Sink, E: Sink>(
+/// sentences for a person. The scripts of two nodes are for the lab.
+pub fn run_program<F: Folder, L: Lab, R: Source, W: Sink, E: Sink>(
     alloc: Global,
     words: &[String],
     folder: &F,
+    lab: &mut L,
     reader: &mut R,
     writer: &mut W,
     errors: &mut E,
@@ -67,6 +69,10 @@ pub fn run_program<F: Folder, R: Source, W: Sink, E: Sink>(
         Words::Run(None) => run_built_in(alloc, reader, writer, errors),
         Words::Run(Some(file)) => run_file(alloc, folder, file.as_str(), reader, writer, errors),
         Words::Check(file) => check_file(alloc, folder, file.as_str(), writer, errors),
+        Words::Lab(near, far) => {
+            let files = (near.as_str(), far.as_str());
+            run_files(alloc, folder, files, lab, reader, writer, errors)
+        }
         Words::Usage => tell_usage(writer, errors),
         Words::NoMemory => tell_no_memory(writer),
     }
@@ -209,7 +215,7 @@ fn built_in_settings(alloc: Global) -> Result<Settings, SettingsFault>
 }
 
 /// The settings that these octets are.
-fn settings_in(alloc: Global, octets: &[u8]) -> Result<Settings, SettingsFault>
+pub(crate) fn settings_in(alloc: Global, octets: &[u8]) -> Result<Settings, SettingsFault>
     ensures settings { IfOk result (AreSettings octets.now) }
     ensures fault { IfErr result (IsFault octets.now) }
 {
@@ -220,7 +226,7 @@ fn settings_in(alloc: Global, octets: &[u8]) -> Result<Settings, SettingsFault>
 }
 
 /// How the program ends after a script.
-fn status_after(script: Result<(), ScriptFault>) -> Status
+pub(crate) fn status_after(script: Result<(), ScriptFault>) -> Status
     ensures { result ≡ status_after script }
 {
     match script {

@@ -7,11 +7,11 @@ ghost use Rattle.exchange_rules.specs.Sound.{Abstract};
 ghost use Rattle.exchange.specs.Stands.{Kept, StandsFor};
 ghost use Rattle.stp_node.specs.Asking.{parsed_line};
 ghost use Rattle.stp_node.specs.Runs.{Does, Runs, stopped};
-ghost use Rattle.stp_node.specs.Steps.{DoesLine, HasTaken, first_line, rest_run};
-ghost use Rattle.stp_node.specs.Faults.{MakesReads, reads_failed, writes_failed};
+ghost use Rattle.stp_node.specs.Steps.{DoesLine, Grows, HasTaken, first_line, rest_run};
+ghost use Rattle.stp_node.specs.Faults.{EndsAtLine, MakesReads, reads_failed, writes_failed};
 
 use crate::line::{Malformed, parse_line};
-use crate::perform::perform;
+use crate::performing::perform;
 use crate::script::{LINE_OCTETS, READS, ScriptFault};
 use crate::showing::print;
 use crate::sink::Sink;
@@ -28,9 +28,20 @@ const PIECE_OCTETS: usize = 4096;
 /// What ends a line.
 const LINE_FEED: u8 = b'\n';
 
+/// What an octet does to the line that is being read.
+#[derive(Clone, Copy, Debug, PartialEq, Eq)]
+pub enum Grown {
+    /// It is part of the line, which goes on.
+    Open,
+    /// It is one octet more than a line may have.
+    TooLong,
+    /// It ends the line.
+    Whole,
+}
+
 /// The line that is being read.
 #[derive(Drop)]
-pub(crate) struct OpenLine {
+pub struct OpenLine {
     octets: ArrayVec<u8, LINE_OCTETS>,
     number: u64,
     wrong: LineFault,
@@ -107,7 +118,7 @@ pub(crate) fn run_pieces<R: Source, W: Sink>(
 
 impl OpenLine {
     /// The first line, before its first octet.
-    pub(crate) fn first() -> OpenLine
+    pub fn first() -> OpenLine
         ensures { result ≡ first_line }
     {
         OpenLine {
@@ -118,7 +129,9 @@ impl OpenLine {
     }
 
     /// What was read of the line.
-    pub(crate) fn octets(&self) -> &[u8] {
+    pub fn octets(&self) -> &[u8]
+        ensures { result.now ≡ self.now.octets }
+    {
         self.octets.as_slice()
     }
 
@@ -162,23 +175,55 @@ impl OpenLine {
         ensures run { HasTaken (octet ∷ []) result self.old self.new exchange.old exchange.new
             (W.output writer.old).written (W.output writer.new).written }
     {
-        if octet != LINE_FEED {
-            if self.octets.is_full() {
-                self.wrong = LineFault::TooLong(LINE_OCTETS);
-                return fail(self.number, writer);
+        match self.add(octet) {
+            Grown::Open => Ok(()),
+            Grown::TooLong => fail(self.number, writer),
+            Grown::Whole => {
+                do_line(self.octets(), self.number, exchange, writer)?;
+                self.begin_next();
+                Ok(())
             }
-            self.octets.push(octet);
-            return Ok(());
         }
-        do_line(self.octets.as_slice(), self.number, exchange, writer)?;
+    }
+
+    /// Takes the next octet, which isn't part of the line where it ends it, or where the line has no room for it.
+    pub fn add(&mut self, octet: u8) -> Grown
+        ensures line { Grows result octet self.old self.new }
+        ensures short { length self.new.octets ≤ LINE_OCTETS }
+    {
+        let is_full = self.octets.is_full();
+        if octet == LINE_FEED {
+            return Grown::Whole;
+        }
+        if is_full {
+            self.wrong = LineFault::TooLong(LINE_OCTETS);
+            return Grown::TooLong;
+        }
+        self.octets.push(octet);
+        Grown::Open
+    }
+
+    /// Begins the line behind this one.
+    pub fn begin_next(&mut self)
+        requires { self.old.number + 1 < 2 ^ 64 }
+        ensures { self.new ≡ record { octets = []; number = self.old.number + 1 } }
+    {
         self.octets.clear();
         self.number += 1;
-        Ok(())
+    }
+
+    /// Prints that the line is malformed, and ends the script.
+    pub fn fail<W: Sink>(&self, writer: &mut W) -> Result<(), ScriptFault>
+        ensures writes { (W.output writer.new).failures ≡ writes_failed (W.output writer.old).failures result }
+        ensures fault { EndsAtLine result }
+    {
+        fail(self.number, writer)
     }
 
     /// Takes the end of the script: a line that was begun is a fault.
-    fn end<W: Sink>(&mut self, writer: &mut W) -> Result<(), ScriptFault>
+    pub fn end<W: Sink>(&mut self, writer: &mut W) -> Result<(), ScriptFault>
         ensures writes { (W.output writer.new).failures ≡ writes_failed (W.output writer.old).failures result }
+        ensures fault { EndsAtLine result }
         ensures run { (s : Kept) → Does (rest_run 0 [] self.old [] s) result s
             (W.output writer.old).written (W.output writer.new).written }
     {
@@ -215,6 +260,7 @@ fn do_line<W: Sink>(
 /// Prints that a line is malformed, and ends the script.
 fn fail<W: Sink>(number: u64, writer: &mut W) -> Result<(), ScriptFault>
     ensures writes { (W.output writer.new).failures ≡ writes_failed (W.output writer.old).failures result }
+    ensures fault { EndsAtLine result }
     ensures run { (s : Kept) → Does (stopped number s) result s
         (W.output writer.old).written (W.output writer.new).written }
 {

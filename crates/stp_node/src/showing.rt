@@ -9,7 +9,7 @@ ghost use Rattle.stp_node.specs.Showing.{line_of, most_lines, ended, shown_text}
 ghost use Rattle.stp_node.specs.Streams.{AppendsFirst, failures_after};
 
 use crate::line::Show;
-use crate::perform::{Reply, report};
+use crate::performing::{Reply, report};
 use crate::sink::{Sink, WriteFailed};
 use crate::text::console_line;
 use arrayvec::ArrayString;

@@ -56,7 +56,7 @@ impl<W: Write> WriterSink<W> {
 }
 
 /// Writes octets until all are written, or one write fails or takes nothing.
-fn write_whole<W: Write>(writer: &mut W, octets: &[u8]) -> Result<(), WriteFailed>
+pub fn write_whole<W: Write>(writer: &mut W, octets: &[u8]) -> Result<(), WriteFailed>
     ensures all { OnOk result (Appends (W.contents writer.old) (W.contents writer.new) octets.now) }
     ensures first { OnErr result (AppendsFirst (W.contents writer.old) (W.contents writer.new) octets.now) }
 {

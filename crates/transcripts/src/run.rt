@@ -8,6 +8,7 @@ ghost use Rattle.transcripts.specs.Runs.{file_name, words_of, status_line, IsPri
 use crate::changed::ChangedFile;
 use crate::differences::{first_difference, line_at};
 use anyhow::{Result, bail};
+use lab::{JoinedLab, MemoryJoiner};
 use std::alloc::{AllocError, Global};
 use stp_node::{FileFault, Folder, MemorySink, MemorySource, OneFile, Status, run_program};
 
@@ -204,13 +205,30 @@ fn printed<F: Folder>(alloc: Global, words: &[String], folder: &F, script: &[u8]
     let mut reader = MemorySource::new(script);
     let mut writer = MemorySink::new(alloc);
     let mut errors = MemorySink::new(alloc);
-    let status = run_program(alloc, words, folder, &mut reader, &mut writer, &mut errors);
+    let mut lab = lab_in_memory(alloc)?;
+    let status = run_program(
+        alloc,
+        words,
+        folder,
+        &mut lab,
+        &mut reader,
+        &mut writer,
+        &mut errors,
+    );
     if reader.failures() != 0 || writer.failures() != 0 {
         bail!("a stream in memory failed");
     }
     let mut printed = Vec::from_slice(alloc, writer.written())?;
     printed.extend_from_slice(status_line(status))?;
     Ok(printed)
+}
+
+/// The lab whose links are streams in memory, of which each read gives one octet.
+fn lab_in_memory(alloc: Global) -> Result<JoinedLab<MemoryJoiner>> {
+    match MemoryJoiner::new(alloc) {
+        Ok(joiner) => Ok(JoinedLab::new(joiner.in_pieces_of(1))),
+        Err(_) => bail!("memory ran out"),
+    }
 }
 
 /// The line that tells an exit status: `[3]`, and nothing for 0.

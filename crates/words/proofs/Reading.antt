@@ -22,7 +22,7 @@ use Rattle.clap.proofs.FaultLemmas.{stopped_fault}
 use Rattle.clap.proofs.OnLiterals.{clap_on_literals}
 use Rattle.clap.proofs.WalkLemmas.{both, walk_stopped}
 use Rattle.words.specs.Grammar.{stp}
-use Rattle.words.specs.Words.{asked, asked_by, asked_by_command, asked_with, found, is_plain, are_plain, texts, BuiltInRun, OtherWords}
+use Rattle.words.specs.Words.{asked, asked_by, asked_by_command, asked_by_lab, asked_with, asked_with_two, found, is_plain, are_plain, texts, BuiltInRun, LabRun, OtherWords}
 
 pub simple : is_simple stp ≡ true
 unfolding clap_on_literals
@@ -66,11 +66,18 @@ walk-check : (words : List Text) → walk rules names nothing_held (codes "check
 unfolding clap_on_literals
 walk-check words = sym (walk_stopped rules names (walk_from nothing_held) (codes "check") [] words)
 
+walk-lab : (words : List Text) → walk rules names nothing_held (codes "lab" ∷ words) ≡ stopped_at (codes "lab") words
+unfolding clap_on_literals
+walk-lab words = sym (walk_stopped rules names (walk_from nothing_held) (codes "lab") [] words)
+
 abbrev run : Shape
 run = Rattle.clap.specs.Simple.built_leaf (Rattle.clap.specs.Simple.inherited (built stp).top (Rattle.words.specs.Grammar.run).top)
 
 abbrev check : Shape
 check = Rattle.clap.specs.Simple.built_leaf (Rattle.clap.specs.Simple.inherited (built stp).top (Rattle.words.specs.Grammar.check).top)
+
+abbrev lab : Shape
+lab = Rattle.clap.specs.Simple.built_leaf (Rattle.clap.specs.Simple.inherited (built stp).top (Rattle.words.specs.Grammar.lab).top)
 
 fault-run : (words : List Text) → fault_of stp (codes "run" ∷ words) ≡ level_fault run [] nothing_held words false []
 unfolding clap_on_literals
@@ -82,11 +89,40 @@ unfolding clap_on_literals
 fault-check words = ap₂ faults (walk-check words) (stopped_fault (built stp).top names (walk_from nothing_held) (codes "check", []) words)
     ∙ or_else-none (level_fault check [] nothing_held words false [])
 
+fault-lab : (words : List Text) → fault_of stp (codes "lab" ∷ words) ≡ level_fault lab [] nothing_held words false []
+unfolding clap_on_literals
+fault-lab words = ap₂ faults (walk-lab words) (stopped_fault (built stp).top names (walk_from nothing_held) (codes "lab", []) words)
+    ∙ or_else-none (level_fault lab [] nothing_held words false [])
+
 rows-run : (words : List Text) → subcommand_of stp (codes "run" ∷ words) ≡ Some (codes "run", rows_after run.rules [] words)
 rows-run words = ap (λ (w : Walk). entered (built stp) w.stopped) (walk-run words)
 
 rows-check : (words : List Text) → subcommand_of stp (codes "check" ∷ words) ≡ Some (codes "check", rows_after check.rules [] words)
 rows-check words = ap (λ (w : Walk). entered (built stp) w.stopped) (walk-check words)
+
+rows-lab : (words : List Text) → subcommand_of stp (codes "lab" ∷ words) ≡ Some (codes "lab", rows_after lab.rules [] words)
+rows-lab words = ap (λ (w : Walk). entered (built stp) w.stopped) (walk-lab words)
+
+-- what a command asks for, by its rows
+run-is-not-lab : bytes_eq (codes "run") (codes "lab") ≡ false
+unfolding clap_on_literals
+run-is-not-lab = refl
+
+check-is-not-lab : bytes_eq (codes "check") (codes "lab") ≡ false
+unfolding clap_on_literals
+check-is-not-lab = refl
+
+lab-is-lab : bytes_eq (codes "lab") (codes "lab") ≡ true
+unfolding clap_on_literals
+lab-is-lab = refl
+
+pub found-other : (command : Text) (rows : List Row) → bytes_eq command (codes "lab") ≡ false
+    → found (Some (command, rows)) ≡ asked_by_command command (first_of (codes "file") rows)
+found-other command rows e = rw e refl
+
+pub found-lab : (command : Text) (rows : List Row) → bytes_eq command (codes "lab") ≡ true
+    → found (Some (command, rows)) ≡ asked_by_lab (first_of (codes "near") rows) (first_of (codes "far") rows)
+found-lab command rows e = rw e refl
 
 -- ---- the words behind it
 
@@ -132,11 +168,39 @@ check-more : (x y : ℕ) (xs ys : Text) (more : List Text) → nat_eq x 45 ≡ f
 unfolding clap_on_literals
 check-more x y xs ys more plain plain-2 = rw (plain, plain, plain-2, plain-2) refl
 
+lab-alone : level_fault lab [] nothing_held [] false [] ≡ kind.MissingRequiredArgument ∷ []
+unfolding clap_on_literals
+lab-alone = refl
+
+lab-file : (x : ℕ) (xs : Text) → nat_eq x 45 ≡ false → level_fault lab [] nothing_held ((x ∷ xs) ∷ []) false [] ≡ kind.MissingRequiredArgument ∷ []
+unfolding clap_on_literals
+lab-file x xs plain = rw (plain, plain) refl
+
+lab-files : (x y : ℕ) (xs ys : Text) → nat_eq x 45 ≡ false → nat_eq y 45 ≡ false
+    → level_fault lab [] nothing_held ((x ∷ xs) ∷ (y ∷ ys) ∷ []) false [] ≡ []
+unfolding clap_on_literals
+lab-files x y xs ys plain plain-2 = rw (plain, plain, plain-2, plain-2) refl
+
+lab-near-named : (x y : ℕ) (xs ys : Text) → nat_eq x 45 ≡ false → nat_eq y 45 ≡ false
+    → first_of (codes "near") (rows_after lab.rules [] ((x ∷ xs) ∷ (y ∷ ys) ∷ [])) ≡ Some (x ∷ xs)
+unfolding clap_on_literals
+lab-near-named x y xs ys plain plain-2 = rw (plain, plain, plain-2, plain-2) refl
+
+lab-far-named : (x y : ℕ) (xs ys : Text) → nat_eq x 45 ≡ false → nat_eq y 45 ≡ false
+    → first_of (codes "far") (rows_after lab.rules [] ((x ∷ xs) ∷ (y ∷ ys) ∷ [])) ≡ Some (y ∷ ys)
+unfolding clap_on_literals
+lab-far-named x y xs ys plain plain-2 = rw (plain, plain, plain-2, plain-2) refl
+
+lab-more : (x y z : ℕ) (xs ys zs : Text) (more : List Text) → nat_eq x 45 ≡ false → nat_eq y 45 ≡ false → nat_eq z 45 ≡ false
+    → level_fault lab [] nothing_held ((x ∷ xs) ∷ (y ∷ ys) ∷ (z ∷ zs) ∷ more) false [] ≡ kind.UnknownArgument ∷ []
+unfolding clap_on_literals
+lab-more x y z xs ys zs more plain plain-2 plain-3 = rw (plain, plain, plain-2, plain-2, plain-3, plain-3) refl
+
 -- a first word that names no command
 other : (x : ℕ) (xs : Text) (rest : List Text) → nat_eq x 45 ≡ false → bytes_eq (codes "run") (x ∷ xs) ≡ false → bytes_eq (codes "check") (x ∷ xs) ≡ false
-    → fault_of stp ((x ∷ xs) ∷ rest) ≡ kind.UnknownArgument ∷ kind.InvalidSubcommand ∷ []
+    → bytes_eq (codes "lab") (x ∷ xs) ≡ false → fault_of stp ((x ∷ xs) ∷ rest) ≡ kind.UnknownArgument ∷ kind.InvalidSubcommand ∷ []
 unfolding clap_on_literals
-other x xs rest plain not-run not-check = rw (not-run, not-check, plain, plain) refl
+other x xs rest plain not-run not-check not-lab = rw (not-run, not-check, not-lab, plain, plain) refl
 
 -- ---- all words
 
@@ -154,18 +218,28 @@ not-nil k ks kinds e none = true≢false (ap is_nil (sym none ∙ e))
     is_nil [] = true
     is_nil (k ∷ ks) = false
 
+-- two words and more are asked for by none but `lab`
+unasked-two : (command near far : Text) (b : Bool) → bytes_eq command (codes "lab") ≡ false
+    → (if b then asked_with_two command near far else OtherWords) ≡ OtherWords
+unasked-two command near far true e = rw e refl
+unasked-two command near far false e = refl
+
+unasked-more : (command near far : Text) (more : List Text) → bytes_eq command (codes "lab") ≡ false → asked_by (command ∷ near ∷ far ∷ more) ≡ OtherWords
+unasked-more command near far [] e = unasked-two command near far (is_plain near && is_plain far) e
+unasked-more command near far (word ∷ more) e = refl
+
 on-run : (words : List Text) → list_all is_plain words ≡ true → Verdict (codes "run" ∷ words)
 on-run [] e = Taken (fault-run [] ∙ run-alone) (ap found (rows-run []) ∙ run-alone-named)
 on-run ([] ∷ more) e = absurd (true≢false (sym e))
 on-run ((x ∷ xs) ∷ []) e =
     let plain = plain-first x (both _ _ e).0 in
     Taken (fault-run _ ∙ run-file x xs plain)
-    (ap found (rows-run ((x ∷ xs) ∷ [])) ∙ ap (asked_by_command (codes "run")) (run-file-named x xs plain) ∙ rw plain refl)
+    (ap found (rows-run ((x ∷ xs) ∷ [])) ∙ found-other (codes "run") (rows_after run.rules [] ((x ∷ xs) ∷ [])) run-is-not-lab ∙ ap (asked_by_command (codes "run")) (run-file-named x xs plain) ∙ rw plain refl)
 on-run ((x ∷ xs) ∷ [] ∷ more) e = absurd (true≢false (sym (both _ _ e).1))
 on-run ((x ∷ xs) ∷ (y ∷ ys) ∷ more) e =
     let plain = plain-first x (both _ _ e).0 in
     let plain-2 = plain-first y (both _ _ (both _ _ e).1).0 in
-    Refused (not-nil _ _ _ (fault-run _ ∙ run-more x y xs ys more plain plain-2)) refl
+    Refused (not-nil _ _ _ (fault-run _ ∙ run-more x y xs ys more plain plain-2)) (unasked-more (codes "run") (x ∷ xs) (y ∷ ys) more run-is-not-lab)
 
 on-check : (words : List Text) → list_all is_plain words ≡ true → Verdict (codes "check" ∷ words)
 on-check [] e = Refused (not-nil _ _ _ (fault-check [] ∙ check-alone)) refl
@@ -173,12 +247,39 @@ on-check ([] ∷ more) e = absurd (true≢false (sym e))
 on-check ((x ∷ xs) ∷ []) e =
     let plain = plain-first x (both _ _ e).0 in
     Taken (fault-check _ ∙ check-file x xs plain)
-    (ap found (rows-check ((x ∷ xs) ∷ [])) ∙ ap (asked_by_command (codes "check")) (check-file-named x xs plain) ∙ rw plain refl)
+    (ap found (rows-check ((x ∷ xs) ∷ [])) ∙ found-other (codes "check") (rows_after check.rules [] ((x ∷ xs) ∷ [])) check-is-not-lab ∙ ap (asked_by_command (codes "check")) (check-file-named x xs plain) ∙ rw plain refl)
 on-check ((x ∷ xs) ∷ [] ∷ more) e = absurd (true≢false (sym (both _ _ e).1))
 on-check ((x ∷ xs) ∷ (y ∷ ys) ∷ more) e =
     let plain = plain-first x (both _ _ e).0 in
     let plain-2 = plain-first y (both _ _ (both _ _ e).1).0 in
-    Refused (not-nil _ _ _ (fault-check _ ∙ check-more x y xs ys more plain plain-2)) refl
+    Refused (not-nil _ _ _ (fault-check _ ∙ check-more x y xs ys more plain plain-2)) (unasked-more (codes "check") (x ∷ xs) (y ∷ ys) more check-is-not-lab)
+
+asked-two : (command near far : Text) → bytes_eq command (codes "lab") ≡ true → asked_with_two command near far ≡ LabRun near far
+asked-two command near far e = rw e refl
+
+asked-lab : (near far : Text) → is_plain near ≡ true → is_plain far ≡ true → LabRun near far ≡ asked_by (codes "lab" ∷ near ∷ far ∷ [])
+asked-lab near far e f = rw (e, f) (sym (asked-two (codes "lab") near far lab-is-lab))
+
+on-lab : (words : List Text) → list_all is_plain words ≡ true → Verdict (codes "lab" ∷ words)
+on-lab [] e = Refused (not-nil _ _ _ (fault-lab [] ∙ lab-alone)) refl
+on-lab ([] ∷ more) e = absurd (true≢false (sym e))
+on-lab ((x ∷ xs) ∷ []) e =
+    let plain = plain-first x (both _ _ e).0 in
+    Refused (not-nil _ _ _ (fault-lab _ ∙ lab-file x xs plain)) (rw plain refl)
+on-lab ((x ∷ xs) ∷ [] ∷ more) e = absurd (true≢false (sym (both _ _ e).1))
+on-lab ((x ∷ xs) ∷ (y ∷ ys) ∷ []) e =
+    let plain = plain-first x (both _ _ e).0 in
+    let plain-2 = plain-first y (both _ _ (both _ _ e).1).0 in
+    Taken (fault-lab _ ∙ lab-files x y xs ys plain plain-2)
+    (ap found (rows-lab ((x ∷ xs) ∷ (y ∷ ys) ∷ [])) ∙ found-lab (codes "lab") (rows_after lab.rules [] ((x ∷ xs) ∷ (y ∷ ys) ∷ [])) lab-is-lab
+    ∙ ap₂ asked_by_lab (lab-near-named x y xs ys plain plain-2) (lab-far-named x y xs ys plain plain-2)
+    ∙ asked-lab (x ∷ xs) (y ∷ ys) (both _ _ e).0 (both _ _ (both _ _ e).1).0)
+on-lab ((x ∷ xs) ∷ (y ∷ ys) ∷ [] ∷ more) e = absurd (true≢false (sym (both _ _ (both _ _ e).1).1))
+on-lab ((x ∷ xs) ∷ (y ∷ ys) ∷ (z ∷ zs) ∷ more) e =
+    let plain = plain-first x (both _ _ e).0 in
+    let plain-2 = plain-first y (both _ _ (both _ _ e).1).0 in
+    let plain-3 = plain-first z (both _ _ (both _ _ (both _ _ e).1).1).0 in
+    Refused (not-nil _ _ _ (fault-lab _ ∙ lab-more x y z xs ys zs more plain plain-2 plain-3)) refl
 
 -- a word that isn't the other isn't it the other way round
 unlike : (a b : Text) → bytes_eq a b ≡ false → bytes_eq b a ≡ false
@@ -189,25 +290,30 @@ unlike a b e = settle (bytes_eq b a) refl
     settle true is = absurd (true≢false (sym ((bytes_eq-Decides a b).1 (sym ((bytes_eq-Decides b a).0 is))) ∙ e))
 
 others-asked : (x : ℕ) (xs : Text) (rest : List Text) → bytes_eq (x ∷ xs) (codes "run") ≡ false → bytes_eq (x ∷ xs) (codes "check") ≡ false
-    → asked_by ((x ∷ xs) ∷ rest) ≡ OtherWords
-others-asked x xs [] not-run not-check = rw not-run refl
-others-asked x xs (file ∷ []) not-run not-check = either (is_plain file)
+    → bytes_eq (x ∷ xs) (codes "lab") ≡ false → asked_by ((x ∷ xs) ∷ rest) ≡ OtherWords
+others-asked x xs [] not-run not-check not-lab = rw not-run refl
+others-asked x xs (file ∷ []) not-run not-check not-lab = either (is_plain file)
   where
     either : (b : Bool) → (if b then asked_with (x ∷ xs) file else OtherWords) ≡ OtherWords
     either true = rw (not-run, not-check) refl
     either false = refl
-others-asked x xs (file ∷ second ∷ more) not-run not-check = refl
+others-asked x xs (file ∷ second ∷ more) not-run not-check not-lab = unasked-more (x ∷ xs) file second more not-lab
 
 pub judged : (words : List Text) → list_all is_plain words ≡ true → Verdict words
 judged [] e = Refused (not-nil _ _ _ no-words) refl
 judged ([] ∷ rest) e = absurd (true≢false (sym e))
 judged ((x ∷ xs) ∷ rest) e = by-run (bytes_eq (x ∷ xs) (codes "run")) refl
   where
+    by-lab : (t : Bool) → bytes_eq (x ∷ xs) (codes "run") ≡ false → bytes_eq (x ∷ xs) (codes "check") ≡ false → bytes_eq (x ∷ xs) (codes "lab") ≡ t
+        → Verdict ((x ∷ xs) ∷ rest)
+    by-lab true not-run not-check is = subst (λ (w : Text). Verdict (w ∷ rest)) (sym ((bytes_eq-Decides (x ∷ xs) (codes "lab")).0 is)) (on-lab rest (both (is_plain (x ∷ xs)) (list_all is_plain rest) e).1)
+    by-lab false not-run not-check not-lab = Refused
+        (not-nil kind.UnknownArgument (kind.InvalidSubcommand ∷ []) (fault_of stp ((x ∷ xs) ∷ rest)) (other x xs rest (plain-first x (both (is_plain (x ∷ xs)) (list_all is_plain rest) e).0) (unlike (x ∷ xs) (codes "run") not-run) (unlike (x ∷ xs) (codes "check") not-check) (unlike (x ∷ xs) (codes "lab") not-lab)))
+        (others-asked x xs rest not-run not-check not-lab)
+
     by-check : (t : Bool) → bytes_eq (x ∷ xs) (codes "run") ≡ false → bytes_eq (x ∷ xs) (codes "check") ≡ t → Verdict ((x ∷ xs) ∷ rest)
     by-check true not-run is = subst (λ (w : Text). Verdict (w ∷ rest)) (sym ((bytes_eq-Decides (x ∷ xs) (codes "check")).0 is)) (on-check rest (both (is_plain (x ∷ xs)) (list_all is_plain rest) e).1)
-    by-check false not-run not-check = Refused
-        (not-nil kind.UnknownArgument (kind.InvalidSubcommand ∷ []) (fault_of stp ((x ∷ xs) ∷ rest)) (other x xs rest (plain-first x (both (is_plain (x ∷ xs)) (list_all is_plain rest) e).0) (unlike (x ∷ xs) (codes "run") not-run) (unlike (x ∷ xs) (codes "check") not-check)))
-        (others-asked x xs rest not-run not-check)
+    by-check false not-run not-check = by-lab (bytes_eq (x ∷ xs) (codes "lab")) not-run not-check refl
 
     by-run : (t : Bool) → bytes_eq (x ∷ xs) (codes "run") ≡ t → Verdict ((x ∷ xs) ∷ rest)
     by-run true is = subst (λ (w : Text). Verdict (w ∷ rest)) (sym ((bytes_eq-Decides (x ∷ xs) (codes "run")).0 is)) (on-run rest (both (is_plain (x ∷ xs)) (list_all is_plain rest) e).1)
@@ -276,6 +382,10 @@ unplain-with : (word file : Text) → is_plain word ≡ false → asked_with wor
 unplain-with [] file e = refl
 unplain-with (x ∷ xs) file e = subst (λ (n : ℕ). asked_with (n ∷ xs) file ≡ OtherWords) (sym (dash x e)) refl
 
+unplain-with-two : (word near far : Text) → is_plain word ≡ false → asked_with_two word near far ≡ OtherWords
+unplain-with-two [] near far e = refl
+unplain-with-two (x ∷ xs) near far e = subst (λ (n : ℕ). asked_with_two (n ∷ xs) near far ≡ OtherWords) (sym (dash x e)) refl
+
 unplain-alone : (word : Text) → is_plain word ≡ false → asked_by (word ∷ []) ≡ OtherWords
 unplain-alone [] e = refl
 unplain-alone (x ∷ xs) e = subst (λ (n : ℕ). asked_by ((n ∷ xs) ∷ []) ≡ OtherWords) (sym (dash x e)) refl
@@ -293,4 +403,11 @@ unplain (word ∷ file ∷ []) e = two (is_plain word) (is_plain file) refl e
     two true true is e = absurd (true≢false e)
     two b false is e = refl
     two false true is e = unplain-with word file is
-unplain (word ∷ file ∷ second ∷ more) e = refl
+unplain (word ∷ near ∷ far ∷ []) e = three (is_plain word) (is_plain near) (is_plain far) refl e
+  where
+    three : (b t u : Bool) → is_plain word ≡ b → (b && (t && (u && true))) ≡ false → (if t && u then asked_with_two word near far else OtherWords) ≡ OtherWords
+    three true true true is e = absurd (true≢false e)
+    three b true false is e = refl
+    three b false u is e = refl
+    three false true true is e = unplain-with-two word near far is
+unplain (word ∷ near ∷ far ∷ third ∷ more) e = refl

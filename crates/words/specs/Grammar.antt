@@ -14,7 +14,17 @@ needed_file = record (new_rule (codes "file")) { required = true }
 abbrev pub check : App
 check = with_rule (new_app (codes "check")) needed_file
 
--- one of the two, with no texts of its own and no words for help
+-- `lab NEAR FAR`
+abbrev pub near_rule : Rule
+near_rule = record (new_rule (codes "near")) { required = true }
+
+abbrev pub far_rule : Rule
+far_rule = record (new_rule (codes "far")) { required = true }
+
+abbrev pub lab : App
+lab = with_rule (with_rule (new_app (codes "lab")) near_rule) far_rule
+
+-- one of the three, with no texts of its own and no words for help
 abbrev pub bare : App
 bare = on_top (λ s. record s {
   no_binary_name = true;
@@ -24,4 +34,4 @@ bare = on_top (λ s. record s {
 }) (new_app (codes "stp"))
 
 abbrev pub stp : App
-stp = with_subcommand (with_subcommand bare run.top) check.top
+stp = with_subcommand (with_subcommand (with_subcommand bare run.top) check.top) lab.top

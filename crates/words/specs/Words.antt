@@ -1,5 +1,5 @@
 -- The words behind the program's name, and what they ask for.
-use Rattle.std.specs.Prelude.{◌≡◌, ◌⊎◌, ℕ, Bool, true, false, not, nat_eq, List, [], ◌∷◌, Option, None, Some, map}
+use Rattle.std.specs.Prelude.{◌≡◌, ◌⊎◌, ◌&&◌, ℕ, Bool, true, false, not, nat_eq, List, [], ◌∷◌, Option, None, Some, map}
 use Rattle.std.specs.Prelude.{if◌then◌else◌}
 use Rattle.std.specs.Prelude.{codes, bytes_eq, string_bytes, String}
 use Rattle.std.specs.Global.{Global}
@@ -8,11 +8,13 @@ use Rattle.clap.specs.Words.{Row, Text, first_of}
 use Rattle.words.specs.declared.Words.{Words}
 use Rattle.words.specs.declared.Words.TheVariants as words
 
--- run a script, on the built-in settings or on those of a file; check a file; anything else
+-- run a script, on the built-in settings or on those of a file; check a file; run a lab script on the settings of two
+-- files; anything else
 pub data Task : Type 0 where
   BuiltInRun : Task
   FileRun : List ℕ → Task
   FileCheck : List ℕ → Task
+  LabRun : (near far : List ℕ) → Task
   OtherWords : Task
 
 -- a plain word isn't empty, and doesn't begin with `-` (45)
@@ -26,10 +28,15 @@ asked_with command file =
     if bytes_eq command (codes "run") then FileRun file
     else (if bytes_eq command (codes "check") then FileCheck file else OtherWords)
 
--- `run`, `run FILE` and `check FILE`, and nothing else
+-- `lab NEAR FAR`
+abbrev pub asked_with_two : List ℕ → (near far : List ℕ) → Task
+asked_with_two command near far = if bytes_eq command (codes "lab") then LabRun near far else OtherWords
+
+-- `run`, `run FILE`, `check FILE` and `lab NEAR FAR`, and nothing else
 abbrev pub asked_by : List (List ℕ) → Task
 asked_by (command ∷ []) = if bytes_eq command (codes "run") then BuiltInRun else OtherWords
 asked_by (command ∷ file ∷ []) = if is_plain file then asked_with command file else OtherWords
+asked_by (command ∷ near ∷ far ∷ []) = if is_plain near && is_plain far then asked_with_two command near far else OtherWords
 asked_by _ = OtherWords
 
 abbrev pub texts : List (String Global) → List (List ℕ)
@@ -43,9 +50,19 @@ abbrev pub asked_by_command : List ℕ → Option (List ℕ) → Task
 asked_by_command command None = if bytes_eq command (codes "run") then BuiltInRun else OtherWords
 asked_by_command command (Some file) = asked_with command file
 
+-- what `lab` asks for that was parsed, by the files behind it
+abbrev pub asked_by_lab : (near far : Option (List ℕ)) → Task
+asked_by_lab (Some near) (Some far) = LabRun near far
+asked_by_lab near far = OtherWords
+
+-- what a command asks for that was parsed, by the files behind it
+abbrev pub found_by : List ℕ → (file near far : Option (List ℕ)) → Task
+found_by command file near far =
+    if bytes_eq command (codes "lab") then asked_by_lab near far else asked_by_command command file
+
 abbrev pub found : Option (Text × List Row) → Task
 found None = OtherWords
-found (Some p) = asked_by_command p.0 (first_of (codes "file") p.1)
+found (Some p) = found_by p.0 (first_of (codes "file") p.1) (first_of (codes "near") p.1) (first_of (codes "far") p.1)
 
 abbrev pub are_plain : List (String Global) → Bool
 are_plain words = list_all (λ word. is_plain (string_bytes word)) words
@@ -55,6 +72,7 @@ abbrev pub said : Words → Option Task
 said (words.Run None) = Some BuiltInRun
 said (words.Run (Some file)) = Some (FileRun (string_bytes file))
 said (words.Check file) = Some (FileCheck (string_bytes file))
+said (words.Lab near far) = Some (LabRun (string_bytes near) (string_bytes far))
 said words.Usage = Some OtherWords
 said words.NoMemory = None
 

@@ -6,8 +6,9 @@ ghost use Rattle.std.specs.List.{list_all};
 ghost use Rattle.clap.specs.Words.{app_of, kind_of, subcommand_rows_of};
 ghost use Rattle.clap.specs.declared.builder.command.Command.TheViews.{out-Command as fields_of};
 ghost use Rattle.clap.specs.declared.error.kind.ErrorKind.TheVariants.{OutOfMemory};
-ghost use Rattle.words.specs.Words.{asked, asked_by_command, are_plain, found, is_plain, said, OtherWords, AreReadAs};
-ghost use Rattle.words.specs.Grammar.{stp, bare, run, check};
+ghost use Rattle.words.specs.Words.{asked, asked_by_command, asked_by_lab, are_plain, found, found_by, is_plain, said};
+ghost use Rattle.words.specs.Words.{OtherWords, AreReadAs};
+ghost use Rattle.words.specs.Grammar.{stp, bare, run, check, lab};
 
 use clap::error::ErrorKind;
 use clap::{Arg, ArgMatches, Command, Error};
@@ -20,6 +21,8 @@ pub enum Words {
     Run(Option<String>),
     /// `check FILE`: tell whether the settings of this file have a fault.
     Check(String),
+    /// `lab NEAR FAR`: run the lab script on standard input, on two nodes with the settings of these files.
+    Lab(String, String),
     /// Any other words.
     Usage,
     /// Memory ran out.
@@ -75,8 +78,31 @@ fn found(alloc: Global, matches: &ArgMatches<'_>) -> Result<Words, AllocError>
     ensures { IfOk result (λ read. said read ≡ Some (found (subcommand_rows_of matches.now))) }
 {
     match matches.subcommand() {
-        Some((command, inner)) => with_file(alloc, command, inner.get_str("file")),
+        Some((command, inner)) => {
+            let file = inner.get_str("file");
+            let near = inner.get_str("near");
+            let far = inner.get_str("far");
+            with_files(alloc, command, file, near, far)
+        }
         None => Ok(Words::Usage),
+    }
+}
+
+/// What a command asks for, by the files behind it.
+fn with_files(
+    alloc: Global,
+    command: &str,
+    file: Option<&str>,
+    near: Option<&str>,
+    far: Option<&str>,
+) -> Result<Words, AllocError>
+    ensures { IfOk result (λ read. said read ≡ Some (found_by command.now (option_map (λ name. name.now) file.entry)
+        (option_map (λ name. name.now) near.entry) (option_map (λ name. name.now) far.entry))) }
+{
+    if command == "lab" {
+        with_two_files(alloc, near, far)
+    } else {
+        with_file(alloc, command, file)
     }
 }
 
@@ -93,13 +119,28 @@ fn with_file(alloc: Global, command: &str, file: Option<&str>) -> Result<Words, 
     }
 }
 
+/// What `lab` asks for, by the files behind it.
+fn with_two_files(alloc: Global, near: Option<&str>, far: Option<&str>) -> Result<Words, AllocError>
+    ensures { IfOk result (λ read. said read
+        ≡ Some (asked_by_lab (option_map (λ name. name.now) near.entry) (option_map (λ name. name.now) far.entry))) }
+{
+    match (near, far) {
+        (Some(near), Some(far)) => Ok(Words::Lab(
+            String::from_str(alloc, near)?,
+            String::from_str(alloc, far)?,
+        )),
+        _ => Ok(Words::Usage),
+    }
+}
+
 /// The program's command line.
 fn stp<'a>(alloc: Global) -> Result<Command<'a>, AllocError>
     ensures { IfOk result (λ command. app_of command ≡ stp) }
 {
     bare(alloc)
         .subcommand(run(alloc)?)?
-        .subcommand(check(alloc)?)
+        .subcommand(check(alloc)?)?
+        .subcommand(lab(alloc)?)
 }
 
 /// A command line of commands, of which one is needed, without words for help.
@@ -129,4 +170,14 @@ fn check<'a>(alloc: Global) -> Result<Command<'a>, AllocError>
 {
     let file = Arg::new(alloc, "file").required(true);
     Command::new(alloc, "check").arg(file)
+}
+
+/// `lab NEAR FAR`.
+fn lab<'a>(alloc: Global) -> Result<Command<'a>, AllocError>
+    ensures app { IfOk result (λ command. app_of command ≡ lab) }
+    ensures local { IfOk result (λ command. (fields_of command).has_globals ≡ false) }
+{
+    let near = Arg::new(alloc, "near").required(true);
+    let far = Arg::new(alloc, "far").required(true);
+    Command::new(alloc, "lab").arg(near)?.arg(far)
 }

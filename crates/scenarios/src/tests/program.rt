@@ -1,6 +1,6 @@
 //! The program where a read or a write fails. What it does else is in the transcripts.
 
-use super::compare;
+use super::{compare, lab_in_memory};
 use std::alloc::Global;
 use std::process::Abort;
 use stp_node::{MemorySink, MemorySource, OneFile, run_program};
@@ -36,7 +36,16 @@ pub(super) fn expect<T: Abort>(
         name: "f",
         octets: b"",
     };
-    let ended = run_program(alloc, words.as_slice(), &folder, reader, writer, errors);
+    let mut lab = lab_in_memory(rt, alloc);
+    let ended = run_program(
+        alloc,
+        words.as_slice(),
+        &folder,
+        &mut lab,
+        reader,
+        writer,
+        errors,
+    );
     assert_eq!(rt; ended.number(), status, "of {text}");
     compare(rt, text.as_bytes(), writer.written(), printed);
 }

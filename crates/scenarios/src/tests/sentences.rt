@@ -1,5 +1,6 @@
 //! What standard error is told, in sentences for a person. Standard output and statuses are in the transcripts.
 
+use super::lab_in_memory;
 use super::program::{expect, words};
 use std::alloc::Global;
 use std::process::Abort;
@@ -32,9 +33,10 @@ const OTHER_WORDS: [&str; 7] = [
 
 /// What standard error is told of them.
 const USAGE: &str = "\
-stp run         runs the script on standard input, with the built-in settings
-stp run FILE    runs it with the settings in FILE
-stp check FILE  prints ok, or the first fault of the settings in FILE
+stp run           runs the script on standard input, with the built-in settings
+stp run FILE      runs it with the settings in FILE
+stp check FILE    prints ok, or the first fault of the settings in FILE
+stp lab NEAR FAR  runs the lab script on standard input, on two nodes that it joins
 The lines of a script, the settings and the exit statuses are in docs/MANUAL.md.
 ";
 
@@ -58,10 +60,12 @@ fn expect_told<T: Abort>(
         octets: FILE,
     };
     let mut errors = MemorySink::new(alloc);
+    let mut lab = lab_in_memory(rt, alloc);
     let _ended = run_program(
         alloc,
         words.as_slice(),
         &folder,
+        &mut lab,
         reader,
         writer,
         &mut errors,

@@ -206,8 +206,20 @@ fn broken_readers(rt: HostRuntime) {
 
 /// Empty lines for ever, one octet a read.
 #[derive(Drop)]
-struct Endless {
+pub(super) struct Endless {
     reads: u64,
+}
+
+impl Endless {
+    /// A script before its first read.
+    pub(super) fn new() -> Endless {
+        Endless { reads: 0 }
+    }
+
+    /// How many reads were made.
+    pub(super) fn reads(&self) -> u64 {
+        self.reads
+    }
 }
 
 impl Source for Endless {
@@ -229,7 +241,7 @@ impl Source for Endless {
 
 /// Reads a script that has no end.
 fn expect_endless<T: Abort>(rt: &T, alloc: Global) {
-    let mut reader = Endless { reads: 0 };
+    let mut reader = Endless::new();
     let mut writer = MemorySink::new(alloc);
     let ended = run(rt, alloc, POOL, &mut reader, &mut writer);
     assert_eq!(rt; ended, Err(ScriptFault::TooManyReads));

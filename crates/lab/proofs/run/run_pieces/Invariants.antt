@@ -1,0 +1,11 @@
+use Rattle.std.proofs.Common.{◌≡◌, ◌+◌, ◌*◌, ◌-◌, ◌^◌, ◌≤◌, min}
+use Rattle.lab.proofs.run.run_pieces.Given as goal
+
+abbrev pub invariant-loop : goal.invariant-loop
+invariant-loop g l = record {
+  number : l.line.number ≤ 1 + 4096 * l.counter;
+  most : (g.R.Source.input l.reader).reads ≤ (g.R.Source.input l.fn.reader).reads + l.counter;
+  least : min ((g.R.Source.input l.fn.reader).reads + l.counter) (2 ^ 64 - 1) ≤ (g.R.Source.input l.reader).reads;
+  reads : (g.R.Source.input l.reader).failures ≡ (g.R.Source.input l.fn.reader).failures;
+  writes : (g.W.Sink.output l.writer).failures ≡ (g.W.Sink.output l.fn.writer).failures;
+}

@@ -1,0 +1,147 @@
+//! Links over streams in memory, which can be set to give few octets a read, and to fail at one call.
+
+use crate::joining::{JoinFault, Joiner};
+use std::alloc::{AllocError, AllocFailed, Global};
+use std::cell::{Cell, RefCell};
+use std::collections::VecDeque;
+use std::io;
+use std::io::{ErrorKind, Read, Write};
+use std::rc::Rc;
+
+/// Octets on their way in one direction.
+type Pipe = Rc<RefCell<VecDeque<u8>>>;
+
+/// How many calls are made before the one that fails, if one does; it is shared by all streams of a joiner.
+type Plan = Rc<Cell<Option<u64>>>;
+
+/// Joins the ends of links by streams in memory.
+#[derive(Drop)]
+pub struct MemoryJoiner {
+    alloc: Global,
+    most: usize,
+    plan: Plan,
+}
+
+impl MemoryJoiner {
+    /// The joiner whose streams give as many octets a read as the buffer holds.
+    pub fn new(alloc: Global) -> Result<MemoryJoiner, AllocFailed<Cell<Option<u64>>>> {
+        let plan = Rc::new(alloc, Cell::new(None))?;
+        Ok(MemoryJoiner {
+            alloc,
+            most: usize::MAX,
+            plan,
+        })
+    }
+
+    /// The same, but with at most so many octets a read, and at least one.
+    pub fn in_pieces_of(self, most: usize) -> MemoryJoiner {
+        MemoryJoiner {
+            alloc: self.alloc,
+            most: most.max(1),
+            plan: self.plan,
+        }
+    }
+
+    /// The same, but the call after so many more fails, whether it joins, reads or writes.
+    pub fn failing_after(self, calls: u64) -> MemoryJoiner {
+        self.plan.set(Some(calls));
+        self
+    }
+
+    /// A stream that reads from one pipe and writes to another.
+    fn stream(&self, incoming: &Pipe, outgoing: &Pipe) -> Result<MemoryStream, AllocError> {
+        Ok(MemoryStream {
+            incoming: incoming.clone()?,
+            outgoing: outgoing.clone()?,
+            most: self.most,
+            plan: self.plan.clone()?,
+        })
+    }
+
+    /// Two streams that are joined.
+    fn streams(&self) -> Result<(MemoryStream, MemoryStream), AllocError> {
+        let there = pipe(self.alloc)?;
+        let back = pipe(self.alloc)?;
+        Ok((self.stream(&back, &there)?, self.stream(&there, &back)?))
+    }
+}
+
+impl Joiner for MemoryJoiner {
+    type Stream = MemoryStream;
+
+    fn join(&mut self) -> Result<(MemoryStream, MemoryStream), JoinFault> {
+        if is_planned(&self.plan) {
+            return Err(JoinFault::Connect);
+        }
+        match self.streams() {
+            Ok(streams) => Ok(streams),
+            Err(_) => Err(JoinFault::Connect),
+        }
+    }
+}
+
+/// An empty pipe.
+fn pipe(alloc: Global) -> Result<Pipe, AllocError> {
+    match Rc::new(alloc, RefCell::new(VecDeque::new(alloc))) {
+        Ok(pipe) => Ok(pipe),
+        Err(_) => Err(AllocError),
+    }
+}
+
+/// Whether the call that is made now is the one to fail.
+fn is_planned(plan: &Plan) -> bool {
+    let calls = plan.get();
+    plan.set(match calls {
+        Some(0) | None => None,
+        Some(calls) => Some(calls - 1),
+    });
+    calls == Some(0)
+}
+
+/// One end of two streams in memory.
+#[derive(Drop)]
+pub struct MemoryStream {
+    incoming: Pipe,
+    outgoing: Pipe,
+    most: usize,
+    plan: Plan,
+}
+
+impl Read for MemoryStream {
+    fn read(&mut self, buffer: &mut [u8]) -> io::Result<usize> {
+        if is_planned(&self.plan) {
+            return Err(io::Error::from(ErrorKind::ConnectionReset));
+        }
+        let Ok(mut octets) = self.incoming.try_borrow_mut() else {
+            return Err(io::Error::from(ErrorKind::ConnectionReset));
+        };
+        let count = octets.len().min(buffer.len()).min(self.most);
+        for place in buffer[..count].iter_mut() {
+            if let Some(octet) = octets.pop_front() {
+                *place = octet;
+            }
+        }
+        Ok(count)
+    }
+}
+
+impl Write for MemoryStream {
+    fn write(&mut self, octets: &[u8]) -> io::Result<usize> {
+        if is_planned(&self.plan) {
+            return Err(io::Error::from(ErrorKind::ConnectionReset));
+        }
+        let Ok(mut outgoing) = self.outgoing.try_borrow_mut() else {
+            return Err(io::Error::from(ErrorKind::ConnectionReset));
+        };
+        for octet in octets {
+            if outgoing.push_back(*octet).is_err() {
+                return Err(io::Error::from(ErrorKind::OutOfMemory));
+            }
+        }
+        Ok(octets.len())
+    }
+
+    fn flush(&mut self) -> io::Result<()> {
+        Ok(())
+    }
+}

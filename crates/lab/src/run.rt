@@ -1,0 +1,171 @@
+//! Running a lab script, octet by octet.
+
+ghost use Rattle.std.specs.Prelude.{◌≡◌, ◌+◌, ◌≤◌, ◌<◌, ◌^◌, length};
+ghost use Rattle.stp_types.specs.Facing.{IsFacing};
+ghost use Rattle.stp_node.specs.Faults.{MakesReads, reads_failed, writes_failed, EndsAtLine};
+ghost use Rattle.stp_types.specs.Naming.{link_names};
+
+use crate::circuit::{Circuit, closed_circuits};
+use crate::doing::{do_asked, node_at};
+use crate::joining::Joiner;
+use crate::line::parse_lab_line;
+use exchange::Exchange;
+use std::alloc::Global;
+use stp_node::{Grown, Lab, Malformed, OpenLine, READS, ScriptFault, Sink, Source, print};
+
+/// Octets that one read asks for.
+const PIECE_OCTETS: usize = 4096;
+
+/// The lab with links that are joined so.
+#[derive(Drop)]
+pub struct JoinedLab<J> {
+    joiner: J,
+}
+
+impl<J: Joiner> JoinedLab<J> {
+    /// The lab whose links this joins.
+    pub fn new(joiner: J) -> JoinedLab<J> {
+        JoinedLab { joiner }
+    }
+}
+
+impl<J: Joiner> Lab for JoinedLab<J> {
+    fn run<R: Source, W: Sink>(
+        &mut self,
+        alloc: Global,
+        near: &mut Exchange,
+        far: &mut Exchange,
+        reader: &mut R,
+        writer: &mut W,
+    ) -> Result<(), ScriptFault> {
+        run_lab(alloc, near, far, &mut self.joiner, reader, writer)
+    }
+}
+
+/// Does the lines of a lab script, in order, and prints the outcome of each, one line per line. The exchanges face each
+/// other, and name their links alike.
+///
+/// Lines are read, and faults end the script, as `run_script` has them. Memory is taken before the first line alone:
+/// `NoMemory` where it is refused.
+pub fn run_lab<J: Joiner, R: Source, W: Sink>(
+    alloc: Global,
+    near: &mut Exchange,
+    far: &mut Exchange,
+    joiner: &mut J,
+    reader: &mut R,
+    writer: &mut W,
+) -> Result<(), ScriptFault>
+    requires facing { IsFacing near.old.settings far.old.settings }
+    requires alike { link_names near.old.settings ≡ link_names far.old.settings }
+    ensures bounded { MakesReads result (R.input reader.old).reads (R.input reader.new).reads }
+    ensures reads { (R.input reader.new).failures ≡ reads_failed (R.input reader.old).failures result }
+    ensures writes { (W.output writer.new).failures ≡ writes_failed (W.output writer.old).failures result }
+{
+    let Ok(mut circuits) = closed_circuits(alloc, near.settings().link_count()) else {
+        return Err(ScriptFault::NoMemory);
+    };
+    run_pieces(near, far, joiner, circuits.as_mut_slice(), reader, writer)
+}
+
+/// Reads a lab script piece by piece, and does its lines.
+fn run_pieces<J: Joiner, R: Source, W: Sink>(
+    near: &mut Exchange,
+    far: &mut Exchange,
+    joiner: &mut J,
+    circuits: &mut [Circuit<J::Stream>],
+    reader: &mut R,
+    writer: &mut W,
+) -> Result<(), ScriptFault>
+    ensures bounded { MakesReads result (R.input reader.old).reads (R.input reader.new).reads }
+    ensures reads { (R.input reader.new).failures ≡ reads_failed (R.input reader.old).failures result }
+    ensures writes { (W.output writer.new).failures ≡ writes_failed (W.output writer.old).failures result }
+{
+    let mut line = OpenLine::first();
+    let mut piece = [0; PIECE_OCTETS];
+    for _ in 0..READS {
+        let count = reader.read(&mut piece)?;
+        if count == 0 {
+            return line.end(writer);
+        }
+        take_all(
+            &mut line,
+            &piece[..count],
+            near,
+            far,
+            joiner,
+            circuits,
+            writer,
+        )?;
+    }
+    Err(ScriptFault::TooManyReads)
+}
+
+/// Takes the next octets, and does each line that ends in them.
+fn take_all<J: Joiner, W: Sink>(
+    line: &mut OpenLine,
+    octets: &[u8],
+    near: &mut Exchange,
+    far: &mut Exchange,
+    joiner: &mut J,
+    circuits: &mut [Circuit<J::Stream>],
+    writer: &mut W,
+) -> Result<(), ScriptFault>
+    requires { line.old.number + length octets.now < 2 ^ 64 }
+    ensures number { line.new.number ≤ line.old.number + length octets.now }
+    ensures writes { (W.output writer.new).failures ≡ writes_failed (W.output writer.old).failures result }
+    ensures fault { EndsAtLine result }
+{
+    for octet in octets {
+        take(line, *octet, near, far, joiner, circuits, writer)?;
+    }
+    Ok(())
+}
+
+/// Takes the next octet, and does the line where it ends.
+fn take<J: Joiner, W: Sink>(
+    line: &mut OpenLine,
+    octet: u8,
+    near: &mut Exchange,
+    far: &mut Exchange,
+    joiner: &mut J,
+    circuits: &mut [Circuit<J::Stream>],
+    writer: &mut W,
+) -> Result<(), ScriptFault>
+    requires { line.old.number + 1 < 2 ^ 64 }
+    ensures number { line.new.number ≤ line.old.number + 1 }
+    ensures writes { (W.output writer.new).failures ≡ writes_failed (W.output writer.old).failures result }
+    ensures fault { EndsAtLine result }
+{
+    match line.add(octet) {
+        Grown::Open => Ok(()),
+        Grown::TooLong => line.fail(writer),
+        Grown::Whole => {
+            do_line(line, near, far, joiner, circuits, writer)?;
+            line.begin_next();
+            Ok(())
+        }
+    }
+}
+
+/// Does a whole line, and prints what became of it.
+fn do_line<J: Joiner, W: Sink>(
+    line: &OpenLine,
+    near: &mut Exchange,
+    far: &mut Exchange,
+    joiner: &mut J,
+    circuits: &mut [Circuit<J::Stream>],
+    writer: &mut W,
+) -> Result<(), ScriptFault>
+    ensures writes { (W.output writer.new).failures ≡ writes_failed (W.output writer.old).failures result }
+    ensures fault { EndsAtLine result }
+{
+    match parse_lab_line(line.octets()) {
+        Ok(Some(asked)) => {
+            let (end, reply) = do_asked(asked, near, far, joiner, circuits);
+            print(node_at(end, near, far), &reply, writer)?;
+            Ok(())
+        }
+        Ok(None) => Ok(()),
+        Err(Malformed) => line.fail(writer),
+    }
+}

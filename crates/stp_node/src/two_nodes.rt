@@ -1,0 +1,177 @@
+//! Two nodes that a lab joins, with the settings of two files.
+
+ghost use Rattle.std.specs.Prelude.{◌≡◌, IfOk};
+ghost use Rattle.stp_types.specs.Facing.{IsFacing};
+ghost use Rattle.stp_node.specs.Faults.{MakesReads, reads_failed, writes_failed};
+ghost use Rattle.stp_types.specs.Naming.{link_names};
+
+use crate::ending::{end_with, tell_file_fault, tell_no_memory};
+use crate::explaining::{explain_lab_end, explain_strangers, explain_unread, warn};
+use crate::folder::{FileFault, Folder};
+use crate::program::{Status, settings_in, status_after};
+use crate::script::ScriptFault;
+use crate::sink::Sink;
+use crate::source::Source;
+use exchange::{Exchange, NoMemory};
+use std::alloc::Global;
+use stp_types::Settings;
+
+/// What runs the scripts of two nodes: it joins their links.
+pub trait Lab {
+    /// Does the lines of a lab script on two nodes that face each other and name their links alike. It takes memory
+    /// before the first line alone.
+    fn run<R: Source, W: Sink>(
+        &mut self,
+        alloc: Global,
+        near: &mut Exchange,
+        far: &mut Exchange,
+        reader: &mut R,
+        writer: &mut W,
+    ) -> Result<(), ScriptFault>
+        requires facing { IsFacing near.old.settings far.old.settings }
+        requires alike { link_names near.old.settings ≡ link_names far.old.settings }
+        ensures bounded { MakesReads result (R.input reader.old).reads (R.input reader.new).reads }
+        ensures reads { (R.input reader.new).failures ≡ reads_failed (R.input reader.old).failures result }
+        ensures writes { (W.output writer.new).failures ≡ writes_failed (W.output writer.old).failures result };
+}
+
+/// Runs the lab script on two nodes with the settings of two files. Faults are found in this order: the near file, the
+/// far file, whether the nodes face each other, memory for them, the script.
+pub(crate) fn run_files<F: Folder, L: Lab, R: Source, W: Sink, E: Sink>(
+    alloc: Global,
+    folder: &F,
+    files: (&str, &str),
+    lab: &mut L,
+    reader: &mut R,
+    writer: &mut W,
+    errors: &mut E,
+) -> Status {
+    let near = match settings_of(alloc, folder, files.0, writer, errors) {
+        Ok(settings) => settings,
+        Err(status) => return status,
+    };
+    let far = match settings_of(alloc, folder, files.1, writer, errors) {
+        Ok(settings) => settings,
+        Err(status) => return status,
+    };
+    run_if_facing(alloc, near, far, files, lab, reader, writer, errors)
+}
+
+/// Runs the lab script on two nodes with these settings, which files of these names have, if they face each other and
+/// name their links alike.
+fn run_if_facing<L: Lab, R: Source, W: Sink, E: Sink>(
+    alloc: Global,
+    near: Settings,
+    far: Settings,
+    files: (&str, &str),
+    lab: &mut L,
+    reader: &mut R,
+    writer: &mut W,
+    errors: &mut E,
+) -> Status {
+    if near.faces(&far) && near.named_alike(&far) {
+        return run_between(alloc, near, far, lab, reader, writer, errors);
+    }
+    explain_strangers(alloc, files.0, files.1, errors);
+    end_with(Status::Start, b"fault NotFacing\n", writer)
+}
+
+/// The settings of a file, or how the program ends without them.
+fn settings_of<F: Folder, W: Sink, E: Sink>(
+    alloc: Global,
+    folder: &F,
+    file: &str,
+    writer: &mut W,
+    errors: &mut E,
+) -> Result<Settings, Status> {
+    let octets = match folder.read(alloc, file) {
+        Ok(octets) => octets,
+        Err(FileFault::Unread(why)) => {
+            explain_unread(alloc, file, why, errors);
+            return Err(Status::Stream);
+        }
+        Err(FileFault::NoMemory) => return Err(tell_no_memory(writer)),
+    };
+    let octets = octets.as_slice();
+    warn(alloc, file, octets, errors);
+    match settings_in(alloc, octets) {
+        Ok(settings) => Ok(settings),
+        Err(fault) => Err(tell_file_fault(alloc, file, octets, fault, writer, errors)),
+    }
+}
+
+/// Runs the lab script on two nodes with these settings.
+fn run_between<L: Lab, R: Source, W: Sink, E: Sink>(
+    alloc: Global,
+    near: Settings,
+    far: Settings,
+    lab: &mut L,
+    reader: &mut R,
+    writer: &mut W,
+    errors: &mut E,
+) -> Status
+    requires facing { IsFacing near far }
+    requires alike { link_names near ≡ link_names far }
+{
+    let Ok(mut near) = booted(alloc, near) else {
+        return tell_no_memory(writer);
+    };
+    run_beside(alloc, &mut near, far, lab, reader, writer, errors)
+}
+
+/// The same, where the near node is booted.
+fn run_beside<L: Lab, R: Source, W: Sink, E: Sink>(
+    alloc: Global,
+    near: &mut Exchange,
+    far: Settings,
+    lab: &mut L,
+    reader: &mut R,
+    writer: &mut W,
+    errors: &mut E,
+) -> Status
+    requires facing { IsFacing near.old.settings far }
+    requires alike { link_names near.old.settings ≡ link_names far }
+{
+    let Ok(mut far) = booted(alloc, far) else {
+        return tell_no_memory(writer);
+    };
+    run_booted(alloc, near, &mut far, lab, reader, writer, errors)
+}
+
+/// The same, where both nodes are booted.
+fn run_booted<L: Lab, R: Source, W: Sink, E: Sink>(
+    alloc: Global,
+    near: &mut Exchange,
+    far: &mut Exchange,
+    lab: &mut L,
+    reader: &mut R,
+    writer: &mut W,
+    errors: &mut E,
+) -> Status
+    requires facing { IsFacing near.old.settings far.old.settings }
+    requires alike { link_names near.old.settings ≡ link_names far.old.settings }
+{
+    let script = lab.run(alloc, near, far, reader, writer);
+    end_lab(alloc, script, writer, errors)
+}
+
+/// The node with these settings, before its first event.
+fn booted(alloc: Global, settings: Settings) -> Result<Exchange, NoMemory>
+    ensures { IfOk result (λ node. node.settings ≡ settings) }
+{
+    Exchange::boot(alloc, settings)
+}
+
+/// Tells why a lab script ended before its end, if it did, and how the program ends.
+fn end_lab<W: Sink, E: Sink>(
+    alloc: Global,
+    script: Result<(), ScriptFault>,
+    writer: &mut W,
+    errors: &mut E,
+) -> Status {
+    if let Err(ScriptFault::NoMemory) = script {
+        return tell_no_memory(writer);
+    }
+    explain_lab_end(alloc, script, errors);
+    status_after(script)
+}
