@@ -1,6 +1,6 @@
 //! A group of link sets that messages share.
 
-ghost use Rattle.std.specs.Prelude.{◌≡◌, ◌≤◌, ◌++◌, [], length, nat_eq};
+ghost use Rattle.std.specs.Prelude.{◌≡◌, ◌≤◌, ◌+◌, ◌++◌, [], length, nat_eq};
 ghost use Rattle.std.specs.List.{list_any};
 ghost use Rattle.arrayvec.specs.ArrayVec.{array_vec_len};
 ghost use Rattle.linkset.specs.Preference.{members_of, preference, first_member, first_serving, first_tried, serves};
@@ -60,7 +60,8 @@ impl LinkGroup {
     /// The links of a set join the group, behind those that are there. At most one set is there before.
     pub fn add(&mut self, set: SetId, links: &LinkSet)
         requires { length self.old ≤ Limits.LINKS_PER_SET }
-        ensures { self.new ≡ self.old ++ members_of set links.now }
+        ensures members { self.new ≡ self.old ++ members_of set links.now }
+        ensures room { length self.new ≤ length self.old + Limits.LINKS_PER_SET }
     {
         add_links(&mut self.members, set, links.links());
     }

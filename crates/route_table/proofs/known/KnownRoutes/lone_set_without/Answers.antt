@@ -2,7 +2,7 @@
 use Rattle.std.proofs.Common.{◌∙◌, ap}
 use Rattle.route_table.specs.Facts.{Facts, with_link}
 use Rattle.route_table.proofs.Restoring.{put_back}
-use Rattle.route_table.proofs.known.KnownRoutes.route_without.Goals as goal
+use Rattle.route_table.proofs.known.KnownRoutes.lone_set_without.Goals as goal
 
 pub returns-clause-facts : goal.returns-clause-facts
 returns-clause-facts c =
