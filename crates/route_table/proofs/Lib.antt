@@ -4,6 +4,7 @@ pub mod Telling
 pub mod Resetting
 pub mod Opening
 pub mod Groups
+pub mod Lone
 pub mod Choosing
 pub mod Compiling
 pub mod Mending

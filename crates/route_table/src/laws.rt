@@ -7,7 +7,7 @@ ghost use Rattle.route_table.specs.declared.route.Route.{Route};
 ghost use Rattle.route_table.specs.declared.route.RouteStatus.{RouteStatus};
 ghost use Rattle.route_table.specs.declared.route.RouteStatus.TheVariants.{Allowed, Prohibited};
 ghost use Rattle.route_table.specs.Facts.{Facts, set_at, with_status};
-ghost use Rattle.route_table.specs.Chosen.{chosen_link, chosen_routes, chosen_sets};
+ghost use Rattle.route_table.specs.Chosen.{chosen_link, chosen_routes, chosen_sets, lone_set};
 ghost use Rattle.route_table.specs.Statuses.{status_of, with_statuses_reset};
 
 /// The link of a flow is in service.
@@ -20,6 +20,13 @@ pub fn chosen_link_serves()
 pub fn a_flow_has_a_link_where_it_has_a_set()
     ensures { (f : Facts) (destination selection : ℕ)
         → is_some (chosen_link f destination selection) ≡ nat_lt 0 (length (chosen_sets f destination)) }
+{}
+
+/// Destinations to which messages go by the same set alone share the link of each selection.
+pub fn a_lone_set_decides_the_links()
+    ensures { (f : Facts) (destination other set selection : ℕ)
+        → lone_set f destination ≡ Some set → lone_set f other ≡ Some set
+        → chosen_link f destination selection ≡ chosen_link f other selection }
 {}
 
 /// No route that messages to a destination take is prohibited: each is allowed or restricted.
