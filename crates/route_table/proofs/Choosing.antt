@@ -100,7 +100,7 @@ module _ (f : Facts) (status : RouteStatus) where
         | false ↦ counted rs
       ]
 
-  served : (routes : List Route) → list_any (serves f.in_service (open_sets routes)) (members f routes) ≡ list_any (is_open f status) routes
+  pub served : (routes : List Route) → list_any (serves f.in_service (open_sets routes)) (members f routes) ≡ list_any (is_open f status) routes
   served routes =
       elim (list_any (is_open f status) routes) as (λ b. list_any (is_open f status) routes ≡ b
       → list_any (serves f.in_service (open_sets routes)) (members f routes) ≡ b) [

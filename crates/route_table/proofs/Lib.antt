@@ -5,6 +5,7 @@ pub mod Resetting
 pub mod Opening
 pub mod Groups
 pub mod Lone
+pub mod Leaving
 pub mod Choosing
 pub mod Compiling
 pub mod Mending

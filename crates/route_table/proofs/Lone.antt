@@ -17,7 +17,7 @@ one_open false e = absurd cc
 
 module _ (f : Facts) where
   -- a group that was found has an open route
-  found_open : (status : RouteStatus) (groups : List (List Route)) (first : Route) (rest : List Route)
+  pub found_open : (status : RouteStatus) (groups : List (List Route)) (first : Route) (rest : List Route)
       → first ∷ rest ≡ open_group f status groups → list_any (is_open f status) (first ∷ rest) ≡ true
   found_open status [] first rest e = absurd cc
   found_open status (g ∷ gs) first rest e =

@@ -1,12 +1,12 @@
 //! What holds of the link that a flow takes, and of the statuses of routes.
 
-ghost use Rattle.std.specs.Prelude.{ℕ, ◌≡◌, ◌≢◌, true, false, nat_lt, Some, All, length, is_some};
+ghost use Rattle.std.specs.Prelude.{ℕ, ◌≡◌, ◌≢◌, ◌⊎◌, true, false, nat_lt, Some, All, length, is_some};
 ghost use Rattle.std.specs.Option.{option_map};
 ghost use Rattle.linkset.specs.Preference.{has_link, is_in_service};
 ghost use Rattle.route_table.specs.declared.route.Route.{Route};
 ghost use Rattle.route_table.specs.declared.route.RouteStatus.{RouteStatus};
 ghost use Rattle.route_table.specs.declared.route.RouteStatus.TheVariants.{Allowed, Prohibited};
-ghost use Rattle.route_table.specs.Facts.{Facts, set_at, with_status};
+ghost use Rattle.route_table.specs.Facts.{Facts, set_at, with_link, with_status};
 ghost use Rattle.route_table.specs.Chosen.{chosen_link, chosen_routes, chosen_sets, lone_set};
 ghost use Rattle.route_table.specs.Statuses.{status_of, with_statuses_reset};
 
@@ -20,6 +20,12 @@ pub fn chosen_link_serves()
 pub fn a_flow_has_a_link_where_it_has_a_set()
     ensures { (f : Facts) (destination selection : ℕ)
         → is_some (chosen_link f destination selection) ≡ nat_lt 0 (length (chosen_sets f destination)) }
+{}
+
+/// A link that leaves service takes its own flows with it: every other flow keeps its link.
+pub fn a_link_that_leaves_moves_its_own_flows()
+    ensures { (f : Facts) (link destination selection now : ℕ) → chosen_link f destination selection ≡ Some now
+        → (now ≡ link) ⊎ (chosen_link (with_link link false f) destination selection ≡ Some now) }
 {}
 
 /// Destinations to which messages go by the same set alone share the link of each selection.
