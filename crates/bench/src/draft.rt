@@ -174,5 +174,9 @@ fn destination_drafts(
 fn destination(alloc: Global, point: i64, set: usize) -> Result<DestinationDraft, AllocError> {
     let mut sets = Vec::new(alloc);
     sets.push(set_name(alloc, set)?)?;
-    Ok(DestinationDraft { point, sets })
+    Ok(DestinationDraft {
+        point,
+        sets,
+        joined: false,
+    })
 }

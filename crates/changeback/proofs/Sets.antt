@@ -1,108 +1,58 @@
--- Destinations that go by the same sets lose the same links.
+-- Destinations whose messages went by one set alone, and go by one set alone, lose the same links.
 use Rattle.std.proofs.Common.{◌≡◌, ◌≢◌, ◌⊎◌, ◌<◌, ℕ, zero, suc, ◌*◌, Bool, true, false, ◌||◌, List, replicate, Option, Some, None, refl, ap, sym, ◌∙◌, arith}
 use Rattle.std.specs.Prelude.{◌&&◌, nat_lt, if◌then◌else◌, slice_index_or, slice_set}
-use Rattle.std.specs.Option.{option_and_then}
 use Rattle.std.proofs.Math.ListN.{set}
 use Rattle.std.proofs.Math.Logic.{⊎_elim, inl, inr}
 use Rattle.std.proofs.lemmas.Bool.{cases_eq, ltb-true}
 use Rattle.std.proofs.lemmas.List.{get_or-set_other}
 use Rattle.signalling_types.specs.declared.limits.TheConstants.Limits.{SETS, SELECTIONS}
-use Rattle.linkset.specs.Preference.{first_in_service}
-use Rattle.route_table.specs.Facts.{Facts, set_at, with_link}
-use Rattle.route_table.specs.Chosen.{chosen_set}
+use Rattle.route_table.specs.Facts.{Facts, with_link}
+use Rattle.route_table.specs.Chosen.{chosen_link, lone_set}
+use Rattle.route_table.proofs.Lone.{lone_alike}
 use Rattle.node_links.specs.Network.{Network, facts_of}
 use Rattle.node_links.specs.FormerLink.{former_link}
 use Rattle.changeback.specs.Return.{change_from, former_link_of, changes_of, comes_from, gives_up}
-use Rattle.changeback.specs.Seen.{number_of_pair, no_pairs, has_pair, with_pair, IsSeen}
+use Rattle.changeback.specs.Seen.{number_of_pair, no_pairs, has_pair, with_pair, is_seen, with_seen, IsSeen}
 use Rattle.changeback.proofs.Changes.{gives_up-append, gives_up-one}
 
--- ---- what a destination loses goes by its sets
+-- ---- what a destination loses goes by the links of its flows
 
--- the link from which a flow comes, by the sets of its destination
-abbrev former_by : ℕ → Facts → Facts → (before after : Option ℕ) → (sls : ℕ) → Option ℕ
-former_by to f g before after sls =
-    former_link to (option_and_then (λ set. first_in_service sls f.in_service (set_at f set)) before)
-    (option_and_then (λ set. first_in_service sls g.in_service (set_at g set)) after)
+module _ (to : ℕ) (f g : Facts) (destination other : ℕ) (was : (sls : ℕ) → chosen_link f destination sls ≡ chosen_link f other sls)
+    (is : (sls : ℕ) → chosen_link g destination sls ≡ chosen_link g other sls) where
+  same_former : (sls : ℕ) → former_link_of to f g destination sls ≡ former_link_of to f g other sls
+  same_former sls =
+      ap (λ (o : Option ℕ). former_link to o (chosen_link g destination sls)) (was sls)
+      ∙ ap (λ (o : Option ℕ). former_link to (chosen_link f other sls) o) (is sls)
 
-module _ (to : ℕ) (f g : Facts) where
-  abbrev lost : (before after : Option ℕ) → (count other : ℕ) → Bool
-  lost before after zero other = false
-  lost before after (suc count) other = lost before after count other || comes_from (former_by to f g before after count) other
-
-  lost-by_sets : (destination count other : ℕ)
-      → gives_up (changes_of to f g destination count) other ≡ lost (chosen_set f destination) (chosen_set g destination) count other
+  pub same_lost : (count from : ℕ) → gives_up (changes_of to f g destination count) from ≡ gives_up (changes_of to f g other count) from
   unfolding changes_of
-  lost-by_sets destination zero other = refl
-  lost-by_sets destination (suc count) other =
-      gives_up-append (changes_of to f g destination count) (change_from destination count (former_link_of to f g destination count)) other
-      ∙ ap (λ (b : Bool). b || gives_up (change_from destination count (former_link_of to f g destination count)) other) (lost-by_sets destination count other)
-      ∙ ap (λ (b : Bool). lost (chosen_set f destination) (chosen_set g destination) count other || b)
-      (gives_up-one destination count (former_link_of to f g destination count) other)
-
-  no_former_link : (after : Option ℕ) (sls : ℕ) → former_by to f g None after sls ≡ None
-  no_former_link None sls = refl
-  no_former_link (Some set) sls = refl
-
-  none_before : (after : Option ℕ) (count other : ℕ) → lost None after count other ≡ false
-  none_before after zero other = refl
-  none_before after (suc count) other =
-      ap (λ (b : Bool). b || comes_from (former_by to f g None after count) other) (none_before after count other)
-      ∙ ap (λ (o : Option ℕ). comes_from o other) (no_former_link after count)
-
-  former_nowhere : (before : Option ℕ) → former_link to before None ≡ None
-  former_nowhere None = refl
-  former_nowhere (Some from) = refl
-
-  none_after : (before : Option ℕ) (count other : ℕ) → lost before None count other ≡ false
-  none_after before zero other = refl
-  none_after before (suc count) other =
-      ap (λ (b : Bool). b || comes_from (former_by to f g before None count) other) (none_after before count other)
-      ∙ ap (λ (o : Option ℕ). comes_from o other) (former_nowhere (option_and_then (λ set. first_in_service count f.in_service (set_at f set)) before))
+  same_lost zero from = refl
+  same_lost (suc count) from =
+      gives_up-append (changes_of to f g destination count) (change_from destination count (former_link_of to f g destination count)) from
+      ∙ ap (λ (b : Bool). b || gives_up (change_from destination count (former_link_of to f g destination count)) from) (same_lost count from)
+      ∙ ap (λ (b : Bool). gives_up (changes_of to f g other count) from || b)
+      (gives_up-one destination count (former_link_of to f g destination count) from
+      ∙ ap (λ (o : Option ℕ). comes_from o from) (same_former count)
+      ∙ sym (gives_up-one other count (former_link_of to f g other count) from))
+      ∙ sym (gives_up-append (changes_of to f g other count) (change_from other count (former_link_of to f g other count)) from)
 
 -- ---- marks
-
-kept_mark : (x : Bool) → x ≡ (x || false)
-kept_mark true = refl
-kept_mark false = refl
 
 absorbed : (x g : Bool) → (g ≡ true → x ≡ true) → x ≡ (x || g)
 absorbed true g f = refl
 absorbed false true f = f refl
 absorbed false false f = refl
 
--- a destination that went by no set, or goes by none, loses nothing
-pub unmarked_before : (n : Network) (link destination : ℕ) (losing : List Bool) → None ≡ chosen_set (with_link link false (facts_of n)) destination → (other : ℕ)
-    → slice_index_or losing other false
-    ≡ (slice_index_or losing other false || gives_up (changes_of link (with_link link false (facts_of n)) (facts_of n) destination SELECTIONS) other)
-unmarked_before n link destination losing e other =
-    let f : Facts = with_link link false (facts_of n) in
-    let g : Facts = facts_of n in
-    kept_mark (slice_index_or losing other false)
-    ∙ ap (λ (b : Bool). slice_index_or losing other false || b)
-    (sym (lost-by_sets link f g destination SELECTIONS other
-    ∙ ap (λ (o : Option ℕ). lost link f g o (chosen_set g destination) SELECTIONS other) (sym e)
-    ∙ none_before link f g (chosen_set g destination) SELECTIONS other))
-
-pub unmarked_after : (n : Network) (link destination : ℕ) (losing : List Bool) → None ≡ chosen_set (facts_of n) destination → (other : ℕ)
-    → slice_index_or losing other false
-    ≡ (slice_index_or losing other false || gives_up (changes_of link (with_link link false (facts_of n)) (facts_of n) destination SELECTIONS) other)
-unmarked_after n link destination losing e other =
-    let f : Facts = with_link link false (facts_of n) in
-    let g : Facts = facts_of n in
-    kept_mark (slice_index_or losing other false)
-    ∙ ap (λ (b : Bool). slice_index_or losing other false || b)
-    (sym (lost-by_sets link f g destination SELECTIONS other
-    ∙ ap (λ (o : Option ℕ). lost link f g (chosen_set f destination) o SELECTIONS other) (sym e)
-    ∙ none_after link f g (chosen_set f destination) SELECTIONS other))
-
 -- one of a pair that was looked at loses nothing more
-pub marked_already : (n : Network) (link destination first second : ℕ) (seen losing : List Bool) → IsSeen n link seen losing
-    → has_pair seen first second ≡ true
-    → Some first ≡ chosen_set (with_link link false (facts_of n)) destination → Some second ≡ chosen_set (facts_of n) destination → (other : ℕ)
+pub marked_already : (n : Network) (link destination : ℕ) (before after : Option ℕ) (seen losing : List Bool) → IsSeen n link seen losing
+    → is_seen seen before after ≡ true
+    → before ≡ lone_set (with_link link false (facts_of n)) destination → after ≡ lone_set (facts_of n) destination → (other : ℕ)
     → slice_index_or losing other false
     ≡ (slice_index_or losing other false || gives_up (changes_of link (with_link link false (facts_of n)) (facts_of n) destination SELECTIONS) other)
-marked_already n link destination first second seen losing s h b a other =
+marked_already n link destination (Some first) (Some second) seen losing s h b a other =
     absorbed (slice_index_or losing other false) _ (λ e. s.marked first second destination other h (sym b) (sym a) e)
+marked_already n link destination (Some first) None seen losing s h b a other = absurd cc
+marked_already n link destination None after seen losing s h b a other = absurd cc
 
 -- ---- pairs
 
@@ -125,6 +75,18 @@ never a b e f = absurd cc
 pub none_seen : (n : Network) (link : ℕ) (losing : List Bool) → IsSeen n link no_pairs losing
 none_seen n link losing = record {
   marked = λ first second destination other h b a g. never (slice_index_or no_pairs (number_of_pair first second) false) (slice_index_or losing other false) (none_in (SETS * SETS) (number_of_pair first second)) (back (nat_lt second SETS) _ h);
+}
+
+-- marks that are added leave what was looked at
+or_left : (x g : Bool) → x ≡ true → (x || g) ≡ true
+or_left x g e = ap (λ (b : Bool). b || g) e
+
+more_marked : (n : Network) (link destination : ℕ) (seen old new : List Bool) → IsSeen n link seen old
+    → ((other : ℕ) → slice_index_or new other false
+    ≡ (slice_index_or old other false || gives_up (changes_of link (with_link link false (facts_of n)) (facts_of n) destination SELECTIONS) other))
+    → IsSeen n link seen new
+more_marked n link destination seen old new s m = record {
+  marked = λ x y d other h p q g. m other ∙ or_left (slice_index_or old other false) _ (s.marked x y d other h p q g);
 }
 
 -- a pair of more pairs was there, or is the new one
@@ -150,16 +112,13 @@ or_right : (x g : Bool) → g ≡ true → (x || g) ≡ true
 or_right true g e = refl
 or_right false g e = e
 
-or_left : (x g : Bool) → x ≡ true → (x || g) ≡ true
-or_left x g e = ap (λ (b : Bool). b || g) e
-
 -- the links that a destination loses were marked, so its pair was looked at
-pub one_seen : (n : Network) (link destination first second : ℕ) (seen old new : List Bool) → IsSeen n link seen old
-    → Some first ≡ chosen_set (with_link link false (facts_of n)) destination → Some second ≡ chosen_set (facts_of n) destination
+pub one_seen : (n : Network) (link destination : ℕ) (before after : Option ℕ) (seen old new : List Bool) → IsSeen n link seen old
+    → before ≡ lone_set (with_link link false (facts_of n)) destination → after ≡ lone_set (facts_of n) destination
     → ((other : ℕ) → slice_index_or new other false
     ≡ (slice_index_or old other false || gives_up (changes_of link (with_link link false (facts_of n)) (facts_of n) destination SELECTIONS) other))
-    → IsSeen n link (with_pair seen first second) new
-one_seen n link destination first second seen old new s b a m = record {
+    → IsSeen n link (with_seen seen before after) new
+one_seen n link destination (Some first) (Some second) seen old new s b a m = record {
   marked = λ x y d other h p q g.
       let f : Facts = with_link link false (facts_of n) in
       let k : Facts = facts_of n in
@@ -169,9 +128,11 @@ one_seen n link destination first second seen old new s b a m = record {
       or_left (slice_index_or old other false) _ (s.marked x y d other e p q g))
       (λ (e : (first ≡ x) × (second ≡ y)).
       or_right (slice_index_or old other false) _
-      (lost-by_sets link f k destination SELECTIONS other
-      ∙ ap (λ (o : Option ℕ). lost link f k o (chosen_set k destination) SELECTIONS other) (sym b ∙ ap (λ (i : ℕ). Some i) e.0 ∙ sym p)
-      ∙ ap (λ (o : Option ℕ). lost link f k (chosen_set f d) o SELECTIONS other) (sym a ∙ ap (λ (i : ℕ). Some i) e.1 ∙ sym q)
-      ∙ sym (lost-by_sets link f k d SELECTIONS other) ∙ g))
+      (same_lost link f k destination d
+      (λ sls. lone_alike f destination d first sls (sym b) (p ∙ ap (λ (i : ℕ). Some i) (sym e.0)))
+      (λ sls. lone_alike k destination d second sls (sym a) (q ∙ ap (λ (i : ℕ). Some i) (sym e.1)))
+      SELECTIONS other ∙ g))
       (pair_there seen first second x y h);
 }
+one_seen n link destination (Some first) None seen old new s b a m = more_marked n link destination seen old new s m
+one_seen n link destination None after seen old new s b a m = more_marked n link destination seen old new s m

@@ -1,9 +1,10 @@
--- Pairs of link sets that were looked at: the sets by which flows to a destination went before, and go now.
-use Rattle.std.specs.Prelude.{◌≡◌, ℕ, ◌+◌, ◌*◌, ◌&&◌, Bool, true, false, List, Some, length, replicate, nat_lt}
-use Rattle.std.specs.Prelude.{if◌then◌else◌, slice_index_or, slice_set}
+-- Pairs of link sets that were looked at: the set alone by which messages to a destination went before, and the set
+-- alone by which they go now.
+use Rattle.std.specs.Prelude.{◌≡◌, ℕ, ◌+◌, ◌*◌, ◌&&◌, Bool, true, false, List, Option, Some, None, length}
+use Rattle.std.specs.Prelude.{replicate, nat_lt, if◌then◌else◌, slice_index_or, slice_set}
 use Rattle.signalling_types.specs.declared.limits.TheConstants.Limits.{SETS, SELECTIONS}
 use Rattle.route_table.specs.Facts.{with_link}
-use Rattle.route_table.specs.Chosen.{chosen_set}
+use Rattle.route_table.specs.Chosen.{lone_set}
 use Rattle.node_links.specs.Network.{Network, facts_of}
 use Rattle.changeback.specs.Return.{changes_of, gives_up}
 use Rattle.changeback.specs.declared.set_pairs.SetPairs.TheInside.{Inside}
@@ -24,11 +25,23 @@ abbrev pub with_pair : List Bool → (first second : ℕ) → List Bool
 with_pair seen first second =
     if nat_lt second SETS then slice_set seen (number_of_pair first second) true else seen
 
+-- whether the pair of two sets was looked at, if they are a pair
+abbrev pub is_seen : List Bool → (before after : Option ℕ) → Bool
+is_seen seen (Some first) (Some second) = has_pair seen first second
+is_seen seen (Some first) None = false
+is_seen seen None after = false
+
+-- their pair more, if they are one
+abbrev pub with_seen : List Bool → (before after : Option ℕ) → List Bool
+with_seen seen (Some first) (Some second) = with_pair seen first second
+with_seen seen (Some first) None = seen
+with_seen seen None after = seen
+
 -- each link is marked that loses flows to a destination of such a pair
 pub record IsSeen (n : Network) (link : ℕ) (seen losing : List Bool) : Type 0 where
   pub marked : (first second destination other : ℕ) → has_pair seen first second ≡ true →
-      chosen_set (with_link link false (facts_of n)) destination ≡ Some first →
-      chosen_set (facts_of n) destination ≡ Some second →
+      lone_set (with_link link false (facts_of n)) destination ≡ Some first →
+      lone_set (facts_of n) destination ≡ Some second →
       gives_up (changes_of link (with_link link false (facts_of n)) (facts_of n) destination SELECTIONS) other ≡ true →
       slice_index_or losing other false ≡ true
 

@@ -1,6 +1,6 @@
 //! The flows that a link takes over when it enters service.
 
-ghost use Rattle.std.specs.Prelude.{◌≡◌, ℕ, ◌<◌, ◌≤◌, ◌||◌, false, true, length, slice_index_or, IfSome};
+ghost use Rattle.std.specs.Prelude.{◌≡◌, ℕ, ◌<◌, ◌≤◌, ◌||◌, false, true, length, slice_index_or, IfSome, if◌then◌else◌};
 ghost use Rattle.route_table.specs.Facts.{with_link};
 ghost use Rattle.signalling_types.specs.declared.limits.TheConstants.Limits.{SELECTIONS};
 ghost use Rattle.flow_hold.specs.Holds.{HoldSet};
@@ -8,7 +8,7 @@ ghost use Rattle.node_links.specs.LinkState.{is_in_service};
 ghost use Rattle.node_links.specs.Network.{facts_of, link_in};
 ghost use Rattle.changeback.specs.Return.{former_link_of, change_from, changes_of, returned};
 ghost use Rattle.changeback.specs.Return.{comes_from, gives_up, held_by};
-ghost use Rattle.changeback.specs.Seen.{IsSeen};
+ghost use Rattle.changeback.specs.Seen.{IsSeen, is_seen, with_seen};
 
 use crate::set_pairs::SetPairs;
 use flow_hold::{Holds, Procedure};
@@ -18,8 +18,8 @@ use signalling_types::{Limits, LinkId, SetId, Sls};
 /// Which links lose flows to a link in service, compared with when it is out of service (Q.704 §6.2). Nothing
 /// else changes.
 ///
-/// It looks at the sets of each destination, and at 16 flows for each pair of sets by which destinations went before
-/// and go now.
+/// It looks at the sets of each destination, and at its 16 flows: once for all destinations whose messages went by one
+/// set alone before and go by one set alone now, and for each other destination.
 pub fn losing(links: &mut NodeLinks, link: LinkId) -> [bool; Limits::LINKS]
     requires few { length links.old.links ≤ Limits.LINKS }
     requires there { link < length links.old.links }
@@ -58,8 +58,8 @@ pub fn hold_changes(
     }
 }
 
-/// Marks the links that lose flows to one destination, unless flows to another went by the same set and go by the same
-/// set now: those lose the same links.
+/// Marks the links that lose flows to one destination, unless messages to another went by the same set alone and go by
+/// the same set alone now: those lose the same links.
 fn look_at(
     links: &mut NodeLinks,
     link: LinkId,
@@ -77,17 +77,27 @@ fn look_at(
     ensures seen { IsSeen links.new link seen.new losing.new }
     ensures links { links.new ≡ links.old }
 {
-    let Some(before) = links.set_without(link, destination) else {
-        return;
-    };
-    let Some(after) = links.set_of(destination) else {
-        return;
-    };
-    if seen.has(before, after) {
+    let before = links.lone_set_without(link, destination);
+    let after = links.lone_set(destination);
+    if is_seen(seen, before, after) {
         return;
     }
-    seen.add(before, after);
     mark_losing(links, link, destination, losing);
+}
+
+/// Whether the pair of two sets was looked at, if they are a pair. If it wasn't, it is from now on.
+fn is_seen(seen: &mut SetPairs, before: Option<SetId>, after: Option<SetId>) -> bool
+    ensures was { result ≡ is_seen seen.old before after }
+    ensures seen { seen.new ≡ (if result then seen.old else with_seen seen.old before after) }
+{
+    let (Some(before), Some(after)) = (before, after) else {
+        return false;
+    };
+    if seen.has(before, after) {
+        return true;
+    }
+    seen.add(before, after);
+    false
 }
 
 /// Marks the links that lose flows to one destination.

@@ -1,5 +1,5 @@
 -- What the console shows, a line at a time, without the line feeds.
-use Rattle.std.specs.Prelude.{◌≡◌, ℕ, ◌+◌, Bool, true, false, ◌++◌, List, map, codes, decimal, slice_get}
+use Rattle.std.specs.Prelude.{◌≡◌, ℕ, ◌+◌, Bool, true, false, ◌++◌, List, [], ◌∷◌, map, codes, decimal, slice_get}
 use Rattle.std.specs.Prelude.{nat_lt, if◌then◌else◌}
 use Rattle.std.specs.Prelude.{Option, Some, None}
 use Rattle.std.specs.Option.{option_map, option_and_then}
@@ -43,14 +43,15 @@ link_line q s k =
 
 -- ---- routes
 
--- the set that messages take
-abbrev pub set_text : Configuration → Option ℕ → List ℕ
-set_text c (Some set) = set_name_in c set
-set_text c None = codes "none"
+-- the sets that messages take, of which there are at most two
+abbrev pub sets_text : Configuration → List ℕ → List ℕ
+sets_text c [] = codes "none"
+sets_text c (set ∷ []) = set_name_in c set
+sets_text c (first ∷ second ∷ rest) = set_name_in c first ++ codes "+" ++ set_name_in c second
 
 abbrev pub route_text : Configuration → RouteView → List ℕ
 route_text c v =
-    codes "route " ++ decimal v.point ++ codes " " ++ set_text c v.set ++ codes " " ++ status_name v.status
+    codes "route " ++ decimal v.point ++ codes " " ++ sets_text c v.sets.items ++ codes " " ++ status_name v.status
 
 -- the line of destination k
 abbrev pub route_line : {Q : Type 0} → State Q → ℕ → Option (List ℕ)

@@ -3,7 +3,7 @@
 ghost use Rattle.std.specs.Prelude.{◌≡◌};
 ghost use Rattle.exchange_rules.specs.Sound.{Abstract};
 ghost use Rattle.exchange.specs.Stands.{StandsFor};
-ghost use Rattle.console.specs.Texts.{Shows, route_line, route_text, set_text};
+ghost use Rattle.console.specs.Texts.{Shows, route_line, route_text};
 
 use crate::line::{LINE_OCTETS, push_number};
 use crate::names::set_name;
@@ -12,8 +12,8 @@ use exchange::{Exchange, RouteView};
 use stp_types::Settings;
 
 /// Writes line `k`, from 0, of the text of the routes: `route POINT SET STATUS`, one line for each destination in the
-/// order of the settings. SET is the name of the set that messages take and STATUS `allowed` or `restricted`, or they
-/// are `none` and `prohibited`.
+/// order of the settings. SET is the name of the set that messages take, or those of two joined sets, as `east+west`;
+/// STATUS is `allowed` or `restricted`. Where messages take no set, these are `none` and `prohibited`.
 ///
 /// False past the last line, and then nothing is written.
 pub fn show_routes(exchange: &Exchange, k: usize, out: &mut ArrayString<LINE_OCTETS>) -> bool
@@ -27,20 +27,24 @@ pub fn show_routes(exchange: &Exchange, k: usize, out: &mut ArrayString<LINE_OCT
     let Some(view) = exchange.route(k) else {
         return false;
     };
-    write_route(exchange.settings(), view, out);
+    write_route(exchange.settings(), &view, out);
     true
 }
 
 /// The line of a destination.
-fn write_route(settings: &Settings, view: RouteView, out: &mut ArrayString<LINE_OCTETS>)
-    ensures { out.new.bytes ≡ route_text settings.now view }
+fn write_route(settings: &Settings, view: &RouteView, out: &mut ArrayString<LINE_OCTETS>)
+    ensures { out.new.bytes ≡ route_text settings.now view.now }
 {
     out.clear();
     push_number(out, "route ", u64::from(view.point.code()));
     out.push_str(" ");
-    match view.set {
-        Some(set) => out.push_str(set_name(settings, set)),
+    match view.sets.first() {
+        Some(first) => out.push_str(set_name(settings, *first)),
         None => out.push_str("none"),
+    }
+    if let Some(second) = view.sets.get(1) {
+        out.push_str("+");
+        out.push_str(set_name(settings, *second));
     }
     out.push_str(" ");
     out.push_str(view.status.name());

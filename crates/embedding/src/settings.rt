@@ -43,7 +43,11 @@ pub fn draft(alloc: Global) -> Result<Draft, AllocError> {
 fn destination(alloc: Global, point: i64, set: &str) -> Result<DestinationDraft, AllocError> {
     let mut sets = Vec::new(alloc);
     sets.push(String::from_str(alloc, set)?)?;
-    Ok(DestinationDraft { point, sets })
+    Ok(DestinationDraft {
+        point,
+        sets,
+        joined: false,
+    })
 }
 
 /// The timers, in ticks of 200 ms (docs/MANUAL.md has the usual values). L4, the time of proving, is short here, so

@@ -1,11 +1,12 @@
 -- What an exchange shows of its links and its routes.
-use Rattle.std.specs.Prelude.{ℕ, List, Option, Some, None, codes, length, slice_get, if◌then◌else◌}
+use Rattle.std.specs.Prelude.{ℕ, List, [], ◌∷◌, Option, Some, None, codes, length, slice_get, if◌then◌else◌}
 use Rattle.std.specs.Option.{option_map}
 use Rattle.link_alignment.specs.declared.alignment.Alignment.{Alignment}
 use Rattle.link_alignment.specs.declared.alignment.Alignment.TheVariants as alignment
 use Rattle.route_table.specs.declared.route.Route.{Route}
+use Rattle.route_table.specs.declared.route.RouteStatus.{RouteStatus}
 use Rattle.route_table.specs.declared.route.RouteStatus.TheVariants.{Prohibited}
-use Rattle.route_table.specs.Chosen.{chosen_route}
+use Rattle.route_table.specs.Chosen.{chosen_routes, sets_of}
 use Rattle.exchange.specs.declared.view.LinkStanding.{LinkStanding}
 use Rattle.exchange.specs.declared.view.LinkStanding.TheVariants as standing
 use Rattle.exchange.specs.declared.view.LinkView.{LinkView}
@@ -43,12 +44,20 @@ link_shown q node link = record {
 abbrev pub link_view : {Q : Type 0} → QueueKind Q → State Q → ℕ → Option LinkView
 link_view q s link = if is_link s.node.parts link then Some (link_shown q s.node link) else None
 
--- a destination as it is shown, with the route that messages take to it, if any
-abbrev pub route_shown : ℕ → Option Route → RouteView
-route_shown point (Some route) = record { point = point; set = Some route.set; status = route.status }
-route_shown point None = record { point = point; set = None; status = Prohibited }
+-- the status of the routes that messages take
+abbrev pub status_shown : List Route → RouteStatus
+status_shown [] = Prohibited
+status_shown (first ∷ rest) = first.status
+
+-- a destination as it is shown, with the sets that messages take to it
+abbrev pub route_shown : ℕ → List Route → RouteView
+route_shown point routes = record {
+  point = point;
+  sets = record { items = sets_of routes };
+  status = status_shown routes;
+}
 
 abbrev pub route_view : {Q : Type 0} → State Q → ℕ → Option RouteView
 route_view s destination =
-    option_map (λ row. route_shown row.point (chosen_route (facts s.settings s.node.parts) destination))
+    option_map (λ row. route_shown row.point (chosen_routes (facts s.settings s.node.parts) destination))
     (slice_get s.settings.destinations destination)

@@ -1,8 +1,9 @@
 //! What an exchange shows of its links and its routes.
 
 ghost use Rattle.std.specs.Prelude.{◌≡◌};
-ghost use Rattle.exchange.specs.Views.{standing_name, standing_of, route_shown};
+ghost use Rattle.exchange.specs.Views.{standing_name, standing_of, status_shown};
 
+use arrayvec::ArrayVec;
 use link_alignment::Alignment;
 use link_number::Number24;
 use route_table::{Route, RouteStatus};
@@ -68,33 +69,23 @@ pub struct LinkView {
     pub last_accepted: Number24,
 }
 
-/// A destination as it is shown, with the route that messages take to it (Q.704 §3.4).
-#[derive(Clone, Copy, PartialEq, Eq)]
+/// A destination as it is shown, with the sets that messages take to it (Q.704 §3.4).
+#[derive(Drop)]
 pub struct RouteView {
     /// Its point code.
     pub point: PointCode,
-    /// The set that messages take; `None` if no route is open.
-    pub set: Option<SetId>,
-    /// Allowed or restricted, as that set is; Prohibited if no route is open.
+    /// The sets that messages take, in the order of the settings; none if no route is open, two if two joined sets are.
+    pub sets: ArrayVec<SetId, 2>,
+    /// Allowed or restricted, as the routes over these sets are; Prohibited if no route is open.
     pub status: RouteStatus,
 }
 
-impl RouteView {
-    /// A destination with the route that messages take to it, if any.
-    pub(crate) fn of(point: PointCode, route: Option<Route>) -> RouteView
-        ensures { result ≡ route_shown point route }
-    {
-        match route {
-            Some(route) => RouteView {
-                point,
-                set: Some(route.set),
-                status: route.status,
-            },
-            None => RouteView {
-                point,
-                set: None,
-                status: RouteStatus::Prohibited,
-            },
-        }
+/// The status of the routes that messages take.
+pub(crate) fn status_shown(routes: &[Route]) -> RouteStatus
+    ensures { result ≡ status_shown routes.now }
+{
+    match routes.first() {
+        Some(first) => first.status,
+        None => RouteStatus::Prohibited,
     }
 }

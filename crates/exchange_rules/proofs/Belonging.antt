@@ -12,12 +12,9 @@ use Rattle.std.proofs.lemmas.List.Quantifiers.{position-Some}
 use Rattle.std.proofs.lemmas.List.Sorted.{Contains-permutation, IsPermutation-sym}
 use Rattle.settings_rows.specs.Configuration.{Configuration, LinkEntry}
 use Rattle.linkset.specs.Members.{has_code, links_below, links_of}
-use Rattle.linkset.specs.Preference.{is_in_service, preference, first_in_service}
-use Rattle.linkset.proofs.Preference.{preference-permutation}
-use Rattle.route_table.specs.declared.route.Route.{Route}
-use Rattle.route_table.specs.declared.route.RouteStatus.TheVariants.{Allowed, Restricted}
-use Rattle.route_table.specs.Facts.{Facts, first_sets, set_at}
-use Rattle.route_table.specs.Chosen.{is_open, chosen_set, chosen_link}
+use Rattle.route_table.specs.Facts.{Facts, first_sets}
+use Rattle.route_table.specs.Chosen.{chosen_link}
+use Rattle.route_table.proofs.Leaving.{IsOfSet, chosen_of_set, none_past}
 use Rattle.exchange_rules.specs.State.{Parts}
 use Rattle.signalling_types.specs.declared.point.Flow.{Flow}
 use Rattle.stp_types.specs.Readings.{destination_place}
@@ -100,49 +97,23 @@ set-of links (suc sets) set l h =
 
 -- ---- the link of a flow
 
-found-by : (passes : Bool) (x : ℕ) (xs : List ℕ) (o : Option ℕ) (link : ℕ) → (o ≡ Some link → Contains xs link)
-    → cond passes (Some x) o ≡ Some link → Contains (x ∷ xs) link
-found-by true x xs o link rest e = (0, omega arith, same_Some x link e)
-found-by false x xs o link rest e = Contains-append_right (x ∷ []) xs link (rest e)
-
-found : (p : ℕ → Bool) (xs : List ℕ) (link : ℕ) → find p xs ≡ Some link → Contains xs link
-found p [] link e = absurd cc
-found p (x ∷ xs) link e = found-by (p x) x xs (find p xs) link (found p xs link) e
-
--- the link that a flow takes in a set is one of the set
-pub first-of : (sls : ℕ) (serving : List Bool) (links : List ℕ) (link : ℕ) → first_in_service sls serving links ≡ Some link → Contains links link
-first-of sls serving links link e =
-    Contains-permutation (preference sls links) links link (IsPermutation-sym links (preference sls links) (preference-permutation sls links))
-    (found (λ l. is_in_service serving l) (preference sls links) link e)
-
 -- a link of the settings, of a set of the settings
 pub record IsListed (c : Configuration) (link : ℕ) : Type 0 where
   pub there : link < length c.links
   pub set : set_of c link < length c.sets
 
-listed-by : (c : Configuration) (p : Parts) (chosen : Option ℕ) (sls link : ℕ)
-    → option_and_then (λ set. first_in_service sls (facts c p).in_service (set_at (facts c p) set)) chosen ≡ Some link → IsListed c link
-listed-by c p None sls link e = absurd cc
-listed-by c p (Some set) sls link e =
-    let one : Contains (set_at (facts c p) set) link = first-of sls (facts c p).in_service (set_at (facts c p) set) link e in
-    let known : IsLinkIn (length c.sets) c.links link = set-of c.links (length c.sets) set link one in
-    record { there = known.there; set = known.set }
-
 pub chosen_listed : (c : Configuration) (p : Parts) (destination sls link : ℕ) → chosen_link (facts c p) destination sls ≡ Some link → IsListed c link
-chosen_listed c p destination sls link e = listed-by c p (chosen_set (facts c p) destination) sls link e
-
--- the link by these routes
-abbrev chosen_by : Facts → (sls : ℕ) → List Route → Option ℕ
-chosen_by f sls routes =
-    option_and_then (λ set. first_in_service sls f.in_service (set_at f set))
-    (option_or (option_map (λ route. route.set) (find (is_open f Allowed) routes)) (option_map (λ route. route.set) (find (is_open f Restricted) routes)))
+chosen_listed c p destination sls link e =
+    let one : IsOfSet (facts c p) link = chosen_of_set (facts c p) destination sls link e in
+    let known : IsLinkIn (length c.sets) c.links link = set-of c.links (length c.sets) one.set link one.member in
+    record { there = known.there; set = known.set }
 
 pub chosen_there : (f : Facts) (destination sls link : ℕ) → chosen_link f destination sls ≡ Some link → destination < length f.routes
 chosen_there f destination sls link e =
     ⊎_elim
     (λ (there : destination < length f.routes). there)
     (λ (past : length f.routes ≤ destination).
-    let gone : chosen_link f destination sls ≡ None = ap (chosen_by f sls) (get_or_past f.routes destination [] past) in
+    let gone : chosen_link f destination sls ≡ None = none_past f destination sls past in
     absurd cc)
     (cases_lt destination (length f.routes))
 

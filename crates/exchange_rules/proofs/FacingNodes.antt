@@ -1,5 +1,5 @@
 -- Two nodes that face each other: the near end's links and codes mean the same at the far end.
-use Rattle.std.proofs.Common.{◌≡◌, ◌<◌, ℕ, zero, suc, List, [], ◌∷◌, Some, length, map, get_or, is_some, true, sym, ap, ◌∙◌, arith}
+use Rattle.std.proofs.Common.{◌≡◌, ◌<◌, ℕ, zero, suc, List, [], ◌∷◌, Some, length, map, get_or, is_some, true, false, sym, ap, ◌∙◌, arith}
 use Rattle.std.proofs.lemmas.List.{length-map, get_or-map}
 use Rattle.settings_rows.specs.Configuration.{Configuration, LinkEntry}
 use Rattle.stp_types.specs.Facing.{IsFacing, LeadsOnlyTo}
@@ -33,7 +33,7 @@ module _ (c : Configuration) (point : ℕ) (leads : LeadsOnlyTo c point) where
   adjacent-sole = sole-at (λ s. s.adjacent) c.sets point 0 (record { name = []; adjacent = 0 }) leads.adjacent (omega (arith, sets-one))
 
   pub destination-sole : point_of c 0 ≡ point
-  destination-sole = sole-at (λ d. d.point) c.destinations point 0 (record { point = 0; sets = [] }) leads.destination (omega (arith, destinations-one))
+  destination-sole = sole-at (λ d. d.point) c.destinations point 0 (record { point = 0; sets = []; joined = false }) leads.destination (omega (arith, destinations-one))
 
   module _ (well : IsWell c) where
     -- it is its first destination

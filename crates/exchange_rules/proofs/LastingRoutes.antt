@@ -1,5 +1,5 @@
 -- The routes to adjacent points over their own sets are allowed in each state that comes of the first.
-use Rattle.std.proofs.Common.{◌≡◌, ℕ, List, [], Option, None, refl, ap, subst, sym, ◌∙◌}
+use Rattle.std.proofs.Common.{◌≡◌, ℕ, false, List, [], Option, None, refl, ap, subst, sym, ◌∙◌}
 use Rattle.std.specs.Prelude.{slice_index_or}
 use Rattle.std.proofs.Math.ListN.{get_or-map}
 use Rattle.settings_rows.specs.Configuration.{Configuration, DestinationEntry}
@@ -65,10 +65,10 @@ routes-all c = all-of (routes-steps c) (λ n. same _ _ refl refl) (λ n. same _ 
 
 routes-first : (c : Configuration) → AreOwnAllowed (first_parts c).told (first_parts c).routes
 routes-first c =
-    let none : DestinationEntry = record { point = 0; sets = [] } in
+    let none : DestinationEntry = record { point = 0; sets = []; joined = false } in
     record {
       each = λ set destination status is e.
-          first-allowed (slice_index_or c.destinations destination none).sets set status (sym (ap (over set) (get_or-map first_routes c.destinations destination none)) ∙ e);
+          first-allowed (slice_index_or c.destinations destination none).joined (slice_index_or c.destinations destination none).sets set status (sym (ap (over set) (get_or-map first_routes c.destinations destination none)) ∙ e);
     }
 
 pub own-stay : own_routes_stay_allowed

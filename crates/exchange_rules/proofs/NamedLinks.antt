@@ -57,7 +57,7 @@ module _ (c : Configuration) (well : IsWell c) where
   -- a destination's point names the destination
   pub destination-named : (destination : ℕ) → destination < length c.destinations → destination_place c (point_of c destination) ≡ Some destination
   destination-named destination there =
-      found-at is_same_point (λ d. nat_eq (point_of c destination) d.point) c.destinations destination (record { point = 0; sets = [] }) well.points_differ there
+      found-at is_same_point (λ d. nat_eq (point_of c destination) d.point) c.destinations destination (record { point = 0; sets = []; joined = false }) well.points_differ there
       (λ d. same-turned (point_of c destination) d.point) (same-self (point_of c destination))
 
   -- the code of a link names it in its set

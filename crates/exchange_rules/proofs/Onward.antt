@@ -42,7 +42,7 @@ label-point dpc opc sls h = omega (arith, h)
 module _ (c : Configuration) (well : IsWell c) where
   destination-far : (point place : ℕ) → destination_place c point ≡ Some place → point ≢ c.own
   destination-far point place e =
-      let none : DestinationEntry = record { point = 0; sets = [] } in
+      let none : DestinationEntry = record { point = 0; sets = []; joined = false } in
       let found : (place < length c.destinations) × (nat_eq point (slice_index_or c.destinations place none).point ≡ true)
       × ((k : ℕ) → k < place → nat_eq point (slice_index_or c.destinations k none).point ≡ false) = position-Some _ c.destinations place none e in
       let same : point ≡ (slice_index_or c.destinations place none).point = (let h = found.1 in grind (arith, nat_tests, h)) in

@@ -10,11 +10,11 @@ use Rattle.std.proofs.lemmas.List.{get_or_past, get_or-set_other, get_or-set_sam
 use Rattle.route_table.specs.declared.route.Route.{Route}
 use Rattle.route_table.specs.declared.route.RouteStatus.{RouteStatus}
 use Rattle.route_table.specs.declared.route.RouteStatus.TheVariants.{Allowed}
-use Rattle.route_table.specs.Facts.{first_route, with_status_over}
+use Rattle.route_table.specs.Facts.{first_route, with_second_joined, with_status_over}
 use Rattle.route_table.specs.Statuses.{leads_by}
 use Rattle.route_management.specs.Told.{ToldTable, is_own_point}
 use Rattle.exchange_rules.proofs.Lists.{map-set_alike}
-use Rattle.exchange_rules.proofs.Steps.{status_over, AreOwnAllowed, AreRerouted, sets_of}
+use Rattle.exchange_rules.proofs.Steps.{status_over, AreOwnAllowed, AreRerouted, any_status, ways_of}
 
 no : {A : Type 0} → false ≡ true → A
 no e = absurd cc
@@ -27,13 +27,28 @@ status o = option_map (λ route. route.status) o
 abbrev pub over : ℕ → List Route → Option RouteStatus
 over set routes = status (find (leads_by set) routes)
 
-pub first-allowed : (sets : List ℕ) (set : ℕ) (s : RouteStatus) → over set (map first_route sets) ≡ Some s → s ≡ Allowed
-first-allowed [] set s e = absurd cc
-first-allowed (x ∷ xs) set s e = by (nat_eq x set) e (first-allowed xs set s)
+sets-allowed : (sets : List ℕ) (set : ℕ) (s : RouteStatus) → over set (map first_route sets) ≡ Some s → s ≡ Allowed
+sets-allowed [] set s e = absurd cc
+sets-allowed (x ∷ xs) set s e = by (nat_eq x set) e (sets-allowed xs set s)
   where
     by : (b : Bool) → status (if b then Some (first_route x) else find (leads_by set) (map first_route xs)) ≡ Some s → (over set (map first_route xs) ≡ Some s → s ≡ Allowed) → s ≡ Allowed
     by true f more = cc
     by false f more = more f
+
+-- that two routes are joined changes no status
+joined-over : (joined : Bool) (routes : List Route) (set : ℕ) → over set (with_second_joined joined routes) ≡ over set routes
+joined-over joined [] set = refl
+joined-over joined (a ∷ []) set = refl
+joined-over joined (a ∷ b ∷ rest) set = by (nat_eq a.set set) (nat_eq b.set set)
+  where
+    by : (d e : Bool) → status (if d then Some a else (if e then Some (record b { joined = joined }) else find (leads_by set) rest))
+        ≡ status (if d then Some a else (if e then Some b else find (leads_by set) rest))
+    by true e = refl
+    by false true = refl
+    by false false = refl
+
+pub first-allowed : (joined : Bool) (sets : List ℕ) (set : ℕ) (s : RouteStatus) → over set (with_second_joined joined (map first_route sets)) ≡ Some s → s ≡ Allowed
+first-allowed joined sets set s e = sets-allowed sets set s (sym (joined-over joined (map first_route sets) set) ∙ e)
 
 -- the routes by that set get a status
 own-status : (routes : List Route) (set : ℕ) (given s : RouteStatus) → over set (map (with_status_over set given) routes) ≡ Some s → s ≡ given
@@ -70,29 +85,29 @@ other-status (r ∷ rs) set other given apart = by (nat_eq r.set set) (nat_eq r.
 
 -- ---- those to all destinations
 
--- a status that is given leaves the sets
-given-set : (set : ℕ) (given : RouteStatus) (b : Bool) (r : Route) → (if b then record r { status = given } else r).set ≡ r.set
-given-set set given true r = refl
-given-set set given false r = refl
+-- a status that is given leaves all else
+given-way : (given : RouteStatus) (b : Bool) (r : Route) → any_status (if b then record r { status = given } else r) ≡ any_status r
+given-way given true r = refl
+given-way given false r = refl
 
-given-sets : (set : ℕ) (given : RouteStatus) (rs : List Route) → map (λ (r : Route). r.set) (map (with_status_over set given) rs) ≡ map (λ (r : Route). r.set) rs
-given-sets set given [] = refl
-given-sets set given (r ∷ rs) =
-    ap (λ (s : ℕ). s ∷ map (λ (r : Route). r.set) (map (with_status_over set given) rs)) (given-set set given (nat_eq r.set set) r)
-    ∙ ap (λ (sets : List ℕ). r.set ∷ sets) (given-sets set given rs)
+given-ways : (set : ℕ) (given : RouteStatus) (rs : List Route) → map any_status (map (with_status_over set given) rs) ≡ map any_status rs
+given-ways set given [] = refl
+given-ways set given (r ∷ rs) =
+    ap (λ (way : Route). way ∷ map any_status (map (with_status_over set given) rs)) (given-way given (nat_eq r.set set) r)
+    ∙ ap (λ (ways : List Route). any_status r ∷ ways) (given-ways set given rs)
 
-all-given : (set : ℕ) (given : RouteStatus) (routes : List (List Route)) → sets_of (map (map (with_status_over set given)) routes) ≡ sets_of routes
+all-given : (set : ℕ) (given : RouteStatus) (routes : List (List Route)) → ways_of (map (map (with_status_over set given)) routes) ≡ ways_of routes
 all-given set given [] = refl
 all-given set given (rs ∷ routes) =
-    ap (λ (sets : List ℕ). sets ∷ sets_of (map (map (with_status_over set given)) routes)) (given-sets set given rs)
-    ∙ ap (λ (more : List (List ℕ)). map (λ (r : Route). r.set) rs ∷ more) (all-given set given routes)
+    ap (λ (ways : List Route). ways ∷ ways_of (map (map (with_status_over set given)) routes)) (given-ways set given rs)
+    ∙ ap (λ (more : List (List Route)). map any_status rs ∷ more) (all-given set given routes)
 
 -- one route gets a status, but not that of a point over its own set
 pub rerouted-one : (t : ToldTable) (routes : List (List Route)) (set destination : ℕ) (given : RouteStatus) → is_own_point t set destination ≡ false
     → AreRerouted t routes (slice_set routes destination (map (with_status_over set given) (slice_index_or routes destination [])))
 rerouted-one t routes set destination given away = record {
   size = length-set routes destination changed;
-  sets = sym (map-set_alike (map (λ (r : Route). r.set)) routes destination changed [] (given-sets set given (slice_index_or routes destination [])));
+  ways = sym (map-set_alike (map any_status) routes destination changed [] (given-ways set given (slice_index_or routes destination [])));
   own = λ h. record { each = λ other place s is e. h.each other place s is (sym (same other place is) ∙ e) };
 }
   where
@@ -125,7 +140,7 @@ rerouted-one t routes set destination given away = record {
 pub rerouted-reset : (t : ToldTable) (routes : List (List Route)) (set : ℕ) → AreRerouted t routes (map (map (with_status_over set Allowed)) routes)
 rerouted-reset t routes set = record {
   size = length-map routes (map (with_status_over set Allowed));
-  sets = all-given set Allowed routes;
+  ways = all-given set Allowed routes;
   own = λ h. record { each = λ other place s is e. allowed h other place s is (sym (ap (over other) (get_or-map (map (with_status_over set Allowed)) routes place [])) ∙ e) };
 }
   where

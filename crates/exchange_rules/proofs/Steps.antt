@@ -67,14 +67,17 @@ status_over set destination routes = option_map (λ route. route.status) (find (
 pub record AreOwnAllowed (t : ToldTable) (routes : List (List Route)) : Type 0 where
   pub each : (set destination : ℕ) (status : RouteStatus) → is_own_point t set destination ≡ true → status_over set destination routes ≡ Some status → status ≡ Allowed
 
--- of each destination the sets that lead there
-abbrev pub sets_of : List (List Route) → List (List ℕ)
-sets_of routes = map (map (λ route. route.set)) routes
+-- routes without their statuses: of each destination the sets that lead there, and whether they are joined
+abbrev pub any_status : Route → Route
+any_status route = record route { status = Allowed }
+
+abbrev pub ways_of : List (List Route) → List (List Route)
+ways_of routes = map (map any_status) routes
 
 -- routes get other statuses, and those stay allowed
 pub record AreRerouted (t : ToldTable) (old new : List (List Route)) : Type 0 where
   pub size : length new ≡ length old
-  pub sets : sets_of new ≡ sets_of old
+  pub ways : ways_of new ≡ ways_of old
   pub own : AreOwnAllowed t old → AreOwnAllowed t new
 
 -- the same points were told of as many destinations

@@ -1,5 +1,5 @@
 -- The rows of the settings: links, and the points that sets lead to.
-use Rattle.std.specs.Prelude.{ℕ, [], slice_index_or, Option, Some, None, Result, Ok, Err}
+use Rattle.std.specs.Prelude.{ℕ, false, [], slice_index_or, Option, Some, None, Result, Ok, Err}
 use Rattle.signalling_types.specs.declared.cause.Cause.TheVariants.{UnknownDestination}
 use Rattle.signalling_types.specs.declared.outcome.Outcome.{Outcome}
 use Rattle.signalling_types.specs.declared.outcome.Outcome.TheVariants.{Refused, Ignored}
@@ -23,7 +23,7 @@ peer_of c link = adjacent_of c (set_of c link)
 
 -- the point of a destination
 abbrev pub point_of : Configuration → (destination : ℕ) → ℕ
-point_of c destination = (slice_index_or c.destinations destination (record { point = 0; sets = [] })).point
+point_of c destination = (slice_index_or c.destinations destination (record { point = 0; sets = []; joined = false })).point
 
 -- what an adjacent point speaks of: the set that leads to it, and the number of the destination
 abbrev pub route_about : (set destination : Option ℕ) → Result (ℕ × ℕ) Outcome

@@ -94,6 +94,10 @@ fn destination_drafts(alloc: Global, point: i64) -> Result<Vec<DestinationDraft>
     let mut sets = Vec::new(alloc);
     sets.push(String::from_str(alloc, SET)?)?;
     let mut destinations = Vec::new(alloc);
-    destinations.push(DestinationDraft { point, sets })?;
+    destinations.push(DestinationDraft {
+        point,
+        sets,
+        joined: false,
+    })?;
     Ok(destinations)
 }

@@ -4,10 +4,7 @@ use Rattle.std.specs.Prelude.{Option, Some, None, IfSome, slice_index_or, slice_
 use Rattle.std.proofs.Math.ListN.{get_or-map}
 use Rattle.std.proofs.lemmas.List.{length-map, length-set}
 use Rattle.route_table.specs.Facts.{Facts, with_link}
-use Rattle.std.specs.Option.{option_map, option_or}
-use Rattle.route_table.specs.declared.route.Route.{Route}
-use Rattle.route_table.specs.declared.route.RouteStatus.TheVariants.{Allowed, Restricted}
-use Rattle.route_table.specs.Chosen.{open_route, chosen_route, chosen_set, chosen_link}
+use Rattle.route_table.specs.Chosen.{chosen_link}
 use Rattle.route_table.proofs.InService.{chosen_serves}
 use Rattle.node_links.specs.Link.{Link}
 use Rattle.node_links.specs.LinkState.{down_link, is_in_service}
@@ -48,12 +45,3 @@ other_is_there n without destination selection None e = tt
 other_is_there n without destination selection (Some link) e =
     subst (λ m. link < m) (length-serving_without n without)
     (within (slice_set (serving n.links) without false) link (chosen_serves (with_link without false (facts_of n)) destination selection link (sym e)))
-
--- the set that is chosen is that of the route that is chosen
-mapped_or : (x y : Option Route) → option_map (λ (route : Route). route.set) (option_or x y)
-    ≡ option_or (option_map (λ (route : Route). route.set) x) (option_map (λ (route : Route). route.set) y)
-mapped_or (Some route) y = refl
-mapped_or None y = refl
-
-pub set_of_route : (f : Facts) (destination : ℕ) → option_map (λ (route : Route). route.set) (chosen_route f destination) ≡ chosen_set f destination
-set_of_route f destination = mapped_or (open_route f destination Allowed) (open_route f destination Restricted)

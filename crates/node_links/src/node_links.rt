@@ -1,11 +1,10 @@
 //! The links of a node, and the routes that they open.
 
 ghost use Rattle.std.specs.Prelude.{◌≡◌, ◌<◌, ◌≤◌, false, true, drop, length, replicate, nat_lt, IfOk, IfSome};
-ghost use Rattle.std.specs.Option.{option_map};
 ghost use Rattle.link_alignment.specs.Table.{action_at};
 ghost use Rattle.linkset.specs.Preference.{has_link};
 ghost use Rattle.route_table.specs.Facts.{set_at, with_link};
-ghost use Rattle.route_table.specs.Chosen.{chosen_link, chosen_route, chosen_set};
+ghost use Rattle.route_table.specs.Chosen.{chosen_link, chosen_routes, chosen_sets, lone_set};
 ghost use Rattle.node_links.specs.LinkState.{after_action, down_link, after_failure, is_in_service, opened};
 ghost use Rattle.node_links.specs.Network.{facts_of, first_network, link_in, with_state};
 ghost use Rattle.node_links.specs.FormerLink.{former_link};
@@ -13,6 +12,7 @@ ghost use Rattle.node_links.specs.FormerLink.{former_link};
 mod statuses;
 
 use crate::link_state::LinkState;
+use arrayvec::ArrayVec;
 use link_alignment::{Action, Input};
 use route_table::{Route, Routes};
 use settings_rows::{DestinationRow, LinkRow};
@@ -77,8 +77,9 @@ impl NodeLinks {
         &self.states[link.index()]
     }
 
-    /// The link of a flow, by the number of its destination and its selection: of the set of that destination, the
-    /// first in service in the order in which the selection tries them (Q.704 §4.2).
+    /// The link of a flow, by the number of its destination and its selection: of the group that messages to that
+    /// destination take, the first in service in the order in which the selection tries them whose set they take (Q.704
+    /// §4.2).
     pub fn link_of(&self, destination: usize, sls: Sls) -> Option<LinkId>
         ensures link { result ≡ chosen_link (facts_of self.now) destination sls }
         ensures fits { IfSome result (λ link. link < length self.now.links) }
@@ -114,21 +115,29 @@ impl NodeLinks {
         }
     }
 
-    /// The set that messages to a destination take, by the number of that destination (Q.704 §4.2). `None` where no set
-    /// leads there.
-    pub fn set_of(&self, destination: usize) -> Option<SetId>
-        ensures { result ≡ chosen_set (facts_of self.now) destination }
+    /// The sets that messages to a destination take, in the order of its sets, by the number of that destination (Q.704
+    /// §4.2). None where no set leads there, two where two joined sets do.
+    pub fn sets_of(&self, destination: usize) -> ArrayVec<SetId, 2>
+        ensures { result.items ≡ chosen_sets (facts_of self.now) destination }
     {
-        set_by(self.routes.route_of(destination))
+        self.routes.sets_of(destination)
     }
 
-    /// The set that messages to a destination would take if a link in service weren't. Nothing changes in the end.
-    pub fn set_without(&mut self, link: LinkId, destination: usize) -> Option<SetId>
+    /// The set that all messages to a destination take, where the group that they take is that set alone.
+    pub fn lone_set(&self, destination: usize) -> Option<SetId>
+        ensures { result ≡ lone_set (facts_of self.now) destination }
+    {
+        self.routes.lone_set(destination)
+    }
+
+    /// The set that all messages to a destination would take if a link in service weren't, where the group that they
+    /// would take is that set alone. Nothing changes in the end.
+    pub fn lone_set_without(&mut self, link: LinkId, destination: usize) -> Option<SetId>
         requires { is_in_service (link_in self.old.links link).alignment ≡ true }
-        ensures set { result ≡ chosen_set (with_link link false (facts_of self.old)) destination }
+        ensures set { result ≡ lone_set (with_link link false (facts_of self.old)) destination }
         ensures links { self.new ≡ self.old }
     {
-        set_by(self.routes.route_without(link, destination))
+        self.routes.lone_set_without(link, destination)
     }
 
     /// The link that a flow would take if a link in service weren't.
@@ -158,12 +167,12 @@ impl NodeLinks {
         self.routes.has_link_without(link, set)
     }
 
-    /// The route that messages to a destination take, by the number of that destination. It is allowed or restricted;
-    /// `None` where no set leads there (Q.704 §4.2).
-    pub fn route_of(&self, destination: usize) -> Option<Route>
-        ensures { result ≡ chosen_route (facts_of self.now) destination }
+    /// The routes that messages to a destination take, in the order of its sets, by the number of that destination. All
+    /// are allowed, or all restricted. None where no set leads there, two where two joined sets do (Q.704 §4.2).
+    pub fn routes_of(&self, destination: usize) -> ArrayVec<Route, 2>
+        ensures { result.items ≡ chosen_routes (facts_of self.now) destination }
     {
-        self.routes.route_of(destination)
+        self.routes.routes_of(destination)
     }
 
     /// A link does what its alignment does about an input, and says what that is. Where the link is to fail, nothing
@@ -252,14 +261,4 @@ fn down_links(alloc: Global, count: usize) -> Result<Vec<LinkState>, AllocError>
         links.push_reserved(LinkState::new());
     }
     Ok(links)
-}
-
-/// The set that a route goes by, if there is one.
-fn set_by(route: Option<Route>) -> Option<SetId>
-    ensures { result ≡ option_map (λ route. route.set) route }
-{
-    match route {
-        Some(route) => Some(route.set),
-        None => None,
-    }
 }

@@ -10,7 +10,7 @@ use Rattle.route_table.specs.Facts.{first_route}
 use Rattle.route_management.specs.Told.{ToldTable, is_own_point}
 use Rattle.exchange_rules.specs.State.{Node}
 use Rattle.exchange_rules.specs.Queues.{WholeQueues}
-use Rattle.exchange_rules.proofs.Steps.{IsOfSteps, AreRerouted, AreOwnAllowed, sets_of, status_over}
+use Rattle.exchange_rules.proofs.Steps.{IsOfSteps, AreRerouted, AreOwnAllowed, any_status, ways_of, status_over}
 use Rattle.exchange_rules.proofs.Asked.{any}
 
 abbrev pub only_routes : List (List Route)
@@ -24,7 +24,7 @@ pub record IsAlone (n : Node WholeQueues) : Type 0 where
 pub record StaysAlone (n m : Node WholeQueues) : Type 0 where
   pub stay : IsAlone n → IsAlone m
 
--- ---- routes with the same sets, which are allowed
+-- ---- the same routes but for their statuses, which are allowed
 
 allowed-route : (r : Route) → r.set ≡ 0 → ((status : RouteStatus) → option_map (λ (x : Route). x.status) (if nat_eq r.set 0 then Some r else None) ≡ Some status → status ≡ Allowed) → r.status ≡ Allowed
 allowed-route r e h = h r.status (ap (λ (s : ℕ). option_map (λ (x : Route). x.status) (if nat_eq s 0 then Some r else None)) e)
@@ -32,24 +32,22 @@ allowed-route r e h = h r.status (ap (λ (s : ℕ). option_map (λ (x : Route). 
 no-list : {A : Type 0} {B : Type 0} (x : A) (xs : List A) → x ∷ xs ≡ [] → B
 no-list x xs e = absurd cc
 
-abbrev route_with : (set : ℕ) → RouteStatus → Route
-route_with set status = record { set = set; status = status }
-
-same-row : (rs : List Route) → map (λ (r : Route). r.set) rs ≡ 0 ∷ []
+same-row : (rs : List Route) → map any_status rs ≡ first_route 0 ∷ []
     → ((status : RouteStatus) → option_map (λ (x : Route). x.status) (find (λ (r : Route). nat_eq r.set 0) rs) ≡ Some status → status ≡ Allowed) → rs ≡ first_route 0 ∷ []
 same-row [] e h = absurd cc
 same-row (r ∷ []) e h =
-    let zero_set : r.set ≡ 0 = cc in
-    ap (λ (set : ℕ). route_with set r.status ∷ []) zero_set ∙ ap (λ (status : RouteStatus). route_with 0 status ∷ []) (allowed-route r zero_set h)
+    let way : any_status r ≡ first_route 0 = cc in
+    ap (λ (x : Route). record x { status = r.status } ∷ []) way
+    ∙ ap (λ (status : RouteStatus). record (first_route 0) { status = status } ∷ []) (allowed-route r (ap (λ (x : Route). x.set) way) h)
 same-row (r ∷ x ∷ rs) e h = absurd cc
 
-same-routes : (routes : List (List Route)) → sets_of routes ≡ (0 ∷ []) ∷ []
+same-routes : (routes : List (List Route)) → ways_of routes ≡ only_routes
     → ((status : RouteStatus) → option_map (λ (x : Route). x.status) (find (λ (r : Route). nat_eq r.set 0) (slice_index_or routes 0 [])) ≡ Some status → status ≡ Allowed)
     → routes ≡ only_routes
 same-routes [] e h = absurd cc
 same-routes (rs ∷ []) e h =
-    let sets : map (λ (r : Route). r.set) rs ≡ 0 ∷ [] = cc in
-    ap (λ (row : List Route). row ∷ []) (same-row rs sets h)
+    let ways : map any_status rs ≡ first_route 0 ∷ [] = cc in
+    ap (λ (row : List Route). row ∷ []) (same-row rs ways h)
 same-routes (rs ∷ row ∷ routes) e h = absurd cc
 
 -- ---- so it stays
@@ -71,7 +69,7 @@ only-allowed t = record { each = λ set destination status is e. only set destin
 rerouted-alone : (routes : List (List Route)) (n : Node WholeQueues) → AreRerouted n.parts.told n.parts.routes routes → IsAlone n → routes ≡ only_routes
 rerouted-alone routes n e h =
     let own : AreOwnAllowed n.parts.told routes = e.own (subst (AreOwnAllowed n.parts.told) (sym h.routes) (only-allowed n.parts.told)) in
-    same-routes routes (e.sets ∙ ap sets_of h.routes)
+    same-routes routes (e.ways ∙ ap ways_of h.routes)
     (λ status f. own.each 0 0 status (ap (λ (places : List (Option ℕ)). is_own_point (record n.parts.told { adjacents = places }) 0 0) h.adjacents) f)
 
 pub alone-steps : (c : Configuration) → IsOfSteps c any any StaysAlone

@@ -17,16 +17,11 @@ use Rattle.link_alignment.specs.declared.action.Input.{Input}
 use Rattle.link_alignment.specs.declared.action.Transition.{Transition}
 use Rattle.link_alignment.specs.Table.{Effect, Fails, Remembers, Enters, EntersServing, Serves, Cell, table, state_number, is_same_input, effect_in, action_of, action_at}
 use Rattle.node_links.specs.LinkState.{is_down}
-use Rattle.linkset.specs.Preference.{has_link, first_in_service}
-use Rattle.linkset.proofs.InService.{some_serves}
-use Rattle.route_table.specs.declared.route.Route.{Route}
-use Rattle.route_table.specs.declared.route.RouteStatus.{RouteStatus}
-use Rattle.route_table.specs.declared.route.RouteStatus.TheVariants.{Allowed, Restricted}
-use Rattle.route_table.specs.Facts.{Facts, routes_to, set_at, with_link}
-use Rattle.route_table.specs.Chosen.{chosen_link, is_open, status_number}
+use Rattle.route_table.specs.Facts.{with_link}
+use Rattle.route_table.specs.Chosen.{chosen_link}
 use Rattle.exchange_rules.specs.State.{Parts}
 use Rattle.exchange_rules.specs.Routing.{facts, link_of}
-use Rattle.exchange_rules.proofs.Attracted.{chosen-goes, none-found}
+use Rattle.route_table.proofs.Leaving.{goes_or_stays, had_has}
 use Rattle.pair_rules.proofs.World.{route_of}
 use Rattle.pair_rules.proofs.Good.{IsJoined}
 use Rattle.pair_rules.proofs.Routes.{IsRouted}
@@ -82,45 +77,7 @@ leads-by (Some Serves) a input step up f e = sym (ap (λ (x : Action). is_down (
 pub leads-up : (a : Alignment) (input : Input) (step : Transition) → action_at a input ≡ Go step → is_down step.state ≡ false
 leads-up a input step e = leads-by (effect_in table a input) a input step (starts-up a input step e) refl e
 
--- ---- a flow that had a link has one
-
-found-open : (f : Facts) (status : RouteStatus) (rs : List Route) (r : Route) → find (is_open f status) rs ≡ Some r → has_link f.in_service (set_at f r.set) ≡ true
-found-open f status [] r e = absurd cc
-found-open f status (x ∷ rs) r e = by (is_open f status x) refl e (found-open f status rs r)
-  where
-    by : (b : Bool) → is_open f status x ≡ b → (if b then Some x else find (is_open f status) rs) ≡ Some r
-        → (find (is_open f status) rs ≡ Some r → has_link f.in_service (set_at f r.set) ≡ true) → has_link f.in_service (set_at f r.set) ≡ true
-    by true is g more =
-        (let same : x ≡ r = cc in
-        ap (λ (y : Route). has_link f.in_service (set_at f y.set)) (sym same)
-        ∙ (and_parts (status_number x.status == status_number status) (has_link f.in_service (set_at f x.set)) is).1)
-    by false is g more = more g
-
--- the link by one of two routes
-abbrev by_routes : Facts → (sls : ℕ) → Option Route → Option Route → Option ℕ
-by_routes f sls a b =
-    option_and_then (λ set. first_in_service sls f.in_service (set_at f set)) (option_or (option_map (λ route. route.set) a) (option_map (λ route. route.set) b))
-
-no-link : {A : Type 0} (f : Facts) (sls : ℕ) (r : Route) → has_link f.in_service (set_at f r.set) ≡ true → first_in_service sls f.in_service (set_at f r.set) ≡ None → A
-no-link f sls r e none = (let no : false ≡ true = sym (ap (λ (o : Option ℕ). is_some o) none) ∙ some_serves sls f.in_service (set_at f r.set) ∙ e in absurd cc)
-
--- where a flow has no link, neither route is open
-none-open : (f g : Facts) (sls former : ℕ) (a b d e : Option Route) → ((r : Route) → a ≡ Some r → has_link f.in_service (set_at f r.set) ≡ true)
-    → ((r : Route) → b ≡ Some r → has_link f.in_service (set_at f r.set) ≡ true) → (a ≡ None → d ≡ None) → (b ≡ None → e ≡ None)
-    → by_routes f sls a b ≡ None → by_routes g sls d e ≡ Some former → ⊥
-none-open f g sls former (Some r) b d e first second left right none had = no-link f sls r (first r refl) none
-none-open f g sls former None (Some r) d e first second left right none had = no-link f sls r (second r refl) none
-none-open f g sls former None None d e first second left right none had =
-    let no : by_routes g sls d e ≡ None = ap (λ (o : Option Route). by_routes g sls o e) (left refl) ∙ ap (λ (o : Option Route). by_routes g sls None o) (right refl) in
-    absurd cc
-
-pub had-has : (f : Facts) (link destination sls former : ℕ) → chosen_link (with_link link false f) destination sls ≡ Some former → chosen_link f destination sls ≡ None → ⊥
-had-has f link destination sls former had none =
-    let rs : List Route = routes_to f destination in
-    none-open f (with_link link false f) sls former (find (is_open f Allowed) rs) (find (is_open f Restricted) rs) (find (is_open (with_link link false f) Allowed) rs) (find (is_open (with_link link false f) Restricted) rs)
-    (found-open f Allowed rs) (found-open f Restricted rs) (none-found f link Allowed rs) (none-found f link Restricted rs) none had
-
--- ---- and that is the one that it had, or the one that entered
+-- ---- a flow has the link that it had, or the one that entered
 
 -- once the link is taken out again, each flow takes the link that it took before
 pub record IsKnown (c : Configuration) (link : ℕ) (p q : Parts) : Type 0 where
@@ -144,5 +101,5 @@ module _ (c z : Configuration) (j : IsJoined c z) where
           ⊎_elim
           (λ (same : now ≡ link). inr (f ∙ ap (λ (k : ℕ). Some k) same))
           (λ (kept : chosen_link (with_link link false (facts c q)) 0 flow.sls ≡ Some now). inl (f ∙ sym kept ∙ had))
-          (chosen-goes (facts c q) link 0 flow.sls now f)
-      by None f = absurd (had-has (facts c q) link 0 flow.sls former had f)
+          (goes_or_stays (facts c q) link 0 flow.sls now f)
+      by None f = absurd (had_has (facts c q) link 0 flow.sls former had f)

@@ -2,7 +2,7 @@
 use Rattle.std.proofs.Common.{◌≡◌, ◌<◌, ◌≤◌, ℕ, Bool, true, false, not, ◌&&◌, zero, suc, List, [], ◌∷◌, Option, Some, None, length, map, get_or, nat_eq, nat_lt, refl, ap, ◌∙◌, arith}
 use Rattle.std.specs.Prelude.{if◌then◌else◌, find, All}
 use Rattle.std.specs.Option.{option_and_then, option_map}
-use Rattle.std.specs.List.{IsDistinct}
+use Rattle.std.specs.List.{IsDistinct, list_any}
 use Rattle.std.specs.FinSet.{contains-empty}
 use Rattle.signalling_types.specs.declared.point.Flow.{Flow}
 use Rattle.signalling_types.specs.declared.limits.TheConstants.Limits.{CHANGEBACK_CODES, SELECTIONS}
@@ -11,9 +11,10 @@ use Rattle.settings_rows.specs.Configuration.{Configuration, DestinationEntry}
 use Rattle.stp_types.specs.Facing.{IsFacing, LeadsOnlyTo}
 use Rattle.stp_types.specs.Readings.{destination_place}
 use Rattle.stp_types.specs.Well.{IsWell, IsDestination}
-use Rattle.linkset.specs.Preference.{preference, first_in_service, is_in_service}
-use Rattle.route_table.specs.Facts.{first_route, first_routes, set_at}
-use Rattle.route_table.specs.Chosen.{chosen_set, chosen_link}
+use Rattle.linkset.specs.declared.link_group.Member.{Member}
+use Rattle.linkset.specs.Preference.{preference, is_in_service, serves}
+use Rattle.route_table.specs.Facts.{Facts, first_route, first_routes, routes_to, with_second_joined}
+use Rattle.route_table.specs.Chosen.{Choice, choice_among, taken_by, sets_of, members, link_by, chosen_link}
 use Rattle.route_management.specs.Told.{adjacent_place}
 use Rattle.node_links.specs.Link.{Link}
 use Rattle.node_links.specs.LinkState.{down_link, is_down}
@@ -69,7 +70,7 @@ only-set (set ∷ other ∷ sets) l within differ =
 
 module _ (c : Configuration) (point : ℕ) (leads : LeadsOnlyTo c point) (well : IsWell c) where
   none_known : DestinationEntry
-  none_known = record { point = 0; sets = [] }
+  none_known = record { point = 0; sets = []; joined = false }
 
   the_sets : (get_or c.destinations 0 none_known).sets ≡ 0 ∷ []
   the_sets =
@@ -80,7 +81,7 @@ module _ (c : Configuration) (point : ℕ) (leads : LeadsOnlyTo c point) (well :
   routes-first : map first_routes c.destinations ≡ only_routes
   routes-first =
       ap (map first_routes) (sole-list c.destinations none_known (destinations-one c point leads))
-      ∙ ap (λ (sets : List ℕ). map first_route sets ∷ []) the_sets
+      ∙ ap (λ (sets : List ℕ). with_second_joined (get_or c.destinations 0 none_known).joined (map first_route sets) ∷ []) the_sets
 
   adjacents-first : map (adjacent_place c.destinations) c.sets ≡ Some 0 ∷ []
   adjacents-first =
@@ -137,14 +138,15 @@ module _ (c : Configuration) where
       ap (λ (serving : List Bool). get_or serving link false) (serving_none (length c.links))
       ∙ each-replicate (λ (b : Bool). b ≡ false) (length c.links) link false refl
 
-  none-in : (selection : ℕ) (links : List ℕ) → first_in_service selection (facts c p).in_service links ≡ None
-  none-in selection links =
-      none-found (λ l. is_in_service (facts c p).in_service l) (preference selection links) (λ l. none-serves l)
-
   none-chosen : (place selection : ℕ) → chosen_link (facts c p) place selection ≡ None
+  unfolding link_by
   none-chosen place selection =
-      none-then (λ set. first_in_service selection (facts c p).in_service (set_at (facts c p) set)) (chosen_set (facts c p) place)
-      (λ set. none-in selection (set_at (facts c p) set))
+      let f : Facts = facts c p in
+      let choice : Choice = choice_among f (routes_to f place) in
+      let sets : List ℕ = sets_of (taken_by f choice) in
+      ap (λ (o : Option Member). option_map (λ (m : Member). m.link) o)
+      (none-found (serves f.in_service sets) (preference selection (members f choice.group))
+      (λ m. ap (λ (b : Bool). b && list_any (λ set. nat_eq set m.set) sets) (none-serves m.link)))
 
   route-none : (flow : Flow) → route_of c p flow ≡ None
   route-none flow =

@@ -157,7 +157,7 @@ module _ (c z : Configuration) (a : AreFacing c z) (p : PairState) (s : Stands c
 
 apart-facing : (near far : Configuration) → IsWell near → IsFacing near far → near.own ≢ far.own
 apart-facing near far well f e =
-    let none : DestinationEntry = record { point = 0; sets = [] } in
+    let none : DestinationEntry = record { point = 0; sets = []; joined = false } in
     let known : IsDestination near.own (length near.sets) (get_or near.destinations 0 none) =
     well.destinations 0 none (omega (arith, destinations-one near far.own f.near_leads)) in
     known.point.far (destination-sole near far.own f.near_leads ∙ sym e)

@@ -17,7 +17,7 @@ use Rattle.route_table.specs.Chosen.{chosen_link}
 use Rattle.exchange_rules.specs.State.{Parts}
 use Rattle.exchange_rules.specs.Links.{link_at}
 use Rattle.exchange_rules.specs.Routing.{facts, link_of, sets_in}
-use Rattle.exchange_rules.proofs.Attracted.{chosen-goes}
+use Rattle.route_table.proofs.Leaving.{goes_or_stays}
 use Rattle.pair_rules.proofs.World.{route_of}
 use Rattle.pair_rules.proofs.Good.{IsJoined}
 
@@ -85,7 +85,7 @@ module _ (c z : Configuration) (j : IsJoined c z) where
       → option_and_then (λ place. chosen_link f place sls) o ≡ Some other → option_and_then (λ place. chosen_link g place sls) o ≡ Some other
   flow-stays link other sls f g e d o =
       by-place (λ place. chosen_link f place sls) (λ place. chosen_link g place sls) o other
-      (λ place h. ap (λ (x : Facts). chosen_link x place sls) e ∙ ⊎_elim (λ (same : other ≡ link). absurd (d same)) (λ (goes : chosen_link (with_link link false f) place sls ≡ Some other). goes) (chosen-goes f link place sls other h))
+      (λ place h. ap (λ (x : Facts). chosen_link x place sls) e ∙ ⊎_elim (λ (same : other ≡ link). absurd (d same)) (λ (goes : chosen_link (with_link link false f) place sls ≡ Some other). goes) (goes_or_stays f link place sls other h))
 
   pub route-stays : (p q : Parts) (link other : ℕ) (flow : Flow) → facts c q ≡ with_link link false (facts c p) → other ≢ link → route_of c p flow ≡ Some other → route_of c q flow ≡ Some other
   route-stays p q link other flow e d =

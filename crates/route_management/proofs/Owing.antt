@@ -4,8 +4,8 @@ use Rattle.std.specs.Prelude.{Option, Some, None, slice_set, if◌then◌else◌
 use Rattle.std.specs.Option.{option_map}
 use Rattle.route_table.specs.declared.route.RouteStatus.{RouteStatus}
 use Rattle.route_table.specs.declared.route.RouteStatus.TheVariants.{Allowed, Restricted, Prohibited}
-use Rattle.route_table.proofs.Telling.{other_route}
-use Rattle.route_table.proofs.Resetting.{reset_route}
+use Rattle.route_table.proofs.Telling.{other_routes}
+use Rattle.route_table.proofs.Resetting.{reset_routes}
 use Rattle.route_management.specs.Told.{is_own_point, row_of, told_at}
 use Rattle.route_management.specs.Owed.{is_same, said_by, status_to_advertise, is_reachable, is_unlike}
 use Rattle.route_management.specs.Laws.{told_is_kept, told_once, leaves_other_points, leaves_other_destinations}
@@ -60,7 +60,7 @@ others_after_reset f t set other destination apart =
     (rows_apart t.rows set other destination (map (λ old. Allowed) (row_of t set)) apart)
 
 pub after_status : status_leaves_other_destinations
-after_status f about by set destination status apart = ap (said_by set) (other_route f about destination by status apart)
+after_status f about by set destination status apart = ap (said_by set) (other_routes f about destination by status apart)
 
 pub after_reset : reset_leaves_what_is_to_be_told
-after_reset f reset set destination down = ap (said_by set) (reset_route f reset destination down)
+after_reset f reset set destination down = ap (said_by set) (reset_routes f reset destination down)

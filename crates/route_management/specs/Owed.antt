@@ -1,28 +1,29 @@
 -- What adjacent points are to be told, and which of it they weren't told yet (Q.704 §13.2 to §13.4).
 use Rattle.std.specs.Prelude.{ℕ, Bool, ◌&&◌, ◌==◌, false, not, List, [], ◌∷◌, Option, Some, None, length, nat_eq}
 use Rattle.std.specs.Prelude.{if◌then◌else◌}
-use Rattle.std.specs.List.{range_with_len, filter_map, flat_map}
+use Rattle.std.specs.List.{list_any, range_with_len, filter_map, flat_map}
 use Rattle.std.specs.Option.{option_map}
 use Rattle.linkset.specs.Preference.{has_link}
 use Rattle.route_table.specs.declared.route.Route.{Route}
 use Rattle.route_table.specs.declared.route.RouteStatus.{RouteStatus}
 use Rattle.route_table.specs.declared.route.RouteStatus.TheVariants.{Prohibited}
 use Rattle.route_table.specs.Facts.{Facts, set_at}
-use Rattle.route_table.specs.Chosen.{chosen_route, status_number}
+use Rattle.route_table.specs.Chosen.{chosen_routes, status_number}
+use Rattle.route_table.specs.Statuses.{leads_by}
 use Rattle.route_management.specs.Told.{ToldTable, is_own_point, row_of, told_at, with_told}
 
 -- whether two statuses are the same
 abbrev pub is_same : RouteStatus → RouteStatus → Bool
 is_same a b = status_number a == status_number b
 
--- what the adjacent point of a set is to be told of a destination, by the route that messages take there: not to send
--- them where there is no route, or where they would come back; else that route's status, allowed or restricted
-abbrev pub said_by : ℕ → Option Route → RouteStatus
-said_by set None = Prohibited
-said_by set (Some route) = if nat_eq route.set set then Prohibited else route.status
+-- what the adjacent point of a set is to be told of a destination, by the routes that messages take there: not to send
+-- them where there is no route, or where they may come back; else the status of those routes, allowed or restricted
+abbrev pub said_by : ℕ → List Route → RouteStatus
+said_by set [] = Prohibited
+said_by set (first ∷ rest) = if list_any (leads_by set) (first ∷ rest) then Prohibited else first.status
 
 abbrev pub status_to_advertise : Facts → (set destination : ℕ) → RouteStatus
-status_to_advertise f set destination = said_by set (chosen_route f destination)
+status_to_advertise f set destination = said_by set (chosen_routes f destination)
 
 -- an adjacent point is reached while its own set has a link in service
 abbrev pub is_reachable : Facts → ℕ → Bool

@@ -1,7 +1,9 @@
 //! What adjacent points are told of destinations.
 
 ghost use Rattle.std.specs.Prelude.{◌≡◌, Some, None, length, map, position, replicate, nat_eq, IfOk, slice_index_or};
+ghost use Rattle.std.specs.List.{list_any};
 ghost use Rattle.route_table.specs.declared.route.RouteStatus.TheVariants as status;
+ghost use Rattle.route_table.specs.Statuses.{leads_by};
 ghost use Rattle.node_links.specs.Network.{facts_of};
 ghost use Rattle.route_management.specs.Told.{first_told, adjacent_place, is_own_point, told_at, with_told};
 ghost use Rattle.route_management.specs.Told.{with_told_reset};
@@ -151,22 +153,29 @@ impl Told {
     }
 }
 
-/// What the adjacent point of a set is to be told of a destination: prohibited where no route leads there, or where
-/// messages go by that very set; else the status of their route (Q.704 §13.2 to §13.4).
+/// What the adjacent point of a set is to be told of a destination: prohibited where no route leads there, or where some
+/// messages go by that very set; else the status of their routes (Q.704 §13.2 to §13.4).
 pub fn status_to_advertise(links: &NodeLinks, set: SetId, destination: usize) -> RouteStatus
     ensures { result ≡ status_to_advertise (facts_of links.now) set destination }
 {
-    said_by(set, links.route_of(destination))
+    said_by(set, &links.routes_of(destination))
 }
 
-/// The same, by the route that messages take there.
-fn said_by(set: SetId, route: Option<Route>) -> RouteStatus
-    ensures { result ≡ said_by set route }
+/// The same, by the routes that messages take there.
+fn said_by(set: SetId, routes: &[Route]) -> RouteStatus
+    ensures { result ≡ said_by set routes.now }
 {
-    match route {
-        Some(route) if route.set.index() != set.index() => route.status,
+    match routes.first() {
+        Some(first) if !goes_by(routes, set) => first.status,
         _ => RouteStatus::Prohibited,
     }
+}
+
+/// Whether one of these routes goes by a set.
+fn goes_by(routes: &[Route], set: SetId) -> bool
+    ensures { result ≡ list_any (leads_by set) routes.now }
+{
+    routes.iter().any(|route| route.set.index() == set.index())
 }
 
 /// Of each set, the number of the destination that its links lead to.

@@ -1,62 +1,34 @@
 -- The table of the links of all flows: what a look-up finds, and what the rows are that were mended.
 use Rattle.std.proofs.Common.{◌≡◌, ◌<◌, ◌≤◌, ◌+◌, ℕ, zero, suc, Bool, true, false, List, [], ◌∷◌, ◌++◌, map, take, drop, length, refl, ap, sym, ◌∙◌, arith, add-one}
-use Rattle.std.proofs.lemmas.List.{set_at, drop_more, map_more, length-map, length-take-le, append_assoc, get_or-replicate, get_or_read}
+use Rattle.std.proofs.lemmas.List.{set_at, drop_more, map_more, length-map, length-take-le, append_assoc, get_or_past, get_or_read}
 use Rattle.std.proofs.Math.ListN.{get_or-map}
 use Rattle.std.proofs.lemmas.List.FromFn.{fill_by_all, get_or-map-range_with_len}
-use Rattle.std.specs.Prelude.{Option, Some, None, slice_index_or, slice_set, if◌then◌else◌}
-use Rattle.std.specs.Option.{option_map, option_map_or, option_or, option_and_then}
-use Rattle.linkset.specs.Preference.{first_in_service}
+use Rattle.std.specs.List.{filter}
+use Rattle.std.proofs.lemmas.Bool.Decides.{nat_tests}
+use Rattle.std.specs.Prelude.{Option, None, nat_lt, slice_index_or, slice_set, if◌then◌else◌}
+use Rattle.linkset.specs.declared.link_group.Member.{Member}
+use Rattle.linkset.specs.Preference.{first_serving}
 use Rattle.route_table.specs.declared.route.Route.{Route}
 use Rattle.route_table.specs.declared.route.RouteStatus.{RouteStatus}
-use Rattle.route_table.specs.declared.route.RouteStatus.TheVariants.{Allowed, Restricted}
-use Rattle.route_table.specs.Facts.{Facts, set_at as links_at, routes_to, with_status_over, with_status}
-use Rattle.route_table.specs.Chosen.{open_route, chosen_link}
+use Rattle.route_table.specs.Facts.{Facts, routes_to, with_status_over, with_status}
+use Rattle.route_table.specs.Chosen.{is_open, choice_among, sets_of, members, link_by, chosen_link}
 use Rattle.signalling_types.specs.declared.limits.TheConstants.Limits.{SELECTIONS}
-use Rattle.route_table.specs.Table.{no_links, links_of_set, links_over, route_among, links_among, table_of, mended_at, mended_below}
+use Rattle.route_table.specs.Table.{links_of_group, links_among, table_of, mended_at, mended_below}
 
 -- ---- a look-up
 
-none_is : (selection : ℕ) → selection < SELECTIONS → slice_index_or no_links selection None ≡ None
-unfolding no_links
-none_is selection l = get_or-replicate SELECTIONS selection None None l
-
-over_is : (in_service : List Bool) (links : List ℕ) (selection : ℕ) → selection < SELECTIONS
-    → slice_index_or (links_of_set in_service links) selection None ≡ first_in_service selection in_service links
-unfolding links_of_set
-over_is in_service links selection l =
-    get_or-map-range_with_len (λ s. first_in_service s in_service links) 0 SELECTIONS selection selection None l (omega arith)
-
-among_is : (f : Facts) (selection : ℕ) → selection < SELECTIONS → (a r : Option Route)
-    → slice_index_or (option_map_or (λ route. links_over f route.set) (option_or a r) no_links) selection None
-    ≡ option_and_then (λ set. first_in_service selection f.in_service (links_at f set))
-    (option_or (option_map (λ route. route.set) a) (option_map (λ route. route.set) r))
-among_is f selection l (Some route) r = over_is f.in_service (links_at f route.set) selection l
-among_is f selection l None (Some route) = over_is f.in_service (links_at f route.set) selection l
-among_is f selection l None None = none_is selection l
-
 pub looked_up : (f : Facts) (destination selection : ℕ) → selection < SELECTIONS
     → slice_index_or (links_among f (routes_to f destination)) selection None ≡ chosen_link f destination selection
-unfolding links_among
-looked_up f destination selection l = among_is f selection l (open_route f destination Allowed) (open_route f destination Restricted)
-
-pub none_over : (in_service : List Bool) → no_links ≡ links_of_set in_service []
-unfolding no_links links_of_set
-none_over in_service = refl
-
-pub among_some : (f : Facts) (routes : List Route) (route : Route) → Some route ≡ route_among f routes → links_over f route.set ≡ links_among f routes
-unfolding links_among
-among_some f routes route e = ap (λ (o : Option Route). option_map_or (λ r. links_over f r.set) o no_links) e
-
-pub among_none : (f : Facts) (routes : List Route) → None ≡ route_among f routes → no_links ≡ links_among f routes
-unfolding links_among
-among_none f routes e = ap (λ (o : Option Route). option_map_or (λ r. links_over f r.set) o no_links) e
+unfolding links_among links_of_group link_by
+looked_up f destination selection l =
+    get_or-map-range_with_len (link_by f (choice_among f (routes_to f destination))) 0 SELECTIONS selection selection None l (omega arith)
 
 -- a row that says the link of each selection
-pub filled : (in_service : List Bool) (links : List ℕ) (row : List (Option ℕ)) → length row ≡ SELECTIONS
-    → ((selection : ℕ) → selection < SELECTIONS → slice_index_or row selection None ≡ first_in_service selection in_service links)
-    → row ≡ links_of_set in_service links
-unfolding links_of_set
-filled in_service links row e each = fill_by_all (λ s. first_in_service s in_service links) row SELECTIONS None e each
+pub filled : (in_service : List Bool) (sets : List ℕ) (group : List Member) (row : List (Option ℕ)) → length row ≡ SELECTIONS
+    → ((selection : ℕ) → selection < SELECTIONS → slice_index_or row selection None ≡ first_serving selection in_service sets group)
+    → row ≡ links_of_group in_service sets group
+unfolding links_of_group
+filled in_service sets group row e each = fill_by_all (λ s. first_serving s in_service sets group) row SELECTIONS None e each
 
 -- a row that stands in the table
 pub found_row : (f : Facts) (rows : List (List (Option ℕ))) (row : List (Option ℕ)) (destination selection : ℕ) → rows ≡ table_of f
@@ -68,6 +40,23 @@ found_row f rows row destination selection e within is l =
     ∙ ap (λ (xs : List (List (Option ℕ))). slice_index_or xs destination (links_among f [])) e
     ∙ get_or-map (links_among f) f.routes destination [])
     ∙ looked_up f destination selection l
+
+-- behind the last row no flow has a link
+pub no_row : (f : Facts) (rows : List (List (Option ℕ))) (destination selection : ℕ) → rows ≡ table_of f → false ≡ nat_lt destination (length rows)
+    → None ≡ chosen_link f destination selection
+unfolding choice_among link_by
+no_row f rows destination selection e past =
+    let size : length rows ≡ length f.routes = ap length e ∙ length-map f.routes (links_among f) in
+    sym (ap (λ (routes : List Route). link_by f (choice_among f routes) selection) (get_or_past f.routes destination [] (grind (arith, nat_tests, size, past))))
+
+-- a link that is worked out
+pub worked_out : (f : Facts) (routes group taken listed : List Route) (selection : ℕ) (answer : Option ℕ) (bs : List Bool) (sets lent : List ℕ) (status : RouteStatus) (ms : List Member)
+    → answer ≡ first_serving selection bs lent ms → bs ≡ f.in_service → lent ≡ sets → sets ≡ sets_of listed → listed ≡ taken
+    → taken ≡ filter (is_open f status) group → ms ≡ members f group → group ≡ (choice_among f routes).group → status ≡ (choice_among f routes).status
+    → answer ≡ link_by f (choice_among f routes) selection
+unfolding link_by
+worked_out f routes group taken listed selection answer bs sets lent status ms e1 e2 e3 e4 e5 e6 e7 e8 e9 =
+    rw (e1, e2, e3, e4, e5, e6, e7, e8, e9) refl
 
 -- ---- the row of one destination
 
@@ -81,7 +70,7 @@ told_row g (r ∷ rs) (suc destination) told = ap (λ (rows : List (List (Option
 -- the links to a destination follow from its routes, whatever the routes to others are
 pub same_links : (f : Facts) (all : List (List Route)) (routes : List Route)
     → links_among f routes ≡ links_among (record f { routes = all }) routes
-unfolding links_among
+unfolding links_among choice_among
 same_links f all routes = refl
 
 same_rows : (f : Facts) (all rows : List (List Route)) → map (links_among f) rows ≡ map (links_among (record f { routes = all })) rows

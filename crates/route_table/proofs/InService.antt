@@ -1,17 +1,14 @@
 -- The link that a flow takes is in service.
 use Rattle.std.proofs.Common.{◌≡◌, ℕ, true}
-use Rattle.std.specs.Prelude.{Option, Some, None}
-use Rattle.std.specs.Option.{option_and_then}
-use Rattle.linkset.specs.Preference.{is_in_service, first_in_service}
+use Rattle.std.specs.Prelude.{Some}
+use Rattle.linkset.specs.Preference.{is_in_service}
 use Rattle.linkset.proofs.InService.{first_serves}
-use Rattle.route_table.specs.Facts.{Facts, set_at}
-use Rattle.route_table.specs.Chosen.{chosen_set, chosen_link}
-
-served_by : (f : Facts) (chosen : Option ℕ) (selection link : ℕ)
-    → option_and_then (λ set. first_in_service selection f.in_service (set_at f set)) chosen ≡ Some link → is_in_service f.in_service link ≡ true
-served_by f None selection link e = absurd cc
-served_by f (Some set) selection link e = first_serves selection f.in_service (set_at f set) link e
+use Rattle.route_table.specs.Facts.{Facts, routes_to}
+use Rattle.route_table.specs.Chosen.{Choice, choice_among, taken_by, sets_of, members, link_by, chosen_link}
 
 pub chosen_serves : (f : Facts) (destination selection link : ℕ)
     → chosen_link f destination selection ≡ Some link → is_in_service f.in_service link ≡ true
-chosen_serves f destination selection link e = served_by f (chosen_set f destination) selection link e
+unfolding link_by
+chosen_serves f destination selection link e =
+    let c : Choice = choice_among f (routes_to f destination) in
+    first_serves selection f.in_service (sets_of (taken_by f c)) (members f c.group) link e

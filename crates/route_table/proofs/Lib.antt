@@ -3,7 +3,9 @@ pub mod InService
 pub mod Telling
 pub mod Resetting
 pub mod Opening
-pub mod Searching
+pub mod Groups
+pub mod Lone
+pub mod Leaving
 pub mod Choosing
 pub mod Compiling
 pub mod Mending

@@ -3,32 +3,28 @@ use Rattle.std.proofs.Common.{◌≡◌, ◌<◌, ◌||◌, ◌&&◌, ◌==◌, 
 use Rattle.std.proofs.Math.ListN.{get_or-map}
 use Rattle.std.proofs.lemmas.Bool.{eqb-false}
 use Rattle.std.proofs.lemmas.List.{get_or-map as get_or-map-within, get_or-set_other, length-map, take_all, drop_all, append-nil}
+use Rattle.std.proofs.lemmas.List.Concat.{flat_map-cons}
+use Rattle.std.proofs.lemmas.List.Folds.{list_any-append}
 use Rattle.std.proofs.lemmas.List.Sorted.{list_any-IsPermutation}
-use Rattle.std.specs.List.{range_with_len}
-use Rattle.std.specs.Prelude.{Option, Some, None, nat_eq, slice_index_or, slice_set, if◌then◌else◌}
-use Rattle.std.specs.Option.{option_map_or, option_or}
+use Rattle.std.specs.List.{list_any, filter, range_with_len}
+use Rattle.std.specs.Prelude.{Option, Some, nat_eq, slice_index_or, slice_set, unwrap_or, if◌then◌else◌}
+use Rattle.std.specs.Option.{option_map}
 use Rattle.linkset.specs.Members.{has_member}
-use Rattle.linkset.specs.Preference.{preference, first_in_service, has_link, is_in_service}
+use Rattle.linkset.specs.declared.link_group.Member.{Member}
+use Rattle.linkset.specs.Preference.{preference, first_serving, has_link, is_in_service, members_of, serves}
 use Rattle.linkset.proofs.Preference.{preference-permutation}
 use Rattle.route_table.specs.declared.route.Route.{Route}
 use Rattle.route_table.specs.declared.route.RouteStatus.{RouteStatus}
 use Rattle.route_table.specs.declared.route.RouteStatus.TheVariants.{Allowed, Restricted}
 use Rattle.route_table.specs.Facts.{Facts, set_at, routes_to, with_link, with_status_over}
-use Rattle.route_table.specs.Chosen.{status_number, is_open}
+use Rattle.route_table.specs.Chosen.{status_number, is_open, groups_of, open_group, Choice, allowed_or, choice_among, taken_by, sets_of, members}
 use Rattle.route_table.specs.Statuses.{leads_by, with_statuses_reset}
 use Rattle.signalling_types.specs.declared.limits.TheConstants.Limits.{SELECTIONS}
-use Rattle.route_table.specs.Table.{no_links, links_of_set, links_over, route_among, links_among, table_of, mended_below, goes_by_link, goes_by_set}
+use Rattle.route_table.specs.Table.{links_of_group, links_by, links_among, table_of, mended_below, goes_by_link, goes_by_set}
+use Rattle.route_table.proofs.Groups.{neither_left, neither_right, any_group, found_apart, either_apart}
 use Rattle.route_table.proofs.Compiling.{below_is, same_links}
 
-neither_left : (a b : Bool) → (a || b) ≡ false → a ≡ false
-neither_left true b e = absurd cc
-neither_left false b e = refl
-
-neither_right : (a b : Bool) → (a || b) ≡ false → b ≡ false
-neither_right true b e = absurd cc
-neither_right false b e = e
-
--- ---- a set without the link that changes
+-- ---- a group without the link that changes
 
 module _ (in_service : List Bool) (link : ℕ) (up : Bool) where
   abbrev after : List Bool
@@ -43,23 +39,27 @@ module _ (in_service : List Bool) (link : ℕ) (up : Bool) where
       ap (λ (b : Bool). b || has_link in_service links) (member_alike l (neither_left (nat_eq l link) _ e))
       ∙ ap (λ (b : Bool). is_in_service after l || b) (any_alike links (neither_right (nat_eq l link) _ e))
 
-  found_alike : (links : List ℕ) → has_member link links ≡ false
-      → find (λ l. is_in_service in_service l) links ≡ find (λ l. is_in_service after l) links
-  found_alike [] e = refl
-  found_alike (l ∷ links) e =
-      ap (λ (b : Bool). cond b (Some l) (find (λ m. is_in_service in_service m) links)) (member_alike l (neither_left (nat_eq l link) _ e))
-      ∙ ap (λ (o : Option ℕ). cond (is_in_service after l) (Some l) o) (found_alike links (neither_right (nat_eq l link) _ e))
+  module _ (sets : List ℕ) where
+    found_alike : (group : List Member) → list_any (λ m. nat_eq m.link link) group ≡ false
+        → find (serves in_service sets) group ≡ find (serves after sets) group
+    found_alike [] e = refl
+    found_alike (m ∷ ms) e =
+        ap (λ (b : Bool). cond (b && list_any (λ s. nat_eq s m.set) sets) (Some m) (find (serves in_service sets) ms))
+        (member_alike m.link (neither_left (nat_eq m.link link) _ e))
+        ∙ ap (λ (o : Option Member). cond (serves after sets m) (Some m) o) (found_alike ms (neither_right (nat_eq m.link link) _ e))
 
-  first_alike : (links : List ℕ) → has_member link links ≡ false → (selection : ℕ)
-      → first_in_service selection in_service links ≡ first_in_service selection after links
-  first_alike links e selection =
-      found_alike (preference selection links)
-      (sym (list_any-IsPermutation (λ (l : ℕ). nat_eq l link) links (preference selection links) (preference-permutation selection links)) ∙ e)
+    first_alike : (group : List Member) → list_any (λ m. nat_eq m.link link) group ≡ false → (selection : ℕ)
+        → first_serving selection in_service sets group ≡ first_serving selection after sets group
+    first_alike group e selection =
+        ap (λ (o : Option Member). option_map (λ (m : Member). m.link) o)
+        (found_alike (preference selection group)
+        (sym (list_any-IsPermutation (λ (m : Member). nat_eq m.link link) group (preference selection group) (preference-permutation selection group)) ∙ e))
 
-  set_alike : (links : List ℕ) → has_member link links ≡ false → links_of_set in_service links ≡ links_of_set after links
-  unfolding links_of_set
-  set_alike links e =
-      ap (λ (g : ℕ → Option ℕ). map g (range_with_len 0 SELECTIONS)) (λ i. λ selection. first_alike links e selection i)
+    all_alike : (group : List Member) → list_any (λ m. nat_eq m.link link) group ≡ false
+        → links_of_group in_service sets group ≡ links_of_group after sets group
+    unfolding links_of_group
+    all_alike group e =
+        ap (λ (g : ℕ → Option ℕ). map g (range_with_len 0 SELECTIONS)) (λ i. λ selection. first_alike group e selection i)
 
 -- ---- a destination to which the set of the link doesn't lead
 
@@ -67,43 +67,73 @@ module _ (f : Facts) (link : ℕ) (up : Bool) where
   abbrev changed : Facts
   changed = with_link link up f
 
-  open_alike : (status : RouteStatus) (routes : List Route) → goes_by_link f link routes ≡ false
-      → find (is_open f status) routes ≡ find (is_open changed status) routes
-  open_alike status [] e = refl
-  open_alike status (r ∷ rs) e =
-      ap (λ (b : Bool). cond ((status_number r.status == status_number status) && b) (Some r) (find (is_open f status) rs))
-      (any_alike f.in_service link up (set_at f r.set) (neither_left (has_member link (set_at f r.set)) _ e))
-      ∙ ap (λ (o : Option Route). cond (is_open changed status r) (Some r) o) (open_alike status rs (neither_right (has_member link (set_at f r.set)) _ e))
+  -- whether the link is of the set of a route
+  abbrev goes : Route → Bool
+  goes route = has_member link (set_at f route.set)
 
-  found_apart : (q : Route → Bool) (routes : List Route) (route : Route) → goes_by_link f link routes ≡ false → find q routes ≡ Some route
-      → has_member link (set_at f route.set) ≡ false
-  found_apart q [] route e is = absurd cc
-  found_apart q (r ∷ rs) route e is =
-      elim (q r) as (λ b. cond b (Some r) (find q rs) ≡ Some route → has_member link (set_at f route.set) ≡ false) [
-        | true ↦ λ here.
-            let same : r ≡ route = cc in
-            ap (λ (x : Route). has_member link (set_at f x.set)) (sym same) ∙ neither_left (has_member link (set_at f r.set)) _ e
-        | false ↦ λ there. found_apart q rs route (neither_right (has_member link (set_at f r.set)) _ e) there
-      ] is
+  one_alike : (status : RouteStatus) (r : Route) → goes r ≡ false → is_open f status r ≡ is_open changed status r
+  one_alike status r e = ap (λ (b : Bool). (status_number r.status == status_number status) && b) (any_alike f.in_service link up (set_at f r.set) e)
 
-  chosen_apart : (routes : List Route) (a r : Option Route) (route : Route) → goes_by_link f link routes ≡ false
-      → find (is_open f Allowed) routes ≡ a → find (is_open f Restricted) routes ≡ r → option_or a r ≡ Some route
-      → has_member link (set_at f route.set) ≡ false
-  chosen_apart routes (Some x) r route e first second is = found_apart (is_open f Allowed) routes route e (first ∙ is)
-  chosen_apart routes None r route e first second is = found_apart (is_open f Restricted) routes route e (second ∙ is)
+  some_alike : (status : RouteStatus) (routes : List Route) → list_any goes routes ≡ false
+      → list_any (is_open f status) routes ≡ list_any (is_open changed status) routes
+  some_alike status [] e = refl
+  some_alike status (r ∷ rs) e =
+      ap (λ (b : Bool). b || list_any (is_open f status) rs) (one_alike status r (neither_left (goes r) _ e))
+      ∙ ap (λ (b : Bool). is_open changed status r || b) (some_alike status rs (neither_right (goes r) _ e))
 
-  over_alike : (o : Option Route) → ((route : Route) → o ≡ Some route → has_member link (set_at f route.set) ≡ false)
-      → option_map_or (λ route. links_over f route.set) o no_links ≡ option_map_or (λ route. links_over changed route.set) o no_links
-  over_alike None apart = refl
-  over_alike (Some route) apart = set_alike f.in_service link up (set_at f route.set) (apart route refl)
+  group_alike : (status : RouteStatus) (groups : List (List Route)) → list_any (list_any goes) groups ≡ false
+      → open_group f status groups ≡ open_group changed status groups
+  group_alike status [] e = refl
+  group_alike status (g ∷ gs) e =
+      ap (λ (b : Bool). unwrap_or (cond b (Some g) (find (list_any (is_open f status)) gs)) []) (some_alike status g (neither_left (list_any goes g) _ e))
+      ∙ elim (list_any (is_open changed status) g) as (λ b. unwrap_or (cond b (Some g) (find (list_any (is_open f status)) gs)) []
+      ≡ unwrap_or (cond b (Some g) (find (list_any (is_open changed status)) gs)) []) [
+        | true ↦ refl
+        | false ↦ group_alike status gs (neither_right (list_any goes g) _ e)
+      ]
+
+  choice_alike : (routes : List Route) → list_any goes routes ≡ false → choice_among f routes ≡ choice_among changed routes
+  unfolding choice_among
+  choice_alike routes e =
+      let none : list_any (list_any goes) (groups_of routes) ≡ false = any_group goes routes ∙ e in
+      ap (λ (g : List Route). allowed_or g (open_group f Restricted (groups_of routes))) (group_alike Allowed (groups_of routes) none)
+      ∙ ap (λ (g : List Route). allowed_or (open_group changed Allowed (groups_of routes)) g) (group_alike Restricted (groups_of routes) none)
+
+  choice_apart : (routes : List Route) → list_any goes routes ≡ false → list_any goes (choice_among f routes).group ≡ false
+  unfolding choice_among
+  choice_apart routes e =
+      let none : list_any (list_any goes) (groups_of routes) ≡ false = any_group goes routes ∙ e in
+      either_apart goes (open_group f Allowed (groups_of routes)) (open_group f Restricted (groups_of routes))
+      (found_apart goes (list_any (is_open f Allowed)) (groups_of routes) none)
+      (found_apart goes (list_any (is_open f Restricted)) (groups_of routes) none)
+
+  taken_alike : (status : RouteStatus) (routes : List Route) → list_any goes routes ≡ false
+      → filter (is_open f status) routes ≡ filter (is_open changed status) routes
+  taken_alike status [] e = refl
+  taken_alike status (r ∷ rs) e =
+      ap (λ (b : Bool). cond b (r ∷ filter (is_open f status) rs) (filter (is_open f status) rs)) (one_alike status r (neither_left (goes r) _ e))
+      ∙ ap (λ (xs : List Route). cond (is_open changed status r) (r ∷ xs) xs) (taken_alike status rs (neither_right (goes r) _ e))
+
+  set_without : (set : ℕ) (links : List ℕ) → list_any (λ (m : Member). nat_eq m.link link) (members_of set links) ≡ has_member link links
+  set_without set [] = refl
+  set_without set (l ∷ ls) = ap (λ (b : Bool). nat_eq l link || b) (set_without set ls)
+
+  members_without : (routes : List Route) → list_any (λ (m : Member). nat_eq m.link link) (members f routes) ≡ list_any goes routes
+  members_without [] = refl
+  members_without (r ∷ rs) =
+      ap (λ (ms : List Member). list_any (λ (m : Member). nat_eq m.link link) ms) (flat_map-cons (λ (route : Route). members_of route.set (set_at f route.set)) r rs)
+      ∙ list_any-append (λ (m : Member). nat_eq m.link link) (members_of r.set (set_at f r.set)) (members f rs)
+      ∙ ap (λ (b : Bool). b || list_any (λ (m : Member). nat_eq m.link link) (members f rs)) (set_without r.set (set_at f r.set))
+      ∙ ap (λ (b : Bool). goes r || b) (members_without rs)
+
+  by_alike : (c : Choice) → list_any goes c.group ≡ false → links_by f c ≡ links_by changed c
+  by_alike c e =
+      all_alike f.in_service link up (sets_of (taken_by f c)) (members f c.group) (members_without c.group ∙ e)
+      ∙ ap (λ (routes : List Route). links_of_group changed.in_service (sets_of routes) (members f c.group)) (taken_alike c.status c.group e)
 
   links_alike : (routes : List Route) → goes_by_link f link routes ≡ false → links_among f routes ≡ links_among changed routes
   unfolding links_among
-  links_alike routes e =
-      over_alike (route_among f routes) (λ route is. chosen_apart routes _ _ route e refl refl is)
-      ∙ ap (λ (o : Option Route). option_map_or (λ route. links_over changed route.set) o no_links)
-      (ap (λ (o : Option Route). option_or o (find (is_open f Restricted) routes)) (open_alike Allowed routes e)
-      ∙ ap (λ (o : Option Route). option_or (find (is_open changed Allowed) routes) o) (open_alike Restricted routes e))
+  links_alike routes e = by_alike (choice_among f routes) (choice_apart routes e) ∙ ap (links_by changed) (choice_alike routes e)
 
 -- ---- the whole table
 

@@ -1,41 +1,34 @@
 -- What a status that a route gets changes, and what it doesn't.
 use Rattle.std.proofs.Common.{◌≡◌, ◌≢◌, ℕ, zero, suc, true, false, cond, List, [], ◌∷◌, map, find, refl, ap, sym, ◌∙◌}
 use Rattle.std.specs.Prelude.{Option, Some, slice_index_or, slice_set, nat_eq, if◌then◌else◌}
-use Rattle.std.specs.Option.{option_map, option_or, option_and_then}
+use Rattle.std.specs.Option.{option_map}
 use Rattle.std.proofs.Math.ListN.{get_or-map}
 use Rattle.std.proofs.lemmas.List.{get_or-set_other}
-use Rattle.linkset.specs.Preference.{first_in_service}
 use Rattle.route_table.specs.declared.route.Route.{Route}
 use Rattle.route_table.specs.declared.route.RouteStatus.{RouteStatus}
-use Rattle.route_table.specs.declared.route.RouteStatus.TheVariants.{Allowed, Restricted}
-use Rattle.route_table.specs.Facts.{Facts, set_at, routes_to, with_status_over, with_status}
-use Rattle.route_table.specs.Chosen.{is_open, chosen_route, chosen_link}
+use Rattle.route_table.specs.declared.route.RouteStatus.TheVariants.{Allowed}
+use Rattle.route_table.specs.Facts.{Facts, routes_to, with_status_over, with_status}
+use Rattle.route_table.specs.Chosen.{choice_among, taken_by, link_by, chosen_routes, chosen_link}
 use Rattle.route_table.specs.Statuses.{leads_by, status_of, with_statuses_reset}
 
 -- ---- another destination
-
--- the route among these, and the link by it
-abbrev pub route_among : Facts → List Route → Option Route
-route_among f routes = option_or (find (is_open f Allowed) routes) (find (is_open f Restricted) routes)
-
-abbrev pub link_among : Facts → ℕ → List Route → Option ℕ
-link_among f selection routes =
-    option_and_then (λ set. first_in_service selection f.in_service (set_at f set))
-    (option_or (option_map (λ route. route.set) (find (is_open f Allowed) routes)) (option_map (λ route. route.set) (find (is_open f Restricted) routes)))
 
 routes_left : (f : Facts) (destination other set : ℕ) (status : RouteStatus) → destination ≢ other
     → routes_to (with_status destination set status f) other ≡ routes_to f other
 routes_left f destination other set status apart =
     get_or-set_other f.routes destination other (map (with_status_over set status) (routes_to f destination)) [] (λ e. apart (sym e))
 
-pub other_route : (f : Facts) (destination other set : ℕ) (status : RouteStatus) → destination ≢ other
-    → chosen_route (with_status destination set status f) other ≡ chosen_route f other
-other_route f destination other set status apart = ap (route_among f) (routes_left f destination other set status apart)
+pub other_routes : (f : Facts) (destination other set : ℕ) (status : RouteStatus) → destination ≢ other
+    → chosen_routes (with_status destination set status f) other ≡ chosen_routes f other
+unfolding choice_among
+other_routes f destination other set status apart =
+    ap (λ (routes : List Route). taken_by f (choice_among f routes)) (routes_left f destination other set status apart)
 
 pub other_link : (f : Facts) (destination other set selection : ℕ) (status : RouteStatus) → destination ≢ other
     → chosen_link (with_status destination set status f) other selection ≡ chosen_link f other selection
+unfolding choice_among link_by
 other_link f destination other set selection status apart =
-    ap (link_among f selection) (routes_left f destination other set status apart)
+    ap (λ (routes : List Route). link_by f (choice_among f routes) selection) (routes_left f destination other set status apart)
 
 -- ---- the status that is read
 

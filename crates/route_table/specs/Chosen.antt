@@ -1,7 +1,9 @@
--- Which set and which link a flow takes (Q.704 §4.2).
-use Rattle.std.specs.Prelude.{ℕ, Bool, ◌&&◌, ◌==◌, List, [], ◌∷◌, Option, None, codes, find, if◌then◌else◌}
-use Rattle.std.specs.Option.{option_map, option_or, option_and_then}
-use Rattle.linkset.specs.Preference.{has_link, first_in_service}
+-- Which sets and which link a flow takes (Q.704 §4.2).
+use Rattle.std.specs.Prelude.{ℕ, Bool, ◌&&◌, ◌==◌, List, [], ◌∷◌, Option, Some, None, codes, find, map, unwrap_or}
+use Rattle.std.specs.Prelude.{if◌then◌else◌}
+use Rattle.std.specs.List.{list_any, filter, flat_map}
+use Rattle.linkset.specs.declared.link_group.Member.{Member}
+use Rattle.linkset.specs.Preference.{has_link, members_of, first_serving}
 use Rattle.route_table.specs.declared.route.Route.{Route}
 use Rattle.route_table.specs.declared.route.RouteStatus.{RouteStatus}
 use Rattle.route_table.specs.declared.route.RouteStatus.TheVariants.{Allowed, Restricted, Prohibited}
@@ -24,35 +26,82 @@ abbrev pub is_open : Facts → RouteStatus → Route → Bool
 is_open f status route =
     (status_number route.status == status_number status) && has_link f.in_service (set_at f route.set)
 
--- the first route to a destination with this status whose set has a link in service
-abbrev pub open_route : Facts → ℕ → RouteStatus → Option Route
-open_route f destination status = find (is_open f status) (routes_to f destination)
+-- ---- the sets
 
--- the route that messages to a destination take: the first that is allowed, else the first that is restricted
-abbrev pub chosen_route : Facts → ℕ → Option Route
-chosen_route f destination = option_or (open_route f destination Allowed) (open_route f destination Restricted)
+-- each of some routes as a group by itself
+abbrev pub alone : List Route → List (List Route)
+alone routes = map (λ route. route ∷ []) routes
 
--- the first set that leads to a destination with this status and has a link in service
-abbrev pub first_set : Facts → ℕ → RouteStatus → Option ℕ
-first_set f destination status = option_map (λ route. route.set) (open_route f destination status)
+-- the routes to a destination in groups: the first two together where they are joined, and each other by itself
+abbrev pub groups_of : List Route → List (List Route)
+groups_of [] = []
+groups_of (first ∷ []) = alone (first ∷ [])
+groups_of (first ∷ second ∷ rest) =
+    if second.joined then (first ∷ second ∷ []) ∷ alone rest else alone (first ∷ second ∷ rest)
 
--- the set of a destination: the first that is allowed, else the first that is restricted
-abbrev pub chosen_set : Facts → ℕ → Option ℕ
-chosen_set f destination = option_or (first_set f destination Allowed) (first_set f destination Restricted)
+-- how many routes the first group has
+abbrev pub first_size : List Route → ℕ
+first_size [] = 0
+first_size (first ∷ []) = 1
+first_size (first ∷ second ∷ rest) = if second.joined then 2 else 1
 
--- the link of a flow: the first in service that it tries in the set of its destination
+-- the first group with a route that has this status, and whose set has a link in service; none where there isn't one
+abbrev pub open_group : Facts → RouteStatus → List (List Route) → List Route
+open_group f status groups = unwrap_or (find (list_any (is_open f status)) groups) []
+
+-- a group, and the status of those of its routes that messages take
+pub record Choice : Type 0 where
+  pub group : List Route
+  pub status : RouteStatus
+
+-- a group by its allowed routes; where it has no route, another by its restricted ones
+abbrev pub allowed_or : (allowed restricted : List Route) → Choice
+allowed_or (first ∷ rest) restricted = record { group = first ∷ rest; status = Allowed }
+allowed_or [] restricted = record { group = restricted; status = Restricted }
+
+-- the group that messages take: the first with a set that is allowed and has a link in service, else the first with one
+-- that is restricted and has one
+unfoldable pub choice_among : Facts → List Route → Choice
+choice_among f routes = allowed_or (open_group f Allowed (groups_of routes)) (open_group f Restricted (groups_of routes))
+
+-- the routes of the group that they take: all of that status whose sets have a link in service
+abbrev pub taken_by : Facts → Choice → List Route
+taken_by f c = filter (is_open f c.status) c.group
+
+-- the sets that routes go by
+abbrev pub sets_of : List Route → List ℕ
+sets_of routes = map (λ route. route.set) routes
+
+-- the routes that messages to a destination take
+abbrev pub chosen_routes : Facts → ℕ → List Route
+chosen_routes f destination = taken_by f (choice_among f (routes_to f destination))
+
+-- the sets that they take
+abbrev pub chosen_sets : Facts → ℕ → List ℕ
+chosen_sets f destination = sets_of (chosen_routes f destination)
+
+-- ---- the link
+
+-- the links of a group, each with its set: those of its first set in the order of their codes, then those of its second
+abbrev pub members : Facts → List Route → List Member
+members f group = flat_map (λ route. members_of route.set (set_at f route.set)) group
+
+-- the link of a flow by a choice: the first of the group in service that it tries, of those whose set messages take
+unfoldable pub link_by : Facts → Choice → (selection : ℕ) → Option ℕ
+link_by f c selection = first_serving selection f.in_service (sets_of (taken_by f c)) (members f c.group)
+
+-- the link of a flow
 abbrev pub chosen_link : Facts → (destination selection : ℕ) → Option ℕ
-chosen_link f destination selection =
-    option_and_then (λ set. first_in_service selection f.in_service (set_at f set)) (chosen_set f destination)
+chosen_link f destination selection = link_by f (choice_among f (routes_to f destination)) selection
 
--- the same, route by route: the link by a route of this status
-abbrev pub link_by : Facts → (selection : ℕ) → RouteStatus → Route → Option ℕ
-link_by f selection status route =
-    if status_number route.status == status_number status
-    then first_in_service selection f.in_service (set_at f route.set) else None
+-- ---- a set alone
 
--- and that by the first of some routes that has one
-abbrev pub open_link : Facts → (selection : ℕ) → RouteStatus → List Route → Option ℕ
-open_link f selection status [] = None
-open_link f selection status (route ∷ routes) =
-    option_or (link_by f selection status route) (open_link f selection status routes)
+-- the set of a group of one route
+abbrev pub alone_in : List Route → Option ℕ
+alone_in [] = None
+alone_in (route ∷ []) = Some route.set
+alone_in (first ∷ second ∷ rest) = None
+
+-- the set that all messages to a destination take, where the group that they take is that set alone
+abbrev pub lone_set : Facts → ℕ → Option ℕ
+lone_set f destination = alone_in (choice_among f (routes_to f destination)).group

@@ -26,11 +26,17 @@ routes_to f destination = slice_index_or f.routes destination []
 
 -- a route is allowed at first
 abbrev pub first_route : ℕ → Route
-first_route set = record { set = set; status = Allowed }
+first_route set = record { set = set; status = Allowed; joined = false }
+
+-- the second of some routes is joined to the first, or isn't
+abbrev pub with_second_joined : Bool → List Route → List Route
+with_second_joined joined [] = []
+with_second_joined joined (first ∷ []) = first ∷ []
+with_second_joined joined (first ∷ second ∷ rest) = first ∷ record second { joined = joined } ∷ rest
 
 -- the routes to a destination at first
 abbrev pub first_routes : DestinationEntry → List Route
-first_routes d = map first_route d.sets
+first_routes d = with_second_joined d.joined (map first_route d.sets)
 
 -- the links of the first n sets
 unfoldable pub first_sets : ℕ → List LinkEntry → List (List ℕ)

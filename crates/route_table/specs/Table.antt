@@ -1,37 +1,27 @@
 -- The links of all flows, in a table: a row for each destination, with a place for each selection.
-use Rattle.std.specs.Prelude.{ℕ, zero, suc, Bool, List, Option, None, find, map, replicate}
-use Rattle.std.specs.Prelude.{slice_set, if◌then◌else◌}
+use Rattle.std.specs.Prelude.{ℕ, zero, suc, Bool, List, Option, map, slice_set, if◌then◌else◌}
 use Rattle.std.specs.List.{list_any, range_with_len}
-use Rattle.std.specs.Option.{option_or, option_map_or}
 use Rattle.signalling_types.specs.declared.limits.TheConstants.Limits.{SELECTIONS}
 use Rattle.linkset.specs.Members.{has_member}
-use Rattle.linkset.specs.Preference.{first_in_service}
+use Rattle.linkset.specs.declared.link_group.Member.{Member}
+use Rattle.linkset.specs.Preference.{first_serving}
 use Rattle.route_table.specs.declared.route.Route.{Route}
-use Rattle.route_table.specs.declared.route.RouteStatus.TheVariants.{Allowed, Restricted}
 use Rattle.route_table.specs.Facts.{Facts, set_at, routes_to}
-use Rattle.route_table.specs.Chosen.{is_open}
+use Rattle.route_table.specs.Chosen.{Choice, choice_among, taken_by, sets_of, members}
 use Rattle.route_table.specs.Statuses.{leads_by}
 
--- no flow has a link
-unfoldable pub no_links : List (Option ℕ)
-no_links = replicate SELECTIONS None
+-- the links of the flows that take these sets of a group
+unfoldable pub links_of_group : List Bool → (sets : List ℕ) → List Member → List (Option ℕ)
+links_of_group in_service sets group =
+    map (λ selection. first_serving selection in_service sets group) (range_with_len 0 SELECTIONS)
 
--- the links of the flows that take these links of a set
-unfoldable pub links_of_set : List Bool → List ℕ → List (Option ℕ)
-links_of_set in_service links =
-    map (λ selection. first_in_service selection in_service links) (range_with_len 0 SELECTIONS)
-
--- those of the flows that take a set
-abbrev pub links_over : Facts → (set : ℕ) → List (Option ℕ)
-links_over f set = links_of_set f.in_service (set_at f set)
-
--- the route that messages take among the routes to their destination
-abbrev pub route_among : Facts → List Route → Option Route
-route_among f routes = option_or (find (is_open f Allowed) routes) (find (is_open f Restricted) routes)
+-- the links of the flows by a choice
+abbrev pub links_by : Facts → Choice → List (Option ℕ)
+links_by f c = links_of_group f.in_service (sets_of (taken_by f c)) (members f c.group)
 
 -- the links of the flows to a destination
 unfoldable pub links_among : Facts → List Route → List (Option ℕ)
-links_among f routes = option_map_or (λ route. links_over f route.set) (route_among f routes) no_links
+links_among f routes = links_by f (choice_among f routes)
 
 -- those of all flows
 abbrev pub table_of : Facts → List (List (Option ℕ))

@@ -1,12 +1,12 @@
 //! The links of the flows to one destination.
 
 ghost use Rattle.std.specs.Prelude.{◌≡◌, ◌<◌, None, slice_index_or};
-ghost use Rattle.linkset.specs.Preference.{first_in_service};
+ghost use Rattle.linkset.specs.Preference.{first_serving};
 ghost use Rattle.signalling_types.specs.declared.limits.TheConstants.Limits.{SELECTIONS};
-ghost use Rattle.route_table.specs.Table.{no_links, links_of_set};
+ghost use Rattle.route_table.specs.Table.{links_of_group};
 
-use linkset::LinkSet;
-use signalling_types::{Limits, LinkId, Sls};
+use linkset::LinkGroup;
+use signalling_types::{Limits, LinkId, SetId, Sls};
 use std::marker::Model;
 
 /// The links of the flows to one destination, by their selections.
@@ -28,22 +28,12 @@ impl Model for FlowLinks {
 }
 
 impl FlowLinks {
-    /// No flow has a link.
-    #[tactic(auto, unfolding(crate::specs::Table::no_links))]
-    pub fn none() -> FlowLinks
-        ensures { result ≡ no_links }
+    /// The links of the flows that take these sets of a group: the first in service that each selection tries.
+    pub fn over(group: &LinkGroup, in_service: &[bool], sets: &[SetId]) -> FlowLinks
+        ensures { result ≡ links_of_group in_service.now sets.now group.now }
     {
         FlowLinks {
-            links: [None; Limits::SELECTIONS],
-        }
-    }
-
-    /// The links of the flows that take a set: the first in service that each selection tries.
-    pub fn over(set: &LinkSet, in_service: &[bool]) -> FlowLinks
-        ensures { result ≡ links_of_set in_service.now set.now }
-    {
-        FlowLinks {
-            links: links_of_set(set, in_service),
+            links: links_of_group(group, in_service, sets),
         }
     }
 
@@ -55,24 +45,33 @@ impl FlowLinks {
     }
 }
 
-/// The link that each selection takes in a set.
-fn links_of_set(set: &LinkSet, in_service: &[bool]) -> [Option<LinkId>; Limits::SELECTIONS]
-    ensures { result ≡ links_of_set in_service.now set.now }
+/// The link that each selection takes by these sets of a group.
+fn links_of_group(
+    group: &LinkGroup,
+    in_service: &[bool],
+    sets: &[SetId],
+) -> [Option<LinkId>; Limits::SELECTIONS]
+    ensures { result ≡ links_of_group in_service.now sets.now group.now }
 {
     let mut links = [None; Limits::SELECTIONS];
     for selection in 0..Limits::SELECTIONS {
-        links[selection] = first_in_service(set, selection as u8, in_service);
+        links[selection] = first_serving(group, selection as u8, in_service, sets);
     }
     links
 }
 
-/// The first link of a set in service that this selection tries.
-fn first_in_service(set: &LinkSet, selection: u8, in_service: &[bool]) -> Option<LinkId>
+/// The first link of a group that this selection tries, of those in service in these sets.
+fn first_serving(
+    group: &LinkGroup,
+    selection: u8,
+    in_service: &[bool],
+    sets: &[SetId],
+) -> Option<LinkId>
     requires { selection < SELECTIONS }
-    ensures { result ≡ first_in_service selection in_service.now set.now }
+    ensures { result ≡ first_serving selection in_service.now sets.now group.now }
 {
     match Sls::new(selection) {
-        Some(sls) => set.first_in_service(sls, in_service),
+        Some(sls) => group.first_serving(sls, in_service, sets),
         None => None,
     }
 }

@@ -1,13 +1,13 @@
 //! What holds of the link that a flow takes, and of the statuses of routes.
 
-ghost use Rattle.std.specs.Prelude.{ℕ, ◌≡◌, ◌≢◌, true, false, Some, is_some};
+ghost use Rattle.std.specs.Prelude.{ℕ, ◌≡◌, ◌≢◌, ◌⊎◌, true, false, nat_lt, Some, All, length, is_some};
 ghost use Rattle.std.specs.Option.{option_map};
 ghost use Rattle.linkset.specs.Preference.{has_link, is_in_service};
 ghost use Rattle.route_table.specs.declared.route.Route.{Route};
 ghost use Rattle.route_table.specs.declared.route.RouteStatus.{RouteStatus};
 ghost use Rattle.route_table.specs.declared.route.RouteStatus.TheVariants.{Allowed, Prohibited};
-ghost use Rattle.route_table.specs.Facts.{Facts, set_at, with_status};
-ghost use Rattle.route_table.specs.Chosen.{chosen_link, chosen_route, chosen_set};
+ghost use Rattle.route_table.specs.Facts.{Facts, set_at, with_link, with_status};
+ghost use Rattle.route_table.specs.Chosen.{chosen_link, chosen_routes, chosen_sets, lone_set};
 ghost use Rattle.route_table.specs.Statuses.{status_of, with_statuses_reset};
 
 /// The link of a flow is in service.
@@ -16,31 +16,43 @@ pub fn chosen_link_serves()
         → chosen_link f destination selection ≡ Some link → is_in_service f.in_service link ≡ true }
 {}
 
-/// There is a link for a flow exactly where there is a set for its destination.
+/// There is a link for a flow exactly where messages to its destination take some set.
 pub fn a_flow_has_a_link_where_it_has_a_set()
     ensures { (f : Facts) (destination selection : ℕ)
-        → is_some (chosen_link f destination selection) ≡ is_some (chosen_set f destination) }
+        → is_some (chosen_link f destination selection) ≡ nat_lt 0 (length (chosen_sets f destination)) }
 {}
 
-/// The route that messages to a destination take isn't prohibited: it is allowed or restricted.
-pub fn chosen_route_isnt_prohibited()
-    ensures { (f : Facts) (destination : ℕ) (route : Route)
-        → chosen_route f destination ≡ Some route → route.status ≢ Prohibited }
+/// A link that leaves service takes its own flows with it: every other flow keeps its link.
+pub fn a_link_that_leaves_moves_its_own_flows()
+    ensures { (f : Facts) (link destination selection now : ℕ) → chosen_link f destination selection ≡ Some now
+        → (now ≡ link) ⊎ (chosen_link (with_link link false f) destination selection ≡ Some now) }
 {}
 
-/// A status of one destination changes neither the route nor the links of another.
+/// Destinations to which messages go by the same set alone share the link of each selection.
+pub fn a_lone_set_decides_the_links()
+    ensures { (f : Facts) (destination other set selection : ℕ)
+        → lone_set f destination ≡ Some set → lone_set f other ≡ Some set
+        → chosen_link f destination selection ≡ chosen_link f other selection }
+{}
+
+/// No route that messages to a destination take is prohibited: each is allowed or restricted.
+pub fn no_chosen_route_is_prohibited()
+    ensures { (f : Facts) (destination : ℕ) → All (λ route. route.status ≢ Prohibited) (chosen_routes f destination) }
+{}
+
+/// A status of one destination changes neither the routes nor the links of another.
 pub fn another_destination_is_left()
-    ensures route { (f : Facts) (destination other set : ℕ) (status : RouteStatus) → destination ≢ other
-        → chosen_route (with_status destination set status f) other ≡ chosen_route f other }
+    ensures routes { (f : Facts) (destination other set : ℕ) (status : RouteStatus) → destination ≢ other
+        → chosen_routes (with_status destination set status f) other ≡ chosen_routes f other }
     ensures link { (f : Facts) (destination other set selection : ℕ) (status : RouteStatus) → destination ≢ other
         → chosen_link (with_status destination set status f) other selection ≡ chosen_link f other selection }
 {}
 
-/// While no link of a set is in service, its statuses don't matter: as they become allowed, each destination keeps its
-/// route, and each flow its link.
+/// While no link of a set is in service, its statuses don't matter: as they become allowed, messages to each destination
+/// take the same routes, and each flow its link.
 pub fn reset_out_of_service_moves_nothing()
-    ensures route { (f : Facts) (set destination : ℕ) → has_link f.in_service (set_at f set) ≡ false
-        → chosen_route (with_statuses_reset set f) destination ≡ chosen_route f destination }
+    ensures routes { (f : Facts) (set destination : ℕ) → has_link f.in_service (set_at f set) ≡ false
+        → chosen_routes (with_statuses_reset set f) destination ≡ chosen_routes f destination }
     ensures link { (f : Facts) (set destination selection : ℕ) → has_link f.in_service (set_at f set) ≡ false
         → chosen_link (with_statuses_reset set f) destination selection ≡ chosen_link f destination selection }
 {}

@@ -1,7 +1,7 @@
 //! The routes to one destination.
 
 ghost use Rattle.std.specs.Prelude.{◌≡◌, ◌==◌, ◌≤◌, length, map};
-ghost use Rattle.route_table.specs.Facts.{first_routes, first_route, with_status_over};
+ghost use Rattle.route_table.specs.Facts.{first_routes, first_route, with_second_joined, with_status_over};
 ghost use Rattle.route_table.specs.Chosen.{status_name, status_number};
 
 use arrayvec::ArrayVec;
@@ -47,6 +47,8 @@ pub struct Route {
     pub set: SetId,
     /// Its status.
     pub status: RouteStatus,
+    /// Whether it is joined to the route before it: both are preferred alike. Only the second route can be.
+    pub joined: bool,
 }
 
 impl Default for Route {
@@ -54,6 +56,7 @@ impl Default for Route {
         Route {
             set: SetId::new(0),
             status: RouteStatus::Prohibited,
+            joined: false,
         }
     }
 }
@@ -83,8 +86,10 @@ impl RouteList {
             routes.push(Route {
                 set: *set,
                 status: RouteStatus::Allowed,
+                joined: false,
             });
         }
+        join_second(&mut routes, destination.joined());
         RouteList { routes }
     }
 
@@ -100,6 +105,18 @@ impl RouteList {
         ensures { self.new ≡ map (with_status_over set status) self.old }
     {
         tell(&mut self.routes, set, status);
+    }
+}
+
+/// The second route is joined to the first, or isn't.
+fn join_second(routes: &mut [Route], joined: bool)
+    ensures { routes.new ≡ with_second_joined joined routes.old }
+{
+    if routes.len() > 1 {
+        routes[1] = Route {
+            joined,
+            ..routes[1]
+        };
     }
 }
 

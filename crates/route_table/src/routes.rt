@@ -3,7 +3,7 @@
 ghost use Rattle.std.specs.Prelude.{◌≡◌, ◌≤◌, false, length, IfOk};
 ghost use Rattle.linkset.specs.Preference.{has_link};
 ghost use Rattle.route_table.specs.Facts.{first_facts, set_at, with_link, with_status};
-ghost use Rattle.route_table.specs.Chosen.{chosen_link, chosen_route};
+ghost use Rattle.route_table.specs.Chosen.{chosen_link, chosen_routes, chosen_sets, lone_set};
 ghost use Rattle.route_table.specs.Statuses.{status_of, with_statuses_reset};
 
 mod table;
@@ -11,6 +11,7 @@ mod table;
 use crate::flow_links::FlowLinks;
 use crate::known::KnownRoutes;
 use crate::route::{Route, RouteStatus};
+use arrayvec::ArrayVec;
 use settings_rows::{DestinationRow, LinkRow};
 use signalling_types::{Limits, LinkId, SetId, Sls};
 use std::alloc::{AllocError, Global};
@@ -21,7 +22,7 @@ use table::{compiled, mend, mend_by_link, mend_by_set};
 /// its number in the order of the settings.
 ///
 /// All room is made by `new`. The link of each flow stands in a table, which is mended as links and statuses change:
-/// `link_of` is one look-up. The route of a destination is worked out on each call: that takes the sets that lead to
+/// `link_of` is one look-up. The routes of a destination are worked out on each call: that takes the sets that lead to
 /// it and their links, however many others there are.
 #[derive(Drop)]
 pub struct Routes {
@@ -99,16 +100,31 @@ impl Routes {
         self.known.status_of(destination, set)
     }
 
-    /// The route that messages to a destination take: by the first of its sets that has a link in service and is
-    /// allowed, else by the first that has one and is restricted (Q.704 §4.2).
-    pub fn route_of(&self, destination: usize) -> Option<Route>
-        ensures { result ≡ chosen_route self.now destination }
+    /// The routes that messages to a destination take, in the order of its sets: all of the first group with one that is
+    /// allowed and whose set has a link in service, else the same with restricted. The first two sets are a group where
+    /// they are joined, and each other set is one by itself (Q.704 §4.2).
+    pub fn routes_of(&self, destination: usize) -> ArrayVec<Route, 2>
+        ensures { result.items ≡ chosen_routes self.now destination }
     {
-        self.known.route_of(destination)
+        self.known.routes_of(destination)
     }
 
-    /// The link of a flow: of the set of its destination, the first in service in the order in which the selection
-    /// tries them (Q.704 §4.2). It is one look-up.
+    /// The sets that messages to a destination take, in the order of its sets.
+    pub fn sets_of(&self, destination: usize) -> ArrayVec<SetId, 2>
+        ensures { result.items ≡ chosen_sets self.now destination }
+    {
+        self.known.sets_of(destination)
+    }
+
+    /// The set that all messages to a destination take, where the group that they take is that set alone.
+    pub fn lone_set(&self, destination: usize) -> Option<SetId>
+        ensures { result ≡ lone_set self.now destination }
+    {
+        self.known.lone_set(destination)
+    }
+
+    /// The link of a flow: of the group that messages to its destination take, the first in service in the order in
+    /// which the selection tries them whose set they take (Q.704 §4.2). It is one look-up.
     pub fn link_of(&self, destination: usize, sls: Sls) -> Option<LinkId>
         ensures { result ≡ chosen_link self.now destination sls }
     {
@@ -142,12 +158,13 @@ impl Routes {
         self.known.link_without(link, destination, sls)
     }
 
-    /// The route that messages to a destination would take if a link weren't in service. Nothing changes in the end.
-    pub fn route_without(&mut self, link: LinkId, destination: usize) -> Option<Route>
-        ensures route { result ≡ chosen_route (with_link link false self.old) destination }
+    /// The set that all messages to a destination would take if a link weren't in service, where the group that they
+    /// would take is that set alone. Nothing changes in the end.
+    pub fn lone_set_without(&mut self, link: LinkId, destination: usize) -> Option<SetId>
+        ensures set { result ≡ lone_set (with_link link false self.old) destination }
         ensures facts { self.new ≡ self.old }
     {
-        self.known.route_without(link, destination)
+        self.known.lone_set_without(link, destination)
     }
 
     /// Whether some link of a set would be in service if a link weren't. Nothing changes in the end.

@@ -1,6 +1,7 @@
 -- What a document says of settings. Its keys are read in their order, and the first fault among them is the
 -- document's; keys of other names are ignored.
-use Rattle.std.specs.Prelude.{ℤ, Result, Ok, codes}
+use Rattle.std.specs.Prelude.{ℤ, pos, Bool, Result, Ok, codes}
+use Rattle.std.specs.Ordering.{int_eq}
 use Rattle.toml.specs.Data.{Members}
 use Rattle.settings.specs.TimerNames.{timer_name}
 use Rattle.settings_rows.specs.declared.draft.TimersDraft.{TimersDraft}
@@ -63,6 +64,10 @@ numbers_at t =
     and_then (integer_at (codes "pool") key.Pool t) (λ pool.
     Ok (record { version = version; own = own; network = network; window = window; pool = pool }))))))
 
+-- whether the destinations of a file of this version may be joined
+abbrev pub has_joined : ℤ → Bool
+has_joined version = int_eq version (pos 2)
+
 -- what a document says: the version of its format, and settings
 pub record Document : Type 0 where
   pub version : ℤ
@@ -76,7 +81,7 @@ document t =
     and_then (timers_at t) (λ timers.
     and_then (sets_at t) (λ sets.
     and_then (links_at t) (λ links.
-    and_then (destinations_at t) (λ destinations.
+    and_then (destinations_at (has_joined numbers.version) t) (λ destinations.
     and_then (titles_at t) (λ titles.
     Ok (record {
       version = numbers.version;

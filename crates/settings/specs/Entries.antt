@@ -1,11 +1,12 @@
 -- The arrays of a settings file, entry by entry. The keys of an entry are read in their order, and the
 -- first fault among them is the entry's.
-use Rattle.std.specs.Prelude.{ℕ, ℤ, List, [], Option, Some, None, Result, Ok, Err, codes, if◌then◌else◌, bytes_eq}
+use Rattle.std.specs.Prelude.{ℕ, ℤ, Bool, false, List, [], Option, Some, None, Result, Ok, Err, codes}
+use Rattle.std.specs.Prelude.{if◌then◌else◌, bytes_eq}
 use Rattle.toml.specs.Data.{Data, Members, get_member}
 use Rattle.settings_rows.specs.declared.key.Key.TheVariants as key
 use Rattle.settings.specs.declared.fault.SettingsFault.{SettingsFault}
 use Rattle.settings.specs.declared.fault.SettingsFault.TheVariants.{Missing}
-use Rattle.settings.specs.Shapes.{and_then, each, table_in, array_in, integer_in}
+use Rattle.settings.specs.Shapes.{and_then, each, table_in, array_in, integer_in, truth_in}
 use Rattle.settings.specs.Shapes.{integer_at, text_at, texts_at, entries_at}
 use Rattle.settings.specs.Written.{WrittenSet, WrittenLink, WrittenDestination, WrittenTitle}
 
@@ -26,13 +27,23 @@ link_entry_in i d =
     and_then (integer_at (codes "slc") (key.LinkSlc i) t) (λ slc.
     Ok (record { name = name; set = set; slc = slc })))))
 
--- a destination: its point and the names of the sets that lead to it
-unfoldable pub destination_in : ℕ → Data → Result WrittenDestination SettingsFault
-destination_in i d =
+-- whether the first two sets of a destination are joined, which may be left out
+abbrev pub joined_in : ℕ → Option Data → Result Bool SettingsFault
+joined_in i None = Ok false
+joined_in i (Some d) = truth_in (key.DestinationJoined i) d
+
+-- the same in a file whose version has the key, or doesn't have it: there it is ignored
+unfoldable pub joined_at : (has_key : Bool) → ℕ → Members → Result Bool SettingsFault
+joined_at has_key i t = if has_key then joined_in i (get_member (codes "joined") t) else Ok false
+
+-- a destination: its point, the names of the sets that lead to it, and whether the first two are joined
+unfoldable pub destination_in : (has_joined : Bool) → ℕ → Data → Result WrittenDestination SettingsFault
+destination_in has_joined i d =
     and_then (table_in (key.DestinationEntry i) d) (λ t.
     and_then (integer_at (codes "point") (key.DestinationPoint i) t) (λ point.
     and_then (texts_at (codes "sets") (key.DestinationSets i) t) (λ sets.
-    Ok (record { point = point; sets = sets }))))
+    and_then (joined_at has_joined i t) (λ joined.
+    Ok (record { point = point; sets = sets; joined = joined })))))
 
 -- a subsystem number, which a route by subsystem number needs
 abbrev pub ssn_in : ℕ → List ℕ → Option Data → Result (Option ℤ) SettingsFault
@@ -70,8 +81,9 @@ sets_at t = and_then (entries_at (codes "set") key.Set t) (each set_in 0)
 unfoldable pub links_at : Members → Result (List WrittenLink) SettingsFault
 links_at t = and_then (entries_at (codes "link") key.Link t) (each link_entry_in 0)
 
-unfoldable pub destinations_at : Members → Result (List WrittenDestination) SettingsFault
-destinations_at t = and_then (entries_at (codes "destination") key.Destination t) (each destination_in 0)
+unfoldable pub destinations_at : (has_joined : Bool) → Members → Result (List WrittenDestination) SettingsFault
+destinations_at has_joined t =
+    and_then (entries_at (codes "destination") key.Destination t) (each (destination_in has_joined) 0)
 
 abbrev pub titles_in : Option Data → Result (List WrittenTitle) SettingsFault
 titles_in None = Ok []

@@ -1,5 +1,5 @@
 -- What is read from the text of a settings file.
-use Rattle.std.specs.Prelude.{◌≡◌, ◌⊎◌, ℕ, pos, List, None, Some, Result, Ok, Err, if◌then◌else◌}
+use Rattle.std.specs.Prelude.{◌≡◌, ◌⊎◌, ◌||◌, ℕ, pos, List, None, Some, Result, Ok, Err, if◌then◌else◌}
 use Rattle.std.specs.Option.{ok_or}
 use Rattle.std.specs.Ordering.{int_eq}
 use Rattle.toml.specs.Parse.{parse_document}
@@ -14,14 +14,14 @@ use Rattle.settings.specs.Shapes.{and_then}
 use Rattle.settings.specs.Written.{Written, written}
 use Rattle.settings.specs.Document.{Document, document}
 
--- the settings of a document, which has to be of version 1
-abbrev pub of_version_one : Document → Result Written SettingsFault
-of_version_one d = if int_eq d.version (pos 1) then Ok d.settings else Err kind.Version
+-- the settings of a document, which has to be of version 1 or 2
+abbrev pub of_known_version : Document → Result Written SettingsFault
+of_known_version d = if int_eq d.version (pos 1) || int_eq d.version (pos 2) then Ok d.settings else Err kind.Version
 
 -- the settings that a text has, or its first fault: it isn't TOML, a key of it is missing or has a value of
--- another type, or it is of another version than 1
+-- another type, or it is of another version than 1 and 2
 unfoldable pub reading : List ℕ → Result Written SettingsFault
-reading text = and_then (ok_or (parse_document text) kind.Text) (λ t. and_then (document t) of_version_one)
+reading text = and_then (ok_or (parse_document text) kind.Text) (λ t. and_then (document t) of_known_version)
 
 -- the settings that a text has are without a fault, and mean this configuration
 pub record IsReadAs (text : List ℕ) (c : Configuration) : Type 0 where

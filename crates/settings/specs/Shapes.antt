@@ -1,7 +1,8 @@
 -- The shapes of values in a settings file, and the fault where a value has another.
-use Rattle.std.specs.Prelude.{ℕ, ◌+◌, ℤ, List, [], ◌∷◌, Option, Some, None, Result, Ok, Err}
+use Rattle.std.specs.Prelude.{ℕ, ◌+◌, ℤ, Bool, List, [], ◌∷◌, Option, Some, None, Result, Ok, Err}
 use Rattle.std.specs.Option.{ok_or, option_map}
-use Rattle.toml.specs.Data.{Data, Items, no_items, item, Members, get_member, as_integer, as_str, as_array, as_table}
+use Rattle.toml.specs.Data.{Data, Items, no_items, item, Members, get_member, as_integer, as_bool, as_str, as_array}
+use Rattle.toml.specs.Data.{as_table}
 use Rattle.settings_rows.specs.declared.key.Key.{Key}
 use Rattle.settings.specs.declared.fault.SettingsFault.{SettingsFault}
 use Rattle.settings.specs.declared.fault.SettingsFault.TheVariants.{Missing, Kind}
@@ -25,9 +26,12 @@ each read i (a ∷ rest) = and_then (read i a) (λ b. and_then (each read (i + 1
 unfoldable pub value_at : List ℕ → Key → Members → Result Data SettingsFault
 value_at name key t = ok_or (get_member name t) (Missing key)
 
--- the integer, the text, the table and the entries of the array that a value has to be
+-- the integer, the truth value, the text, the table and the entries of the array that a value has to be
 unfoldable pub integer_in : Key → Data → Result ℤ SettingsFault
 integer_in key d = ok_or (as_integer d) (Kind key)
+
+unfoldable pub truth_in : Key → Data → Result Bool SettingsFault
+truth_in key d = ok_or (as_bool d) (Kind key)
 
 unfoldable pub text_in : Key → Data → Result (List ℕ) SettingsFault
 text_in key d = ok_or (as_str d) (Kind key)

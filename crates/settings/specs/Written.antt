@@ -1,5 +1,5 @@
 -- Settings as a file has them, as plain data, and what a draft has of it.
-use Rattle.std.specs.Prelude.{ℕ, ℤ, List, Option, map, string_bytes}
+use Rattle.std.specs.Prelude.{ℕ, ℤ, Bool, List, Option, map, string_bytes}
 use Rattle.settings_rows.specs.declared.draft.Draft.{Draft}
 use Rattle.settings_rows.specs.declared.draft.TimersDraft.{TimersDraft}
 use Rattle.settings_rows.specs.declared.draft.SetDraft.{SetDraft}
@@ -19,6 +19,7 @@ pub record WrittenLink : Type 0 where
 pub record WrittenDestination : Type 0 where
   pub point : ℤ
   pub sets : List (List ℕ)
+  pub joined : Bool
 
 pub record WrittenTitle : Type 0 where
   pub translation : ℤ
@@ -50,7 +51,11 @@ abbrev pub link_written : LinkDraft → WrittenLink
 link_written l = record { name = string_bytes l.name; set = string_bytes l.set; slc = l.slc }
 
 abbrev pub destination_written : DestinationDraft → WrittenDestination
-destination_written d = record { point = d.point; sets = map (λ name. string_bytes name) d.sets.items }
+destination_written d = record {
+  point = d.point;
+  sets = map (λ name. string_bytes name) d.sets.items;
+  joined = d.joined;
+}
 
 abbrev pub title_written : TitleDraft → WrittenTitle
 title_written t = record {

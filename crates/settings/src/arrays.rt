@@ -5,11 +5,11 @@ ghost use Rattle.toml.specs.View.{view, table_view};
 ghost use Rattle.settings.specs.Faults.{AnswersOrNoMemory};
 ghost use Rattle.settings.specs.Shapes.{each};
 ghost use Rattle.settings.specs.Written.{set_written, link_written, destination_written, title_written};
-ghost use Rattle.settings.specs.Entries.{set_in, link_entry_in, destination_in, ssn_at, title_in};
+ghost use Rattle.settings.specs.Entries.{set_in, link_entry_in, joined_at, destination_in, ssn_at, title_in};
 ghost use Rattle.settings.specs.Entries.{sets_at, links_at, destinations_at, titles_at};
 
 use crate::fault::SettingsFault;
-use crate::shapes::{array_in, entries, found, integer, integer_in, table_in, text, texts};
+use crate::shapes::{array_in, entries, found, integer, integer_in, table_in, text, texts, truth_in};
 use std::alloc::Global;
 use stp_types::{DestinationDraft, Key, LinkDraft, SetDraft, TitleDraft};
 use toml::{Table, Value};
@@ -37,15 +37,39 @@ fn link(alloc: Global, i: usize, value: &Value) -> Result<LinkDraft, SettingsFau
     Ok(LinkDraft { name, set, slc })
 }
 
-/// A destination.
+/// Whether the first two sets of a destination are joined. Where the file's version doesn't have the key it is ignored.
+#[tactic(auto, unfolding(crate::specs::Entries::joined_at))]
+fn joined(has_key: bool, table: &Table, i: usize) -> Result<bool, SettingsFault>
+    ensures { result ≡ joined_at has_key i (table_view table.now) }
+{
+    if !has_key {
+        return Ok(false);
+    }
+    match found(table, "joined") {
+        Some(value) => truth_in(value, Key::DestinationJoined(i)),
+        None => Ok(false),
+    }
+}
+
+/// A destination, in a file whose version has the key `joined` or doesn't have it.
 #[tactic(auto, unfolding(crate::specs::Entries::destination_in))]
-fn destination(alloc: Global, i: usize, value: &Value) -> Result<DestinationDraft, SettingsFault>
-    ensures { AnswersOrNoMemory destination_written (destination_in i (view value.now)) result }
+fn destination(
+    alloc: Global,
+    has_joined: bool,
+    i: usize,
+    value: &Value,
+) -> Result<DestinationDraft, SettingsFault>
+    ensures { AnswersOrNoMemory destination_written (destination_in has_joined i (view value.now)) result }
 {
     let table = table_in(value, Key::DestinationEntry(i))?;
     let point = integer(table, "point", Key::DestinationPoint(i))?;
     let sets = texts(alloc, table, "sets", Key::DestinationSets(i))?;
-    Ok(DestinationDraft { point, sets })
+    let joined = joined(has_joined, table, i)?;
+    Ok(DestinationDraft {
+        point,
+        sets,
+        joined,
+    })
 }
 
 /// The subsystem number of a translation row, which a route by subsystem number needs.
@@ -112,13 +136,17 @@ fn each_link(alloc: Global, values: &[Value]) -> Result<Vec<LinkDraft>, Settings
 }
 
 /// The destinations that values are.
-fn each_destination(alloc: Global, values: &[Value]) -> Result<Vec<DestinationDraft>, SettingsFault>
+fn each_destination(
+    alloc: Global,
+    has_joined: bool,
+    values: &[Value],
+) -> Result<Vec<DestinationDraft>, SettingsFault>
     ensures { AnswersOrNoMemory (λ destinations. map destination_written destinations.items)
-        (each destination_in 0 (map view values.now)) result }
+        (each (destination_in has_joined) 0 (map view values.now)) result }
 {
     let mut destinations = Vec::with_capacity(alloc, values.len())?;
     for i in 0..values.len() {
-        let destination = destination(alloc, i, &values[i])?;
+        let destination = destination(alloc, has_joined, i, &values[i])?;
         destinations.push(destination)?;
     }
     Ok(destinations)
@@ -157,17 +185,18 @@ pub(crate) fn links(alloc: Global, table: &Table) -> Result<Vec<LinkDraft>, Sett
     each_link(alloc, values)
 }
 
-/// The destinations of a file.
+/// The destinations of a file, whose version has the key `joined` or doesn't have it.
 #[tactic(auto, unfolding(crate::specs::Entries::destinations_at))]
 pub(crate) fn destinations(
     alloc: Global,
+    has_joined: bool,
     table: &Table,
 ) -> Result<Vec<DestinationDraft>, SettingsFault>
     ensures { AnswersOrNoMemory (λ destinations. map destination_written destinations.items)
-        (destinations_at (table_view table.now)) result }
+        (destinations_at has_joined (table_view table.now)) result }
 {
     let values = entries(table, "destination", Key::Destination)?;
-    each_destination(alloc, values)
+    each_destination(alloc, has_joined, values)
 }
 
 /// The translation rows of a file, which may have none.

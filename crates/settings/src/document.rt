@@ -17,8 +17,10 @@ use std::alloc::Global;
 use stp_types::{Draft, DraftFault, Key, Settings};
 use toml::Table;
 
-/// The version of the format.
-const VERSION: i64 = 1;
+/// The versions of the format: the first, and the last, in which destinations may be joined.
+const FIRST_VERSION: i64 = 1;
+
+const LAST_VERSION: i64 = 2;
 
 /// The numbers that a file begins with.
 #[derive(Clone, Copy)]
@@ -70,7 +72,8 @@ fn contents(alloc: Global, table: &Table) -> Result<Document, SettingsFault>
     let timers = timers(table)?;
     let sets = sets(alloc, table)?;
     let links = links(alloc, table)?;
-    let destinations = destinations(alloc, table)?;
+    let has_joined = numbers.version == LAST_VERSION;
+    let destinations = destinations(alloc, has_joined, table)?;
     let titles = titles(alloc, table)?;
     Ok(Document {
         version: numbers.version,
@@ -109,7 +112,7 @@ fn draft(alloc: Global, text: &str) -> Result<Draft, SettingsFault>
 {
     let table = parse(alloc, text)?;
     let Document { version, draft } = contents(alloc, &table)?;
-    if version != VERSION {
+    if version != FIRST_VERSION && version != LAST_VERSION {
         return Err(SettingsFault::Version);
     }
     Ok(draft)

@@ -18,7 +18,7 @@ pub enum SettingsFault {
     Missing(Key),
     /// 3: a value of another type than its key asks for.
     Kind(Key),
-    /// 4, at `version`: the file is written for another version than 1.
+    /// 4, at `version`: the file is written for another version than 1 and 2.
     Version,
     /// 4 to 8: what the check of settings finds, want of memory included.
     Draft(DraftFault),

@@ -5,8 +5,8 @@ ghost use Rattle.std.specs.Option.{option_map};
 ghost use Rattle.toml.specs.Data.{get_member};
 ghost use Rattle.toml.specs.View.{view, table_view};
 ghost use Rattle.settings.specs.Faults.{Answers, AnswersOrNoMemory};
-ghost use Rattle.settings.specs.Shapes.{value_at, integer_in, integer_at, text_in, text_at, table_in, array_in};
-ghost use Rattle.settings.specs.Shapes.{some_in, each, integers_at, texts_at, entries_at};
+ghost use Rattle.settings.specs.Shapes.{value_at, integer_in, integer_at, truth_in, text_in, text_at, table_in};
+ghost use Rattle.settings.specs.Shapes.{array_in, some_in, each, integers_at, texts_at, entries_at};
 
 use crate::fault::SettingsFault;
 use std::alloc::Global;
@@ -39,6 +39,14 @@ pub(crate) fn integer_in(value: &Value, key: Key) -> Result<i64, SettingsFault>
     ensures { result ≡ integer_in key (view value.now) }
 {
     value.as_integer().ok_or(SettingsFault::Kind(key))
+}
+
+/// The truth value that a value is.
+#[tactic(auto, unfolding(crate::specs::Shapes::truth_in))]
+pub(crate) fn truth_in(value: &Value, key: Key) -> Result<bool, SettingsFault>
+    ensures { result ≡ truth_in key (view value.now) }
+{
+    value.as_bool().ok_or(SettingsFault::Kind(key))
 }
 
 /// The text that a value is.

@@ -1,5 +1,5 @@
 -- The first fault of settings as they were written.
-use Rattle.std.specs.Prelude.{false, String, string_eq, ℕ, Bool, not, ◌&&◌, nat_eq, nat_le, ℤ, List, [], ◌∷◌, Option}
+use Rattle.std.specs.Prelude.{false, String, string_eq, ℕ, Bool, not, ◌&&◌, ◌||◌, nat_eq, nat_le, ℤ, List, [], ◌∷◌, Option}
 use Rattle.std.specs.Prelude.{length, is_some, string_bytes}
 use Rattle.std.specs.declared.alloc.Global.{Global}
 use Rattle.std.specs.List.{list_any, list_all}
@@ -17,9 +17,9 @@ use Rattle.settings_rows.specs.declared.key.TimerKey.TheVariants.{L1, L2, L3, L4
 use Rattle.settings_rows.specs.declared.key.Key.{Key}
 use Rattle.settings_rows.specs.declared.key.Key.TheVariants.{Own, Network, Window, Pool, Users, Subsystems, Timer, Set}
 use Rattle.settings_rows.specs.declared.key.Key.TheVariants.{SetName, SetAdjacent, Link, LinkName, LinkSet, LinkSlc}
-use Rattle.settings_rows.specs.declared.key.Key.TheVariants.{Destination, DestinationPoint, DestinationSets, Title}
-use Rattle.settings_rows.specs.declared.key.Key.TheVariants.{TitleTranslation, TitlePlan, TitleNature, TitleDigits}
-use Rattle.settings_rows.specs.declared.key.Key.TheVariants.{TitlePoint, TitleRoute, TitleSsn}
+use Rattle.settings_rows.specs.declared.key.Key.TheVariants.{Destination, DestinationPoint, DestinationSets}
+use Rattle.settings_rows.specs.declared.key.Key.TheVariants.{DestinationJoined, Title, TitleTranslation, TitlePlan}
+use Rattle.settings_rows.specs.declared.key.Key.TheVariants.{TitleNature, TitleDigits, TitlePoint, TitleRoute, TitleSsn}
 use Rattle.signalling_types.specs.declared.limits.TheConstants.Limits.{WINDOW, POOL, TICKS, LINKS, SETS, TITLES}
 use Rattle.signalling_types.specs.declared.limits.TheConstants.Limits.{DESTINATIONS, SETS_PER_DESTINATION}
 use Rattle.settings_check.specs.declared.timers.Written.{Written}
@@ -148,11 +148,17 @@ set_list_fault sets key names = first_of (
     ∷ fault_unless (list_all (is_set_name sets) names) UnknownName key
     ∷ [])
 
+-- a destination whose first two sets are joined has two sets
+abbrev pub joined_fault : List DestinationDraft → DestinationDraft → Option DraftFault
+joined_fault earlier d =
+    fault_unless (not d.joined || nat_le 2 (length d.sets.items)) Range (DestinationJoined (length earlier))
+
 -- the first fault of a destination, after the destinations before it
 abbrev pub destination_fault : ℕ → List SetDraft → List DestinationDraft → DestinationDraft → Option DraftFault
 destination_fault own sets earlier d = first_of (
     destination_point_fault own earlier d
     ∷ set_list_fault sets (DestinationSets (length earlier)) d.sets.items
+    ∷ joined_fault earlier d
     ∷ [])
 
 -- whether two translation rows have one key and the same digits

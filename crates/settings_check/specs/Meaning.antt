@@ -54,6 +54,7 @@ abbrev pub destination_of : List SetDraft → DestinationDraft → DestinationEn
 destination_of sets d = record {
   point = natural d.point;
   sets = map (λ name. set_number sets (string_bytes name)) d.sets.items;
+  joined = d.joined;
 }
 
 -- the point codes of destinations

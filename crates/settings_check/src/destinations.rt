@@ -7,7 +7,7 @@ ghost use Rattle.settings_rows.specs.Names.{is_name};
 ghost use Rattle.settings_check.specs.Checks.{natural, fault_unless, has_repeat, entries_fault};
 ghost use Rattle.settings_check.specs.Meaning.{set_number, destination_of, points_of};
 ghost use Rattle.settings_check.specs.FirstFault.{destination_point_fault, is_set_name, set_list_fault};
-ghost use Rattle.settings_check.specs.FirstFault.{destination_fault, destinations_fault};
+ghost use Rattle.settings_check.specs.FirstFault.{joined_fault, destination_fault, destinations_fault};
 
 use crate::names::is_name;
 use crate::numbers::{count, ensure, far_point};
@@ -104,6 +104,21 @@ fn set_list(
     set_ids(sets, names, key)
 }
 
+/// Whether the first two sets of a destination are joined, after the destinations before it.
+fn joined(
+    earlier: &[DestinationDraft],
+    destination: &DestinationDraft,
+) -> Result<bool, DraftFault>
+    ensures value { IfOk result (λ joined. joined ≡ destination.now.joined) }
+    ensures well { OnOk result (joined_fault earlier.now destination.now ≡ None) }
+    ensures fault { IfErr result (λ fault. joined_fault earlier.now destination.now ≡ Some fault) }
+{
+    let joined = destination.joined;
+    let key = Key::DestinationJoined(earlier.len());
+    ensure(!joined || destination.sets.len() >= 2, FaultKind::Range, key)?;
+    Ok(joined)
+}
+
 /// A destination, after those before it, whose points are `points`.
 fn destination_row(
     own: PointCode,
@@ -126,7 +141,8 @@ fn destination_row(
     let key = Key::DestinationSets(earlier.len());
     let point = destination_point(own, points, earlier, destination)?;
     let sets = set_list(sets, &destination.sets, key)?;
-    Ok(DestinationRow::new(point, sets))
+    let joined = joined(earlier, destination)?;
+    Ok(DestinationRow::new(point, sets, joined))
 }
 
 /// The rows of the destinations, and their points.

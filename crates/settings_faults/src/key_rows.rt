@@ -25,6 +25,8 @@ const INTEGER: &str = "an integer";
 
 const TEXT: &str = "a text";
 
+const TRUTH: &str = "true or false";
+
 const INTEGERS: &str = "a list of integers";
 
 const TEXTS: &str = "a list of texts";
@@ -48,7 +50,7 @@ pub(crate) fn key_row(key: Key) -> KeyRow
     ensures name { behind_dot result.name.now ≡ key_back key }
 {
     match key {
-        Key::Version => alone("version", INTEGER, "1"),
+        Key::Version => alone("version", INTEGER, "1 or 2"),
         Key::Own => alone("own", INTEGER, POINT),
         Key::Network => alone("network", INTEGER, "0 to 3"),
         Key::Window => alone("window", INTEGER, "1 to 4096"),
@@ -70,6 +72,7 @@ pub(crate) fn key_row(key: Key) -> KeyRow
         Key::DestinationEntry(i) => within("destination", i, "", TABLE, ""),
         Key::DestinationPoint(i) => within("destination", i, "point", INTEGER, FAR_POINT),
         Key::DestinationSets(i) => within("destination", i, "sets", TEXTS, "1 to 8 names of sets"),
+        Key::DestinationJoined(i) => within("destination", i, "joined", TRUTH, "false with one set"),
         Key::Title => alone("title", TABLES, "at most 65535"),
         Key::TitleEntry(i) => within("title", i, "", TABLE, ""),
         Key::TitleTranslation(i) => within("title", i, "translation", INTEGER, "0 to 255"),

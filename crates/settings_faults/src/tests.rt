@@ -50,7 +50,7 @@ const FAULTS: &str = "\
 own = 1|own = 16384|f: own is 16384, must be 0 to 16383
 own = 1|own = \"a\"|f: own is \"a\", must be an integer
 own = 1||f: own is missing, must be an integer
-version = 1|version = 2|f: version is 2, must be 1
+version = 1|version = 3|f: version is 3, must be 1 or 2
 users = [5]|users = [5, 5]|f: users has an entry twice
 users = [5]|users = [3]|f: users is a list of 1, must be numbers from 4 to 15
 t10 = 8|t10 = 0|f: timers.t10 is 0, must be 1 to 65535
@@ -72,7 +72,8 @@ slc = 1|scl = 1|f: link[1].scl is ignored; the nearest key is link[1].slc
 own = 1|colour = 1|f: colour is ignored: no such key
 window = 128|widnwo = 128|f: widnwo is ignored; the nearest key is window
 window = 128|wndw = 128|f: wndw is ignored: no such key
-slc = 1|x = 1|f: link[1].x is ignored: no such key";
+slc = 1|x = 1|f: link[1].x is ignored: no such key
+point = 2|joined = true|f: destination[0].joined is ignored: no such key";
 
 /// The file with another line in place of this one.
 fn replaced<T: Abort>(rt: &T, alloc: Global, line: &str, other: &str) -> String {

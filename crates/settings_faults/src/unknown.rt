@@ -29,23 +29,37 @@ const TIMERS: [&str; 13] = [
     "l1", "l2", "l3", "l4", "l6", "l7", "t1", "t2", "t3", "t4", "t6", "t8", "t10",
 ];
 
+/// The keys of a link set.
+const SET: &[&str] = &["name", "adjacent"];
+
+/// The keys of a link.
+const LINK: &[&str] = &["name", "set", "slc"];
+
+/// The keys of a translation row.
+const TITLE: &[&str] = &[
+    "translation",
+    "plan",
+    "nature",
+    "digits",
+    "point",
+    "route",
+    "ssn",
+];
+
 /// The arrays of tables, each with the keys of its entries.
 const ARRAYS: [(&str, &[&str]); 4] = [
-    ("set", &["name", "adjacent"]),
-    ("link", &["name", "set", "slc"]),
+    ("set", SET),
+    ("link", LINK),
     ("destination", &["point", "sets"]),
-    (
-        "title",
-        &[
-            "translation",
-            "plan",
-            "nature",
-            "digits",
-            "point",
-            "route",
-            "ssn",
-        ],
-    ),
+    ("title", TITLE),
+];
+
+/// The same in a file of version 2.
+const ARRAYS_OF_TWO: [(&str, &[&str]); 4] = [
+    ("set", SET),
+    ("link", LINK),
+    ("destination", &["point", "sets", "joined"]),
+    ("title", TITLE),
 ];
 
 /// Warnings of one file, at most.
@@ -94,7 +108,7 @@ impl WarningText<'_> {
         if let Some(Value::Table(timers)) = document.get("timers") {
             self.add_table(alloc, "timers.", timers, &TIMERS)?;
         }
-        for (array, known) in ARRAYS {
+        for (array, known) in arrays_of(document) {
             if let Some(Value::Array(entries)) = document.get(array) {
                 self.add_entries(alloc, array, entries, known)?;
             }
@@ -158,6 +172,14 @@ impl WarningText<'_> {
         let warning = warning(alloc, self.file, front, key, known)?;
         self.count += 1;
         self.text.push_str(warning.as_str())
+    }
+}
+
+/// The arrays of tables of a document, by its version.
+fn arrays_of(document: &Table) -> [(&'static str, &'static [&'static str]); 4] {
+    match document.get("version") {
+        Some(Value::Integer(2)) => ARRAYS_OF_TWO,
+        _ => ARRAYS,
     }
 }
 

@@ -1,5 +1,5 @@
 -- The checked settings of a node, as plain data.
-use Rattle.std.specs.Prelude.{ℕ, List}
+use Rattle.std.specs.Prelude.{ℕ, Bool, List}
 use Rattle.settings_rows.specs.declared.timer_ticks.TimerTicks.{TimerTicks}
 use Rattle.settings_rows.specs.declared.title_row.TitleRoute.{TitleRoute}
 
@@ -14,10 +14,12 @@ pub record LinkEntry : Type 0 where
   pub set : ℕ
   pub slc : ℕ
 
--- a destination: its point code, and the numbers of the sets that lead to it, the preferred one first
+-- a destination: its point code, the numbers of the sets that lead to it, the preferred one first, and whether the
+-- first two of them are joined: they are preferred alike
 pub record DestinationEntry : Type 0 where
   pub point : ℕ
   pub sets : List ℕ
+  pub joined : Bool
 
 -- a translation row: what its addresses begin with, and where they lead (Q.714 §2.4)
 pub record TitleEntry : Type 0 where

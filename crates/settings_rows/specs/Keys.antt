@@ -7,8 +7,8 @@ use Rattle.settings_rows.specs.declared.key.Key.{Key}
 use Rattle.settings_rows.specs.declared.key.Key.TheVariants.{Version, Own, Network, Window, Pool, Users, Subsystems}
 use Rattle.settings_rows.specs.declared.key.Key.TheVariants.{Timers, Timer, Set, SetEntry, SetName, SetAdjacent, Link}
 use Rattle.settings_rows.specs.declared.key.Key.TheVariants.{LinkEntry, LinkName, LinkSet, LinkSlc, Destination}
-use Rattle.settings_rows.specs.declared.key.Key.TheVariants.{DestinationEntry, DestinationPoint, DestinationSets, Title}
-use Rattle.settings_rows.specs.declared.key.Key.TheVariants.{TitleEntry, TitleTranslation, TitlePlan, TitleNature}
+use Rattle.settings_rows.specs.declared.key.Key.TheVariants.{DestinationEntry, DestinationPoint, DestinationSets, DestinationJoined}
+use Rattle.settings_rows.specs.declared.key.Key.TheVariants.{Title, TitleEntry, TitleTranslation, TitlePlan, TitleNature}
 use Rattle.settings_rows.specs.declared.key.Key.TheVariants.{TitleDigits, TitlePoint, TitleRoute, TitleSsn}
 
 -- how the key of a timer is written
@@ -51,6 +51,7 @@ key_front Destination = codes "destination"
 key_front (DestinationEntry i) = codes "destination"
 key_front (DestinationPoint i) = codes "destination"
 key_front (DestinationSets i) = codes "destination"
+key_front (DestinationJoined i) = codes "destination"
 key_front Title = codes "title"
 key_front (TitleEntry i) = codes "title"
 key_front (TitleTranslation i) = codes "title"
@@ -73,6 +74,7 @@ key_index (LinkSlc i) = Some i
 key_index (DestinationEntry i) = Some i
 key_index (DestinationPoint i) = Some i
 key_index (DestinationSets i) = Some i
+key_index (DestinationJoined i) = Some i
 key_index (TitleEntry i) = Some i
 key_index (TitleTranslation i) = Some i
 key_index (TitlePlan i) = Some i
@@ -92,6 +94,7 @@ key_back (LinkSet i) = codes ".set"
 key_back (LinkSlc i) = codes ".slc"
 key_back (DestinationPoint i) = codes ".point"
 key_back (DestinationSets i) = codes ".sets"
+key_back (DestinationJoined i) = codes ".joined"
 key_back (TitleTranslation i) = codes ".translation"
 key_back (TitlePlan i) = codes ".plan"
 key_back (TitleNature i) = codes ".nature"

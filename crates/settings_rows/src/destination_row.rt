@@ -11,6 +11,7 @@ use std::marker::Model;
 pub struct DestinationRow {
     point: PointCode,
     sets: ArrayVec<SetId, { Limits::SETS_PER_DESTINATION }>,
+    joined: bool,
 }
 
 impl Model for DestinationRow {
@@ -18,18 +19,24 @@ impl Model for DestinationRow {
 
     ghost Value = { DestinationEntry };
 
-    ghost view = { λ d. record { point = d.point; sets = d.sets.items } };
+    ghost view = { λ d. record { point = d.point; sets = d.sets.items; joined = d.joined } };
 }
 
 impl DestinationRow {
-    /// The destination of this point code, with the sets that lead there, the preferred one first.
+    /// The destination of this point code, with the sets that lead there, the preferred one first, and whether the first
+    /// two of them are joined.
     pub fn new(
         point: PointCode,
         sets: ArrayVec<SetId, { Limits::SETS_PER_DESTINATION }>,
+        joined: bool,
     ) -> DestinationRow
-        ensures { result ≡ record { point = point; sets = sets.items } }
+        ensures { result ≡ record { point = point; sets = sets.items; joined = joined } }
     {
-        DestinationRow { point, sets }
+        DestinationRow {
+            point,
+            sets,
+            joined,
+        }
     }
 
     /// The destination's point code.
@@ -45,5 +52,12 @@ impl DestinationRow {
         ensures fits { length self.now.sets ≤ Limits.SETS_PER_DESTINATION }
     {
         self.sets.as_slice()
+    }
+
+    /// Whether the first two sets are joined: they are preferred alike, and share the messages.
+    pub fn joined(&self) -> bool
+        ensures { result ≡ self.now.joined }
+    {
+        self.joined
     }
 }

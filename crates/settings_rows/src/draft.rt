@@ -85,6 +85,8 @@ pub struct DestinationDraft {
     pub point: i64,
     /// The names of the link sets that lead to it, the preferred one first.
     pub sets: Vec<String>,
+    /// Whether its first two sets are preferred alike, and share its messages.
+    pub joined: bool,
 }
 
 /// A translation row, as it was written.

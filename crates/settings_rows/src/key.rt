@@ -107,6 +107,8 @@ pub enum Key {
     DestinationPoint(usize),
     /// `destination[i].sets`.
     DestinationSets(usize),
+    /// `destination[i].joined`.
+    DestinationJoined(usize),
     /// `title`, the array itself.
     Title,
     /// `title[i]`, the entry itself.
@@ -148,7 +150,8 @@ impl Key {
             Key::Destination
             | Key::DestinationEntry(_)
             | Key::DestinationPoint(_)
-            | Key::DestinationSets(_) => "destination",
+            | Key::DestinationSets(_)
+            | Key::DestinationJoined(_) => "destination",
             Key::Title
             | Key::TitleEntry(_)
             | Key::TitleTranslation(_)
@@ -176,6 +179,7 @@ impl Key {
             | Key::DestinationEntry(i)
             | Key::DestinationPoint(i)
             | Key::DestinationSets(i)
+            | Key::DestinationJoined(i)
             | Key::TitleEntry(i)
             | Key::TitleTranslation(i)
             | Key::TitlePlan(i)
@@ -199,6 +203,7 @@ impl Key {
             Key::LinkSlc(_) => ".slc",
             Key::DestinationPoint(_) | Key::TitlePoint(_) => ".point",
             Key::DestinationSets(_) => ".sets",
+            Key::DestinationJoined(_) => ".joined",
             Key::TitleTranslation(_) => ".translation",
             Key::TitlePlan(_) => ".plan",
             Key::TitleNature(_) => ".nature",

@@ -100,5 +100,9 @@ fn destination(alloc: Global, point: i64) -> Result<DestinationDraft, AllocError
 {
     let mut sets = Vec::new(alloc);
     sets.push(String::from_str(alloc, SET)?)?;
-    Ok(DestinationDraft { point, sets })
+    Ok(DestinationDraft {
+        point,
+        sets,
+        joined: false,
+    })
 }

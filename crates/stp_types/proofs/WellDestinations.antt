@@ -1,5 +1,5 @@
 -- Destinations without a fault keep what is asked of them.
-use Rattle.std.proofs.Common.{refl, sym, ap, subst, ◌∙◌, ◌≡◌, ◌<◌, ℕ, Bool, true, false, not, ◌&&◌, nat_eq, nat_lt, List, [], ◌∷◌, map, length, get_or, All, IsTrue, arith}
+use Rattle.std.proofs.Common.{refl, sym, ap, subst, ◌∙◌, ◌≡◌, ◌<◌, ◌≤◌, ℕ, Bool, true, false, not, ◌&&◌, ◌||◌, nat_eq, nat_le, nat_lt, List, [], ◌∷◌, map, length, get_or, All, IsTrue, arith}
 use Rattle.std.specs.Prelude.{Option, None, Some, ℤ, String, string_eq, unwrap_or, slice_get, string_bytes}
 use Rattle.std.specs.declared.alloc.Global.{Global}
 use Rattle.std.specs.List.{IsDistinct, AllByRecursion, list_any, list_all, position_or_len}
@@ -15,17 +15,17 @@ use Rattle.std.proofs.lemmas.Slice.Eq.{bytes_eq-Decides}
 use Rattle.std.proofs.lemmas.Bool.Decides.{nat_tests, Decides-eqb, Decides-int_eq}
 use Rattle.settings_check.specs.Checks.{natural, far_point_fault, fault_unless, entries_fault, has_repeat, count_fault}
 use Rattle.settings_check.specs.Meaning.{set_of, destination_of, set_place, set_number}
-use Rattle.settings_check.specs.FirstFault.{destinations_fault, destination_fault, destination_point_fault, set_list_fault, has_destination, is_set_name, unreached_fault, reached_fault, is_reached, is_first_name, sets_fault}
+use Rattle.settings_check.specs.FirstFault.{destinations_fault, destination_fault, destination_point_fault, set_list_fault, joined_fault, has_destination, is_set_name, unreached_fault, reached_fault, is_reached, is_first_name, sets_fault}
 use Rattle.settings_rows.specs.Configuration.{SetEntry}
 use Rattle.settings_rows.specs.Names.{is_name}
 use Rattle.settings_rows.specs.declared.draft.SetDraft.{SetDraft}
 use Rattle.settings_rows.specs.declared.draft.DestinationDraft.{DestinationDraft}
 use Rattle.settings_rows.specs.declared.key.Key.{Key}
-use Rattle.settings_rows.specs.declared.key.Key.TheVariants.{Destination, DestinationPoint, DestinationSets, SetAdjacent}
+use Rattle.settings_rows.specs.declared.key.Key.TheVariants.{Destination, DestinationPoint, DestinationSets, DestinationJoined, SetAdjacent}
 use Rattle.settings_rows.specs.declared.fault.FaultKind.TheVariants.{Range, Duplicate, UnknownName}
 use Rattle.signalling_types.specs.declared.limits.TheConstants.Limits.{DESTINATIONS, SETS_PER_DESTINATION}
 use Rattle.stp_types.specs.Well.{IsWithin, IsDestination, is_same_point, is_led_first, is_first}
-use Rattle.stp_types.proofs.Rows.{both, both_of, false_by, false_from_not, two_none, four_none, passes, each_entry, each_made, each_of_all, each_then, each_unmapped, entries_differ, differ_made, none_of_any, none_differ, every, any_made, each_at, within_from_get}
+use Rattle.stp_types.proofs.Rows.{both, both_of, false_by, false_from_not, two_none, three_none, four_none, passes, each_entry, each_made, each_of_all, each_then, each_unmapped, entries_differ, differ_made, none_of_any, none_differ, every, any_made, each_at, within_from_get}
 use Rattle.stp_types.proofs.WellNumbers.{count_within, far_point_well, no_repeat, nat_eq-flips}
 use Rattle.stp_types.proofs.WellSets.{is_named_alike, set_drafts_differ}
 use Rattle.stp_types.proofs.WellLinks.{known_number, same_set}
@@ -55,8 +55,13 @@ is_listed sets key names h =
 abbrev number_in : List SetDraft → String Global → ℕ
 number_in sets name = set_number sets (string_bytes name)
 
-destination_none : (own : ℕ) (sets : List SetDraft) (earlier : List DestinationDraft) (d : DestinationDraft) → destination_fault own sets earlier d ≡ None → (destination_point_fault own earlier d ≡ None) × (set_list_fault sets (DestinationSets (length earlier)) d.sets.items ≡ None)
-destination_none own sets earlier d h = two_none (destination_point_fault own earlier d) (set_list_fault sets (DestinationSets (length earlier)) d.sets.items) h
+destination_none : (own : ℕ) (sets : List SetDraft) (earlier : List DestinationDraft) (d : DestinationDraft) → destination_fault own sets earlier d ≡ None → (destination_point_fault own earlier d ≡ None) × (set_list_fault sets (DestinationSets (length earlier)) d.sets.items ≡ None) × (joined_fault earlier d ≡ None)
+destination_none own sets earlier d h = three_none (destination_point_fault own earlier d) (set_list_fault sets (DestinationSets (length earlier)) d.sets.items) (joined_fault earlier d) h
+
+-- a destination whose first two sets are joined has two
+two_joined : (joined : Bool) (sets : ℕ) → (not joined || nat_le 2 sets) ≡ true → joined ≡ true → 2 ≤ sets
+two_joined true sets h k = grind (arith, nat_tests)
+two_joined false sets h k = cc
 
 point_none : (own : ℕ) (earlier : List DestinationDraft) (d : DestinationDraft) → destination_point_fault own earlier d ≡ None → (far_point_fault own (DestinationPoint (length earlier)) d.point ≡ None) × (fault_unless (not (has_destination earlier d.point)) Duplicate (DestinationPoint (length earlier)) ≡ None)
 point_none own earlier d h =
@@ -72,6 +77,7 @@ each_destination own sets earlier d h =
       fits = rw (length-map d.sets.items (number_in sets)) listed.count.below;
       within = rw (length-map sets set_of) (All-from_recursion (λ set. set < length sets) (map (number_in sets) d.sets.items) (each_made (λ name. is_set_name sets name ≡ true) (λ set. set < length sets) (number_in sets) (λ name k. known_number sets (string_bytes name) k) d.sets.items listed.known));
       differ = differ_made (λ name. is_set_name sets name ≡ true) string_eq nat_eq (number_in sets) (λ x y p q e. same_set sets (string_bytes x) (string_bytes y) p q e) d.sets.items listed.known (no_repeat string_eq string_eq string_eq-flips d.sets.items listed.differ);
+      joined = λ k. rw (length-map d.sets.items (number_in sets)) (two_joined d.joined (length d.sets.items) (passes (not d.joined || nat_le 2 (length d.sets.items)) Range (DestinationJoined (length earlier)) r.2) k);
     }
 
 destinations_none : (own : ℕ) (sets : List SetDraft) (ds : List DestinationDraft) → destinations_fault own sets ds ≡ None → (count_fault DESTINATIONS Destination (length ds) ≡ None) × (entries_fault (destination_fault own sets) [] ds ≡ None)

@@ -1,5 +1,5 @@
 -- What holds of all checked settings.
-use Rattle.std.specs.Prelude.{ℕ, Bool, false, ◌&&◌, ◌≡◌, ◌≢◌, ◌≤◌, ◌<◌, ◌^◌, List, [], ◌∷◌, Some, IfSome, All, IsTrue}
+use Rattle.std.specs.Prelude.{ℕ, Bool, true, false, ◌&&◌, ◌≡◌, ◌≢◌, ◌≤◌, ◌<◌, ◌^◌, List, [], ◌∷◌, Some, IfSome, All, IsTrue}
 use Rattle.std.specs.Prelude.{length, nat_eq, slice_get}
 use Rattle.std.specs.List.{IsDistinct, count_by, list_any}
 use Rattle.std.specs.Str.{bytes_eq}
@@ -53,13 +53,15 @@ is_link_of_same_name l m = bytes_eq l.name m.name
 abbrev pub is_same_code : LinkEntry → LinkEntry → Bool
 is_same_code l m = nat_eq l.set m.set && nat_eq l.slc m.slc
 
--- a destination is another point, and one to eight of n link sets lead there, none of them twice
+-- a destination is another point, and one to eight of n link sets lead there, none of them twice; at least two where
+-- the first two are joined
 pub record IsDestination (own : ℕ) (n : ℕ) (d : DestinationEntry) : Type 0 where
   pub point : IsFarPoint own d.point
   pub some : 1 ≤ length d.sets
   pub fits : length d.sets ≤ SETS_PER_DESTINATION
   pub within : All (λ set. set < n) d.sets
   pub differ : IsDistinct nat_eq d.sets
+  pub joined : d.joined ≡ true → 2 ≤ length d.sets
 
 -- whether two destinations are the same point
 abbrev pub is_same_point : DestinationEntry → DestinationEntry → Bool

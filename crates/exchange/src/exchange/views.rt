@@ -11,7 +11,7 @@ ghost use Rattle.global_title.specs.Rows.{IsOrdered};
 ghost use Rattle.exchange.specs.Views.{link_view, route_view};
 
 use super::Exchange;
-use crate::view::{LinkStanding, LinkView, RouteView};
+use crate::view::{LinkStanding, LinkView, RouteView, status_shown};
 use circular_buffer::HeapCircularBuffer;
 use stp_types::{LinkId, Notice, Settings, TitleRow};
 
@@ -74,7 +74,11 @@ impl Exchange {
         ensures kept_route { result ≡ route_view self.now destination }
     {
         let row = self.settings.destinations().get(destination)?;
-        Some(RouteView::of(row.point(), self.links.route_of(destination)))
+        Some(RouteView {
+            point: row.point(),
+            sets: self.links.sets_of(destination),
+            status: status_shown(&self.links.routes_of(destination)),
+        })
     }
 
     /// A translation row, by its number in the order of the rows: by translation type, plan, nature, then digit by

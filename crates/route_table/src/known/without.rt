@@ -4,10 +4,9 @@
 ghost use Rattle.std.specs.Prelude.{◌≡◌, false};
 ghost use Rattle.linkset.specs.Preference.{has_link};
 ghost use Rattle.route_table.specs.Facts.{set_at, with_link};
-ghost use Rattle.route_table.specs.Chosen.{chosen_link, chosen_route};
+ghost use Rattle.route_table.specs.Chosen.{chosen_link, lone_set};
 
 use super::KnownRoutes;
-use crate::route::Route;
 use signalling_types::{LinkId, SetId, Sls};
 
 impl KnownRoutes {
@@ -23,16 +22,17 @@ impl KnownRoutes {
         other
     }
 
-    /// The route that messages to a destination would take if a link weren't in service. Nothing changes in the end.
-    pub fn route_without(&mut self, link: LinkId, destination: usize) -> Option<Route>
-        ensures route { result ≡ chosen_route (with_link link false self.old) destination }
+    /// The set that all messages to a destination would take if a link weren't in service, where the group that they
+    /// would take is that set alone. Nothing changes in the end.
+    pub fn lone_set_without(&mut self, link: LinkId, destination: usize) -> Option<SetId>
+        ensures set { result ≡ lone_set (with_link link false self.old) destination }
         ensures facts { self.new ≡ self.old }
     {
         let serves = self.is_in_service(link);
         self.set_link(link, false);
-        let route = self.route_of(destination);
+        let set = self.lone_set(destination);
         self.set_link(link, serves);
-        route
+        set
     }
 
     /// Whether some link of a set would be in service if a link weren't. Nothing changes in the end.

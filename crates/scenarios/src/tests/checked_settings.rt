@@ -54,6 +54,7 @@ destination 2/east,,east: fault 4 destination[0].sets
 destination 2/west,west: fault 5 destination[0].sets
 destination 2/east 300/west: fault 6 destination[1].sets
 destination 2/a,b,c,d,e,f,g,h,i: fault 7 destination[0].sets
+destination 2/east 300/east/joined: fault 4 destination[1].joined
 title 0/1/4/49/3/title: ok";
 
 #[test]
@@ -185,6 +186,7 @@ fn destinations(alloc: Global, values: &str) -> Result<Vec<DestinationDraft>, Fa
         all.push(DestinationDraft {
             point: number(word(entry, 0))?,
             sets: names(alloc, word(entry, 1))?,
+            joined: word(entry, 2) == "joined",
         })?;
     }
     Ok(all)

@@ -1,12 +1,12 @@
-//! How the flows of a link set are shared by its links.
+//! How flows are shared by the links of a group.
 
-use linkset::LinkSet;
+use linkset::{LinkGroup, LinkSet};
 use settings_rows::LinkRow;
 use signalling_types::{LinkId, SetId, Sls};
 use std::test::*;
 
-/// Three links of one set, in another order than that of their codes, and one of another set.
-fn three_links() -> LinkSet {
+/// Three links of one set, in another order than that of their codes; a node has one of another set too.
+fn three_links() -> LinkGroup {
     let east = SetId::new(0);
     let links = [
         LinkRow::new("e2", east, 2),
@@ -14,7 +14,9 @@ fn three_links() -> LinkSet {
         LinkRow::new("e0", east, 0),
         LinkRow::new("e1", east, 1),
     ];
-    LinkSet::of(&links, east)
+    let mut group = LinkGroup::new();
+    group.add(east, &LinkSet::of(&links, east));
+    group
 }
 
 /// The link of a code.
@@ -27,17 +29,17 @@ fn link_of(code: u8) -> LinkId {
 }
 
 /// The link that the flow of a selection takes.
-fn taken(set: &LinkSet, in_service: &[bool], selection: u8) -> Option<LinkId> {
+fn taken(group: &LinkGroup, in_service: &[bool], selection: u8) -> Option<LinkId> {
     match Sls::new(selection) {
-        Some(sls) => set.first_in_service(sls, in_service),
+        Some(sls) => group.first_serving(sls, in_service, &[SetId::new(0)]),
         None => None,
     }
 }
 
 /// Whether the flows of all 16 selections take the links of these codes.
-fn take(set: &LinkSet, in_service: &[bool], codes: &[u8; 16]) -> bool {
+fn take(group: &LinkGroup, in_service: &[bool], codes: &[u8; 16]) -> bool {
     for (selection, code) in (0..16u8).zip(codes) {
-        if taken(set, in_service, selection) != Some(link_of(*code)) {
+        if taken(group, in_service, selection) != Some(link_of(*code)) {
             return false;
         }
     }
@@ -45,16 +47,16 @@ fn take(set: &LinkSet, in_service: &[bool], codes: &[u8; 16]) -> bool {
 }
 
 /// Whether load is shared by the links that are in service.
-fn share(set: &LinkSet) -> bool {
+fn share(group: &LinkGroup) -> bool {
     take(
-        set,
+        group,
         &[true, true, true, true],
         &[0, 1, 2, 0, 1, 2, 0, 1, 2, 0, 1, 2, 0, 1, 2, 0],
     ) && take(
-        set,
+        group,
         &[true, true, true, false],
         &[0, 0, 2, 0, 2, 2, 0, 0, 2, 0, 2, 2, 0, 0, 2, 0],
-    ) && take(set, &[false, true, true, false], &[0; 16])
+    ) && take(group, &[false, true, true, false], &[0; 16])
 }
 
 #[test]

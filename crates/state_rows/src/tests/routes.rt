@@ -18,17 +18,17 @@ fn four_links() -> [LinkRow; 4] {
     ]
 }
 
-/// A destination, which both sets lead to, set 0 first.
-fn by_both_sets() -> DestinationRow {
+/// A destination, which both sets lead to, set 0 first, joined or not.
+fn by_both_sets(joined: bool) -> DestinationRow {
     let mut sets = ArrayVec::new();
     sets.push(SetId::new(0));
     sets.push(SetId::new(1));
-    DestinationRow::new(PointCode::new(2).unwrap(), sets)
+    DestinationRow::new(PointCode::new(2).unwrap(), sets, joined)
 }
 
 /// A node with these links, all in service, and that destination.
-fn two_sets(alloc: Global) -> Result<Routes, AllocError> {
-    let mut routes = Routes::new(alloc, 2, &four_links(), &[by_both_sets()])?;
+fn two_sets(alloc: Global, joined: bool) -> Result<Routes, AllocError> {
+    let mut routes = Routes::new(alloc, 2, &four_links(), &[by_both_sets(joined)])?;
     for link in 0..4u8 {
         routes.set_link(LinkId::new(link), true);
     }
@@ -66,13 +66,37 @@ fn share(routes: &mut Routes) -> bool {
 
 #[test]
 fn load_sharing(rt: HostRuntime) -> Result<(), Fail> {
-    assert!(rt; share(&mut two_sets(rt.alloc())?));
+    assert!(rt; share(&mut two_sets(rt.alloc(), false)?));
     Ok(())
 }
 
-/// The set that messages to a destination take.
+/// Load sharing by two joined sets, as links fail and statuses change: by the links of both sets together.
+fn share_joined(routes: &mut Routes) -> bool {
+    let (east, west) = (SetId::new(0), SetId::new(1));
+    let all = take(routes, &[0, 1, 2, 3, 0, 1, 2, 3, 0, 1, 2, 3, 0, 1, 2, 3]);
+    routes.set_status(0, west, RouteStatus::Prohibited);
+    let first = take(routes, &[0, 1, 2, 0, 0, 1, 2, 1, 0, 1, 2, 2, 0, 1, 2, 0]);
+    routes.set_status(0, west, RouteStatus::Allowed);
+    routes.set_status(0, east, RouteStatus::Restricted);
+    let second = take(routes, &[3; 16]);
+    routes.set_status(0, west, RouteStatus::Restricted);
+    all && first && second && take(routes, &[0, 1, 2, 3, 0, 1, 2, 3, 0, 1, 2, 3, 0, 1, 2, 3])
+}
+
+#[test]
+fn joined_sets_share(rt: HostRuntime) -> Result<(), Fail> {
+    assert!(rt; share_joined(&mut two_sets(rt.alloc(), true)?));
+    Ok(())
+}
+
+/// The set that messages to a destination take, where it is one.
 fn set_of(routes: &Routes, destination: usize) -> Option<SetId> {
-    Some(routes.route_of(destination)?.set)
+    let sets = routes.sets_of(destination);
+    if sets.len() == 1 {
+        Some(sets[0])
+    } else {
+        None
+    }
 }
 
 /// Whether the set of the destination goes by the statuses.
@@ -89,7 +113,7 @@ fn choose(routes: &mut Routes) -> bool {
 
 #[test]
 fn allowed_then_restricted(rt: HostRuntime) -> Result<(), Fail> {
-    assert!(rt; choose(&mut two_sets(rt.alloc())?));
+    assert!(rt; choose(&mut two_sets(rt.alloc(), false)?));
     Ok(())
 }
 
@@ -108,6 +132,6 @@ fn tell_and_reset(routes: &mut Routes) -> bool {
 
 #[test]
 fn told_then_reset(rt: HostRuntime) -> Result<(), Fail> {
-    assert!(rt; tell_and_reset(&mut two_sets(rt.alloc())?));
+    assert!(rt; tell_and_reset(&mut two_sets(rt.alloc(), false)?));
     Ok(())
 }

@@ -30,7 +30,7 @@ fn west() -> SetId {
 fn by_one(point: PointCode, set: SetId) -> DestinationRow {
     let mut sets = ArrayVec::new();
     sets.push(set);
-    DestinationRow::new(point, sets)
+    DestinationRow::new(point, sets, false)
 }
 
 /// A destination that both sets lead to, `west` first.
@@ -38,7 +38,7 @@ fn by_both(point: PointCode) -> DestinationRow {
     let mut sets = ArrayVec::new();
     sets.push(west());
     sets.push(east());
-    DestinationRow::new(point, sets)
+    DestinationRow::new(point, sets, false)
 }
 
 fn east_point() -> PointCode {
