@@ -1,15 +1,15 @@
 //! The text of the routes.
 
-ghost use Rattle.std.specs.Prelude.{◌≡◌};
+ghost use Rattle.std.specs.Prelude.{◌≡◌, ◌+◌, ◌≤◌, ◌++◌, length};
 ghost use Rattle.exchange_rules.specs.Sound.{Abstract};
 ghost use Rattle.exchange.specs.Stands.{StandsFor};
-ghost use Rattle.console.specs.Texts.{Shows, route_line, route_text};
+ghost use Rattle.console.specs.Texts.{Shows, route_line, route_text, sets_text};
 
 use crate::line::{LINE_OCTETS, push_number};
 use crate::names::set_name;
 use arrayvec::ArrayString;
 use exchange::{Exchange, RouteView};
-use stp_types::Settings;
+use stp_types::{SetId, Settings};
 
 /// Writes line `k`, from 0, of the text of the routes: `route POINT SET STATUS`, one line for each destination in the
 /// order of the settings. SET is the name of the set that messages take, or those of two joined sets, as `east+west`;
@@ -38,14 +38,25 @@ fn write_route(settings: &Settings, view: &RouteView, out: &mut ArrayString<LINE
     out.clear();
     push_number(out, "route ", u64::from(view.point.code()));
     out.push_str(" ");
-    match view.sets.first() {
-        Some(first) => out.push_str(set_name(settings, *first)),
-        None => out.push_str("none"),
-    }
-    if let Some(second) = view.sets.get(1) {
-        out.push_str("+");
-        out.push_str(set_name(settings, *second));
-    }
+    push_sets(out, settings, &view.sets);
     out.push_str(" ");
     out.push_str(view.status.name());
+}
+
+/// Puts the names of the sets that messages take behind what is there.
+fn push_sets(line: &mut ArrayString<LINE_OCTETS>, settings: &Settings, sets: &[SetId])
+    requires { length line.old.bytes + 33 ≤ LINE_OCTETS }
+    ensures text { line.new.bytes ≡ line.old.bytes ++ sets_text settings.now sets.now }
+    ensures short { length line.new.bytes ≤ length line.old.bytes + 33 }
+{
+    let Some(first) = sets.first() else {
+        line.push_str("none");
+        return;
+    };
+    line.push_str(set_name(settings, *first));
+    let Some(second) = sets.get(1) else {
+        return;
+    };
+    line.push_str("+");
+    line.push_str(set_name(settings, *second));
 }
