@@ -1,5 +1,5 @@
 -- The settings that a node runs with where it is given none.
-use Rattle.std.specs.Prelude.{◌≡◌, ℤ, pos, List, [], ◌∷◌, map, codes, string_bytes}
+use Rattle.std.specs.Prelude.{◌≡◌, ℤ, pos, false, List, [], ◌∷◌, map, codes, string_bytes}
 use Rattle.settings_rows.specs.Configuration.{Configuration}
 use Rattle.settings_rows.specs.declared.draft.Draft.{Draft}
 use Rattle.settings_rows.specs.declared.draft.TimersDraft.{TimersDraft}
@@ -35,9 +35,10 @@ abbrev pub IsLinks : List LinkDraft → Type 0
 IsLinks (l ∷ []) = (string_bytes l.name ≡ codes "e0") × (string_bytes l.set ≡ codes "east") × (l.slc ≡ pos 0)
 IsLinks _ = ⊥
 
--- a destination by that set
+-- a destination by that set alone
 abbrev pub IsDestination : ℤ → DestinationDraft → Type 0
-IsDestination point d = (d.point ≡ point) × (map (λ name. string_bytes name) d.sets.items ≡ codes "east" ∷ [])
+IsDestination point d =
+    (d.point ≡ point) × (map (λ name. string_bytes name) d.sets.items ≡ codes "east" ∷ []) × (d.joined ≡ false)
 
 -- the adjacent point, and point 300
 abbrev pub IsDestinations : List DestinationDraft → Type 0
@@ -84,6 +85,6 @@ built_in_settings = record {
   };
   sets = record { name = codes "east"; adjacent = 2 } ∷ [];
   links = record { name = codes "e0"; set = 0; slc = 0 } ∷ [];
-  destinations = record { point = 2; sets = 0 ∷ [] } ∷ record { point = 300; sets = 0 ∷ [] } ∷ [];
+  destinations = record { point = 2; sets = 0 ∷ []; joined = false } ∷ record { point = 300; sets = 0 ∷ []; joined = false } ∷ [];
   titles = [];
 }
