@@ -43,7 +43,7 @@ one-mapped f g (x ∷ y ∷ more) w h = cc h
 destination-meant : (sets : List SetDraft) (point : ℤ) (d : DestinationDraft) → IsSets sets → IsDestination point d
     → (destination_of sets d).sets ≡ 0 ∷ []
 destination-meant sets point d k h =
-    one-mapped (λ name. string_bytes name) (set_number sets) d.sets.items (codes "east") h.1.0
+    one-mapped (λ name. string_bytes name) (set_number sets) d.sets.items (codes "east") h.1
     ∙ ap (λ (n : ℕ). n ∷ []) (set_number-one sets (codes "east") k)
 
 destinations-meant : (sets : List SetDraft) (destinations : List DestinationDraft) → IsSets sets → IsDestinations destinations
@@ -51,7 +51,7 @@ destinations-meant : (sets : List SetDraft) (destinations : List DestinationDraf
 destinations-meant sets [] k h = absurd h
 destinations-meant sets (c ∷ []) k h = absurd h
 destinations-meant sets (c ∷ d ∷ []) k h =
-    rw (destination-meant sets (pos 2) c k h.0, destination-meant sets (pos 300) d k h.1, h.0.0, h.1.0, h.0.1.1, h.1.1.1) refl
+    rw (destination-meant sets (pos 2) c k h.0, destination-meant sets (pos 300) d k h.1, h.0.0, h.1.0, h.0.2, h.1.2) refl
 destinations-meant sets (c ∷ d ∷ e ∷ more) k h = absurd h
 
 pub settings-meant : (d : Draft) → IsBuiltIn d → settings_of d ≡ built_in_settings

@@ -58,7 +58,7 @@ destinations : (ss : List SetDraft) (ds : List DestinationDraft) → IsSets ss �
 unfolding destinations_fault
 destinations ss [] k h = absurd h
 destinations ss (c ∷ []) k h = absurd h
-destinations ss (c ∷ d ∷ []) k h = rw (h.0.0, h.1.0, h.0.1.1, h.1.1.1, listed ss _ c.sets.items k h.0.1.0, listed ss _ d.sets.items k h.1.1.0) refl
+destinations ss (c ∷ d ∷ []) k h = rw (h.0.0, h.1.0, h.0.2, h.1.2, listed ss _ c.sets.items k h.0.1, listed ss _ d.sets.items k h.1.1) refl
 destinations ss (c ∷ d ∷ e ∷ more) k h = absurd h
 
 titles : (ts : List TitleDraft) → ts ≡ [] → titles_fault ts ≡ None
@@ -78,7 +78,7 @@ unfolding unreached_fault
 reached [] ss k h = absurd h
 reached (c ∷ []) ss k h = absurd h
 reached (c ∷ d ∷ []) [] k h = absurd k
-reached (c ∷ d ∷ []) (s ∷ []) k h = rw (h.0.0, k.1, first c.sets.items s k.0 h.0.1.0) refl
+reached (c ∷ d ∷ []) (s ∷ []) k h = rw (h.0.0, k.1, first c.sets.items s k.0 h.0.1) refl
 reached (c ∷ d ∷ []) (s ∷ t ∷ more) k h = absurd k
 reached (c ∷ d ∷ e ∷ more) ss k h = absurd h
 
