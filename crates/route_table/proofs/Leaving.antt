@@ -73,7 +73,6 @@ found_passes {A = A} p (x ∷ xs) m e = by (p x) refl (found_passes p xs m) e
 
 -- ---- the links of a group are links of its sets
 
-
 of_set : (set : ℕ) (links : List ℕ) (m : Member) → Contains (members_of set links) m → (m.set ≡ set) × Contains links m.link
 of_set set [] m (k, h, e) = absurd (omega (arith, h))
 of_set set (l ∷ ls) m (zero, h, e) = (ap (λ (x : Member). x.set) (sym e), (0, omega arith, ap (λ (x : Member). x.link) e))
@@ -197,9 +196,9 @@ module _ (f : Facts) (link : ℕ) where
   behind status r rs set h = record {
     opened = ap (λ (b : Bool). is_open left_out status r || b) h.opened ∙ or_true (is_open left_out status r);
     listed = elim (is_open left_out status r) as (λ b. list_any (λ s. nat_eq s set) (sets_of (cond b (r ∷ filter (is_open left_out status) rs) (filter (is_open left_out status) rs))) ≡ true) [
-        | true ↦ ap (λ (b : Bool). nat_eq r.set set || b) h.listed ∙ or_true (nat_eq r.set set)
-        | false ↦ h.listed
-      ];
+      | true ↦ ap (λ (b : Bool). nat_eq r.set set || b) h.listed ∙ or_true (nat_eq r.set set)
+      | false ↦ h.listed
+    ];
   }
 
   in_front : (status : RouteStatus) (r : Route) (rs : List Route) (set : ℕ) → is_open f status r ≡ true → nat_eq r.set set ≡ true

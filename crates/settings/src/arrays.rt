@@ -9,7 +9,9 @@ ghost use Rattle.settings.specs.Entries.{set_in, link_entry_in, joined_at, desti
 ghost use Rattle.settings.specs.Entries.{sets_at, links_at, destinations_at, titles_at};
 
 use crate::fault::SettingsFault;
-use crate::shapes::{array_in, entries, found, integer, integer_in, table_in, text, texts, truth_in};
+use crate::shapes::{
+    array_in, entries, found, integer, integer_in, table_in, text, texts, truth_in,
+};
 use std::alloc::Global;
 use stp_types::{DestinationDraft, Key, LinkDraft, SetDraft, TitleDraft};
 use toml::{Table, Value};

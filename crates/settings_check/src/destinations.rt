@@ -105,17 +105,18 @@ fn set_list(
 }
 
 /// Whether the first two sets of a destination are joined, after the destinations before it.
-fn joined(
-    earlier: &[DestinationDraft],
-    destination: &DestinationDraft,
-) -> Result<bool, DraftFault>
+fn joined(earlier: &[DestinationDraft], destination: &DestinationDraft) -> Result<bool, DraftFault>
     ensures value { IfOk result (λ joined. joined ≡ destination.now.joined) }
     ensures well { OnOk result (joined_fault earlier.now destination.now ≡ None) }
     ensures fault { IfErr result (λ fault. joined_fault earlier.now destination.now ≡ Some fault) }
 {
     let joined = destination.joined;
     let key = Key::DestinationJoined(earlier.len());
-    ensure(!joined || destination.sets.len() >= 2, FaultKind::Range, key)?;
+    ensure(
+        !joined || destination.sets.len() >= 2,
+        FaultKind::Range,
+        key,
+    )?;
     Ok(joined)
 }
 

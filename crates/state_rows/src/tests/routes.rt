@@ -92,11 +92,7 @@ fn joined_sets_share(rt: HostRuntime) -> Result<(), Fail> {
 /// The set that messages to a destination take, where it is one.
 fn set_of(routes: &Routes, destination: usize) -> Option<SetId> {
     let sets = routes.sets_of(destination);
-    if sets.len() == 1 {
-        Some(sets[0])
-    } else {
-        None
-    }
+    if sets.len() == 1 { Some(sets[0]) } else { None }
 }
 
 /// Whether the set of the destination goes by the statuses.
