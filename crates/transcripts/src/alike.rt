@@ -80,7 +80,7 @@ fn are_same_destinations(a: &[DestinationRow], b: &[DestinationRow]) -> bool
 fn is_same_destination(a: &DestinationRow, b: &DestinationRow) -> bool
     ensures { Decides result (a.now ≡ b.now) }
 {
-    a.point() == b.point() && are_same_ids(a.sets(), b.sets())
+    a.point() == b.point() && are_same_ids(a.sets(), b.sets()) && a.joined() == b.joined()
 }
 
 /// Whether these are the numbers of the same sets.
