@@ -100,9 +100,10 @@ impl Routes {
         self.known.status_of(destination, set)
     }
 
-    /// The routes that messages to a destination take, in the order of its sets: all of the first group with one that is
-    /// allowed and whose set has a link in service, else the same with restricted. The first two sets are a group where
-    /// they are joined, and each other set is one by itself (Q.704 §4.2).
+    /// The routes that messages to a destination take, in the order of its sets: all of the first
+    /// group with one that is allowed and whose set has a link in service, else the same with
+    /// restricted. The first two sets are a group where they are joined, and each other set is one
+    /// by itself (Q.704 §4.2).
     pub fn routes_of(&self, destination: usize) -> ArrayVec<Route, 2>
         ensures { result.items ≡ chosen_routes self.now destination }
     {

@@ -23,8 +23,8 @@ impl Model for DestinationRow {
 }
 
 impl DestinationRow {
-    /// The destination of this point code, with the sets that lead there, the preferred one first, and whether the first
-    /// two of them are joined.
+    /// The destination of this point code, with the sets that lead there, the preferred one first,
+    /// and whether the first two of them are joined.
     pub fn new(
         point: PointCode,
         sets: ArrayVec<SetId, { Limits::SETS_PER_DESTINATION }>,

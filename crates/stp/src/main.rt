@@ -1,5 +1,5 @@
-//! The node as a program: `stp run` runs the script on standard input, `stp check` looks at settings, and `stp lab` runs
-//! the lab script on standard input on two nodes.
+//! The node as a program: `stp run` runs the script on standard input, `stp check` looks at
+//! settings, and `stp lab` runs the lab script on standard input on two nodes.
 #![tactic(auto)]
 
 use lab::run_on_machine;

@@ -4,7 +4,8 @@ ghost use Rattle.std.specs.Prelude.{◌≡◌, ◌≤◌, ◌+◌, ◌++◌, len
 ghost use Rattle.std.specs.List.{filter, list_any};
 ghost use Rattle.linkset.specs.Preference.{members_of};
 ghost use Rattle.route_table.specs.Facts.{routes_to, set_at};
-ghost use Rattle.route_table.specs.Chosen.{alone, chosen_link, chosen_routes, chosen_sets, first_size, groups_of, is_open};
+ghost use Rattle.route_table.specs.Chosen.{alone, chosen_link, chosen_routes, chosen_sets};
+ghost use Rattle.route_table.specs.Chosen.{first_size, groups_of, is_open};
 ghost use Rattle.route_table.specs.Chosen.{choice_among, lone_set, members, open_group, sets_of};
 ghost use Rattle.route_table.specs.Table.{links_among};
 
@@ -26,8 +27,9 @@ struct Choice<'a> {
 }
 
 impl KnownRoutes {
-    /// The routes that messages to a destination take, in the order of its sets: all of the first group with one that is
-    /// allowed and whose set has a link in service, else the same with restricted (Q.704 §4.2).
+    /// The routes that messages to a destination take, in the order of its sets: all of the first
+    /// group with one that is allowed and whose set has a link in service, else the same with
+    /// restricted (Q.704 §4.2).
     pub fn routes_of(&self, destination: usize) -> ArrayVec<Route, JOINED>
         ensures { result.items ≡ chosen_routes self.now destination }
     {
