@@ -1,9 +1,10 @@
 """Settings files that might be slow to check, and how long `stp check` takes for them.
 
-    python3 docs/hurting_files.py most > examples/settings_files/most_destinations.toml
+    python3 docs/hurting_files.py most 1 > examples/settings_files/most_destinations.toml
+    python3 docs/hurting_files.py most 2 > examples/settings_files/most_destinations_2.toml
     python3 docs/hurting_files.py measure crates/stp/out/stp
 
-`most` prints a settings file with the most destinations that a node may have. `measure` makes each file in
+`most` prints a settings file with the most destinations that its version allows. `measure` makes each file in
 three sizes, each twice the one before, has the program check it, and prints what the program printed, and
 the least time of three. The files are made in a temporary folder.
 """
@@ -13,7 +14,7 @@ import tempfile
 import time
 from pathlib import Path
 
-NUMBERS = "version = 1\nown = 1\nnetwork = 2\nwindow = 128\npool = 1000\nsubsystems = [8]\n"
+NUMBERS = "own = 1\nnetwork = 2\nwindow = 128\npool = 1000\nsubsystems = [8]\n"
 USERS = "users = [5]\n"
 TIMERS = "[timers]\nl1 = 10\nl2 = 10\nl3 = 10\nl4 = 3\nl6 = 20\nl7 = 5\nt1 = 4\nt2 = 6\nt3 = 4\nt4 = 4\nt6 = 4\nt8 = 3\nt10 = 8\n"
 LINK = '[[link]]\nname = "e0"\nset = "east"\nslc = 0\n'
@@ -31,8 +32,8 @@ def destinations(count, sets):
     return f"destination = [\n{entries}]\n"
 
 
-def settings(sets=1, count=2, behind=1, more="", users=USERS):
-    return NUMBERS + users + more + destinations(count, behind) + TIMERS + link_sets(sets) + LINK
+def settings(sets=1, count=2, behind=1, more="", users=USERS, version=1):
+    return f"version = {version}\n" + NUMBERS + users + more + destinations(count, behind) + TIMERS + link_sets(sets) + LINK
 
 
 def nested(opening, closing, count):
@@ -47,8 +48,8 @@ FILES = [
     ("one key, repeated", lambda n: settings(more="own = 1\n" * n), 1_000_000),
     ("unknown keys", lambda n: settings(more="".join(f"k{i} = 0\n" for i in range(n))), 100_000),
     ("one user, repeated", lambda n: settings(users="users = [" + "5, " * n + "]\n"), 1_000_000),
-    ("destinations with one set each", lambda n: settings(count=n), 512),
-    ("destinations with 8 sets each", lambda n: settings(sets=8, count=n, behind=8), 1_024),
+    ("destinations with one set each", lambda n: settings(count=n, version=2), 2_048),
+    ("destinations with 8 sets each", lambda n: settings(sets=8, count=n, behind=8, version=2), 2_048),
 ]
 
 
@@ -73,8 +74,10 @@ def measure(program):
             print(f"{name}: {count:,}, {len(text) / 1e6:.2f} MB: {printed}, {1000 * seconds:.1f} ms", flush=True)
 
 
-if sys.argv[1:2] == ["most"]:
+if sys.argv[1:] == ["most", "1"]:
     print(settings(count=1_024), end="")
+elif sys.argv[1:] == ["most", "2"]:
+    print(settings(count=4_096, version=2), end="")
 elif sys.argv[1:2] == ["measure"] and len(sys.argv) == 3:
     measure(sys.argv[2])
 else:

@@ -3,6 +3,7 @@
 mod framing;
 mod labels;
 mod management;
+mod passing;
 mod relaying;
 mod title_limits;
 mod titles;

@@ -8,7 +8,7 @@ use Rattle.std.proofs.lemmas.Bool.Decides.{nat_tests}
 use Rattle.std.proofs.lemmas.List.{get_or_past}
 use Rattle.std.proofs.lemmas.List.FromFn.{length-map-range_with_len, get_or-map-range_with_len}
 use Rattle.flow_hold.specs.declared.procedure.Procedure.{Procedure}
-use Rattle.signalling_types.specs.declared.limits.TheConstants.Limits.{SELECTIONS}
+use Rattle.signalling_types.specs.declared.limits.TheConstants.Limits.{CHANGEBACK_CODES, SELECTIONS}
 use Rattle.flow_hold.specs.Holds.{Hold, by_numbers, holds, is_held, no_holds, may_hold_to, may_hold, with_hold, is_same, lifted}
 use Rattle.flow_hold.specs.Rows.{Marks, marks_at, has_mark}
 use Rattle.flow_hold.specs.Table.{HoldTable, HasPlaces, place_of, flow_place, row_has, first_row, has_pair, has_flow, no_marks, with_row_cleared, with_pair, without_pairs}
@@ -164,20 +164,20 @@ not-one false e = refl
 abbrev first_rows_of : (links sets destinations : ℕ) → List Marks
 first_rows_of links sets destinations = (no_marks links sets destinations).rows
 
-none-marked : (links sets destinations row flow : ℕ) (there : Bool) → nat_lt row (2 * links + 16 * sets + destinations) ≡ there →
+none-marked : (links sets destinations row flow : ℕ) (there : Bool) → nat_lt row (2 * links + CHANGEBACK_CODES * sets + destinations) ≡ there →
     has_mark flow (marks_at (first_rows_of links sets destinations) row) ≡ false
 none-marked links sets destinations row flow true e =
-    let shared : ℕ = 2 * links + 16 * sets in
+    let shared : ℕ = 2 * links + CHANGEBACK_CODES * sets in
     ap (has_mark flow) (get_or-map-range_with_len (first_row shared destinations) 0 (shared + destinations) row row (record { first = 0; marks = [] }) (ltb-true row (shared + destinations) e) (omega arith))
     ∙ not-one (has_mark flow (first_row shared destinations row)) (unmarked shared destinations row flow)
 none-marked links sets destinations row flow false e =
-    let shared : ℕ = 2 * links + 16 * sets in
+    let shared : ℕ = 2 * links + CHANGEBACK_CODES * sets in
     ap (has_mark flow) (get_or_past (first_rows_of links sets destinations) row (record { first = 0; marks = [] })
     (omega (arith, ltb-false row (shared + destinations) e, length-map-range_with_len (first_row shared destinations) 0 (shared + destinations))))
     ∙ nothing (nat_le 0 flow)
 
 no-pair : (links sets destinations : ℕ) (place flow : Option ℕ) → row_has (no_marks links sets destinations) place flow ≡ false
-no-pair links sets destinations (Some row) (Some flow) = none-marked links sets destinations row flow (nat_lt row (2 * links + 16 * sets + destinations)) refl
+no-pair links sets destinations (Some row) (Some flow) = none-marked links sets destinations row flow (nat_lt row (2 * links + CHANGEBACK_CODES * sets + destinations)) refl
 no-pair links sets destinations (Some row) None = refl
 no-pair links sets destinations None flow = refl
 

@@ -8,6 +8,7 @@ use Rattle.std.proofs.lemmas.List.{length-replicate}
 use Rattle.std.proofs.lemmas.List.Sums.{sum_by-cons, sum_by_push}
 use Rattle.flow_hold.specs.Rows.{Marks, has_mark}
 use Rattle.flow_hold.specs.Table.{first_row, marked_as_held}
+use Rattle.signalling_types.specs.declared.limits.TheConstants.Limits.{SELECTIONS}
 
 -- what one row adds to the count of a flow
 abbrev pub mark_of : ℕ → Marks → ℕ
@@ -38,9 +39,9 @@ no-mark-of true n i = ap (λ (c : Bool). cond {A = ℕ} c 1 0) (all_same n i fal
 no-mark-of false n i = refl
 
 unmarked-case : (b : Bool) (shared destinations place flow : ℕ) →
-    mark_of flow (if b then record { first = 0; marks = replicate (16 * destinations) false } else record { first = 16 * (place - shared); marks = replicate 16 false }) ≡ 0
-unmarked-case true shared destinations place flow = no-mark-of (nat_le 0 flow) (16 * destinations) (flow - 0)
-unmarked-case false shared destinations place flow = no-mark-of (nat_le (16 * (place - shared)) flow) 16 (flow - 16 * (place - shared))
+    mark_of flow (if b then record { first = 0; marks = replicate (SELECTIONS * destinations) false } else record { first = SELECTIONS * (place - shared); marks = replicate SELECTIONS false }) ≡ 0
+unmarked-case true shared destinations place flow = no-mark-of (nat_le 0 flow) (SELECTIONS * destinations) (flow - 0)
+unmarked-case false shared destinations place flow = no-mark-of (nat_le (SELECTIONS * (place - shared)) flow) SELECTIONS (flow - SELECTIONS * (place - shared))
 
 pub unmarked : (shared destinations place flow : ℕ) → mark_of flow (first_row shared destinations place) ≡ 0
 unmarked shared destinations place flow = unmarked-case (nat_lt place shared) shared destinations place flow
@@ -53,9 +54,9 @@ abbrev pub end_of : Marks → ℕ
 end_of row = row.first + length row.marks
 
 fits-case : (b : Bool) (shared destinations place : ℕ) → nat_lt place shared ≡ b → place < shared + destinations →
-    end_of (if b then record { first = 0; marks = replicate (16 * destinations) false } else record { first = 16 * (place - shared); marks = replicate 16 false }) ≤ 16 * destinations
-fits-case true shared destinations place e h = omega (arith, length-replicate (16 * destinations) false)
-fits-case false shared destinations place e h = omega (arith, length-replicate 16 false, ltb-false place shared e, h)
+    end_of (if b then record { first = 0; marks = replicate (SELECTIONS * destinations) false } else record { first = SELECTIONS * (place - shared); marks = replicate SELECTIONS false }) ≤ SELECTIONS * destinations
+fits-case true shared destinations place e h = omega (arith, length-replicate (SELECTIONS * destinations) false)
+fits-case false shared destinations place e h = omega (arith, length-replicate SELECTIONS false, ltb-false place shared e, h)
 
-pub fits-first : (row : Marks) (shared destinations place : ℕ) → row ≡ first_row shared destinations place → place < shared + destinations → end_of row ≤ 16 * destinations
+pub fits-first : (row : Marks) (shared destinations place : ℕ) → row ≡ first_row shared destinations place → place < shared + destinations → end_of row ≤ SELECTIONS * destinations
 fits-first row shared destinations place e h = omega (arith, ap end_of e, fits-case (nat_lt place shared) shared destinations place refl h)

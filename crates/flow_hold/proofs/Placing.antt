@@ -12,6 +12,7 @@ use Rattle.flow_hold.specs.Rows.{Marks, marks_at, place_of_flow}
 use Rattle.flow_hold.specs.Table.{HoldTable, HasPlaces, marks_shape, no_marks, with_pair, without_pairs, first_row, place_of, flow_place, with_mark_at, with_flow_marked, with_row_cleared}
 use Rattle.flow_hold.specs.Holds.{may_hold_to}
 use Rattle.flow_hold.specs.Room.{set_of}
+use Rattle.signalling_types.specs.declared.limits.TheConstants.Limits.{CHANGEBACK_CODES, SELECTIONS}
 
 -- ---- they stay
 
@@ -52,7 +53,7 @@ without_pairs-places t procedure h = with_row_cleared-places t (place_of t proce
 -- ---- what the row of a procedure has
 
 abbrev pub shared_rows : HoldTable → ℕ
-shared_rows t = 2 * t.links + 16 * t.sets
+shared_rows t = 2 * t.links + CHANGEBACK_CODES * t.sets
 
 abbrev rows_at_first : HoldTable → List Marks
 rows_at_first t = (no_marks t.links t.sets t.destinations).rows
@@ -72,9 +73,9 @@ shape-at t row h k =
     ∙ ap marks_shape (get_or-map-range_with_len (first_row (shared_rows t) t.destinations) 0 (shared_rows t + t.destinations) row row (record { first = 0; marks = [] }) k (omega arith))
 
 first-shape : (b : Bool) (shared destinations place : ℕ) →
-    marks_shape (if b then record { first = 0; marks = replicate (16 * destinations) false } else record { first = 16 * (place - shared); marks = replicate 16 false })
-    ≡ (if b then (0, 16 * destinations) else (16 * (place - shared), 16))
-first-shape true shared destinations place = ap (λ (n : ℕ). (0, n)) (length-replicate (16 * destinations) false)
+    marks_shape (if b then record { first = 0; marks = replicate (SELECTIONS * destinations) false } else record { first = SELECTIONS * (place - shared); marks = replicate SELECTIONS false })
+    ≡ (if b then (0, SELECTIONS * destinations) else (SELECTIONS * (place - shared), SELECTIONS))
+first-shape true shared destinations place = ap (λ (n : ℕ). (0, n)) (length-replicate (SELECTIONS * destinations) false)
 first-shape false shared destinations place = refl
 
 -- where a flow stands in the row of a procedure
@@ -98,41 +99,41 @@ has_flow-shape t procedure row flow first marks h e k same from to =
       to = omega (arith, begin, many, to);
     }
 
-in-shared : (t : HoldTable) (procedure : Procedure) (row flow : ℕ) → HasPlaces t → place_of t procedure ≡ Some row → row < shared_rows t → flow < 16 * t.destinations → HasFlow t procedure flow
+in-shared : (t : HoldTable) (procedure : Procedure) (row flow : ℕ) → HasPlaces t → place_of t procedure ≡ Some row → row < shared_rows t → flow < SELECTIONS * t.destinations → HasFlow t procedure flow
 in-shared t procedure row flow h e k f =
     let all : nat_lt row (shared_rows t) ≡ true = grind (arith, nat_tests, k) in
-    has_flow-shape t procedure row flow 0 (16 * t.destinations) h e (omega (arith, k))
-    (shape-at t row h (omega (arith, k)) ∙ first-shape (nat_lt row (shared_rows t)) (shared_rows t) t.destinations row ∙ ap (λ (b : Bool). if b then (0, 16 * t.destinations) else (16 * (row - shared_rows t), 16)) all)
+    has_flow-shape t procedure row flow 0 (SELECTIONS * t.destinations) h e (omega (arith, k))
+    (shape-at t row h (omega (arith, k)) ∙ first-shape (nat_lt row (shared_rows t)) (shared_rows t) t.destinations row ∙ ap (λ (b : Bool). if b then (0, SELECTIONS * t.destinations) else (SELECTIONS * (row - shared_rows t), SELECTIONS)) all)
     (omega arith) (omega (arith, f))
 
 -- the row of a rerouting has the flows to its destination
-pub own-shape : (t : HoldTable) (destination : ℕ) → HasPlaces t → destination < t.destinations → marks_shape (marks_at t.rows (shared_rows t + destination)) ≡ (16 * destination, 16)
+pub own-shape : (t : HoldTable) (destination : ℕ) → HasPlaces t → destination < t.destinations → marks_shape (marks_at t.rows (shared_rows t + destination)) ≡ (SELECTIONS * destination, SELECTIONS)
 own-shape t destination h k =
     let row : ℕ = shared_rows t + destination in
     let own : nat_lt row (shared_rows t) ≡ false = grind (arith, nat_tests) in
     shape-at t row h (omega (arith, k))
     ∙ first-shape (nat_lt row (shared_rows t)) (shared_rows t) t.destinations row
-    ∙ ap (λ (b : Bool). if b then (0, 16 * t.destinations) else (16 * (row - shared_rows t), 16)) own
-    ∙ ap (λ (n : ℕ). (16 * n, 16)) (omega arith)
+    ∙ ap (λ (b : Bool). if b then (0, SELECTIONS * t.destinations) else (SELECTIONS * (row - shared_rows t), SELECTIONS)) own
+    ∙ ap (λ (n : ℕ). (SELECTIONS * n, SELECTIONS)) (omega arith)
 
 in-own : (t : HoldTable) (procedure : Procedure) (destination flow : ℕ) → HasPlaces t → place_of t procedure ≡ Some (shared_rows t + destination) → destination < t.destinations →
-    16 * destination ≤ flow → flow < 16 * destination + 16 → HasFlow t procedure flow
+    SELECTIONS * destination ≤ flow → flow < SELECTIONS * destination + SELECTIONS → HasFlow t procedure flow
 in-own t procedure destination flow h e k from to =
-    has_flow-shape t procedure (shared_rows t + destination) flow (16 * destination) 16 h e (omega (arith, k)) (own-shape t destination h k) from to
+    has_flow-shape t procedure (shared_rows t + destination) flow (SELECTIONS * destination) SELECTIONS h e (omega (arith, k)) (own-shape t destination h k) from to
 
-pub flow_at : (t : HoldTable) (procedure : Procedure) (destination sls : ℕ) → HasPlaces t → may_hold_to (set_of t) procedure destination ≡ true → destination < t.destinations → sls < 16 →
-    HasFlow t procedure (16 * destination + sls)
+pub flow_at : (t : HoldTable) (procedure : Procedure) (destination sls : ℕ) → HasPlaces t → may_hold_to (set_of t) procedure destination ≡ true → destination < t.destinations → sls < SELECTIONS →
+    HasFlow t procedure (SELECTIONS * destination + sls)
 flow_at t (Changeover link) destination sls h may there few =
-    in-shared t (Changeover link) link (16 * destination + sls) h (ap (λ (b : Bool). if b then Some link else None) may) (omega (arith, ltb-true link t.links may)) (omega (arith, there, few))
+    in-shared t (Changeover link) link (SELECTIONS * destination + sls) h (ap (λ (b : Bool). if b then Some link else None) may) (omega (arith, ltb-true link t.links may)) (omega (arith, there, few))
 flow_at t (Time link) destination sls h may there few =
-    in-shared t (Time link) (t.links + link) (16 * destination + sls) h (ap (λ (b : Bool). if b then Some (t.links + link) else None) may) (omega (arith, ltb-true link t.links may)) (omega (arith, there, few))
+    in-shared t (Time link) (t.links + link) (SELECTIONS * destination + sls) h (ap (λ (b : Bool). if b then Some (t.links + link) else None) may) (omega (arith, ltb-true link t.links may)) (omega (arith, there, few))
 flow_at t (Code set code) destination sls h may there few =
-    let both : (nat_lt set t.sets ≡ true) × (nat_lt code 16 ≡ true) = and_parts (nat_lt set t.sets) (nat_lt code 16) may in
-    in-shared t (Code set code) (2 * t.links + 16 * set + code) (16 * destination + sls) h (ap (λ (b : Bool). if b then Some (2 * t.links + 16 * set + code) else None) may)
-    (omega (arith, ltb-true set t.sets both.0, ltb-true code 16 both.1)) (omega (arith, there, few))
+    let both : (nat_lt set t.sets ≡ true) × (nat_lt code CHANGEBACK_CODES ≡ true) = and_parts (nat_lt set t.sets) (nat_lt code CHANGEBACK_CODES) may in
+    in-shared t (Code set code) (2 * t.links + CHANGEBACK_CODES * set + code) (SELECTIONS * destination + sls) h (ap (λ (b : Bool). if b then Some (2 * t.links + CHANGEBACK_CODES * set + code) else None) may)
+    (omega (arith, ltb-true set t.sets both.0, ltb-true code CHANGEBACK_CODES both.1)) (omega (arith, there, few))
 flow_at t (Reroute rerouted) destination sls h may there few =
     let same : rerouted ≡ destination = grind (arith, nat_tests, may) in
     let within : rerouted < t.destinations = omega (arith, same, there) in
     let is : nat_lt rerouted t.destinations ≡ true = grind (arith, nat_tests, within) in
-    in-own t (Reroute rerouted) rerouted (16 * destination + sls) h (ap (λ (b : Bool). if b then Some (shared_rows t + rerouted) else None) is) within
+    in-own t (Reroute rerouted) rerouted (SELECTIONS * destination + sls) h (ap (λ (b : Bool). if b then Some (shared_rows t + rerouted) else None) is) within
     (omega (arith, same)) (omega (arith, same, few))

@@ -8,7 +8,7 @@ use Rattle.std.proofs.lemmas.Bool.{true≢false}
 use Rattle.std.proofs.lemmas.Bool.Decides.{nat_tests}
 use Rattle.flow_hold.specs.declared.procedure.Procedure.{Procedure}
 use Rattle.flow_hold.specs.Rows.{marks_at, has_mark}
-use Rattle.signalling_types.specs.declared.limits.TheConstants.Limits.{SELECTIONS}
+use Rattle.signalling_types.specs.declared.limits.TheConstants.Limits.{CHANGEBACK_CODES, SELECTIONS}
 use Rattle.flow_hold.specs.Holds.{Hold, by_numbers}
 use Rattle.flow_hold.specs.Table.{HoldTable, place_of, flow_place, row_has, has_pair}
 use Rattle.flow_hold.specs.Room.{procedure_at, hold_at, pairs_of_row, pairs_of_rows, set_of}
@@ -121,7 +121,7 @@ in-table t (suc count) row hold h e =
 -- ---- each pair is a mark, and each mark a pair
 
 pub record HasAllRows (t : HoldTable) : Type 0 where
-  pub rows : length t.rows ≡ 2 * t.links + 16 * t.sets + t.destinations
+  pub rows : length t.rows ≡ 2 * t.links + CHANGEBACK_CODES * t.sets + t.destinations
 
 -- a pair of a selection that there is, marked in the table
 pub record IsPair (t : HoldTable) (hold : Hold) : Type 0 where
@@ -131,7 +131,7 @@ pub record IsPair (t : HoldTable) (hold : Hold) : Type 0 where
 flow-there : (t : HoldTable) (flow : ℕ) → flow < flows t → flow_place t (flow / SELECTIONS) (flow % SELECTIONS) ≡ Some flow
 flow-there t flow h =
     let test : nat_lt (flow / SELECTIONS) t.destinations ≡ true = grind (arith, nat_tests, h) in
-    ap (λ (b : Bool). if b then Some (16 * (flow / SELECTIONS) + flow % SELECTIONS) else None) test
+    ap (λ (b : Bool). if b then Some (SELECTIONS * (flow / SELECTIONS) + flow % SELECTIONS) else None) test
     ∙ ap (λ (n : ℕ). Some n) (omega arith)
 
 at-is-pair : (t : HoldTable) (row flow : ℕ) → HasAllRows t → row < length t.rows → flow < flows t → has_mark flow (marks_at t.rows row) ≡ true → IsPair t (hold_at t row flow)
@@ -160,11 +160,11 @@ mark-at t None flow e = absurd cc
 mark-at t (Some row) None e = absurd cc
 mark-at t (Some row) (Some number) e = record { row = row; number = number; place_is = refl; flow_is = refl; mark = e }
 
-number-parts : (t : HoldTable) (destination sls number : ℕ) → flow_place t destination sls ≡ Some number → (destination < t.destinations) × (number ≡ 16 * destination + sls)
+number-parts : (t : HoldTable) (destination sls number : ℕ) → flow_place t destination sls ≡ Some number → (destination < t.destinations) × (number ≡ SELECTIONS * destination + sls)
 number-parts t destination sls number e = parts-case (nat_lt destination t.destinations) refl e
   where
-    parts-case : (b : Bool) → nat_lt destination t.destinations ≡ b → (if b then Some (16 * destination + sls) else None) ≡ Some number →
-        (destination < t.destinations) × (number ≡ 16 * destination + sls)
+    parts-case : (b : Bool) → nat_lt destination t.destinations ≡ b → (if b then Some (SELECTIONS * destination + sls) else None) ≡ Some number →
+        (destination < t.destinations) × (number ≡ SELECTIONS * destination + sls)
     parts-case true b e = (grind (arith, nat_tests, b), grind (arith, common_steps, e))
     parts-case false b e = absurd cc
 
@@ -181,7 +181,7 @@ same-pair t hold row number named numbered few =
 pub mark-to-set : (t : HoldTable) (hold : Hold) → IsPair t hold → contains (set_of t).pairs hold ≡ true
 mark-to-set t hold p =
     let at : MarkAt t (place_of t hold.procedure) (flow_place t hold.destination hold.sls) = mark-at t (place_of t hold.procedure) (flow_place t hold.destination hold.sls) p.mark in
-    let parts : (hold.destination < t.destinations) × (at.number ≡ 16 * hold.destination + hold.sls) = number-parts t hold.destination hold.sls at.number at.flow_is in
+    let parts : (hold.destination < t.destinations) × (at.number ≡ SELECTIONS * hold.destination + hold.sls) = number-parts t hold.destination hold.sls at.number at.flow_is in
     let same : hold_at t at.row at.number ≡ hold = same-pair t hold at.row at.number (named t hold.procedure at.row at.place_is) parts.1 p.few in
     let inside : at.row < length t.rows = inside-case t.rows at.row at.number (nat_lt at.row (length t.rows)) refl at.mark in
     in-table t (length t.rows) at.row hold inside

@@ -14,6 +14,7 @@ use Rattle.flow_hold.specs.Holds.{may_hold_to}
 use Rattle.flow_hold.specs.Room.{set_of}
 use Rattle.flow_hold.proofs.TablePairing.{same-places, named}
 use Rattle.flow_hold.proofs.Placing.{HasFlow, flow_at, shared_rows, own-shape}
+use Rattle.signalling_types.specs.declared.limits.TheConstants.Limits.{CHANGEBACK_CODES, SELECTIONS}
 
 -- ---- procedures and flows keep their numbers
 
@@ -28,7 +29,7 @@ only-rows t None flow = refl
 
 same-flows : (t : HoldTable) (row flow : Option ℕ) (destination sls : ℕ) → flow_place (with_flow_marked t row flow) destination sls ≡ flow_place t destination sls
 same-flows t row flow destination sls =
-    ap (λ (u : HoldTable). if nat_lt destination u.destinations then Some (16 * destination + sls) else None) (only-rows t row flow)
+    ap (λ (u : HoldTable). if nat_lt destination u.destinations then Some (SELECTIONS * destination + sls) else None) (only-rows t row flow)
 
 -- what a pair says after a hold, at the places as they were
 after-hold : (t : HoldTable) (row flow : Option ℕ) (procedure : Procedure) (destination sls : ℕ) →
@@ -41,10 +42,10 @@ after-hold t row flow procedure destination sls =
 
 -- ---- its own pair
 
-is-there : (t : HoldTable) (destination sls : ℕ) → destination < t.destinations → flow_place t destination sls ≡ Some (16 * destination + sls)
+is-there : (t : HoldTable) (destination sls : ℕ) → destination < t.destinations → flow_place t destination sls ≡ Some (SELECTIONS * destination + sls)
 is-there t destination sls h =
     let test : nat_lt destination t.destinations ≡ true = grind (arith, nat_tests, h) in
-    ap (λ (b : Bool). if b then Some (16 * destination + sls) else None) test
+    ap (λ (b : Bool). if b then Some (SELECTIONS * destination + sls) else None) test
 
 is-marked : (t : HoldTable) (row flow : ℕ) → row < length t.rows → (marks_at t.rows row).first ≤ flow → flow < (marks_at t.rows row).first + length (marks_at t.rows row).marks →
     row_has (with_flow_marked t (Some row) (Some flow)) (Some row) (Some flow) ≡ true
@@ -56,14 +57,14 @@ is-marked t row flow there from to =
     ∙ ap (has_mark flow) (get_or-set_same t.rows row (record m { marks = set m.marks (flow - m.first) true }) (record { first = 0; marks = [] }) there)
     ∙ and_from (nat_le m.first flow) (get_or (set m.marks (flow - m.first) true) (flow - m.first) false) low (get_or-set_same m.marks (flow - m.first) true false (omega (arith, from, to)))
 
-pub adds_its_pair : (t : HoldTable) (procedure : Procedure) (destination sls : ℕ) → HasPlaces t → may_hold_to (set_of t) procedure destination ≡ true → destination < t.destinations → sls < 16 →
+pub adds_its_pair : (t : HoldTable) (procedure : Procedure) (destination sls : ℕ) → HasPlaces t → may_hold_to (set_of t) procedure destination ≡ true → destination < t.destinations → sls < SELECTIONS →
     has_pair (with_pair t procedure destination sls) procedure destination sls ≡ true
 adds_its_pair t procedure destination sls h may there few =
-    let at : HasFlow t procedure (16 * destination + sls) = flow_at t procedure destination sls h may there few in
+    let at : HasFlow t procedure (SELECTIONS * destination + sls) = flow_at t procedure destination sls h may there few in
     after-hold t (place_of t procedure) (flow_place t destination sls) procedure destination sls
     ∙ ap (λ (o : Option ℕ). row_has (with_flow_marked t o (flow_place t destination sls)) o (flow_place t destination sls)) at.is
     ∙ ap (λ (o : Option ℕ). row_has (with_flow_marked t (Some at.row) o) (Some at.row) o) (is-there t destination sls there)
-    ∙ is-marked t at.row (16 * destination + sls) at.there at.from at.to
+    ∙ is-marked t at.row (SELECTIONS * destination + sls) at.there at.from at.to
 
 -- ---- what isn't there is left aside
 
@@ -76,15 +77,15 @@ no-flow t (Some row) flow e = ap (λ (o : Option ℕ). with_flow_marked t (Some 
 
 pub no-destination : (t : HoldTable) (procedure : Procedure) (destination sls : ℕ) → nat_lt destination t.destinations ≡ false → with_pair t procedure destination sls ≡ t
 no-destination t procedure destination sls e =
-    no-flow t (place_of t procedure) (flow_place t destination sls) (ap (λ (b : Bool). if b then Some (16 * destination + sls) else None) e)
+    no-flow t (place_of t procedure) (flow_place t destination sls) (ap (λ (b : Bool). if b then Some (SELECTIONS * destination + sls) else None) e)
 
-not-own : (m : Marks) (rerouted destination sls : ℕ) → marks_shape m ≡ (16 * rerouted, 16) → nat_eq rerouted destination ≡ false → sls < 16 → place_of_flow m (16 * destination + sls) ≡ None
+not-own : (m : Marks) (rerouted destination sls : ℕ) → marks_shape m ≡ (SELECTIONS * rerouted, SELECTIONS) → nat_eq rerouted destination ≡ false → sls < SELECTIONS → place_of_flow m (SELECTIONS * destination + sls) ≡ None
 not-own m rerouted destination sls shape e few =
-    let begin : m.first ≡ 16 * rerouted = ap (λ (p : ℕ × ℕ). p.0) shape in
-    let many : length m.marks ≡ 16 = ap (λ (p : ℕ × ℕ). p.1) shape in
+    let begin : m.first ≡ SELECTIONS * rerouted = ap (λ (p : ℕ × ℕ). p.0) shape in
+    let many : length m.marks ≡ SELECTIONS = ap (λ (p : ℕ × ℕ). p.1) shape in
     grind (arith, common_steps, nat_tests)
 
-not-rerouted : (t : HoldTable) (rerouted destination sls : ℕ) (there : Bool) → nat_lt rerouted t.destinations ≡ there → HasPlaces t → nat_eq rerouted destination ≡ false → destination < t.destinations → sls < 16 →
+not-rerouted : (t : HoldTable) (rerouted destination sls : ℕ) (there : Bool) → nat_lt rerouted t.destinations ≡ there → HasPlaces t → nat_eq rerouted destination ≡ false → destination < t.destinations → sls < SELECTIONS →
     with_pair t (Reroute rerouted) destination sls ≡ t
 not-rerouted t rerouted destination sls false e h other there few =
     no-row t (place_of t (Reroute rerouted)) (flow_place t destination sls) (ap (λ (b : Bool). if b then Some (shared_rows t + rerouted) else None) e)
@@ -95,14 +96,14 @@ not-rerouted t rerouted destination sls true e h other there few =
     ∙ ap (λ (o : Option ℕ). with_mark_at t row o)
     (not-own (marks_at t.rows row) rerouted destination sls (own-shape t rerouted h (ltb-true rerouted t.destinations e)) other few)
 
-pub left_aside : (t : HoldTable) (procedure : Procedure) (destination sls : ℕ) → HasPlaces t → may_hold_to (set_of t) procedure destination ≡ false → destination < t.destinations → sls < 16 →
+pub left_aside : (t : HoldTable) (procedure : Procedure) (destination sls : ℕ) → HasPlaces t → may_hold_to (set_of t) procedure destination ≡ false → destination < t.destinations → sls < SELECTIONS →
     with_pair t procedure destination sls ≡ t
 left_aside t (Changeover link) destination sls h e there few =
     no-row t (place_of t (Changeover link)) (flow_place t destination sls) (ap (λ (b : Bool). if b then Some link else None) e)
 left_aside t (Time link) destination sls h e there few =
     no-row t (place_of t (Time link)) (flow_place t destination sls) (ap (λ (b : Bool). if b then Some (t.links + link) else None) e)
 left_aside t (Code set code) destination sls h e there few =
-    no-row t (place_of t (Code set code)) (flow_place t destination sls) (ap (λ (b : Bool). if b then Some (2 * t.links + 16 * set + code) else None) e)
+    no-row t (place_of t (Code set code)) (flow_place t destination sls) (ap (λ (b : Bool). if b then Some (2 * t.links + CHANGEBACK_CODES * set + code) else None) e)
 left_aside t (Reroute rerouted) destination sls h e there few =
     not-rerouted t rerouted destination sls (nat_lt rerouted t.destinations) refl h e there few
 
@@ -147,15 +148,15 @@ other-pair t (Some row) (Some flow) (Some other) (Some other_flow) apart =
     other-place t row flow other other_flow (place_of_flow (marks_at t.rows row) flow) refl
     (λ e f. apart row flow refl refl (ap (λ (i : ℕ). Some i) e) (ap (λ (i : ℕ). Some i) f))
 
-numbered : (t : HoldTable) (destination sls flow : ℕ) → flow_place t destination sls ≡ Some flow → 16 * destination + sls ≡ flow
+numbered : (t : HoldTable) (destination sls flow : ℕ) → flow_place t destination sls ≡ Some flow → SELECTIONS * destination + sls ≡ flow
 numbered t destination sls flow e = grind (arith, common_steps, nat_tests)
 
-pub leaves_others : (t : HoldTable) (procedure other : Procedure) (destination sls other_destination other_sls : ℕ) → sls < 16 → other_sls < 16 →
+pub leaves_others : (t : HoldTable) (procedure other : Procedure) (destination sls other_destination other_sls : ℕ) → sls < SELECTIONS → other_sls < SELECTIONS →
     (other ≡ procedure → other_destination ≡ destination → other_sls ≡ sls → 1 ≤ 0) →
     has_pair (with_pair t procedure destination sls) other other_destination other_sls ≡ has_pair t other other_destination other_sls
 leaves_others t procedure other destination sls other_destination other_sls few other_few apart =
     after-hold t (place_of t procedure) (flow_place t destination sls) other other_destination other_sls
     ∙ other-pair t (place_of t procedure) (flow_place t destination sls) (place_of t other) (flow_place t other_destination other_sls)
     (λ i f row flow other_row other_flow.
-    let same : 16 * destination + sls ≡ 16 * other_destination + other_sls = numbered t destination sls f flow ∙ sym (numbered t other_destination other_sls f other_flow) in
+    let same : SELECTIONS * destination + sls ≡ SELECTIONS * other_destination + other_sls = numbered t destination sls f flow ∙ sym (numbered t other_destination other_sls f other_flow) in
     absurd (omega (arith, apart (sym (named t other i other_row) ∙ named t procedure i row) (omega (arith, same, few, other_few)) (omega (arith, same, few, other_few)))))

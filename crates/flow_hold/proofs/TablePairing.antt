@@ -14,6 +14,7 @@ use Rattle.flow_hold.specs.Rows.{Marks, marks_at, has_mark}
 use Rattle.flow_hold.specs.Table.{HoldTable, place_of, flow_place, row_has, has_pair, any_has, has_flow, cleared, with_row_cleared, without_pairs}
 use Rattle.flow_hold.specs.Room.{procedure_at}
 use Rattle.flow_hold.proofs.Counting.{all_same}
+use Rattle.signalling_types.specs.declared.limits.TheConstants.Limits.{CHANGEBACK_CODES, SELECTIONS}
 
 -- ---- the procedure of a row
 
@@ -23,7 +24,7 @@ named t (Time link) row e = grind (arith, common_steps, nat_tests)
 named t (Code set code) row e = grind (arith, common_steps, nat_tests)
 named t (Reroute destination) row e = grind (arith, common_steps, nat_tests)
 
-pub placed : (t : HoldTable) (row : ℕ) → row < 2 * t.links + 16 * t.sets + t.destinations → place_of t (procedure_at t row) ≡ Some row
+pub placed : (t : HoldTable) (row : ℕ) → row < 2 * t.links + CHANGEBACK_CODES * t.sets + t.destinations → place_of t (procedure_at t row) ≡ Some row
 placed t row h = grind (arith, common_steps, nat_tests)
 
 -- ---- a lift
@@ -50,7 +51,7 @@ places-lifted : (t : HoldTable) (row : Option ℕ) (procedure : Procedure) → p
 places-lifted t row procedure = same-places t (with_row_cleared t row) procedure (lifted-links t row) (lifted-sets t row) (lifted-destinations t row)
 
 flows-lifted : (t : HoldTable) (row : Option ℕ) (destination sls : ℕ) → flow_place (with_row_cleared t row) destination sls ≡ flow_place t destination sls
-flows-lifted t row destination sls = ap (λ (n : ℕ). if nat_lt destination n then Some (16 * destination + sls) else None) (lifted-destinations t row)
+flows-lifted t row destination sls = ap (λ (n : ℕ). if nat_lt destination n then Some (SELECTIONS * destination + sls) else None) (lifted-destinations t row)
 
 -- what a pair says after a lift, at the places as they were
 after-lift : (t : HoldTable) (row : Option ℕ) (procedure : Procedure) (destination sls : ℕ) →
@@ -126,7 +127,7 @@ inside-case rows row flow false e h =
     let none : has_mark flow (marks_at rows row) ≡ (nat_le 0 flow && false) = ap (has_mark flow) (get_or_past rows row (record { first = 0; marks = [] }) (ltb-false row (length rows) e)) in
     absurd (omega (arith, not-true (nat_le 0 flow) (sym none ∙ h)))
 
-some-pair : (t : HoldTable) (flow : Option ℕ) → length t.rows ≡ 2 * t.links + 16 * t.sets + t.destinations → any_has t flow ≡ true → (procedure : Procedure) × (row_has t (place_of t procedure) flow ≡ true)
+some-pair : (t : HoldTable) (flow : Option ℕ) → length t.rows ≡ 2 * t.links + CHANGEBACK_CODES * t.sets + t.destinations → any_has t flow ≡ true → (procedure : Procedure) × (row_has t (place_of t procedure) flow ≡ true)
 some-pair t None h e = absurd cc
 some-pair t (Some flow) h e =
     let at : FoundAt (has_mark flow) t.rows = found (has_mark flow) t.rows e in
@@ -137,6 +138,6 @@ some-mark t None flow e = absurd cc
 some-mark t (Some row) None e = absurd cc
 some-mark t (Some row) (Some flow) e = list_any_at (has_mark flow) t.rows row (record { first = 0; marks = [] }) (inside-case t.rows row flow (nat_lt row (length t.rows)) refl e) e
 
-pub marked_by : (t : HoldTable) (destination sls : ℕ) → length t.rows ≡ 2 * t.links + 16 * t.sets + t.destinations → has_flow t destination sls ≡ true →
+pub marked_by : (t : HoldTable) (destination sls : ℕ) → length t.rows ≡ 2 * t.links + CHANGEBACK_CODES * t.sets + t.destinations → has_flow t destination sls ≡ true →
     (procedure : Procedure) × (has_pair t procedure destination sls ≡ true)
 marked_by t destination sls h e = some-pair t (flow_place t destination sls) h e

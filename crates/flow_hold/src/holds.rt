@@ -38,7 +38,7 @@ impl Holds {
     /// No holds, for a node with so many links, sets and destinations. The error means that memory ran out.
     ///
     /// It takes 16 octets for each destination and each procedure that may hold flows of all: two for each link and 16
-    /// for each set. That is 10 MB at the limits of a node, and 1 KB for a node of one link, one set and two
+    /// for each set. That is 42 MB at the limits of a node, and 1 KB for a node of one link, one set and two
     /// destinations.
     pub fn new(
         alloc: Global,

@@ -180,12 +180,13 @@ fn count_once(counts: &mut Vec<u16>, flow: usize, before: bool)
 /// The rows of so many procedures that may hold all flows, and of the reroutings of so many destinations. Nothing is
 /// held.
 fn first_rows(alloc: Global, shared: usize, destinations: usize) -> Result<Vec<HoldRow>, AllocError>
-    requires shared { shared ≤ 640 }
+    requires shared { shared ≤ 2 * Limits.LINKS + Limits.CHANGEBACK_CODES * Limits.SETS }
     requires destinations { destinations ≤ Limits.DESTINATIONS }
     ensures rows { IfOk result (λ rows. rows.items
         ≡ map (first_row shared destinations) (range_with_len 0 (shared + destinations))) }
     ensures none { IfOk result (λ rows. (flow : ℕ) → marked_as_held rows.items flow ≡ 0) }
-    ensures fits { IfOk result (λ rows. All (λ row. row.first + length row.marks ≤ 16 * destinations) rows.items) }
+    ensures fits { IfOk result (λ rows.
+        All (λ row. row.first + length row.marks ≤ Limits.SELECTIONS * destinations) rows.items) }
 {
     let mut rows = Vec::with_capacity(alloc, shared + destinations)?;
     for place in 0..shared + destinations {

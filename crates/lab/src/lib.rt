@@ -7,7 +7,6 @@ mod circuit;
 mod doing;
 mod joining;
 mod line;
-mod machine;
 mod memory;
 mod run;
 mod sockets;
@@ -15,7 +14,6 @@ mod wire;
 
 pub use carrying::{Carried, MOVE_READS, carry};
 pub use joining::{JoinFault, Joiner};
-pub use machine::run_on_machine;
 pub use memory::{MemoryJoiner, MemoryStream};
 pub use run::{JoinedLab, run_lab};
 pub use sockets::Loopback;

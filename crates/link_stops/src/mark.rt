@@ -2,13 +2,13 @@
 
 use crate::settings::{INTERNATIONAL, ISUP};
 use exchange::Label;
-use stp_types::{Msu, PointCode, Sls};
+use stp_types::{Limits, Msu, PointCode, Sls};
 
 /// Octets of a routing label, which stands in front of each message (Q.704 §2.2).
 const LABEL_OCTETS: usize = 4;
 
-/// How many flows there are to a point.
-pub(crate) const FLOWS: u8 = 16;
+/// How many flows there are to a point: one for each signalling link selection.
+pub(crate) const FLOWS: u8 = Limits::SELECTIONS as u8;
 
 /// What no two messages that an end had accepted have in common: their flow, and their number in it. The accepted
 /// messages of a flow have the numbers 1, 2, 3 and so on.

@@ -44,7 +44,8 @@ impl Told {
     /// What is told at first, to the adjacent points of these sets: that all of these destinations are allowed. The
     /// error means that memory ran out.
     ///
-    /// It takes an octet for each set and destination, and a step for each, too. That is 32 KB at the limits of a node.
+    /// It takes an octet for each set and destination, and a step for each, too. That is 128 KB at the limits of a
+    /// node.
     pub fn new(
         alloc: Global,
         sets: &[SetRow],
@@ -153,8 +154,8 @@ impl Told {
     }
 }
 
-/// What the adjacent point of a set is to be told of a destination: prohibited where no route leads there, or where some
-/// messages go by that very set; else the status of their routes (Q.704 §13.2 to §13.4).
+/// What the adjacent point of a set is to be told of a destination: prohibited where no route leads there, or where
+/// some messages go by that very set; else the status of their routes (Q.704 §13.2 to §13.4).
 pub fn status_to_advertise(links: &NodeLinks, set: SetId, destination: usize) -> RouteStatus
     ensures { result ≡ status_to_advertise (facts_of links.now) set destination }
 {

@@ -48,8 +48,8 @@ pub fn another_destination_is_left()
         → chosen_link (with_status destination set status f) other selection ≡ chosen_link f other selection }
 {}
 
-/// While no link of a set is in service, its statuses don't matter: as they become allowed, messages to each destination
-/// take the same routes, and each flow its link.
+/// While no link of a set is in service, its statuses don't matter: as they become allowed, messages to each
+/// destination take the same routes, and each flow its link.
 pub fn reset_out_of_service_moves_nothing()
     ensures routes { (f : Facts) (set destination : ℕ) → has_link f.in_service (set_at f set) ≡ false
         → chosen_routes (with_statuses_reset set f) destination ≡ chosen_routes f destination }

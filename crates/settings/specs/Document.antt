@@ -64,9 +64,16 @@ numbers_at t =
     and_then (integer_at (codes "pool") key.Pool t) (λ pool.
     Ok (record { version = version; own = own; network = network; window = window; pool = pool }))))))
 
+-- the versions of the format
+abbrev pub FIRST_VERSION : ℤ
+FIRST_VERSION = pos 1
+
+abbrev pub LAST_VERSION : ℤ
+LAST_VERSION = pos 2
+
 -- whether the destinations of a file of this version may be joined
 abbrev pub has_joined : ℤ → Bool
-has_joined version = int_eq version (pos 2)
+has_joined version = int_eq version LAST_VERSION
 
 -- what a document says: the version of its format, and settings
 pub record Document : Type 0 where

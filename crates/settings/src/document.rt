@@ -1,23 +1,26 @@
 //! Reading a settings file.
 
-ghost use Rattle.std.specs.Prelude.{◌≡◌, ◌⊎◌, IfOk, IfErr};
+ghost use Rattle.std.specs.Prelude.{◌≡◌, ◌⊎◌, None, Some, IfOk, OnOk, IfErr};
 ghost use Rattle.std.specs.Option.{ok_or};
 ghost use Rattle.toml.specs.Parse.{parse_document};
 ghost use Rattle.toml.specs.View.{table_view};
+ghost use Rattle.settings_check.specs.Meaning.{settings_of};
 ghost use Rattle.settings.specs.Faults.{AnswersOrNoMemory, no_memory};
 ghost use Rattle.settings.specs.Written.{written};
 ghost use Rattle.settings.specs.Document.{numbers_at, document};
-ghost use Rattle.settings.specs.Reading.{reading, IsReadAs, IsFirstFault};
+ghost use Rattle.settings.specs.Reading.{reading, limits_fault, settings_fault, IsReadAs, IsFirstFault};
 
 use crate::arrays::{destinations, links, sets, titles};
 use crate::fault::SettingsFault;
+use crate::limits::FirstLimits;
 use crate::shapes::{integer, integers};
 use crate::timers::timers;
 use std::alloc::Global;
-use stp_types::{Draft, DraftFault, Key, Settings};
+use stp_types::{Draft, DraftFault, FaultKind, Key, Settings};
 use toml::Table;
 
-/// The versions of the format: the first, and the last, in which destinations may be joined.
+/// The versions of the format: the first, which keeps the limits that it had, and the last, in which destinations may
+/// be joined.
 const FIRST_VERSION: i64 = 1;
 
 const LAST_VERSION: i64 = 2;
@@ -105,31 +108,63 @@ fn parse(alloc: Global, text: &str) -> Result<Table, SettingsFault>
     }
 }
 
-/// The settings that a text has.
+/// The document that a text is, where it is of a known version.
 #[tactic(auto, unfolding(crate::specs::Reading::reading))]
-fn draft(alloc: Global, text: &str) -> Result<Draft, SettingsFault>
-    ensures { AnswersOrNoMemory written (reading text.now) result }
+fn known_document(alloc: Global, text: &str) -> Result<Document, SettingsFault>
+    ensures { AnswersOrNoMemory (λ d. record { version = d.version; settings = written d.draft })
+        (reading text.now) result }
 {
     let table = parse(alloc, text)?;
-    let Document { version, draft } = contents(alloc, &table)?;
-    if version != FIRST_VERSION && version != LAST_VERSION {
+    let document = contents(alloc, &table)?;
+    if document.version != FIRST_VERSION && document.version != LAST_VERSION {
         return Err(SettingsFault::Version);
     }
-    Ok(draft)
+    Ok(document)
+}
+
+/// Whether settings keep to the limits of a file's version.
+fn keep_limits(version: i64, settings: &Settings) -> Result<(), DraftFault>
+    ensures well { OnOk result (limits_fault version settings.now ≡ None) }
+    ensures fault { IfErr result (λ fault. limits_fault version settings.now ≡ Some fault) }
+{
+    if version != FIRST_VERSION {
+        return Ok(());
+    }
+    if settings.window() > FirstLimits::WINDOW {
+        return Err(DraftFault::At(FaultKind::Range, Key::Window));
+    }
+    if settings.destinations().len() > FirstLimits::DESTINATIONS {
+        return Err(DraftFault::At(FaultKind::TooMany, Key::Destination));
+    }
+    Ok(())
+}
+
+/// The settings of a file of this version, checked.
+#[tactic(auto, unfolding(crate::specs::Reading::settings_fault))]
+fn checked(alloc: Global, version: i64, draft: Draft) -> Result<Settings, DraftFault>
+    ensures settings { IfOk result (λ settings. settings ≡ settings_of draft) }
+    ensures well { OnOk result (settings_fault version draft ≡ None) }
+    ensures fault { IfErr result (λ fault.
+        (fault ≡ DraftFault.NoMemory) ⊎ (settings_fault version draft ≡ Some fault)) }
+{
+    let settings = Settings::check(alloc, draft)?;
+    keep_limits(version, &settings)?;
+    Ok(settings)
 }
 
 /// Reads settings from the text of a file, and checks them.
 ///
 /// Answers the settings, or the first fault: `Text` where the text isn't TOML; then `Missing` and
 /// `Kind` over all keys in their order, the entries of an array from the first on; then `Version`;
-/// then what `Settings::check` finds. Want of memory may stand in place of any other. Keys of other
-/// names are ignored.
+/// then what `Settings::check` finds; and last, in a file of the first version, a window and then
+/// destinations beyond the `FirstLimits`. Want of memory may stand in place of any other. Keys of
+/// other names are ignored.
 pub fn read(alloc: Global, text: &str) -> Result<Settings, SettingsFault>
     ensures settings { IfOk result (IsReadAs text.now) }
     ensures fault { IfErr result (λ fault. (fault ≡ no_memory) ⊎ IsFirstFault text.now fault) }
 {
-    let draft = draft(alloc, text)?;
-    match Settings::check(alloc, draft) {
+    let Document { version, draft } = known_document(alloc, text)?;
+    match checked(alloc, version, draft) {
         Ok(settings) => Ok(settings),
         Err(fault) => Err(SettingsFault::Draft(fault)),
     }

@@ -4,8 +4,10 @@
 mod arrays;
 mod document;
 pub mod fault;
+pub mod limits;
 mod shapes;
 mod timers;
 
 pub use document::read;
 pub use fault::SettingsFault;
+pub use limits::FirstLimits;

@@ -17,7 +17,7 @@ pub(crate) struct KeyRow {
     pub name: &'static str,
     /// The type that the value has to have.
     pub kind: &'static str,
-    /// What a value of this type has to be.
+    /// What a value of this type has to be, in a file of the last version.
     pub demand: &'static str,
 }
 
@@ -53,7 +53,7 @@ pub(crate) fn key_row(key: Key) -> KeyRow
         Key::Version => alone("version", INTEGER, "1 or 2"),
         Key::Own => alone("own", INTEGER, POINT),
         Key::Network => alone("network", INTEGER, "0 to 3"),
-        Key::Window => alone("window", INTEGER, "1 to 4096"),
+        Key::Window => alone("window", INTEGER, "1 to 16384"),
         Key::Pool => alone("pool", INTEGER, "1 to 65535"),
         Key::Users => alone("users", INTEGERS, "numbers from 4 to 15"),
         Key::Subsystems => alone("subsystems", INTEGERS, "numbers from 1 to 255"),
@@ -68,7 +68,7 @@ pub(crate) fn key_row(key: Key) -> KeyRow
         Key::LinkName(i) => within("link", i, "name", TEXT, NAME),
         Key::LinkSet(i) => within("link", i, "set", TEXT, NAME),
         Key::LinkSlc(i) => within("link", i, "slc", INTEGER, "0 to 15"),
-        Key::Destination => alone("destination", TABLES, "1 to 1024"),
+        Key::Destination => alone("destination", TABLES, "1 to 4096"),
         Key::DestinationEntry(i) => within("destination", i, "", TABLE, ""),
         Key::DestinationPoint(i) => within("destination", i, "point", INTEGER, FAR_POINT),
         Key::DestinationSets(i) => within("destination", i, "sets", TEXTS, "1 to 8 names of sets"),

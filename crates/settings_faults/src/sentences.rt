@@ -12,6 +12,9 @@ use std::alloc::{AllocError, Global};
 use stp_types::{DraftFault, FaultKind, Key};
 use toml::{Table, Value};
 
+/// The first version of the format, which has smaller limits.
+const FIRST_VERSION: i64 = 1;
+
 /// The sentence that says what is wrong with a settings file of this name and these octets, which
 /// has this fault, with a line feed: `node.toml: link[2] "e2": slc is 16, must be 0 to 15`.
 ///
@@ -51,7 +54,10 @@ fn in_document(
     let Some(key) = key_of(fault) else {
         return format!(in alloc; "{file}: out of memory\n");
     };
-    let row = key_row(key);
+    let row = KeyRow {
+        demand: demand(document, key),
+        ..key_row(key)
+    };
     let wrong = wrong(alloc, &row, value_at(document, &row), fault)?;
     about(alloc, file, document, key, wrong.as_str())
 }
@@ -65,6 +71,23 @@ fn key_of(fault: SettingsFault) -> Option<Key>
         SettingsFault::Draft(DraftFault::At(_, key)) => Some(key),
         SettingsFault::Version => Some(Key::Version),
         SettingsFault::Text | SettingsFault::Draft(DraftFault::NoMemory) => None,
+    }
+}
+
+/// What the value of a key has to be in this file, as its version says.
+fn demand(document: &Table, key: Key) -> &'static str {
+    match key {
+        Key::Window if is_first_version(document) => "1 to 4096 in version 1",
+        Key::Destination if is_first_version(document) => "1 to 1024 in version 1",
+        _ => key_row(key).demand,
+    }
+}
+
+/// Whether a file is of the first version.
+fn is_first_version(document: &Table) -> bool {
+    match document.get("version") {
+        Some(Value::Integer(version)) => *version == FIRST_VERSION,
+        _ => false,
     }
 }
 

@@ -45,7 +45,7 @@ point = 2
 sets = [\"east\"]
 ";
 
-/// A line of that file, what stands in its place, and the sentence then.
+/// Lines of that file, what stands in their place, and the sentence then.
 const FAULTS: &str = "\
 own = 1|own = 16384|f: own is 16384, must be 0 to 16383
 own = 1|own = \"a\"|f: own is \"a\", must be an integer
@@ -73,23 +73,31 @@ own = 1|colour = 1|f: colour is ignored: no such key
 window = 128|widnwo = 128|f: widnwo is ignored; the nearest key is window
 window = 128|wndw = 128|f: wndw is ignored: no such key
 slc = 1|x = 1|f: link[1].x is ignored: no such key
-point = 2|joined = true|f: destination[0].joined is ignored: no such key";
+point = 2|joined = true|f: destination[0].joined is ignored: no such key
+version = 1;point = 2|version = 2;joined = true|
+version = 1;point = 2|version = 2;joind = 1|f: destination[0].joind is ignored; the nearest key is destination[0].joined
+version = 1;slc = 1|version = 2;joined = true|f: link[1].joined is ignored: no such key";
 
-/// The file with another line in place of this one.
-fn replaced<T: Abort>(rt: &T, alloc: Global, line: &str, other: &str) -> String {
+/// The file with other lines in place of these. Lines are parted by semicolons.
+fn replaced<T: Abort>(rt: &T, alloc: Global, lines: &str, others: &str) -> String {
     let mut text = String::new(alloc);
     for each in GOOD.lines() {
-        if each == line {
-            text.push_str(other).expect(rt, "memory");
-        } else {
-            text.push_str(each).expect(rt, "memory");
-        }
+        text.push_str(instead_of(each, lines, others))
+            .expect(rt, "memory");
         text.push_str("\n").expect(rt, "memory");
     }
     text
 }
 
-/// The line, the one in its place, and what is told then.
+/// What stands in place of a line.
+fn instead_of<'a>(each: &'a str, lines: &str, others: &'a str) -> &'a str {
+    match lines.split(';').position(|line| line == each) {
+        Some(place) => others.split(';').nth(place).unwrap_or(""),
+        None => each,
+    }
+}
+
+/// The lines, those in their place, and what is told then.
 fn parts<'a, T: Abort>(rt: &T, row: &'a str) -> (&'a str, &'a str, &'a str) {
     let (line, rest) = row.split_once('|').expect(rt, "a row");
     let (other, told) = rest.split_once('|').expect(rt, "a row");

@@ -1,6 +1,8 @@
 //! Keys of a settings file that no table knows.
 
-ghost use Rattle.std.specs.Prelude.{◌≡◌, IfOk, OnOk, string_bytes};
+ghost use Rattle.std.specs.Prelude.{◌≡◌, IfOk, OnOk, map, string_bytes};
+ghost use Rattle.toml.specs.View.{table_view};
+ghost use Rattle.settings_faults.specs.KnownKeys.{version_of, arrays_of, known_in};
 ghost use Rattle.settings_faults.specs.Warnings.{Ignored, warning, AreWarnings, IsSoFar, GoesOn};
 
 use crate::values::is_shown;
@@ -9,7 +11,7 @@ use strsim::osa_distance;
 use toml::{Table, Value};
 
 /// The keys of a settings file that stand in no array.
-const TOP: [&str; 12] = [
+const TOP: [&str; 13] = [
     "version",
     "own",
     "network",
@@ -22,6 +24,7 @@ const TOP: [&str; 12] = [
     "link",
     "destination",
     "title",
+    "serve",
 ];
 
 /// The keys of the table `timers`.
@@ -29,11 +32,14 @@ const TIMERS: [&str; 13] = [
     "l1", "l2", "l3", "l4", "l6", "l7", "t1", "t2", "t3", "t4", "t6", "t8", "t10",
 ];
 
+/// The keys of the table `serve`.
+const SERVE: [&str; 5] = ["tick_ms", "console", "capture", "console_open", "points"];
+
 /// The keys of a link set.
 const SET: &[&str] = &["name", "adjacent"];
 
 /// The keys of a link.
-const LINK: &[&str] = &["name", "set", "slc"];
+const LINK: &[&str] = &["name", "set", "slc", "listen", "connect"];
 
 /// The keys of a translation row.
 const TITLE: &[&str] = &[
@@ -46,21 +52,20 @@ const TITLE: &[&str] = &[
     "ssn",
 ];
 
-/// The arrays of tables, each with the keys of its entries.
-const ARRAYS: [(&str, &[&str]); 4] = [
-    ("set", SET),
-    ("link", LINK),
-    ("destination", &["point", "sets"]),
-    ("title", TITLE),
-];
+/// The keys of a destination.
+const DESTINATION: &[&str] = &["point", "sets"];
 
-/// The same in a file of version 2.
-const ARRAYS_OF_TWO: [(&str, &[&str]); 4] = [
-    ("set", SET),
-    ("link", LINK),
-    ("destination", &["point", "sets", "joined"]),
-    ("title", TITLE),
-];
+/// The keys of a destination in a file of version 2.
+const DESTINATION_OF_TWO: &[&str] = &["point", "sets", "joined"];
+
+/// An array of tables.
+#[derive(Clone, Copy)]
+struct TableArray {
+    /// The key of the array.
+    name: &'static str,
+    /// The keys of its entries.
+    keys: &'static [&'static str],
+}
 
 /// Warnings of one file, at most.
 const MOST_WARNINGS: usize = 20;
@@ -105,12 +110,37 @@ impl WarningText<'_> {
         ensures { OnOk result (GoesOn self.old self.new) }
     {
         self.add_table(alloc, "", document, &TOP)?;
-        if let Some(Value::Table(timers)) = document.get("timers") {
-            self.add_table(alloc, "timers.", timers, &TIMERS)?;
+        self.add_inner_table(alloc, document, "timers", "timers.", &TIMERS)?;
+        self.add_inner_table(alloc, document, "serve", "serve.", &SERVE)?;
+        self.add_arrays(alloc, document)
+    }
+
+    /// Warns of the keys of a table in a document.
+    fn add_inner_table(
+        &mut self,
+        alloc: Global,
+        document: &Table,
+        name: &str,
+        front: &str,
+        known: &[&str],
+    ) -> Result<(), AllocError>
+        requires { IsSoFar self.old }
+        ensures { OnOk result (GoesOn self.old self.new) }
+    {
+        match document.get(name) {
+            Some(Value::Table(table)) => self.add_table(alloc, front, table, known),
+            _ => Ok(()),
         }
-        for (array, known) in arrays_of(document) {
-            if let Some(Value::Array(entries)) = document.get(array) {
-                self.add_entries(alloc, array, entries, known)?;
+    }
+
+    /// Warns of the keys of the arrays in a document.
+    fn add_arrays(&mut self, alloc: Global, document: &Table) -> Result<(), AllocError>
+        requires { IsSoFar self.old }
+        ensures { OnOk result (GoesOn self.old self.new) }
+    {
+        for array in arrays_of(document) {
+            if let Some(Value::Array(entries)) = document.get(array.name) {
+                self.add_entries(alloc, array.name, entries, array.keys)?;
             }
         }
         Ok(())
@@ -175,12 +205,38 @@ impl WarningText<'_> {
     }
 }
 
-/// The arrays of tables of a document, by its version.
-fn arrays_of(document: &Table) -> [(&'static str, &'static [&'static str]); 4] {
+/// The version of a document, where it says one.
+fn version_of(document: &Table) -> Option<i64>
+    ensures { result ≡ version_of (table_view document.now) }
+{
     match document.get("version") {
-        Some(Value::Integer(2)) => ARRAYS_OF_TWO,
-        _ => ARRAYS,
+        Some(version) => version.as_integer(),
+        None => None,
     }
+}
+
+/// The arrays of tables of a document, by its version.
+fn arrays_of(document: &Table) -> [TableArray; 4]
+    ensures { map known_in result ≡ arrays_of (version_of (table_view document.now)) }
+{
+    let destination = match version_of(document) {
+        Some(2) => DESTINATION_OF_TWO,
+        _ => DESTINATION,
+    };
+    [
+        array("set", SET),
+        array("link", LINK),
+        array("destination", destination),
+        array("title", TITLE),
+    ]
+}
+
+/// An array of tables, whose entries have these keys.
+fn array(name: &'static str, keys: &'static [&'static str]) -> TableArray
+    ensures name { result.name.now ≡ name.now }
+    ensures keys { result.keys.now ≡ keys.now }
+{
+    TableArray { name, keys }
 }
 
 /// The warning of a key, before which this stands.

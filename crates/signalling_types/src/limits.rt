@@ -20,7 +20,7 @@ impl Limits {
     pub const SETS: usize = 32;
 
     /// Destinations of a node.
-    pub const DESTINATIONS: usize = 1024;
+    pub const DESTINATIONS: usize = 4096;
 
     /// Link sets that lead to one destination.
     pub const SETS_PER_DESTINATION: usize = 8;
@@ -41,7 +41,7 @@ impl Limits {
     pub const MANAGEMENT_MESSAGES: usize = 256;
 
     /// Messages that may be sent on a link before one is confirmed, at most.
-    pub const WINDOW: usize = 4096;
+    pub const WINDOW: usize = 16_384;
 
     /// Changeback codes of one adjacent point that are used: 0 to 15 (Q.704 §15.5).
     pub const CHANGEBACK_CODES: usize = 16;

@@ -35,7 +35,8 @@ usage_text =
     ++ (codes "stp run FILE      runs it with the settings in FILE\n"
     ++ (codes "stp check FILE    prints ok, or the first fault of the settings in FILE\n"
     ++ (codes "stp lab NEAR FAR  runs the lab script on standard input, on two nodes that it joins\n"
-    ++ codes "The lines of a script, the settings and the exit statuses are in docs/MANUAL.md.\n")))
+    ++ (codes "stp serve FILE    serves a node on the network, with the settings in FILE\n"
+    ++ codes "The lines of a script, the settings and the exit statuses are in docs/MANUAL.md.\n"))))
 
 -- ---- files
 

@@ -20,7 +20,7 @@ use Rattle.stp_node.specs.declared.script.ScriptFault.{ScriptFault}
 use Rattle.stp_node.specs.declared.script.ScriptFault.TheVariants as fault
 use Rattle.stp_node.specs.declared.program.Status.{Status}
 use Rattle.stp_node.specs.declared.program.Status.TheVariants as status
-use Rattle.words.specs.Words.{Task, BuiltInRun, FileRun, FileCheck, LabRun, OtherWords, are_plain, asked}
+use Rattle.words.specs.Words.{Task, BuiltInRun, FileRun, FileCheck, LabRun, FileServe, OtherWords, are_plain, asked}
 
 -- the exit statuses
 abbrev pub status_number : Status → ℕ
@@ -104,7 +104,7 @@ ChecksFile file (Err (file_fault.Unread why)) output output_new errors errors_ne
 ChecksFile file (Err file_fault.NoMemory) output output_new errors errors_new ended =
     EndsWith status.Start (told no_memory) output output_new ended × (errors_new ≡ errors)
 
--- what the program does for a task, where a file is read as `reads` says; of a lab, nothing is said here
+-- what the program does for a task, where a file is read as `reads` says; of a lab and of a server, nothing is said here
 abbrev pub DoesTask : Task → (List ℕ → FileRead → Type 0) → Streams → Streams → Status → Type 0
 DoesTask BuiltInRun reads old new ended =
     RunsNode (λ settings. settings ≡ built_in_settings) (λ why. why ≡ no_memory) NoText old new ended
@@ -114,6 +114,7 @@ DoesTask (FileCheck file) reads old new ended =
     (read : FileRead) × reads file read
     × ChecksFile file read old.output new.output old.errors new.errors ended × (new.input ≡ old.input)
 DoesTask (LabRun near far) reads old new ended = Unit {0}
+DoesTask (FileServe file) reads old new ended = Unit {0}
 DoesTask OtherWords reads old new ended =
     EndsWith status.Usage (codes "usage\n") old.output new.output ended × (new.input ≡ old.input)
     × IsTold usage_text old.errors new.errors

@@ -16,6 +16,7 @@ use crate::explaining::{explain_end, explain_unread, warn};
 use crate::folder::{FileFault, Folder};
 use crate::run::{OpenLine, run_pieces};
 use crate::script::ScriptFault;
+use crate::serving::{Serve, serve_file};
 use crate::sink::Sink;
 use crate::source::Source;
 use crate::two_nodes::{Lab, run_files};
@@ -51,12 +52,13 @@ impl Status {
 
 /// The whole program: does what the words after its name ask for. Settings files come from the folder, the script from
 /// the reader, and all that it prints goes to the writer. Why it doesn't do what was meant goes to `errors`, in
-/// sentences for a person. The scripts of two nodes are for the lab.
-pub fn run_program<F: Folder, L: Lab, R: Source, W: Sink, E: Sink>(
+/// sentences for a person. The scripts of two nodes are for the lab, and a node on the network is for the server.
+pub fn run_program<F: Folder, L: Lab, S: Serve, R: Source, W: Sink, E: Sink>(
     alloc: Global,
     words: &[String],
     folder: &F,
     lab: &mut L,
+    server: &mut S,
     reader: &mut R,
     writer: &mut W,
     errors: &mut E,
@@ -73,6 +75,7 @@ pub fn run_program<F: Folder, L: Lab, R: Source, W: Sink, E: Sink>(
             let files = (near.as_str(), far.as_str());
             run_files(alloc, folder, files, lab, reader, writer, errors)
         }
+        Words::Serve(file) => { serve_file(alloc, folder, file.as_str(), server, writer, errors) }
         Words::Usage => tell_usage(writer, errors),
         Words::NoMemory => tell_no_memory(writer),
     }

@@ -34,11 +34,13 @@ fn main(rt: HostRuntime) -> Result<()> {
     let disk = Disk::new(&rt);
     let tally = play_all(&rt, &disk, names.as_slice())?;
     let built_in = tell_whether_built_in(&rt, &disk, "built_in.toml")?;
+    let version_2 = tell_whether_built_in(&rt, &disk, "settings_files/version_2.toml")?;
+    let joined_ignored = tell_whether_built_in(&rt, &disk, "settings_files/joined_ignored.toml")?;
     let single = tell_whether_built_in(&rt, &disk, "single.toml")?;
     let (good, failed) = (tally.good, tally.failed);
     println!(rt; "{good} good, {failed} failed")?;
     ensure!(
-        failed == 0 && built_in && !single,
+        failed == 0 && built_in && version_2 && joined_ignored && !single,
         "not all is as it is to be"
     );
     Ok(())

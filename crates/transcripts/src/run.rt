@@ -10,7 +10,9 @@ use crate::differences::{first_difference, line_at};
 use anyhow::{Result, bail};
 use lab::{JoinedLab, MemoryJoiner};
 use std::alloc::{AllocError, Global};
-use stp_node::{FileFault, Folder, MemorySink, MemorySource, OneFile, Status, run_program};
+use stp_node::{
+    FileFault, Folder, MemorySink, MemorySource, OneFile, Status, Unserved, run_program,
+};
 
 /// A run of the program: its words, its script, and what it is to print.
 #[derive(Drop)]
@@ -211,6 +213,7 @@ fn printed<F: Folder>(alloc: Global, words: &[String], folder: &F, script: &[u8]
         words,
         folder,
         &mut lab,
+        &mut Unserved,
         &mut reader,
         &mut writer,
         &mut errors,

@@ -66,6 +66,10 @@ walk-check : (words : List Text) → walk rules names nothing_held (codes "check
 unfolding clap_on_literals
 walk-check words = sym (walk_stopped rules names (walk_from nothing_held) (codes "check") [] words)
 
+walk-serve : (words : List Text) → walk rules names nothing_held (codes "serve" ∷ words) ≡ stopped_at (codes "serve") words
+unfolding clap_on_literals
+walk-serve words = sym (walk_stopped rules names (walk_from nothing_held) (codes "serve") [] words)
+
 walk-lab : (words : List Text) → walk rules names nothing_held (codes "lab" ∷ words) ≡ stopped_at (codes "lab") words
 unfolding clap_on_literals
 walk-lab words = sym (walk_stopped rules names (walk_from nothing_held) (codes "lab") [] words)
@@ -75,6 +79,9 @@ run = Rattle.clap.specs.Simple.built_leaf (Rattle.clap.specs.Simple.inherited (b
 
 abbrev check : Shape
 check = Rattle.clap.specs.Simple.built_leaf (Rattle.clap.specs.Simple.inherited (built stp).top (Rattle.words.specs.Grammar.check).top)
+
+abbrev serve : Shape
+serve = Rattle.clap.specs.Simple.built_leaf (Rattle.clap.specs.Simple.inherited (built stp).top (Rattle.words.specs.Grammar.serve).top)
 
 abbrev lab : Shape
 lab = Rattle.clap.specs.Simple.built_leaf (Rattle.clap.specs.Simple.inherited (built stp).top (Rattle.words.specs.Grammar.lab).top)
@@ -89,6 +96,11 @@ unfolding clap_on_literals
 fault-check words = ap₂ faults (walk-check words) (stopped_fault (built stp).top names (walk_from nothing_held) (codes "check", []) words)
     ∙ or_else-none (level_fault check [] nothing_held words false [])
 
+fault-serve : (words : List Text) → fault_of stp (codes "serve" ∷ words) ≡ level_fault serve [] nothing_held words false []
+unfolding clap_on_literals
+fault-serve words = ap₂ faults (walk-serve words) (stopped_fault (built stp).top names (walk_from nothing_held) (codes "serve", []) words)
+    ∙ or_else-none (level_fault serve [] nothing_held words false [])
+
 fault-lab : (words : List Text) → fault_of stp (codes "lab" ∷ words) ≡ level_fault lab [] nothing_held words false []
 unfolding clap_on_literals
 fault-lab words = ap₂ faults (walk-lab words) (stopped_fault (built stp).top names (walk_from nothing_held) (codes "lab", []) words)
@@ -99,6 +111,9 @@ rows-run words = ap (λ (w : Walk). entered (built stp) w.stopped) (walk-run wor
 
 rows-check : (words : List Text) → subcommand_of stp (codes "check" ∷ words) ≡ Some (codes "check", rows_after check.rules [] words)
 rows-check words = ap (λ (w : Walk). entered (built stp) w.stopped) (walk-check words)
+
+rows-serve : (words : List Text) → subcommand_of stp (codes "serve" ∷ words) ≡ Some (codes "serve", rows_after serve.rules [] words)
+rows-serve words = ap (λ (w : Walk). entered (built stp) w.stopped) (walk-serve words)
 
 rows-lab : (words : List Text) → subcommand_of stp (codes "lab" ∷ words) ≡ Some (codes "lab", rows_after lab.rules [] words)
 rows-lab words = ap (λ (w : Walk). entered (built stp) w.stopped) (walk-lab words)
@@ -111,6 +126,10 @@ run-is-not-lab = refl
 check-is-not-lab : bytes_eq (codes "check") (codes "lab") ≡ false
 unfolding clap_on_literals
 check-is-not-lab = refl
+
+serve-is-not-lab : bytes_eq (codes "serve") (codes "lab") ≡ false
+unfolding clap_on_literals
+serve-is-not-lab = refl
 
 lab-is-lab : bytes_eq (codes "lab") (codes "lab") ≡ true
 unfolding clap_on_literals
@@ -142,6 +161,10 @@ check-alone : level_fault check [] nothing_held [] false [] ≡ kind.MissingRequ
 unfolding clap_on_literals
 check-alone = refl
 
+serve-alone : level_fault serve [] nothing_held [] false [] ≡ kind.MissingRequiredArgument ∷ []
+unfolding clap_on_literals
+serve-alone = refl
+
 run-file : (x : ℕ) (xs : Text) → nat_eq x 45 ≡ false → level_fault run [] nothing_held ((x ∷ xs) ∷ []) false [] ≡ []
 unfolding clap_on_literals
 run-file x xs plain = rw (plain, plain) refl
@@ -167,6 +190,19 @@ check-more : (x y : ℕ) (xs ys : Text) (more : List Text) → nat_eq x 45 ≡ f
     → level_fault check [] nothing_held ((x ∷ xs) ∷ (y ∷ ys) ∷ more) false [] ≡ kind.UnknownArgument ∷ []
 unfolding clap_on_literals
 check-more x y xs ys more plain plain-2 = rw (plain, plain, plain-2, plain-2) refl
+
+serve-file : (x : ℕ) (xs : Text) → nat_eq x 45 ≡ false → level_fault serve [] nothing_held ((x ∷ xs) ∷ []) false [] ≡ []
+unfolding clap_on_literals
+serve-file x xs plain = rw (plain, plain) refl
+
+serve-file-named : (x : ℕ) (xs : Text) → nat_eq x 45 ≡ false → first_of (codes "file") (rows_after serve.rules [] ((x ∷ xs) ∷ [])) ≡ Some (x ∷ xs)
+unfolding clap_on_literals
+serve-file-named x xs plain = rw (plain, plain) refl
+
+serve-more : (x y : ℕ) (xs ys : Text) (more : List Text) → nat_eq x 45 ≡ false → nat_eq y 45 ≡ false
+    → level_fault serve [] nothing_held ((x ∷ xs) ∷ (y ∷ ys) ∷ more) false [] ≡ kind.UnknownArgument ∷ []
+unfolding clap_on_literals
+serve-more x y xs ys more plain plain-2 = rw (plain, plain, plain-2, plain-2) refl
 
 lab-alone : level_fault lab [] nothing_held [] false [] ≡ kind.MissingRequiredArgument ∷ []
 unfolding clap_on_literals
@@ -198,9 +234,10 @@ lab-more x y z xs ys zs more plain plain-2 plain-3 = rw (plain, plain, plain-2, 
 
 -- a first word that names no command
 other : (x : ℕ) (xs : Text) (rest : List Text) → nat_eq x 45 ≡ false → bytes_eq (codes "run") (x ∷ xs) ≡ false → bytes_eq (codes "check") (x ∷ xs) ≡ false
-    → bytes_eq (codes "lab") (x ∷ xs) ≡ false → fault_of stp ((x ∷ xs) ∷ rest) ≡ kind.UnknownArgument ∷ kind.InvalidSubcommand ∷ []
+    → bytes_eq (codes "lab") (x ∷ xs) ≡ false → bytes_eq (codes "serve") (x ∷ xs) ≡ false
+    → fault_of stp ((x ∷ xs) ∷ rest) ≡ kind.UnknownArgument ∷ kind.InvalidSubcommand ∷ []
 unfolding clap_on_literals
-other x xs rest plain not-run not-check not-lab = rw (not-run, not-check, not-lab, plain, plain) refl
+other x xs rest plain not-run not-check not-lab not-serve = rw (not-run, not-check, not-lab, not-serve, plain, plain) refl
 
 -- ---- all words
 
@@ -254,6 +291,19 @@ on-check ((x ∷ xs) ∷ (y ∷ ys) ∷ more) e =
     let plain-2 = plain-first y (both _ _ (both _ _ e).1).0 in
     Refused (not-nil _ _ _ (fault-check _ ∙ check-more x y xs ys more plain plain-2)) (unasked-more (codes "check") (x ∷ xs) (y ∷ ys) more check-is-not-lab)
 
+on-serve : (words : List Text) → list_all is_plain words ≡ true → Verdict (codes "serve" ∷ words)
+on-serve [] e = Refused (not-nil _ _ _ (fault-serve [] ∙ serve-alone)) refl
+on-serve ([] ∷ more) e = absurd (true≢false (sym e))
+on-serve ((x ∷ xs) ∷ []) e =
+    let plain = plain-first x (both _ _ e).0 in
+    Taken (fault-serve _ ∙ serve-file x xs plain)
+    (ap found (rows-serve ((x ∷ xs) ∷ [])) ∙ found-other (codes "serve") (rows_after serve.rules [] ((x ∷ xs) ∷ [])) serve-is-not-lab ∙ ap (asked_by_command (codes "serve")) (serve-file-named x xs plain) ∙ rw plain refl)
+on-serve ((x ∷ xs) ∷ [] ∷ more) e = absurd (true≢false (sym (both _ _ e).1))
+on-serve ((x ∷ xs) ∷ (y ∷ ys) ∷ more) e =
+    let plain = plain-first x (both _ _ e).0 in
+    let plain-2 = plain-first y (both _ _ (both _ _ e).1).0 in
+    Refused (not-nil _ _ _ (fault-serve _ ∙ serve-more x y xs ys more plain plain-2)) (unasked-more (codes "serve") (x ∷ xs) (y ∷ ys) more serve-is-not-lab)
+
 asked-two : (command near far : Text) → bytes_eq command (codes "lab") ≡ true → asked_with_two command near far ≡ LabRun near far
 asked-two command near far e = rw e refl
 
@@ -290,26 +340,31 @@ unlike a b e = settle (bytes_eq b a) refl
     settle true is = absurd (true≢false (sym ((bytes_eq-Decides a b).1 (sym ((bytes_eq-Decides b a).0 is))) ∙ e))
 
 others-asked : (x : ℕ) (xs : Text) (rest : List Text) → bytes_eq (x ∷ xs) (codes "run") ≡ false → bytes_eq (x ∷ xs) (codes "check") ≡ false
-    → bytes_eq (x ∷ xs) (codes "lab") ≡ false → asked_by ((x ∷ xs) ∷ rest) ≡ OtherWords
-others-asked x xs [] not-run not-check not-lab = rw not-run refl
-others-asked x xs (file ∷ []) not-run not-check not-lab = either (is_plain file)
+    → bytes_eq (x ∷ xs) (codes "lab") ≡ false → bytes_eq (x ∷ xs) (codes "serve") ≡ false → asked_by ((x ∷ xs) ∷ rest) ≡ OtherWords
+others-asked x xs [] not-run not-check not-lab not-serve = rw not-run refl
+others-asked x xs (file ∷ []) not-run not-check not-lab not-serve = either (is_plain file)
   where
     either : (b : Bool) → (if b then asked_with (x ∷ xs) file else OtherWords) ≡ OtherWords
-    either true = rw (not-run, not-check) refl
+    either true = rw (not-run, not-check, not-serve) refl
     either false = refl
-others-asked x xs (file ∷ second ∷ more) not-run not-check not-lab = unasked-more (x ∷ xs) file second more not-lab
+others-asked x xs (file ∷ second ∷ more) not-run not-check not-lab not-serve = unasked-more (x ∷ xs) file second more not-lab
 
 pub judged : (words : List Text) → list_all is_plain words ≡ true → Verdict words
 judged [] e = Refused (not-nil _ _ _ no-words) refl
 judged ([] ∷ rest) e = absurd (true≢false (sym e))
 judged ((x ∷ xs) ∷ rest) e = by-run (bytes_eq (x ∷ xs) (codes "run")) refl
   where
+    by-serve : (t : Bool) → bytes_eq (x ∷ xs) (codes "run") ≡ false → bytes_eq (x ∷ xs) (codes "check") ≡ false → bytes_eq (x ∷ xs) (codes "lab") ≡ false
+        → bytes_eq (x ∷ xs) (codes "serve") ≡ t → Verdict ((x ∷ xs) ∷ rest)
+    by-serve true not-run not-check not-lab is = subst (λ (w : Text). Verdict (w ∷ rest)) (sym ((bytes_eq-Decides (x ∷ xs) (codes "serve")).0 is)) (on-serve rest (both (is_plain (x ∷ xs)) (list_all is_plain rest) e).1)
+    by-serve false not-run not-check not-lab not-serve = Refused
+        (not-nil kind.UnknownArgument (kind.InvalidSubcommand ∷ []) (fault_of stp ((x ∷ xs) ∷ rest)) (other x xs rest (plain-first x (both (is_plain (x ∷ xs)) (list_all is_plain rest) e).0) (unlike (x ∷ xs) (codes "run") not-run) (unlike (x ∷ xs) (codes "check") not-check) (unlike (x ∷ xs) (codes "lab") not-lab) (unlike (x ∷ xs) (codes "serve") not-serve)))
+        (others-asked x xs rest not-run not-check not-lab not-serve)
+
     by-lab : (t : Bool) → bytes_eq (x ∷ xs) (codes "run") ≡ false → bytes_eq (x ∷ xs) (codes "check") ≡ false → bytes_eq (x ∷ xs) (codes "lab") ≡ t
         → Verdict ((x ∷ xs) ∷ rest)
     by-lab true not-run not-check is = subst (λ (w : Text). Verdict (w ∷ rest)) (sym ((bytes_eq-Decides (x ∷ xs) (codes "lab")).0 is)) (on-lab rest (both (is_plain (x ∷ xs)) (list_all is_plain rest) e).1)
-    by-lab false not-run not-check not-lab = Refused
-        (not-nil kind.UnknownArgument (kind.InvalidSubcommand ∷ []) (fault_of stp ((x ∷ xs) ∷ rest)) (other x xs rest (plain-first x (both (is_plain (x ∷ xs)) (list_all is_plain rest) e).0) (unlike (x ∷ xs) (codes "run") not-run) (unlike (x ∷ xs) (codes "check") not-check) (unlike (x ∷ xs) (codes "lab") not-lab)))
-        (others-asked x xs rest not-run not-check not-lab)
+    by-lab false not-run not-check not-lab = by-serve (bytes_eq (x ∷ xs) (codes "serve")) not-run not-check not-lab refl
 
     by-check : (t : Bool) → bytes_eq (x ∷ xs) (codes "run") ≡ false → bytes_eq (x ∷ xs) (codes "check") ≡ t → Verdict ((x ∷ xs) ∷ rest)
     by-check true not-run is = subst (λ (w : Text). Verdict (w ∷ rest)) (sym ((bytes_eq-Decides (x ∷ xs) (codes "check")).0 is)) (on-check rest (both (is_plain (x ∷ xs)) (list_all is_plain rest) e).1)

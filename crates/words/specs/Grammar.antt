@@ -24,7 +24,11 @@ far_rule = record (new_rule (codes "far")) { required = true }
 abbrev pub lab : App
 lab = with_rule (with_rule (new_app (codes "lab")) near_rule) far_rule
 
--- one of the three, with no texts of its own and no words for help
+-- `serve FILE`
+abbrev pub serve : App
+serve = with_rule (new_app (codes "serve")) needed_file
+
+-- one of the four, with no texts of its own and no words for help
 abbrev pub bare : App
 bare = on_top (λ s. record s {
   no_binary_name = true;
@@ -34,4 +38,4 @@ bare = on_top (λ s. record s {
 }) (new_app (codes "stp"))
 
 abbrev pub stp : App
-stp = with_subcommand (with_subcommand (with_subcommand bare run.top) check.top) lab.top
+stp = with_subcommand (with_subcommand (with_subcommand (with_subcommand bare run.top) check.top) lab.top) serve.top

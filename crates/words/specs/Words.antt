@@ -9,12 +9,13 @@ use Rattle.words.specs.declared.Words.{Words}
 use Rattle.words.specs.declared.Words.TheVariants as words
 
 -- run a script, on the built-in settings or on those of a file; check a file; run a lab script on the settings of two
--- files; anything else
+-- files; serve a node with the settings of a file; anything else
 pub data Task : Type 0 where
   BuiltInRun : Task
   FileRun : List ℕ → Task
   FileCheck : List ℕ → Task
   LabRun : (near far : List ℕ) → Task
+  FileServe : List ℕ → Task
   OtherWords : Task
 
 -- a plain word isn't empty, and doesn't begin with `-` (45)
@@ -22,17 +23,18 @@ abbrev pub is_plain : List ℕ → Bool
 is_plain [] = false
 is_plain (first ∷ rest) = not (nat_eq first 45)
 
--- `run FILE` and `check FILE`
+-- `run FILE`, `check FILE` and `serve FILE`
 abbrev pub asked_with : List ℕ → List ℕ → Task
 asked_with command file =
     if bytes_eq command (codes "run") then FileRun file
-    else (if bytes_eq command (codes "check") then FileCheck file else OtherWords)
+    else (if bytes_eq command (codes "check") then FileCheck file
+    else (if bytes_eq command (codes "serve") then FileServe file else OtherWords))
 
 -- `lab NEAR FAR`
 abbrev pub asked_with_two : List ℕ → (near far : List ℕ) → Task
 asked_with_two command near far = if bytes_eq command (codes "lab") then LabRun near far else OtherWords
 
--- `run`, `run FILE`, `check FILE` and `lab NEAR FAR`, and nothing else
+-- `run`, `run FILE`, `check FILE`, `serve FILE` and `lab NEAR FAR`, and nothing else
 abbrev pub asked_by : List (List ℕ) → Task
 asked_by (command ∷ []) = if bytes_eq command (codes "run") then BuiltInRun else OtherWords
 asked_by (command ∷ file ∷ []) = if is_plain file then asked_with command file else OtherWords
@@ -73,6 +75,7 @@ said (words.Run None) = Some BuiltInRun
 said (words.Run (Some file)) = Some (FileRun (string_bytes file))
 said (words.Check file) = Some (FileCheck (string_bytes file))
 said (words.Lab near far) = Some (LabRun (string_bytes near) (string_bytes far))
+said (words.Serve file) = Some (FileServe (string_bytes file))
 said words.Usage = Some OtherWords
 said words.NoMemory = None
 

@@ -8,7 +8,7 @@ ghost use Rattle.clap.specs.declared.builder.command.Command.TheViews.{out-Comma
 ghost use Rattle.clap.specs.declared.error.kind.ErrorKind.TheVariants.{OutOfMemory};
 ghost use Rattle.words.specs.Words.{asked, asked_by_command, asked_by_lab, are_plain, found, found_by, is_plain, said};
 ghost use Rattle.words.specs.Words.{OtherWords, AreReadAs};
-ghost use Rattle.words.specs.Grammar.{stp, bare, run, check, lab};
+ghost use Rattle.words.specs.Grammar.{stp, bare, run, check, lab, serve};
 
 use clap::error::ErrorKind;
 use clap::{Arg, ArgMatches, Command, Error};
@@ -23,6 +23,8 @@ pub enum Words {
     Check(String),
     /// `lab NEAR FAR`: run the lab script on standard input, on two nodes with the settings of these files.
     Lab(String, String),
+    /// `serve FILE`: serve a node on the network with the settings of this file.
+    Serve(String),
     /// Any other words.
     Usage,
     /// Memory ran out.
@@ -115,6 +117,7 @@ fn with_file(alloc: Global, command: &str, file: Option<&str>) -> Result<Words, 
         ("run", None) => Ok(Words::Run(None)),
         ("run", Some(file)) => Ok(Words::Run(Some(String::from_str(alloc, file)?))),
         ("check", Some(file)) => Ok(Words::Check(String::from_str(alloc, file)?)),
+        ("serve", Some(file)) => Ok(Words::Serve(String::from_str(alloc, file)?)),
         _ => Ok(Words::Usage),
     }
 }
@@ -140,7 +143,8 @@ fn stp<'a>(alloc: Global) -> Result<Command<'a>, AllocError>
     bare(alloc)
         .subcommand(run(alloc)?)?
         .subcommand(check(alloc)?)?
-        .subcommand(lab(alloc)?)
+        .subcommand(lab(alloc)?)?
+        .subcommand(serve(alloc)?)
 }
 
 /// A command line of commands, of which one is needed, without words for help.
@@ -180,4 +184,13 @@ fn lab<'a>(alloc: Global) -> Result<Command<'a>, AllocError>
     let near = Arg::new(alloc, "near").required(true);
     let far = Arg::new(alloc, "far").required(true);
     Command::new(alloc, "lab").arg(near)?.arg(far)
+}
+
+/// `serve FILE`.
+fn serve<'a>(alloc: Global) -> Result<Command<'a>, AllocError>
+    ensures app { IfOk result (λ command. app_of command ≡ serve) }
+    ensures local { IfOk result (λ command. (fields_of command).has_globals ≡ false) }
+{
+    let file = Arg::new(alloc, "file").required(true);
+    Command::new(alloc, "serve").arg(file)
 }

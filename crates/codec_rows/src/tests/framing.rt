@@ -40,6 +40,9 @@ const FILLED: &[u8] =
 const PROHIBITED: &[u8] =
     b"\x01\x00\x0b\x01\x00\x00\x00\x19\x00\xff\xff\xff\x00\x00\x00\x00\x00\x80\x02\x40\x00\x00\x14\x2c\x01";
 
+/// The front of a frame whose length field says 4,294,967,295 octets.
+const ENDLESS: &[u8] = b"\x01\x00\x0b\x02\xff\xff\xff\xff";
+
 /// Texts that are no frame, and their first fault. A link status with three octets of its state, and with states that
 /// there aren't, come behind the faults of the header; the last is a priority octet and no message.
 const FAULTS: &str = "\
@@ -144,16 +147,26 @@ fn fails(row: &str) -> bool {
 }
 
 /// The first octets of a frame, so many of them, are no frame.
-fn is_cut(count: usize) -> bool {
+fn is_cut(text: &[u8], count: usize) -> bool {
     let fault = if count < 8 {
         FrameFault::Short
     } else {
         FrameFault::Length
     };
-    match FIRST.get(..count) {
+    match text.get(..count) {
         Some(front) => has_fault(front, fault),
         None => false,
     }
+}
+
+/// No octets that a frame begins with are a frame, but for all of them.
+fn is_cut_anywhere(text: &[u8]) -> bool {
+    for count in 0..text.len() {
+        if !is_cut(text, count) {
+            return false;
+        }
+    }
+    true
 }
 
 /// A frame that isn't whole waits for the octet that it lacks.
@@ -163,6 +176,14 @@ fn waits(framer: &mut Framer, text: &mut [u8; 4096]) -> bool {
         && framer.feed(FIRST) == FIRST.len()
         && framer.next(text) == Next::Whole(PARTIAL.len() + 1)
         && text.starts_with(PARTIAL)
+}
+
+/// A length field that no frame has breaks the stream: from then on nothing is taken, and no text comes.
+fn breaks(framer: &mut Framer, text: &mut [u8; 4096]) -> bool {
+    framer.feed(ENDLESS) == ENDLESS.len()
+        && framer.next(text) == Next::Broken
+        && framer.feed(FIRST) == 0
+        && framer.next(text) == Next::Broken
 }
 
 #[test]
@@ -208,12 +229,17 @@ fn the_first_fault(rt: HostRuntime) {
 
 #[test]
 fn no_front_is_a_frame(rt: HostRuntime) {
-    for count in 0..FIRST.len() {
-        assert!(rt; is_cut(count), "at {count}");
+    for text in [FIRST, ALIGNMENT, PROVING_NORMAL, READY, PROHIBITED] {
+        assert!(rt; is_cut_anywhere(text), "{text:?}");
     }
 }
 
 #[test]
 fn a_partial_frame_waits(rt: HostRuntime) {
     assert!(rt; waits(&mut Framer::new(), &mut [0; 4096]));
+}
+
+#[test]
+fn a_length_that_no_frame_has(rt: HostRuntime) {
+    assert!(rt; breaks(&mut Framer::new(), &mut [0; 4096]));
 }

@@ -13,10 +13,16 @@ const ROWS: &str = "\
 own 16383: ok
 own 16384: fault 4 own
 own -1: fault 4 own
+own 9223372036854775807: fault 4 own
+own -9223372036854775808: fault 4 own
+network -1: fault 4 network
 network 4: fault 4 network
 window 0: fault 4 window
-window 4096: ok
-window 4097: fault 4 window
+window 16384: ok
+window 16385: fault 4 window
+window 9223372036854775807: fault 4 window
+pool 0: fault 4 pool
+pool 65535: ok
 pool 65536: fault 4 pool
 l1 0: fault 4 timers.l1
 l7 65536: fault 4 timers.l7
@@ -37,6 +43,7 @@ set /2: fault 4 set[0].name
 set East/2: fault 4 set[0].name
 set abcdefghijklmnopq/2: fault 4 set[0].name
 set east/1: fault 4 set[0].adjacent
+set east/-1: fault 4 set[0].adjacent
 set east/16384: fault 4 set[0].adjacent
 set east/3: fault 6 set[0].adjacent
 link: fault 4 link
@@ -44,10 +51,13 @@ link e0/east/0 e1/east/1: ok
 link e_0/east/0: fault 4 link[0].name
 link e0//0: fault 4 link[0].set
 link e0/west/0: fault 6 link[0].set
+link e0/east/-1: fault 4 link[0].slc
 link e0/east/15: ok
 link e0/east/16: fault 4 link[0].slc
 destination: fault 4 destination
 destination 1/east: fault 4 destination[0].point
+destination -1/east: fault 4 destination[0].point
+destination 2/east 16384/east: fault 4 destination[1].point
 destination 2/east 2/east: fault 5 destination[1].point
 destination 2/east 3: fault 4 destination[1].sets
 destination 2/east,,east: fault 4 destination[0].sets

@@ -62,7 +62,10 @@ submit 2 8501800010aa/tick 1 65535/submit 1 00/|refused 4 NoRoute/handled/refuse
 move 3 e1/|fault 1/|1
 tick 1 1/move 0 e0/|handled/fault 2/|2
 tick 1 0/|fault 1/|1
+tick 1 65536/|fault 1/|1
+tick 1 01/|fault 1/|1
 tick 1/|fault 1/|1
+move 1 a-name-of-more-than-sixteen-octets/|refused 22 NoSuchName/|
 open/|fault 1/|1
 open e0 e0/|fault 1/|1
 open /|fault 1/|1

@@ -3,7 +3,7 @@
 use super::{compare, lab_in_memory};
 use std::alloc::Global;
 use std::process::Abort;
-use stp_node::{MemorySink, MemorySource, OneFile, run_program};
+use stp_node::{MemorySink, MemorySource, OneFile, Unserved, run_program};
 
 /// The words, each behind a comma.
 pub(super) fn words<T: Abort>(rt: &T, alloc: Global, text: &str) -> Vec<String> {
@@ -42,6 +42,7 @@ pub(super) fn expect<T: Abort>(
         words.as_slice(),
         &folder,
         &mut lab,
+        &mut Unserved,
         reader,
         writer,
         errors,

@@ -5,7 +5,7 @@ use super::program::{expect, words};
 use std::alloc::Global;
 use std::process::Abort;
 use std::test::*;
-use stp_node::{MemorySink, MemorySource, OneFile, run_program};
+use stp_node::{MemorySink, MemorySource, OneFile, Unserved, run_program};
 
 /// A settings file of one line, in which a key is misspelt.
 const FILE: &[u8] = b"versoin = 1\n";
@@ -37,6 +37,7 @@ stp run           runs the script on standard input, with the built-in settings
 stp run FILE      runs it with the settings in FILE
 stp check FILE    prints ok, or the first fault of the settings in FILE
 stp lab NEAR FAR  runs the lab script on standard input, on two nodes that it joins
+stp serve FILE    serves a node on the network, with the settings in FILE
 The lines of a script, the settings and the exit statuses are in docs/MANUAL.md.
 ";
 
@@ -66,6 +67,7 @@ fn expect_told<T: Abort>(
         words.as_slice(),
         &folder,
         &mut lab,
+        &mut Unserved,
         reader,
         writer,
         &mut errors,

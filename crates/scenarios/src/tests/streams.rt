@@ -10,23 +10,65 @@ use stp_node::{
     MemorySink, MemorySource, ReadFailed, ReaderSource, ScriptFault, Source, WriterSink,
 };
 
+/// A link comes into service, and sends its first message.
 const SCRIPT: &str = "up e0
 take e0
 frame e0 01000b020000001400ffffff00ffffff00000001
+take e0
+frame e0 01000b020000001400ffffff00ffffff00000002
+tick 3
+take e0
+frame e0 01000b020000001400ffffff00ffffff00000004
+take e0
 ";
 
+/// What that prints: Alignment, Proving Normal and Ready go out, and the message that point 300 can't be reached (TFP).
 const PRINTED: &str = "handled
 frame e0 01000b020000001400ffffff00ffffff00000001
 handled
+frame e0 01000b020000001400ffffff00ffffff00000002
+handled
+handled
+frame e0 01000b020000001400ffffff00ffffff00000004
+handled
+frame e0 01000b010000001900ffffff00000000008002400000142c01
 ";
 
-/// How many octets the first lines of the script print.
-const PRINTED_OCTETS: [usize; 4] = [0, 8, 58, 66];
+/// How many octets the first lines of the script print, and how many they have.
+const LINES: [(usize, u64); 10] = [
+    (0, 0),
+    (8, 6),
+    (58, 14),
+    (66, 64),
+    (116, 72),
+    (124, 122),
+    (132, 129),
+    (182, 137),
+    (190, 187),
+    (250, 195),
+];
+
+/// How many lines there are.
+const LINE_COUNT: u64 = 9;
+
+/// How many octets they have.
+const SCRIPT_OCTETS: u64 = 195;
 
 /// What the first lines of the script print.
 fn printed(lines: usize) -> &'static [u8] {
-    let octets = PRINTED_OCTETS.get(lines).copied().unwrap_or(0);
+    let (octets, _) = LINES.get(lines).copied().unwrap_or((0, 0));
     PRINTED.as_bytes().get(..octets).unwrap_or(b"")
+}
+
+/// What the lines print that are whole in so many octets of the script.
+fn printed_in(octets: u64) -> &'static [u8] {
+    let mut printed = 0;
+    for (count, end) in LINES {
+        if end <= octets {
+            printed = count;
+        }
+    }
+    PRINTED.as_bytes().get(..printed).unwrap_or(b"")
 }
 
 /// Runs a script on a node with the built-in settings, and compares how it ends, how many reads and
@@ -55,7 +97,14 @@ fn expect_failures<T: Abort>(rt: &T, end: Result<(), ScriptFault>, reads: u64, w
 fn expect_pieces<T: Abort>(rt: &T, alloc: Global, most: usize) {
     let mut reader = MemorySource::new(SCRIPT.as_bytes()).in_pieces_of(most);
     let mut writer = MemorySink::new(alloc);
-    expect(rt, alloc, &mut reader, &mut writer, Ok(()), printed(3));
+    expect(
+        rt,
+        alloc,
+        &mut reader,
+        &mut writer,
+        Ok(()),
+        printed(LINES.len() - 1),
+    );
 }
 
 #[test]
@@ -65,26 +114,22 @@ fn pieces_of_any_size(rt: HostRuntime) {
     }
 }
 
-/// How many lines are whole in so many pieces of seven octets of the script.
-const WHOLE_LINES: [usize; 12] = [0, 1, 2, 2, 2, 2, 2, 2, 2, 2, 3, 3];
-
-/// A read that fails after so many others, of seven octets each.
+/// A read that fails after so many others, of one octet each. One more read finds the end of the script.
 fn expect_failing_read<T: Abort>(rt: &T, alloc: Global, reads: u64) {
-    let pieces = MemorySource::new(SCRIPT.as_bytes()).in_pieces_of(7);
+    let pieces = MemorySource::new(SCRIPT.as_bytes()).in_pieces_of(1);
     let mut reader = pieces.failing_after(reads);
     let mut writer = MemorySink::new(alloc);
-    let lines = WHOLE_LINES.get(reads as usize).copied().unwrap_or(0);
-    let end = if reads <= 10 {
+    let end = if reads <= SCRIPT_OCTETS {
         Err(ScriptFault::Read)
     } else {
         Ok(())
     };
-    expect(rt, alloc, &mut reader, &mut writer, end, printed(lines));
+    expect(rt, alloc, &mut reader, &mut writer, end, printed_in(reads));
 }
 
 #[test]
 fn each_read_failing_in_turn(rt: HostRuntime) {
-    for reads in 0..12u64 {
+    for reads in 0..=SCRIPT_OCTETS + 1 {
         expect_failing_read(&rt, rt.alloc(), reads);
     }
 }
@@ -93,7 +138,7 @@ fn each_read_failing_in_turn(rt: HostRuntime) {
 fn expect_failing_write<T: Abort>(rt: &T, alloc: Global, script: &str, writes: u64) {
     let mut reader = MemorySource::new(script.as_bytes());
     let mut writer = MemorySink::new(alloc).failing_after(writes);
-    let end = if writes < 3 {
+    let end = if writes < LINE_COUNT {
         Err(ScriptFault::Write)
     } else {
         Ok(())
@@ -110,7 +155,7 @@ fn expect_failing_write<T: Abort>(rt: &T, alloc: Global, script: &str, writes: u
 
 #[test]
 fn each_write_failing_in_turn(rt: HostRuntime) {
-    for writes in 0..4u64 {
+    for writes in 0..=LINE_COUNT {
         expect_failing_write(&rt, rt.alloc(), SCRIPT, writes);
     }
 }

@@ -6,6 +6,7 @@ use super::messages::{ISUP, counts, push};
 use cell_pool::{Lanes, RingLanes};
 use link_number::Number24;
 use link_sequence::{SeqFault, Sequence};
+use signalling_types::Limits;
 use std::test::*;
 
 pub(super) fn number(value: u32) -> Number24 {
@@ -72,6 +73,62 @@ fn numbers_wrap(rt: HostRuntime) -> Result<(), Fail> {
     assert!(rt;
         wraps(
             &mut RingLanes::new(rt.alloc(), 1, 8)?,
+            &mut Sequence::starting_at(number(16_777_214))
+        )
+    );
+    Ok(())
+}
+
+/// Puts so many messages at the end of the first list.
+fn fill_up<L: Lanes>(lanes: &mut L, count: usize) -> bool {
+    for place in 0..count {
+        if !push(lanes, 0, ISUP, (place % 256) as u8) {
+            return false;
+        }
+    }
+    true
+}
+
+/// Sends so many messages, as many as the largest window allows.
+fn sends<L: Lanes>(sequence: &mut Sequence, lanes: &L, count: usize) -> bool {
+    for _ in 0..count {
+        if sent(sequence, lanes, Limits::WINDOW).is_none() {
+            return false;
+        }
+    }
+    true
+}
+
+/// How many of a whole window of messages stand behind the count that a number names.
+fn behind_window(sequence: &Sequence, confirmed: u32) -> Option<usize> {
+    let count = sequence.retrieve(number(confirmed))?;
+    Limits::WINDOW.checked_sub(count)
+}
+
+/// Whether a whole window was sent, of 16,384 messages from number 16,777,214 on, and what stands behind its numbers.
+fn is_whole_window(sequence: &Sequence) -> bool {
+    sequence.last_sent().value() == 16_381
+        && sequence.outstanding() == 16_384
+        && behind_window(sequence, 16_381) == Some(0)
+        && behind_window(sequence, 16_380) == Some(1)
+        && behind_window(sequence, 16_777_213) == Some(16_384)
+        && sequence.retrieve(number(16_382)).is_none()
+        && sequence.retrieve(number(16_777_212)).is_none()
+}
+
+/// Whether one message more than a window is kept back, and the numbers of the others name what they are to.
+fn fills_window<L: Lanes>(lanes: &mut L, sequence: &mut Sequence) -> bool {
+    fill_up(lanes, Limits::WINDOW + 1)
+        && sends(sequence, lanes, Limits::WINDOW)
+        && sent(sequence, lanes, Limits::WINDOW).is_none()
+        && is_whole_window(sequence)
+}
+
+#[test]
+fn the_largest_window_wraps(rt: HostRuntime) -> Result<(), Fail> {
+    assert!(rt;
+        fills_window(
+            &mut RingLanes::new(rt.alloc(), 1, Limits::WINDOW + 1)?,
             &mut Sequence::starting_at(number(16_777_214))
         )
     );

@@ -7,6 +7,7 @@ use Rattle.flow_hold.specs.Rows.{Marks}
 use Rattle.flow_hold.specs.Table.{first_row}
 use Rattle.flow_hold.proofs.Counting.{mark_of, unmarked, unmarked-more, fits-first}
 use Rattle.flow_hold.proofs.table.first_rows.Goals as goal
+use Rattle.signalling_types.specs.declared.limits.TheConstants.Limits.{SELECTIONS}
 
 pub push_reserved-requires : goal.push_reserved-requires
 push_reserved-requires c =
@@ -22,6 +23,6 @@ loop-place-preserved c =
           ∙ ap (λ (m : Marks). map (first_row c.args.shared c.args.destinations) (range_with_len 0 c.loop-place.place) ++ m ∷ []) c.in_ok-first_row.ensures
           ∙ sym (map-range_with_len_more (first_row c.args.shared c.args.destinations) 0 c.loop-place.place c.loop-place.place (omega arith));
       none = λ flow. rw c.push_reserved.ensures.items (unmarked-more rows row flow (c.loop-place.invariant.none flow) (ap (mark_of flow) c.in_ok-first_row.ensures ∙ unmarked c.args.shared c.args.destinations c.loop-place.place flow));
-      fits = rw c.push_reserved.ensures.items (All-push (λ (m : Marks). m.first + length m.marks ≤ 16 * c.args.destinations) rows row c.loop-place.invariant.fits (fits-first row c.args.shared c.args.destinations c.loop-place.place c.in_ok-first_row.ensures c.loop-place-test.true));
+      fits = rw c.push_reserved.ensures.items (All-push (λ (m : Marks). m.first + length m.marks ≤ SELECTIONS * c.args.destinations) rows row c.loop-place.invariant.fits (fits-first row c.args.shared c.args.destinations c.loop-place.place c.in_ok-first_row.ensures c.loop-place-test.true));
       room = omega (arith, c.push_reserved.ensures.capacity, c.loop-place.invariant.room);
     }

@@ -5,11 +5,12 @@ use Rattle.std.specs.List.{range_with_len}
 use Rattle.flow_hold.specs.Rows.{Marks}
 use Rattle.flow_hold.specs.Table.{first_row, marked_as_held}
 use Rattle.flow_hold.proofs.table.first_rows.Given as goal
+use Rattle.signalling_types.specs.declared.limits.TheConstants.Limits.{SELECTIONS}
 
 abbrev pub invariant-loop-place : goal.invariant-loop-place
 invariant-loop-place l = record {
   rows : l.rows.items ≡ map (first_row l.shared l.destinations) (range_with_len 0 l.place);
   none : (flow : ℕ) → marked_as_held l.rows.items flow ≡ 0;
-  fits : All (λ (row : Marks). row.first + length row.marks ≤ 16 * l.destinations) l.rows.items;
+  fits : All (λ (row : Marks). row.first + length row.marks ≤ SELECTIONS * l.destinations) l.rows.items;
   room : l.shared + l.destinations ≤ vec_capacity l.rows;
 }

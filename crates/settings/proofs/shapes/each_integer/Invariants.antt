@@ -1,4 +1,4 @@
-use Rattle.std.proofs.Common.{◌≡◌, drop, map, string_bytes}
+use Rattle.std.proofs.Common.{◌≡◌, drop, map}
 use Rattle.toml.specs.View.{view}
 use Rattle.settings.specs.Shapes.{each, integer_in}
 use Rattle.settings.proofs.Each.{after}

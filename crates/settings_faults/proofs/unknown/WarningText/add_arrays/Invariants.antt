@@ -1,5 +1,5 @@
 use Rattle.settings_faults.specs.Warnings.{GoesOn}
-use Rattle.settings_faults.proofs.unknown.WarningText.add_document.Given as goal
+use Rattle.settings_faults.proofs.unknown.WarningText.add_arrays.Given as goal
 
 abbrev pub invariant-loop-array : goal.invariant-loop-array
 invariant-loop-array l = GoesOn l.fn.self l.self

@@ -1,0 +1,4 @@
+pub mod Handing
+pub mod InOrder
+pub mod Pieces
+pub mod Standing

@@ -1,0 +1,5 @@
+pub mod Watching
+pub mod Connections
+pub mod Reading
+pub mod Sending
+pub mod Room

@@ -1,0 +1,191 @@
+//! One caller.
+
+use crate::answering::do_script_line;
+use crate::command::{ConsoleLine, parse_console_line};
+use crate::counting::print_counters;
+use crate::help::HELP;
+use crate::outbox::Outbox;
+use crate::pointing::{PointSink, line_in_numbers};
+use arrayvec::ArrayVec;
+use exchange::Exchange;
+use link_counters::Counters;
+use std::alloc::Global;
+use std::mem;
+use stp_node::{Grown, Line, Malformed, OpenLine, Sink, WriteFailed};
+use trace::PointFormat;
+
+/// Octets of a line of a caller, at most, without the line feed that ends it: as many as in a script.
+pub const LINE_OCTETS: usize = 8300;
+
+/// What may stand in front of the line feed.
+const CARRIAGE_RETURN: u8 = b'\r';
+
+/// The answer to a line that isn't one of a caller's.
+const MALFORMED: &[u8] = b"malformed: help lists the lines\n";
+
+/// The answer to a line that asks to be told something from now on.
+const WATCHING: &[u8] = b"handled\n";
+
+/// The answer to `stop`.
+const STOPPING: &[u8] = b"stopping\n";
+
+/// What a caller is told from the time on at which it asks for it.
+#[derive(Clone, Copy, Debug, PartialEq, Eq)]
+pub enum News {
+    /// A message for this point.
+    Message,
+    /// A notice.
+    Notice,
+    /// A frame.
+    Frame,
+}
+
+/// What becomes of a caller.
+#[derive(Clone, Copy, Debug, PartialEq, Eq)]
+pub enum Ending {
+    /// Its connection stays open.
+    Stays,
+    /// Its connection is to be closed: a line was too long, or there was no room for what it is told.
+    Closes,
+    /// It asked the node to stop.
+    Stops,
+}
+
+/// What the lines of callers are done on.
+#[derive(Drop)]
+pub struct Desk<'a> {
+    /// The node.
+    pub exchange: &'a mut Exchange,
+    /// The counters of its links.
+    pub counters: &'a Counters,
+    /// How point codes are read and shown.
+    pub points: PointFormat,
+}
+
+/// A caller of the console: the line that it is writing, what waits to be written to it, and what it is told.
+#[derive(Drop)]
+pub struct Caller {
+    line: OpenLine,
+    outbox: Outbox,
+    sees_messages: bool,
+    sees_notices: bool,
+    sees_frames: bool,
+}
+
+impl Caller {
+    /// A caller that just came.
+    pub fn new(alloc: Global) -> Caller {
+        Caller {
+            line: OpenLine::first(),
+            outbox: Outbox::new(alloc),
+            sees_messages: false,
+            sees_notices: false,
+            sees_frames: false,
+        }
+    }
+
+    /// Takes octets that came, up to the end of the first line in them, and does it; all of them where no line ends in
+    /// them. Returns how many it took, and what becomes of the caller.
+    pub fn read(&mut self, octets: &[u8], desk: &mut Desk<'_>) -> (usize, Ending) {
+        for (k, octet) in octets.iter().enumerate() {
+            match self.line.add(*octet) {
+                Grown::Open => {}
+                Grown::TooLong => return (k + 1, Ending::Closes),
+                Grown::Whole => return (k + 1, self.end_line(desk)),
+            }
+        }
+        (octets.len(), Ending::Stays)
+    }
+
+    /// Does the line that just ended, and begins the next one.
+    fn end_line(&mut self, desk: &mut Desk<'_>) -> Ending {
+        let line = mem::replace(&mut self.line, OpenLine::first());
+        match self.do_line(without_return(line.octets()), desk) {
+            Ok(ending) => ending,
+            Err(WriteFailed) => Ending::Closes,
+        }
+    }
+
+    /// Does a whole line. The error means that there is no room for its answer.
+    fn do_line(&mut self, line: &[u8], desk: &mut Desk<'_>) -> Result<Ending, WriteFailed> {
+        let mut room = ArrayVec::new();
+        let line = line_in_numbers(line, desk.points, &mut room);
+        match parse_console_line(line) {
+            Ok(ConsoleLine::Skipped) => {}
+            Ok(ConsoleLine::Script(line)) => self.do_script(line, desk)?,
+            Ok(ConsoleLine::Counters) => {
+                print_counters(desk.exchange, desk.counters, &mut self.outbox)?;
+            }
+            Ok(ConsoleLine::Help) => self.outbox.write(HELP)?,
+            Ok(ConsoleLine::Users) => self.begin(News::Message)?,
+            Ok(ConsoleLine::Notices) => self.begin(News::Notice)?,
+            Ok(ConsoleLine::Frames) => self.begin(News::Frame)?,
+            Ok(ConsoleLine::Stop) => {
+                self.outbox.write(STOPPING)?;
+                return Ok(Ending::Stops);
+            }
+            Err(Malformed) => self.outbox.write(MALFORMED)?,
+        }
+        Ok(Ending::Stays)
+    }
+
+    /// Does a line of a script, and answers what a script prints for it.
+    fn do_script(&mut self, line: Line<'_>, desk: &mut Desk<'_>) -> Result<(), WriteFailed> {
+        match desk.points {
+            PointFormat::Plain => do_script_line(desk.exchange, line, &mut self.outbox),
+            PointFormat::ThreeEightThree => {
+                let mut sink = PointSink::new(&mut self.outbox);
+                do_script_line(desk.exchange, line, &mut sink)
+            }
+        }
+    }
+
+    /// The caller is told such news from now on.
+    fn begin(&mut self, news: News) -> Result<(), WriteFailed> {
+        match news {
+            News::Message => self.sees_messages = true,
+            News::Notice => self.sees_notices = true,
+            News::Frame => self.sees_frames = true,
+        }
+        self.outbox.write(WATCHING)
+    }
+
+    /// Whether the caller asked for such news.
+    pub fn sees(&self, news: News) -> bool {
+        match news {
+            News::Message => self.sees_messages,
+            News::Notice => self.sees_notices,
+            News::Frame => self.sees_frames,
+        }
+    }
+
+    /// Tells the caller news, where it asked for such. It is to be closed where there is no room for them.
+    pub fn tell(&mut self, news: News, line: &[u8]) -> Ending {
+        if !self.sees(news) {
+            return Ending::Stays;
+        }
+        match self.outbox.write(line) {
+            Ok(()) => Ending::Stays,
+            Err(WriteFailed) => Ending::Closes,
+        }
+    }
+
+    /// What waits to be written to the caller.
+    pub fn pending(&self) -> &[u8] {
+        self.outbox.pending()
+    }
+
+    /// So many of the octets that wait were written, from the first on; no more can have been than wait.
+    pub fn written(&mut self, count: usize) {
+        let waiting = self.outbox.pending().len();
+        self.outbox.written(count.min(waiting));
+    }
+}
+
+/// A line without the carriage return at its end, where it has one.
+fn without_return(line: &[u8]) -> &[u8] {
+    match line {
+        [front @ .., CARRIAGE_RETURN] => front,
+        _ => line,
+    }
+}

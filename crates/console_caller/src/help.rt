@@ -1,0 +1,21 @@
+//! What a caller may write.
+
+/// Each command with a line.
+pub const HELP: &[u8] = b"\
+help                      these lines
+show links                each link: its state, how many messages wait, the last numbers
+show routes               each destination: the sets that messages take, and their status
+show titles               the translation rows
+show notices              the last 64 notices
+show counters             what passed on each link since the start: counter NAME LINK VALUE
+submit HEX                a user part submits a message: its SIO, then its SIF
+activate LINK             the link may open
+deactivate LINK           the link goes out of service, and stays out
+title add T P N DIGITS POINT ROUTE SSN
+                          a translation row is added
+title remove T P N DIGITS a translation row is removed
+users                     from now on each message for this point: local LINK HEX
+watch                     from now on each notice as it falls
+watch frames              from now on each frame in words
+stop                      the node closes its connections and ends
+";

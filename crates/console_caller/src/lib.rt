@@ -1,0 +1,18 @@
+//! A caller of the console, octet by octet: the lines that it writes, and what it is answered and told.
+#![tactic(auto)]
+
+mod answering;
+mod caller;
+mod command;
+mod counting;
+mod help;
+mod outbox;
+mod pointing;
+
+pub use answering::do_script_line;
+pub use caller::{Caller, Desk, Ending, LINE_OCTETS, News};
+pub use command::{ConsoleLine, parse_console_line};
+pub use counting::print_counters;
+pub use help::HELP;
+pub use outbox::{OUTBOX_OCTETS, Outbox};
+pub use pointing::{POINT_LINE_OCTETS, PointSink, line_in_numbers, line_in_parts};

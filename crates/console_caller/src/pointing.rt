@@ -1,0 +1,165 @@
+//! Point codes in three parts, in the lines of callers and in the texts that they are answered.
+
+ghost use Rattle.std.specs.Prelude.{None};
+
+use crate::caller::LINE_OCTETS;
+use arrayvec::ArrayVec;
+use console::read_number;
+use console::words::cut;
+use stp_node::{Sink, WriteFailed};
+use stp_types::PointCode;
+use trace::{PointFormat, parse_point, point_text};
+
+/// Octets of a line of a text with a point in it, at most.
+pub const POINT_LINE_OCTETS: usize = 160;
+
+/// The largest point.
+const LAST_POINT: u16 = 16_383;
+
+/// The place of the point among the words of `title add T P N DIGITS POINT ROUTE SSN`.
+const ADDED_POINT: usize = 6;
+
+/// A line of a caller with its point as a number, as lines of a script have it: the point of `title add` is read in
+/// this format. A line without one stays as it is. What is changed is written to `room`.
+pub fn line_in_numbers<'a>(
+    line: &'a [u8],
+    points: PointFormat,
+    room: &'a mut ArrayVec<u8, LINE_OCTETS>,
+) -> &'a [u8] {
+    if points == PointFormat::Plain || !line.starts_with(b"title add ") {
+        return line;
+    }
+    match parts_at(line, ADDED_POINT) {
+        Some(parts) if write_number(&parts, points, room) => room.as_slice(),
+        _ => line,
+    }
+}
+
+/// A line that is cut at one of its words.
+#[derive(Clone, Copy)]
+struct Parts<'a> {
+    front: &'a [u8],
+    word: &'a [u8],
+    back: &'a [u8],
+}
+
+/// A line cut at the word of this place, from 0. None where it has fewer words.
+fn parts_at(line: &[u8], place: usize) -> Option<Parts<'_>> {
+    let mut rest = line;
+    for _ in 0..place {
+        rest = cut(rest).1?;
+    }
+    let (word, _) = cut(rest);
+    let start = line.len().saturating_sub(rest.len());
+    let end = start.saturating_add(word.len()).min(line.len());
+    Some(Parts {
+        front: &line[..start],
+        word,
+        back: &line[end..],
+    })
+}
+
+/// Writes the line with the number of the point that its word is. False where the word is no point, or the line is too
+/// long.
+fn write_number(
+    parts: &Parts<'_>,
+    points: PointFormat,
+    room: &mut ArrayVec<u8, LINE_OCTETS>,
+) -> bool {
+    let Ok(word) = str::from_utf8(parts.word) else {
+        return false;
+    };
+    let Some(point) = parse_point(word, points) else {
+        return false;
+    };
+    write_parts(parts, point, PointFormat::Plain, room)
+}
+
+/// Writes the line with a point in place of its word. False where the line is too long.
+fn write_parts<const N: usize>(
+    parts: &Parts<'_>,
+    point: PointCode,
+    points: PointFormat,
+    room: &mut ArrayVec<u8, N>,
+) -> bool {
+    room.clear();
+    room.try_extend_from_slice(parts.front).is_ok()
+        && room
+            .try_extend_from_slice(point_text(point, points).as_slice())
+            .is_ok()
+        && room.try_extend_from_slice(parts.back).is_ok()
+}
+
+/// The place of the point among the words of a line that is shown, where it has one.
+fn place_of_point(line: &[u8]) -> Option<usize> {
+    let (word, _) = cut(line);
+    if word == b"route".as_slice() {
+        Some(1)
+    } else if word == b"title".as_slice() {
+        Some(5)
+    } else if word == b"lost".as_slice() || word == b"unsent".as_slice() {
+        Some(3)
+    } else {
+        None
+    }
+}
+
+/// A line that is shown, without its line feed, with its point in three parts. What is changed is written to `room`.
+pub fn line_in_parts<'a>(
+    line: &'a [u8],
+    room: &'a mut ArrayVec<u8, POINT_LINE_OCTETS>,
+) -> &'a [u8] {
+    let Some(place) = place_of_point(line) else {
+        return line;
+    };
+    let Some(parts) = parts_at(line, place) else {
+        return line;
+    };
+    match point_of(parts.word) {
+        Some(point) if write_parts(&parts, point, PointFormat::ThreeEightThree, room) => {
+            room.as_slice()
+        }
+        _ => line,
+    }
+}
+
+/// The point of this number.
+fn point_of(word: &[u8]) -> Option<PointCode> {
+    PointCode::new(read_number(word, 0, LAST_POINT)?)
+}
+
+/// A sink that shows the points of each line that is written in three parts.
+#[derive(Drop)]
+pub struct PointSink<'a, W> {
+    sink: &'a mut W,
+    failures: u64,
+}
+
+impl<'a, W: Sink> PointSink<'a, W> {
+    /// The sink in front of this one.
+    pub fn new(sink: &'a mut W) -> PointSink<'a, W> {
+        PointSink { sink, failures: 0 }
+    }
+}
+
+impl<W: Sink> Sink for PointSink<'_, W> {
+    ghost output = { λ s. record { written = None; failures = s.failures } };
+
+    fn write(&mut self, octets: &[u8]) -> Result<(), WriteFailed> {
+        let result = write_shown(octets, self.sink);
+        if result.is_err() {
+            self.failures = self.failures.saturating_add(1);
+        }
+        result
+    }
+}
+
+/// Writes octets, and shows the point in them in three parts where they are a line.
+fn write_shown<W: Sink>(octets: &[u8], sink: &mut W) -> Result<(), WriteFailed> {
+    let [line @ .., b'\n'] = octets else {
+        return sink.write(octets);
+    };
+    let mut room = ArrayVec::new();
+    sink.write(line_in_parts(line, &mut room))?;
+    sink.write(b"\n")
+}

@@ -1,0 +1,98 @@
+-- What is counted of a link, and what it adds to each counter.
+use Rattle.std.specs.Prelude.{ℕ, ◌+◌, ◌-◌, ◌^◌, min, List, replicate, slice_index, slice_index_or, slice_set}
+use Rattle.signalling_types.specs.Causes.{cause_number}
+use Rattle.signalling_types.specs.declared.notice.FailureReason.{FailureReason}
+use Rattle.signalling_types.specs.declared.notice.FailureReason.TheVariants.{Association, Timer, Sequence, Status}
+use Rattle.signalling_types.specs.declared.notice.FailureReason.TheVariants.{Length, Changeover, Operator}
+use Rattle.signalling_types.specs.declared.outcome.Outcome.{Outcome}
+use Rattle.signalling_types.specs.declared.outcome.Outcome.TheVariants.{Queued, Held, Local, Handled, Ignored, Refused}
+use Rattle.link_counters.specs.declared.counter.TheConstants.{CAUSES, REASONS}
+use Rattle.link_counters.specs.declared.counter.Counter.{Counter}
+use Rattle.link_counters.specs.declared.counter.Counter.TheVariants.{FramesIn, OctetsIn, FramesOut, OctetsOut}
+use Rattle.link_counters.specs.declared.counter.Counter.TheVariants.{Forwarded, Delivered, Refused as RefusedBy}
+use Rattle.link_counters.specs.declared.counter.Counter.TheVariants.{Failed, Retries}
+use Rattle.link_counters.specs.declared.row.LinkCounters.{LinkCounters}
+
+-- what is counted of a link
+pub data Counted : Type 0 where
+  -- a frame of so many octets came in, and was handed in with this outcome
+  FrameCame : (octets : ℕ) (outcome : Outcome) → Counted
+  -- a frame of so many octets went out
+  FrameWent : (octets : ℕ) → Counted
+  -- the link failed for this reason
+  Failure : (reason : FailureReason) → Counted
+  -- its connection was tried again
+  Retry : Counted
+
+-- the place of a reason among all
+abbrev pub reason_number : FailureReason → ℕ
+reason_number Association = 0
+reason_number Timer = 1
+reason_number Sequence = 2
+reason_number Status = 3
+reason_number Length = 4
+reason_number Changeover = 5
+reason_number Operator = 6
+
+-- a count of 64 bits and so many more, which stays at its greatest value
+abbrev pub saturated : ℕ → ℕ
+saturated n = min n (2 ^ 64 - 1)
+
+-- nothing is counted yet
+abbrev pub no_counts : LinkCounters
+no_counts = record {
+  frames_in = 0;
+  octets_in = 0;
+  frames_out = 0;
+  octets_out = 0;
+  forwarded = 0;
+  delivered = 0;
+  refused = replicate CAUSES 0;
+  failed = replicate REASONS 0;
+  retries = 0;
+}
+
+abbrev pub one_more_at : ℕ → List ℕ → List ℕ
+one_more_at place counts = slice_set counts place (saturated (slice_index counts place + 1))
+
+-- what an outcome adds
+abbrev pub outcome_counted : Outcome → LinkCounters → LinkCounters
+outcome_counted (Queued link) row = record row { forwarded = saturated (row.forwarded + 1) }
+outcome_counted Held row = record row { forwarded = saturated (row.forwarded + 1) }
+outcome_counted Local row = record row { delivered = saturated (row.delivered + 1) }
+outcome_counted Handled row = row
+outcome_counted Ignored row = row
+outcome_counted (Refused cause) row = record row { refused = one_more_at (cause_number cause - 1) row.refused }
+
+-- the counters of a link after one thing more is counted
+abbrev pub counted : Counted → LinkCounters → LinkCounters
+counted (FrameCame octets outcome) row =
+    outcome_counted outcome (record row {
+      frames_in = saturated (row.frames_in + 1);
+      octets_in = saturated (row.octets_in + octets);
+    })
+counted (FrameWent octets) row =
+    record row { frames_out = saturated (row.frames_out + 1); octets_out = saturated (row.octets_out + octets) }
+counted (Failure reason) row = record row { failed = one_more_at (reason_number reason) row.failed }
+counted Retry row = record row { retries = saturated (row.retries + 1) }
+
+-- the counters of a link, in the counters of all
+abbrev pub row_at : List LinkCounters → ℕ → LinkCounters
+row_at rows link = slice_index_or rows link no_counts
+
+-- one thing more is counted of a link; of a link that isn't there nothing is
+abbrev pub counted_at : (link : ℕ) → Counted → List LinkCounters → List LinkCounters
+counted_at link what rows = slice_set rows link (counted what (row_at rows link))
+
+-- ---- the value of each counter
+
+abbrev pub value_of : Counter → LinkCounters → ℕ
+value_of FramesIn row = row.frames_in
+value_of OctetsIn row = row.octets_in
+value_of FramesOut row = row.frames_out
+value_of OctetsOut row = row.octets_out
+value_of Forwarded row = row.forwarded
+value_of Delivered row = row.delivered
+value_of (RefusedBy cause) row = slice_index row.refused (cause_number cause - 1)
+value_of (Failed reason) row = slice_index row.failed (reason_number reason)
+value_of Retries row = row.retries

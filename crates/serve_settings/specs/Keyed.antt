@@ -1,0 +1,73 @@
+-- The keys of the table `serve`, each with the first fault of its value.
+use Rattle.std.specs.Prelude.{ℕ, ℤ, pos, negsuc, Bool, false, List, [], ◌∷◌, ◌&&◌, ◌||◌, Option, Some, None}
+use Rattle.std.specs.Prelude.{Result, Ok, Err, if◌then◌else◌, bytes_eq, codes, nat_le, nat_lt}
+use Rattle.std.specs.declared.net.socket_addr.SocketAddr.{SocketAddr}
+use Rattle.std.specs.Net.Socket.{socket_port}
+use Rattle.toml.specs.Data.{Data, Members, get_member}
+use Rattle.serve_settings.specs.declared.server.PointFormat.{PointFormat}
+use Rattle.serve_settings.specs.declared.server.PointFormat.TheVariants.{Plain, ThreeEightThree}
+use Rattle.serve_settings.specs.declared.key.ServeKey.{ServeKey}
+use Rattle.serve_settings.specs.declared.key.ServeKey.TheVariants as key
+use Rattle.serve_settings.specs.declared.fault.ServeFault.{ServeFault}
+use Rattle.serve_settings.specs.declared.fault.ServeFault.TheVariants.{Missing, Range}
+use Rattle.serve_settings.specs.Addresses.{Spelling, is_loopback}
+use Rattle.serve_settings.specs.Shapes.{and_then, value_at, integer_in, truth_in, text_in}
+
+-- an address, whose port isn't 0
+abbrev pub with_port : ServeKey → Option SocketAddr → Result SocketAddr ServeFault
+with_port key None = Err (Range key)
+with_port key (Some a) = if nat_lt 0 (socket_port a) then Ok a else Err (Range key)
+
+unfoldable pub address_in : Spelling → ServeKey → Data → Result SocketAddr ServeFault
+address_in s key d = and_then (text_in key d) (λ text. with_port key (s.address text))
+
+-- how long a tick is: 10 to 10,000 ms
+abbrev pub tick_in : ℤ → Result ℕ ServeFault
+tick_in (pos n) = if nat_le 10 n && nat_le n 10000 then Ok n else Err (Range key.TickMs)
+tick_in (negsuc n) = Err (Range key.TickMs)
+
+unfoldable pub tick_ms_at : Members → Result ℕ ServeFault
+tick_ms_at t = and_then (value_at (codes "tick_ms") (Missing key.TickMs) t) (λ d. and_then (integer_in key.TickMs d) tick_in)
+
+-- whether the console may listen on an address that other machines reach, which it may not where the key is left out
+abbrev pub open_in : Option Data → Result Bool ServeFault
+open_in None = Ok false
+open_in (Some d) = truth_in key.ConsoleOpen d
+
+unfoldable pub console_open_at : Members → Result Bool ServeFault
+console_open_at t = open_in (get_member (codes "console_open") t)
+
+abbrev pub is_open : Result Bool ServeFault → Bool
+is_open (Ok opened) = opened
+is_open (Err fault) = false
+
+-- where the console listens, if there is one: where it isn't open, on an address that no other machine reaches
+abbrev pub console_in : Spelling → (opened : Bool) → Option Data → Result (Option SocketAddr) ServeFault
+console_in s opened None = Ok None
+console_in s opened (Some d) =
+    and_then (address_in s key.Console d) (λ a. if is_loopback a || opened then Ok (Some a) else Err (Range key.Console))
+
+unfoldable pub console_at : Spelling → (opened : Bool) → Members → Result (Option SocketAddr) ServeFault
+console_at s opened t = console_in s opened (get_member (codes "console") t)
+
+-- the file that frames are captured to, if there is one
+abbrev pub file_of : List ℕ → Result (Option (List ℕ)) ServeFault
+file_of [] = Err (Range key.Capture)
+file_of (octet ∷ octets) = Ok (Some (octet ∷ octets))
+
+abbrev pub capture_in : Option Data → Result (Option (List ℕ)) ServeFault
+capture_in None = Ok None
+capture_in (Some d) = and_then (text_in key.Capture d) file_of
+
+unfoldable pub capture_at : Members → Result (Option (List ℕ)) ServeFault
+capture_at t = capture_in (get_member (codes "capture") t)
+
+-- how point codes are shown: plain where the key is left out
+abbrev pub points_in : Option Data → Result PointFormat ServeFault
+points_in None = Ok Plain
+points_in (Some d) =
+    and_then (text_in key.Points d) (λ text.
+    if bytes_eq text (codes "3-8-3") then Ok ThreeEightThree else Err (Range key.Points))
+
+unfoldable pub points_at : Members → Result PointFormat ServeFault
+points_at t = points_in (get_member (codes "points") t)

@@ -1,0 +1,32 @@
+-- The keys of a server's settings, and how they are written.
+use Rattle.std.specs.Prelude.{ℕ, List, [], Option, Some, None, codes}
+use Rattle.settings_rows.specs.Keys.{path_of}
+use Rattle.serve_settings.specs.declared.key.ServeKey.{ServeKey}
+use Rattle.serve_settings.specs.declared.key.ServeKey.TheVariants as key
+
+-- how a key is written; of a key of a link, how the array of links is
+abbrev pub key_front : ServeKey → List ℕ
+key_front key.Serve = codes "serve"
+key_front key.TickMs = codes "serve.tick_ms"
+key_front key.Console = codes "serve.console"
+key_front key.Capture = codes "serve.capture"
+key_front key.ConsoleOpen = codes "serve.console_open"
+key_front key.Points = codes "serve.points"
+key_front (key.LinkListen i) = codes "link"
+key_front (key.LinkConnect i) = codes "link"
+
+-- the index of the link that a key stands in, from 0
+abbrev pub key_index : ServeKey → Option ℕ
+key_index (key.LinkListen i) = Some i
+key_index (key.LinkConnect i) = Some i
+key_index other = None
+
+-- what stands behind the index: a dot and the key in its link, or nothing
+abbrev pub key_back : ServeKey → List ℕ
+key_back (key.LinkListen i) = codes ".listen"
+key_back (key.LinkConnect i) = codes ".connect"
+key_back other = []
+
+-- how a key is written: `serve.tick_ms`, `link[2].listen`
+abbrev pub key_path : ServeKey → List ℕ
+key_path key = path_of (key_front key) (key_index key) (key_back key)

@@ -1,0 +1,9 @@
+pub mod Keys
+pub mod Faults
+pub mod Shapes
+pub mod Addresses
+pub mod Keyed
+pub mod Endpoints
+pub mod Served
+pub mod Inside
+pub mod Reading

@@ -1,0 +1,54 @@
+-- What is read of a server's settings from the text of a settings file.
+use Rattle.std.specs.Prelude.{◌≡◌, ◌⊎◌, ℕ, List, Result, Ok, Err, codes}
+use Rattle.std.specs.Option.{ok_or}
+use Rattle.toml.specs.Data.{Members}
+use Rattle.toml.specs.Parse.{parse_document}
+use Rattle.settings_rows.specs.Configuration.{Configuration}
+use Rattle.settings.specs.Reading as settings
+use Rattle.settings.specs.declared.fault.SettingsFault.{SettingsFault}
+use Rattle.settings.specs.declared.fault.SettingsFault.TheVariants as found
+use Rattle.serve_settings.specs.declared.key.ServeKey.TheVariants.{Serve}
+use Rattle.serve_settings.specs.declared.fault.ServeFault.{ServeFault}
+use Rattle.serve_settings.specs.declared.fault.ServeFault.TheVariants.{Settings, Missing, Kind}
+use Rattle.serve_settings.specs.Addresses.{Spelling}
+use Rattle.serve_settings.specs.Faults.{fault_of}
+use Rattle.serve_settings.specs.Shapes.{and_then, value_at, table_in}
+use Rattle.serve_settings.specs.Keyed.{tick_ms_at, console_open_at, is_open, console_at, capture_at, points_at}
+use Rattle.serve_settings.specs.Endpoints.{endpoints_at}
+use Rattle.serve_settings.specs.Served.{Served}
+
+-- the table `serve` of a file
+unfoldable pub serve_at : Members → Result Members ServeFault
+serve_at t = and_then (value_at (codes "serve") (Missing Serve) t) (table_in (Kind Serve))
+
+-- what a file says of its server: the keys in their order, and the first fault among them is the file's
+unfoldable pub document : Spelling → Members → Result Served ServeFault
+document s t =
+    and_then (serve_at t) (λ serve.
+    and_then (tick_ms_at serve) (λ tick_ms.
+    and_then (console_at s (is_open (console_open_at serve)) serve) (λ console.
+    and_then (capture_at serve) (λ capture.
+    and_then (console_open_at serve) (λ opened.
+    and_then (points_at serve) (λ points.
+    and_then (endpoints_at s console t) (λ links.
+    Ok (record { tick_ms = tick_ms; console = console; capture = capture; points = points; links = links }))))))))
+
+-- what a text says of its server
+unfoldable pub reading : Spelling → List ℕ → Result Served ServeFault
+reading s text = and_then (ok_or (parse_document text) (Settings found.Text)) (document s)
+
+-- the node's settings have this fault
+pub record IsOfSettings (text : List ℕ) (fault : ServeFault) : Type 0 where
+  pub found : SettingsFault
+  pub first : settings.IsFirstFault text found
+  pub named : fault ≡ fault_of found
+
+-- the node's settings are without a fault, and those of the server have this one
+pub record IsOfServer (s : Spelling) (text : List ℕ) (fault : ServeFault) : Type 0 where
+  pub configuration : Configuration
+  pub well : settings.IsReadAs text configuration
+  pub first : reading s text ≡ Err fault
+
+-- the first fault of a text: that of the node's settings, else that of the server's
+abbrev pub IsFirstFault : Spelling → List ℕ → ServeFault → Type 0
+IsFirstFault s text fault = IsOfSettings text fault ⊎ IsOfServer s text fault

@@ -1,0 +1,12 @@
+-- The settings of a server, as plain data.
+use Rattle.std.specs.Prelude.{ℕ, List, Option}
+use Rattle.std.specs.declared.net.socket_addr.SocketAddr.{SocketAddr}
+use Rattle.serve_settings.specs.declared.server.Endpoint.{Endpoint}
+use Rattle.serve_settings.specs.declared.server.PointFormat.{PointFormat}
+
+pub record Served : Type 0 where
+  pub tick_ms : ℕ
+  pub console : Option SocketAddr
+  pub capture : Option (List ℕ)
+  pub points : PointFormat
+  pub links : List Endpoint

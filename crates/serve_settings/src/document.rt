@@ -1,0 +1,93 @@
+//! Reading the settings of a server.
+
+ghost use Rattle.std.specs.Prelude.{◌≡◌, ◌⊎◌, Ok, IfOk, IfErr};
+ghost use Rattle.std.specs.Option.{ok_or};
+ghost use Rattle.toml.specs.Parse.{parse_document};
+ghost use Rattle.toml.specs.View.{table_view};
+ghost use Rattle.settings.specs.Reading.{IsReadAs};
+ghost use Rattle.settings.specs.declared.fault.SettingsFault.TheVariants as found;
+ghost use Rattle.serve_settings.specs.Addresses.{Spelling};
+ghost use Rattle.serve_settings.specs.Faults.{Answers, AnswersOrNoMemory};
+ghost use Rattle.serve_settings.specs.Reading.{serve_at, document, reading, IsFirstFault};
+
+use crate::endpoints::endpoints;
+use crate::fault::ServeFault;
+use crate::key::ServeKey;
+use crate::keys::{capture, console, console_open, points, tick_ms};
+use crate::server::ServeSettings;
+use crate::shapes::{table_in, value};
+use settings::SettingsFault;
+use std::alloc::Global;
+use stp_types::Settings;
+use toml::Table;
+
+/// The table `serve` of a file.
+#[tactic(auto, unfolding(crate::specs::Reading::serve_at))]
+fn serve_in(table: &Table) -> Result<&Table, ServeFault>
+    ensures { Answers (λ serve. table_view serve.now) (serve_at (table_view table.now)) result }
+{
+    let value = value(table, "serve", ServeFault::Missing(ServeKey::Serve))?;
+    table_in(value, ServeFault::Kind(ServeKey::Serve))
+}
+
+/// What a file says of its server.
+#[tactic(auto, unfolding(crate::specs::Reading::document))]
+fn contents(alloc: Global, table: &Table) -> Result<ServeSettings, ServeFault>
+    ensures { (s : Spelling) → AnswersOrNoMemory (λ settings. settings)
+        (document s (table_view table.now)) result }
+{
+    let serve = serve_in(table)?;
+    let tick_ms = tick_ms(serve)?;
+    let opened = console_open(serve);
+    let console = console(serve, matches!(opened, Ok(true)))?;
+    let capture = capture(alloc, serve)?;
+    opened?;
+    let points = points(serve)?;
+    let links = endpoints(alloc, console, table)?;
+    Ok(ServeSettings {
+        tick_ms,
+        console,
+        capture,
+        points,
+        links,
+    })
+}
+
+/// The table that a text is, where it is TOML.
+fn parse(alloc: Global, text: &str) -> Result<Table, ServeFault>
+    ensures { AnswersOrNoMemory table_view
+        (ok_or (parse_document text.now) (ServeFault.Settings found.Text)) result }
+{
+    match toml::table_from_str(alloc, text) {
+        Ok(table) => Ok(table),
+        Err(error) if error.is_memory() => Err(ServeFault::NoMemory),
+        Err(_) => Err(ServeFault::Settings(SettingsFault::Text)),
+    }
+}
+
+/// What a text says of its server.
+#[tactic(auto, unfolding(crate::specs::Reading::reading))]
+fn server(alloc: Global, text: &str) -> Result<ServeSettings, ServeFault>
+    ensures { (s : Spelling) → AnswersOrNoMemory (λ settings. settings) (reading s text.now) result }
+{
+    let table = parse(alloc, text)?;
+    contents(alloc, &table)
+}
+
+/// Reads the settings of a node and those of its server from the text of a settings file, and
+/// checks both.
+///
+/// Answers both, or the first fault: what `settings::read` finds; then the keys `tick_ms`,
+/// `console`, `capture`, `console_open` and `points` of `[serve]`; then `listen` and `connect` of
+/// each link, from the first on. Want of memory may stand in place of any other. Keys of other names
+/// are ignored.
+pub fn read(alloc: Global, text: &str) -> Result<(Settings, ServeSettings), ServeFault>
+    ensures settings { IfOk result (λ read. IsReadAs text.now read.0) }
+    ensures server { (s : Spelling) → IfOk result (λ read. reading s text.now ≡ Ok read.1) }
+    ensures fault { (s : Spelling) → IfErr result (λ fault.
+        (fault ≡ ServeFault.NoMemory) ⊎ IsFirstFault s text.now fault) }
+{
+    let settings = settings::read(alloc, text)?;
+    let server = server(alloc, text)?;
+    Ok((settings, server))
+}

@@ -1,0 +1,85 @@
+//! What is wrong with the settings of a server.
+
+ghost use Rattle.std.specs.Prelude.{◌≡◌, Some};
+ghost use Rattle.serve_settings.specs.Faults.{fault_line, fault_of};
+
+use crate::key::ServeKey;
+use settings::SettingsFault;
+use std::alloc::{AllocError, AllocFailed};
+use std::error::Error;
+use std::fmt;
+use stp_types::DraftFault;
+
+/// The first fault of a server's settings. It prints as the line that tells it, with the numbers of
+/// the faults of settings: `fault 2 serve.tick_ms`, `fault 5 link[2].listen`, `fault NoMemory`.
+#[derive(Clone, Copy)]
+pub enum ServeFault {
+    /// A fault of the settings of the node, other than want of memory.
+    Settings(SettingsFault),
+    /// 2: a key that has to be there is missing; of a link that has neither `listen` nor `connect`,
+    /// its `listen`.
+    Missing(ServeKey),
+    /// 3: a value of another type than its key asks for.
+    Kind(ServeKey),
+    /// 4: a number out of its range, a text that isn't an address with a port from 1 on, or a
+    /// console that others reach.
+    Range(ServeKey),
+    /// 5: an address that two listen on, or `connect` of a link that has `listen` too.
+    Duplicate(ServeKey),
+    /// Memory ran out.
+    NoMemory,
+}
+
+impl fmt::Display for ServeFault {
+    ghost output = { λ fault. Some (fault_line fault) };
+
+    fn fmt<W: fmt::Write>(&self, f: &mut fmt::Formatter<W>) -> fmt::Result {
+        match *self {
+            ServeFault::Settings(fault) => write!(f, "{fault}"),
+            ServeFault::Missing(key) => write!(f, "fault 2 {key}"),
+            ServeFault::Kind(key) => write!(f, "fault 3 {key}"),
+            ServeFault::Range(key) => write!(f, "fault 4 {key}"),
+            ServeFault::Duplicate(key) => write!(f, "fault 5 {key}"),
+            ServeFault::NoMemory => f.write_str("fault NoMemory"),
+        }
+    }
+}
+
+impl fmt::Debug for ServeFault {
+    fn fmt<W: fmt::Write>(&self, f: &mut fmt::Formatter<W>) -> fmt::Result {
+        fmt::Display::fmt(self, f)
+    }
+}
+
+impl Error for ServeFault {}
+
+impl From<SettingsFault> for ServeFault {
+    ghost from_gives = { λ found fault. fault ≡ fault_of found };
+
+    fn from(fault: SettingsFault) -> ServeFault {
+        match fault {
+            SettingsFault::Draft(DraftFault::NoMemory) => ServeFault::NoMemory,
+            _ => ServeFault::Settings(fault),
+        }
+    }
+}
+
+impl From<AllocError> for ServeFault {
+    ghost use Rattle.serve_settings.specs.declared.fault.ServeFault.TheVariants.{NoMemory};
+
+    ghost from_gives = { λ _ fault. fault ≡ NoMemory };
+
+    fn from(_error: AllocError) -> ServeFault {
+        ServeFault::NoMemory
+    }
+}
+
+impl<T: Drop> From<AllocFailed<T>> for ServeFault {
+    ghost use Rattle.serve_settings.specs.declared.fault.ServeFault.TheVariants.{NoMemory};
+
+    ghost from_gives = { λ _ fault. fault ≡ NoMemory };
+
+    fn from(_error: AllocFailed<T>) -> ServeFault {
+        ServeFault::NoMemory
+    }
+}

@@ -1,0 +1,79 @@
+//! The keys of a server's settings, and how they are written.
+
+ghost use Rattle.std.specs.Prelude.{◌≡◌, Some};
+ghost use Rattle.serve_settings.specs.Keys.{key_front, key_index, key_back, key_path};
+
+use std::fmt;
+
+/// The keys of a server's settings, with the index of a link from 0. A key prints as its path, as
+/// `serve.tick_ms` or `link[2].listen`.
+#[derive(Clone, Copy)]
+pub enum ServeKey {
+    /// `serve`, the table itself.
+    Serve,
+    /// `serve.tick_ms`.
+    TickMs,
+    /// `serve.console`.
+    Console,
+    /// `serve.capture`.
+    Capture,
+    /// `serve.console_open`.
+    ConsoleOpen,
+    /// `serve.points`.
+    Points,
+    /// `link[i].listen`.
+    LinkListen(usize),
+    /// `link[i].connect`.
+    LinkConnect(usize),
+}
+
+impl ServeKey {
+    /// The key's path; for a key of a link, that of the array of links.
+    fn front(self) -> &'static str
+        ensures { result.now ≡ key_front self }
+    {
+        match self {
+            ServeKey::Serve => "serve",
+            ServeKey::TickMs => "serve.tick_ms",
+            ServeKey::Console => "serve.console",
+            ServeKey::Capture => "serve.capture",
+            ServeKey::ConsoleOpen => "serve.console_open",
+            ServeKey::Points => "serve.points",
+            ServeKey::LinkListen(_) | ServeKey::LinkConnect(_) => "link",
+        }
+    }
+
+    /// The index of the link that the key stands in.
+    fn index(self) -> Option<usize>
+        ensures { result ≡ key_index self }
+    {
+        match self {
+            ServeKey::LinkListen(i) | ServeKey::LinkConnect(i) => Some(i),
+            _ => None,
+        }
+    }
+
+    /// What stands behind the index: a dot and the key in its link, or nothing.
+    fn back(self) -> &'static str
+        ensures { result.now ≡ key_back self }
+    {
+        match self {
+            ServeKey::LinkListen(_) => ".listen",
+            ServeKey::LinkConnect(_) => ".connect",
+            _ => "",
+        }
+    }
+}
+
+impl fmt::Display for ServeKey {
+    ghost output = { λ key. Some (key_path key) };
+
+    fn fmt<W: fmt::Write>(&self, f: &mut fmt::Formatter<W>) -> fmt::Result {
+        let front = self.front();
+        let back = self.back();
+        match self.index() {
+            Some(i) => write!(f, "{front}[{i}]{back}"),
+            None => f.write_str(front),
+        }
+    }
+}

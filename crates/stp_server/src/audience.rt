@@ -1,0 +1,139 @@
+//! Who is told of what passes: the counters, the capture, and the callers of the console.
+
+ghost use Rattle.std.specs.Prelude.{◌≡◌, ◌≤◌, length};
+
+use crate::callers::Callers;
+use crate::capture::Capture;
+use arrayvec::ArrayVec;
+use association::Watch;
+use console_caller::News;
+use exchange::{Frame, decode};
+use link_counters::Counters;
+use std::alloc::{AllocError, Global};
+use std::time::Duration;
+use stp_types::{Limits, LinkId, Outcome, Settings};
+use trace::{Direction, PointFormat, frame_words};
+
+/// Octets of the line of a message for this point, at most: two digits for each octet of the longest, its link, and
+/// words.
+const MESSAGE_OCTETS: usize = 640;
+
+/// Who is told of the frames of a server.
+#[derive(Drop)]
+pub(crate) struct Audience {
+    pub(crate) names: Vec<String>,
+    pub(crate) counters: Counters,
+    pub(crate) capture: Option<Capture>,
+    pub(crate) callers: Callers,
+    pub(crate) points: PointFormat,
+    pub(crate) now: Duration,
+    pub(crate) refused: usize,
+}
+
+impl Audience {
+    /// Nobody is there yet but the counters.
+    pub(crate) fn new(
+        alloc: Global,
+        settings: &Settings,
+        points: PointFormat,
+    ) -> Result<Audience, AllocError> {
+        let mut names = Vec::new(alloc);
+        for row in settings.links() {
+            names.push(String::from_str(alloc, row.name())?)?;
+        }
+        Ok(Audience {
+            counters: Counters::new(alloc, names.len())?,
+            names,
+            capture: None,
+            callers: Callers::new(alloc)?,
+            points,
+            now: Duration::ZERO,
+            refused: 0,
+        })
+    }
+
+    /// The name of a link; nothing where no link has this number.
+    pub(crate) fn name(&self, link: LinkId) -> &str
+        ensures { length result.now ≤ Limits.NAME_OCTETS }
+    {
+        match self.names.get(link.index()) {
+            Some(name) if name.len() <= Limits::NAME_OCTETS => name.as_str(),
+            _ => "",
+        }
+    }
+
+    /// A frame passed: the capture has it, and callers that watch frames are told.
+    fn passed(&mut self, link: LinkId, direction: Direction, frame: &[u8]) {
+        if let Some(capture) = &mut self.capture {
+            capture.write(self.now, link, direction, frame);
+        }
+        if !self.callers.any_sees(News::Frame) || frame.len() > Limits::FRAME_OCTETS {
+            return;
+        }
+        let words = frame_words(self.name(link), direction, frame, self.points);
+        self.callers.tell_line(News::Frame, words.as_slice());
+    }
+
+    /// Tells callers of a message for this point.
+    fn tell_message(&mut self, link: LinkId, frame: &[u8]) {
+        if !self.callers.any_sees(News::Message) {
+            return;
+        }
+        if let Ok(Frame::Message { sio, sif, .. }) = decode(frame)
+            && let Some(line) = message_line(self.name(link), sio, sif)
+        {
+            self.callers.tell_line(News::Message, line.as_slice());
+        }
+    }
+}
+
+/// The line of a message for this point, without its line feed: `local LINK HEX`.
+fn message_line(name: &str, sio: u8, sif: &[u8]) -> Option<ArrayVec<u8, MESSAGE_OCTETS>> {
+    let mut line = ArrayVec::new();
+    line.try_extend_from_slice(b"local ").ok()?;
+    line.try_extend_from_slice(name.as_bytes()).ok()?;
+    line.try_extend_from_slice(b" ").ok()?;
+    push_hex(&mut line, &[sio])?;
+    push_hex(&mut line, sif)?;
+    Some(line)
+}
+
+/// Puts octets behind what is there, in two digits each. None where there is no room.
+fn push_hex(line: &mut ArrayVec<u8, MESSAGE_OCTETS>, octets: &[u8]) -> Option<()> {
+    let mut digits = [0; MESSAGE_OCTETS];
+    let digits = digits.get_mut(..octets.len().checked_mul(2)?)?;
+    hex::encode_to_slice(octets, digits).ok()?;
+    line.try_extend_from_slice(digits).ok()
+}
+
+/// The audience, and what else watches the frames.
+#[derive(Drop)]
+pub(crate) struct Watching<'a, U> {
+    pub(crate) audience: &'a mut Audience,
+    pub(crate) user: &'a mut U,
+}
+
+impl<U: Watch> Watch for Watching<'_, U> {
+    // It is still what was lent.
+    ghost sees = { λ before _ after. (after.audience.ghost_name ≡ before.audience.ghost_name)
+        × (after.user.ghost_name ≡ before.user.ghost_name) };
+
+    fn came_in(&mut self, link: LinkId, frame: &[u8], outcome: &Outcome) {
+        self.audience.counters.count_in(link, frame.len(), outcome);
+        self.audience.passed(link, Direction::In, frame);
+        match outcome {
+            Outcome::Local => self.audience.tell_message(link, frame),
+            Outcome::Refused(_) => {
+                self.audience.refused = self.audience.refused.saturating_add(1);
+            }
+            _ => {}
+        }
+        self.user.came_in(link, frame, outcome);
+    }
+
+    fn went_out(&mut self, link: LinkId, frame: &[u8]) {
+        self.audience.counters.count_out(link, frame.len());
+        self.audience.passed(link, Direction::Out, frame);
+        self.user.went_out(link, frame);
+    }
+}

@@ -1,0 +1,41 @@
+//! Why a server doesn't start.
+
+use exchange::NoMemory;
+use std::alloc::{AllocError, AllocFailed};
+use std::io;
+use std::io::ErrorKind;
+use std::net::SocketAddr;
+
+/// Why a server doesn't start.
+#[derive(Clone, Copy)]
+pub enum OpenFault {
+    /// Memory ran out.
+    NoMemory,
+    /// The system gives no poll.
+    Poll,
+    /// It can't listen at this address, for this reason.
+    Listen(SocketAddr, ErrorKind),
+}
+
+impl From<AllocError> for OpenFault {
+    fn from(_error: AllocError) -> OpenFault {
+        OpenFault::NoMemory
+    }
+}
+
+impl<T: Drop> From<AllocFailed<T>> for OpenFault {
+    fn from(_error: AllocFailed<T>) -> OpenFault {
+        OpenFault::NoMemory
+    }
+}
+
+impl From<NoMemory> for OpenFault {
+    fn from(_error: NoMemory) -> OpenFault {
+        OpenFault::NoMemory
+    }
+}
+
+/// A listener that can't be had.
+pub(crate) fn listen_fault(address: SocketAddr, error: &io::Error) -> OpenFault {
+    OpenFault::Listen(address, error.kind())
+}

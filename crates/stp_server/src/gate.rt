@@ -1,0 +1,482 @@
+//! The gate of a link: its listener or the address that it connects to, and its connection.
+
+use crate::audience::Watching;
+use crate::journal::Journal;
+use crate::naming::SocketName;
+use crate::node::Node;
+use crate::retrying::Retry;
+use association::{Association, Broken, Watch};
+use exchange::{Event, Wants};
+use mio::event::Event as Readiness;
+use mio::net::{TcpListener, TcpStream};
+use mio::{Interest, Registry};
+use serve_settings::Endpoint;
+use std::io::{ErrorKind, Read, Write};
+use std::mem;
+use std::net::{Net, SocketAddr};
+use std::time::Duration;
+use stp_node::Sink;
+use stp_types::{LinkId, Outcome};
+
+/// Octets that one read asks for.
+const PIECE_OCTETS: usize = 4096;
+
+/// Octets that are handed in before the notices are looked at: no more frames are in them than notices are kept.
+const LOOK_OCTETS: usize = 512;
+
+/// Reads of a link in one round, at most.
+const READS: usize = 16;
+
+/// Writes of a link in one round, at most.
+const WRITES: usize = 256;
+
+/// Connections that are taken in one round, at most.
+const ACCEPTS: usize = 64;
+
+/// The connection of a link.
+#[derive(Drop)]
+struct Connection {
+    stream: TcpStream,
+    peer: SocketAddr,
+    association: Association,
+    can_read: bool,
+    can_write: bool,
+}
+
+/// How far a link's connection is.
+#[derive(Drop)]
+enum Passage {
+    /// There is none.
+    Closed,
+    /// It is being made; the socket tells when it knows how that ended.
+    Connecting { stream: TcpStream, is_known: bool },
+    /// It is there, and so is the link's association.
+    Open(Connection),
+}
+
+/// What a link's connection is made of, and the connection.
+#[derive(Drop)]
+pub(crate) struct Gate {
+    link: LinkId,
+    endpoint: Endpoint,
+    listener: Option<TcpListener>,
+    can_accept: bool,
+    passage: Passage,
+    retry: Retry,
+    next_try: Duration,
+    was_tried: bool,
+}
+
+/// Why a connection ends.
+#[derive(Clone, Copy, PartialEq, Eq)]
+pub(crate) enum Why {
+    /// The peer closed it.
+    Peer,
+    /// A read failed.
+    Read,
+    /// A write failed.
+    Write,
+    /// What came can't be cut into frames.
+    Framing,
+    /// The node wants it closed.
+    Node,
+}
+
+impl Why {
+    /// The word of the log.
+    fn word(self) -> &'static str {
+        match self {
+            Why::Peer => "peer",
+            Why::Read => "read",
+            Why::Write => "write",
+            Why::Framing => "framing",
+            Why::Node => "node",
+        }
+    }
+}
+
+/// What a call of a socket came to.
+enum Moved {
+    /// Some octets moved, and more may.
+    Some,
+    /// None can now.
+    None,
+    /// The connection is over.
+    Over(Why),
+}
+
+impl Gate {
+    /// The gate of a link without a connection. It listens by `listener`, where it is one that listens.
+    pub(crate) fn new(link: LinkId, endpoint: Endpoint, listener: Option<TcpListener>) -> Gate {
+        Gate {
+            link,
+            endpoint,
+            can_accept: listener.is_some(),
+            listener,
+            passage: Passage::Closed,
+            retry: Retry::new(),
+            next_try: Duration::ZERO,
+            was_tried: false,
+        }
+    }
+
+    /// The link.
+    pub(crate) fn link(&self) -> LinkId {
+        self.link
+    }
+
+    /// The address at which it listens, where it does.
+    pub(crate) fn address(&self) -> Option<SocketAddr> {
+        self.listener.as_ref()?.local_addr().ok()
+    }
+
+    /// A connection may have come.
+    pub(crate) fn mark_listener(&mut self) {
+        self.can_accept = true;
+    }
+
+    /// The connection's socket may be ready.
+    pub(crate) fn mark(&mut self, event: &Readiness) {
+        match &mut self.passage {
+            Passage::Closed => {}
+            Passage::Connecting { is_known, .. } => *is_known = true,
+            Passage::Open(connection) => {
+                connection.can_read = true;
+                connection.can_write = connection.can_write || event.is_writable();
+            }
+        }
+    }
+
+    /// Whether there may be something to accept, to read or to write now, or to settle.
+    pub(crate) fn is_busy(&self) -> bool {
+        let passage = match &self.passage {
+            Passage::Closed => false,
+            Passage::Connecting { is_known, .. } => *is_known,
+            Passage::Open(connection) => connection.can_read,
+        };
+        passage || self.can_accept
+    }
+
+    /// When the connection is to be tried, where the link is one that connects and has none.
+    pub(crate) fn next_try(&self) -> Option<Duration> {
+        match (&self.endpoint, &self.passage) {
+            (Endpoint::Connect(_), Passage::Closed) => Some(self.next_try),
+            _ => None,
+        }
+    }
+
+    /// Takes the connections that came: one where the link wants to open, and further ones are closed.
+    pub(crate) fn accept<W: Sink>(
+        &mut self,
+        node: &mut Node,
+        registry: &Registry,
+        journal: &mut Journal<'_, W>,
+    ) {
+        for _ in 0..ACCEPTS {
+            if !self.can_accept {
+                return;
+            }
+            match self.accepted() {
+                Some((stream, peer)) => self.admit(stream, peer, node, registry, journal),
+                None => self.can_accept = false,
+            }
+        }
+    }
+
+    /// The next connection that came.
+    fn accepted(&self) -> Option<(TcpStream, SocketAddr)> {
+        self.listener.as_ref()?.accept().ok()
+    }
+
+    /// Takes a connection, where the link wants to open.
+    fn admit<W: Sink>(
+        &mut self,
+        mut stream: TcpStream,
+        peer: SocketAddr,
+        node: &mut Node,
+        registry: &Registry,
+        journal: &mut Journal<'_, W>,
+    ) {
+        if node.exchange.wants(self.link) != Wants::Open
+            || self.register(&mut stream, registry).is_none()
+        {
+            let name = node.audience.name(self.link);
+            journal.tell(&format_args!("refuse {name} {peer}"));
+            return;
+        }
+        self.open(stream, peer, node, journal);
+    }
+
+    /// Has the poll tell of a connection's socket.
+    fn register(&self, stream: &mut TcpStream, registry: &Registry) -> Option<()> {
+        let interests = Interest::READABLE | Interest::WRITABLE;
+        let token = SocketName::Link(self.link.index() as u8).token();
+        registry.register(stream, token, interests).ok()
+    }
+
+    /// The link's association is up, over this connection.
+    fn open<W: Sink>(
+        &mut self,
+        stream: TcpStream,
+        peer: SocketAddr,
+        node: &mut Node,
+        journal: &mut Journal<'_, W>,
+    ) {
+        let _soon = stream.set_nodelay(true);
+        if node.exchange.step(&Event::AssociationUp(self.link)) != Outcome::Handled {
+            self.passage = Passage::Closed;
+            return;
+        }
+        self.passage = Passage::Open(Connection::new(self.link, stream, peer));
+        let name = node.audience.name(self.link);
+        journal.tell(&format_args!("open {name} {peer}"));
+        node.look(journal);
+    }
+
+    /// The link's association is gone: its connection is closed.
+    pub(crate) fn close<W: Sink>(
+        &mut self,
+        why: Why,
+        node: &mut Node,
+        journal: &mut Journal<'_, W>,
+    ) {
+        let Passage::Open(connection) = &self.passage else {
+            return;
+        };
+        let peer = connection.peer;
+        let name = node.audience.name(self.link);
+        let word = why.word();
+        journal.tell(&format_args!("close {name} {peer} {word}"));
+        self.passage = Passage::Closed;
+        self.wait(journal.now());
+        node.exchange.step(&Event::AssociationDown(self.link));
+        node.look(journal);
+    }
+
+    /// The next try of the connection is a while from now.
+    fn wait(&mut self, now: Duration) {
+        let seconds = self.retry.next_wait();
+        self.next_try = now.saturating_add(Duration::from_secs(seconds));
+    }
+
+    /// Reads what came, and hands it in. Where something came, the next wait for a try is the first one again.
+    pub(crate) fn read<W: Sink, U: Watch>(
+        &mut self,
+        node: &mut Node,
+        journal: &mut Journal<'_, W>,
+        user: &mut U,
+    ) {
+        for _ in 0..READS {
+            let Passage::Open(connection) = &mut self.passage else {
+                return;
+            };
+            match connection.read(node, journal, user) {
+                Moved::Some => self.retry.start_again(),
+                Moved::None => return,
+                Moved::Over(why) => self.close(why, node, journal),
+            }
+        }
+    }
+
+    /// Takes frames and writes them, as far as the socket takes them. True where more may be written at once.
+    pub(crate) fn write<W: Sink, U: Watch>(
+        &mut self,
+        node: &mut Node,
+        journal: &mut Journal<'_, W>,
+        user: &mut U,
+    ) -> bool {
+        for _ in 0..WRITES {
+            let Passage::Open(connection) = &mut self.passage else {
+                return false;
+            };
+            match connection.write(node, user) {
+                Moved::Some => {}
+                Moved::None => return false,
+                Moved::Over(why) => self.close(why, node, journal),
+            }
+        }
+        true
+    }
+
+    /// Opens the link's connection or closes it, as the link wants.
+    pub(crate) fn settle<N: Net, W: Sink>(
+        &mut self,
+        net: &N,
+        node: &mut Node,
+        registry: &Registry,
+        journal: &mut Journal<'_, W>,
+    ) {
+        match (node.exchange.wants(self.link), &self.passage) {
+            (Wants::Close, _) => self.close(Why::Node, node, journal),
+            (Wants::Open, Passage::Closed) => self.begin(net, node, registry, journal),
+            (Wants::Open, Passage::Connecting { is_known: true, .. }) => {
+                self.finish(node, journal);
+            }
+            (Wants::Nothing, Passage::Connecting { .. }) => self.passage = Passage::Closed,
+            _ => {}
+        }
+    }
+
+    /// Begins to connect, where the link is one that does and it is time.
+    fn begin<N: Net, W: Sink>(
+        &mut self,
+        net: &N,
+        node: &mut Node,
+        registry: &Registry,
+        journal: &mut Journal<'_, W>,
+    ) {
+        let Endpoint::Connect(address) = self.endpoint else {
+            return;
+        };
+        if journal.now() < self.next_try {
+            return;
+        }
+        if self.was_tried {
+            node.audience.counters.count_retry(self.link);
+        }
+        self.was_tried = true;
+        match self.connecting(net, address, registry) {
+            Some(stream) => {
+                self.passage = Passage::Connecting {
+                    stream,
+                    is_known: false,
+                };
+            }
+            None => self.fail(node, journal),
+        }
+    }
+
+    /// A socket that begins to connect.
+    fn connecting<N: Net>(
+        &self,
+        net: &N,
+        address: SocketAddr,
+        registry: &Registry,
+    ) -> Option<TcpStream> {
+        let mut stream = TcpStream::connect(net, address).ok()?;
+        self.register(&mut stream, registry)?;
+        Some(stream)
+    }
+
+    /// The connection couldn't be made.
+    fn fail<W: Sink>(&mut self, node: &Node, journal: &mut Journal<'_, W>) {
+        self.passage = Passage::Closed;
+        self.wait(journal.now());
+        let name = node.audience.name(self.link);
+        if let Endpoint::Connect(address) = self.endpoint {
+            journal.tell(&format_args!("fail {name} {address}"));
+        }
+    }
+
+    /// The socket knows whether it is connected.
+    fn finish<W: Sink>(&mut self, node: &mut Node, journal: &mut Journal<'_, W>) {
+        match mem::replace(&mut self.passage, Passage::Closed) {
+            Passage::Connecting { stream, .. } => match peer_of(&stream) {
+                Some(peer) => self.open(stream, peer, node, journal),
+                None => self.fail(node, journal),
+            },
+            other => self.passage = other,
+        }
+    }
+}
+
+/// The peer of a socket that is connected.
+fn peer_of(stream: &TcpStream) -> Option<SocketAddr> {
+    match stream.take_error() {
+        Ok(None) => stream.peer_addr().ok(),
+        Ok(Some(_)) | Err(_) => None,
+    }
+}
+
+impl Connection {
+    /// A connection that was just made.
+    fn new(link: LinkId, stream: TcpStream, peer: SocketAddr) -> Connection {
+        Connection {
+            stream,
+            peer,
+            association: Association::new(link),
+            can_read: true,
+            can_write: true,
+        }
+    }
+
+    /// Makes one read, and hands in what came.
+    fn read<W: Sink, U: Watch>(
+        &mut self,
+        node: &mut Node,
+        journal: &mut Journal<'_, W>,
+        user: &mut U,
+    ) -> Moved {
+        if !self.can_read {
+            return Moved::None;
+        }
+        let mut piece = [0; PIECE_OCTETS];
+        match self.stream.read(&mut piece) {
+            Ok(0) => Moved::Over(Why::Peer),
+            Ok(count) => self.hand_in(&piece[..count], node, journal, user),
+            Err(error) if error.kind() == ErrorKind::WouldBlock => {
+                self.can_read = false;
+                Moved::None
+            }
+            Err(error) if error.kind() == ErrorKind::Interrupted => Moved::Some,
+            Err(_) => Moved::Over(Why::Read),
+        }
+    }
+
+    /// Hands in octets, and looks at the notices now and then.
+    fn hand_in<W: Sink, U: Watch>(
+        &mut self,
+        octets: &[u8],
+        node: &mut Node,
+        journal: &mut Journal<'_, W>,
+        user: &mut U,
+    ) -> Moved {
+        for part in octets.chunks(LOOK_OCTETS) {
+            let read = self.hand_in_part(part, node, user);
+            node.look(journal);
+            if let Err(Broken) = read {
+                return Moved::Over(Why::Framing);
+            }
+        }
+        Moved::Some
+    }
+
+    /// Hands in octets.
+    fn hand_in_part<U: Watch>(
+        &mut self,
+        part: &[u8],
+        node: &mut Node,
+        user: &mut U,
+    ) -> Result<(), Broken> {
+        let mut watching = Watching {
+            audience: &mut node.audience,
+            user,
+        };
+        self.association
+            .read(&mut node.exchange, part, &mut watching)
+    }
+
+    /// Takes a frame where none is unwritten, and makes one write.
+    fn write<U: Watch>(&mut self, node: &mut Node, user: &mut U) -> Moved {
+        if !self.can_write || !self.association.fill(&mut node.exchange) {
+            return Moved::None;
+        }
+        match self.stream.write(self.association.pending()) {
+            Ok(0) => Moved::Over(Why::Write),
+            Ok(count) => {
+                let mut watching = Watching {
+                    audience: &mut node.audience,
+                    user,
+                };
+                self.association.written(count, &mut watching);
+                Moved::Some
+            }
+            Err(error) if error.kind() == ErrorKind::WouldBlock => {
+                self.can_write = false;
+                Moved::None
+            }
+            Err(error) if error.kind() == ErrorKind::Interrupted => Moved::Some,
+            Err(_) => Moved::Over(Why::Write),
+        }
+    }
+}

@@ -1,0 +1,38 @@
+//! The log of a server.
+
+use arrayvec::ArrayString;
+use std::fmt;
+use std::fmt::Write;
+use std::time::Duration;
+use stp_node::Sink;
+
+/// Octets of a line of the log, at most.
+const LINE_OCTETS: usize = 256;
+
+/// The log: each line begins with the seconds since start.
+#[derive(Drop)]
+pub struct Journal<'a, W> {
+    sink: &'a mut W,
+    now: Duration,
+}
+
+impl<'a, W: Sink> Journal<'a, W> {
+    /// The log on this sink, so long after the start.
+    pub fn new(sink: &'a mut W, now: Duration) -> Journal<'a, W> {
+        Journal { sink, now }
+    }
+
+    /// How long after the start it is.
+    pub fn now(&self) -> Duration {
+        self.now
+    }
+
+    /// Writes a line. Where the write fails the line is lost: the node goes on without it.
+    pub fn tell<T: fmt::Display>(&mut self, text: &T) {
+        let seconds = self.now.as_secs();
+        let millis = self.now.subsec_millis();
+        let mut line = ArrayString::<LINE_OCTETS>::new();
+        let _fits = write!(line, "{seconds}.{millis:03} {text}\n");
+        let _told = self.sink.write(line.as_bytes());
+    }
+}

@@ -1,0 +1,27 @@
+//! A node on sockets: its links over TCP, its clock, its console, its counters, its log and its capture.
+#![tactic(auto)]
+
+mod audience;
+mod callers;
+mod capture;
+mod fault;
+mod gate;
+mod journal;
+mod machine;
+mod naming;
+mod node;
+mod noticing;
+mod retrying;
+mod server;
+mod serving;
+mod ticking;
+
+pub use callers::MOST_CALLERS;
+pub use capture::Capture;
+pub use fault::OpenFault;
+pub use machine::run_on_machine;
+pub use naming::SocketName;
+pub use retrying::{LONGEST_WAIT, Retry};
+pub use server::{Places, Server};
+pub use serving::MachineServer;
+pub use ticking::{MOST_TICKS, TickClock};

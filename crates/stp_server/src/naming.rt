@@ -1,0 +1,51 @@
+//! The names of sockets in the events of a poll.
+
+ghost use Rattle.std.specs.Prelude.{◌≡◌, ◌≤◌, IfSome, IsSome};
+ghost use Rattle.stp_server.specs.Naming.{number_of};
+
+use mio::Token;
+
+/// How many sockets of a kind have tokens.
+const KIND: usize = 256;
+
+/// A socket of a server.
+#[derive(Clone, Copy, Debug, PartialEq, Eq)]
+pub enum SocketName {
+    /// The listener of the link of this number.
+    Listener(u8),
+    /// The connection of the link of this number.
+    Link(u8),
+    /// The connection of the caller in this place.
+    Caller(u8),
+    /// The listener of the console.
+    Console,
+}
+
+impl SocketName {
+    /// The socket's token.
+    pub fn token(self) -> Token
+        ensures { result.0 ≡ number_of self }
+    {
+        match self {
+            SocketName::Listener(link) => Token(usize::from(link)),
+            SocketName::Link(link) => Token(KIND + usize::from(link)),
+            SocketName::Caller(place) => Token(2 * KIND + usize::from(place)),
+            SocketName::Console => Token(3 * KIND),
+        }
+    }
+
+    /// The socket of a token, where one has it.
+    pub fn of(token: Token) -> Option<SocketName>
+        ensures named { IfSome result (λ name. number_of name ≡ token.0) }
+        ensures found { token.0 ≤ 768 → IsSome result }
+    {
+        let number = (token.0 % KIND) as u8;
+        match token.0 / KIND {
+            0 => Some(SocketName::Listener(number)),
+            1 => Some(SocketName::Link(number)),
+            2 => Some(SocketName::Caller(number)),
+            3 if number == 0 => Some(SocketName::Console),
+            _ => None,
+        }
+    }
+}

@@ -1,0 +1,96 @@
+//! The node of a server, and who is told what happens in it.
+
+use crate::audience::Audience;
+use crate::fault::OpenFault;
+use crate::journal::Journal;
+use crate::noticing::Seen;
+use arrayvec::{ArrayString, ArrayVec};
+use console::{LINE_OCTETS, show_notices};
+use console_caller::{Desk, News, line_in_parts};
+use exchange::{Event, Exchange};
+use std::alloc::Global;
+use stp_node::Sink;
+use stp_types::{Notice, Settings};
+use trace::PointFormat;
+
+/// The node, who is told what happens in it, and which notices they were told.
+#[derive(Drop)]
+pub(crate) struct Node {
+    pub(crate) exchange: Exchange,
+    pub(crate) audience: Audience,
+    seen: Seen,
+}
+
+impl Node {
+    /// The node with these settings.
+    pub(crate) fn boot(
+        alloc: Global,
+        settings: Settings,
+        points: PointFormat,
+    ) -> Result<Node, OpenFault> {
+        let audience = Audience::new(alloc, &settings, points)?;
+        Ok(Node {
+            seen: Seen::new(alloc)?,
+            audience,
+            exchange: Exchange::boot(alloc, settings)?,
+        })
+    }
+
+    /// One tick passes.
+    pub(crate) fn tick<W: Sink>(&mut self, journal: &mut Journal<'_, W>) {
+        self.exchange.step(&Event::Tick);
+        self.look(journal);
+    }
+
+    /// Does the lines that callers wrote. True where one of them stops the node.
+    pub(crate) fn read_callers(&mut self) -> bool {
+        let Node {
+            exchange,
+            audience: Audience {
+                counters,
+                callers,
+                points,
+                ..
+            },
+            ..
+        } = self;
+        let mut desk = Desk {
+            exchange,
+            counters,
+            points: *points,
+        };
+        callers.read(&mut desk)
+    }
+
+    /// Looks for new notices: the log and the callers that watch them are told, and failures are counted.
+    pub(crate) fn look<W: Sink>(&mut self, journal: &mut Journal<'_, W>) {
+        for _ in 0..self.audience.refused {
+            self.seen.refused();
+        }
+        self.audience.refused = 0;
+        let count = self.seen.look(&self.exchange);
+        let kept = self.exchange.notices().len();
+        for k in kept.saturating_sub(count)..kept {
+            self.tell(k, journal);
+        }
+    }
+
+    /// Tells of the notice in this place.
+    fn tell<W: Sink>(&mut self, k: usize, journal: &mut Journal<'_, W>) {
+        if let Some(Notice::Failed(link, reason)) = self.exchange.notices().get(k) {
+            self.audience.counters.count_failure(*link, *reason);
+        }
+        let mut line = ArrayString::<LINE_OCTETS>::new();
+        if !show_notices(&self.exchange, k, &mut line) {
+            return;
+        }
+        let mut room = ArrayVec::new();
+        let shown = match self.audience.points {
+            PointFormat::Plain => line.as_bytes(),
+            PointFormat::ThreeEightThree => line_in_parts(line.as_bytes(), &mut room),
+        };
+        self.audience.callers.tell_line(News::Notice, shown);
+        let text = str::from_utf8(shown).unwrap_or("");
+        journal.tell(&format_args!("notice {text}"));
+    }
+}

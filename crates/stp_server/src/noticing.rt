@@ -1,0 +1,81 @@
+//! Which notices are new.
+
+use exchange::{Exchange, LinkStanding};
+use std::alloc::{AllocError, Global};
+use std::mem;
+use stp_types::{Limits, LinkId, Notice};
+
+/// What was last seen of a node: its notices, and which links weren't down.
+#[derive(Drop)]
+pub struct Seen {
+    former: Vec<Notice>,
+    notices: Vec<Notice>,
+    up: [bool; Limits::LINKS],
+    refused: usize,
+}
+
+impl Seen {
+    /// Nothing was seen yet: a node has no notice at first, and its links are down.
+    pub fn new(alloc: Global) -> Result<Seen, AllocError> {
+        Ok(Seen {
+            former: Vec::with_capacity(alloc, Limits::NOTICES)?,
+            notices: Vec::with_capacity(alloc, Limits::NOTICES)?,
+            up: [false; Limits::LINKS],
+            refused: 0,
+        })
+    }
+
+    /// A message in a frame was refused, which made a notice.
+    pub fn refused(&mut self) {
+        self.refused = self.refused.saturating_add(1);
+    }
+
+    /// How many notices are new since the last look, as far as the last 64 tell. They are the last ones.
+    pub fn look(&mut self, exchange: &Exchange) -> usize {
+        let least = self.refused.saturating_add(self.note_failures(exchange));
+        self.refused = 0;
+        mem::swap(&mut self.former, &mut self.notices);
+        self.note_notices(exchange);
+        new_among(&self.former, &self.notices, least)
+    }
+
+    /// Keeps the notices as they are now. There is room for 64, and there are no more.
+    fn note_notices(&mut self, exchange: &Exchange) {
+        self.notices.clear();
+        for notice in exchange.notices().iter() {
+            let _fits = self.notices.push(*notice);
+        }
+    }
+
+    /// How many links failed since the last look. Each failure made a notice.
+    fn note_failures(&mut self, exchange: &Exchange) -> usize {
+        let mut failures = 0usize;
+        for (k, up) in self.up.iter_mut().enumerate() {
+            let is_up = is_up(exchange, LinkId::new(k as u8));
+            if *up && !is_up {
+                failures = failures.saturating_add(1);
+            }
+            *up = is_up;
+        }
+        failures
+    }
+}
+
+/// Whether a link is on its way into service, or in it.
+fn is_up(exchange: &Exchange, link: LinkId) -> bool {
+    match exchange.link(link) {
+        Some(view) => view.standing != LinkStanding::Down,
+        None => false,
+    }
+}
+
+/// How many notices at the end are new: the fewest, but at least so many, for which those in front of them are the last
+/// of the former ones.
+fn new_among(former: &[Notice], now: &[Notice], least: usize) -> usize {
+    for count in least..now.len() {
+        if former.ends_with(&now[..now.len() - count]) {
+            return count;
+        }
+    }
+    now.len()
+}

@@ -1,0 +1,358 @@
+//! A node on sockets.
+
+use crate::capture::Capture;
+use crate::fault::{OpenFault, listen_fault};
+use crate::gate::{Gate, Why};
+use crate::journal::Journal;
+use crate::naming::SocketName;
+use crate::node::Node;
+use association::Watch;
+use exchange::{Event, Exchange, Wants};
+use link_counters::Counters;
+use mio::net::TcpListener;
+use mio::{Events, Interest, Poll};
+use serve_settings::Endpoint;
+use std::alloc::Global;
+use std::io;
+use std::marker::Model;
+use std::net::{Net, SocketAddr};
+use std::time::Duration;
+use stp_node::Sink;
+use stp_types::{LinkId, Outcome, Settings};
+use trace::PointFormat;
+
+/// Sockets that one wait tells of, at most. Further ones are told of by the next.
+const EVENTS: usize = 128;
+
+/// Where a server is reached, and how it shows points.
+#[derive(Clone, Copy)]
+pub struct Places<'a> {
+    /// How the connection of each link comes about, in the order of the settings.
+    pub links: &'a [Endpoint],
+    /// Where the console listens, if it does.
+    pub console: Option<SocketAddr>,
+    /// How point codes are read and shown.
+    pub points: PointFormat,
+}
+
+/// A node whose links are TCP connections: an association of a link is a connection.
+///
+/// It has no clock: ticks are let pass by `tick`, and each call is told how long after the start it is.
+#[derive(Drop)]
+pub struct Server {
+    alloc: Global,
+    node: Node,
+    gates: Vec<Gate>,
+    poll: Poll,
+    events: Events,
+    is_busy: bool,
+    is_stopping: bool,
+}
+
+// What sockets give is known to nobody, so nothing is said of a server's state.
+impl Model for Server {
+    ghost Value = { Unit {0} };
+
+    ghost view = { λ _. tt };
+}
+
+impl Server {
+    /// A server of a node with these settings. It listens from now on, and no connection is there yet.
+    pub fn open<N: Net, W: Sink>(
+        net: &N,
+        alloc: Global,
+        settings: Settings,
+        places: Places<'_>,
+        log: &mut W,
+    ) -> Result<Server, OpenFault> {
+        let mut journal = Journal::new(log, Duration::ZERO);
+        let mut server = Server::boot(net, alloc, settings, places.points)?;
+        server.add_gates(net, places.links, &mut journal)?;
+        server.add_console(net, places.console, &mut journal)?;
+        Ok(server)
+    }
+
+    /// A server of a node with these settings that has no gates, and no console.
+    fn boot<N: Net>(
+        net: &N,
+        alloc: Global,
+        settings: Settings,
+        points: PointFormat,
+    ) -> Result<Server, OpenFault> {
+        let node = Node::boot(alloc, settings, points)?;
+        let events = Events::with_capacity(alloc, EVENTS)?;
+        let Ok(poll) = Poll::new(net) else {
+            return Err(OpenFault::Poll);
+        };
+        Ok(Server {
+            alloc,
+            node,
+            gates: Vec::new(alloc),
+            poll,
+            events,
+            is_busy: true,
+            is_stopping: false,
+        })
+    }
+
+    /// Adds the gates of all links.
+    fn add_gates<N: Net, W: Sink>(
+        &mut self,
+        net: &N,
+        links: &[Endpoint],
+        journal: &mut Journal<'_, W>,
+    ) -> Result<(), OpenFault> {
+        for (k, endpoint) in links.iter().enumerate() {
+            let link = LinkId::new(u8::try_from(k).unwrap_or(u8::MAX));
+            self.add_gate(net, link, *endpoint, journal)?;
+        }
+        Ok(())
+    }
+
+    /// Adds the gate of a link.
+    fn add_gate<N: Net, W: Sink>(
+        &mut self,
+        net: &N,
+        link: LinkId,
+        endpoint: Endpoint,
+        journal: &mut Journal<'_, W>,
+    ) -> Result<(), OpenFault> {
+        let name = self.node.audience.name(link);
+        let listener = match endpoint {
+            Endpoint::Listen(address) => {
+                let token = SocketName::Listener(link.index() as u8);
+                let (listener, address) = self.listener(net, address, token)?;
+                journal.tell(&format_args!("listen {name} {address}"));
+                Some(listener)
+            }
+            Endpoint::Connect(address) => {
+                journal.tell(&format_args!("connect {name} {address}"));
+                None
+            }
+        };
+        self.gates.push(Gate::new(link, endpoint, listener))?;
+        Ok(())
+    }
+
+    /// Adds the console, where it has an address.
+    fn add_console<N: Net, W: Sink>(
+        &mut self,
+        net: &N,
+        address: Option<SocketAddr>,
+        journal: &mut Journal<'_, W>,
+    ) -> Result<(), OpenFault> {
+        let Some(address) = address else {
+            return Ok(());
+        };
+        let (listener, address) = self.listener(net, address, SocketName::Console)?;
+        journal.tell(&format_args!("console {address}"));
+        self.node.audience.callers.listen(listener);
+        Ok(())
+    }
+
+    /// A listener at an address of which the poll tells, and the address that it has.
+    fn listener<N: Net>(
+        &self,
+        net: &N,
+        address: SocketAddr,
+        name: SocketName,
+    ) -> Result<(TcpListener, SocketAddr), OpenFault> {
+        let mut listener = match TcpListener::bind(net, address) {
+            Ok(listener) => listener,
+            Err(error) => return Err(listen_fault(address, &error)),
+        };
+        let registry = self.poll.registry();
+        if registry
+            .register(&mut listener, name.token(), Interest::READABLE)
+            .is_err()
+        {
+            return Err(OpenFault::Poll);
+        }
+        match listener.local_addr() {
+            Ok(address) => Ok((listener, address)),
+            Err(error) => Err(listen_fault(address, &error)),
+        }
+    }
+
+    /// Each frame goes into this file too from now on.
+    pub fn capture_to(&mut self, capture: Capture) {
+        self.node.audience.capture = Some(capture);
+    }
+
+    /// The node.
+    pub fn exchange(&self) -> &Exchange {
+        &self.node.exchange
+    }
+
+    /// The counters of the links.
+    pub fn counters(&self) -> &Counters {
+        &self.node.audience.counters
+    }
+
+    /// The address at which a link listens, where it does.
+    pub fn link_address(&self, link: LinkId) -> Option<SocketAddr> {
+        self.gates.get(link.index())?.address()
+    }
+
+    /// The address of the console, where there is one.
+    pub fn console_address(&self) -> Option<SocketAddr> {
+        self.node.audience.callers.address()
+    }
+
+    /// Whether a caller asked the node to stop.
+    pub fn is_stopping(&self) -> bool {
+        self.is_stopping
+    }
+
+    /// Hands in an event that doesn't come from a socket: a message of a user part, or an order.
+    pub fn step<W: Sink>(&mut self, event: &Event<'_>, now: Duration, log: &mut W) -> Outcome {
+        let outcome = self.node.exchange.step(event);
+        self.node.look(&mut Journal::new(log, now));
+        self.is_busy = true;
+        outcome
+    }
+
+    /// Lets so many ticks pass.
+    pub fn tick<W: Sink>(&mut self, ticks: u64, now: Duration, log: &mut W) {
+        let mut journal = Journal::new(log, now);
+        for _ in 0..ticks {
+            self.node.tick(&mut journal);
+        }
+        self.is_busy = self.is_busy || ticks > 0;
+    }
+
+    /// Closes the connection of a link as its peer would: the node loses the association.
+    pub fn cut<W: Sink>(&mut self, link: LinkId, now: Duration, log: &mut W) {
+        let mut journal = Journal::new(log, now);
+        if let Some(gate) = self.gates.get_mut(link.index()) {
+            gate.close(Why::Node, &mut self.node, &mut journal);
+        }
+        self.is_busy = true;
+    }
+
+    /// Waits until a socket is ready, a connection is to be tried, or the time is up; not at all where the last round
+    /// left something to do. It is so long after the start now.
+    pub fn wait(&mut self, now: Duration, most: Duration) -> io::Result<()> {
+        let wait = if self.is_busy {
+            Duration::ZERO
+        } else {
+            self.until_next_try(now).min(most)
+        };
+        self.poll.poll(&mut self.events, Some(wait))?;
+        mark_ready(&self.events, &mut self.gates, &mut self.node);
+        Ok(())
+    }
+
+    /// How long it takes until the next connection is to be tried.
+    fn until_next_try(&self, now: Duration) -> Duration {
+        let mut least = Duration::MAX;
+        for gate in self.gates.iter() {
+            let wants = self.node.exchange.wants(gate.link());
+            if let (Wants::Open, Some(next)) = (wants, gate.next_try()) {
+                least = least.min(next.saturating_sub(now));
+            }
+        }
+        least
+    }
+
+    /// Does what there is to do on each socket, once or a few times, and returns: connections are taken, what came is
+    /// read and handed in, connections are opened and closed as the links want, and frames are taken and written
+    /// while the sockets take them. It is so long after the start now.
+    pub fn turn<N: Net, W: Sink, U: Watch>(
+        &mut self,
+        net: &N,
+        now: Duration,
+        log: &mut W,
+        user: &mut U,
+    ) {
+        let mut journal = Journal::new(log, now);
+        self.node.audience.now = now;
+        self.is_busy = false;
+        self.take_connections(&mut journal);
+        self.read(&mut journal, user);
+        self.settle(net, &mut journal);
+        self.write(&mut journal, user);
+        self.finish(&mut journal);
+    }
+
+    /// Takes the connections that came.
+    fn take_connections<W: Sink>(&mut self, journal: &mut Journal<'_, W>) {
+        let registry = self.poll.registry();
+        for gate in self.gates.iter_mut() {
+            gate.accept(&mut self.node, registry, journal);
+        }
+        self.node
+            .audience
+            .callers
+            .accept(self.alloc, registry, journal);
+    }
+
+    /// Reads what came on the links, and then what callers wrote.
+    fn read<W: Sink, U: Watch>(&mut self, journal: &mut Journal<'_, W>, user: &mut U) {
+        for gate in self.gates.iter_mut() {
+            gate.read(&mut self.node, journal, user);
+        }
+        self.read_callers(journal);
+    }
+
+    /// Does the lines that callers wrote.
+    fn read_callers<W: Sink>(&mut self, journal: &mut Journal<'_, W>) {
+        if self.node.read_callers() {
+            self.is_stopping = true;
+        }
+        self.node.look(journal);
+    }
+
+    /// Opens and closes connections as the links want.
+    fn settle<N: Net, W: Sink>(&mut self, net: &N, journal: &mut Journal<'_, W>) {
+        let registry = self.poll.registry();
+        for gate in self.gates.iter_mut() {
+            gate.settle(net, &mut self.node, registry, journal);
+        }
+    }
+
+    /// Writes to the links and to the callers.
+    fn write<W: Sink, U: Watch>(&mut self, journal: &mut Journal<'_, W>, user: &mut U) {
+        for gate in self.gates.iter_mut() {
+            let has_more = gate.write(&mut self.node, journal, user);
+            self.is_busy = self.is_busy || has_more || gate.is_busy();
+        }
+        self.node.audience.callers.write(journal);
+        self.is_busy = self.is_busy || self.node.audience.callers.is_busy();
+    }
+
+    /// Ends a round: what was captured goes out, and the log is told where that fails.
+    fn finish<W: Sink>(&mut self, journal: &mut Journal<'_, W>) {
+        let Some(capture) = &mut self.node.audience.capture else {
+            return;
+        };
+        capture.flush();
+        if capture.has_failed() {
+            journal.tell(&"capture failed");
+            self.node.audience.capture = None;
+        }
+    }
+}
+
+/// Marks the sockets that the last wait told of.
+fn mark_ready(events: &Events, gates: &mut [Gate], node: &mut Node) {
+    for event in events.iter() {
+        match SocketName::of(event.token()) {
+            Some(SocketName::Listener(link)) => {
+                if let Some(gate) = gates.get_mut(usize::from(link)) {
+                    gate.mark_listener();
+                }
+            }
+            Some(SocketName::Link(link)) => {
+                if let Some(gate) = gates.get_mut(usize::from(link)) {
+                    gate.mark(event);
+                }
+            }
+            Some(SocketName::Caller(place)) => {
+                node.audience.callers.mark(usize::from(place), event);
+            }
+            Some(SocketName::Console) => node.audience.callers.mark_console(),
+            None => {}
+        }
+    }
+}

@@ -1,0 +1,233 @@
+//! Frames in words.
+
+ghost use Rattle.std.specs.Prelude.{◌≡◌, ◌+◌, ◌*◌, ◌≤◌, ◌++◌, [], length, decimal};
+ghost use Rattle.m2pa_codec.specs.Frames.{sif_of};
+ghost use Rattle.m2pa_codec.specs.Reading.{read_frame};
+ghost use Rattle.m2pa_codec.specs.Values.{value_of};
+ghost use Rattle.trace.specs.Points.{point_text};
+ghost use Rattle.trace.specs.Words.{frame_words, numbers_words, status_word, message_words, label_words};
+ghost use Rattle.trace.specs.Words.{said_words, value_words, service_words, octets_words};
+
+use crate::direction::Direction;
+use crate::point::{PointFormat, point_text};
+use arrayvec::ArrayVec;
+use itoa::Buffer;
+use link_number::Number24;
+use m2pa_codec::{Frame, LinkStatus, decode};
+use routing_label::Label;
+use signalling_types::{Limits, PointCode};
+use std::marker::Model;
+
+/// Octets of a frame in words, at most: two digits for each of its octets, and the words before them.
+pub const WORDS_OCTETS: usize = 2 * Limits::FRAME_OCTETS + 192;
+
+/// What says which of the 16 kinds of message an octet names: its low four bits (Q.704 §14.2).
+const SERVICE_INDICATORS: u8 = 16;
+
+/// A frame in words, in place.
+#[derive(Drop)]
+pub struct FrameWords {
+    octets: ArrayVec<u8, WORDS_OCTETS>,
+}
+
+impl Model for FrameWords {
+    ghost use Rattle.std.specs.Prelude.{List, ℕ};
+
+    ghost Value = { List ℕ };
+
+    ghost view = { λ w. w.octets.items };
+}
+
+/// A frame that passed on the link of this name, in words, without a line feed:
+/// `e0 in fsn 5 bsn 9 opc 2 dpc 300 sls 5 si 5 aabb`.
+///
+/// A message stands as the points and the selection of its label, its service indicator, and the
+/// octets behind the label; one without a whole label as `no label`, its service indicator and all
+/// its octets. Link Status ends in `status` and its state, and User Data without a message in `ack`.
+/// Octets that are no frame stand as `malformed` and the octets.
+pub fn frame_words(
+    link: &str,
+    direction: Direction,
+    frame: &[u8],
+    points: PointFormat,
+) -> FrameWords
+    requires name { length link.now ≤ Limits.NAME_OCTETS }
+    requires octets { length frame.now ≤ Limits.FRAME_OCTETS }
+    ensures { result ≡ frame_words link.now direction points frame.now }
+{
+    let mut words = FrameWords::new();
+    words.push(link.as_bytes());
+    words.push(b" ");
+    words.push(direction.word().as_bytes());
+    words.push_said(frame, points);
+    words
+}
+
+impl FrameWords {
+    /// The octets of the words, without a line feed.
+    pub fn as_slice(&self) -> &[u8]
+        ensures { result.now ≡ self.now }
+    {
+        self.octets.as_slice()
+    }
+
+    /// Nothing yet.
+    fn new() -> FrameWords
+        ensures { result ≡ [] }
+    {
+        FrameWords {
+            octets: ArrayVec::new(),
+        }
+    }
+
+    /// Appends octets.
+    fn push(&mut self, octets: &[u8])
+        requires { length self.old + length octets.now ≤ WORDS_OCTETS }
+        ensures { self.new ≡ self.old ++ octets.now }
+    {
+        let _fits = self.octets.try_extend_from_slice(octets);
+    }
+
+    /// Appends a word and a number in decimal digits.
+    fn push_number(&mut self, word: &[u8], number: u32)
+        requires { length self.old + length word.now + 10 ≤ WORDS_OCTETS }
+        ensures text { self.new ≡ self.old ++ word.now ++ decimal number }
+        ensures short { length self.new ≤ length self.old + length word.now + 10 }
+    {
+        let mut buffer = Buffer::new();
+        self.push(word);
+        self.push(buffer.format(number).as_bytes());
+    }
+
+    /// Appends a word and a point.
+    fn push_point(&mut self, word: &[u8], point: PointCode, points: PointFormat)
+        requires { length self.old + length word.now + 7 ≤ WORDS_OCTETS }
+        ensures text { self.new ≡ self.old ++ word.now ++ point_text points point }
+        ensures short { length self.new ≤ length self.old + length word.now + 7 }
+    {
+        self.push(word);
+        self.push(point_text(point, points).as_slice());
+    }
+
+    /// Appends what octets say as a frame, or that they are none.
+    fn push_said(&mut self, frame: &[u8], points: PointFormat)
+        requires few { length frame.now ≤ Limits.FRAME_OCTETS }
+        requires room { length self.old + 120 + 2 * length frame.now ≤ WORDS_OCTETS }
+        ensures { self.new ≡ self.old ++ said_words points frame.now (read_frame frame.now) }
+    {
+        match decode(frame) {
+            Ok(frame) => self.push_frame(frame, points),
+            Err(_) => {
+                self.push(b" malformed");
+                self.push_octets(frame);
+            }
+        }
+    }
+
+    /// Appends what a frame says.
+    fn push_frame(&mut self, frame: Frame<'_>, points: PointFormat)
+        requires few { length (sif_of (value_of frame)) ≤ Limits.FRAME_OCTETS }
+        requires room { length self.old + 120 + 2 * length (sif_of (value_of frame)) ≤ WORDS_OCTETS }
+        ensures { self.new ≡ self.old ++ value_words points (value_of frame.entry) }
+    {
+        match frame {
+            Frame::Empty { bsn, fsn } => {
+                self.push_numbers(fsn, bsn);
+                self.push(b" ack");
+            }
+            Frame::Message { bsn, fsn, sio, sif } => {
+                self.push_numbers(fsn, bsn);
+                self.push_message(sio, sif, points);
+            }
+            Frame::Status { bsn, fsn, status } => {
+                self.push_numbers(fsn, bsn);
+                self.push(b" status ");
+                self.push(status_word(status).as_bytes());
+            }
+        }
+    }
+
+    /// Appends the numbers of a frame.
+    fn push_numbers(&mut self, fsn: Number24, bsn: Number24)
+        requires { length self.old + 30 ≤ WORDS_OCTETS }
+        ensures text { self.new ≡ self.old ++ numbers_words fsn bsn }
+        ensures short { length self.new ≤ length self.old + 30 }
+    {
+        self.push_number(b" fsn ", fsn.value());
+        self.push_number(b" bsn ", bsn.value());
+    }
+
+    /// Appends a message.
+    fn push_message(&mut self, sio: u8, sif: &[u8], points: PointFormat)
+        requires few { length sif.now ≤ Limits.FRAME_OCTETS }
+        requires room { length self.old + 80 + 2 * length sif.now ≤ WORDS_OCTETS }
+        ensures { self.new ≡ self.old ++ message_words points sio sif.now }
+    {
+        match Label::read(sif) {
+            Some(label) => {
+                self.push_label(label, points);
+                self.push_service(sio);
+                self.push_octets(&sif[4..]);
+            }
+            None => {
+                self.push(b" no label");
+                self.push_service(sio);
+                self.push_octets(sif);
+            }
+        }
+    }
+
+    /// Appends a routing label.
+    fn push_label(&mut self, label: Label, points: PointFormat)
+        requires { length self.old + 39 ≤ WORDS_OCTETS }
+        ensures text { self.new ≡ self.old ++ label_words points label }
+        ensures short { length self.new ≤ length self.old + 39 }
+    {
+        self.push_point(b" opc ", label.opc, points);
+        self.push_point(b" dpc ", label.dpc, points);
+        self.push_number(b" sls ", u32::from(label.sls.number()));
+    }
+
+    /// Appends the service indicator of a service information octet.
+    fn push_service(&mut self, sio: u8)
+        requires { length self.old + 14 ≤ WORDS_OCTETS }
+        ensures text { self.new ≡ self.old ++ service_words sio }
+        ensures short { length self.new ≤ length self.old + 14 }
+    {
+        self.push_number(b" si ", u32::from(sio % SERVICE_INDICATORS));
+    }
+
+    /// Appends octets in two hexadecimal digits each, behind a space; nothing where there are none.
+    fn push_octets(&mut self, octets: &[u8])
+        requires few { length octets.now ≤ Limits.FRAME_OCTETS }
+        requires room { length self.old + 1 + 2 * length octets.now ≤ WORDS_OCTETS }
+        ensures { self.new ≡ self.old ++ octets_words octets.now }
+    {
+        if octets.is_empty() {
+            return;
+        }
+        let mut digits = [0; 2 * Limits::FRAME_OCTETS];
+        let digits = &mut digits[..2 * octets.len()];
+        let _fits = hex::encode_to_slice(octets, digits);
+        self.push(b" ");
+        self.push(digits);
+    }
+}
+
+/// The word of a link's state (RFC 4165 §2.3.2).
+fn status_word(status: LinkStatus) -> &'static str
+    ensures word { result.now ≡ status_word status }
+    ensures short { length result.now ≤ 19 }
+{
+    match status {
+        LinkStatus::Alignment => "alignment",
+        LinkStatus::ProvingNormal => "proving-normal",
+        LinkStatus::ProvingEmergency => "proving-emergency",
+        LinkStatus::Ready => "ready",
+        LinkStatus::ProcessorOutage => "processor-outage",
+        LinkStatus::ProcessorRecovered => "processor-recovered",
+        LinkStatus::Busy => "busy",
+        LinkStatus::BusyEnded => "busy-ended",
+        LinkStatus::OutOfService => "out-of-service",
+    }
+}
