@@ -7,9 +7,9 @@
 #![tactic(auto)]
 
 mod ledger;
+mod node_settings;
 mod pair;
 mod quiet;
-mod settings;
 
 use pair::{End, LINKS, Pair};
 use std::io;

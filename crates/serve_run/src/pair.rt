@@ -1,8 +1,8 @@
 //! Two servers that are joined by connections of this machine with itself.
 
 use crate::ledger::{FLOWS, Ledger};
+use crate::node_settings::{INTERNATIONAL, ISUP, POINT_ONE, POINT_TWO, node_settings};
 use crate::quiet::Quiet;
-use crate::settings::{INTERNATIONAL, ISUP, POINT_ONE, POINT_TWO, node_settings};
 use exchange::{Event, Exchange, Label, LinkStanding};
 use link_counters::LinkCounters;
 use serve_settings::Endpoint;
