@@ -9,11 +9,12 @@ use std::alloc::Global;
 
 /// What serves a node on the network.
 pub trait Serve {
-    /// Serves a node with the settings in the octets of a file, until it is stopped, and answers how the program
-    /// ends. The octets are settings of a node, but those of the server may have a fault.
+    /// Serves a node with the settings in the octets of a file of this name, until it is stopped, and answers how the
+    /// program ends. The octets are settings of a node, but those of the server may have a fault.
     fn serve<W: Sink, E: Sink>(
         &mut self,
         alloc: Global,
+        file: &str,
         octets: &[u8],
         writer: &mut W,
         errors: &mut E,
@@ -28,6 +29,7 @@ impl Serve for Unserved {
     fn serve<W: Sink, E: Sink>(
         &mut self,
         _alloc: Global,
+        _file: &str,
         _octets: &[u8],
         _writer: &mut W,
         _errors: &mut E,
@@ -66,7 +68,7 @@ fn serve_octets<S: Serve, W: Sink, E: Sink>(
     errors: &mut E,
 ) -> Status {
     match settings_in(alloc, octets) {
-        Ok(_) => server.serve(alloc, octets, writer, errors),
+        Ok(_) => server.serve(alloc, file, octets, writer, errors),
         Err(fault) => tell_file_fault(alloc, file, octets, fault, writer, errors),
     }
 }

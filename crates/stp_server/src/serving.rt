@@ -193,6 +193,7 @@ impl Serve for MachineServer<'_> {
     fn serve<W: Sink, E: Sink>(
         &mut self,
         alloc: Global,
+        _file: &str,
         octets: &[u8],
         writer: &mut W,
         errors: &mut E,
