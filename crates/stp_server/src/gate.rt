@@ -1,28 +1,22 @@
 //! The gate of a link: its listener or the address that it connects to, and its connection.
 
-use crate::audience::Watching;
+mod dialling;
+
+use crate::connection::{Connection, Moved, Why};
 use crate::journal::Journal;
 use crate::naming::SocketName;
 use crate::node::Node;
 use crate::retrying::Retry;
-use association::{Association, Broken, Watch};
+use association::Watch;
 use exchange::{Event, Wants};
 use mio::event::Event as Readiness;
 use mio::net::{TcpListener, TcpStream};
 use mio::{Interest, Registry};
 use serve_settings::Endpoint;
-use std::io::{ErrorKind, Read, Write};
-use std::mem;
 use std::net::{Net, SocketAddr};
 use std::time::Duration;
 use stp_node::Sink;
 use stp_types::{LinkId, Outcome};
-
-/// Octets that one read asks for.
-const PIECE_OCTETS: usize = 4096;
-
-/// Octets that are handed in before the notices are looked at: no more frames are in them than notices are kept.
-const LOOK_OCTETS: usize = 512;
 
 /// Reads of a link in one round, at most.
 const READS: usize = 16;
@@ -32,16 +26,6 @@ const WRITES: usize = 256;
 
 /// Connections that are taken in one round, at most.
 const ACCEPTS: usize = 64;
-
-/// The connection of a link.
-#[derive(Drop)]
-struct Connection {
-    stream: TcpStream,
-    peer: SocketAddr,
-    association: Association,
-    can_read: bool,
-    can_write: bool,
-}
 
 /// How far a link's connection is.
 #[derive(Drop)]
@@ -65,44 +49,6 @@ pub(crate) struct Gate {
     retry: Retry,
     next_try: Duration,
     was_tried: bool,
-}
-
-/// Why a connection ends.
-#[derive(Clone, Copy, PartialEq, Eq)]
-pub(crate) enum Why {
-    /// The peer closed it.
-    Peer,
-    /// A read failed.
-    Read,
-    /// A write failed.
-    Write,
-    /// What came can't be cut into frames.
-    Framing,
-    /// The node wants it closed.
-    Node,
-}
-
-impl Why {
-    /// The word of the log.
-    fn word(self) -> &'static str {
-        match self {
-            Why::Peer => "peer",
-            Why::Read => "read",
-            Why::Write => "write",
-            Why::Framing => "framing",
-            Why::Node => "node",
-        }
-    }
-}
-
-/// What a call of a socket came to.
-enum Moved {
-    /// Some octets moved, and more may.
-    Some,
-    /// None can now.
-    None,
-    /// The connection is over.
-    Over(Why),
 }
 
 impl Gate {
@@ -140,10 +86,7 @@ impl Gate {
         match &mut self.passage {
             Passage::Closed => {}
             Passage::Connecting { is_known, .. } => *is_known = true,
-            Passage::Open(connection) => {
-                connection.can_read = true;
-                connection.can_write = connection.can_write || event.is_writable();
-            }
+            Passage::Open(connection) => connection.mark(event),
         }
     }
 
@@ -152,7 +95,7 @@ impl Gate {
         let passage = match &self.passage {
             Passage::Closed => false,
             Passage::Connecting { is_known, .. } => *is_known,
-            Passage::Open(connection) => connection.can_read,
+            Passage::Open(connection) => connection.is_busy(),
         };
         passage || self.can_accept
     }
@@ -243,7 +186,7 @@ impl Gate {
         let Passage::Open(connection) = &self.passage else {
             return;
         };
-        let peer = connection.peer;
+        let peer = connection.peer();
         let name = node.audience.name(self.link);
         let word = why.word();
         journal.tell(&format_args!("close {name} {peer} {word}"));
@@ -314,169 +257,6 @@ impl Gate {
             }
             (Wants::Nothing, Passage::Connecting { .. }) => self.passage = Passage::Closed,
             _ => {}
-        }
-    }
-
-    /// Begins to connect, where the link is one that does and it is time.
-    fn begin<N: Net, W: Sink>(
-        &mut self,
-        net: &N,
-        node: &mut Node,
-        registry: &Registry,
-        journal: &mut Journal<'_, W>,
-    ) {
-        let Endpoint::Connect(address) = self.endpoint else {
-            return;
-        };
-        if journal.now() < self.next_try {
-            return;
-        }
-        if self.was_tried {
-            node.audience.counters.count_retry(self.link);
-        }
-        self.was_tried = true;
-        match self.connecting(net, address, registry) {
-            Some(stream) => {
-                self.passage = Passage::Connecting {
-                    stream,
-                    is_known: false,
-                };
-            }
-            None => self.fail(node, journal),
-        }
-    }
-
-    /// A socket that begins to connect.
-    fn connecting<N: Net>(
-        &self,
-        net: &N,
-        address: SocketAddr,
-        registry: &Registry,
-    ) -> Option<TcpStream> {
-        let mut stream = TcpStream::connect(net, address).ok()?;
-        self.register(&mut stream, registry)?;
-        Some(stream)
-    }
-
-    /// The connection couldn't be made.
-    fn fail<W: Sink>(&mut self, node: &Node, journal: &mut Journal<'_, W>) {
-        self.passage = Passage::Closed;
-        self.wait(journal.now());
-        let name = node.audience.name(self.link);
-        if let Endpoint::Connect(address) = self.endpoint {
-            journal.tell(&format_args!("fail {name} {address}"));
-        }
-    }
-
-    /// The socket knows whether it is connected.
-    fn finish<W: Sink>(&mut self, node: &mut Node, journal: &mut Journal<'_, W>) {
-        match mem::replace(&mut self.passage, Passage::Closed) {
-            Passage::Connecting { stream, .. } => match peer_of(&stream) {
-                Some(peer) => self.open(stream, peer, node, journal),
-                None => self.fail(node, journal),
-            },
-            other => self.passage = other,
-        }
-    }
-}
-
-/// The peer of a socket that is connected.
-fn peer_of(stream: &TcpStream) -> Option<SocketAddr> {
-    match stream.take_error() {
-        Ok(None) => stream.peer_addr().ok(),
-        Ok(Some(_)) | Err(_) => None,
-    }
-}
-
-impl Connection {
-    /// A connection that was just made.
-    fn new(link: LinkId, stream: TcpStream, peer: SocketAddr) -> Connection {
-        Connection {
-            stream,
-            peer,
-            association: Association::new(link),
-            can_read: true,
-            can_write: true,
-        }
-    }
-
-    /// Makes one read, and hands in what came.
-    fn read<W: Sink, U: Watch>(
-        &mut self,
-        node: &mut Node,
-        journal: &mut Journal<'_, W>,
-        user: &mut U,
-    ) -> Moved {
-        if !self.can_read {
-            return Moved::None;
-        }
-        let mut piece = [0; PIECE_OCTETS];
-        match self.stream.read(&mut piece) {
-            Ok(0) => Moved::Over(Why::Peer),
-            Ok(count) => self.hand_in(&piece[..count], node, journal, user),
-            Err(error) if error.kind() == ErrorKind::WouldBlock => {
-                self.can_read = false;
-                Moved::None
-            }
-            Err(error) if error.kind() == ErrorKind::Interrupted => Moved::Some,
-            Err(_) => Moved::Over(Why::Read),
-        }
-    }
-
-    /// Hands in octets, and looks at the notices now and then.
-    fn hand_in<W: Sink, U: Watch>(
-        &mut self,
-        octets: &[u8],
-        node: &mut Node,
-        journal: &mut Journal<'_, W>,
-        user: &mut U,
-    ) -> Moved {
-        for part in octets.chunks(LOOK_OCTETS) {
-            let read = self.hand_in_part(part, node, user);
-            node.look(journal);
-            if let Err(Broken) = read {
-                return Moved::Over(Why::Framing);
-            }
-        }
-        Moved::Some
-    }
-
-    /// Hands in octets.
-    fn hand_in_part<U: Watch>(
-        &mut self,
-        part: &[u8],
-        node: &mut Node,
-        user: &mut U,
-    ) -> Result<(), Broken> {
-        let mut watching = Watching {
-            audience: &mut node.audience,
-            user,
-        };
-        self.association
-            .read(&mut node.exchange, part, &mut watching)
-    }
-
-    /// Takes a frame where none is unwritten, and makes one write.
-    fn write<U: Watch>(&mut self, node: &mut Node, user: &mut U) -> Moved {
-        if !self.can_write || !self.association.fill(&mut node.exchange) {
-            return Moved::None;
-        }
-        match self.stream.write(self.association.pending()) {
-            Ok(0) => Moved::Over(Why::Write),
-            Ok(count) => {
-                let mut watching = Watching {
-                    audience: &mut node.audience,
-                    user,
-                };
-                self.association.written(count, &mut watching);
-                Moved::Some
-            }
-            Err(error) if error.kind() == ErrorKind::WouldBlock => {
-                self.can_write = false;
-                Moved::None
-            }
-            Err(error) if error.kind() == ErrorKind::Interrupted => Moved::Some,
-            Err(_) => Moved::Over(Why::Write),
         }
     }
 }

@@ -2,8 +2,10 @@
 #![tactic(auto)]
 
 mod audience;
+mod caller_socket;
 mod callers;
 mod capture;
+mod connection;
 mod fault;
 mod gate;
 mod journal;

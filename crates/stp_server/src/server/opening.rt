@@ -1,0 +1,136 @@
+//! Opening a server: its sockets that listen.
+
+use super::{EVENTS, Places, Server};
+use crate::fault::{OpenFault, listen_fault};
+use crate::gate::Gate;
+use crate::journal::Journal;
+use crate::naming::SocketName;
+use crate::node::Node;
+use mio::net::TcpListener;
+use mio::{Events, Interest, Poll};
+use serve_settings::Endpoint;
+use std::alloc::Global;
+use std::net::{Net, SocketAddr};
+use std::time::Duration;
+use stp_node::Sink;
+use stp_types::{LinkId, Settings};
+use trace::PointFormat;
+
+impl Server {
+    /// A server of a node with these settings. It listens from now on, and no connection is there yet.
+    pub fn open<N: Net, W: Sink>(
+        net: &N,
+        alloc: Global,
+        settings: Settings,
+        places: Places<'_>,
+        log: &mut W,
+    ) -> Result<Server, OpenFault> {
+        let mut journal = Journal::new(log, Duration::ZERO);
+        let mut server = Server::boot(net, alloc, settings, places.points)?;
+        server.add_gates(net, places.links, &mut journal)?;
+        server.add_console(net, places.console, &mut journal)?;
+        Ok(server)
+    }
+
+    /// A server of a node with these settings that has no gates, and no console.
+    fn boot<N: Net>(
+        net: &N,
+        alloc: Global,
+        settings: Settings,
+        points: PointFormat,
+    ) -> Result<Server, OpenFault> {
+        let node = Node::boot(alloc, settings, points)?;
+        let events = Events::with_capacity(alloc, EVENTS)?;
+        let Ok(poll) = Poll::new(net) else {
+            return Err(OpenFault::Poll);
+        };
+        Ok(Server {
+            alloc,
+            node,
+            gates: Vec::new(alloc),
+            poll,
+            events,
+            is_busy: true,
+            is_stopping: false,
+        })
+    }
+
+    /// Adds the gates of all links.
+    fn add_gates<N: Net, W: Sink>(
+        &mut self,
+        net: &N,
+        links: &[Endpoint],
+        journal: &mut Journal<'_, W>,
+    ) -> Result<(), OpenFault> {
+        for (k, endpoint) in links.iter().enumerate() {
+            let link = LinkId::new(u8::try_from(k).unwrap_or(u8::MAX));
+            self.add_gate(net, link, *endpoint, journal)?;
+        }
+        Ok(())
+    }
+
+    /// Adds the gate of a link.
+    fn add_gate<N: Net, W: Sink>(
+        &mut self,
+        net: &N,
+        link: LinkId,
+        endpoint: Endpoint,
+        journal: &mut Journal<'_, W>,
+    ) -> Result<(), OpenFault> {
+        let name = self.node.audience.name(link);
+        let listener = match endpoint {
+            Endpoint::Listen(address) => {
+                let token = SocketName::Listener(link.index() as u8);
+                let (listener, address) = self.listener(net, address, token)?;
+                journal.tell(&format_args!("listen {name} {address}"));
+                Some(listener)
+            }
+            Endpoint::Connect(address) => {
+                journal.tell(&format_args!("connect {name} {address}"));
+                None
+            }
+        };
+        self.gates.push(Gate::new(link, endpoint, listener))?;
+        Ok(())
+    }
+
+    /// Adds the console, where it has an address.
+    fn add_console<N: Net, W: Sink>(
+        &mut self,
+        net: &N,
+        address: Option<SocketAddr>,
+        journal: &mut Journal<'_, W>,
+    ) -> Result<(), OpenFault> {
+        let Some(address) = address else {
+            return Ok(());
+        };
+        let (listener, address) = self.listener(net, address, SocketName::Console)?;
+        journal.tell(&format_args!("console {address}"));
+        self.node.audience.callers.listen(listener);
+        Ok(())
+    }
+
+    /// A listener at an address of which the poll tells, and the address that it has.
+    fn listener<N: Net>(
+        &self,
+        net: &N,
+        address: SocketAddr,
+        name: SocketName,
+    ) -> Result<(TcpListener, SocketAddr), OpenFault> {
+        let mut listener = match TcpListener::bind(net, address) {
+            Ok(listener) => listener,
+            Err(error) => return Err(listen_fault(address, &error)),
+        };
+        let registry = self.poll.registry();
+        if registry
+            .register(&mut listener, name.token(), Interest::READABLE)
+            .is_err()
+        {
+            return Err(OpenFault::Poll);
+        }
+        match listener.local_addr() {
+            Ok(address) => Ok((listener, address)),
+            Err(error) => Err(listen_fault(address, &error)),
+        }
+    }
+}
