@@ -1,4 +1,4 @@
-//! The settings of the node: two link sets of two links each, two points behind them, and two translation rows.
+//! The settings of the node: two link sets of two links each, two points behind them, and three translation rows.
 
 use exchange::{DestinationDraft, Draft, LinkDraft, SetDraft, Settings, TimersDraft, TitleDraft};
 use std::alloc::{AllocError, Global};
