@@ -1,3 +1,4 @@
 pub mod Behind
 pub mod Spelled
 pub mod Exists
+pub mod Explained

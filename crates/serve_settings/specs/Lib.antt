@@ -1,5 +1,6 @@
 pub mod Keys
 pub mod Faults
+pub mod Sentences
 pub mod Shapes
 pub mod Addresses
 pub mod Keyed

@@ -1,5 +1,5 @@
 //! The settings of a server: the keys of `[serve]`, and the address of each link, read from the
-//! text of a settings file.
+//! text of a settings file; and sentences that say what is wrong with them.
 #![tactic(auto)]
 
 mod address;
@@ -7,8 +7,10 @@ mod document;
 mod endpoints;
 pub mod fault;
 pub mod key;
+mod key_rows;
 mod keys;
 pub mod laws;
+mod sentences;
 pub mod server;
 mod shapes;
 #[cfg(test)]
@@ -17,4 +19,5 @@ mod tests;
 pub use document::read;
 pub use fault::ServeFault;
 pub use key::ServeKey;
+pub use sentences::sentence;
 pub use server::{Endpoint, PointFormat, ServeSettings};

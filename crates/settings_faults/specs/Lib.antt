@@ -1,3 +1,4 @@
 pub mod Sentences
+pub mod Values
 pub mod KnownKeys
 pub mod Warnings

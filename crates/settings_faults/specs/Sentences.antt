@@ -9,6 +9,7 @@ use Rattle.settings_rows.specs.declared.key.Key.TheVariants.{Version}
 use Rattle.settings_rows.specs.declared.fault.DraftFault.TheVariants.{NoMemory, At}
 use Rattle.settings.specs.declared.fault.SettingsFault.{SettingsFault}
 use Rattle.settings.specs.declared.fault.SettingsFault.TheVariants as fault
+use Rattle.settings_faults.specs.declared.key_rows.KeyRow.{KeyRow}
 
 -- a key behind a dot, or nothing
 abbrev pub behind_dot : List ℕ → List ℕ
@@ -36,15 +37,33 @@ place_of front None entry_name behind = front
 place_of front (Some i) entry_name behind =
     front ++ (codes "[" ++ (decimal i ++ (codes "]" ++ (quoted entry_name ++ behind))))
 
--- the place of a key: `own`, `timers.l1`, `link[2]`, `link[2] "e2": slc`
-abbrev pub place_text : Key → Option (List ℕ) → List ℕ
-place_text key entry_name = place_of (key_front key) (key_index key) entry_name (colon_for_dot (key_back key))
+-- where a key stands in a file: the key; or an array, the index of an entry, and a dot and a key in it
+pub record KeyPlace : Type 0 where
+  pub front : List ℕ
+  pub entry : Option ℕ
+  pub back : List ℕ
 
--- a sentence about a key: the file, the place of the key, and what is wrong there
-pub record IsAbout (file : List ℕ) (key : Key) (sentence : List ℕ) : Type 0 where
+-- where a key of settings stands
+abbrev pub key_place : Key → KeyPlace
+key_place key = record { front = key_front key; entry = key_index key; back = key_back key }
+
+-- the same of the row of a key
+abbrev pub row_place : KeyRow → KeyPlace
+row_place row = record { front = row.front.now; entry = row.entry; back = behind_dot row.name.now }
+
+-- how a place is written: `own`, `timers.l1`, `link[2]`, `link[2] "e2": slc`
+abbrev pub place_text : KeyPlace → Option (List ℕ) → List ℕ
+place_text place entry_name = place_of place.front place.entry entry_name (colon_for_dot place.back)
+
+-- a sentence about a place: the file, the place, and what is wrong there
+pub record IsAboutPlace (file : List ℕ) (place : KeyPlace) (sentence : List ℕ) : Type 0 where
   pub entry_name : Option (List ℕ)
   pub wrong : List ℕ
-  pub text : sentence ≡ file ++ (codes ": " ++ (place_text key entry_name ++ (codes " " ++ wrong)))
+  pub text : sentence ≡ file ++ (codes ": " ++ (place_text place entry_name ++ (codes " " ++ wrong)))
+
+-- a sentence about a key of settings
+abbrev pub IsAbout : (file : List ℕ) → Key → (sentence : List ℕ) → Type 0
+IsAbout file key sentence = IsAboutPlace file (key_place key) sentence
 
 -- the key that a fault of a document is at
 abbrev pub key_of : SettingsFault → Option Key

@@ -4,9 +4,10 @@ ghost use Rattle.std.specs.Prelude.{◌≡◌, Some, IfOk, string_bytes};
 ghost use Rattle.settings_rows.specs.declared.key.Key.{Key};
 ghost use Rattle.settings_faults.specs.Sentences.{IsAbout, Names, Explains, key_of};
 
+use crate::documents::document_in;
 use crate::key_rows::{KeyRow, key_row};
-use crate::places::{Place, entry_name, value_at};
-use crate::values::value_text;
+use crate::phrases::{missing, must_be, value_is};
+use crate::places::{about, value_at};
 use settings::SettingsFault;
 use std::alloc::{AllocError, Global};
 use stp_types::{DraftFault, FaultKind, Key};
@@ -27,16 +28,9 @@ pub fn sentence(
 ) -> Result<String, AllocError>
     ensures { IfOk result (λ sentence. Explains file.now octets.now fault (string_bytes sentence)) }
 {
-    let Ok(text) = str::from_utf8(octets) else {
-        return format!(in alloc; "{file}: the file isn't UTF-8\n");
-    };
-    match toml::table_from_str(alloc, text) {
-        Ok(table) => in_document(alloc, file, &table, fault),
-        Err(error) if error.is_memory() => Err(AllocError),
-        Err(error) => {
-            let said = format!(in alloc; "{error}")?;
-            format!(in alloc; "{file}: {said}")
-        }
+    match document_in(alloc, file, octets)? {
+        Ok(document) => in_document(alloc, file, &document, fault),
+        Err(why) => Ok(why),
     }
 }
 
@@ -59,7 +53,7 @@ fn in_document(
         ..key_row(key)
     };
     let wrong = wrong(alloc, &row, value_at(document, &row), fault)?;
-    about(alloc, file, document, key, wrong.as_str())
+    about(alloc, file, document, &row, wrong.as_str())
 }
 
 /// The key that a fault of a document is at.
@@ -99,8 +93,7 @@ fn wrong(
     fault: SettingsFault,
 ) -> Result<String, AllocError> {
     let Some(value) = value else {
-        let kind = row.kind;
-        return format!(in alloc; "is missing, must be {kind}");
+        return missing(alloc, row.kind);
     };
     match fault {
         SettingsFault::Missing(_) => String::from_str(
@@ -123,42 +116,12 @@ fn at_key(
     match kind {
         FaultKind::Range | FaultKind::TooMany => must_be(alloc, value, row.demand),
         FaultKind::Duplicate if value.is_array() => String::from_str(alloc, "has an entry twice"),
-        FaultKind::Duplicate => is(alloc, value, "which another entry has too"),
-        FaultKind::UnknownName if value.is_integer() => is(
+        FaultKind::Duplicate => value_is(alloc, value, "which another entry has too"),
+        FaultKind::UnknownName if value.is_integer() => value_is(
             alloc,
             value,
             "and no [[destination]] of this point names this set first",
         ),
-        FaultKind::UnknownName => is(alloc, value, "and no [[set]] is named so"),
+        FaultKind::UnknownName => value_is(alloc, value, "and no [[set]] is named so"),
     }
-}
-
-/// What a value is, and what it has to be.
-fn must_be(alloc: Global, value: &Value, demand: &str) -> Result<String, AllocError> {
-    let text = value_text(alloc, value)?;
-    format!(in alloc; "is {text}, must be {demand}")
-}
-
-/// What a value is, and what is wrong with that.
-fn is(alloc: Global, value: &Value, wrong: &str) -> Result<String, AllocError> {
-    let text = value_text(alloc, value)?;
-    format!(in alloc; "is {text}, {wrong}")
-}
-
-/// The sentence about a key.
-fn about(
-    alloc: Global,
-    file: &str,
-    document: &Table,
-    key: Key,
-    wrong: &str,
-) -> Result<String, AllocError>
-    ensures { IfOk result (λ sentence. IsAbout file.now key (string_bytes sentence)) }
-{
-    let row = key_row(key);
-    let place = Place {
-        row,
-        entry_name: entry_name(document, &row),
-    };
-    format!(in alloc; "{file}: {place} {wrong}\n")
 }

@@ -1,0 +1,27 @@
+-- A sentence about a fault of the node's settings is about the place of that fault.
+use Rattle.std.proofs.Common.{◌≡◌, ℕ, List, Option, None, Some, refl, subst, ap, ◌∙◌, sym}
+use Rattle.std.proofs.lemmas.Option.{none-some, same_Some}
+use Rattle.std.specs.Option.{option_map}
+use Rattle.settings_rows.specs.declared.key.Key.{Key}
+use Rattle.settings.specs.declared.fault.SettingsFault.{SettingsFault}
+use Rattle.settings_faults.specs.Sentences as settings
+use Rattle.settings_faults.specs.Sentences.{KeyPlace, IsAboutPlace, IsAbout}
+use Rattle.serve_settings.specs.declared.fault.ServeFault.{ServeFault}
+use Rattle.serve_settings.specs.declared.fault.ServeFault.TheVariants as kind
+use Rattle.serve_settings.specs.Sentences.{Explains, place_of}
+
+-- what is about a key is about its place
+at-place : (file sentence : List ℕ) (key : Option Key) (p : KeyPlace) → option_map settings.key_place key ≡ Some p
+    → ((k : Key) → key ≡ Some k → IsAbout file k sentence) → IsAboutPlace file p sentence
+at-place file sentence (Some key) p is about =
+    let Q : KeyPlace → Type 0 = λ q. IsAboutPlace file q sentence in
+    subst Q (same_Some (settings.key_place key) p is) (about key refl)
+at-place file sentence None p is about = absurd (none-some p is)
+
+pub explains : (file octets sentence : List ℕ) (found : SettingsFault) (why : ServeFault) → why ≡ kind.Settings found
+    → settings.Explains file octets found sentence → Explains file octets why sentence
+explains file octets sentence found why is told = record {
+  names = told.names;
+  place = λ p at utf8 toml. at-place file sentence (settings.key_of found) p (sym (ap place_of is) ∙ at)
+      (λ key same. told.key key same utf8 toml);
+}

@@ -1,0 +1,31 @@
+-- Sentences about faults of a server's settings.
+use Rattle.std.specs.Prelude.{◌≡◌, ℕ, List, Option, None, Some, IsSome}
+use Rattle.std.specs.Option.{option_map}
+use Rattle.std.specs.Str.{IsUtf8}
+use Rattle.toml.specs.Parse.{parse_document}
+use Rattle.settings_faults.specs.Sentences as settings
+use Rattle.settings_faults.specs.Sentences.{KeyPlace, Names, IsAboutPlace}
+use Rattle.serve_settings.specs.Keys.{key_front, key_index, key_back}
+use Rattle.serve_settings.specs.declared.key.ServeKey.{ServeKey}
+use Rattle.serve_settings.specs.declared.fault.ServeFault.{ServeFault}
+use Rattle.serve_settings.specs.declared.fault.ServeFault.TheVariants as kind
+
+-- where a key of a server stands: `serve.tick_ms`, or `listen` of a link
+abbrev pub key_place : ServeKey → KeyPlace
+key_place key = record { front = key_front key; entry = key_index key; back = key_back key }
+
+-- the place that a fault is at
+abbrev pub place_of : ServeFault → Option KeyPlace
+place_of (kind.Settings found) = option_map settings.key_place (settings.key_of found)
+place_of (kind.Missing key) = Some (key_place key)
+place_of (kind.Kind key) = Some (key_place key)
+place_of (kind.Range key) = Some (key_place key)
+place_of (kind.Duplicate key) = Some (key_place key)
+place_of kind.NoMemory = None
+
+-- a sentence about a fault of a file with these octets names the file; and where the file is TOML, it is about the
+-- place that the fault is at
+pub record Explains (file octets : List ℕ) (why : ServeFault) (sentence : List ℕ) : Type 0 where
+  pub names : Names file sentence
+  pub place : (p : KeyPlace) → place_of why ≡ Some p → IsUtf8 octets → IsSome (parse_document octets)
+      → IsAboutPlace file p sentence
