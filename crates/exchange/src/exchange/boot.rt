@@ -1,6 +1,8 @@
 //! The exchange before its first event.
 
-ghost use Rattle.std.specs.Prelude.{◌≡◌, ◌≤◌, length, replicate, IfOk};
+ghost use Rattle.std.specs.Prelude.{◌≡◌, ◌≤◌, ◌+◌, [], length, replicate, IfOk};
+ghost use Rattle.changeover.specs.Standing.{no_changeover};
+ghost use Rattle.timer_wheel.specs.Timers.{none_running};
 ghost use Rattle.changeback.specs.Codes.{no_codes};
 ghost use Rattle.route_management.specs.Told.{first_told, shape_of};
 ghost use Rattle.flow_hold.specs.Holds.{no_holds};
@@ -37,18 +39,24 @@ impl Exchange {
         // so the exchange stands for it.
         ensures first { IfOk result (λ exchange. StandsFor exchange (first_state settings)) }
     {
-        let count = settings.link_count();
         prove!(settings.window() <= Limits::WINDOW);
-        let lanes = CellPool::new(alloc, count + 1, settings.pool())?;
-        let sequences = first_sequences(alloc, count)?;
-        let links = node_links(alloc, &settings)?;
-        let told = nothing_told(alloc, &settings)?;
-        let changeovers = Changeover::new(alloc, count)?;
-        let changeback = no_changebacks(alloc, &settings)?;
-        let holds = no_holds(alloc, &settings)?;
-        let titles = first_titles(alloc, &settings)?;
-        let timers = Timers::new(alloc, counts_in(&settings))?;
+        prove!(settings.link_count() <= Limits::LINKS);
+        let of_links = LinkParts::first(alloc, &settings)?;
+        let of_network = NetworkParts::first(alloc, &settings)?;
         let notices = HeapCircularBuffer::with_capacity(alloc, Limits::NOTICES)?;
+        let LinkParts {
+            lanes,
+            sequences,
+            links,
+            changeovers,
+        } = of_links;
+        let NetworkParts {
+            told,
+            changeback,
+            holds,
+            titles,
+            timers,
+        } = of_network;
         Ok(Exchange {
             settings,
             lanes,
@@ -66,6 +74,71 @@ impl Exchange {
             release_due: false,
             // nothing is owed yet, which the first event finds out
             pending: Pending::all(),
+        })
+    }
+}
+
+/// What an exchange keeps of each link.
+#[derive(Drop)]
+struct LinkParts {
+    lanes: CellPool,
+    sequences: Vec<Sequence>,
+    links: NodeLinks,
+    changeovers: Changeover,
+}
+
+impl LinkParts {
+    /// All links of these settings are down, and no message is there.
+    fn first(alloc: Global, settings: &Settings) -> Result<LinkParts, AllocError>
+        ensures lanes { IfOk result (λ parts. parts.lanes ≡ record {
+          lists = replicate (length settings.now.links + 1) [];
+          pool = settings.now.pool;
+        }) }
+        ensures sequences { IfOk result (λ parts.
+            parts.sequences.items ≡ replicate (length settings.now.links) kept_first) }
+        ensures links { IfOk result (λ parts. parts.links ≡ first_network_of settings.now) }
+        ensures changeovers { IfOk result (λ parts.
+            parts.changeovers ≡ replicate (length settings.now.links) no_changeover) }
+    {
+        let count = settings.link_count();
+        Ok(LinkParts {
+            lanes: CellPool::new(alloc, count + 1, settings.pool())?,
+            sequences: first_sequences(alloc, count)?,
+            links: node_links(alloc, settings)?,
+            changeovers: Changeover::new(alloc, count)?,
+        })
+    }
+}
+
+/// What an exchange keeps of sets and destinations, its translation rows and its timers.
+#[derive(Drop)]
+struct NetworkParts {
+    told: Told,
+    changeback: Changeback,
+    holds: Holds,
+    titles: Translations,
+    timers: Timers,
+}
+
+impl NetworkParts {
+    /// Nothing was told, nothing is held, and no timer runs.
+    fn first(alloc: Global, settings: &Settings) -> Result<NetworkParts, AllocError>
+        ensures told { IfOk result (λ parts.
+            parts.told ≡ first_told settings.now.sets settings.now.destinations) }
+        ensures shape { IfOk result (λ parts. shape_of parts.told
+            ≡ replicate (length settings.now.sets) (length settings.now.destinations)) }
+        ensures changeback { IfOk result (λ parts. parts.changeback ≡ no_codes (length settings.now.sets)) }
+        ensures holds { IfOk result (λ parts. parts.holds ≡ no_holds (length settings.now.links)
+            (length settings.now.sets) (length settings.now.destinations)) }
+        ensures titles { IfOk result (λ parts. parts.titles ≡ table_of settings.now.titles) }
+        ensures timers { IfOk result (λ parts. parts.timers ≡ none_running (counts_in settings.now)) }
+    {
+        Ok(NetworkParts {
+            told: nothing_told(alloc, settings)?,
+            changeback: no_changebacks(alloc, settings)?,
+            holds: no_holds(alloc, settings)?,
+            titles: first_titles(alloc, settings)?,
+            timers: Timers::new(alloc, counts_in(settings))?,
         })
     }
 }
