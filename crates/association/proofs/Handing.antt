@@ -18,11 +18,11 @@ use Rattle.association.specs.declared.association.Broken.{Broken}
 
 -- ---- some texts, and then others
 
-after_texts-append : {Q : Type 0} (q : QueueKind Q) (link : ℕ) (ts us : List (List ℕ)) (s : State Q) → after_texts q link (ts ++ us) s ≡ after_texts q link us (after_texts q link ts s)
+pub after_texts-append : {Q : Type 0} (q : QueueKind Q) (link : ℕ) (ts us : List (List ℕ)) (s : State Q) → after_texts q link (ts ++ us) s ≡ after_texts q link us (after_texts q link ts s)
 after_texts-append q link [] us s = refl
 after_texts-append q link (t ∷ ts) us s = after_texts-append q link ts us (after q (FrameCame link t) s)
 
-sights-append : {Q : Type 0} (q : QueueKind Q) (link : ℕ) (ts us : List (List ℕ)) (s : State Q)
+pub sights-append : {Q : Type 0} (q : QueueKind Q) (link : ℕ) (ts us : List (List ℕ)) (s : State Q)
     → sights_of q link (ts ++ us) s ≡ sights_of q link ts s ++ sights_of q link us (after_texts q link ts s)
 sights-append q link [] us s = refl
 sights-append q link (t ∷ ts) us s =
@@ -83,7 +83,7 @@ pub record HasRead {W Q : Type 0} (sees : W → Sight → W → Type 0) (q : Que
   pub handed_in : HandsIn sees q link (held ++ read) held_now s s_now w w_now
 
 -- a broken stream stays broken, whatever follows
-broken-append : (octets behind : List ℕ) → next_in octets ≡ BreaksOff → next_in (octets ++ behind) ≡ BreaksOff
+pub broken-append : (octets behind : List ℕ) → next_in octets ≡ BreaksOff → next_in (octets ++ behind) ≡ BreaksOff
 broken-append octets behind e =
     let long : 8 ≤ length octets = grind (arith, nat_tests, e) in
     let len = length-append octets behind in

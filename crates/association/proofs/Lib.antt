@@ -1,4 +1,5 @@
 pub mod Handing
 pub mod InOrder
+pub mod OneRead
 pub mod Pieces
 pub mod Standing
