@@ -6,7 +6,7 @@ use exchange::{FailureReason, Limits, LinkId, LinkStanding, Notice, Outcome, Wan
 use link_number::Number24;
 
 /// A frame that was handed in, with what the node showed before and behind it.
-#[derive(Drop)]
+#[derive(Clone, Copy)]
 pub(crate) struct Case<'a> {
     /// The link that it came on.
     pub link: LinkId,

@@ -64,17 +64,22 @@ pub(crate) fn try_aligning(world: &mut World, dice: &mut Dice, count: usize) {
 /// that is down opens.
 fn try_unserved(world: &mut World, dice: &mut Dice, frame: &mut Octets) {
     let link = link_by_chance(dice);
+    go_on(world, dice, link);
+    if dice.one_in(2) {
+        try_fitting(world, dice, link, frame);
+    } else {
+        try_harmed(world, dice, link, MANY_STATUSES, frame);
+    }
+}
+
+/// By chance a tick passes, the association of a link is lost, or a link that is down opens.
+pub(crate) fn go_on(world: &mut World, dice: &mut Dice, link: LinkId) {
     match dice.below(32) {
         0..=4 => world.tick(),
         5..=6 => pass_tick(world),
         7 => world.lose(link),
         8..=29 => open(world, link),
         _ => {}
-    }
-    if dice.one_in(2) {
-        try_fitting(world, dice, link, frame);
-    } else {
-        try_harmed(world, dice, link, MANY_STATUSES, frame);
     }
 }
 

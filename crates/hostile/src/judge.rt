@@ -16,14 +16,19 @@ use m2pa_codec::LinkStatus;
 /// From so many management messages on, route messages may be owed until there is room (Q.704 §13).
 const ROUTE_MESSAGES: usize = 128;
 
+/// Whether the node shows what the rules say, within its limits.
+pub(crate) fn is_right(case: &Case<'_>) -> bool {
+    is_as_told(case) && is_within_limits(case)
+}
+
 /// Whether all that is counted is within its limits.
-pub(crate) fn is_within_limits(case: &Case<'_>) -> bool {
+fn is_within_limits(case: &Case<'_>) -> bool {
     let most = POOL + Limits::MANAGEMENT_MESSAGES;
     case.after.waiting_in_all() <= most
 }
 
 /// Whether the node shows what the rules say.
-pub(crate) fn is_as_told(case: &Case<'_>) -> bool {
+fn is_as_told(case: &Case<'_>) -> bool {
     let standing = case.before.standing(case.link);
     if standing == LinkStanding::Down {
         return case.outcome == Outcome::Ignored && case.changed_nothing();

@@ -22,6 +22,7 @@ mod reading;
 mod report;
 mod settings;
 mod shown;
+mod spoiling;
 mod streams;
 mod taken;
 mod total;
@@ -32,14 +33,14 @@ use dice::Dice;
 use frames::{try_aligning, try_in_service};
 use report::{report, report_starved, report_streams};
 use std::io;
-use streams::try_streams;
+use streams::{On, try_streams};
 use upkeep::count_through;
 use world::World;
 
 /// So many frames are tried on links in service, and as many on links that align.
 const FRAMES: usize = 12_000;
 
-/// So many streams are tried.
+/// So many streams are tried on links in service, and as many on links that align.
 const STREAMS: usize = 2_000;
 
 /// The seed of the first group. The others have those behind it.
@@ -48,7 +49,8 @@ const SEED: u64 = 7_041;
 fn main(rt: HostRuntime) -> io::Result<()> {
     serve(&rt)?;
     align(&rt)?;
-    stream(&rt)
+    stream(&rt, On::Service, SEED + 2)?;
+    stream(&rt, On::Alignment, SEED + 3)
 }
 
 /// Frames on links in service.
@@ -71,13 +73,13 @@ fn align(rt: &HostRuntime) -> io::Result<()> {
     report(rt, "frames on links that align", &world.total(), through)
 }
 
-/// Streams on links in service.
-fn stream(rt: &HostRuntime) -> io::Result<()> {
+/// Streams, by the generator of a seed.
+fn stream(rt: &HostRuntime, on: On, seed: u64) -> io::Result<()> {
     let Some(mut world) = World::new(rt.alloc()) else {
         return report_starved(rt);
     };
-    let streams = try_streams(&mut world, &mut Dice::new(SEED + 2), STREAMS);
+    let streams = try_streams(&mut world, &mut Dice::new(seed), on, STREAMS);
     let through = count_through(&mut world);
-    report_streams(rt, streams)?;
+    report_streams(rt, on, streams)?;
     report(rt, "frames of these streams", &world.total(), through)
 }

@@ -1,6 +1,6 @@
 //! What is printed of a group.
 
-use crate::streams::StreamTotal;
+use crate::streams::{On, StreamTotal};
 use crate::total::{STANDINGS, Total};
 use crate::upkeep::LAST_MESSAGES;
 use std::io;
@@ -11,13 +11,17 @@ pub(crate) fn report_starved(rt: &HostRuntime) -> io::Result<()> {
 }
 
 /// Prints how many streams there were, and whether they were cut alike in any pieces.
-pub(crate) fn report_streams(rt: &HostRuntime, total: StreamTotal) -> io::Result<()> {
+pub(crate) fn report_streams(rt: &HostRuntime, on: On, total: StreamTotal) -> io::Result<()> {
     let StreamTotal {
         streams,
         broken,
         unlike,
     } = total;
-    print!(rt; "{streams} streams, {broken} of them broken; ")?;
+    let links = match on {
+        On::Service => "in service",
+        On::Alignment => "that align",
+    };
+    print!(rt; "{streams} streams on links {links}, {broken} of them broken; ")?;
     match unlike {
         0 => println!(rt; "the same in other pieces"),
         _ => println!(rt; "{unlike} others in other pieces"),
@@ -83,7 +87,11 @@ fn print_verdict(rt: &HostRuntime, total: &Total) -> io::Result<()> {
         count => print!(rt; "{count} not numbered, ")?,
     }
     match total.untold {
-        0 => print!(rt; "state as told"),
-        count => print!(rt; "{count} not as told"),
+        0 => print!(rt; "state as told, ")?,
+        count => print!(rt; "{count} not as told, ")?,
+    }
+    match total.mixed_up {
+        0 => print!(rt; "spoiled ones told apart"),
+        count => print!(rt; "{count} spoiled ones not told apart"),
     }
 }

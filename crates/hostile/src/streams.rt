@@ -3,6 +3,7 @@
 use crate::cutting::{Cuts, cut, piece_of};
 use crate::dice::Dice;
 use crate::far_end::Numbers;
+use crate::frames::go_on;
 use crate::good::write_good;
 use crate::harm::{change_length, go_to_extremes, turn_bits};
 use crate::octets::Octets;
@@ -20,6 +21,12 @@ const HARMS: usize = 4;
 /// So many octets at most are taken out of a stream or put behind it, less one.
 const FEW_OCTETS: usize = 24;
 
+/// So many of sixteen good frames are Link Status on links in service,
+const FEW_STATUSES: usize = 1;
+
+/// and so many on links that align.
+const MANY_STATUSES: usize = 12;
+
 /// Where the frames of a stream begin.
 type Starts = ArrayVec<usize, FRAMES>;
 
@@ -34,8 +41,27 @@ pub(crate) struct StreamTotal {
     pub unlike: u64,
 }
 
-/// So many streams are tried, each on a link in service.
-pub(crate) fn try_streams(world: &mut World, dice: &mut Dice, count: usize) -> StreamTotal {
+/// Which links streams come on.
+#[derive(Clone, Copy)]
+pub(crate) enum On {
+    /// Links in service.
+    Service,
+    /// Links that align, or are down.
+    Alignment,
+}
+
+impl On {
+    /// So many of sixteen good frames are Link Status.
+    fn statuses(self) -> usize {
+        match self {
+            On::Service => FEW_STATUSES,
+            On::Alignment => MANY_STATUSES,
+        }
+    }
+}
+
+/// So many streams are tried.
+pub(crate) fn try_streams(world: &mut World, dice: &mut Dice, on: On, count: usize) -> StreamTotal {
     let mut total = StreamTotal {
         streams: 0,
         broken: 0,
@@ -43,28 +69,42 @@ pub(crate) fn try_streams(world: &mut World, dice: &mut Dice, count: usize) -> S
     };
     let mut stream = Octets::new();
     for _ in 0..count {
-        try_stream(world, dice, &mut stream, &mut total);
+        try_stream(world, dice, on, &mut stream, &mut total);
     }
     total
 }
 
 /// A stream is tried on a link.
-fn try_stream(world: &mut World, dice: &mut Dice, stream: &mut Octets, total: &mut StreamTotal) {
+fn try_stream(
+    world: &mut World,
+    dice: &mut Dice,
+    on: On,
+    stream: &mut Octets,
+    total: &mut StreamTotal,
+) {
     let link = link_by_chance(dice);
-    if dice.one_in(3) {
-        pass_tick(world);
-    }
-    if !restore(world, link) {
-        world.note_untold();
+    match on {
+        On::Service => serve(world, dice, link),
+        On::Alignment => go_on(world, dice, link),
     }
     stream.clear();
-    let starts = write_stream(dice, &world.numbers(link), stream);
+    let starts = write_stream(dice, &world.numbers(link), on.statuses(), stream);
     harm_stream(dice, starts.as_slice(), stream);
     let cuts = cut(dice, stream.as_slice());
     let others = cut(dice, stream.as_slice());
     total.add(&cuts, &others);
     try_frames(world, link, &cuts, stream.as_slice());
     end_stream(world, link, cuts.is_broken());
+}
+
+/// A link is brought into service. By chance a tick passes before.
+fn serve(world: &mut World, dice: &mut Dice, link: LinkId) {
+    if dice.one_in(3) {
+        pass_tick(world);
+    }
+    if !restore(world, link) {
+        world.note_untold();
+    }
 }
 
 /// The frames of a stream are tried, in order.
@@ -86,13 +126,13 @@ fn end_stream(world: &mut World, link: LinkId, broken: bool) {
 }
 
 /// Several good frames with numbers one behind another. Returns where they begin.
-fn write_stream(dice: &mut Dice, far: &Numbers, stream: &mut Octets) -> Starts {
+fn write_stream(dice: &mut Dice, far: &Numbers, statuses: usize, stream: &mut Octets) -> Starts {
     let mut sent = far.sent;
     let mut starts = ArrayVec::new();
     let frames = dice.below(FRAMES).saturating_add(1);
     for _ in 0..frames {
         let _added = starts.try_push(stream.len());
-        sent = write_good(dice, &Numbers { sent, ..*far }, 1, stream);
+        sent = write_good(dice, &Numbers { sent, ..*far }, statuses, stream);
     }
     starts
 }

@@ -1,8 +1,9 @@
 //! What became of a group of frames.
 
 use crate::case::Case;
-use crate::judge::{is_as_told, is_within_limits};
+use crate::judge::is_right;
 use crate::outcomes::is_numbered;
+use crate::spoiling::is_told_apart;
 use exchange::{LinkStanding, Outcome};
 use std::marker::Model;
 
@@ -44,6 +45,8 @@ pub(crate) struct Total {
     pub unnumbered: u64,
     /// Behind how many frames the node showed something else than the rules say, the good ones between them too.
     pub untold: u64,
+    /// How many of these cases the judge didn't tell from what they are where they were spoiled.
+    pub mixed_up: u64,
     /// How many good frames came between them.
     pub between: u64,
 }
@@ -63,6 +66,7 @@ impl Total {
         refused: [0; CAUSES],
         unnumbered: 0,
         untold: 0,
+        mixed_up: 0,
         between: 0,
     };
 
@@ -92,8 +96,11 @@ impl Total {
         if !is_numbered(case.outcome) {
             self.unnumbered = self.unnumbered.wrapping_add(1);
         }
-        if !is_as_told(case) || !is_within_limits(case) {
+        if !is_right(case) {
             self.note_untold();
+        }
+        if !is_told_apart(case) {
+            self.mixed_up = self.mixed_up.wrapping_add(1);
         }
     }
 

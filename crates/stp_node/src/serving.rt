@@ -1,7 +1,7 @@
 //! A node that is served on the network, with the settings of a file.
 
 use crate::ending::{tell_file_fault, tell_no_memory};
-use crate::explaining::explain_unread;
+use crate::explaining::{explain_unread, warn};
 use crate::folder::{FileFault, Folder};
 use crate::program::{Status, settings_in};
 use crate::sink::Sink;
@@ -58,7 +58,7 @@ pub(crate) fn serve_file<F: Folder, S: Serve, W: Sink, E: Sink>(
     }
 }
 
-/// Serves a node with the settings in the octets of a file, if they have no fault.
+/// Serves a node with the settings in the octets of a file, if they have no fault. Warnings of unknown keys come first.
 fn serve_octets<S: Serve, W: Sink, E: Sink>(
     alloc: Global,
     file: &str,
@@ -67,6 +67,7 @@ fn serve_octets<S: Serve, W: Sink, E: Sink>(
     writer: &mut W,
     errors: &mut E,
 ) -> Status {
+    warn(alloc, file, octets, errors);
     match settings_in(alloc, octets) {
         Ok(_) => server.serve(alloc, file, octets, writer, errors),
         Err(fault) => tell_file_fault(alloc, file, octets, fault, writer, errors),

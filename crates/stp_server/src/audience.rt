@@ -1,6 +1,7 @@
 //! Who is told of what passes: the counters, the capture, and the callers of the console.
 
 ghost use Rattle.std.specs.Prelude.{◌≡◌, ◌≤◌, length};
+ghost use Rattle.stp_server.specs.Audience.{counted_sight};
 
 use crate::callers::Callers;
 use crate::capture::Capture;
@@ -63,7 +64,9 @@ impl Audience {
     }
 
     /// A frame passed: the capture has it, and callers that watch frames are told.
-    fn passed(&mut self, link: LinkId, direction: Direction, frame: &[u8]) {
+    fn passed(&mut self, link: LinkId, direction: Direction, frame: &[u8])
+        ensures { self.new.counters ≡ self.old.counters }
+    {
         if let Some(capture) = &mut self.capture {
             capture.write(self.now, link, direction, frame);
         }
@@ -75,7 +78,9 @@ impl Audience {
     }
 
     /// Tells callers of a message for this point.
-    fn tell_message(&mut self, link: LinkId, frame: &[u8]) {
+    fn tell_message(&mut self, link: LinkId, frame: &[u8])
+        ensures { self.new.counters ≡ self.old.counters }
+    {
         if !self.callers.any_sees(News::Message) {
             return;
         }
@@ -114,9 +119,10 @@ pub(crate) struct Watching<'a, U> {
 }
 
 impl<U: Watch> Watch for Watching<'_, U> {
-    // It is still what was lent.
-    ghost sees = { λ before _ after. (after.audience.ghost_name ≡ before.audience.ghost_name)
-        × (after.user.ghost_name ≡ before.user.ghost_name) };
+    // It is still what was lent, and what was seen is counted.
+    ghost sees = { λ before sight after. (after.audience.ghost_name ≡ before.audience.ghost_name)
+        × (after.user.ghost_name ≡ before.user.ghost_name)
+        × (after.audience.now.counters ≡ counted_sight sight before.audience.now.counters) };
 
     fn came_in(&mut self, link: LinkId, frame: &[u8], outcome: &Outcome) {
         self.audience.counters.count_in(link, frame.len(), outcome);

@@ -56,7 +56,7 @@ impl Callers {
 
     /// Someone may have come.
     pub(crate) fn mark_console(&mut self) {
-        self.can_accept = true;
+        self.can_accept = self.listener.is_some();
     }
 
     /// The socket in a place may be ready.

@@ -27,11 +27,10 @@ struct Numbers {
 
 impl Capture {
     /// A capture into this file, which begins with the header of such files. The node started so long after 1970. The
-    /// error is that of want of memory, or of the first write.
+    /// error is that of want of memory. Where the header can't be written the capture has failed.
     pub fn begin(alloc: Global, file: File, started: Duration) -> io::Result<Capture> {
         let mut file = BufWriter::new(alloc, file)?;
-        file.write_all(&file_header())?;
-        file.flush()?;
+        let has_failed = file.write_all(&file_header()).is_err() || file.flush().is_err();
         let first = Numbers {
             incoming: 0,
             outgoing: 0,
@@ -40,7 +39,7 @@ impl Capture {
             file,
             started,
             numbers: [first; Limits::LINKS],
-            has_failed: false,
+            has_failed,
         })
     }
 

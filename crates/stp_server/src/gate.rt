@@ -32,8 +32,12 @@ const ACCEPTS: usize = 64;
 enum Passage {
     /// There is none.
     Closed,
-    /// It is being made; the socket tells when it knows how that ended.
-    Connecting { stream: TcpStream, is_known: bool },
+    /// It is being made; the socket tells when it knows how that ended. It is given up at a moment.
+    Connecting {
+        stream: TcpStream,
+        is_known: bool,
+        until: Duration,
+    },
     /// It is there, and so is the link's association.
     Open(Connection),
 }
@@ -78,7 +82,7 @@ impl Gate {
 
     /// A connection may have come.
     pub(crate) fn mark_listener(&mut self) {
-        self.can_accept = true;
+        self.can_accept = self.listener.is_some();
     }
 
     /// The connection's socket may be ready.
@@ -100,10 +104,11 @@ impl Gate {
         passage || self.can_accept
     }
 
-    /// When the connection is to be tried, where the link is one that connects and has none.
+    /// When the connection is to be tried, or given up, where the link is one that connects and isn't connected.
     pub(crate) fn next_try(&self) -> Option<Duration> {
         match (&self.endpoint, &self.passage) {
             (Endpoint::Connect(_), Passage::Closed) => Some(self.next_try),
+            (Endpoint::Connect(_), Passage::Connecting { until, .. }) => Some(*until),
             _ => None,
         }
     }
@@ -221,7 +226,8 @@ impl Gate {
         }
     }
 
-    /// Takes frames and writes them, as far as the socket takes them. True where more may be written at once.
+    /// Takes frames and writes them, as far as the socket takes them. True where more may be written at once, here or,
+    /// where the connection is over, on other links.
     pub(crate) fn write<W: Sink, U: Watch>(
         &mut self,
         node: &mut Node,
@@ -235,7 +241,10 @@ impl Gate {
             match connection.write(node, user) {
                 Moved::Some => {}
                 Moved::None => return false,
-                Moved::Over(why) => self.close(why, node, journal),
+                Moved::Over(why) => {
+                    self.close(why, node, journal);
+                    return true;
+                }
             }
         }
         true
@@ -254,6 +263,9 @@ impl Gate {
             (Wants::Open, Passage::Closed) => self.begin(net, node, registry, journal),
             (Wants::Open, Passage::Connecting { is_known: true, .. }) => {
                 self.finish(node, journal);
+            }
+            (Wants::Open, Passage::Connecting { until, .. }) if *until <= journal.now() => {
+                self.fail(node, journal);
             }
             (Wants::Nothing, Passage::Connecting { .. }) => self.passage = Passage::Closed,
             _ => {}

@@ -6,7 +6,7 @@ use std::fmt::Write;
 use std::time::Duration;
 use stp_node::Sink;
 
-/// Octets of a line of the log, at most.
+/// Octets of a line of the log with its line feed, at most.
 const LINE_OCTETS: usize = 256;
 
 /// The log: each line begins with the seconds since start.
@@ -27,12 +27,17 @@ impl<'a, W: Sink> Journal<'a, W> {
         self.now
     }
 
-    /// Writes a line. Where the write fails the line is lost: the node goes on without it.
+    /// Writes a line, without the end of one that is too long. Where the write fails the line is lost: the node goes
+    /// on without it.
     pub fn tell<T: fmt::Display>(&mut self, text: &T) {
         let seconds = self.now.as_secs();
         let millis = self.now.subsec_millis();
         let mut line = ArrayString::<LINE_OCTETS>::new();
-        let _fits = write!(line, "{seconds}.{millis:03} {text}\n");
+        let _fits = write!(line, "{seconds}.{millis:03} {text}");
+        if line.try_push('\n').is_err() {
+            line.pop();
+            let _ends = line.try_push('\n');
+        }
         let _told = self.sink.write(line.as_bytes());
     }
 }

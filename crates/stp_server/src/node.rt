@@ -10,7 +10,7 @@ use console_caller::{Desk, News, line_in_parts};
 use exchange::{Event, Exchange};
 use std::alloc::Global;
 use stp_node::Sink;
-use stp_types::{Notice, Settings};
+use stp_types::{FailureReason, LinkId, Notice, Settings};
 use trace::PointFormat;
 
 /// The node, who is told what happens in it, and which notices they were told.
@@ -70,9 +70,30 @@ impl Node {
         self.audience.refused = 0;
         let count = self.seen.look(&self.exchange);
         let kept = self.exchange.notices().len();
-        for k in kept.saturating_sub(count)..kept {
+        let first = kept.saturating_sub(count);
+        for k in first..kept {
             self.tell(k, journal);
         }
+        self.count_untold_failures(first);
+    }
+
+    /// Counts the failures of links whose notice was dropped for those behind it. Only a changeover order for a link
+    /// with many unconfirmed messages makes so many notices at once.
+    fn count_untold_failures(&mut self, first: usize) {
+        for k in 0..self.exchange.settings().link_count() {
+            let link = LinkId::new(u8::try_from(k).unwrap_or(u8::MAX));
+            if self.seen.fell(link) && !self.is_failure_told(link, first) {
+                let reason = FailureReason::Changeover;
+                self.audience.counters.count_failure(link, reason);
+            }
+        }
+    }
+
+    /// Whether one of the notices from this place on tells that a link failed.
+    fn is_failure_told(&self, link: LinkId, first: usize) -> bool {
+        self.exchange.notices().iter().skip(first).any(
+            |notice| matches!(notice, Notice::Failed(failed, _) if *failed == link),
+        )
     }
 
     /// Tells of the notice in this place.

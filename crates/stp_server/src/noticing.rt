@@ -11,6 +11,7 @@ pub struct Seen {
     former: Vec<Notice>,
     notices: Vec<Notice>,
     up: [bool; Limits::LINKS],
+    fell: [bool; Limits::LINKS],
     refused: usize,
 }
 
@@ -21,6 +22,7 @@ impl Seen {
             former: Vec::with_capacity(alloc, Limits::NOTICES)?,
             notices: Vec::with_capacity(alloc, Limits::NOTICES)?,
             up: [false; Limits::LINKS],
+            fell: [false; Limits::LINKS],
             refused: 0,
         })
     }
@@ -39,6 +41,11 @@ impl Seen {
         new_among(&self.former, &self.notices, least)
     }
 
+    /// Whether a link failed between the last look and the one before.
+    pub fn fell(&self, link: LinkId) -> bool {
+        self.fell.get(link.index()).copied().unwrap_or(false)
+    }
+
     /// Keeps the notices as they are now. There is room for 64, and there are no more.
     fn note_notices(&mut self, exchange: &Exchange) {
         self.notices.clear();
@@ -50,12 +57,15 @@ impl Seen {
     /// How many links failed since the last look. Each failure made a notice.
     fn note_failures(&mut self, exchange: &Exchange) -> usize {
         let mut failures = 0usize;
-        for (k, up) in self.up.iter_mut().enumerate() {
+        let marks = self.up.iter_mut().zip(self.fell.iter_mut());
+        let links = exchange.settings().link_count();
+        for (k, (up, fell)) in marks.enumerate().take(links) {
             let is_up = is_up(exchange, LinkId::new(k as u8));
-            if *up && !is_up {
+            *fell = *up && !is_up;
+            *up = is_up;
+            if *fell {
                 failures = failures.saturating_add(1);
             }
-            *up = is_up;
         }
         failures
     }

@@ -96,13 +96,25 @@ impl Server {
         outcome
     }
 
-    /// Lets so many ticks pass.
+    /// Lets so many ticks pass. Behind them each listener is asked again for connections: one that came may have been
+    /// left waiting for want of sockets.
     pub fn tick<W: Sink>(&mut self, ticks: u64, now: Duration, log: &mut W) {
         let mut journal = Journal::new(log, now);
         for _ in 0..ticks {
             self.node.tick(&mut journal);
         }
-        self.is_busy = self.is_busy || ticks > 0;
+        if ticks > 0 {
+            self.mark_listeners();
+            self.is_busy = true;
+        }
+    }
+
+    /// A connection may have come to any listener.
+    fn mark_listeners(&mut self) {
+        for gate in self.gates.iter_mut() {
+            gate.mark_listener();
+        }
+        self.node.audience.callers.mark_console();
     }
 
     /// Closes the connection of a link as its peer would: the node loses the association.
@@ -139,9 +151,9 @@ impl Server {
         least
     }
 
-    /// Does what there is to do on each socket, once or a few times, and returns: connections are taken, what came is
-    /// read and handed in, connections are opened and closed as the links want, and frames are taken and written
-    /// while the sockets take them. It is so long after the start now.
+    /// Does what there is to do on each socket, once or a few times, and returns: what came is read and handed in,
+    /// connections are taken, opened and closed as the links want, and frames are taken and written while the sockets
+    /// take them. It is so long after the start now.
     pub fn turn<N: Net, W: Sink, U: Watch>(
         &mut self,
         net: &N,
@@ -152,8 +164,9 @@ impl Server {
         let mut journal = Journal::new(log, now);
         self.node.audience.now = now;
         self.is_busy = false;
-        self.take_connections(&mut journal);
         self.read(&mut journal, user);
+        self.take_connections(&mut journal);
+        self.read_callers(&mut journal);
         self.settle(net, &mut journal);
         self.write(&mut journal, user);
         self.finish(&mut journal);
@@ -171,12 +184,11 @@ impl Server {
             .accept(self.alloc, registry, journal);
     }
 
-    /// Reads what came on the links, and then what callers wrote.
+    /// Reads what came on the links.
     fn read<W: Sink, U: Watch>(&mut self, journal: &mut Journal<'_, W>, user: &mut U) {
         for gate in self.gates.iter_mut() {
             gate.read(&mut self.node, journal, user);
         }
-        self.read_callers(journal);
     }
 
     /// Does the lines that callers wrote.

@@ -46,40 +46,37 @@ impl<'a> MachineServer<'a> {
         serve: &ServeSettings,
         log: &mut W,
     ) -> Result<(), Failure> {
+        let capture = self.capture_of(alloc, serve)?;
         tell_start(&settings, serve, log);
         match Server::open(self.rt, alloc, settings, places_of(serve), log) {
-            Ok(mut server) => self.serve_opened(alloc, &mut server, serve, log),
+            Ok(mut server) => self.serve_opened(&mut server, capture, serve, log),
             Err(fault) => Err(Failure::Open(fault)),
         }
     }
 
-    /// The same, where the server is open.
+    /// The same, where the server is open, with a capture where there is one.
     fn serve_opened<W: Sink>(
         &self,
-        alloc: Global,
         server: &mut Server,
+        capture: Option<Capture>,
         serve: &ServeSettings,
         log: &mut W,
     ) -> Result<(), Failure> {
-        self.begin_capture(alloc, server, serve, log)?;
+        if let Some(capture) = capture {
+            server.capture_to(capture);
+            let file = serve.capture().unwrap_or("");
+            Journal::new(log, Duration::ZERO).tell(&format_args!("capture {file}"));
+        }
         let started = self.now()?;
         self.run(server, serve.tick_ms(), started, log)
     }
 
-    /// Has the server capture its frames, where the settings name a file.
-    fn begin_capture<W: Sink>(
-        &self,
-        alloc: Global,
-        server: &mut Server,
-        serve: &ServeSettings,
-        log: &mut W,
-    ) -> Result<(), Failure> {
-        let Some(file) = serve.capture() else {
-            return Ok(());
-        };
-        server.capture_to(self.capture(alloc, file)?);
-        Journal::new(log, Duration::ZERO).tell(&format_args!("capture {file}"));
-        Ok(())
+    /// The capture into the file that the settings name, if they name one.
+    fn capture_of(&self, alloc: Global, serve: &ServeSettings) -> Result<Option<Capture>, Failure> {
+        match serve.capture() {
+            Some(file) => Ok(Some(self.capture(alloc, file)?)),
+            None => Ok(None),
+        }
     }
 
     /// A capture into a new file of this name.
@@ -193,7 +190,7 @@ impl Serve for MachineServer<'_> {
     fn serve<W: Sink, E: Sink>(
         &mut self,
         alloc: Global,
-        _file: &str,
+        file: &str,
         octets: &[u8],
         writer: &mut W,
         errors: &mut E,
@@ -203,16 +200,32 @@ impl Serve for MachineServer<'_> {
         };
         let (settings, serve) = match serve_settings::read(alloc, text) {
             Ok(read) => read,
-            Err(fault) => return tell_fault(alloc, fault, writer),
+            Err(fault) => return tell_settings(alloc, file, octets, fault, writer, errors),
         };
         match self.serve_node(alloc, settings, &serve, writer) {
             Ok(()) => Status::Done,
-            Err(failure) => tell_failure(alloc, failure, writer, errors),
+            Err(failure) => tell_failure(alloc, failure, serve.capture(), writer, errors),
         }
     }
 }
 
-/// Prints a fault of the settings.
+/// Prints a fault of the settings in a file of this name and these octets, and tells what is wrong there.
+fn tell_settings<W: Sink, E: Sink>(
+    alloc: Global,
+    file: &str,
+    octets: &[u8],
+    fault: ServeFault,
+    writer: &mut W,
+    errors: &mut E,
+) -> Status {
+    let status = tell_fault(alloc, fault, writer);
+    if let Ok(sentence) = serve_settings::sentence(alloc, file, octets, fault) {
+        let _told = errors.write(sentence.as_bytes());
+    }
+    status
+}
+
+/// Prints a fault.
 fn tell_fault<W: Sink>(alloc: Global, fault: ServeFault, writer: &mut W) -> Status {
     let line = match format!(in alloc; "{fault}\n") {
         Ok(line) => line,
@@ -224,10 +237,11 @@ fn tell_fault<W: Sink>(alloc: Global, fault: ServeFault, writer: &mut W) -> Stat
     }
 }
 
-/// Tells why nothing is served.
+/// Tells why nothing is served, with this capture file where there was to be one.
 fn tell_failure<W: Sink, E: Sink>(
     alloc: Global,
     failure: Failure,
+    capture: Option<&str>,
     writer: &mut W,
     errors: &mut E,
 ) -> Status {
@@ -246,7 +260,10 @@ fn tell_failure<W: Sink, E: Sink>(
             let _told = errors.write(b"the system fails to tell of sockets or of the time\n");
         }
         Failure::Capture => {
-            let _told = errors.write(b"the capture file can't be written\n");
+            let file = capture.unwrap_or("");
+            if let Ok(text) = format!(in alloc; "{file}: the capture file can't be made\n") {
+                let _told = errors.write(text.as_bytes());
+            }
         }
     }
     Status::Stream

@@ -3,12 +3,17 @@
 use super::{Gate, Passage};
 use crate::journal::Journal;
 use crate::node::Node;
+use crate::retrying::LONGEST_WAIT;
 use mio::Registry;
 use mio::net::TcpStream;
 use serve_settings::Endpoint;
 use std::mem;
 use std::net::{Net, SocketAddr};
+use std::time::Duration;
 use stp_node::Sink;
+
+/// After so many seconds a connection that isn't made is given up.
+const GIVEN_UP_AFTER_SECONDS: u64 = LONGEST_WAIT;
 
 impl Gate {
     /// Begins to connect, where the link is one that does and it is time.
@@ -34,6 +39,9 @@ impl Gate {
                 self.passage = Passage::Connecting {
                     stream,
                     is_known: false,
+                    until: journal
+                        .now()
+                        .saturating_add(Duration::from_secs(GIVEN_UP_AFTER_SECONDS)),
                 };
             }
             None => self.fail(node, journal),
@@ -53,7 +61,7 @@ impl Gate {
     }
 
     /// The connection couldn't be made.
-    fn fail<W: Sink>(&mut self, node: &Node, journal: &mut Journal<'_, W>) {
+    pub(super) fn fail<W: Sink>(&mut self, node: &Node, journal: &mut Journal<'_, W>) {
         self.passage = Passage::Closed;
         self.wait(journal.now());
         let name = node.audience.name(self.link);
