@@ -1,11 +1,12 @@
 //! What the words behind the program's name ask for.
 
-ghost use Rattle.std.specs.Prelude.{◌≤◌, IfSome};
+ghost use Rattle.std.specs.Prelude.{◌≡◌, ◌≤◌, IfSome};
 
-use crate::draft::Sets;
+use crate::draft::{Routes, Sets, Shape, WINDOW};
 use crate::failure::Stage;
+use crate::making::Making;
 use crate::titles::Table;
-use crate::unitdata::BARE_OCTETS;
+use crate::unitdata::bare_octets;
 use stp_types::Limits;
 
 /// Octets of a routing label, which each message has (Q.704 §2.2).
@@ -13,6 +14,22 @@ pub(crate) const LABEL_OCTETS: usize = 4;
 
 /// Destinations at least: the adjacent point of a link set, and one behind it.
 pub(crate) const FEWEST_DESTINATIONS: usize = 2;
+
+/// The words that each run has.
+const WORDS: usize = 5;
+
+/// How large the settings are beside their destinations and links.
+#[derive(Clone, Copy)]
+pub(crate) enum Size {
+    /// One set leads to each destination, the window is 128, and the kind says how many links make a set and how many
+    /// translation rows there are. Links are in service where the kind says so.
+    Usual,
+    /// Two links make a set, eight sets lead to each destination, and the window is the largest. All links are in
+    /// service.
+    Wide,
+    /// The same, with as many translation rows as may be, of as many digits as may be.
+    Largest,
+}
 
 /// What a message meets.
 #[derive(Clone, Copy)]
@@ -39,37 +56,63 @@ pub(crate) enum Kind {
     Tick,
     /// There is none: the route to the last destination by its set is prohibited, and then allowed.
     Status,
-    /// There is none: the only link of the first set fails and returns.
+    /// There is none: the only link in service of the first set fails and returns.
     Entry,
+    /// There is none: nodes are made, and no link opens.
+    Make(Making),
 }
 
 impl Kind {
-    /// How the links make sets: one each, where it counts how many adjacent points are told.
-    pub(crate) fn sets(self) -> Sets {
-        match self {
-            Kind::Tick | Kind::Status | Kind::Entry => Sets::Single,
-            _ => Sets::Full,
+    /// How the links make sets. Where the settings aren't larger than usual each link is one, if it counts how many
+    /// adjacent points are told.
+    pub(crate) fn sets(self, size: Size) -> Sets {
+        match (size, self) {
+            (Size::Wide | Size::Largest, _) => Sets::Pairs,
+            (Size::Usual, Kind::Tick | Kind::Status | Kind::Entry) => Sets::Single,
+            (Size::Usual, _) => Sets::Full,
         }
     }
 
-    /// How many translation rows there are.
-    pub(crate) fn titles(self) -> usize
-        ensures { result ≤ Limits.TITLES }
-    {
-        match self {
-            Kind::Relay(table) | Kind::Udts(table) => table.rows(),
-            _ => 0,
+    /// Which translation rows there are.
+    pub(crate) fn table(self, size: Size) -> Table {
+        match (size, self) {
+            (Size::Largest, _) => Table::Longest,
+            (_, Kind::Relay(table) | Kind::Udts(table)) => table,
+            _ => Table::Empty,
         }
     }
 
     /// The fewest octets that its message may have.
-    fn fewest_octets(self) -> usize
+    fn fewest_octets(self, size: Size) -> usize
         ensures { LABEL_OCTETS ≤ result }
     {
         match self {
-            Kind::Relay(_) | Kind::Udts(_) => BARE_OCTETS,
+            Kind::Relay(_) | Kind::Udts(_) => bare_octets(self.table(size)),
             _ => LABEL_OCTETS,
         }
+    }
+}
+
+impl Size {
+    /// How destinations lie behind link sets.
+    fn routes(self) -> Routes {
+        match self {
+            Size::Usual => Routes::One,
+            Size::Wide | Size::Largest => Routes::Most,
+        }
+    }
+
+    /// How many messages may be unconfirmed.
+    fn window(self) -> u16 {
+        match self {
+            Size::Usual => WINDOW,
+            Size::Wide | Size::Largest => Limits::WINDOW as u16,
+        }
+    }
+
+    /// Whether it is as usual.
+    pub(crate) fn is_usual(self) -> bool {
+        matches!(self, Size::Usual)
     }
 }
 
@@ -79,26 +122,33 @@ pub(crate) struct Arguments {
     pub kind: Kind,
     pub octets: usize,
     pub destinations: usize,
-    /// Links in the settings. One of them carries the messages; the others are down, but for those of its set before a
-    /// changeover or a return, and where each is a set of its own.
+    /// Links in the settings. One of them carries the messages. Where the settings aren't larger than usual the others
+    /// are down, but for those of its set before a changeover or a return, and where each is a set of its own.
     pub links: usize,
     pub count: u32,
+    pub size: Size,
 }
 
 impl Arguments {
-    /// Reads the five words. None where one of them is missing, unknown or out of range, where each destination is the
-    /// adjacent point of a link set, or where there are too many sets.
+    /// Reads the five words, and a sixth where the settings are larger than usual. None where one of them is missing,
+    /// unknown or out of range, where each destination is the adjacent point of a link set, or where there are too
+    /// many sets.
     pub(crate) fn read(words: &[String]) -> Option<Arguments>
         ensures octets { IfSome result (λ arguments. arguments.octets ≤ Limits.SIF_OCTETS) }
         ensures label { IfSome result (λ arguments. LABEL_OCTETS ≤ arguments.octets) }
         ensures few { IfSome result (λ arguments. arguments.destinations ≤ Limits.DESTINATIONS) }
         ensures links { IfSome result (λ arguments. arguments.links ≤ Limits.LINKS) }
     {
+        let (words, size) = sized(words)?;
         let [kind, octets, destinations, links, count] = words else {
             return None;
         };
         let kind = kind_of(kind.as_str())?;
-        let octets = within(octets.as_str(), kind.fewest_octets(), Limits::SIF_OCTETS)?;
+        let octets = within(
+            octets.as_str(),
+            kind.fewest_octets(size),
+            Limits::SIF_OCTETS,
+        )?;
         let destinations = within(
             destinations.as_str(),
             FEWEST_DESTINATIONS,
@@ -106,7 +156,7 @@ impl Arguments {
         )?;
         let links = within(links.as_str(), 1, Limits::LINKS)?;
         let count = count.as_str().parse::<u32>().ok()?;
-        let sets = kind.sets().count(links);
+        let sets = kind.sets(size).count(links);
         if destinations <= sets || sets > Limits::SETS {
             return None;
         }
@@ -116,7 +166,43 @@ impl Arguments {
             destinations,
             links,
             count,
+            size,
         })
+    }
+
+    /// What the settings are made of.
+    pub(crate) fn shape(&self) -> Shape
+        ensures destinations { result.destinations ≡ self.now.destinations }
+        ensures links { result.links ≡ self.now.links }
+    {
+        Shape {
+            destinations: self.destinations,
+            links: self.links,
+            sets: self.kind.sets(self.size),
+            routes: self.size.routes(),
+            window: self.size.window(),
+            table: self.kind.table(self.size),
+        }
+    }
+}
+
+/// The words that each run has, and the size that one behind them names.
+fn sized(words: &[String]) -> Option<(&[String], Size)> {
+    if words.len() <= WORDS {
+        return Some((words, Size::Usual));
+    }
+    let [size] = &words[WORDS..] else {
+        return None;
+    };
+    Some((&words[..WORDS], size_of(size.as_str())?))
+}
+
+/// The size of this name.
+fn size_of(name: &str) -> Option<Size> {
+    match name {
+        "wide" => Some(Size::Wide),
+        "largest" => Some(Size::Largest),
+        _ => None,
     }
 }
 
@@ -139,6 +225,9 @@ fn kind_of(name: &str) -> Option<Kind> {
         "tick" => Some(Kind::Tick),
         "status" => Some(Kind::Status),
         "entry" => Some(Kind::Entry),
+        "draft" => Some(Kind::Make(Making::Draft)),
+        "check" => Some(Kind::Make(Making::Check)),
+        "boot" => Some(Kind::Make(Making::Boot)),
         _ => None,
     }
 }

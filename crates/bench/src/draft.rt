@@ -2,7 +2,7 @@
 
 ghost use Rattle.std.specs.Prelude.{◌≤◌};
 
-use crate::titles::title_drafts;
+use crate::titles::{Table, title_drafts};
 use std::alloc::{AllocError, Global};
 use stp_types::{
     DestinationDraft, Draft, Limits, LinkDraft, LinkId, PointCode, SetDraft, TimersDraft,
@@ -27,17 +27,22 @@ pub(crate) fn adjacent() -> PointCode {
 /// The network indicator of the international network (Q.704 §14.2.2).
 pub(crate) const INTERNATIONAL: u8 = 2;
 
-/// How many messages may be unconfirmed.
-pub(crate) const WINDOW: usize = 128;
+/// How many messages may be unconfirmed, where the settings aren't larger than usual.
+pub(crate) const WINDOW: u16 = 128;
 
 /// The service indicator of the ISDN user part (Q.704 §14.2.1).
 pub(crate) const ISUP: u8 = 5;
+
+/// Links of a set of two.
+const PAIR: usize = 2;
 
 /// How links make link sets.
 #[derive(Clone, Copy)]
 pub(crate) enum Sets {
     /// As many links in each set as may be.
     Full,
+    /// Two links in each set.
+    Pairs,
     /// One link in each set.
     Single,
 }
@@ -50,6 +55,7 @@ impl Sets {
     {
         match self {
             Sets::Full => links.div_ceil(Limits::LINKS_PER_SET),
+            Sets::Pairs => links.div_ceil(PAIR),
             Sets::Single => links,
         }
     }
@@ -58,6 +64,7 @@ impl Sets {
     fn set_of(self, link: usize) -> usize {
         match self {
             Sets::Full => link / Limits::LINKS_PER_SET,
+            Sets::Pairs => link / PAIR,
             Sets::Single => link,
         }
     }
@@ -66,37 +73,82 @@ impl Sets {
     pub(crate) fn last_of_first(self, links: usize) -> LinkId {
         match self {
             Sets::Full => LinkId::new((links.clamp(1, Limits::LINKS_PER_SET) - 1) as u8),
+            Sets::Pairs => LinkId::new((links.clamp(1, PAIR) - 1) as u8),
             Sets::Single => LinkId::new(0),
         }
     }
 }
 
-/// The settings of a node with so many links, and so many destinations. The adjacent point of each link set is a
-/// destination; the others lie behind the first set. So many translation rows lead to the last destination.
-pub(crate) fn draft_with(
-    alloc: Global,
-    destinations: usize,
-    links: usize,
-    sets: Sets,
-    titles: usize,
-) -> Result<Draft, AllocError>
-    requires destinations { destinations ≤ Limits.DESTINATIONS }
-    requires links { links ≤ Limits.LINKS }
+/// How destinations lie behind link sets. The adjacent point of each set lies behind that set first.
+#[derive(Clone, Copy)]
+pub(crate) enum Routes {
+    /// One set leads to each destination: to all that aren't adjacent points the first one.
+    One,
+    /// As many sets as may be lead to each destination: those from one on, and behind the last the first again. That
+    /// is the first set for the last destination, the second for the one before, and so on.
+    Most,
+}
+
+impl Routes {
+    /// How many sets lead to each destination.
+    fn count(self, sets: usize) -> usize
+        ensures { result ≤ Limits.SETS_PER_DESTINATION }
+    {
+        match self {
+            Routes::One => 1,
+            Routes::Most => sets.min(Limits::SETS_PER_DESTINATION),
+        }
+    }
+
+    /// The first set to a destination that isn't an adjacent point and has so many behind it.
+    fn first(self, behind: usize, sets: usize) -> usize
+        ensures { result ≤ behind }
+    {
+        match self {
+            Routes::One => 0,
+            Routes::Most => turned(behind, sets),
+        }
+    }
+}
+
+/// A number of a set, counted on past the last one from the first again.
+fn turned(number: usize, sets: usize) -> usize
+    ensures { result ≤ number }
 {
-    let set_count = sets.count(links);
-    let last = OWN as i64 + destinations as i64;
+    if sets == 0 { 0 } else { number % sets }
+}
+
+/// What settings are made of.
+#[derive(Clone, Copy)]
+pub(crate) struct Shape {
+    pub destinations: usize,
+    pub links: usize,
+    pub sets: Sets,
+    pub routes: Routes,
+    pub window: u16,
+    pub table: Table,
+}
+
+/// The settings of a node of this shape. The adjacent point of each link set is a destination, before the others. The
+/// translation rows lead to the last destination.
+pub(crate) fn draft_with(alloc: Global, shape: &Shape) -> Result<Draft, AllocError>
+    requires destinations { shape.now.destinations ≤ Limits.DESTINATIONS }
+    requires links { shape.now.links ≤ Limits.LINKS }
+{
+    let set_count = shape.sets.count(shape.links);
+    let last = OWN as i64 + shape.destinations as i64;
     Ok(Draft {
         own: OWN as i64,
         network: INTERNATIONAL as i64,
-        window: WINDOW as i64,
+        window: shape.window as i64,
         pool: Limits::POOL as i64,
         users: vec![in alloc; ISUP as i64]?,
         subsystems: Vec::new(alloc),
         timers: timers(),
         sets: set_drafts(alloc, set_count)?,
-        links: link_drafts(alloc, links, sets)?,
-        destinations: destination_drafts(alloc, destinations, set_count)?,
-        titles: title_drafts(alloc, titles, last)?,
+        links: link_drafts(alloc, shape.links, shape.sets)?,
+        destinations: destination_drafts(alloc, shape.destinations, set_count, shape.routes)?,
+        titles: title_drafts(alloc, shape.table, last)?,
     })
 }
 
@@ -159,24 +211,45 @@ fn destination_drafts(
     alloc: Global,
     count: usize,
     sets: usize,
+    routes: Routes,
 ) -> Result<Vec<DestinationDraft>, AllocError>
     requires { count ≤ Limits.DESTINATIONS }
 {
     let mut destinations = Vec::new(alloc);
     for index in 0..count {
-        let set = if index < sets { index } else { 0 };
-        destinations.push(destination(alloc, ADJACENT as i64 + index as i64, set)?)?;
+        let first = if index < sets {
+            index
+        } else {
+            routes.first(count - 1 - index, sets)
+        };
+        let names = set_names(alloc, first, routes.count(sets), sets)?;
+        destinations.push(destination(ADJACENT as i64 + index as i64, names))?;
     }
     Ok(destinations)
 }
 
-/// A destination by one link set.
-fn destination(alloc: Global, point: i64, set: usize) -> Result<DestinationDraft, AllocError> {
-    let mut sets = Vec::new(alloc);
-    sets.push(set_name(alloc, set)?)?;
-    Ok(DestinationDraft {
+/// The names of so many sets, from one on, and behind the last of all sets from the first again.
+fn set_names(
+    alloc: Global,
+    first: usize,
+    count: usize,
+    sets: usize,
+) -> Result<Vec<String>, AllocError>
+    requires first { first ≤ Limits.DESTINATIONS }
+    requires count { count ≤ Limits.SETS_PER_DESTINATION }
+{
+    let mut names = Vec::new(alloc);
+    for step in 0..count {
+        names.push(set_name(alloc, turned(first + step, sets))?)?;
+    }
+    Ok(names)
+}
+
+/// A destination by these link sets.
+fn destination(point: i64, sets: Vec<String>) -> DestinationDraft {
+    DestinationDraft {
         point,
         sets,
         joined: false,
-    })
+    }
 }

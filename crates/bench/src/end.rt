@@ -1,6 +1,5 @@
 //! The peer's end of a link.
 
-use crate::draft::WINDOW;
 use crate::incoming::Incoming;
 use crate::peer::Peer;
 use link_number::{Number24, next};
@@ -36,7 +35,7 @@ impl End {
     /// Takes all messages that may go out before one of them is confirmed, and says whether there was one.
     fn take_window(&mut self, peer: &mut Peer, link: LinkId) -> bool {
         let before = self.taken;
-        for _ in 0..WINDOW {
+        for _ in 0..peer.window() {
             if !self.take(peer, link) {
                 break;
             }
@@ -60,9 +59,11 @@ impl End {
         self.next = next(self.next);
     }
 
-    /// Sends an answer, and takes what acknowledges it.
+    /// Sends an answer, and takes what acknowledges it: the next message, or else a frame without one.
     pub(crate) fn answer(&mut self, peer: &mut Peer, link: LinkId, message: &mut Incoming) {
         self.send(peer, link, message);
-        peer.take_by(link);
+        if peer.take_by(link) && peer.took_message() {
+            self.taken = next(self.taken);
+        }
     }
 }

@@ -1,6 +1,6 @@
 //! The changeover of a link with many messages on it.
 
-use crate::draft::{INTERNATIONAL, WINDOW, adjacent, own};
+use crate::draft::{INTERNATIONAL, adjacent, own};
 use crate::incoming::Incoming;
 use crate::peer::Peer;
 use link_number::Number24;
@@ -20,28 +20,32 @@ pub(crate) enum Stage {
 
 /// Messages come by the first link of a set, and stand on the last one; a window of them is sent. Where the stage says
 /// so that link fails then, and its changeover ends. Each link of the set is in service before.
-pub(crate) fn change_over(peer: &mut Peer, stage: Stage, mut message: Incoming, count: u32) {
-    peer.open_others();
-    for _ in 0..count {
-        peer.send_by_first(&mut message);
-    }
-    for _ in 0..WINDOW {
-        peer.take();
-    }
+pub(crate) fn change_over(peer: &mut Peer, stage: Stage, message: Incoming, count: u32) {
+    send_each(peer, message, count);
+    let before = peer.end().taken;
+    peer.take_window();
     match stage {
         Stage::Queue => {}
         Stage::Failure => peer.break_off(),
         Stage::Completion => {
             peer.break_off();
-            complete(peer);
+            complete(peer, before);
         }
     }
     peer.take_from_others();
 }
 
-/// The peer tells that it accepted half a window of messages.
-fn complete(peer: &mut Peer) {
-    if let Some(number) = Number24::new(WINDOW as u32 / 2 - 1) {
+/// So many messages come by the first link.
+fn send_each(peer: &mut Peer, mut message: Incoming, count: u32) {
+    for _ in 0..count {
+        peer.send_by_first(&mut message);
+    }
+}
+
+/// The peer tells that it accepted half a window of messages after this one.
+fn complete(peer: &mut Peer, before: Number24) {
+    let half = peer.window() as u32 / 2;
+    if let Some(number) = Number24::new((before.value() + half) % Number24::MODULUS) {
         let mut answer = answer_about(peer.selection(), number);
         peer.send_by_first(&mut answer);
     }

@@ -1,4 +1,5 @@
-//! `bench KIND OCTETS DESTINATIONS LINKS COUNT`: what a message costs.
+//! `bench KIND OCTETS DESTINATIONS LINKS COUNT`: what a message costs. A sixth word, `wide` or `largest`, makes the
+//! settings larger.
 //!
 //! Carries COUNT messages, whose signalling information fields have OCTETS octets, through an exchange with
 //! so many destinations and links, and prints how many frames went out with a checksum of their octets. Count the
@@ -12,15 +13,18 @@ mod draft;
 mod end;
 mod failure;
 mod incoming;
+mod making;
 mod outage;
 mod peer;
 mod routes;
+mod service;
 mod titles;
 mod total;
 mod traffic;
 mod unitdata;
 
-use arguments::Arguments;
+use arguments::{Arguments, Kind};
+use making::make;
 use peer::Peer;
 use std::alloc::Global;
 use std::process::ExitCode;
@@ -43,20 +47,17 @@ fn words(rt: &HostRuntime) -> io::Result<Vec<String>> {
     Ok(words)
 }
 
-/// Carries the messages. None where memory ran out.
+/// Makes the nodes, or carries the messages. None where memory ran out.
 fn total_of(alloc: Global, arguments: &Arguments) -> Option<Total>
     requires octets { arguments.now.octets ≤ Limits.SIF_OCTETS }
     requires destinations { arguments.now.destinations ≤ Limits.DESTINATIONS }
     requires links { arguments.now.links ≤ Limits.LINKS }
 {
-    let kind = arguments.kind;
-    let mut peer = Peer::of_exchange_with(
-        alloc,
-        arguments.destinations,
-        arguments.links,
-        kind.sets(),
-        kind.titles(),
-    )?;
+    let shape = arguments.shape();
+    if let Kind::Make(making) = arguments.kind {
+        return make(alloc, making, &shape, arguments.count);
+    }
+    let mut peer = Peer::of_exchange_with(alloc, &shape)?;
     carry(&mut peer, arguments);
     Some(peer.total())
 }
@@ -78,8 +79,9 @@ fn report(rt: &HostRuntime, total: Option<Total>) -> io::Result<ExitCode> {
 /// Says which words are asked for.
 fn refuse(rt: &HostRuntime) -> io::Result<ExitCode> {
     println!(rt;
-        "usage: bench KIND OCTETS DESTINATIONS LINKS COUNT; a KIND is forward, burst, submit, local, acknowledgement, \
-relay, relay-full, udts, udts-full, queue, failure, changeover, return, tick, status or entry"
+        "usage: bench KIND OCTETS DESTINATIONS LINKS COUNT [wide|largest]; a KIND is forward, burst, submit, local, \
+acknowledgement, relay, relay-full, udts, udts-full, queue, failure, changeover, return, tick, status, entry, draft, \
+check or boot"
     )?;
     Ok(ExitCode::from(1))
 }

@@ -1,31 +1,36 @@
 //! A link that fails and returns, again and again, while the others of its set carry its flows.
 
+ghost use Rattle.std.specs.Prelude.{◌≤◌};
+
 use crate::draft::{INTERNATIONAL, adjacent, own};
 use crate::end::End;
 use crate::failure::answer_about;
 use crate::incoming::Incoming;
 use crate::peer::Peer;
+use crate::service::{Ends, first_ends};
 use mgmt_codec::{MANAGEMENT_OCTETS, Management};
 use stp_types::{Limits, LinkId, Sls};
-
-/// The peer's ends of the links of a set, by their numbers.
-type Ends = [End; Limits::LINKS_PER_SET];
 
 /// The last link of the first set fails and returns so many times, and the others of its set carry its flows meanwhile.
 /// Each order and each declaration is answered. Each time a message of the link is held until the last answer came. It
 /// is taken and confirmed, with whatever else the return of the link brings: all of that belongs to the round.
-pub(crate) fn come_and_go(peer: &mut Peer, mut message: Incoming, count: u32) {
-    let mut ends = [End::first(); Limits::LINKS_PER_SET];
-    ends[peer.link().index() % Limits::LINKS_PER_SET] = peer.end();
+pub(crate) fn come_and_go(peer: &mut Peer, ends: &mut Ends, mut message: Incoming, count: u32) {
+    for _ in 0..count {
+        fail(peer, ends);
+        come_back(peer, ends, &mut message);
+    }
+}
+
+/// The links of the first set before the one that carries the messages come into service, and what they declare is
+/// answered.
+pub(crate) fn open_set(peer: &mut Peer) -> Ends {
+    let mut ends = first_ends(peer);
     for number in 0..peer.link().index() {
         let link = LinkId::new(number as u8);
         peer.open(link);
-        answer_each(peer, &mut ends, link);
+        answer_each(peer, &mut ends, Limits::LINKS_PER_SET, link);
     }
-    for _ in 0..count {
-        fail(peer, &mut ends);
-        come_back(peer, &mut ends, &mut message);
-    }
+    ends
 }
 
 /// The link fails, and its changeover is answered on the first link.
@@ -44,15 +49,18 @@ fn come_back(peer: &mut Peer, ends: &mut Ends, message: &mut Incoming) {
     let link = peer.link();
     peer.open(link);
     ends[0].send(peer, LinkId::new(0), message);
-    answer_each(peer, ends, link);
+    answer_each(peer, ends, Limits::LINKS_PER_SET, link);
     let mut end = End::first();
     end.settle(peer, link);
     ends[link.index() % Limits::LINKS_PER_SET] = end;
 }
 
-/// Answers the declarations of the return of a link, of which one at most stands on each other link of the set.
-fn answer_each(peer: &mut Peer, ends: &mut Ends, returned: LinkId) {
-    for number in 0..Limits::LINKS_PER_SET {
+/// Answers the declarations of the return of a link among the first links, so many. One at most stands on each other
+/// link of its set.
+pub(crate) fn answer_each(peer: &mut Peer, ends: &mut Ends, links: usize, returned: LinkId)
+    requires { links ≤ Limits.LINKS }
+{
+    for number in 0..links {
         let link = LinkId::new(number as u8);
         if link != returned {
             answer_on(peer, link, &mut ends[number]);

@@ -2,21 +2,25 @@
 
 ghost use Rattle.std.specs.Prelude.{◌≤◌, length};
 
-use crate::draft::{Sets, draft_with};
+use crate::draft::Shape;
 use crate::end::End;
 use crate::incoming::Incoming;
+use crate::making::booted;
 use crate::total::Total;
 use exchange::{BUFFER_OCTETS, Event, Exchange};
 use link_number::{Number24, next};
 use m2pa_codec::{Frame, LinkStatus, encode};
 use std::alloc::Global;
-use stp_types::{Limits, LinkId, MsuRef, Settings, Sls};
+use stp_types::{Limits, LinkId, MsuRef, Sls};
 
 /// What a link tells on its way into service: Alignment, Proving Normal, Ready.
 const STATUSES: usize = 3;
 
 /// Where the last octet of a frame's length stands (RFC 4165 §2.1).
 const LENGTH_AT: usize = 7;
+
+/// Octets of a frame without a message (RFC 4165 §2.3.1).
+const EMPTY_OCTETS: u8 = 16;
 
 /// Where the heading of a management message stands in its frame, behind the label (Q.704 §15.1).
 const HEADING_AT: usize = 22;
@@ -37,8 +41,8 @@ pub(crate) struct Peer {
     link: LinkId,
     /// The peer's end of that link.
     end: End,
-    /// The number of the next message that it sends on the first link, where that is another one.
-    next_by_first: Number24,
+    /// The peer's end of the first link, where that is another one.
+    first: End,
     /// Its frame without a message.
     empty: Incoming,
     buffer: [u8; BUFFER_OCTETS],
@@ -46,26 +50,20 @@ pub(crate) struct Peer {
 }
 
 impl Peer {
-    /// The peer of an exchange with so many destinations, links and translation rows. The last link of the first set is
-    /// in service and carries all messages, so that the others of its set are looked at in vain. All that is owed was
-    /// told and confirmed. None where memory ran out.
-    pub(crate) fn of_exchange_with(
-        alloc: Global,
-        destinations: usize,
-        links: usize,
-        sets: Sets,
-        titles: usize,
-    ) -> Option<Peer>
-        requires destinations { destinations ≤ Limits.DESTINATIONS }
-        requires links { links ≤ Limits.LINKS }
+    /// The peer of an exchange with settings of this shape. The last link of the first set is in service and carries
+    /// all messages, so that the others of its set are looked at in vain. All that is owed was told and confirmed.
+    /// None where memory ran out.
+    pub(crate) fn of_exchange_with(alloc: Global, shape: &Shape) -> Option<Peer>
+        requires destinations { shape.now.destinations ≤ Limits.DESTINATIONS }
+        requires links { shape.now.links ≤ Limits.LINKS }
     {
-        let link = sets.last_of_first(links);
-        let exchange = exchange_with(alloc, destinations, links, sets, titles)?;
+        let link = shape.sets.last_of_first(shape.links);
+        let exchange = booted(alloc, shape)?;
         let mut peer = Peer {
             exchange,
             link,
             end: End::first(),
-            next_by_first: Number24::zero(),
+            first: End::first(),
             empty: Incoming::empty(),
             buffer: [0; BUFFER_OCTETS],
             total: Total::NOTHING,
@@ -121,9 +119,22 @@ impl Peer {
         self.end
     }
 
+    /// The peer goes on from these ends, of the link that carries the messages and of the first link.
+    pub(crate) fn go_on_from(&mut self, end: End, first: End) {
+        self.end = end;
+        self.first = first;
+    }
+
     /// The link that carries the messages.
     pub(crate) fn link(&self) -> LinkId {
         self.link
+    }
+
+    /// How many messages may be unconfirmed.
+    pub(crate) fn window(&self) -> usize
+        ensures { result ≤ Limits.WINDOW }
+    {
+        self.exchange.settings().window()
     }
 
     /// Brings the links of the set before the one that carries the messages into service.
@@ -144,10 +155,10 @@ impl Peer {
         self.exchange.step(&Event::AssociationDown(self.link));
     }
 
-    /// Sends a message on the first link, where nothing was taken.
+    /// Sends a message on the first link.
     pub(crate) fn send_by_first(&mut self, message: &mut Incoming) {
-        let octets = message.numbered(Number24::zero().previous(), self.next_by_first);
-        self.next_by_first = next(self.next_by_first);
+        let octets = message.numbered(self.first.taken, self.first.next);
+        self.first.next = next(self.first.next);
         self.exchange.step(&Event::Frame(LinkId::new(0), octets));
     }
 
@@ -168,6 +179,11 @@ impl Peer {
         let frames = self.total.frames;
         self.take_from(link);
         self.total.frames != frames
+    }
+
+    /// Whether the frame that was taken last has a message, where that is one of management.
+    pub(crate) fn took_message(&self) -> bool {
+        self.buffer[LENGTH_AT] != EMPTY_OCTETS
     }
 
     /// The changeback code of the frame that was taken last, where that is a declaration.
@@ -216,6 +232,13 @@ impl Peer {
         self.take_frame();
     }
 
+    /// Takes a window of messages.
+    pub(crate) fn take_window(&mut self) {
+        for _ in 0..self.window() {
+            self.take();
+        }
+    }
+
     /// Takes the next frame, where there is one, and counts it in.
     pub(crate) fn take_frame(&mut self) {
         self.take_from(self.link);
@@ -229,8 +252,9 @@ impl Peer {
         }
     }
 
-    /// Time passes until T1 ends, after which a link that failed as the last one of its set may open again.
-    pub(crate) fn outlast_t1(&mut self) {
+    /// Time passes until T1 ends, after which a link that failed as the last one of its set may open again. Each other
+    /// timer that runs now ends too, since all run as long.
+    pub(crate) fn outlast_timers(&mut self) {
         let ticks = self.exchange.settings().timers().t1;
         for _ in 0..ticks {
             self.tick();
@@ -251,21 +275,4 @@ impl Peer {
     pub(crate) fn total(&self) -> Total {
         self.total
     }
-}
-
-/// The exchange with so many destinations, links and translation rows, before its first event. None where memory ran
-/// out.
-fn exchange_with(
-    alloc: Global,
-    destinations: usize,
-    links: usize,
-    sets: Sets,
-    titles: usize,
-) -> Option<Exchange>
-    requires destinations { destinations ≤ Limits.DESTINATIONS }
-    requires links { links ≤ Limits.LINKS }
-{
-    let draft = draft_with(alloc, destinations, links, sets, titles).ok()?;
-    let settings = Settings::check(alloc, draft).ok()?;
-    Exchange::boot(alloc, settings).ok()
 }

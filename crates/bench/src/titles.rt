@@ -20,48 +20,65 @@ pub(crate) const NATURE: u8 = 4;
 /// The subsystem that they lead to: the home location register (Q.713 §3.4.2.2).
 pub(crate) const SUBSYSTEM: u8 = 6;
 
-/// How many translation rows there are.
+/// What stands behind the number of a row that has as many digits as may be.
+const LONG_END: &str = "4917200000000000000000000000";
+
+/// Which translation rows there are.
 #[derive(Clone, Copy)]
 pub(crate) enum Table {
-    /// Two.
+    /// None.
+    Empty,
+    /// Two, of four digits.
     Short,
-    /// As many as may be.
+    /// As many as may be, of four digits.
     Full,
+    /// As many as may be, of as many digits as may be.
+    Longest,
 }
 
 impl Table {
     /// How many rows.
-    pub(crate) fn rows(self) -> usize
+    fn rows(self) -> usize
         ensures { result ≤ Limits.TITLES }
     {
         match self {
+            Table::Empty => 0,
             Table::Short => FEW_ROWS,
-            Table::Full => Limits::TITLES,
+            Table::Full | Table::Longest => Limits::TITLES,
         }
     }
 }
 
-/// So many translation rows, whose addresses lead to a point. Each is of the same key; their digits are the numbers
-/// from 0 on, four hexadecimal digits each, so that no row leads an address that begins with `ffff`.
+/// These translation rows, whose addresses lead to a point. Each is of the same key; their first four digits are the
+/// numbers from 0 on in hexadecimal, so that no row leads an address that begins with `ffff`, and no two rows share
+/// more than three digits.
 pub(crate) fn title_drafts(
     alloc: Global,
-    count: usize,
+    table: Table,
     point: i64,
 ) -> Result<Vec<TitleDraft>, AllocError> {
     let mut titles = Vec::new(alloc);
-    for row in 0..count {
-        titles.push(title(alloc, row, point)?)?;
+    for row in 0..table.rows() {
+        titles.push(title(alloc, digits_of(alloc, table, row)?, point)?)?;
     }
     Ok(titles)
 }
 
-/// The row of this number.
-fn title(alloc: Global, row: usize, point: i64) -> Result<TitleDraft, AllocError> {
+/// The digits of the row of this number.
+fn digits_of(alloc: Global, table: Table, row: usize) -> Result<String, AllocError> {
+    match table {
+        Table::Longest => format!(in alloc; "{row:04x}{LONG_END}"),
+        _ => format!(in alloc; "{row:04x}"),
+    }
+}
+
+/// A row of these digits.
+fn title(alloc: Global, digits: String, point: i64) -> Result<TitleDraft, AllocError> {
     Ok(TitleDraft {
         translation: TRANSLATION as i64,
         plan: PLAN as i64,
         nature: NATURE as i64,
-        digits: format!(in alloc; "{row:04x}")?,
+        digits,
         point,
         route: format!(in alloc; "ssn")?,
         ssn: Some(SUBSYSTEM as i64),

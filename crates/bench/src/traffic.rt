@@ -3,13 +3,14 @@
 ghost use Rattle.std.specs.Prelude.{◌^◌, ◌<◌, ◌≤◌, length};
 
 use crate::arguments::{Arguments, Kind, LABEL_OCTETS};
-use crate::draft::{ADJACENT, INTERNATIONAL, ISUP, OWN, WINDOW};
+use crate::draft::{ADJACENT, INTERNATIONAL, ISUP, OWN};
 use crate::failure::change_over;
 use crate::incoming::Incoming;
 use crate::outage::come_and_go;
 use crate::peer::Peer;
 use crate::routes::{change_status, enter, tick};
-use crate::unitdata::{ASTRAY, LED, unitdata};
+use crate::service::{Ends, bring_in};
+use crate::unitdata::{ASTRAY, LED, Title, unitdata};
 use routing_label::Label;
 use stp_types::{Limits, MsuRef, PointCode, Sls};
 
@@ -28,40 +29,71 @@ pub(crate) fn carry(peer: &mut Peer, arguments: &Arguments)
     requires destinations { arguments.now.destinations ≤ Limits.DESTINATIONS }
     requires links { arguments.now.links ≤ Limits.LINKS }
 {
-    let last = OWN + arguments.destinations as u16;
+    let mut ends = bring_in(peer, arguments);
+    let count = arguments.count;
+    match arguments.kind {
+        Kind::Acknowledgement => acknowledge(peer, count),
+        Kind::Relay(_) => forward(peer, unitdata_of(peer, arguments, &LED), count),
+        Kind::Udts(_) => forward(peer, unitdata_of(peer, arguments, &ASTRAY), count),
+        Kind::Tick => tick(peer, count),
+        Kind::Status => {
+            let about = PointCode::new(last_point(arguments)).unwrap();
+            change_status(peer, &mut ends, about, arguments.links, count);
+        }
+        Kind::Entry => enter(peer, &mut ends, arguments.links, count),
+        Kind::Make(_) => {}
+        _ => carry_isup(peer, &mut ends, arguments),
+    }
+}
+
+/// Carries messages of the ISDN user part.
+fn carry_isup(peer: &mut Peer, ends: &mut Ends, arguments: &Arguments)
+    requires octets { arguments.now.octets ≤ Limits.SIF_OCTETS }
+    requires destinations { arguments.now.destinations ≤ Limits.DESTINATIONS }
+{
     let to = match arguments.kind {
         Kind::Local => OWN,
-        _ => last,
+        _ => last_point(arguments),
     };
-    let selection = match arguments.kind {
-        Kind::Standing(_) | Kind::Return => peer.selection(),
-        _ => Sls::new(0).unwrap(),
-    };
-    let field = longest_field(ADJACENT, to, selection);
+    let field = longest_field(ADJACENT, to, selection_of(peer, arguments));
     let sif = &field[..arguments.octets];
+    let message = Incoming::with_message(SIO, sif);
+    let count = arguments.count;
     match arguments.kind {
-        Kind::Forward => forward(peer, Incoming::with_message(SIO, sif), arguments.count),
-        Kind::Burst => burst(peer, sif, arguments.count),
-        Kind::Submit => submit(peer, sif, arguments.count),
-        Kind::Local => local(peer, sif, arguments.count),
-        Kind::Acknowledgement => acknowledge(peer, arguments.count),
-        Kind::Relay(_) => forward(peer, unitdata(LED, arguments.octets), arguments.count),
-        Kind::Udts(_) => forward(peer, unitdata(ASTRAY, arguments.octets), arguments.count),
-        Kind::Standing(stage) => {
-            let message = Incoming::with_message(SIO, sif);
-            change_over(peer, stage, message, arguments.count);
-        }
-        Kind::Return => {
-            let message = Incoming::with_message(SIO, sif);
-            come_and_go(peer, message, arguments.count);
-        }
-        Kind::Tick => tick(peer, arguments.links, arguments.count),
-        Kind::Status => {
-            let about = PointCode::new(last).unwrap();
-            change_status(peer, about, arguments.links, arguments.count);
-        }
-        Kind::Entry => enter(peer, arguments.links, arguments.count),
+        Kind::Forward => forward(peer, message, count),
+        Kind::Burst => burst(peer, message, count),
+        Kind::Submit => submit(peer, sif, count),
+        Kind::Local => local(peer, message, count),
+        Kind::Standing(stage) => change_over(peer, stage, message, count),
+        Kind::Return => come_and_go(peer, ends, message, count),
+        _ => {}
     }
+}
+
+/// The point of the last destination.
+fn last_point(arguments: &Arguments) -> u16
+    requires { arguments.now.destinations ≤ Limits.DESTINATIONS }
+    ensures { result < 2 ^ 14 }
+{
+    OWN + arguments.destinations as u16
+}
+
+/// The selection of all messages: one of the link that carries them, where others of its set are in service too.
+fn selection_of(peer: &Peer, arguments: &Arguments) -> Sls {
+    match arguments.kind {
+        Kind::Standing(_) | Kind::Return => peer.selection(),
+        _ if arguments.size.is_usual() => Sls::new(0).unwrap(),
+        _ => peer.selection(),
+    }
+}
+
+/// A UDT with this title.
+fn unitdata_of(peer: &Peer, arguments: &Arguments, title: &Title) -> Incoming
+    requires { arguments.now.octets ≤ Limits.SIF_OCTETS }
+{
+    let table = arguments.kind.table(arguments.size);
+    let selection = selection_of(peer, arguments);
+    unitdata(title, table, selection, arguments.octets)
 }
 
 /// Messages that come, and go on or back, each confirmed by the next one.
@@ -73,17 +105,17 @@ fn forward(peer: &mut Peer, mut message: Incoming, count: u32) {
 }
 
 /// The same, a whole window at a time.
-fn burst(peer: &mut Peer, sif: &[u8], count: u32)
-    requires { length sif.now ≤ Limits.SIF_OCTETS }
-{
-    let mut message = Incoming::with_message(SIO, sif);
-    for _ in 0..count / WINDOW as u32 {
-        for _ in 0..WINDOW {
-            peer.send(&mut message);
-        }
-        for _ in 0..WINDOW {
-            peer.take();
-        }
+fn burst(peer: &mut Peer, mut message: Incoming, count: u32) {
+    for _ in 0..count as usize / peer.window().max(1) {
+        send_window(peer, &mut message);
+        peer.take_window();
+    }
+}
+
+/// A window of messages comes.
+fn send_window(peer: &mut Peer, message: &mut Incoming) {
+    for _ in 0..peer.window() {
+        peer.send(message);
     }
 }
 
@@ -101,10 +133,7 @@ fn submit(peer: &mut Peer, sif: &[u8], count: u32)
 }
 
 /// Messages that come for a user part, each acknowledged.
-fn local(peer: &mut Peer, sif: &[u8], count: u32)
-    requires { length sif.now ≤ Limits.SIF_OCTETS }
-{
-    let mut message = Incoming::with_message(SIO, sif);
+fn local(peer: &mut Peer, mut message: Incoming, count: u32) {
     for _ in 0..count {
         peer.send(&mut message);
         peer.take_frame();

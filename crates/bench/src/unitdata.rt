@@ -1,12 +1,12 @@
 //! UDTs whose called address is routed by title.
 
-ghost use Rattle.std.specs.Prelude.{◌≡◌, ◌≤◌, length};
+ghost use Rattle.std.specs.Prelude.{◌≡◌, ◌+◌, ◌/◌, ◌≤◌, length};
 ghost use Rattle.sccp_codec.specs.Addresses.{address_octets};
 ghost use Rattle.sccp_codec.specs.Values.{address_of};
 
 use crate::draft::{INTERNATIONAL, adjacent, own};
 use crate::incoming::Incoming;
-use crate::titles::{NATURE, PLAN, SUBSYSTEM, TRANSLATION};
+use crate::titles::{NATURE, PLAN, SUBSYSTEM, TRANSLATION, Table};
 use routing_label::Label;
 use sccp_codec::{Address, Field, Parts, Routing, TitleIndicator, Udt};
 use stp_types::{Limits, Sls};
@@ -29,10 +29,16 @@ const CALLING_SUBSYSTEM: u8 = 7;
 /// What stands in the data.
 const FILLING: u8 = 0xaa;
 
-/// The octets of a title with twelve digits.
-type Title = [u8; 9];
+/// Octets of a title before its digits.
+const TITLE_HEAD: usize = 3;
 
-/// A title that the first row leads: its digits are 0000 4917 2000.
+/// Digits of a title, where rows don't have as many as may be.
+const DIGITS: usize = 12;
+
+/// The octets of a title with as many digits as a row may have. The first twelve are a title, too.
+pub(crate) type Title = [u8; TITLE_HEAD + Limits::TITLE_DIGITS / 2];
+
+/// A title that the first row leads: its digits are 0000 4917 2000, and further zeros.
 pub(crate) const LED: Title = [
     TRANSLATION,
     PLAN_AND_SCHEME,
@@ -43,9 +49,19 @@ pub(crate) const LED: Title = [
     0x71,
     0x02,
     0x00,
+    0x00,
+    0x00,
+    0x00,
+    0x00,
+    0x00,
+    0x00,
+    0x00,
+    0x00,
+    0x00,
+    0x00,
 ];
 
-/// A title that no row leads: its digits are ffff 4917 2000.
+/// A title that no row leads: its digits are ffff 4917 2000, and further zeros.
 pub(crate) const ASTRAY: Title = [
     TRANSLATION,
     PLAN_AND_SCHEME,
@@ -56,44 +72,73 @@ pub(crate) const ASTRAY: Title = [
     0x71,
     0x02,
     0x00,
+    0x00,
+    0x00,
+    0x00,
+    0x00,
+    0x00,
+    0x00,
+    0x00,
+    0x00,
+    0x00,
+    0x00,
 ];
 
-/// Octets of such a message beside its data: the label, the message type, the class, three pointers, and each behind
-/// its length, the called address, the calling one and the data.
-pub(crate) const BARE_OCTETS: usize = 4 + 5 + (1 + 11) + (1 + 4) + 1;
+/// Octets of such a message beside its data and its title: the label, the message type, the class, three pointers, and
+/// each behind its length, the called address, the calling one and the data.
+const FRAME_OCTETS: usize = 4 + 5 + (1 + 2) + (1 + 4) + 1;
 
-/// A frame with a UDT of the adjacent point to this one, of so many octets from its label on.
-pub(crate) fn unitdata(title: Title, octets: usize) -> Incoming
+/// Octets of a title that these rows may lead.
+fn title_octets(table: Table) -> usize
+    ensures { result ≤ TITLE_HEAD + Limits.TITLE_DIGITS / 2 }
+{
+    match table {
+        Table::Longest => TITLE_HEAD + Limits::TITLE_DIGITS / 2,
+        _ => TITLE_HEAD + DIGITS / 2,
+    }
+}
+
+/// Octets of such a message beside its data, where there are these rows.
+pub(crate) fn bare_octets(table: Table) -> usize
+    ensures { 4 ≤ result }
+{
+    FRAME_OCTETS + title_octets(table)
+}
+
+/// A frame with a UDT of the adjacent point to this one, of this selection and so many octets from its label on. Its
+/// title has as many digits as the rows ask for.
+pub(crate) fn unitdata(title: &Title, table: Table, sls: Sls, octets: usize) -> Incoming
     requires { octets ≤ Limits.SIF_OCTETS }
 {
     let filling = [FILLING; Limits::SIF_OCTETS];
+    let title = &title[..title_octets(table)];
     let udt = Udt {
         class_octet: RETURNED_ON_ERROR,
         parts: Parts {
-            called: called(&title),
+            called: called(title),
             calling: calling(),
-            data: &filling[..octets.saturating_sub(BARE_OCTETS)],
+            data: &filling[..octets.saturating_sub(FRAME_OCTETS + title.len())],
         },
     };
     let mut field: Field = [0; Limits::SIF_OCTETS];
-    let Ok(count) = udt.write(label().write(), &mut field) else {
+    let Ok(count) = udt.write(label(sls).write(), &mut field) else {
         unreachable!()
     };
     Incoming::with_message(INTERNATIONAL << 6 | SCCP, &field[..count])
 }
 
-/// The label of a message of the adjacent point to this one.
-fn label() -> Label {
+/// The label of a message of the adjacent point to this one, of this selection.
+fn label(sls: Sls) -> Label {
     Label {
         opc: adjacent(),
         dpc: own(),
-        sls: Sls::new(0).unwrap(),
+        sls,
     }
 }
 
 /// An address of this title.
-fn called(title: &Title) -> Address<'_>
-    ensures { length (address_octets 0 (address_of result)) ≡ 11 }
+fn called(title: &[u8]) -> Address<'_>
+    ensures { length (address_octets 0 (address_of result)) ≡ 2 + length title.now }
 {
     Address {
         national: false,

@@ -1,0 +1,67 @@
+//! Nodes that are only made, before the first event.
+
+ghost use Rattle.std.specs.Prelude.{◌≤◌};
+
+use crate::draft::{Shape, draft_with};
+use crate::total::Total;
+use exchange::Exchange;
+use std::alloc::Global;
+use stp_types::{Limits, Settings};
+
+/// How far a node is made.
+#[derive(Clone, Copy)]
+pub(crate) enum Making {
+    /// Its settings are drafted.
+    Draft,
+    /// Then they are checked.
+    Check,
+    /// Then an exchange begins with them.
+    Boot,
+}
+
+/// Nodes of this shape are made so many times, one after another, each only so far. None where memory ran out.
+pub(crate) fn make(alloc: Global, making: Making, shape: &Shape, count: u32) -> Option<Total>
+    requires destinations { shape.now.destinations ≤ Limits.DESTINATIONS }
+    requires links { shape.now.links ≤ Limits.LINKS }
+{
+    for _ in 0..count {
+        make_one(alloc, making, shape)?;
+    }
+    Some(Total::NOTHING)
+}
+
+/// A node of this shape is made so far. None where memory ran out.
+fn make_one(alloc: Global, making: Making, shape: &Shape) -> Option<()>
+    requires destinations { shape.now.destinations ≤ Limits.DESTINATIONS }
+    requires links { shape.now.links ≤ Limits.LINKS }
+{
+    match making {
+        Making::Draft => {
+            draft_with(alloc, shape).ok()?;
+        }
+        Making::Check => {
+            checked(alloc, shape)?;
+        }
+        Making::Boot => {
+            booted(alloc, shape)?;
+        }
+    }
+    Some(())
+}
+
+/// The checked settings of this shape. None where memory ran out.
+fn checked(alloc: Global, shape: &Shape) -> Option<Settings>
+    requires destinations { shape.now.destinations ≤ Limits.DESTINATIONS }
+    requires links { shape.now.links ≤ Limits.LINKS }
+{
+    let draft = draft_with(alloc, shape).ok()?;
+    Settings::check(alloc, draft).ok()
+}
+
+/// The exchange with settings of this shape, before its first event. None where memory ran out.
+pub(crate) fn booted(alloc: Global, shape: &Shape) -> Option<Exchange>
+    requires destinations { shape.now.destinations ≤ Limits.DESTINATIONS }
+    requires links { shape.now.links ≤ Limits.LINKS }
+{
+    Exchange::boot(alloc, checked(alloc, shape)?).ok()
+}
