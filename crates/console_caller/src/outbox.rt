@@ -1,6 +1,6 @@
 //! What waits to be written to a caller.
 
-ghost use Rattle.std.specs.Prelude.{◌≡◌, ◌≤◌, [], drop, length, OnOk, OnErr, Some};
+ghost use Rattle.std.specs.Prelude.{◌≡◌, ◌+◌, ◌<◌, ◌≤◌, [], drop, length, IsErr, OnOk, OnErr, Some};
 ghost use Rattle.std.specs.Io.KnownBytes.{Appends};
 ghost use Rattle.stp_node.specs.Streams.{AppendsFirst, failures_after};
 
@@ -19,11 +19,15 @@ pub struct Outbox {
 }
 
 impl Model for Outbox {
+    ghost use Rattle.std.specs.Prelude.{◌≤◌, length};
     ghost use Rattle.console_caller.specs.Answers.{Waiting};
+    ghost use Rattle.console_caller.specs.declared.outbox.TheConstants.{OUTBOX_OCTETS};
 
     ghost Value = { Waiting };
 
     ghost view = { λ o. record { octets = o.octets.items; failures = o.failures } };
+
+    ghost invariant = { λ o. length o.octets.items ≤ OUTBOX_OCTETS };
 }
 
 impl Outbox {
@@ -39,7 +43,8 @@ impl Outbox {
 
     /// What waits, in the order in which it came.
     pub fn pending(&self) -> &[u8]
-        ensures { result.now ≡ self.now.octets }
+        ensures octets { result.now ≡ self.now.octets }
+        ensures bounded { length result.now ≤ OUTBOX_OCTETS }
     {
         self.octets.as_slice()
     }
@@ -61,6 +66,7 @@ impl Sink for Outbox {
         ensures first { OnErr result (AppendsFirst (Some self.old.octets) (Some self.new.octets) octets.now) }
         ensures counted { self.new.failures ≡ failures_after self.old.failures result }
         ensures none { OnErr result (self.new.octets ≡ self.old.octets) }
+        ensures full { OUTBOX_OCTETS < length self.old.octets + length octets.now → IsErr result }
     {
         let is_full = self.octets.len().saturating_add(octets.len()) > OUTBOX_OCTETS;
         if is_full || self.octets.extend_from_slice(octets).is_err() {
