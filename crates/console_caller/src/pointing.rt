@@ -1,6 +1,6 @@
 //! Point codes in three parts, in the lines of callers and in the texts that they are answered.
 
-ghost use Rattle.std.specs.Prelude.{None};
+ghost use Rattle.std.specs.Prelude.{◌≡◌, None};
 
 use crate::caller::LINE_OCTETS;
 use arrayvec::ArrayVec;
@@ -25,7 +25,9 @@ pub fn line_in_numbers<'a>(
     line: &'a [u8],
     points: PointFormat,
     room: &'a mut ArrayVec<u8, LINE_OCTETS>,
-) -> &'a [u8] {
+) -> &'a [u8]
+    ensures { points ≡ PointFormat.Plain → result.now ≡ line.now }
+{
     if points == PointFormat::Plain || !line.starts_with(b"title add ") {
         return line;
     }
