@@ -1,2 +1,4 @@
 pub mod Lines
 pub mod Answers
+pub mod Callers
+pub mod WholeLines

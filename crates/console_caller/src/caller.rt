@@ -1,5 +1,15 @@
 //! One caller.
 
+ghost use Rattle.std.specs.Prelude.{◌≡◌, ◌≢◌, ℕ, ◌+◌, ◌<◌, ◌≤◌, true, false, List, [], ◌∷◌, ◌++◌};
+ghost use Rattle.std.specs.Prelude.{length, take, drop};
+ghost use Rattle.stp_node.specs.Asking.{asked_line};
+ghost use Rattle.console_caller.specs.Lines.{heard};
+ghost use Rattle.console_caller.specs.Answers.{IsAnswered};
+ghost use Rattle.console_caller.specs.Callers.{just_came, sees_of, told_of, OnlyOutboxChanges};
+ghost use Rattle.console_caller.specs.Callers.{line_feed, without_return, EndsNoLine, IsOneLine};
+ghost use Rattle.console_caller.specs.WholeLines.{DoesHeard, ending_of, output_of};
+ghost use Rattle.console_caller.specs.declared.outbox.TheConstants.{OUTBOX_OCTETS};
+
 use crate::answering::do_script_line;
 use crate::command::{ConsoleLine, parse_console_line};
 use crate::counting::print_counters;
@@ -10,6 +20,7 @@ use arrayvec::ArrayVec;
 use exchange::Exchange;
 use link_counters::Counters;
 use std::alloc::Global;
+use std::marker::Model;
 use std::mem;
 use stp_node::{Grown, Line, Malformed, OpenLine, Sink, WriteFailed};
 use trace::PointFormat;
@@ -72,9 +83,25 @@ pub struct Caller {
     sees_frames: bool,
 }
 
+impl Model for Caller {
+    ghost use Rattle.console_caller.specs.Callers.{CallerState};
+
+    ghost Value = { CallerState };
+
+    ghost view = { λ c. record {
+      line = c.line.octets;
+      outbox = c.outbox;
+      sees_messages = c.sees_messages;
+      sees_notices = c.sees_notices;
+      sees_frames = c.sees_frames;
+    } };
+}
+
 impl Caller {
     /// A caller that just came.
-    pub fn new(alloc: Global) -> Caller {
+    pub fn new(alloc: Global) -> Caller
+        ensures { result ≡ just_came }
+    {
         Caller {
             line: OpenLine::first(),
             outbox: Outbox::new(alloc),
@@ -86,7 +113,24 @@ impl Caller {
 
     /// Takes octets that came, up to the end of the first line in them, and does it; all of them where no line ends in
     /// them. Returns how many it took, and what becomes of the caller.
-    pub fn read(&mut self, octets: &[u8], desk: &mut Desk<'_>) -> (usize, Ending) {
+    pub fn read(&mut self, octets: &[u8], desk: &mut Desk<'_>) -> (usize, Ending)
+        ensures within { result.0 ≤ length octets.now }
+        ensures one_line { IsOneLine (take result.0 octets.now) }
+        // So whoever calls it again with the octets that are left comes to their end.
+        ensures some { 0 < length octets.now → 0 < result.0 }
+        // Octets that end no line, and for which the line has room, only make it longer.
+        ensures longer { EndsNoLine octets.now → length self.old.line + length octets.now ≤ LINE_OCTETS
+            → self.new ≡ record self.old { line = self.old.line ++ octets.now } }
+        ensures stays { EndsNoLine octets.now → length self.old.line + length octets.now ≤ LINE_OCTETS
+            → result ≡ (length octets.now, Ending.Stays) }
+        ensures too_long { (front behind : List ℕ) → octets.now ≡ front ++ behind → EndsNoLine front → 0 < length front
+            → LINE_OCTETS < length self.old.line + length front → result.1 ≡ Ending.Closes }
+        // A line that comes to its end, and isn't too long, is done.
+        ensures done { (front behind : List ℕ) → octets.now ≡ front ++ line_feed ∷ behind → EndsNoLine front
+            → length self.old.line + length front ≤ LINE_OCTETS → desk.old.points ≡ PointFormat.Plain
+            → (result.0 ≡ length front + 1) × DoesHeard (heard (without_return (self.old.line ++ front))) result.1
+            desk.old.exchange.now desk.new.exchange.now (record self.old { line = [] }) self.new }
+    {
         for (k, octet) in octets.iter().enumerate() {
             match self.line.add(*octet) {
                 Grown::Open => {}
@@ -98,7 +142,10 @@ impl Caller {
     }
 
     /// Does the line that just ended, and begins the next one.
-    fn end_line(&mut self, desk: &mut Desk<'_>) -> Ending {
+    fn end_line(&mut self, desk: &mut Desk<'_>) -> Ending
+        ensures { desk.old.points ≡ PointFormat.Plain → DoesHeard (heard (without_return self.old.line)) result
+            desk.old.exchange.now desk.new.exchange.now (record self.old { line = [] }) self.new }
+    {
         let line = mem::replace(&mut self.line, OpenLine::first());
         match self.do_line(without_return(line.octets()), desk) {
             Ok(ending) => ending,
@@ -107,7 +154,10 @@ impl Caller {
     }
 
     /// Does a whole line. The error means that there is no room for its answer.
-    fn do_line(&mut self, line: &[u8], desk: &mut Desk<'_>) -> Result<Ending, WriteFailed> {
+    fn do_line(&mut self, line: &[u8], desk: &mut Desk<'_>) -> Result<Ending, WriteFailed>
+        ensures { desk.old.points ≡ PointFormat.Plain → DoesHeard (heard line.now) (ending_of result)
+            desk.old.exchange.now desk.new.exchange.now self.old self.new }
+    {
         let mut room = ArrayVec::new();
         let line = line_in_numbers(line, desk.points, &mut room);
         match parse_console_line(line) {
@@ -130,7 +180,11 @@ impl Caller {
     }
 
     /// Does a line of a script, and answers what a script prints for it.
-    fn do_script(&mut self, line: Line<'_>, desk: &mut Desk<'_>) -> Result<(), WriteFailed> {
+    fn do_script(&mut self, line: Line<'_>, desk: &mut Desk<'_>) -> Result<(), WriteFailed>
+        ensures same { OnlyOutboxChanges self.old self.new }
+        ensures answer { desk.old.points ≡ PointFormat.Plain → IsAnswered (asked_line line.entry) desk.old.exchange.now
+            result desk.new.exchange.now (output_of self.old.outbox) (output_of self.new.outbox) }
+    {
         match desk.points {
             PointFormat::Plain => do_script_line(desk.exchange, line, &mut self.outbox),
             PointFormat::ThreeEightThree => {
@@ -141,7 +195,9 @@ impl Caller {
     }
 
     /// The caller is told such news from now on.
-    fn begin(&mut self, news: News) -> Result<(), WriteFailed> {
+    fn begin(&mut self, news: News) -> Result<(), WriteFailed>
+        ensures { OnlyOutboxChanges (told_of self.old news) self.new }
+    {
         match news {
             News::Message => self.sees_messages = true,
             News::Notice => self.sees_notices = true,
@@ -151,7 +207,9 @@ impl Caller {
     }
 
     /// Whether the caller asked for such news.
-    pub fn sees(&self, news: News) -> bool {
+    pub fn sees(&self, news: News) -> bool
+        ensures { result ≡ sees_of self.now news }
+    {
         match news {
             News::Message => self.sees_messages,
             News::Notice => self.sees_notices,
@@ -160,7 +218,17 @@ impl Caller {
     }
 
     /// Tells the caller news, where it asked for such. It is to be closed where there is no room for them.
-    pub fn tell(&mut self, news: News, line: &[u8]) -> Ending {
+    pub fn tell(&mut self, news: News, line: &[u8]) -> Ending
+        ensures unasked { sees_of self.old news ≡ false → self.new ≡ self.old }
+        ensures stays { sees_of self.old news ≡ false → result ≡ Ending.Stays }
+        ensures told { sees_of self.old news ≡ true → result ≡ Ending.Stays
+            → self.new.outbox.octets ≡ self.old.outbox.octets ++ line.now }
+        ensures full { sees_of self.old news ≡ true
+            → OUTBOX_OCTETS < length self.old.outbox.octets + length line.now → result ≡ Ending.Closes }
+        ensures refused { result ≡ Ending.Closes → self.new.outbox.octets ≡ self.old.outbox.octets }
+        ensures goes_on { result ≢ Ending.Stops }
+        ensures same { OnlyOutboxChanges self.old self.new }
+    {
         if !self.sees(news) {
             return Ending::Stays;
         }
@@ -171,19 +239,27 @@ impl Caller {
     }
 
     /// What waits to be written to the caller.
-    pub fn pending(&self) -> &[u8] {
+    pub fn pending(&self) -> &[u8]
+        ensures { result.now ≡ self.now.outbox.octets }
+    {
         self.outbox.pending()
     }
 
     /// So many of the octets that wait were written, from the first on; no more can have been than wait.
-    pub fn written(&mut self, count: usize) {
+    pub fn written(&mut self, count: usize)
+        ensures { self.new ≡ record self.old {
+          outbox = record self.old.outbox { octets = drop count self.old.outbox.octets };
+        } }
+    {
         let waiting = self.outbox.pending().len();
         self.outbox.written(count.min(waiting));
     }
 }
 
 /// A line without the carriage return at its end, where it has one.
-fn without_return(line: &[u8]) -> &[u8] {
+fn without_return(line: &[u8]) -> &[u8]
+    ensures { result.now ≡ without_return line.now }
+{
     match line {
         [front @ .., CARRIAGE_RETURN] => front,
         _ => line,
