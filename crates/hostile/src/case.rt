@@ -6,7 +6,7 @@ use exchange::{FailureReason, Limits, LinkId, LinkStanding, Notice, Outcome, Wan
 use link_number::Number24;
 
 /// A frame that was handed in, with what the node showed before and behind it.
-#[derive(Clone, Copy)]
+#[derive(Drop)]
 pub(crate) struct Case<'a> {
     /// The link that it came on.
     pub link: LinkId,
@@ -20,6 +20,20 @@ pub(crate) struct Case<'a> {
     pub outcome: Outcome,
     /// What the node showed behind it.
     pub after: Shown,
+}
+
+impl<'a> Case<'a> {
+    /// The same frame with another outcome, behind which the node shows this.
+    pub(crate) fn spoiled(&self, outcome: Outcome, after: Shown) -> Case<'a> {
+        Case {
+            link: self.link,
+            octets: self.octets,
+            confirmed: self.confirmed,
+            before: self.before,
+            outcome,
+            after,
+        }
+    }
 }
 
 impl Case<'_> {

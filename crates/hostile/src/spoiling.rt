@@ -18,24 +18,27 @@ pub(crate) fn is_told_apart(case: &Case<'_>) -> bool {
 /// The case, but refused with a cause with which no frame is, and that is noted.
 fn refused<'a>(case: &Case<'a>) -> Case<'a> {
     let cause = Cause::NoMemory;
-    let mut spoiled = *case;
-    spoiled.outcome = Outcome::Refused(cause);
-    let last = case.after.notice_count().saturating_sub(1);
-    if let Some(notice) = spoiled.after.notices.get_mut(last) {
+    let mut after = case.after;
+    let last = after.notice_count().saturating_sub(1);
+    if let Some(notice) = after.notices.get_mut(last) {
         *notice = Some(Notice::Refused(cause, case.link));
     }
-    spoiled
+    case.spoiled(Outcome::Refused(cause), after)
 }
 
 /// The case, but with an outcome of another way than the frame goes; or, where it is refused, without its notices.
 fn of_another_way<'a>(case: &Case<'a>) -> Case<'a> {
-    let mut spoiled = *case;
-    match case.outcome {
-        Outcome::Handled | Outcome::Ignored => spoiled.outcome = Outcome::Local,
-        Outcome::Local | Outcome::Queued(_) | Outcome::Held => spoiled.outcome = Outcome::Handled,
-        Outcome::Refused(_) => spoiled.after.notices = [None; Limits::NOTICES],
-    }
-    spoiled
+    let mut after = case.after;
+    let outcome = match case.outcome {
+        Outcome::Handled | Outcome::Ignored => Outcome::Local,
+        Outcome::Local | Outcome::Queued(_) | Outcome::Held => Outcome::Handled,
+        Outcome::Refused(cause) => {
+            let none = [None; Limits::NOTICES];
+            after.notices = none;
+            Outcome::Refused(cause)
+        }
+    };
+    case.spoiled(outcome, after)
 }
 
 /// The case, but each link accepted one number more.
@@ -64,18 +67,18 @@ fn with_too_many_waiting<'a>(case: &Case<'a>) -> Case<'a> {
 fn with_links<'a, F: Fn(LinkView) -> LinkView>(case: &Case<'a>, other: F) -> Case<'a>
     requires { F.IsAlwaysCallable other }
 {
-    let [a, b, c, d] = case.after.links;
-    let mut spoiled = *case;
-    spoiled.after = Shown {
+    let shown = case.after;
+    let [a, b, c, d] = shown.links;
+    let after = Shown {
         links: [
             shown_as(a, &other),
             shown_as(b, &other),
             shown_as(c, &other),
             shown_as(d, &other),
         ],
-        ..case.after
+        ..shown
     };
-    spoiled
+    case.spoiled(case.outcome, after)
 }
 
 /// A link that is shown in another way, where it is there.
