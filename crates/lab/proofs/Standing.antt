@@ -84,5 +84,5 @@ carries-stands from to Lost k t m u a b old new s r h = record {
   far = after whole (WentDown to) b;
   near_stands = stands-by _ t _ h.2 (stands-after (WentDown from) (taken kept k from) (taken whole a from) (stands-taken from k a s));
   far_stands = stands-by _ u _ h.3 (stands-after (WentDown to) m b r);
-  carries = (h.0, sym (text-stands from k a s) ∙ h.1, refl, refl, h.4, h.5);
+  carries = (h.0, sym (text-stands from k a s) ∙ h.1, refl, refl, h.4);
 }

@@ -1,2 +1,4 @@
 pub mod Faults
+pub mod Memory
 pub mod Carrying
+pub mod Script

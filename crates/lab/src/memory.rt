@@ -1,11 +1,14 @@
 //! Links over streams in memory, which can be set to give few octets a read, and to fail at one call.
 
+ghost use Rattle.std.specs.Prelude.{◌≡◌, max, IfOk, IfErr};
+
 use crate::joining::{JoinFault, Joiner};
 use std::alloc::{AllocError, AllocFailed, Global};
 use std::cell::{Cell, RefCell};
 use std::collections::VecDeque;
 use std::io;
 use std::io::{ErrorKind, Read, Write};
+use std::marker::Model;
 use std::rc::Rc;
 
 /// Octets on their way in one direction.
@@ -19,31 +22,60 @@ type Plan = Rc<Cell<Option<u64>>>;
 pub struct MemoryJoiner {
     alloc: Global,
     most: usize,
+    fault: JoinFault,
     plan: Plan,
+}
+
+impl Model for MemoryJoiner {
+    ghost use Rattle.lab.specs.Memory.{MemoryLinks};
+
+    ghost Value = { MemoryLinks };
+
+    ghost view = { λ j. record { most = j.most; fault = j.fault } };
 }
 
 impl MemoryJoiner {
     /// The joiner whose streams give as many octets a read as the buffer holds.
-    pub fn new(alloc: Global) -> Result<MemoryJoiner, AllocFailed<Cell<Option<u64>>>> {
+    pub fn new(alloc: Global) -> Result<MemoryJoiner, AllocFailed<Cell<Option<u64>>>>
+        ensures { IfOk result (λ joiner. joiner ≡ record { most = usize.MAX; fault = JoinFault.Connect }) }
+    {
         let plan = Rc::new(alloc, Cell::new(None))?;
         Ok(MemoryJoiner {
             alloc,
             most: usize::MAX,
+            fault: JoinFault::Connect,
             plan,
         })
     }
 
     /// The same, but with at most so many octets a read, and at least one.
-    pub fn in_pieces_of(self, most: usize) -> MemoryJoiner {
+    pub fn in_pieces_of(self, most: usize) -> MemoryJoiner
+        ensures { result ≡ record self { most = max most 1 } }
+    {
         MemoryJoiner {
             alloc: self.alloc,
             most: most.max(1),
+            fault: self.fault,
+            plan: self.plan,
+        }
+    }
+
+    /// The same, but a join that fails fails by this fault.
+    pub fn with_fault(self, fault: JoinFault) -> MemoryJoiner
+        ensures { result ≡ record self { fault = fault } }
+    {
+        MemoryJoiner {
+            alloc: self.alloc,
+            most: self.most,
+            fault,
             plan: self.plan,
         }
     }
 
     /// The same, but the call after so many more fails, whether it joins, reads or writes.
-    pub fn failing_after(self, calls: u64) -> MemoryJoiner {
+    pub fn failing_after(self, calls: u64) -> MemoryJoiner
+        ensures { result ≡ self }
+    {
         self.plan.set(Some(calls));
         self
     }
@@ -69,13 +101,16 @@ impl MemoryJoiner {
 impl Joiner for MemoryJoiner {
     type Stream = MemoryStream;
 
-    fn join(&mut self) -> Result<(MemoryStream, MemoryStream), JoinFault> {
+    fn join(&mut self) -> Result<(MemoryStream, MemoryStream), JoinFault>
+        ensures fault { IfErr result (λ fault. fault ≡ self.old.fault) }
+        ensures state { self.new ≡ self.old }
+    {
         if is_planned(&self.plan) {
-            return Err(JoinFault::Connect);
+            return Err(self.fault);
         }
         match self.streams() {
             Ok(streams) => Ok(streams),
-            Err(_) => Err(JoinFault::Connect),
+            Err(_) => Err(self.fault),
         }
     }
 }

@@ -1,9 +1,11 @@
 //! Running a lab script, octet by octet.
 
-ghost use Rattle.std.specs.Prelude.{◌≡◌, ◌+◌, ◌≤◌, ◌<◌, ◌^◌, length};
+ghost use Rattle.std.specs.Prelude.{◌≡◌, ◌+◌, ◌≤◌, ◌<◌, ◌^◌, length, OnOk};
+ghost use Rattle.std.specs.Io.KnownBytes.{IsAtEnd};
 ghost use Rattle.stp_types.specs.Facing.{IsFacing};
 ghost use Rattle.stp_node.specs.Faults.{MakesReads, reads_failed, writes_failed, EndsAtLine};
 ghost use Rattle.stp_types.specs.Naming.{link_names};
+ghost use Rattle.lab.specs.Script.{ReadsOn};
 
 use crate::circuit::{Circuit, closed_circuits};
 use crate::doing::{do_asked, node_at};
@@ -11,6 +13,7 @@ use crate::joining::Joiner;
 use crate::line::parse_lab_line;
 use exchange::Exchange;
 use std::alloc::Global;
+use std::marker::Model;
 use stp_node::{Grown, Lab, Malformed, OpenLine, READS, ScriptFault, Sink, Source, print};
 
 /// Octets that one read asks for.
@@ -22,9 +25,17 @@ pub struct JoinedLab<J> {
     joiner: J,
 }
 
+impl<J> Model for JoinedLab<J> {
+    ghost Value = { J };
+
+    ghost view = { λ l. l.joiner };
+}
+
 impl<J: Joiner> JoinedLab<J> {
     /// The lab whose links this joins.
-    pub fn new(joiner: J) -> JoinedLab<J> {
+    pub fn new(joiner: J) -> JoinedLab<J>
+        ensures { result ≡ joiner }
+    {
         JoinedLab { joiner }
     }
 }
@@ -45,8 +56,8 @@ impl<J: Joiner> Lab for JoinedLab<J> {
 /// Does the lines of a lab script, in order, and prints the outcome of each, one line per line. The exchanges face each
 /// other, and name their links alike.
 ///
-/// Lines are read, and faults end the script, as `run_script` has them. Memory is taken before the first line alone:
-/// `NoMemory` where it is refused.
+/// Lines are read, and faults end the script, as `run_script` has them: it ends well only where its end was found.
+/// Memory is taken before the first line alone: `NoMemory` where it is refused.
 pub fn run_lab<J: Joiner, R: Source, W: Sink>(
     alloc: Global,
     near: &mut Exchange,
@@ -57,6 +68,8 @@ pub fn run_lab<J: Joiner, R: Source, W: Sink>(
 ) -> Result<(), ScriptFault>
     requires facing { IsFacing near.old.settings far.old.settings }
     requires alike { link_names near.old.settings ≡ link_names far.old.settings }
+    ensures end { OnOk result (IsAtEnd (R.input reader.new).remaining) }
+    ensures many { ReadsOn result (R.input reader.old).remaining (R.input reader.new).remaining }
     ensures bounded { MakesReads result (R.input reader.old).reads (R.input reader.new).reads }
     ensures reads { (R.input reader.new).failures ≡ reads_failed (R.input reader.old).failures result }
     ensures writes { (W.output writer.new).failures ≡ writes_failed (W.output writer.old).failures result }
@@ -76,6 +89,8 @@ fn run_pieces<J: Joiner, R: Source, W: Sink>(
     reader: &mut R,
     writer: &mut W,
 ) -> Result<(), ScriptFault>
+    ensures end { OnOk result (IsAtEnd (R.input reader.new).remaining) }
+    ensures many { ReadsOn result (R.input reader.old).remaining (R.input reader.new).remaining }
     ensures bounded { MakesReads result (R.input reader.old).reads (R.input reader.new).reads }
     ensures reads { (R.input reader.new).failures ≡ reads_failed (R.input reader.old).failures result }
     ensures writes { (W.output writer.new).failures ≡ writes_failed (W.output writer.old).failures result }

@@ -1,4 +1,5 @@
 use Rattle.std.proofs.Common.{◌≡◌, ◌+◌, ◌*◌, ◌-◌, ◌^◌, ◌≤◌, min}
+use Rattle.lab.specs.Script.{ReadsAtLeast}
 use Rattle.lab.proofs.run.run_pieces.Given as goal
 
 abbrev pub invariant-loop : goal.invariant-loop
@@ -7,5 +8,6 @@ invariant-loop g l = record {
   most : (g.R.Source.input l.reader).reads ≤ (g.R.Source.input l.fn.reader).reads + l.counter;
   least : min ((g.R.Source.input l.fn.reader).reads + l.counter) (2 ^ 64 - 1) ≤ (g.R.Source.input l.reader).reads;
   reads : (g.R.Source.input l.reader).failures ≡ (g.R.Source.input l.fn.reader).failures;
+  many : ReadsAtLeast l.counter (g.R.Source.input l.fn.reader).remaining (g.R.Source.input l.reader).remaining;
   writes : (g.W.Sink.output l.writer).failures ≡ (g.W.Sink.output l.fn.writer).failures;
 }
