@@ -4,7 +4,7 @@ use super::facing::node;
 use super::streams::Endless;
 use super::{compare, end_of, joiner};
 use exchange::Exchange;
-use lab::{MemoryJoiner, run_lab};
+use lab::{JoinFault, MemoryJoiner, run_lab};
 use std::alloc::Global;
 use std::process::Abort;
 use std::test::*;
@@ -121,17 +121,35 @@ fn printed_of(calls: u64) -> &'static str {
 #[test]
 fn each_call_of_the_streams_failing_in_turn(rt: HostRuntime) -> Result<(), Fail> {
     for calls in 0..=CALLS {
-        let mut joiner = joiner(&rt, rt.alloc()).failing_after(calls);
-        expect(
-            &rt,
-            rt.alloc(),
-            &mut joiner,
-            OPENS,
-            printed_of(calls),
-            Ok(()),
-        )?;
+        expect_failing_call(&rt, rt.alloc(), JoinFault::Connect, calls)?;
     }
     Ok(())
+}
+
+#[test]
+fn each_fault_of_a_join(rt: HostRuntime) -> Result<(), Fail> {
+    for fault in [JoinFault::Listen, JoinFault::Connect, JoinFault::Accept] {
+        expect_failing_call(&rt, rt.alloc(), fault, 0)?;
+    }
+    Ok(())
+}
+
+/// A call of the streams that fails after so many others; where it joins them, by this fault.
+fn expect_failing_call<T: Abort>(
+    rt: &T,
+    alloc: Global,
+    fault: JoinFault,
+    calls: u64,
+) -> Result<(), Fail> {
+    let joiner = joiner(rt, alloc).with_fault(fault);
+    expect(
+        rt,
+        alloc,
+        &mut joiner.failing_after(calls),
+        OPENS,
+        printed_of(calls),
+        Ok(()),
+    )
 }
 
 /// A lab script of three lines, in pieces of one octet.
