@@ -3,7 +3,7 @@
 ghost use Rattle.std.specs.Prelude.{◌<◌};
 
 use super::messages::{ISUP, counts, push};
-use cell_pool::{Lanes, RingLanes};
+use cell_pool::{CellPool, Lanes, RingLanes};
 use link_number::Number24;
 use link_sequence::{SeqFault, Sequence};
 use signalling_types::Limits;
@@ -128,7 +128,7 @@ fn fills_window<L: Lanes>(lanes: &mut L, sequence: &mut Sequence) -> bool {
 fn the_largest_window_wraps(rt: HostRuntime) -> Result<(), Fail> {
     assert!(rt;
         fills_window(
-            &mut RingLanes::new(rt.alloc(), 1, Limits::WINDOW + 1)?,
+            &mut CellPool::new(rt.alloc(), 1, Limits::WINDOW + 1)?,
             &mut Sequence::starting_at(number(16_777_214))
         )
     );
