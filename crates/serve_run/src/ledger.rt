@@ -75,7 +75,7 @@ impl Ledger {
 
     /// A message with this signalling information field came for this point.
     fn note_local(&mut self, sif: &[u8]) {
-        if let [_, _, _, label, n3, n2, n1, n0] = *sif {
+        if let [_, _, _, label, n3, n2, n1, n0, ..] = *sif {
             let number = u32::from_be_bytes([n3, n2, n1, n0]);
             self.note_message(usize::from(label / 16), number);
         }

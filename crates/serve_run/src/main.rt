@@ -1,18 +1,33 @@
-//! Two nodes on sockets of this machine, which send each other messages while their connections are cut.
+//! Two nodes on sockets of this machine, which send each other messages while their connections are cut, and while
+//! hostile peers are connected.
 //!
 //! Each submits 22,000 messages of 16 flows, and fifty times one of the ends cuts a connection in the middle of them.
 //! It prints whether each message came once and each flow in order, how many changeovers and changebacks there were,
-//! and whether the counters of both ends agree. Ticks pass where nothing else happens, so that a run doesn't depend
-//! on time.
+//! and whether the counters of both ends agree. Then a node with one link more meets peers that do harm. Ticks pass
+//! where nothing else happens, so that a run doesn't depend on time.
+//!
+//! `serve_run send PORT COUNT` and `serve_run receive PORT COUNT`, beside each other, measure how long messages take
+//! from one process to another.
 #![tactic(auto)]
 
+mod deaf_peer;
+mod gate_log;
+mod hostile_peers;
 mod ledger;
+mod measured;
+mod meeting;
 mod node_settings;
+mod opening;
 mod pair;
-mod quiet;
+mod station;
+mod stranger;
+mod task;
 
-use pair::{End, LINKS, Pair};
-use std::io;
+use hostile_peers::meet_hostile_peers;
+use pair::{End, Pair};
+use station::LINKS;
+use std::{env, io};
+use task::Task;
 
 /// How often a connection is cut.
 const CUTS: u32 = 50;
@@ -27,23 +42,45 @@ const MESSAGES_BEFORE: u32 = 2000;
 const BURST: u32 = 200;
 
 fn main(rt: HostRuntime) -> io::Result<()> {
-    let Some(mut pair) = Pair::open(&rt) else {
+    let words = words(&rt)?;
+    match Task::read(words.as_slice()) {
+        Some(Task::Join) => {
+            cut_connections(&rt)?;
+            meet_hostile_peers(&rt)
+        }
+        Some(Task::Send(traffic)) => measured::send(&rt, traffic),
+        Some(Task::Receive(traffic)) => measured::receive(&rt, traffic),
+        None => println!(rt;
+            "usage: serve_run, or serve_run send PORT COUNT, or serve_run receive PORT COUNT"
+        ),
+    }
+}
+
+/// The words behind the program's name.
+fn words(rt: &HostRuntime) -> io::Result<Vec<String>> {
+    let words = env::args(rt)?.skip(1).collect(rt.alloc())?;
+    Ok(words)
+}
+
+/// Two nodes send each other messages while their connections are cut.
+fn cut_connections(rt: &HostRuntime) -> io::Result<()> {
+    let Some(mut pair) = Pair::open(rt) else {
         return println!(rt; "the servers can't be opened");
     };
-    pair.rest(&rt)?;
+    pair.rest(rt)?;
     for _ in 0..MESSAGES_BEFORE / BURST {
         pair.submit(BURST);
-        pair.rest(&rt)?;
+        pair.rest(rt)?;
     }
-    report(&rt, &pair)?;
+    report(rt, &pair)?;
     let agree = pair.counters_agree();
     println!(rt; "frames and octets out of each end are those into the other: {agree}")?;
     for cut in 0..CUTS {
-        cut_among_messages(&rt, &mut pair, cut)?;
+        cut_among_messages(rt, &mut pair, cut)?;
     }
     println!(rt; "{CUTS} cuts")?;
-    report(&rt, &pair)?;
-    report_procedures(&rt, &pair)
+    report(rt, &pair)?;
+    report_procedures(rt, &pair)
 }
 
 /// One of the ends cuts a connection in the middle of messages; then all is brought to rest, with all links in service.
@@ -59,9 +96,9 @@ fn cut_among_messages(rt: &HostRuntime, pair: &mut Pair, cut: u32) -> io::Result
 
 /// Prints what became of the messages.
 fn report(rt: &HostRuntime, pair: &Pair) -> io::Result<()> {
-    let submitted = pair.submitted();
-    let right = pair.each_once_in_order();
-    let (near, far) = pair.delivered();
+    let (submitted, by_far) = pair.accepted();
+    let right = pair.each_once_in_order() && submitted == by_far;
+    let (near, far) = (pair.near().delivered(), pair.far().delivered());
     let (lost, late) = pair.flags();
     println!(rt; "{submitted} messages each way: each once and in order: {right}")?;
     println!(rt; "delivered by the counters: {near} at point 1, {far} at point 2")?;
@@ -70,10 +107,11 @@ fn report(rt: &HostRuntime, pair: &Pair) -> io::Result<()> {
 
 /// Prints how many procedures there were.
 fn report_procedures(rt: &HostRuntime, pair: &Pair) -> io::Result<()> {
-    let (near, far) = pair.failures();
+    let (near, far) = (pair.near().failures(), pair.far().failures());
     println!(rt; "failures of links: {near} at point 1, {far} at point 2")?;
-    let (near, far) = pair.changeovers();
-    println!(rt; "changeover orders: {near} to point 1, {far} to point 2")?;
-    let (near, far) = pair.changebacks();
-    println!(rt; "changeback declarations: {near} to point 1, {far} to point 2")
+    let (near, far) = (pair.near().came(), pair.far().came());
+    let (to_near, to_far) = (near.changeovers(), far.changeovers());
+    println!(rt; "changeover orders: {to_near} to point 1, {to_far} to point 2")?;
+    let (to_near, to_far) = (near.changebacks(), far.changebacks());
+    println!(rt; "changeback declarations: {to_near} to point 1, {to_far} to point 2")
 }

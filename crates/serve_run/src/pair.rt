@@ -1,21 +1,12 @@
 //! Two servers that are joined by connections of this machine with itself.
 
-use crate::ledger::{FLOWS, Ledger};
-use crate::node_settings::{INTERNATIONAL, ISUP, POINT_ONE, POINT_TWO, node_settings};
-use crate::quiet::Quiet;
-use exchange::{Event, Exchange, Label, LinkStanding};
+use crate::opening::{connecting, listening, listening_to_strangers, strangers_link};
+use crate::station::{LINKS, Station};
+use exchange::LinkStanding;
 use link_counters::LinkCounters;
-use serve_settings::Endpoint;
-use std::alloc::Global;
 use std::io;
-use std::net::{Ipv4Addr, SocketAddr};
 use std::time::Duration;
-use stp_server::{Places, Server};
-use stp_types::{LinkId, Msu, Outcome, PointCode, Sls};
-use trace::PointFormat;
-
-/// Links between the two.
-pub const LINKS: u8 = 3;
+use stp_types::LinkId;
 
 /// Rounds in which nothing happens, after which a tick passes.
 const STILL_ROUNDS: u32 = 3;
@@ -23,50 +14,66 @@ const STILL_ROUNDS: u32 = 3;
 /// Rounds until all is at rest, at most.
 const MOST_ROUNDS: u32 = 100_000;
 
+/// Ticks until all is at rest, at most.
+const MOST_TICKS: u32 = 10_000;
+
 /// How long a server waits in a round for something to happen, in milliseconds.
 const WAIT_MS: u64 = 1;
 
 /// An end of the links.
 #[derive(Clone, Copy, PartialEq, Eq)]
-pub enum End {
+pub(crate) enum End {
     /// The node of point 1, which listens.
     Near,
     /// The node of point 2, which connects.
     Far,
 }
 
-/// The two servers, what came to each, and how many messages each submitted of each flow.
+/// The two servers.
 #[derive(Drop)]
-pub struct Pair {
-    near: Server,
-    far: Server,
-    at_near: Ledger,
-    at_far: Ledger,
-    submitted: [u32; FLOWS],
-    refused: u64,
-    next_flow: u8,
+pub(crate) struct Pair {
+    near: Station,
+    far: Station,
     ticks: u64,
 }
 
 impl Pair {
     /// Two servers whose links are to come into service. None where a socket or memory can't be had.
-    pub fn open(rt: &HostRuntime) -> Option<Pair> {
-        let near = listening(rt)?;
-        let far = connecting(rt, &near)?;
-        Some(Pair::of(near, far))
+    pub(crate) fn open(rt: &HostRuntime) -> Option<Pair> {
+        Pair::with_near(rt, listening(rt)?)
     }
 
-    /// These two servers, before the first message.
-    fn of(near: Server, far: Server) -> Pair {
-        Pair {
+    /// The same, where the first one listens for strangers too, at a link of its own.
+    pub(crate) fn open_to_strangers(rt: &HostRuntime) -> Option<Pair> {
+        Pair::with_near(rt, listening_to_strangers(rt)?)
+    }
+
+    /// This server, and one that connects to it.
+    fn with_near(rt: &HostRuntime, near: Station) -> Option<Pair> {
+        let far = connecting(rt, &near)?;
+        Some(Pair {
             near,
             far,
-            at_near: Ledger::new(),
-            at_far: Ledger::new(),
-            submitted: [0; FLOWS],
-            refused: 0,
-            next_flow: 0,
             ticks: 0,
+        })
+    }
+
+    /// The server that listens.
+    pub(crate) fn near(&self) -> &Station {
+        &self.near
+    }
+
+    /// The server that connects.
+    pub(crate) fn far(&self) -> &Station {
+        &self.far
+    }
+
+    /// The server at an end, to submit by, and how long after the start it is.
+    pub(crate) fn end(&mut self, end: End) -> (&mut Station, Duration) {
+        let now = self.now();
+        match end {
+            End::Near => (&mut self.near, now),
+            End::Far => (&mut self.far, now),
         }
     }
 
@@ -76,126 +83,155 @@ impl Pair {
     }
 
     /// Each end submits so many messages, one of each flow in turn.
-    pub fn submit(&mut self, count: u32) {
-        for _ in 0..count {
-            let flow = self.next_flow;
-            let next = flow.wrapping_add(1);
-            self.next_flow = if usize::from(next) < FLOWS { next } else { 0 };
-            self.submit_of(flow);
-        }
-    }
-
-    /// Each end submits the next message of a flow.
-    fn submit_of(&mut self, flow: u8) {
-        let Some(count) = self.submitted.get_mut(usize::from(flow)) else {
-            return;
-        };
-        let number = *count;
-        *count = number.saturating_add(1);
+    pub(crate) fn submit(&mut self, count: u32) {
         let now = self.now();
-        let near = message_of(flow, number, POINT_ONE, POINT_TWO);
-        let far = message_of(flow, number, POINT_TWO, POINT_ONE);
-        let near_took = submit_to(&mut self.near, near, now);
-        let far_took = submit_to(&mut self.far, far, now);
-        if !near_took || !far_took {
-            self.refused = self.refused.saturating_add(1);
+        for _ in 0..count {
+            self.near.submit(now);
+            self.far.submit(now);
         }
     }
 
     /// One round of each server.
-    pub fn round(&mut self, rt: &HostRuntime) -> io::Result<()> {
+    pub(crate) fn round(&mut self, rt: &HostRuntime) -> io::Result<()> {
         let now = self.now();
-        self.near.wait(now, Duration::from_millis(WAIT_MS))?;
-        self.near.turn(rt, now, &mut Quiet, &mut self.at_near);
-        self.far.wait(now, Duration::from_millis(WAIT_MS))?;
-        self.far.turn(rt, now, &mut Quiet, &mut self.at_far);
-        Ok(())
+        round_of(rt, &mut self.near, now)?;
+        round_of(rt, &mut self.far, now)
     }
 
     /// A tick passes at both ends.
-    fn tick(&mut self) {
+    pub(crate) fn tick(&mut self) {
         self.ticks = self.ticks.saturating_add(1);
         let now = self.now();
-        self.near.tick(1, now, &mut Quiet);
-        self.far.tick(1, now, &mut Quiet);
+        self.near.tick(1, now);
+        self.far.tick(1, now);
     }
 
-    /// Round after round, until all links are in service and no message waits. A tick passes after some rounds in
-    /// which no frame moved.
-    pub fn rest(&mut self, rt: &HostRuntime) -> io::Result<()> {
+    /// Round after round, until no frame moved in some.
+    fn calm(&mut self, rt: &HostRuntime) -> io::Result<()> {
         let mut still = 0;
         for _ in 0..MOST_ROUNDS {
             let before = self.frames();
             self.round(rt)?;
             if self.frames() != before {
                 still = 0;
-                continue;
-            }
-            if still < STILL_ROUNDS {
+            } else if still < STILL_ROUNDS {
                 still += 1;
-                continue;
-            }
-            if is_at_rest(self.near.exchange()) && is_at_rest(self.far.exchange()) {
+            } else {
                 return Ok(());
             }
-            self.tick();
-            still = 0;
         }
         Ok(())
     }
 
-    /// How many frames came and went, at both ends.
+    /// Round after round, until the links between the two are in service and all messages came. A tick passes after
+    /// some rounds in which no frame moved.
+    pub(crate) fn rest(&mut self, rt: &HostRuntime) -> io::Result<()> {
+        for _ in 0..MOST_TICKS {
+            self.calm(rt)?;
+            if self.is_at_rest() {
+                return Ok(());
+            }
+            self.tick();
+        }
+        Ok(())
+    }
+
+    /// The same, but no tick passes.
+    pub(crate) fn settle(&mut self, rt: &HostRuntime) -> io::Result<()> {
+        for _ in 0..MOST_ROUNDS {
+            self.round(rt)?;
+            if self.is_at_rest() {
+                return Ok(());
+            }
+        }
+        Ok(())
+    }
+
+    /// Whether the links between the two are in service, no message waits on them, and all that were taken came: one
+    /// whose flow is held waits on no link.
+    fn is_at_rest(&self) -> bool {
+        self.near.is_at_rest() && self.far.is_at_rest() && self.all_came()
+    }
+
+    /// Whether as many messages came to each end as the other one took.
+    fn all_came(&self) -> bool {
+        self.near.came().came() >= self.far.accepted()
+            && self.far.came().came() >= self.near.accepted()
+    }
+
+    /// How many frames came and went between the two.
     fn frames(&self) -> u64 {
-        frames_of(&self.near).saturating_add(frames_of(&self.far))
+        self.near.frames().saturating_add(self.far.frames())
     }
 
     /// An end cuts the connection of a link, and the other end comes to know it.
-    pub fn cut(&mut self, rt: &HostRuntime, end: End, link: u8) -> io::Result<()> {
+    pub(crate) fn cut(&mut self, rt: &HostRuntime, end: End, link: u8) -> io::Result<()> {
         let now = self.now();
         let link = LinkId::new(link);
         match end {
             End::Near => {
-                self.near.cut(link, now, &mut Quiet);
-                await_down(rt, &mut self.far, &mut self.at_far, link, now)
+                self.near.cut(link, now);
+                await_down(rt, &mut self.far, link, now)
             }
             End::Far => {
-                self.far.cut(link, now, &mut Quiet);
-                await_down(rt, &mut self.near, &mut self.at_near, link, now)
+                self.far.cut(link, now);
+                await_down(rt, &mut self.near, link, now)
             }
         }
     }
 
-    /// Whether each message came to the other end once, and each flow in order.
-    pub fn each_once_in_order(&self) -> bool {
-        let sent = self
-            .submitted
-            .iter()
-            .fold(0u64, |sum, count| sum.saturating_add(u64::from(*count)));
-        [&self.at_near, &self.at_far]
-            .iter()
-            .all(|ledger| ledger.wrong() == 0 && ledger.came() == sent)
-            && self.refused == 0
+    /// Round after round, until the link of strangers stands so.
+    pub(crate) fn await_standing(
+        &mut self,
+        rt: &HostRuntime,
+        standing: LinkStanding,
+    ) -> io::Result<()> {
+        for _ in 0..MOST_ROUNDS {
+            if self.strangers_standing() == standing {
+                return Ok(());
+            }
+            self.round(rt)?;
+        }
+        Ok(())
     }
 
-    /// How many messages each end submitted.
-    pub fn submitted(&self) -> u64 {
-        self.submitted
-            .iter()
-            .fold(0, |sum, count| sum.saturating_add(u64::from(*count)))
+    /// Round after round, until the first server refused so many connections since its start.
+    pub(crate) fn await_refusals(&mut self, rt: &HostRuntime, count: u64) -> io::Result<()> {
+        for _ in 0..MOST_ROUNDS {
+            if self.near.log().refused >= count {
+                return Ok(());
+            }
+            self.round(rt)?;
+        }
+        Ok(())
     }
 
-    /// How many changeover orders came to each end.
-    pub fn changeovers(&self) -> (u64, u64) {
-        (self.at_near.changeovers(), self.at_far.changeovers())
+    /// Where the link of strangers stands.
+    pub(crate) fn strangers_standing(&self) -> LinkStanding {
+        self.near.standing(strangers_link())
     }
 
-    /// How many changeback declarations came to each end.
-    pub fn changebacks(&self) -> (u64, u64) {
-        (self.at_near.changebacks(), self.at_far.changebacks())
+    /// Whether the link of strangers is in use.
+    pub(crate) fn has_stranger(&self) -> bool {
+        self.strangers_standing() != LinkStanding::Down
+    }
+
+    /// How many messages each end had taken.
+    pub(crate) fn accepted(&self) -> (u64, u64) {
+        (self.near.accepted(), self.far.accepted())
+    }
+
+    /// Whether each message that was taken came to the other end once, and each flow in order.
+    pub(crate) fn each_once_in_order(&self) -> bool {
+        let (near, far) = (self.near.came(), self.far.came());
+        near.wrong() == 0
+            && far.wrong() == 0
+            && near.came() == self.far.accepted()
+            && far.came() == self.near.accepted()
     }
 
     /// Whether a node says that a message may be lost, and whether one says that a flow may be out of order.
-    pub fn flags(&self) -> (bool, bool) {
+    pub(crate) fn flags(&self) -> (bool, bool) {
         let (near, far) = (self.near.exchange(), self.far.exchange());
         (
             near.lost_any() || far.lost_any(),
@@ -204,25 +240,14 @@ impl Pair {
     }
 
     /// Whether on each link as many frames and octets went out at one end as came in at the other.
-    pub fn counters_agree(&self) -> bool {
+    pub(crate) fn counters_agree(&self) -> bool {
         (0..LINKS).all(|link| {
-            let near = self.near.counters().row(LinkId::new(link));
-            let far = self.far.counters().row(LinkId::new(link));
-            match (near, far) {
+            let link = LinkId::new(link);
+            match (self.near.row(link), self.far.row(link)) {
                 (Some(near), Some(far)) => agree(near, far) && agree(far, near),
                 _ => false,
             }
         })
-    }
-
-    /// How many messages the counters of each end say that it delivered.
-    pub fn delivered(&self) -> (u64, u64) {
-        (delivered_by(&self.near), delivered_by(&self.far))
-    }
-
-    /// How many failures of links the counters of each end have.
-    pub fn failures(&self) -> (u64, u64) {
-        (failures_of(&self.near), failures_of(&self.far))
     }
 }
 
@@ -231,141 +256,25 @@ fn agree(from: &LinkCounters, to: &LinkCounters) -> bool {
     from.frames_out == to.frames_in && from.octets_out == to.octets_in
 }
 
-/// A sum over the counters of the links of a server.
-fn sum_of<F: Fn(&LinkCounters) -> u64>(server: &Server, value: F) -> u64
-    requires { F.IsAlwaysCallable value }
-{
-    let mut sum = 0u64;
-    for link in 0..LINKS {
-        if let Some(row) = server.counters().row(LinkId::new(link)) {
-            sum = sum.saturating_add(value(row));
-        }
-    }
-    sum
-}
-
-/// How many frames came and went at a server.
-fn frames_of(server: &Server) -> u64 {
-    sum_of(server, |row| row.frames_in.saturating_add(row.frames_out))
-}
-
-/// How many messages a server delivered.
-fn delivered_by(server: &Server) -> u64 {
-    sum_of(server, |row| row.delivered)
-}
-
-/// How many failures the links of a server had.
-fn failures_of(server: &Server) -> u64 {
-    sum_of(server, |row| {
-        row.failed
-            .iter()
-            .fold(0, |sum, count| sum.saturating_add(*count))
-    })
+/// One round of a server.
+fn round_of(rt: &HostRuntime, station: &mut Station, now: Duration) -> io::Result<()> {
+    station.wait(now, Duration::from_millis(WAIT_MS))?;
+    station.turn(rt, now);
+    Ok(())
 }
 
 /// Round after round of a server, until it knows that a link is down.
 fn await_down(
     rt: &HostRuntime,
-    server: &mut Server,
-    ledger: &mut Ledger,
+    station: &mut Station,
     link: LinkId,
     now: Duration,
 ) -> io::Result<()> {
     for _ in 0..MOST_ROUNDS {
-        if is_down(server.exchange(), link) {
+        if station.standing(link) == LinkStanding::Down {
             return Ok(());
         }
-        server.wait(now, Duration::from_millis(WAIT_MS))?;
-        server.turn(rt, now, &mut Quiet, ledger);
+        round_of(rt, station, now)?;
     }
     Ok(())
-}
-
-/// The server of point 1, which listens.
-fn listening(rt: &HostRuntime) -> Option<Server> {
-    let ends = free_ports(rt.alloc())?;
-    opened(rt, rt.alloc(), (POINT_ONE, POINT_TWO), &ends)
-}
-
-/// The server of point 2, which connects to the other.
-fn connecting(rt: &HostRuntime, near: &Server) -> Option<Server> {
-    let ends = ports_of(rt.alloc(), near)?;
-    opened(rt, rt.alloc(), (POINT_TWO, POINT_ONE), &ends)
-}
-
-/// Each link listens at any free port.
-fn free_ports(alloc: Global) -> Option<Vec<Endpoint>> {
-    let mut ends = Vec::new(alloc);
-    for _ in 0..LINKS {
-        ends.push(Endpoint::Listen(any_port())).ok()?;
-    }
-    Some(ends)
-}
-
-/// Each link connects to where a server listens for it.
-fn ports_of(alloc: Global, server: &Server) -> Option<Vec<Endpoint>> {
-    let mut ends = Vec::new(alloc);
-    for link in 0..LINKS {
-        let address = server.link_address(LinkId::new(link))?;
-        ends.push(Endpoint::Connect(address)).ok()?;
-    }
-    Some(ends)
-}
-
-/// Any free port of the machine itself.
-fn any_port() -> SocketAddr {
-    SocketAddr::from((Ipv4Addr::LOCALHOST, 0))
-}
-
-/// A server of the node of one point, whose links lead to the other.
-fn opened(
-    rt: &HostRuntime,
-    alloc: Global,
-    points: (u16, u16),
-    links: &[Endpoint],
-) -> Option<Server> {
-    let settings = node_settings(alloc, points.0, points.1, LINKS)?;
-    let places = Places {
-        links,
-        console: None,
-        points: PointFormat::Plain,
-    };
-    Server::open(rt, alloc, settings, places, &mut Quiet).ok()
-}
-
-/// The message of a flow with this number, from one point to another.
-fn message_of(flow: u8, number: u32, from: u16, to: u16) -> Option<Msu> {
-    let label = Label {
-        dpc: PointCode::new(to)?,
-        opc: PointCode::new(from)?,
-        sls: Sls::new(flow)?,
-    };
-    let [l0, l1, l2, l3] = label.write();
-    let [n3, n2, n1, n0] = number.to_be_bytes();
-    Msu::new(INTERNATIONAL << 6 | ISUP, &[l0, l1, l2, l3, n3, n2, n1, n0]).ok()
-}
-
-/// A user part hands over a message. False where it is refused.
-fn submit_to(server: &mut Server, message: Option<Msu>, now: Duration) -> bool {
-    let Some(message) = message else {
-        return false;
-    };
-    let outcome = server.step(&Event::Submit(message.lend()), now, &mut Quiet);
-    matches!(outcome, Outcome::Queued(_) | Outcome::Held)
-}
-
-/// Whether all links of a node are in service, and no message waits on any.
-fn is_at_rest(exchange: &Exchange) -> bool {
-    (0..LINKS).all(|link| match exchange.link(LinkId::new(link)) {
-        Some(view) => view.standing == LinkStanding::InService && view.waiting == 0,
-        None => false,
-    })
-}
-
-/// Whether a link of a node is down.
-fn is_down(exchange: &Exchange, link: LinkId) -> bool {
-    match exchange.link(link) {
-        Some(view) => view.standing == LinkStanding::Down,
-        None => true,
-    }
 }
