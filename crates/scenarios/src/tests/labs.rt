@@ -1,5 +1,9 @@
 //! Labs whose streams, script or output fail. What a lab does else is in the transcripts.
 
+ghost use Rattle.std.specs.Prelude.{◌≡◌};
+ghost use Rattle.stp_types.specs.Facing.{IsFacing};
+ghost use Rattle.stp_types.specs.Naming.{link_names};
+
 use super::facing::node;
 use super::streams::Endless;
 use super::{compare, end_of, joiner};
@@ -9,6 +13,7 @@ use std::alloc::Global;
 use std::process::Abort;
 use std::test::*;
 use stp_node::{MemorySink, MemorySource, ScriptFault, Sink, Source};
+use stp_types::Settings;
 
 /// How the near node differs from the built-in settings: one link leads to point 2.
 const NEAR: &str = "destination 2/east";
@@ -29,8 +34,23 @@ fn run<R: Source, W: Sink>(
         return Err(Fail::new("two nodes that don't face each other"));
     }
     let mut near = Exchange::boot(alloc, near)?;
+    run_with(alloc, &mut near, far, joiner, reader, writer)
+}
+
+/// Runs a lab script on this near node, and a far one with these settings.
+fn run_with<R: Source, W: Sink>(
+    alloc: Global,
+    near: &mut Exchange,
+    far: Settings,
+    joiner: &mut MemoryJoiner,
+    reader: &mut R,
+    writer: &mut W,
+) -> Result<Result<(), ScriptFault>, Fail>
+    requires facing { IsFacing near.old.settings far }
+    requires alike { link_names near.old.settings ≡ link_names far }
+{
     let mut far = Exchange::boot(alloc, far)?;
-    Ok(run_lab(alloc, &mut near, &mut far, joiner, reader, writer))
+    Ok(run_lab(alloc, near, &mut far, joiner, reader, writer))
 }
 
 /// Runs a lab script of which each `/` is a line feed, and compares what it prints and how it ends.
