@@ -1,5 +1,5 @@
 -- How linked cells are kept: what each cell names, the lists, and the cells that are free again.
-use Rattle.std.specs.Prelude.{◌≡◌, ◌<◌, ◌≤◌, ◌^◌, length, vec_capacity}
+use Rattle.std.specs.Prelude.{◌<◌, ◌≤◌, ◌^◌, length, vec_capacity}
 use Rattle.cell_pool.specs.Numbering.{SharesOut}
 use Rattle.cell_pool.specs.Chains.{walk, rings_of, AreMarked}
 use Rattle.cell_pool.specs.Links.{Linked}

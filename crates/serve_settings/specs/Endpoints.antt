@@ -35,7 +35,8 @@ listening_in s console before i d =
     if is_taken console before a then Err (Duplicate (LinkListen i)) else Ok a)
 
 -- a link has `listen` or `connect`, exactly one
-abbrev pub endpoint_of : Spelling → Option SocketAddr → List Endpoint → ℕ → (listen connect : Option Data) → Result Endpoint ServeFault
+abbrev pub endpoint_of :
+    Spelling → Option SocketAddr → List Endpoint → ℕ → (listen connect : Option Data) → Result Endpoint ServeFault
 endpoint_of s console before i None None = Err (Missing (LinkListen i))
 endpoint_of s console before i None (Some d) = and_then (address_in s (LinkConnect i) d) (λ a. Ok (Connect a))
 endpoint_of s console before i (Some d) None = and_then (listening_in s console before i d) (λ a. Ok (Listen a))
@@ -49,7 +50,8 @@ endpoint_in s console before d =
     endpoint_of s console before (length before) (get_member (codes "listen") t) (get_member (codes "connect") t))
 
 -- the same of each link, behind those that are read
-abbrev pub endpoints_behind : Spelling → Option SocketAddr → List Endpoint → List Data → Result (List Endpoint) ServeFault
+abbrev pub endpoints_behind :
+    Spelling → Option SocketAddr → List Endpoint → List Data → Result (List Endpoint) ServeFault
 endpoints_behind s console before [] = Ok before
 endpoints_behind s console before (d ∷ ds) =
     and_then (endpoint_in s console before d) (λ e. endpoints_behind s console (before ++ e ∷ []) ds)

@@ -27,7 +27,8 @@ tick_in (pos n) = if nat_le 10 n && nat_le n 10000 then Ok n else Err (Range key
 tick_in (negsuc n) = Err (Range key.TickMs)
 
 unfoldable pub tick_ms_at : Members → Result ℕ ServeFault
-tick_ms_at t = and_then (value_at (codes "tick_ms") (Missing key.TickMs) t) (λ d. and_then (integer_in key.TickMs d) tick_in)
+tick_ms_at t =
+    and_then (value_at (codes "tick_ms") (Missing key.TickMs) t) (λ d. and_then (integer_in key.TickMs d) tick_in)
 
 -- whether the console may listen on an address that other machines reach, which it may not where the key is left out
 abbrev pub open_in : Option Data → Result Bool ServeFault
@@ -45,7 +46,8 @@ is_open (Err fault) = false
 abbrev pub console_in : Spelling → (opened : Bool) → Option Data → Result (Option SocketAddr) ServeFault
 console_in s opened None = Ok None
 console_in s opened (Some d) =
-    and_then (address_in s key.Console d) (λ a. if is_loopback a || opened then Ok (Some a) else Err (Range key.Console))
+    and_then (address_in s key.Console d)
+    (λ a. if is_loopback a || opened then Ok (Some a) else Err (Range key.Console))
 
 unfoldable pub console_at : Spelling → (opened : Bool) → Members → Result (Option SocketAddr) ServeFault
 console_at s opened t = console_in s opened (get_member (codes "console") t)

@@ -1,6 +1,6 @@
 -- The first fault of settings as they were written.
-use Rattle.std.specs.Prelude.{false, String, string_eq, ℕ, Bool, not, ◌&&◌, ◌||◌, nat_eq, nat_le, ℤ, List, [], ◌∷◌, Option}
-use Rattle.std.specs.Prelude.{length, is_some, string_bytes}
+use Rattle.std.specs.Prelude.{false, String, string_eq, ℕ, Bool, not, ◌&&◌, ◌||◌, nat_eq, nat_le, ℤ, List, [], ◌∷◌}
+use Rattle.std.specs.Prelude.{Option, length, is_some, string_bytes}
 use Rattle.std.specs.declared.alloc.Global.{Global}
 use Rattle.std.specs.List.{list_any, list_all}
 use Rattle.std.specs.Str.{bytes_eq}

@@ -1,5 +1,6 @@
 -- The value that a document has at a key.
-use Rattle.std.specs.Prelude.{ℕ, List, [], ◌∷◌, length, Bool, ◌==◌, nat_lt, Option, Some, None, option_and_then, if◌then◌else◌}
+use Rattle.std.specs.Prelude.{ℕ, List, [], ◌∷◌, length, Bool, ◌==◌, nat_lt, Option, Some, None, option_and_then}
+use Rattle.std.specs.Prelude.{if◌then◌else◌}
 use Rattle.std.specs.List.{position_or_len, before_first, after_first}
 use Rattle.toml.specs.Data.{Data, Members, get_member, get, at}
 use Rattle.settings_faults.specs.declared.key_rows.KeyRow.{KeyRow}

@@ -7,8 +7,10 @@ use Rattle.settings_rows.specs.declared.key.Key.{Key}
 use Rattle.settings_rows.specs.declared.key.Key.TheVariants.{Version, Own, Network, Window, Pool, Users, Subsystems}
 use Rattle.settings_rows.specs.declared.key.Key.TheVariants.{Timers, Timer, Set, SetEntry, SetName, SetAdjacent, Link}
 use Rattle.settings_rows.specs.declared.key.Key.TheVariants.{LinkEntry, LinkName, LinkSet, LinkSlc, Destination}
-use Rattle.settings_rows.specs.declared.key.Key.TheVariants.{DestinationEntry, DestinationPoint, DestinationSets, DestinationJoined}
-use Rattle.settings_rows.specs.declared.key.Key.TheVariants.{Title, TitleEntry, TitleTranslation, TitlePlan, TitleNature}
+use Rattle.settings_rows.specs.declared.key.Key.TheVariants.{DestinationEntry, DestinationPoint, DestinationSets}
+use Rattle.settings_rows.specs.declared.key.Key.TheVariants.{DestinationJoined}
+use Rattle.settings_rows.specs.declared.key.Key.TheVariants.{Title, TitleEntry, TitleTranslation, TitlePlan}
+use Rattle.settings_rows.specs.declared.key.Key.TheVariants.{TitleNature}
 use Rattle.settings_rows.specs.declared.key.Key.TheVariants.{TitleDigits, TitlePoint, TitleRoute, TitleSsn}
 
 -- how the key of a timer is written

@@ -85,6 +85,7 @@ built_in_settings = record {
   };
   sets = record { name = codes "east"; adjacent = 2 } ∷ [];
   links = record { name = codes "e0"; set = 0; slc = 0 } ∷ [];
-  destinations = record { point = 2; sets = 0 ∷ []; joined = false } ∷ record { point = 300; sets = 0 ∷ []; joined = false } ∷ [];
+  destinations = record { point = 2; sets = 0 ∷ []; joined = false }
+      ∷ record { point = 300; sets = 0 ∷ []; joined = false } ∷ [];
   titles = [];
 }

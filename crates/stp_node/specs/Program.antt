@@ -104,7 +104,7 @@ ChecksFile file (Err (file_fault.Unread why)) output output_new errors errors_ne
 ChecksFile file (Err file_fault.NoMemory) output output_new errors errors_new ended =
     EndsWith status.Start (told no_memory) output output_new ended × (errors_new ≡ errors)
 
--- what the program does for a task, where a file is read as `reads` says; of a lab and of a server, nothing is said here
+-- what the program does for a task, where a file is read as `reads` says; of a lab and of a server, nothing is said
 abbrev pub DoesTask : Task → (List ℕ → FileRead → Type 0) → Streams → Streams → Status → Type 0
 DoesTask BuiltInRun reads old new ended =
     RunsNode (λ settings. settings ≡ built_in_settings) (λ why. why ≡ no_memory) NoText old new ended

@@ -38,7 +38,8 @@ asked_with_two command near far = if bytes_eq command (codes "lab") then LabRun 
 abbrev pub asked_by : List (List ℕ) → Task
 asked_by (command ∷ []) = if bytes_eq command (codes "run") then BuiltInRun else OtherWords
 asked_by (command ∷ file ∷ []) = if is_plain file then asked_with command file else OtherWords
-asked_by (command ∷ near ∷ far ∷ []) = if is_plain near && is_plain far then asked_with_two command near far else OtherWords
+asked_by (command ∷ near ∷ far ∷ []) =
+    if is_plain near && is_plain far then asked_with_two command near far else OtherWords
 asked_by _ = OtherWords
 
 abbrev pub texts : List (String Global) → List (List ℕ)
