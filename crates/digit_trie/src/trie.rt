@@ -6,6 +6,7 @@ ghost use Rattle.std.specs.Vec.{vec_len, vec_capacity};
 ghost use Rattle.digit_trie.specs.Digits.{nothing, with_value, without, behind, longest, found_at};
 ghost use Rattle.digit_trie.specs.Nodes.{IsTree, KeepsWays, child, node_of, reached, root, stored, stored_from};
 
+use crate::fault::TrieFault;
 use crate::node::{Node, add_child, child_of, put, value_at};
 use std::alloc::Global;
 use std::marker::Model;
@@ -36,15 +37,6 @@ impl Model for Trie {
     ghost use Rattle.digit_trie.specs.Inside.{HasTree};
 
     ghost invariant = { HasTree };
-}
-
-/// Why a value isn't stored.
-#[derive(Clone, Copy, Debug, PartialEq, Eq)]
-pub enum TrieFault {
-    /// A value stands at these digits.
-    Present,
-    /// There is no memory for it.
-    NoMemory,
 }
 
 impl Trie {

@@ -54,11 +54,16 @@ fn main(rt: HostRuntime) -> ExitCode {
 fn run<R: Print>(rt: &R, alloc: Global) -> Result<(), NoStart> {
     let settings = Settings::check(alloc, settings::draft(alloc)?)?;
     let links = [link_named(&settings, "e0")?, link_named(&settings, "w0")?];
-    let mut exchange = Exchange::boot(alloc, settings)?;
+    serve(rt, Exchange::boot(alloc, settings)?, links);
+    Ok(())
+}
+
+/// Serves these links of a node.
+fn serve<R: Print>(rt: &R, exchange: Exchange, links: [LinkId; 2]) {
+    let mut exchange = exchange;
     let mut network = PlayedNetwork::new(rt, links);
     let mut users = PrintingUsers::new(rt);
     node::serve(&mut exchange, &links, &mut network, &mut users);
-    Ok(())
 }
 
 /// The link of this name.

@@ -68,11 +68,21 @@ fn shown(outcome: Outcome) -> &'static str {
 /// `run_lab` of a script of one line, which opens the link.
 pub(crate) fn run_lab(rt: &HostRuntime, alloc: Global) -> Result<Answers, AllocError> {
     let mut near = Node::boot(alloc, nodes::near(alloc)?)?;
+    run_from(rt, alloc, &mut near)
+}
+
+/// The same from this near node to a new far one.
+fn run_from(rt: &HostRuntime, alloc: Global, near: &mut Node) -> Result<Answers, AllocError> {
     let mut far = Node::boot(alloc, nodes::far(alloc)?)?;
+    Ok(run_between(rt, alloc, near, &mut far))
+}
+
+/// The same between these two.
+fn run_between(rt: &HostRuntime, alloc: Global, near: &mut Node, far: &mut Node) -> Answers {
     let mut writer = WriterSink::new(io::writer(rt));
     let first = run_one(alloc, near.exchange(), far.exchange(), &mut writer);
     let again = run_one(alloc, near.exchange(), far.exchange(), &mut writer);
-    Ok(Answers { first, again })
+    Answers { first, again }
 }
 
 /// The same, once. Its line goes to standard output.

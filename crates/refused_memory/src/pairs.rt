@@ -39,27 +39,42 @@ fn join_one(alloc: Global, near: Settings, far: Settings) -> Answer {
 /// `Pair::turn` that fetches the first frame of a link.
 pub(crate) fn take(alloc: Global) -> Result<Answers, AllocError> {
     let mut pair = opened(alloc)?;
-    let first = turn_one(&mut pair, Step::Take(End::One, the_link()));
-    let again = turn_one(&mut pair, Step::Take(End::One, the_link()));
-    Ok(Answers { first, again })
+    Ok(take_twice(&mut pair))
+}
+
+/// The same of this pair, twice.
+fn take_twice(pair: &mut Joined) -> Answers {
+    let first = turn_one(pair, Step::Take(End::One, the_link()));
+    let again = turn_one(pair, Step::Take(End::One, the_link()));
+    Answers { first, again }
 }
 
 /// `Pair::turn` that hands it in at the other end.
 pub(crate) fn deliver(alloc: Global) -> Result<Answers, AllocError> {
     let mut pair = opened(alloc)?;
-    turn(&mut pair, Step::Take(End::One, the_link()))?;
-    let first = turn_one(&mut pair, Step::Deliver(End::Two, the_link()));
-    let again = turn_one(&mut pair, Step::Deliver(End::Two, the_link()));
+    deliver_twice(&mut pair)
+}
+
+/// The same of this pair, twice.
+fn deliver_twice(pair: &mut Joined) -> Result<Answers, AllocError> {
+    turn(pair, Step::Take(End::One, the_link()))?;
+    let first = turn_one(pair, Step::Deliver(End::Two, the_link()));
+    let again = turn_one(pair, Step::Deliver(End::Two, the_link()));
     Ok(Answers { first, again })
 }
 
 /// `Pair::turn` that submits a message.
 pub(crate) fn submit(alloc: Global) -> Result<Answers, AllocError> {
     let mut pair = opened(alloc)?;
-    bring_up(&mut pair)?;
+    submit_twice(&mut pair)
+}
+
+/// The same of this pair, twice.
+fn submit_twice(pair: &mut Joined) -> Result<Answers, AllocError> {
+    bring_up(pair)?;
     let (one, two) = (submission()?, submission()?);
-    let first = turn_one(&mut pair, one);
-    let again = turn_one(&mut pair, two);
+    let first = turn_one(pair, one);
+    let again = turn_one(pair, two);
     Ok(Answers { first, again })
 }
 
