@@ -33,7 +33,7 @@ pub enum Status {
     Done = 0,
     /// Words that aren't the program's.
     Usage = 1,
-    /// The settings, or the memory to start with.
+    /// The settings, two nodes that don't face each other, or the memory to start with.
     Start = 2,
     /// A line of the script.
     Line = 3,

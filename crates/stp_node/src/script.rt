@@ -22,7 +22,7 @@ pub enum ScriptFault {
     Line(u64),
     /// The script's end wasn't found in as many reads as are made.
     TooManyReads,
-    /// Memory ran out. No script ends this way.
+    /// Memory ran out. Only the script of a lab ends this way, before its first line.
     NoMemory,
 }
 
