@@ -58,6 +58,8 @@ pub(crate) enum Kind {
     Status,
     /// There is none: the only link in service of the first set fails and returns.
     Entry,
+    /// There is none: T10 runs out for each route by the first set, in one tick.
+    Expiry,
     /// There is none: nodes are made, and no link opens.
     Make(Making),
 }
@@ -68,7 +70,7 @@ impl Kind {
     pub(crate) fn sets(self, size: Size) -> Sets {
         match (size, self) {
             (Size::Wide | Size::Largest, _) => Sets::Pairs,
-            (Size::Usual, Kind::Tick | Kind::Status | Kind::Entry) => Sets::Single,
+            (Size::Usual, Kind::Tick | Kind::Status | Kind::Entry | Kind::Expiry) => Sets::Single,
             (Size::Usual, _) => Sets::Full,
         }
     }
@@ -225,6 +227,7 @@ fn kind_of(name: &str) -> Option<Kind> {
         "tick" => Some(Kind::Tick),
         "status" => Some(Kind::Status),
         "entry" => Some(Kind::Entry),
+        "expiry" => Some(Kind::Expiry),
         "draft" => Some(Kind::Make(Making::Draft)),
         "check" => Some(Kind::Make(Making::Check)),
         "boot" => Some(Kind::Make(Making::Boot)),

@@ -80,8 +80,8 @@ fn report(rt: &HostRuntime, total: Option<Total>) -> io::Result<ExitCode> {
 fn refuse(rt: &HostRuntime) -> io::Result<ExitCode> {
     println!(rt;
         "usage: bench KIND OCTETS DESTINATIONS LINKS COUNT [wide|largest]; a KIND is forward, burst, submit, local, \
-acknowledgement, relay, relay-full, udts, udts-full, queue, failure, changeover, return, tick, status, entry, draft, \
-check or boot"
+acknowledgement, relay, relay-full, udts, udts-full, queue, failure, changeover, return, tick, status, entry, \
+expiry, draft, check or boot"
     )?;
     Ok(ExitCode::from(1))
 }

@@ -2,7 +2,7 @@
 
 ghost use Rattle.std.specs.Prelude.{◌≤◌};
 
-use crate::draft::{INTERNATIONAL, adjacent, own};
+use crate::draft::{INTERNATIONAL, OWN, adjacent, own};
 use crate::end::End;
 use crate::incoming::Incoming;
 use crate::peer::Peer;
@@ -49,6 +49,30 @@ pub(crate) fn enter(peer: &mut Peer, ends: &mut Ends, links: usize, count: u32)
         peer.outlast_timers();
         peer.open(link);
         ends[link.index() % Limits::LINKS] = End::first();
+        settle_each(peer, ends, links);
+    }
+}
+
+/// The adjacent point of the first set tells that each destination is prohibited by it. Of those that the set leads to
+/// T10 runs from then on.
+pub(crate) fn prohibit_each(peer: &mut Peer, ends: &mut Ends, destinations: usize, links: usize)
+    requires destinations { destinations ≤ Limits.DESTINATIONS }
+    requires links { links ≤ Limits.LINKS }
+{
+    for number in 0..destinations {
+        let about = PointCode::of_low_bits(u32::from(OWN) + 1 + number as u32);
+        let mut prohibited = message_of(Management::TransferProhibited(about));
+        hear(peer, ends, links, &mut prohibited);
+    }
+}
+
+/// T10 runs out so many times for all routes that are prohibited, in one of the ticks that pass, and each point takes
+/// what it is asked. Each time all of these timers begin again.
+pub(crate) fn test_routes(peer: &mut Peer, ends: &mut Ends, links: usize, count: u32)
+    requires { links ≤ Limits.LINKS }
+{
+    for _ in 0..count {
+        peer.outlast_timers();
         settle_each(peer, ends, links);
     }
 }

@@ -35,7 +35,9 @@ fn bring_in_usual(peer: &mut Peer, arguments: &Arguments) -> Ends
     requires { arguments.now.links ≤ Limits.LINKS }
 {
     match arguments.kind {
-        Kind::Tick | Kind::Status | Kind::Entry => open_from(peer, 1, arguments.links),
+        Kind::Tick | Kind::Status | Kind::Entry | Kind::Expiry => {
+            open_from(peer, 1, arguments.links)
+        }
         Kind::Return => open_set(peer),
         Kind::Standing(_) => {
             peer.open_others();

@@ -8,7 +8,7 @@ use crate::failure::change_over;
 use crate::incoming::Incoming;
 use crate::outage::come_and_go;
 use crate::peer::Peer;
-use crate::routes::{change_status, enter, tick};
+use crate::routes::{change_status, enter, prohibit_each, test_routes, tick};
 use crate::service::{Ends, bring_in};
 use crate::unitdata::{ASTRAY, LED, Title, unitdata};
 use routing_label::Label;
@@ -41,6 +41,10 @@ pub(crate) fn carry(peer: &mut Peer, arguments: &Arguments)
             change_status(peer, &mut ends, about, arguments.links, count);
         }
         Kind::Entry => enter(peer, &mut ends, arguments.links, count),
+        Kind::Expiry => {
+            prohibit_each(peer, &mut ends, arguments.destinations, arguments.links);
+            test_routes(peer, &mut ends, arguments.links, count);
+        }
         Kind::Make(_) => {}
         _ => carry_isup(peer, &mut ends, arguments),
     }

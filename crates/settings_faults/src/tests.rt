@@ -50,6 +50,8 @@ const FAULTS: &str = "\
 own = 1|own = 16384|f: own is 16384, must be 0 to 16383
 own = 1|own = \"a\"|f: own is \"a\", must be an integer
 own = 1||f: own is missing, must be an integer
+window = 128|window = 0|f: window is 0, must be 1 to 4096 in version 1
+version = 1;window = 128|version = 2;window = 0|f: window is 0, must be 1 to 16384
 version = 1|version = 3|f: version is 3, must be 1 or 2
 users = [5]|users = [5, 5]|f: users has an entry twice
 users = [5]|users = [3]|f: users is a list of 1, must be numbers from 4 to 15
