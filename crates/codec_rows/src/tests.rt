@@ -2,7 +2,9 @@
 
 mod framing;
 mod labels;
+mod link_tests;
 mod management;
+mod numbers;
 mod passing;
 mod relaying;
 mod title_limits;

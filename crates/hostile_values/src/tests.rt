@@ -1,10 +1,14 @@
 //! What the rows share: a row is some calls, parted by semicolons, a colon, and what the last of them answers.
 
+mod carrying;
+mod names;
 mod nodes;
+mod orders;
 mod pairs;
 mod streams;
 mod tables;
 mod values;
+mod words;
 
 use std::alloc::Global;
 use std::string::String;

@@ -7,7 +7,7 @@ use std::alloc::AllocError;
 /// A call that takes memory.
 #[derive(Clone, Copy)]
 pub(crate) enum Call {
-    /// `Settings::check` of the built-in settings.
+    /// `Settings::check` of the built-in settings with a translation row.
     Check,
     /// `settings::read` of a file.
     Read,
@@ -15,7 +15,7 @@ pub(crate) enum Call {
     Insert,
     /// `read_words` of `check FILE`.
     ReadWords,
-    /// `Exchange::boot`.
+    /// `Exchange::boot` with settings that have a translation row.
     Boot,
     /// `step` with an order that adds a translation row.
     AddTitle,

@@ -2,7 +2,7 @@
 
 use std::alloc::{AllocError, Global};
 use stp_node::built_in;
-use stp_types::{DestinationDraft, Draft, Settings};
+use stp_types::{DestinationDraft, Draft, Settings, TitleDraft};
 
 /// The point of the near node.
 const NEAR: i64 = 1;
@@ -18,6 +18,28 @@ pub(crate) fn near(alloc: Global) -> Result<Settings, AllocError> {
 /// The far node, which faces it.
 pub(crate) fn far(alloc: Global) -> Result<Settings, AllocError> {
     checked(alloc, with_peer(alloc, FAR, NEAR)?)
+}
+
+/// The near node with one translation row.
+pub(crate) fn near_with_title(alloc: Global) -> Result<Settings, AllocError> {
+    let mut draft = with_peer(alloc, NEAR, FAR)?;
+    draft.titles = title(alloc)?;
+    checked(alloc, draft)
+}
+
+/// One translation row: digits 491 lead to the far point, and are routed there by title.
+pub(crate) fn title(alloc: Global) -> Result<Vec<TitleDraft>, AllocError> {
+    let mut titles = Vec::new(alloc);
+    titles.push(TitleDraft {
+        translation: 0,
+        plan: 1,
+        nature: 4,
+        digits: String::from_str(alloc, "491")?,
+        point: FAR,
+        route: String::from_str(alloc, "title")?,
+        ssn: None,
+    })?;
+    Ok(titles)
 }
 
 /// The built-in settings of a node whose peer is its one destination.

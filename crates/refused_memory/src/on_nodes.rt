@@ -11,10 +11,10 @@ use std::io::{Read, Write};
 use stp_node::{MemorySource, ScriptFault, Sink, WriterSink};
 use stp_types::Settings;
 
-/// `Exchange::boot`.
+/// `Exchange::boot` with settings that have a translation row.
 pub(crate) fn boot(alloc: Global) -> Result<Answers, AllocError> {
-    let first = nodes::near(alloc)?;
-    let again = nodes::near(alloc)?;
+    let first = nodes::near_with_title(alloc)?;
+    let again = nodes::near_with_title(alloc)?;
     Ok(Answers {
         first: boot_one(alloc, first),
         again: boot_one(alloc, again),

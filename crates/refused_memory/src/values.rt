@@ -1,6 +1,7 @@
 //! Calls that make a value, or that change one.
 
 use crate::answer::{Answer, Answers, NO_MEMORY, OTHER};
+use crate::nodes;
 use digit_trie::{Trie, TrieFault};
 use std::alloc::{AllocError, Global};
 use stp_node::{Words, built_in};
@@ -38,19 +39,33 @@ slc = 0
 [[destination]]
 point = 2
 sets = ["east"]
+[[title]]
+translation = 0
+plan = 1
+nature = 4
+digits = "491"
+point = 2
+route = "title"
 "#;
 
 /// The digits at which a value is stored.
 const DIGITS: [u8; 3] = [4, 9, 1];
 
-/// `Settings::check` of the built-in settings.
+/// `Settings::check` of the built-in settings with a translation row.
 pub(crate) fn check(alloc: Global) -> Result<Answers, AllocError> {
-    let first = built_in(alloc)?;
-    let again = built_in(alloc)?;
+    let first = drafted(alloc)?;
+    let again = drafted(alloc)?;
     Ok(Answers {
         first: check_one(alloc, first),
         again: check_one(alloc, again),
     })
+}
+
+/// The built-in settings with a translation row.
+fn drafted(alloc: Global) -> Result<Draft, AllocError> {
+    let mut draft = built_in(alloc)?;
+    draft.titles = nodes::title(alloc)?;
+    Ok(draft)
 }
 
 /// The same, once.

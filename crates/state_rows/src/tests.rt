@@ -4,6 +4,7 @@ mod alignment;
 mod bodies;
 mod changebacks;
 mod changeovers;
+mod holds;
 mod limits;
 mod link_sets;
 mod lists;

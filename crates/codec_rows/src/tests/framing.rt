@@ -56,6 +56,25 @@ const FAULTS: &str = "\
 01000b010000001100ffffff0000000000 Short
 ";
 
+/// Frames that are read, and written as the same octets: each status, and User Data without a message or with one whose
+/// field is empty, with the least and the greatest numbers.
+const FRAMES: &str = "\
+01000b020000001400ffffff0000000000000001
+01000b020000001400ffffff0000000000000002
+01000b020000001400ffffff0000000000000003
+01000b020000001400ffffff0000000000000004
+01000b020000001400ffffff0000000000000005
+01000b020000001400ffffff0000000000000006
+01000b020000001400ffffff0000000000000007
+01000b020000001400ffffff0000000000000008
+01000b020000001400ffffff0000000000000009
+01000b0200000014000000000000000000000001
+01000b01000000100000000000000000
+01000b010000001000ffffff00ffffff
+01000b010000001200000000000000000085
+01000b010000001200ffffff00ffffff0000
+";
+
 /// A frame is read from this text.
 fn is_read(frame: &Frame<'_>, text: &[u8]) -> bool {
     match decode(text) {
@@ -71,6 +90,23 @@ fn has_text(frame: &Frame<'_>, text: &[u8]) -> bool
     let mut out = [0xee; BUFFER_OCTETS];
     let count = encode(frame, &mut out);
     &out[..count] == text && is_read(frame, text)
+}
+
+/// Whether the octets of a row are read as a frame, which is written as the same octets.
+fn is_kept(row: &str) -> bool {
+    let mut buffer = [0; Limits::SIF_OCTETS];
+    match octets(row, &mut buffer) {
+        Some(text) => is_spelled(text),
+        None => false,
+    }
+}
+
+/// Whether octets are read as a frame, which is written as the same octets.
+fn is_spelled(text: &[u8]) -> bool {
+    match decode(text) {
+        Ok(frame) => text.len() <= Limits::SIF_OCTETS && has_text(&frame, text),
+        Err(_) => false,
+    }
 }
 
 /// An acknowledgement is written and read.
@@ -218,6 +254,13 @@ fn a_management_message(rt: HostRuntime) {
 #[test]
 fn the_longest_message(rt: HostRuntime) {
     assert!(rt; has_length(&[0x5a; Limits::SIF_OCTETS], 290, b"\x00\x00\x01\x22"));
+}
+
+#[test]
+fn frames_are_kept(rt: HostRuntime) {
+    for row in FRAMES.lines() {
+        assert!(rt; is_kept(row), "{row}");
+    }
 }
 
 #[test]

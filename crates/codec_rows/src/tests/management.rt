@@ -1,19 +1,19 @@
-//! Management messages and link tests as octets: each text is the whole field, from its label on.
+//! Management messages as octets: each text is the whole field, from its label on.
 
 use super::{octets, word};
-use mgmt_codec::{ANSWER_OCTETS, LinkTest, MANAGEMENT_OCTETS, Management, MgmtFault, TestKind};
+use mgmt_codec::{MANAGEMENT_OCTETS, Management, MgmtFault};
 use routing_label::Label;
 use signalling_types::{Limits, PointCode};
 use std::test::*;
 
-/// Link tests from point 2 to point 1, and their answers.
-const TESTS: &str = "\
-018000001120aabb 024000002120aabb
-01800050112faabbcc 024000502120aabb
-";
-
 /// Messages of the changeover: XCO, XCA, ECO and ECA.
 const CHANGEOVER: &str = "\
+0240001031000000
+024000f031ffffff
+0240000041000000
+024000f041ffffff
+024000f012
+024000f022
 0240001031040000
 0240002041010203
 0240001012
@@ -24,6 +24,9 @@ const CHANGEOVER: &str = "\
 const CHANGEBACK: &str = "\
 024000105100
 024000106109
+024000f0510f
+0240000051ff
+0240000061ff
 ";
 
 /// Messages about routes: TFP, TFR, TFA, RST and RSR.
@@ -33,58 +36,59 @@ const ROUTES: &str = "\
 01c00000542c01
 03400000152c01
 03400000252c01
+02400000140000
+0240000014ff3f
+02400000340000
+0240000034ff3f
+02400000540000
+0240000054ff3f
+02400000150000
+0240000015ff3f
+02400000250000
+0240000025ff3f
 ";
 
-/// Fields that are no management message.
+/// Fields with octets or bits that are ignored, and the fields without them.
+const IGNORED: &str = "\
+0240001031040000ff 0240001031040000
+0240001041040000ff 0240001041040000
+024000105100ff 024000105100
+024000106100ff 024000106100
+0240001012ff 0240001012
+0240001022ff 0240001022
+02400000142c01ff 02400000142c01
+024000f0142cc1 02400000142c01
+024000f0342cc1 02400000342c01
+024000f0542cc1 02400000542c01
+024000f0152cc1 02400000152c01
+024000f0252cc1 02400000252c01
+024000f017ff 0240000017
+";
+
+/// Fields that are no management message: without a whole label, without a heading, with a heading that there isn't,
+/// and with an octet too few behind each.
 const FAULTS: &str = "\
+- Short
+01 Short
+0180 Short
+018000 Short
+0180000000 NotInProfile
+01800000ff NotInProfile
+0240001031 Short
+0240001041 Short
+02400010410400 Short
+0240001061 Short
+0240000014 Short
+02400000342c Short
+02400000542c Short
+02400000152c Short
+02400000252c Short
 02400010310400 Short
 0240001051 Short
 02400000142c Short
 0180000016 NotInProfile
 01800000 Short
 ";
-
-/// Fields, and the numbers of their faults as link tests; 0 where they are one.
-const TEST_FAULTS: &str = "\
-018000 1
-01800000 1
-0180000031 2
-0180000021 1
-018000002110 1
-01800000210f 0
-";
-
-/// Whether the answer to the test of this field, from point 1 to point 2, is this.
-fn has_answer(sif: &[u8], here: PointCode, there: PointCode, want: &str) -> bool {
-    let mut out = [0; ANSWER_OCTETS];
-    match LinkTest::read(sif) {
-        Ok(test) => {
-            let count = test.answer(there, here, &mut out);
-            test.kind == TestKind::Test && super::are_octets(&out[..count], want)
-        }
-        Err(_) => false,
-    }
-}
-
-/// Whether a row of tests holds.
-fn is_answered(row: &str) -> bool {
-    let mut buffer = [0; Limits::SIF_OCTETS];
-    match (
-        octets(word(row, 0), &mut buffer),
-        PointCode::new(1),
-        PointCode::new(2),
-    ) {
-        (Some(sif), Some(here), Some(there)) => has_answer(sif, here, there, word(row, 1)),
-        _ => false,
-    }
-}
-
-#[test]
-fn answer_to_a_link_test(rt: HostRuntime) {
-    for row in TESTS.lines() {
-        assert!(rt; is_answered(row), "{row}");
-    }
-}
 
 /// Whether the message of this field is read, and written the same between the same points.
 fn is_same(sif: &[u8]) -> bool {
@@ -154,6 +158,28 @@ fn spare_bits_of_a_point_are_ignored(rt: HostRuntime) {
     assert!(rt; is_prohibition(b"\x02\x40\x00\x50\x14\x2c\xc1", 300));
 }
 
+/// Whether both fields of a row are read alike.
+fn are_alike(row: &str) -> bool {
+    let mut long = [0; Limits::SIF_OCTETS];
+    let mut short = [0; Limits::SIF_OCTETS];
+    match (
+        octets(word(row, 0), &mut long),
+        octets(word(row, 1), &mut short),
+    ) {
+        (Some(long), Some(short)) => {
+            Management::read(short).is_ok() && Management::read(long) == Management::read(short)
+        }
+        _ => false,
+    }
+}
+
+#[test]
+fn what_is_ignored(rt: HostRuntime) {
+    for row in IGNORED.lines() {
+        assert!(rt; are_alike(row), "{row}");
+    }
+}
+
 /// Whether this field has this fault, by its name.
 fn has_fault(sif: &[u8], name: &str) -> bool {
     let fault = if name == "Short" {
@@ -173,23 +199,6 @@ fn fails(row: &str) -> bool {
     }
 }
 
-/// The fault of a link test behind a label, by number; 0 where it has none.
-fn test_fault(sif: &[u8]) -> u8 {
-    match LinkTest::read(sif) {
-        Ok(_) => 0,
-        Err(fault) => fault.number(),
-    }
-}
-
-/// Whether a row of faults of link tests holds.
-fn test_fails(row: &str) -> bool {
-    let mut buffer = [0; Limits::SIF_OCTETS];
-    match (octets(word(row, 0), &mut buffer), word(row, 1).parse()) {
-        (Some(sif), Ok(number)) => test_fault(sif) == number,
-        _ => false,
-    }
-}
-
 #[test]
 fn faults(rt: HostRuntime) {
     for row in FAULTS.lines() {
@@ -198,10 +207,8 @@ fn faults(rt: HostRuntime) {
 }
 
 #[test]
-fn faults_of_link_tests(rt: HostRuntime) {
-    for row in TEST_FAULTS.lines() {
-        assert!(rt; test_fails(row), "{row}");
-    }
+fn the_longest_field(rt: HostRuntime) {
+    assert!(rt; has_fault(&[0; Limits::SIF_OCTETS], "NotInProfile"));
 }
 
 #[test]

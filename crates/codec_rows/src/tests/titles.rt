@@ -73,10 +73,7 @@ fn digit(octet: u8) -> u8 {
 }
 
 /// The digits of a text, none where it is `-`.
-pub(super) fn digits<'a>(
-    text: &str,
-    buffer: &'a mut [u8; Limits::TITLE_DIGITS],
-) -> Option<&'a [u8]> {
+pub(super) fn digits<'a>(text: &str, buffer: &'a mut [u8]) -> Option<&'a [u8]> {
     let text = if text == "-" { "" } else { text };
     for (place, octet) in buffer.iter_mut().zip(text.bytes()) {
         *place = digit(octet);

@@ -5,11 +5,13 @@ ghost use Rattle.std.specs.Prelude.{◌<◌, ◌↔◌, All, IsTrue};
 use super::titles::digits;
 use super::word;
 use digit_trie::{Trie, TrieFault};
-use signalling_types::Limits;
 use std::test::*;
 
-/// What is done to a trie, and what it answers: values are stored at digits, found by the longest digits that begin
-/// these, with how many they are, and removed.
+/// So many digits a line has at most.
+const MOST_DIGITS: usize = 64;
+
+/// What is done to a trie, and what it answers: values are stored at digits, or refused by the fault of a number, found
+/// by the longest digits that begin these, with how many they are, and removed.
 const LINES: &str = "\
 longest 49 none
 insert 49 1 ok
@@ -17,7 +19,7 @@ insert 4917 2 ok
 longest 491720 4 2
 longest 4918 2 1
 longest 4 none
-insert 4917 3 Present
+insert 4917 3 1
 longest 4917 4 2
 insert - 5 ok
 longest 4 0 5
@@ -31,6 +33,15 @@ insert 49 4294967295 ok
 longest 49f 2 4294967295
 remove 4917 2
 longest 491720 2 4294967295
+insert 0123456789abcdef0123456789abcdef0123456789abcdef0123456789abcdef 4294967295 ok
+insert 0123456789abcdef0123456789abcdef0123456789abcdef0123456789abcdef 1 1
+longest 0123456789abcdef0123456789abcdef0123456789abcdef0123456789abcdef 64 4294967295
+longest 0123456789abcdef0123456789abcdef0123456789abcdef0123456789abcde none
+remove 0123456789abcdef0123456789abcdef0123456789abcdef0123456789abcdef 4294967295
+longest 0123456789abcdef0123456789abcdef0123456789abcdef0123456789abcdef none
+insert - 0 ok
+insert - 0 1
+longest - 0 0
 ";
 
 /// Whether each is the value of a digit, 0 to 15.
@@ -40,19 +51,18 @@ fn are_digits(digits: &[u8]) -> bool
     digits.iter().all(|digit| *digit < 16)
 }
 
-/// The name of an answer.
-fn name(answer: Result<(), TrieFault>) -> &'static str {
+/// Whether an answer is `ok`, or a fault of the number that a word says.
+fn is_answer(answer: Result<(), TrieFault>, word: &str) -> bool {
     match answer {
-        Ok(()) => "ok",
-        Err(TrieFault::Present) => "Present",
-        Err(TrieFault::NoMemory) => "NoMemory",
+        Ok(()) => word == "ok",
+        Err(fault) => word.parse().ok() == Some(fault.number()),
     }
 }
 
 /// Whether a value is stored, or refused, as the line says.
 fn inserts(trie: &mut Trie, digits: &[u8], line: &str) -> bool {
     match word(line, 2).parse() {
-        Ok(value) if are_digits(digits) => name(trie.insert(digits, value)) == word(line, 3),
+        Ok(value) if are_digits(digits) => is_answer(trie.insert(digits, value), word(line, 3)),
         _ => false,
     }
 }
@@ -77,7 +87,7 @@ fn removes(trie: &mut Trie, digits: &[u8], line: &str) -> bool {
 
 /// Whether a line holds.
 fn holds(trie: &mut Trie, line: &str) -> bool {
-    let mut buffer = [0; Limits::TITLE_DIGITS];
+    let mut buffer = [0; MOST_DIGITS];
     let Some(digits) = digits(word(line, 1), &mut buffer) else {
         return false;
     };

@@ -14,13 +14,25 @@ const FAULTS: &str = "\
 - Short
 11 Kind
 1180030b0d08120600120494710202420802aabb Kind
+0b Kind
+0b80030b0d08120600120494710202420802aabb Kind
+00 Kind
+ff Kind
 09 Short
 0980030b Short
+0a Short
+0a00030b Short
 0980030b0d081206001204947102024208 Pointer
 0980030b0e08120600120494710202420802aabb Pointer
 0980020b0d08120600120494710202420802aabb Pointer
 0980030b0008120600120494710202420802aabb Pointer
 098003ff0d08120600120494710202420802aabb Pointer
+0980000b0d08120600120494710202420802aabb Pointer
+0980ff0b0d08120600120494710202420802aabb Pointer
+098003000d08120600120494710202420802aabb Pointer
+0980030bff08120600120494710202420802aabb Pointer
+0900000000 Pointer
+0900ffffff Pointer
 0a00030b0d08120600120494710202420803aabb Pointer
 090003020100 Short
 09000303050002420802aabb Short
@@ -45,6 +57,20 @@ c208 national ssn - 8 0 -
 3e0694 - title - 6 15 94
 0606049471 - title - 6 1 049471
 ff0140ff00 national ssn 1 255 15 00
+";
+
+/// Octets that are no address, each Short.
+const SHORT_ADDRESSES: &str = "\
+-
+41
+4101
+42
+43
+4301
+430102
+c3
+ff
+ff0102
 ";
 
 /// The one octet that a text in hexadecimal says.
@@ -209,5 +235,21 @@ fn is_said(row: &str) -> bool {
 fn addresses_say_their_fields(rt: HostRuntime) {
     for row in ADDRESSES.lines() {
         assert!(rt; is_said(row), "{row}");
+    }
+}
+
+/// Whether the octets of a row are too few for an address.
+fn is_short(row: &str) -> bool {
+    let mut buffer = [0; Limits::SIF_OCTETS];
+    match octets(row, &mut buffer) {
+        Some(octets) => Address::read(octets) == Err(SccpFault::Short),
+        None => false,
+    }
+}
+
+#[test]
+fn short_addresses(rt: HostRuntime) {
+    for row in SHORT_ADDRESSES.lines() {
+        assert!(rt; is_short(row), "{row}");
     }
 }

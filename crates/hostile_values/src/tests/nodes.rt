@@ -1,156 +1,18 @@
 //! What a node with the built-in settings answers: it is point 1, and its one link, to point 2, is 0.
 
+mod rows;
+
 use super::{digits, index, octet, octets, shown, some, text, word};
+use arrayvec::ArrayString;
+use console::{LINE_OCTETS, show_links, show_notices, show_routes, show_titles};
 use exchange::{BUFFER_OCTETS, Event, Exchange, Order, TitleKey, Wants};
+use rows::{ABSENT, FRAMES, MANAGEMENT, SHOWN, SUBMITTED, TITLES};
 use std::alloc::Global;
 use std::process::Abort;
 use std::string::String;
 use std::test::*;
 use stp_node::built_in;
 use stp_types::{LinkId, MsuRef, Notice, Outcome, PointCode, Settings, TitleRoute, TitleRow};
-
-/// Links, destinations and translation rows that aren't there.
-const ABSENT: &str = "\
-up 1: refused 22
-up 64: refused 22
-up 255: refused 22
-down 1: refused 22
-down 255: refused 22
-frame 1 -: refused 22
-frame 255 00*4096: refused 22
-activate 1: refused 22
-activate 255: refused 22
-deactivate 1: refused 22
-deactivate 255: refused 22
-take 1: none
-take 255: none
-wants 1: nothing
-wants 255: nothing
-link 0: some
-link 1: none
-link 255: none
-route 1: some
-route 2: none
-route 18446744073709551615: none
-title 0: none
-title 18446744073709551615: none
-tick 65535: handled
-up 0; tick 65535; wants 0: close";
-
-/// Frames of each length, on a link that is down, on one that has its association, and on one in service.
-const FRAMES: &str = "\
-frame 0 -: ignored
-frame 0 -; notice: none
-frame 0 00*4096: ignored
-frame 0 00*4097: ignored
-up 0; frame 0 -: ignored
-up 0; frame 0 -; notice: frame 1
-up 0; frame 0 00*7: ignored
-up 0; frame 0 00*7; notice: frame 1
-up 0; frame 0 -; wants 0: nothing
-up 0; frame 0 00*8; wants 0: close
-up 0; frame 0 00*4096; wants 0: close
-up 0; frame 0 00*4097; wants 0: close
-up 0; frame 0 01000b0100000011+00*9: ignored
-up 0; frame 0 01000b0100000011+00*9; notice: frame 1
-up 0; frame 0 02000b0200000008: ignored
-up 0; frame 0 02000b0200000008; notice: frame 3
-up 0; data 0 85+00*4079; wants 0: close
-serve; status 0 0: ignored
-serve; status 0 10: ignored
-serve; status 0 255: ignored
-serve; status 0 255; notice: frame 4
-serve; data 0 85: refused 2
-serve; data 0 85+018000: refused 2
-serve; data 0 85+01800000: local
-serve; data 0 85+018000f0: local
-serve; data 0 85+01800000+00*268: local
-serve; data 0 85+01800000+00*269: refused 13
-serve; data 0 85+00*4078: refused 13
-serve; data 0 85+00*4079: refused 13";
-
-/// Messages of user parts.
-const SUBMITTED: &str = "\
-submit 85: refused 2
-submit 85+024000: refused 2
-submit 85+02400000: refused 4
-serve; submit 85+02400000: queued 0
-serve; submit 85+024000f0: queued 0
-serve; submit 85+02000000: queued 0
-serve; submit 85+02c0ff0f: queued 0
-serve; submit 85+00400000: refused 3
-serve; submit 85+ff7f0000: refused 3
-serve; submit 85+02400000+00*268: queued 0
-serve; submit 85+02400000+00*269: refused 13
-serve; submit 85+00*4096: refused 13
-serve; submit 05+00*273: refused 13
-serve; submit 05+024000: refused 2
-serve; submit 05+02400000: refused 1
-serve; submit c5+02400000: refused 1
-serve; submit 40+02400000: refused 1
-serve; submit 80+02400000: refused 7
-serve; submit 81+02400000: refused 7
-serve; submit 82+02400000: queued 0
-serve; submit 8f+02400000: queued 0
-serve; submit 82+01400000: refused 6
-serve; submit 83+01400000: refused 9
-serve; submit 84+01400000: refused 6
-serve; submit 85+01400000: local
-serve; submit b5+01400000: local
-serve; submit 8f+01400000: refused 6";
-
-/// Management and link tests.
-const MANAGEMENT: &str = "\
-serve; data 0 80+01400000+17: refused 16
-serve; data 0 80+01c0ff0f+17: refused 16
-serve; data 0 80+01800000: refused 8
-serve; data 0 80+01800000+00: refused 7
-serve; data 0 80+01800000+ff: refused 7
-serve; data 0 80+01800000+17: ignored
-serve; data 0 80+018000f0+31000000: refused 8
-serve; data 0 80+018000f0+310000: refused 8
-serve; data 0 80+018000f0+41ffffff: refused 8
-serve; data 0 80+018000f0+12: refused 8
-serve; data 0 80+018000f0+22: refused 8
-serve; data 0 80+018000f0+51: refused 8
-serve; data 0 80+018000f0+51ff: handled
-serve; data 0 80+018000f0+61ff: ignored
-serve; data 0 80+01800000+1400: refused 8
-serve; data 0 80+01800000+140000: refused 3
-serve; data 0 80+01800000+14ff3f: refused 3
-serve; data 0 80+01800000+14ffff: refused 3
-serve; data 0 80+01800000+34ffff: refused 3
-serve; data 0 80+01800000+54ffff: refused 3
-serve; data 0 80+01800000+140200: ignored
-serve; data 0 80+01800000+15ffff: refused 3
-serve; data 0 80+01800000+25ffff: refused 3
-serve; data 0 80+01800000+150200: ignored
-serve; data 0 81+01800000: refused 8
-serve; data 0 81+01800000+11: refused 8
-serve; data 0 81+01800000+11f0: refused 8
-serve; data 0 81+01800000+1100: handled
-serve; data 0 81+01800000+11f0+00*15: handled
-serve; data 0 81+01800000+ff: refused 7";
-
-/// Orders on translation rows.
-const TITLES: &str = "\
-add 0 0 0 0 0: handled
-add 255 15 127 ffffffffffffffffffffffffffffffff 16383: handled
-add 0 16 0 0 0: no row
-add 0 0 128 0 0: no row
-add 0 0 0 - 0: no row
-add 0 0 0 000000000000000000000000000000000 0: no row
-add 0 0 0 g 0: no row
-add 0 0 0 0 16384: no row
-add 0 1 4 49 3; add 0 1 4 49 2: refused 21
-add 0 1 4 49 3; title 0: some
-add 0 1 4 49 3; title 1: none
-add 0 1 4 49 3; remove 0 1 4 49: handled
-add 0 1 4 49 3; remove 0 1 4 4: refused 22
-add 0 1 4 49 3; remove 0 1 4 490: refused 22
-remove 0 1 4 -: refused 22
-remove 0 1 4 g: refused 22
-remove 255 255 255 zzzzzzzzzzzzzzzzzzzzzzzzzzzzzzzz: refused 22";
 
 /// So many octets stand in front of a message in its frame: both headers and the priority octet (RFC 4165 §2).
 const IN_FRONT_OF_MESSAGE: usize = 17;
@@ -160,7 +22,7 @@ const SERVE: &str = "up 0; status 0 2; status 0 4; tick 3";
 
 #[test]
 fn a_node(rt: HostRuntime) -> Result<(), Fail> {
-    for rows in [ABSENT, FRAMES, SUBMITTED, MANAGEMENT, TITLES] {
+    for rows in [ABSENT, FRAMES, SUBMITTED, MANAGEMENT, TITLES, SHOWN] {
         expect_rows(&rt, rt.alloc(), rows)?;
     }
     Ok(())
@@ -218,6 +80,7 @@ fn answer_to(alloc: Global, node: &mut Exchange, call: &str) -> Result<String, F
         "route" => some(alloc, node.route(index(call, 1)?).is_some()),
         "title" => some(alloc, node.title(index(call, 1)?).is_some()),
         "notice" => noticed(alloc, node.notices().back().copied()),
+        "show" => show(alloc, node, word(call, 1), index(call, 2)?),
         "tick" => tick(alloc, node, index(call, 1)?),
         "add" => add(alloc, node, call),
         "remove" => remove(alloc, node, call),
@@ -261,6 +124,30 @@ fn noticed(alloc: Global, notice: Option<Notice>) -> Result<String, Fail> {
         Some(Notice::Frame(fault, _)) => Ok(format!(in alloc; "frame {}", fault.number())?),
         Some(_) => text(alloc, "another"),
         None => text(alloc, "none"),
+    }
+}
+
+/// What is in the buffer in front of a line that is shown.
+const KEPT: &str = "kept";
+
+/// Whether a line of a text is shown, and the buffer kept where it isn't.
+fn show(alloc: Global, node: &Exchange, name: &str, k: usize) -> Result<String, Fail> {
+    let mut line = ArrayString::new();
+    line.push_str(KEPT);
+    if show_line(node, name, k, &mut line) {
+        text(alloc, "shown")
+    } else {
+        Ok(String::from_str(alloc, line.as_str())?)
+    }
+}
+
+/// Shows a line of the text of this name.
+fn show_line(node: &Exchange, name: &str, k: usize, line: &mut ArrayString<LINE_OCTETS>) -> bool {
+    match name {
+        "links" => show_links(node, k, line),
+        "routes" => show_routes(node, k, line),
+        "titles" => show_titles(node, k, line),
+        _ => show_notices(node, k, line),
     }
 }
 

@@ -7,7 +7,7 @@ use std::process::Abort;
 use std::string::String;
 use std::test::*;
 use stp_node::built_in;
-use stp_types::{DestinationDraft, LinkId, Msu, Settings};
+use stp_types::{DestinationDraft, Draft, LinkId, Msu, Settings};
 
 /// Links that aren't there, nothing in flight, and messages that no user part of an end sends to the other.
 const ROWS: &str = "\
@@ -71,14 +71,19 @@ fn new_pair(alloc: Global, near: Settings, far: Settings) -> Result<Pair, Fail> 
 }
 
 /// The node of a point, whose link leads to the other.
-fn node(alloc: Global, own: i64, other: i64) -> Result<Settings, Fail> {
+pub(super) fn node(alloc: Global, own: i64, other: i64) -> Result<Settings, Fail> {
+    Ok(Settings::check(alloc, draft(alloc, own, other)?)?)
+}
+
+/// The settings of such a node, unchecked.
+pub(super) fn draft(alloc: Global, own: i64, other: i64) -> Result<Draft, Fail> {
     let mut draft = built_in(alloc)?;
     draft.own = own;
     for set in draft.sets.iter_mut() {
         set.adjacent = other;
     }
     draft.destinations = destination(alloc, other)?;
-    Ok(Settings::check(alloc, draft)?)
+    Ok(draft)
 }
 
 /// The one destination.

@@ -36,10 +36,32 @@ fn answer_one(changeback: &mut Changeback, holds: &mut Holds) -> bool {
     full && other && kept && awaited && !again && changeback.free_code(west) == Some(5)
 }
 
+/// Whether a set or a code that isn't there is left aside.
+fn is_left_aside(changeback: &mut Changeback, holds: &mut Holds, set: SetId, code: u8) -> bool {
+    changeback.declared(set, code);
+    !changeback.acknowledge(set, code, holds)
+}
+
+/// Whether the sets and codes are left aside that aren't there, and codes that aren't awaited.
+fn leave_aside(changeback: &mut Changeback, holds: &mut Holds) -> bool {
+    let west = SetId::new(1);
+    is_left_aside(changeback, holds, SetId::new(2), 0)
+        && is_left_aside(changeback, holds, SetId::new(255), 255)
+        && is_left_aside(changeback, holds, west, 16)
+        && is_left_aside(changeback, holds, west, 255)
+        && changeback.free_code(SetId::new(2)).is_none()
+        && changeback.free_code(SetId::new(255)).is_none()
+        && !changeback.acknowledge(west, 0, holds)
+}
+
 fn are_in_order(alloc: Global) -> Result<bool, AllocError> {
     let mut changeback = Changeback::new(alloc, 2)?;
     let mut holds = Holds::new(alloc, 3, 2, 1)?;
-    Ok(use_codes(&mut changeback) && answer_one(&mut changeback, &mut holds))
+    Ok(
+        leave_aside(&mut changeback, &mut holds)
+            && use_codes(&mut changeback)
+            && answer_one(&mut changeback, &mut holds),
+    )
 }
 
 #[test]

@@ -131,6 +131,26 @@ fn both_come(alloc: Global) -> Result<bool, AllocError> {
     )
 }
 
+/// Whether order, answer and expiry change nothing where no changeover is incomplete.
+fn nothing_is_incomplete(alloc: Global) -> Result<bool, AllocError> {
+    let mut changeover = Changeover::new(alloc, 2)?;
+    let link = LinkId::new(1);
+    Ok(
+        changeover.may_restart(link)
+            && !changeover.order(link)
+            && changeover.acknowledge(link).is_none()
+            && !changeover.expired(link, ChangeoverTimer::T1)
+            && !changeover.expired(link, ChangeoverTimer::T2)
+            && changeover.may_restart(link),
+    )
+}
+
+#[test]
+fn order_answer_and_expiry_of_none(rt: HostRuntime) -> Result<(), Fail> {
+    assert!(rt; nothing_is_incomplete(rt.alloc())?);
+    Ok(())
+}
+
 #[test]
 fn order_and_answer_both_come(rt: HostRuntime) -> Result<(), Fail> {
     assert!(rt; both_come(rt.alloc())?);

@@ -131,3 +131,38 @@ fn told_then_reset(rt: HostRuntime) -> Result<(), Fail> {
     assert!(rt; tell_and_reset(&mut two_sets(rt.alloc(), false)?));
     Ok(())
 }
+
+/// Tells of links, sets and destinations that aren't there, and of a set that doesn't lead to the destination.
+fn tell_of_absent(routes: &mut Routes) {
+    routes.set_link(LinkId::new(4), true);
+    routes.set_link(LinkId::new(255), false);
+    routes.set_status(0, SetId::new(2), RouteStatus::Prohibited);
+    routes.set_status(0, SetId::new(255), RouteStatus::Prohibited);
+    routes.set_status(1, SetId::new(0), RouteStatus::Prohibited);
+    routes.set_status(usize::MAX, SetId::new(255), RouteStatus::Prohibited);
+    routes.reset_statuses(SetId::new(255));
+}
+
+/// Whether nothing leads to a destination that isn't there.
+fn is_absent(routes: &Routes, destination: usize) -> bool {
+    routes.sets_of(destination).is_empty()
+        && routes.routes_of(destination).is_empty()
+        && routes.link_of(destination, Sls::of_low_bits(15)).is_none()
+        && routes.status_of(destination, SetId::new(0)).is_none()
+}
+
+/// Whether what isn't there is left aside.
+fn leave_aside(routes: &mut Routes) -> bool {
+    tell_of_absent(routes);
+    is_absent(routes, 1)
+        && is_absent(routes, usize::MAX)
+        && routes.status_of(0, SetId::new(255)).is_none()
+        && set_of(routes, 0) == Some(SetId::new(0))
+        && take(routes, &[0, 1, 2, 0, 1, 2, 0, 1, 2, 0, 1, 2, 0, 1, 2, 0])
+}
+
+#[test]
+fn what_is_absent(rt: HostRuntime) -> Result<(), Fail> {
+    assert!(rt; leave_aside(&mut two_sets(rt.alloc(), false)?));
+    Ok(())
+}

@@ -64,8 +64,17 @@ fn are_behind(sequence: &Sequence) -> bool {
         && sequence.retrieve(number(2)).is_none()
 }
 
+/// Whether nothing of an empty list is sent, and of all numbers only the one before the first names a count.
+fn is_fresh<L: Lanes>(sequence: &mut Sequence, lanes: &L) -> bool {
+    sent(sequence, lanes, 8).is_none()
+        && sequence.retrieve(number(16_777_213)) == Some(0)
+        && sequence.retrieve(number(16_777_212)).is_none()
+        && sequence.retrieve(number(16_777_214)).is_none()
+        && sequence.retrieve(number(0)).is_none()
+}
+
 fn wraps<L: Lanes>(lanes: &mut L, sequence: &mut Sequence) -> bool {
-    fill(lanes, 4) && all_sent(sequence, lanes) && are_behind(sequence)
+    is_fresh(sequence, lanes) && fill(lanes, 4) && all_sent(sequence, lanes) && are_behind(sequence)
 }
 
 #[test]
@@ -181,6 +190,21 @@ fn answers_all<L: Lanes>(sequence: &mut Sequence, lanes: &mut L) -> bool {
     answers(sequence, lanes, acknowledgement(0xff_ffff, 0), Ok(1), 1)
         && answers(sequence, lanes, message(5, 9), Err(SeqFault::BadFsn), 1)
         && answers(sequence, lanes, message(0, 9), Err(SeqFault::BadBsn), 1)
+        && answers(sequence, lanes, message(0, 1), Err(SeqFault::BadBsn), 1)
+        && answers(
+            sequence,
+            lanes,
+            message(0, 0xff_ffff),
+            Err(SeqFault::BadBsn),
+            1,
+        )
+        && answers(
+            sequence,
+            lanes,
+            message(0xff_ffff, 0),
+            Err(SeqFault::BadFsn),
+            1,
+        )
         && answers(sequence, lanes, message(0, 0), Ok(0), 1)
         && answers(
             sequence,

@@ -227,3 +227,31 @@ fn tests_are_answered(rt: HostRuntime) -> Result<(), Fail> {
     assert!(rt; is_tested(&mut either_set(rt.alloc())?));
     Ok(())
 }
+
+/// Whether a set and a destination, of which one isn't there, are left aside: nothing is heard, told or owed.
+fn leaves_aside(node: &mut Node, set: SetId, destination: usize) -> bool {
+    let prohibited = RouteStatus::Prohibited;
+    node.told.tell(set, destination, prohibited);
+    node.told.reset(set);
+    node.told
+        .received(&node.links, set, destination, prohibited)
+        == Heard::Ignored
+        && node.told.owed(&node.links, set, destination).is_none()
+        && !node.told.is_own_point(set, destination)
+}
+
+/// Whether what isn't there is left aside, and then all is owed as before.
+fn leave_aside(node: &mut Node) -> bool {
+    leaves_aside(node, SetId::new(2), FAR)
+        && leaves_aside(node, SetId::new(255), FAR)
+        && leaves_aside(node, west(), 3)
+        && leaves_aside(node, west(), usize::MAX)
+        && leaves_aside(node, SetId::new(255), usize::MAX)
+        && serve_both(node)
+}
+
+#[test]
+fn what_is_absent(rt: HostRuntime) -> Result<(), Fail> {
+    assert!(rt; leave_aside(&mut either_set(rt.alloc())?));
+    Ok(())
+}
