@@ -3,12 +3,12 @@
 ghost use Rattle.std.specs.Prelude.{◌<◌, ◌≢◌};
 
 use super::messages::{counts, list, put};
-use super::sequences::{number, sent};
+use super::sequences::{fill_up, number, sends, sent};
 use super::word;
-use cell_pool::{Lanes, RingLanes};
+use cell_pool::{CellPool, Lanes, RingLanes};
 use changeover::{Beginning, Changeover, complete, count_in_doubt};
 use link_sequence::Sequence;
-use signalling_types::{ChangeoverTimer, LinkId};
+use signalling_types::{ChangeoverTimer, Limits, LinkId};
 use std::alloc::{AllocError, Global};
 use std::test::*;
 
@@ -110,6 +110,44 @@ fn numbers_wrap(rt: HostRuntime) -> Result<(), Fail> {
 #[test]
 fn unsent_messages_move_too(rt: HostRuntime) -> Result<(), Fail> {
     assert!(rt; all_hold(&mut RingLanes::new(rt.alloc(), 2, 8)?, SOME_SENT));
+    Ok(())
+}
+
+/// Whole windows of messages, all sent, from number 16,777,214 on: a number that completes the changeover, and how many
+/// messages it moves: the last one, all, and none, since it names none of them.
+const OF_A_WINDOW: [(u32, usize); 3] = [(16_380, 1), (16_777_213, Limits::WINDOW), (16_382, 0)];
+
+/// Whether a number moves so many messages of a whole window. They are gone afterwards.
+fn moves_of_window<L: Lanes>(lanes: &mut L, confirmed: u32, moved: usize) -> bool {
+    let mut sequence = Sequence::starting_at(number(FIRST));
+    fill_up(lanes, Limits::WINDOW)
+        && sends(&mut sequence, lanes, Limits::WINDOW)
+        && moves(lanes, &mut sequence, confirmed, moved)
+}
+
+/// The same, where they are sent.
+fn moves<L: Lanes>(lanes: &mut L, sequence: &mut Sequence, confirmed: u32, moved: usize) -> bool {
+    if lanes.lanes() <= HELD {
+        return false;
+    }
+    complete(lanes, LANE, HELD, sequence, Some(number(confirmed)));
+    let is_right = lanes.count(HELD) == moved && lanes.count(LANE) == 0;
+    lanes.drop_front(HELD, moved);
+    is_right
+}
+
+fn all_move<L: Lanes>(lanes: &mut L) -> bool {
+    for (confirmed, moved) in OF_A_WINDOW {
+        if !moves_of_window(lanes, confirmed, moved) {
+            return false;
+        }
+    }
+    true
+}
+
+#[test]
+fn whole_windows_move(rt: HostRuntime) -> Result<(), Fail> {
+    assert!(rt; all_move(&mut CellPool::new(rt.alloc(), 2, Limits::WINDOW)?));
     Ok(())
 }
 

@@ -89,7 +89,7 @@ fn numbers_wrap(rt: HostRuntime) -> Result<(), Fail> {
 }
 
 /// Puts so many messages at the end of the first list.
-fn fill_up<L: Lanes>(lanes: &mut L, count: usize) -> bool {
+pub(super) fn fill_up<L: Lanes>(lanes: &mut L, count: usize) -> bool {
     for place in 0..count {
         if !push(lanes, 0, ISUP, (place % 256) as u8) {
             return false;
@@ -99,7 +99,7 @@ fn fill_up<L: Lanes>(lanes: &mut L, count: usize) -> bool {
 }
 
 /// Sends so many messages, as many as the largest window allows.
-fn sends<L: Lanes>(sequence: &mut Sequence, lanes: &L, count: usize) -> bool {
+pub(super) fn sends<L: Lanes>(sequence: &mut Sequence, lanes: &L, count: usize) -> bool {
     for _ in 0..count {
         if sent(sequence, lanes, Limits::WINDOW).is_none() {
             return false;
