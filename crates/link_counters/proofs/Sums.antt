@@ -64,43 +64,45 @@ record IsRow (row : LinkCounters) : Type 0 where
 first-row : IsRow no_counts
 first-row = record { refused = length-replicate {A = ℕ} CAUSES 0; failed = length-replicate {A = ℕ} REASONS 0 }
 
-frame-kept : (octets : ℕ) (outcome : Outcome) (row : LinkCounters) → IsRow row → IsRow (counted (FrameCame octets outcome) row)
-frame-kept octets (Refused cause) row h = record { refused = length-set row.refused _ _ ∙ h.refused; failed = h.failed }
-frame-kept octets outcome row h = record { refused = h.refused; failed = h.failed }
+frame-kept : (octets : ℕ) (user : Bool) (outcome : Outcome) (row : LinkCounters) → IsRow row → IsRow (counted (FrameCame octets user outcome) row)
+frame-kept octets user (Refused cause) row h = record { refused = length-set row.refused _ _ ∙ h.refused; failed = h.failed }
+frame-kept octets user outcome row h = record { refused = h.refused; failed = h.failed }
 
 row-kept : (what : Counted) (row : LinkCounters) → IsRow row → IsRow (counted what row)
-row-kept (FrameCame octets outcome) row h = frame-kept octets outcome row h
+row-kept (FrameCame octets user outcome) row h = frame-kept octets user outcome row h
 row-kept (FrameWent octets) row h = record { refused = h.refused; failed = h.failed }
 row-kept (Failure reason) row h = record { refused = h.refused; failed = length-set row.failed _ _ ∙ h.failed }
 row-kept Retry row h = record { refused = h.refused; failed = h.failed }
 
-frame-adds : (counter : Counter) (octets : ℕ) (outcome : Outcome) (row : LinkCounters) (s : ℕ) → IsRow row → value_of counter row ≡ saturated s
-    → value_of counter (counted (FrameCame octets outcome) row) ≡ saturated (s + frame_adds counter octets outcome)
-frame-adds FramesIn octets (Queued link) row s h e = more row.frames_in s 1 e
-frame-adds FramesIn octets outcome row s h e = more row.frames_in s 1 e
-frame-adds OctetsIn octets (Queued link) row s h e = more row.octets_in s octets e
-frame-adds OctetsIn octets outcome row s h e = more row.octets_in s octets e
-frame-adds FramesOut octets (Queued link) row s h e = stays row.frames_out s e
-frame-adds FramesOut octets outcome row s h e = stays row.frames_out s e
-frame-adds OctetsOut octets (Queued link) row s h e = stays row.octets_out s e
-frame-adds OctetsOut octets outcome row s h e = stays row.octets_out s e
-frame-adds Forwarded octets (Queued link) row s h e = more row.forwarded s 1 e
-frame-adds Forwarded octets Held row s h e = more row.forwarded s 1 e
-frame-adds Forwarded octets outcome row s h e = stays row.forwarded s e
-frame-adds Delivered octets Local row s h e = more row.delivered s 1 e
-frame-adds Delivered octets outcome row s h e = stays row.delivered s e
-frame-adds (RefusedBy cause) octets (Refused other) row s h e =
+frame-adds : (counter : Counter) (octets : ℕ) (user : Bool) (outcome : Outcome) (row : LinkCounters) (s : ℕ) → IsRow row → value_of counter row ≡ saturated s
+    → value_of counter (counted (FrameCame octets user outcome) row) ≡ saturated (s + frame_adds counter octets user outcome)
+frame-adds FramesIn octets user (Queued link) row s h e = more row.frames_in s 1 e
+frame-adds FramesIn octets user outcome row s h e = more row.frames_in s 1 e
+frame-adds OctetsIn octets user (Queued link) row s h e = more row.octets_in s octets e
+frame-adds OctetsIn octets user outcome row s h e = more row.octets_in s octets e
+frame-adds FramesOut octets user (Queued link) row s h e = stays row.frames_out s e
+frame-adds FramesOut octets user outcome row s h e = stays row.frames_out s e
+frame-adds OctetsOut octets user (Queued link) row s h e = stays row.octets_out s e
+frame-adds OctetsOut octets user outcome row s h e = stays row.octets_out s e
+frame-adds Forwarded octets true (Queued link) row s h e = more row.forwarded s 1 e
+frame-adds Forwarded octets true Held row s h e = more row.forwarded s 1 e
+frame-adds Forwarded octets false (Queued link) row s h e = stays row.forwarded s e
+frame-adds Forwarded octets false Held row s h e = stays row.forwarded s e
+frame-adds Forwarded octets user outcome row s h e = stays row.forwarded s e
+frame-adds Delivered octets user Local row s h e = more row.delivered s 1 e
+frame-adds Delivered octets user outcome row s h e = stays row.delivered s e
+frame-adds (RefusedBy cause) octets user (Refused other) row s h e =
     at-place row.refused (cause_number other - 1) (cause_number cause - 1) s (cause_number other == cause_number cause) (cause-test other cause)
     (omega (arith, h.refused, (cause-fits other).0, (cause-fits other).1)) e
-frame-adds (RefusedBy cause) octets outcome row s h e = stays (slice_index row.refused (cause_number cause - 1)) s e
-frame-adds (Failed reason) octets (Queued link) row s h e = stays (slice_index row.failed (reason_number reason)) s e
-frame-adds (Failed reason) octets outcome row s h e = stays (slice_index row.failed (reason_number reason)) s e
-frame-adds Retries octets (Queued link) row s h e = stays row.retries s e
-frame-adds Retries octets outcome row s h e = stays row.retries s e
+frame-adds (RefusedBy cause) octets user outcome row s h e = stays (slice_index row.refused (cause_number cause - 1)) s e
+frame-adds (Failed reason) octets user (Queued link) row s h e = stays (slice_index row.failed (reason_number reason)) s e
+frame-adds (Failed reason) octets user outcome row s h e = stays (slice_index row.failed (reason_number reason)) s e
+frame-adds Retries octets user (Queued link) row s h e = stays row.retries s e
+frame-adds Retries octets user outcome row s h e = stays row.retries s e
 
 one-adds : (counter : Counter) (what : Counted) (row : LinkCounters) (s : ℕ) → IsRow row → value_of counter row ≡ saturated s
     → value_of counter (counted what row) ≡ saturated (s + adds counter what)
-one-adds counter (FrameCame octets outcome) row s h e = frame-adds counter octets outcome row s h e
+one-adds counter (FrameCame octets user outcome) row s h e = frame-adds counter octets user outcome row s h e
 one-adds FramesOut (FrameWent octets) row s h e = more row.frames_out s 1 e
 one-adds OctetsOut (FrameWent octets) row s h e = more row.octets_out s octets e
 one-adds counter (FrameWent octets) row s h e = stays (value_of counter row) s e

@@ -1,5 +1,5 @@
 -- What is counted of a link, and what it adds to each counter.
-use Rattle.std.specs.Prelude.{ℕ, ◌+◌, ◌-◌, ◌^◌, min, List, replicate, slice_index, slice_index_or, slice_set}
+use Rattle.std.specs.Prelude.{ℕ, ◌+◌, ◌-◌, ◌^◌, min, Bool, if◌then◌else◌, List, replicate, slice_index, slice_index_or, slice_set}
 use Rattle.signalling_types.specs.Causes.{cause_number}
 use Rattle.signalling_types.specs.declared.notice.FailureReason.{FailureReason}
 use Rattle.signalling_types.specs.declared.notice.FailureReason.TheVariants.{Association, Timer, Sequence, Status}
@@ -15,8 +15,8 @@ use Rattle.link_counters.specs.declared.row.LinkCounters.{LinkCounters}
 
 -- what is counted of a link
 pub data Counted : Type 0 where
-  -- a frame of so many octets came in, and was handed in with this outcome
-  FrameCame : (octets : ℕ) (outcome : Outcome) → Counted
+  -- a frame of so many octets came in, with a user message or without one, and was handed in with this outcome
+  FrameCame : (octets : ℕ) (has_user_message : Bool) (outcome : Outcome) → Counted
   -- a frame of so many octets went out
   FrameWent : (octets : ℕ) → Counted
   -- the link failed for this reason
@@ -55,19 +55,25 @@ no_counts = record {
 abbrev pub one_more_at : ℕ → List ℕ → List ℕ
 one_more_at place counts = slice_set counts place (saturated (slice_index counts place + 1))
 
+-- a message was queued or held; of a user, it is forwarded
+abbrev pub sent_on : (has_user_message : Bool) → LinkCounters → LinkCounters
+sent_on has_user_message row =
+    record row { forwarded = if has_user_message then saturated (row.forwarded + 1) else row.forwarded }
+
 -- what an outcome adds
-abbrev pub outcome_counted : Outcome → LinkCounters → LinkCounters
-outcome_counted (Queued link) row = record row { forwarded = saturated (row.forwarded + 1) }
-outcome_counted Held row = record row { forwarded = saturated (row.forwarded + 1) }
-outcome_counted Local row = record row { delivered = saturated (row.delivered + 1) }
-outcome_counted Handled row = row
-outcome_counted Ignored row = row
-outcome_counted (Refused cause) row = record row { refused = one_more_at (cause_number cause - 1) row.refused }
+abbrev pub outcome_counted : (has_user_message : Bool) → Outcome → LinkCounters → LinkCounters
+outcome_counted has_user_message (Queued link) row = sent_on has_user_message row
+outcome_counted has_user_message Held row = sent_on has_user_message row
+outcome_counted has_user_message Local row = record row { delivered = saturated (row.delivered + 1) }
+outcome_counted has_user_message Handled row = row
+outcome_counted has_user_message Ignored row = row
+outcome_counted has_user_message (Refused cause) row =
+    record row { refused = one_more_at (cause_number cause - 1) row.refused }
 
 -- the counters of a link after one thing more is counted
 abbrev pub counted : Counted → LinkCounters → LinkCounters
-counted (FrameCame octets outcome) row =
-    outcome_counted outcome (record row {
+counted (FrameCame octets has_user_message outcome) row =
+    outcome_counted has_user_message outcome (record row {
       frames_in = saturated (row.frames_in + 1);
       octets_in = saturated (row.octets_in + octets);
     })

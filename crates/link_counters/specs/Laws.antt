@@ -14,14 +14,14 @@ use Rattle.link_counters.specs.declared.row.LinkCounters.{LinkCounters}
 
 -- ---- how much is added
 
--- a message that goes on was queued or held: forwarded
-abbrev pub is_forwarded : Outcome → Bool
-is_forwarded (Queued link) = true
-is_forwarded Held = true
-is_forwarded Local = false
-is_forwarded Handled = false
-is_forwarded Ignored = false
-is_forwarded (Refused cause) = false
+-- a user message that was queued or held is forwarded
+abbrev pub is_forwarded : (has_user_message : Bool) → Outcome → Bool
+is_forwarded has_user_message (Queued link) = has_user_message
+is_forwarded has_user_message Held = has_user_message
+is_forwarded has_user_message Local = false
+is_forwarded has_user_message Handled = false
+is_forwarded has_user_message Ignored = false
+is_forwarded has_user_message (Refused cause) = false
 
 -- a message for this node was delivered
 abbrev pub is_delivered : Outcome → Bool
@@ -46,20 +46,20 @@ one_if true = 1
 one_if false = 0
 
 -- what a frame that came in adds to a counter
-abbrev pub frame_adds : Counter → (octets : ℕ) → Outcome → ℕ
-frame_adds FramesIn octets outcome = 1
-frame_adds OctetsIn octets outcome = octets
-frame_adds FramesOut octets outcome = 0
-frame_adds OctetsOut octets outcome = 0
-frame_adds Forwarded octets outcome = one_if (is_forwarded outcome)
-frame_adds Delivered octets outcome = one_if (is_delivered outcome)
-frame_adds (RefusedBy cause) octets outcome = one_if (is_refused_by cause outcome)
-frame_adds (Failed reason) octets outcome = 0
-frame_adds Retries octets outcome = 0
+abbrev pub frame_adds : Counter → (octets : ℕ) → (has_user_message : Bool) → Outcome → ℕ
+frame_adds FramesIn octets has_user_message outcome = 1
+frame_adds OctetsIn octets has_user_message outcome = octets
+frame_adds FramesOut octets has_user_message outcome = 0
+frame_adds OctetsOut octets has_user_message outcome = 0
+frame_adds Forwarded octets has_user_message outcome = one_if (is_forwarded has_user_message outcome)
+frame_adds Delivered octets has_user_message outcome = one_if (is_delivered outcome)
+frame_adds (RefusedBy cause) octets has_user_message outcome = one_if (is_refused_by cause outcome)
+frame_adds (Failed reason) octets has_user_message outcome = 0
+frame_adds Retries octets has_user_message outcome = 0
 
 -- what one thing that is counted adds to a counter
 abbrev pub adds : Counter → Counted → ℕ
-adds counter (FrameCame octets outcome) = frame_adds counter octets outcome
+adds counter (FrameCame octets has_user_message outcome) = frame_adds counter octets has_user_message outcome
 adds FramesOut (FrameWent octets) = 1
 adds OctetsOut (FrameWent octets) = octets
 adds counter (FrameWent octets) = 0

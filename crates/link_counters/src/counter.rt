@@ -17,7 +17,7 @@ pub enum Counter {
     FramesOut,
     /// Octets of the frames that went out.
     OctetsOut,
-    /// Frames that came in with a message for another point, which was queued or held.
+    /// Frames that came in with a user message, of a service indicator above 1, which was queued or held to go on.
     Forwarded,
     /// Frames that came in with a message for a user part or a subsystem of this node.
     Delivered,

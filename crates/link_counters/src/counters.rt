@@ -41,12 +41,19 @@ impl Counters {
         self.rows.get(link.index())
     }
 
-    /// A frame of so many octets came in on a link, and was handed in with this outcome.
-    pub fn count_in(&mut self, link: LinkId, octets: usize, outcome: &Outcome)
-        ensures { self.new ≡ counted_at link (FrameCame octets outcome.now) self.old }
+    /// A frame of so many octets came in on a link, with a user message or without one, and was handed in with this
+    /// outcome.
+    pub fn count_in(
+        &mut self,
+        link: LinkId,
+        octets: usize,
+        has_user_message: bool,
+        outcome: &Outcome,
+    )
+        ensures { self.new ≡ counted_at link (FrameCame octets has_user_message outcome.now) self.old }
     {
         if let Some(row) = self.rows.get_mut(link.index()) {
-            row.count_in(octets, outcome);
+            row.count_in(octets, has_user_message, outcome);
         }
     }
 

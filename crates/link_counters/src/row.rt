@@ -18,7 +18,7 @@ pub struct LinkCounters {
     pub frames_out: u64,
     /// Octets of the frames that went out.
     pub octets_out: u64,
-    /// Frames that came in with a message for another point, which was queued or held.
+    /// Frames that came in with a user message, of a service indicator above 1, which was queued or held to go on.
     pub forwarded: u64,
     /// Frames that came in with a message for a user part or a subsystem of this node.
     pub delivered: u64,
@@ -65,17 +65,19 @@ impl LinkCounters {
         }
     }
 
-    /// A frame of so many octets came in, and was handed in with this outcome.
-    pub fn count_in(&mut self, octets: usize, outcome: &Outcome)
-        ensures { self.new ≡ counted (FrameCame octets outcome.now) self.old }
+    /// A frame of so many octets came in, with a user message or without one, and was handed in with this outcome.
+    pub fn count_in(&mut self, octets: usize, has_user_message: bool, outcome: &Outcome)
+        ensures { self.new ≡ counted (FrameCame octets has_user_message outcome.now) self.old }
     {
         self.frames_in = self.frames_in.saturating_add(1);
         self.octets_in = self.octets_in.saturating_add(octets as u64);
         match outcome {
-            Outcome::Queued(_) | Outcome::Held => self.forwarded = self.forwarded.saturating_add(1),
+            Outcome::Queued(_) | Outcome::Held if has_user_message => {
+                self.forwarded = self.forwarded.saturating_add(1);
+            }
             Outcome::Local => self.delivered = self.delivered.saturating_add(1),
             Outcome::Refused(cause) => count_one(&mut self.refused, cause_place(*cause)),
-            Outcome::Handled | Outcome::Ignored => {}
+            Outcome::Queued(_) | Outcome::Held | Outcome::Handled | Outcome::Ignored => {}
         }
     }
 
