@@ -1,4 +1,6 @@
 pub mod Lines
 pub mod Answers
 pub mod Callers
+pub mod Counters
+pub mod Rewriting
 pub mod WholeLines

@@ -1,13 +1,17 @@
 -- What a whole line of a caller does, where points are read and shown as numbers.
-use Rattle.std.specs.Prelude.{◌≡◌, ◌≢◌, Some, Result, Ok, Err}
+use Rattle.std.specs.Prelude.{◌≡◌, ℕ, List, ◌++◌, take, Some, Result, Ok, Err}
 use Rattle.exchange.specs.Stands.{Kept}
 use Rattle.stp_node.specs.Asking.{Asked}
-use Rattle.stp_node.specs.Streams.{Output}
+use Rattle.stp_node.specs.Streams.{Output, counted}
 use Rattle.stp_node.specs.declared.sink.WriteFailed.{WriteFailed}
 use Rattle.console_caller.specs.Lines.{Heard, HearsNothing, HearsScript, HearsCounters, HearsHelp, HearsUsers}
 use Rattle.console_caller.specs.Lines.{HearsNotices, HearsFrames, HearsStop, HearsNoLine}
 use Rattle.console_caller.specs.Answers.{Waiting, IsAnswered}
 use Rattle.console_caller.specs.Callers.{CallerState, OnlyOutboxChanges, told_of}
+use Rattle.console_caller.specs.Counters.{counters_text}
+use Rattle.console_caller.specs.declared.help.TheConstants.{HELP}
+use Rattle.console_caller.specs.declared.caller.TheConstants.{MALFORMED, WATCHING, STOPPING}
+use Rattle.link_counters.specs.declared.row.LinkCounters.{LinkCounters}
 use Rattle.console_caller.specs.declared.caller.Ending.{Ending}
 use Rattle.console_caller.specs.declared.caller.Ending.TheVariants.{Stays, Closes, Stops}
 use Rattle.console_caller.specs.declared.caller.News.TheVariants.{Message, Notice, Frame}
@@ -28,19 +32,44 @@ IsDone asked Closes s after old new =
     (failed : WriteFailed) × IsAnswered asked s (Err failed) after (output_of old) (output_of new)
 IsDone asked Stops s after old new = ⊥
 
+-- a text was put behind what waits for the caller
+abbrev pub answered : CallerState → List ℕ → CallerState
+answered old text = record old { outbox = record old.outbox { octets = old.outbox.octets ++ text } }
+
+-- there was no room for a text: nothing waits besides what did
+abbrev pub unanswered : CallerState → CallerState
+unanswered old = record old { outbox = record old.outbox { failures = counted old.outbox.failures } }
+
+-- one or the other
+abbrev pub IsAnsweredBy : (text : List ℕ) → Result Unit WriteFailed → (old new : CallerState) → Type 0
+IsAnsweredBy text (Ok x) old new = new ≡ answered old text
+IsAnsweredBy text (Err failed) old new = new ≡ unanswered old
+
+-- a line has one text for its answer; then the caller stays, or the node stops
+abbrev pub IsTold : (text : List ℕ) → (last : Ending) → Ending → (old new : CallerState) → Type 0
+IsTold text last Closes old new = new ≡ unanswered old
+IsTold text last Stays old new = (Stays ≡ last) × (new ≡ answered old text)
+IsTold text last Stops old new = (Stops ≡ last) × (new ≡ answered old text)
+
+-- a text of many lines is answered, or its first octets, as far as there was room
+abbrev pub IsShown : (text : List ℕ) → Ending → (old new : CallerState) → Type 0
+IsShown text Stays old new = new ≡ answered old text
+IsShown text Closes old new = (count : ℕ) × (new ≡ unanswered (answered old (take count text)))
+IsShown text Stops old new = ⊥
+
 -- What a line does to the node and to its caller, and what becomes of the caller. Only a line of a script changes the
 -- node, and only `stop` asks it to stop.
-abbrev pub DoesHeard : Heard → Ending → (s after : Kept) → (old new : CallerState) → Type 0
-DoesHeard HearsNothing ending s after old new = (ending ≡ Stays) × (after ≡ s) × (new ≡ old)
-DoesHeard (HearsScript asked) ending s after old new =
+abbrev pub DoesHeard : Heard → List LinkCounters → Ending → (s after : Kept) → (old new : CallerState) → Type 0
+DoesHeard HearsNothing rows ending s after old new = (ending ≡ Stays) × (after ≡ s) × (new ≡ old)
+DoesHeard (HearsScript asked) rows ending s after old new =
     IsDone asked ending s after old.outbox new.outbox × OnlyOutboxChanges old new
-DoesHeard HearsCounters ending s after old new = (ending ≢ Stops) × (after ≡ s) × OnlyOutboxChanges old new
-DoesHeard HearsHelp ending s after old new = (ending ≢ Stops) × (after ≡ s) × OnlyOutboxChanges old new
-DoesHeard HearsUsers ending s after old new =
-    (ending ≢ Stops) × (after ≡ s) × OnlyOutboxChanges (told_of old Message) new
-DoesHeard HearsNotices ending s after old new =
-    (ending ≢ Stops) × (after ≡ s) × OnlyOutboxChanges (told_of old Notice) new
-DoesHeard HearsFrames ending s after old new =
-    (ending ≢ Stops) × (after ≡ s) × OnlyOutboxChanges (told_of old Frame) new
-DoesHeard HearsStop ending s after old new = (ending ≢ Stays) × (after ≡ s) × OnlyOutboxChanges old new
-DoesHeard HearsNoLine ending s after old new = (ending ≢ Stops) × (after ≡ s) × OnlyOutboxChanges old new
+DoesHeard HearsCounters rows ending s after old new = (after ≡ s) × IsShown (counters_text s rows) ending old new
+DoesHeard HearsHelp rows ending s after old new = (after ≡ s) × IsTold HELP.now Stays ending old new
+DoesHeard HearsUsers rows ending s after old new =
+    (after ≡ s) × IsTold WATCHING.now Stays ending (told_of old Message) new
+DoesHeard HearsNotices rows ending s after old new =
+    (after ≡ s) × IsTold WATCHING.now Stays ending (told_of old Notice) new
+DoesHeard HearsFrames rows ending s after old new =
+    (after ≡ s) × IsTold WATCHING.now Stays ending (told_of old Frame) new
+DoesHeard HearsStop rows ending s after old new = (after ≡ s) × IsTold STOPPING.now Stops ending old new
+DoesHeard HearsNoLine rows ending s after old new = (after ≡ s) × IsTold MALFORMED.now Stays ending old new

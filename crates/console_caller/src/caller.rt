@@ -7,7 +7,7 @@ ghost use Rattle.console_caller.specs.Lines.{heard};
 ghost use Rattle.console_caller.specs.Answers.{IsAnswered};
 ghost use Rattle.console_caller.specs.Callers.{just_came, sees_of, told_of, OnlyOutboxChanges};
 ghost use Rattle.console_caller.specs.Callers.{line_feed, without_return, EndsNoLine, IsOneLine};
-ghost use Rattle.console_caller.specs.WholeLines.{DoesHeard, ending_of, output_of};
+ghost use Rattle.console_caller.specs.WholeLines.{DoesHeard, IsAnsweredBy, ending_of, output_of};
 ghost use Rattle.console_caller.specs.declared.outbox.TheConstants.{OUTBOX_OCTETS};
 
 use crate::answering::do_script_line;
@@ -111,8 +111,9 @@ impl Caller {
         }
     }
 
-    /// Takes octets that came, up to the end of the first line in them, and does it; all of them where no line ends in
-    /// them. Returns how many it took, and what becomes of the caller.
+    /// Takes octets that came, up to the end of the first line in them, and does that line. If no line ends in them, it
+    /// takes them all, but for those behind the octet that makes the line too long. Returns how many it took, and what
+    /// becomes of the caller.
     pub fn read(&mut self, octets: &[u8], desk: &mut Desk<'_>) -> (usize, Ending)
         ensures within { result.0 ≤ length octets.now }
         ensures one_line { IsOneLine (take result.0 octets.now) }
@@ -125,11 +126,18 @@ impl Caller {
             → result ≡ (length octets.now, Ending.Stays) }
         ensures too_long { (front behind : List ℕ) → octets.now ≡ front ++ behind → EndsNoLine front → 0 < length front
             → LINE_OCTETS < length self.old.line + length front → result.1 ≡ Ending.Closes }
+        // They do nothing to the node, and don't stop it.
+        ensures still { EndsNoLine octets.now → desk.new.exchange.now ≡ desk.old.exchange.now }
+        ensures goes_on { EndsNoLine octets.now → result.1 ≢ Ending.Stops }
+        // How points are read, and the counters, stay whatever comes.
+        ensures points { desk.new.points ≡ desk.old.points }
+        ensures counters { desk.new.counters.now ≡ desk.old.counters.now }
         // A line that comes to its end, and isn't too long, is done.
         ensures done { (front behind : List ℕ) → octets.now ≡ front ++ line_feed ∷ behind → EndsNoLine front
             → length self.old.line + length front ≤ LINE_OCTETS → desk.old.points ≡ PointFormat.Plain
-            → (result.0 ≡ length front + 1) × DoesHeard (heard (without_return (self.old.line ++ front))) result.1
-            desk.old.exchange.now desk.new.exchange.now (record self.old { line = [] }) self.new }
+            → (result.0 ≡ length front + 1) × DoesHeard (heard (without_return (self.old.line ++ front)))
+            desk.old.counters.now result.1 desk.old.exchange.now desk.new.exchange.now
+            (record self.old { line = [] }) self.new }
     {
         for (k, octet) in octets.iter().enumerate() {
             match self.line.add(*octet) {
@@ -143,8 +151,11 @@ impl Caller {
 
     /// Does the line that just ended, and begins the next one.
     fn end_line(&mut self, desk: &mut Desk<'_>) -> Ending
-        ensures { desk.old.points ≡ PointFormat.Plain → DoesHeard (heard (without_return self.old.line)) result
-            desk.old.exchange.now desk.new.exchange.now (record self.old { line = [] }) self.new }
+        ensures points { desk.new.points ≡ desk.old.points }
+        ensures counters { desk.new.counters.now ≡ desk.old.counters.now }
+        ensures done { desk.old.points ≡ PointFormat.Plain → DoesHeard (heard (without_return self.old.line))
+            desk.old.counters.now result desk.old.exchange.now desk.new.exchange.now
+            (record self.old { line = [] }) self.new }
     {
         let line = mem::replace(&mut self.line, OpenLine::first());
         match self.do_line(without_return(line.octets()), desk) {
@@ -155,8 +166,10 @@ impl Caller {
 
     /// Does a whole line. The error means that there is no room for its answer.
     fn do_line(&mut self, line: &[u8], desk: &mut Desk<'_>) -> Result<Ending, WriteFailed>
-        ensures { desk.old.points ≡ PointFormat.Plain → DoesHeard (heard line.now) (ending_of result)
-            desk.old.exchange.now desk.new.exchange.now self.old self.new }
+        ensures points { desk.new.points ≡ desk.old.points }
+        ensures counters { desk.new.counters.now ≡ desk.old.counters.now }
+        ensures done { desk.old.points ≡ PointFormat.Plain → DoesHeard (heard line.now) desk.old.counters.now
+            (ending_of result) desk.old.exchange.now desk.new.exchange.now self.old self.new }
     {
         let mut room = ArrayVec::new();
         let line = line_in_numbers(line, desk.points, &mut room);
@@ -166,21 +179,23 @@ impl Caller {
             Ok(ConsoleLine::Counters) => {
                 print_counters(desk.exchange, desk.counters, &mut self.outbox)?;
             }
-            Ok(ConsoleLine::Help) => self.outbox.write(HELP)?,
+            Ok(ConsoleLine::Help) => self.answer(HELP)?,
             Ok(ConsoleLine::Users) => self.begin(News::Message)?,
             Ok(ConsoleLine::Notices) => self.begin(News::Notice)?,
             Ok(ConsoleLine::Frames) => self.begin(News::Frame)?,
             Ok(ConsoleLine::Stop) => {
-                self.outbox.write(STOPPING)?;
+                self.answer(STOPPING)?;
                 return Ok(Ending::Stops);
             }
-            Err(Malformed) => self.outbox.write(MALFORMED)?,
+            Err(Malformed) => self.answer(MALFORMED)?,
         }
         Ok(Ending::Stays)
     }
 
     /// Does a line of a script, and answers what a script prints for it.
     fn do_script(&mut self, line: Line<'_>, desk: &mut Desk<'_>) -> Result<(), WriteFailed>
+        ensures points { desk.new.points ≡ desk.old.points }
+        ensures counters { desk.new.counters.now ≡ desk.old.counters.now }
         ensures same { OnlyOutboxChanges self.old self.new }
         ensures answer { desk.old.points ≡ PointFormat.Plain → IsAnswered (asked_line line.entry) desk.old.exchange.now
             result desk.new.exchange.now (output_of self.old.outbox) (output_of self.new.outbox) }
@@ -194,16 +209,23 @@ impl Caller {
         }
     }
 
+    /// Answers a text.
+    fn answer(&mut self, text: &[u8]) -> Result<(), WriteFailed>
+        ensures { IsAnsweredBy text.now result self.old self.new }
+    {
+        self.outbox.write(text)
+    }
+
     /// The caller is told such news from now on.
     fn begin(&mut self, news: News) -> Result<(), WriteFailed>
-        ensures { OnlyOutboxChanges (told_of self.old news) self.new }
+        ensures { IsAnsweredBy WATCHING.now result (told_of self.old news) self.new }
     {
         match news {
             News::Message => self.sees_messages = true,
             News::Notice => self.sees_notices = true,
             News::Frame => self.sees_frames = true,
         }
-        self.outbox.write(WATCHING)
+        self.answer(WATCHING)
     }
 
     /// Whether the caller asked for such news.

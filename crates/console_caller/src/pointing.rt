@@ -1,10 +1,11 @@
 //! Point codes in three parts, in the lines of callers and in the texts that they are answered.
 
-ghost use Rattle.std.specs.Prelude.{◌≡◌, None};
+ghost use Rattle.std.specs.Prelude.{◌≡◌, ◌++◌, true, None, IfSome};
+ghost use Rattle.trace.specs.Points.{IsPointText, point_text};
+ghost use Rattle.console_caller.specs.Rewriting.{IsRewritten};
 
 use crate::caller::LINE_OCTETS;
 use arrayvec::ArrayVec;
-use console::read_number;
 use console::words::cut;
 use stp_node::{Sink, WriteFailed};
 use stp_types::PointCode;
@@ -13,11 +14,17 @@ use trace::{PointFormat, parse_point, point_text};
 /// Octets of a line of a text with a point in it, at most.
 pub const POINT_LINE_OCTETS: usize = 160;
 
-/// The largest point.
-const LAST_POINT: u16 = 16_383;
-
-/// The place of the point among the words of `title add T P N DIGITS POINT ROUTE SSN`.
+/// The place of the point among the words of the line `title add T P N DIGITS POINT ROUTE SSN`, from 0.
 const ADDED_POINT: usize = 6;
+
+/// Its place in what is shown of a route, `route POINT ..`.
+const ROUTE_POINT: usize = 1;
+
+/// Its place in what is shown of a translation row, `title T P N DIGITS POINT ..`.
+const TITLE_POINT: usize = 5;
+
+/// Its place in the notices of messages, `lost CAUSE from POINT ..` and `unsent CAUSE to POINT`.
+const NOTICE_POINT: usize = 3;
 
 /// A line of a caller with its point as a number, as lines of a script have it: the point of `title add` is read in
 /// this format. A line without one stays as it is. What is changed is written to `room`.
@@ -26,7 +33,8 @@ pub fn line_in_numbers<'a>(
     points: PointFormat,
     room: &'a mut ArrayVec<u8, LINE_OCTETS>,
 ) -> &'a [u8]
-    ensures { points ≡ PointFormat.Plain → result.now ≡ line.now }
+    ensures plain { points ≡ PointFormat.Plain → result.now ≡ line.now }
+    ensures rewritten { IsRewritten points PointFormat.Plain line.now result.now }
 {
     if points == PointFormat::Plain || !line.starts_with(b"title add ") {
         return line;
@@ -46,19 +54,16 @@ struct Parts<'a> {
 }
 
 /// A line cut at the word of this place, from 0. None where it has fewer words.
-fn parts_at(line: &[u8], place: usize) -> Option<Parts<'_>> {
+fn parts_at(line: &[u8], place: usize) -> Option<Parts<'_>>
+    ensures { IfSome result (λ parts. line.now ≡ parts.front.now ++ parts.word.now ++ parts.back.now) }
+{
     let mut rest = line;
     for _ in 0..place {
         rest = cut(rest).1?;
     }
-    let (word, _) = cut(rest);
-    let start = line.len().saturating_sub(rest.len());
-    let end = start.saturating_add(word.len()).min(line.len());
-    Some(Parts {
-        front: &line[..start],
-        word,
-        back: &line[end..],
-    })
+    let (front, behind) = line.split_at(line.len().saturating_sub(rest.len()));
+    let (word, back) = behind.split_at(cut(rest).0.len().min(behind.len()));
+    Some(Parts { front, word, back })
 }
 
 /// Writes the line with the number of the point that its word is. False where the word is no point, or the line is too
@@ -67,14 +72,21 @@ fn write_number(
     parts: &Parts<'_>,
     points: PointFormat,
     room: &mut ArrayVec<u8, LINE_OCTETS>,
-) -> bool {
-    let Ok(word) = str::from_utf8(parts.word) else {
-        return false;
-    };
-    let Some(point) = parse_point(word, points) else {
-        return false;
-    };
-    write_parts(parts, point, PointFormat::Plain, room)
+) -> bool
+    ensures { result ≡ true → IsRewritten points PointFormat.Plain
+        (parts.now.front.now ++ parts.now.word.now ++ parts.now.back.now) room.new.items }
+{
+    match point_of(parts.word, points) {
+        Some(point) => write_parts(parts, point, PointFormat::Plain, room),
+        None => false,
+    }
+}
+
+/// The point that a word is in this format.
+fn point_of(word: &[u8], points: PointFormat) -> Option<PointCode>
+    ensures { IfSome result (λ point. IsPointText points word.now point) }
+{
+    parse_point(str::from_utf8(word).ok()?, points)
 }
 
 /// Writes the line with a point in place of its word. False where the line is too long.
@@ -83,7 +95,10 @@ fn write_parts<const N: usize>(
     point: PointCode,
     points: PointFormat,
     room: &mut ArrayVec<u8, N>,
-) -> bool {
+) -> bool
+    ensures { result ≡ true
+        → room.new.items ≡ parts.now.front.now ++ point_text points point ++ parts.now.back.now }
+{
     room.clear();
     room.try_extend_from_slice(parts.front).is_ok()
         && room
@@ -96,38 +111,32 @@ fn write_parts<const N: usize>(
 fn place_of_point(line: &[u8]) -> Option<usize> {
     let (word, _) = cut(line);
     if word == b"route".as_slice() {
-        Some(1)
+        Some(ROUTE_POINT)
     } else if word == b"title".as_slice() {
-        Some(5)
+        Some(TITLE_POINT)
     } else if word == b"lost".as_slice() || word == b"unsent".as_slice() {
-        Some(3)
+        Some(NOTICE_POINT)
     } else {
         None
     }
 }
 
 /// A line that is shown, without its line feed, with its point in three parts. What is changed is written to `room`.
-pub fn line_in_parts<'a>(
-    line: &'a [u8],
-    room: &'a mut ArrayVec<u8, POINT_LINE_OCTETS>,
-) -> &'a [u8] {
+pub fn line_in_parts<'a>(line: &'a [u8], room: &'a mut ArrayVec<u8, POINT_LINE_OCTETS>) -> &'a [u8]
+    ensures { IsRewritten PointFormat.Plain PointFormat.ThreeEightThree line.now result.now }
+{
     let Some(place) = place_of_point(line) else {
         return line;
     };
     let Some(parts) = parts_at(line, place) else {
         return line;
     };
-    match point_of(parts.word) {
+    match point_of(parts.word, PointFormat::Plain) {
         Some(point) if write_parts(&parts, point, PointFormat::ThreeEightThree, room) => {
             room.as_slice()
         }
         _ => line,
     }
-}
-
-/// The point of this number.
-fn point_of(word: &[u8]) -> Option<PointCode> {
-    PointCode::new(read_number(word, 0, LAST_POINT)?)
 }
 
 /// A sink that shows the points of each line that is written in three parts.
@@ -138,8 +147,10 @@ pub struct PointSink<'a, W> {
 }
 
 impl<'a, W: Sink> PointSink<'a, W> {
-    /// The sink in front of this one.
-    pub fn new(sink: &'a mut W) -> PointSink<'a, W> {
+    /// The sink that writes to this one, and that counts its own failures.
+    pub fn new(sink: &'a mut W) -> PointSink<'a, W>
+        ensures { ⟦<PointSink<'a, W> as Sink>⟧.output result ≡ record { written = None; failures = 0 } }
+    {
         PointSink { sink, failures: 0 }
     }
 }

@@ -1,5 +1,6 @@
 -- What is counted of a link, and what it adds to each counter.
-use Rattle.std.specs.Prelude.{ℕ, ◌+◌, ◌-◌, ◌^◌, min, Bool, if◌then◌else◌, List, replicate, slice_index, slice_index_or, slice_set}
+use Rattle.std.specs.Prelude.{ℕ, ◌+◌, ◌-◌, ◌^◌, min, Bool, if◌then◌else◌}
+use Rattle.std.specs.Prelude.{List, replicate, slice_index, slice_index_or, slice_set}
 use Rattle.signalling_types.specs.Causes.{cause_number}
 use Rattle.signalling_types.specs.declared.notice.FailureReason.{FailureReason}
 use Rattle.signalling_types.specs.declared.notice.FailureReason.TheVariants.{Association, Timer, Sequence, Status}

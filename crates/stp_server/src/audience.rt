@@ -1,7 +1,7 @@
 //! Who is told of what passes: the counters, the capture, and the callers of the console.
 
 ghost use Rattle.std.specs.Prelude.{◌≡◌, ◌≤◌, length};
-ghost use Rattle.stp_server.specs.Audience.{counted_sight};
+ghost use Rattle.stp_server.specs.Audience.{counted_sight, has_user_message};
 
 use crate::callers::Callers;
 use crate::capture::Capture;
@@ -15,9 +15,15 @@ use std::time::Duration;
 use stp_types::{Limits, LinkId, Outcome, Settings};
 use trace::{Direction, PointFormat, frame_words};
 
-/// Octets of the line of a message for this point, at most: two digits for each octet of the longest, its link, and
-/// words.
+/// Octets of the line of a message for this point, at most: its link, two digits for each octet of the longest message,
+/// and the word in front.
 const MESSAGE_OCTETS: usize = 640;
+
+/// Service indicators: they are the low four bits of the SIO (Q.704 §14.2).
+const SERVICE_INDICATORS: u8 = 16;
+
+/// The first service indicator of a user: 0 is network management, and 1 link tests (Q.704 §14.2.1).
+const FIRST_USER: u8 = 2;
 
 /// Who is told of the frames of a server.
 #[derive(Drop)]
@@ -70,25 +76,52 @@ impl Audience {
         if let Some(capture) = &mut self.capture {
             capture.write(self.now, link, direction, frame);
         }
-        if !self.callers.any_sees(News::Frame) || frame.len() > Limits::FRAME_OCTETS {
+        if self.callers.any_sees(News::Frame) {
+            self.tell_frame(link, direction, frame);
+        }
+    }
+
+    /// Tells callers of a frame in words.
+    #[inline(never)]
+    fn tell_frame(&mut self, link: LinkId, direction: Direction, frame: &[u8])
+        ensures { self.new.counters ≡ self.old.counters }
+    {
+        if frame.len() > Limits::FRAME_OCTETS {
             return;
         }
         let words = frame_words(self.name(link), direction, frame, self.points);
         self.callers.tell_line(News::Frame, words.as_slice());
     }
 
+    /// A message for this point came: callers that asked for such are told.
+    fn delivered(&mut self, link: LinkId, frame: &[u8])
+        ensures { self.new.counters ≡ self.old.counters }
+    {
+        if self.callers.any_sees(News::Message) {
+            self.tell_message(link, frame);
+        }
+    }
+
     /// Tells callers of a message for this point.
+    #[inline(never)]
     fn tell_message(&mut self, link: LinkId, frame: &[u8])
         ensures { self.new.counters ≡ self.old.counters }
     {
-        if !self.callers.any_sees(News::Message) {
-            return;
-        }
         if let Ok(Frame::Message { sio, sif, .. }) = decode(frame)
             && let Some(line) = message_line(self.name(link), sio, sif)
         {
             self.callers.tell_line(News::Message, line.as_slice());
         }
+    }
+}
+
+/// Whether a frame has a message of a user, and none of the network's management or of link tests.
+fn has_user_message(frame: &[u8]) -> bool
+    ensures { result ≡ has_user_message frame.now }
+{
+    match decode(frame) {
+        Ok(Frame::Message { sio, .. }) => sio % SERVICE_INDICATORS >= FIRST_USER,
+        Ok(_) | Err(_) => false,
     }
 }
 
@@ -125,10 +158,13 @@ impl<U: Watch> Watch for Watching<'_, U> {
         × (after.audience.now.counters ≡ counted_sight sight before.audience.now.counters) };
 
     fn came_in(&mut self, link: LinkId, frame: &[u8], outcome: &Outcome) {
-        self.audience.counters.count_in(link, frame.len(), outcome);
+        let is_users = has_user_message(frame);
+        self.audience
+            .counters
+            .count_in(link, frame.len(), is_users, outcome);
         self.audience.passed(link, Direction::In, frame);
         match outcome {
-            Outcome::Local => self.audience.tell_message(link, frame),
+            Outcome::Local => self.audience.delivered(link, frame),
             Outcome::Refused(_) => {
                 self.audience.refused = self.audience.refused.saturating_add(1);
             }

@@ -3,23 +3,32 @@
 use crate::caller_socket::CallerSocket;
 use crate::journal::Journal;
 use crate::naming::SocketName;
+use arrayvec::ArrayString;
 use console_caller::{Desk, News};
 use mio::event::Event;
 use mio::net::{TcpListener, TcpStream};
 use mio::{Interest, Registry};
 use std::alloc::{AllocError, Global};
+use std::fmt::Write as _;
 use std::io::Write;
 use std::net::SocketAddr;
 use stp_node::Sink;
 
+/// Octets of the line for a caller that finds no place, at most.
+const LINE_OCTETS: usize = 64;
+
 /// Callers at once, at most.
 pub const MOST_CALLERS: usize = 16;
 
-/// What a caller is told for whom there is no place.
-const NO_PLACE: &[u8] = b"no place: 16 callers are connected\n";
-
 /// Callers that are taken in one round, at most.
 const ACCEPTS: usize = 16;
+
+/// Tells a caller that there is no place for it.
+fn tell_no_place(stream: &mut TcpStream) {
+    let mut line = ArrayString::<LINE_OCTETS>::new();
+    let _fits = writeln!(line, "no place: {MOST_CALLERS} callers are connected");
+    let _told = stream.write(line.as_bytes());
+}
 
 /// The callers of the console, each in a place of its own, and the listener of the console.
 #[derive(Drop)]
@@ -100,7 +109,7 @@ impl Callers {
     ) {
         let free = self.places.iter().position(|place| place.is_none());
         let Some(free) = free else {
-            let _told = stream.write(NO_PLACE);
+            tell_no_place(&mut stream);
             journal.tell(&format_args!("caller {peer} no place"));
             return;
         };

@@ -1,8 +1,7 @@
 //! The capture of a server: each frame as a packet of a file.
 
-use std::alloc::Global;
+use std::alloc::{AllocError, Global};
 use std::fs::File;
-use std::io;
 use std::io::{BufWriter, Write};
 use std::time::Duration;
 use stp_node::{WriteFailed, write_whole};
@@ -27,9 +26,11 @@ struct Numbers {
 
 impl Capture {
     /// A capture into this file, which begins with the header of such files. The node started so long after 1970. The
-    /// error is that of want of memory. Where the header can't be written the capture has failed.
-    pub fn begin(alloc: Global, file: File, started: Duration) -> io::Result<Capture> {
-        let mut file = BufWriter::new(alloc, file)?;
+    /// error means that memory ran out. If the header can't be written, the capture has failed.
+    pub fn begin(alloc: Global, file: File, started: Duration) -> Result<Capture, AllocError> {
+        let Ok(mut file) = BufWriter::new(alloc, file) else {
+            return Err(AllocError);
+        };
         let has_failed = file.write_all(&file_header()).is_err() || file.flush().is_err();
         let first = Numbers {
             incoming: 0,
@@ -49,6 +50,7 @@ impl Capture {
     }
 
     /// Writes a frame that passed on a link so long after the start.
+    #[inline(never)]
     pub fn write(&mut self, now: Duration, link: LinkId, direction: Direction, frame: &[u8]) {
         if self.has_failed || frame.len() > Limits::FRAME_OCTETS {
             return;

@@ -9,12 +9,12 @@ use mio::net::TcpStream;
 use std::io::{ErrorKind, Read, Write};
 use std::net::SocketAddr;
 use stp_node::Sink;
-use stp_types::LinkId;
+use stp_types::{FailureReason, LinkId};
 
 /// Octets that one read asks for.
 const PIECE_OCTETS: usize = 4096;
 
-/// Octets that are handed in before the notices are looked at: no more frames are in them than notices are kept.
+/// Octets that are handed in before the notices are looked at: they are no more frames than notices are kept.
 const LOOK_OCTETS: usize = 512;
 
 /// The connection of a link.
@@ -126,7 +126,7 @@ impl Connection {
     ) -> Moved {
         for part in octets.chunks(LOOK_OCTETS) {
             let read = self.hand_in_part(part, node, user);
-            node.look(journal);
+            node.look(FailureReason::Changeover, journal);
             if let Err(Broken) = read {
                 return Moved::Over(Why::Framing);
             }

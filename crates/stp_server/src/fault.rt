@@ -11,7 +11,7 @@ use std::net::SocketAddr;
 pub enum OpenFault {
     /// Memory ran out.
     NoMemory,
-    /// The system gives no poll.
+    /// The system has no poll to give, or the poll takes no further socket.
     Poll,
     /// It can't listen at this address, for this reason.
     Listen(SocketAddr, ErrorKind),
@@ -35,7 +35,7 @@ impl From<NoMemory> for OpenFault {
     }
 }
 
-/// A listener that can't be had.
+/// The fault of a listener that the system refuses.
 pub(crate) fn listen_fault(address: SocketAddr, error: &io::Error) -> OpenFault {
     OpenFault::Listen(address, error.kind())
 }

@@ -16,7 +16,7 @@ use serve_settings::Endpoint;
 use std::net::{Net, SocketAddr};
 use std::time::Duration;
 use stp_node::Sink;
-use stp_types::{LinkId, Outcome};
+use stp_types::{FailureReason, LinkId, Outcome};
 
 /// Reads of a link in one round, at most.
 const READS: usize = 16;
@@ -178,7 +178,7 @@ impl Gate {
         self.passage = Passage::Open(Connection::new(self.link, stream, peer));
         let name = node.audience.name(self.link);
         journal.tell(&format_args!("open {name} {peer}"));
-        node.look(journal);
+        node.look(FailureReason::Association, journal);
     }
 
     /// The link's association is gone: its connection is closed.
@@ -198,7 +198,7 @@ impl Gate {
         self.passage = Passage::Closed;
         self.wait(journal.now());
         node.exchange.step(&Event::AssociationDown(self.link));
-        node.look(journal);
+        node.look(FailureReason::Association, journal);
     }
 
     /// The next try of the connection is a while from now.

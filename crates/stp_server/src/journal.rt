@@ -27,8 +27,7 @@ impl<'a, W: Sink> Journal<'a, W> {
         self.now
     }
 
-    /// Writes a line, without the end of one that is too long. Where the write fails the line is lost: the node goes
-    /// on without it.
+    /// Writes a line, cut to 255 octets. If the write fails, the line is lost, and the node goes on.
     pub fn tell<T: fmt::Display>(&mut self, text: &T) {
         let seconds = self.now.as_secs();
         let millis = self.now.subsec_millis();

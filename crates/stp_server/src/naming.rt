@@ -5,7 +5,7 @@ ghost use Rattle.stp_server.specs.Naming.{number_of};
 
 use mio::Token;
 
-/// How many sockets of a kind have tokens.
+/// Tokens of each kind of socket.
 const KIND: usize = 256;
 
 /// A socket of a server.
@@ -37,7 +37,7 @@ impl SocketName {
     /// The socket of a token, where one has it.
     pub fn of(token: Token) -> Option<SocketName>
         ensures named { IfSome result (λ name. number_of name ≡ token.0) }
-        ensures found { token.0 ≤ 768 → IsSome result }
+        ensures found { token.0 ≤ number_of SocketName.Console → IsSome result }
     {
         let number = (token.0 % KIND) as u8;
         match token.0 / KIND {

@@ -36,10 +36,10 @@ impl Node {
         })
     }
 
-    /// One tick passes.
+    /// One tick passes. A link that fails in it fails by a timer.
     pub(crate) fn tick<W: Sink>(&mut self, journal: &mut Journal<'_, W>) {
         self.exchange.step(&Event::Tick);
-        self.look(journal);
+        self.look(FailureReason::Timer, journal);
     }
 
     /// Does the lines that callers wrote. True where one of them stops the node.
@@ -62,28 +62,37 @@ impl Node {
         callers.read(&mut desk)
     }
 
-    /// Looks for new notices: the log and the callers that watch them are told, and failures are counted.
-    pub(crate) fn look<W: Sink>(&mut self, journal: &mut Journal<'_, W>) {
+    /// Looks for new notices: the log and the callers that watch them are told, and failures are counted. A failure
+    /// whose notice was dropped for those behind it is counted as one for this reason.
+    pub(crate) fn look<W: Sink>(&mut self, dropped: FailureReason, journal: &mut Journal<'_, W>) {
         for _ in 0..self.audience.refused {
             self.seen.refused();
         }
         self.audience.refused = 0;
         let count = self.seen.look(&self.exchange);
-        let kept = self.exchange.notices().len();
-        let first = kept.saturating_sub(count);
-        for k in first..kept {
-            self.tell(k, journal);
+        if count > 0 {
+            self.tell_last(count, journal);
+            self.count_dropped_failures(count, dropped);
         }
-        self.count_untold_failures(first);
     }
 
-    /// Counts the failures of links whose notice was dropped for those behind it. Only a changeover order for a link
-    /// with many unconfirmed messages makes so many notices at once.
-    fn count_untold_failures(&mut self, first: usize) {
+    /// Tells of so many notices, the last ones.
+    #[inline(never)]
+    fn tell_last<W: Sink>(&mut self, count: usize, journal: &mut Journal<'_, W>) {
+        let kept = self.exchange.notices().len();
+        for k in kept.saturating_sub(count)..kept {
+            self.tell(k, journal);
+        }
+    }
+
+    /// Counts the failures of links whose notice isn't among the last ones, so many, since it was dropped for those
+    /// behind it. More notices than are kept come between two looks if a changeover order loses many messages, or if
+    /// the messages that a changeover held find no route.
+    fn count_dropped_failures(&mut self, count: usize, reason: FailureReason) {
+        let first = self.exchange.notices().len().saturating_sub(count);
         for k in 0..self.exchange.settings().link_count() {
             let link = LinkId::new(u8::try_from(k).unwrap_or(u8::MAX));
             if self.seen.fell(link) && !self.is_failure_told(link, first) {
-                let reason = FailureReason::Changeover;
                 self.audience.counters.count_failure(link, reason);
             }
         }

@@ -27,15 +27,19 @@ impl Seen {
         })
     }
 
-    /// A message in a frame was refused, which made a notice.
+    /// A frame that came in was refused, which made a notice.
     pub fn refused(&mut self) {
         self.refused = self.refused.saturating_add(1);
     }
 
-    /// How many notices are new since the last look, as far as the last 64 tell. They are the last ones.
+    /// How many notices, counted from the last one back, are new since the last look. It tells by the notices that the
+    /// node keeps, so some that are the same as those before them may be missed, but no refusal and no failure is.
     pub fn look(&mut self, exchange: &Exchange) -> usize {
         let least = self.refused.saturating_add(self.note_failures(exchange));
         self.refused = 0;
+        if least == 0 && self.has_seen_all(exchange) {
+            return 0;
+        }
         mem::swap(&mut self.former, &mut self.notices);
         self.note_notices(exchange);
         new_among(&self.former, &self.notices, least)
@@ -46,7 +50,18 @@ impl Seen {
         self.fell.get(link.index()).copied().unwrap_or(false)
     }
 
-    /// Keeps the notices as they are now. There is room for 64, and there are no more.
+    /// Whether the notices are those of the last look. As long as a node keeps each, any further one makes them more.
+    fn has_seen_all(&self, exchange: &Exchange) -> bool {
+        let notices = exchange.notices();
+        notices.len() == self.notices.len()
+            && (notices.len() < Limits::NOTICES
+                || notices
+                    .iter()
+                    .zip(self.notices.iter())
+                    .all(|(now, seen)| now == seen))
+    }
+
+    /// Keeps the notices as they are now. There is room for as many as an exchange keeps.
     fn note_notices(&mut self, exchange: &Exchange) {
         self.notices.clear();
         for notice in exchange.notices().iter() {

@@ -15,23 +15,24 @@ pub struct Retry {
 
 impl Model for Retry {
     ghost use Rattle.std.specs.Prelude.{ℕ, ◌≤◌};
+    ghost use Rattle.stp_server.specs.declared.retrying.TheConstants.{LONGEST_WAIT};
 
     ghost Value = { ℕ };
 
     ghost view = { λ r. r.seconds };
 
-    ghost invariant = { λ r. r.seconds ≤ 30 };
+    ghost invariant = { λ r. r.seconds ≤ LONGEST_WAIT };
 }
 
 impl Retry {
-    /// Before the first wait.
+    /// The waits from the first one on.
     pub fn new() -> Retry
         ensures { result ≡ 1 }
     {
         Retry { seconds: 1 }
     }
 
-    /// The next wait, in seconds; the one behind it is twice as long, and at most 30 seconds.
+    /// The next wait, in seconds. The one after it is twice as long, and at most `LONGEST_WAIT`.
     pub fn next_wait(&mut self) -> u64
         ensures wait { result ≡ self.old }
         ensures next { self.new ≡ min LONGEST_WAIT (2 * self.old) }

@@ -19,7 +19,7 @@ use std::marker::Model;
 use std::net::{Net, SocketAddr};
 use std::time::Duration;
 use stp_node::Sink;
-use stp_types::{LinkId, Outcome};
+use stp_types::{FailureReason, LinkId, Outcome};
 use trace::PointFormat;
 
 /// Sockets that one wait tells of, at most. Further ones are told of by the next.
@@ -38,7 +38,7 @@ pub struct Places<'a> {
 
 /// A node whose links are TCP connections: an association of a link is a connection.
 ///
-/// It has no clock: ticks are let pass by `tick`, and each call is told how long after the start it is.
+/// It has no clock: `tick` lets ticks pass, and `now` is the time since the start, as the caller reads it.
 #[derive(Drop)]
 pub struct Server {
     alloc: Global,
@@ -50,7 +50,7 @@ pub struct Server {
     is_stopping: bool,
 }
 
-// What sockets give is known to nobody, so nothing is said of a server's state.
+// No contract can say what sockets give, so nothing is said of a server's state.
 impl Model for Server {
     ghost Value = { Unit {0} };
 
@@ -88,16 +88,17 @@ impl Server {
         self.is_stopping
     }
 
-    /// Hands in an event that doesn't come from a socket: a message of a user part, or an order.
+    /// Hands in an event that doesn't come from a socket: a message of a user part, or an operator's order.
     pub fn step<W: Sink>(&mut self, event: &Event<'_>, now: Duration, log: &mut W) -> Outcome {
         let outcome = self.node.exchange.step(event);
-        self.node.look(&mut Journal::new(log, now));
+        self.node
+            .look(FailureReason::Operator, &mut Journal::new(log, now));
         self.is_busy = true;
         outcome
     }
 
-    /// Lets so many ticks pass. Behind them each listener is asked again for connections: one that came may have been
-    /// left waiting for want of sockets.
+    /// Lets so many ticks pass. The next turn then asks each listener for connections again: one that came may still
+    /// be waiting because there were no sockets left.
     pub fn tick<W: Sink>(&mut self, ticks: u64, now: Duration, log: &mut W) {
         let mut journal = Journal::new(log, now);
         for _ in 0..ticks {
@@ -117,7 +118,7 @@ impl Server {
         self.node.audience.callers.mark_console();
     }
 
-    /// Closes the connection of a link as its peer would: the node loses the association.
+    /// Closes the connection of a link, so that the node loses the association. The log gives `node` as the reason.
     pub fn cut<W: Sink>(&mut self, link: LinkId, now: Duration, log: &mut W) {
         let mut journal = Journal::new(log, now);
         if let Some(gate) = self.gates.get_mut(link.index()) {
@@ -126,8 +127,8 @@ impl Server {
         self.is_busy = true;
     }
 
-    /// Waits until a socket is ready, a connection is to be tried, or the time is up; not at all where the last round
-    /// left something to do. It is so long after the start now.
+    /// Waits until a socket is ready, a connection is to be tried, or `most` is over. If the last turn left something
+    /// to do, it doesn't wait.
     pub fn wait(&mut self, now: Duration, most: Duration) -> io::Result<()> {
         let wait = if self.is_busy {
             Duration::ZERO
@@ -151,9 +152,8 @@ impl Server {
         least
     }
 
-    /// Does what there is to do on each socket, once or a few times, and returns: what came is read and handed in,
-    /// connections are taken, opened and closed as the links want, and frames are taken and written while the sockets
-    /// take them. It is so long after the start now.
+    /// Does what there is to do on each socket, once or a few times, and returns: hands in what came, takes, opens and
+    /// closes connections as the links want, and takes frames and writes them while the sockets take them.
     pub fn turn<N: Net, W: Sink, U: Watch>(
         &mut self,
         net: &N,
@@ -196,7 +196,7 @@ impl Server {
         if self.node.read_callers() {
             self.is_stopping = true;
         }
-        self.node.look(journal);
+        self.node.look(FailureReason::Operator, journal);
     }
 
     /// Opens and closes connections as the links want.

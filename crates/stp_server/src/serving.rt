@@ -6,7 +6,7 @@ use crate::capture::Capture;
 use crate::fault::OpenFault;
 use crate::journal::Journal;
 use crate::server::{Places, Server};
-use crate::ticking::TickClock;
+use crate::ticking::{MOST_TICKS, TickClock};
 use association::Unwatched;
 use serve_settings::{PointFormat as Shown, ServeFault, ServeSettings};
 use std::alloc::{AllocError, Global};
@@ -46,37 +46,28 @@ impl<'a> MachineServer<'a> {
         serve: &ServeSettings,
         log: &mut W,
     ) -> Result<(), Failure> {
-        let capture = self.capture_of(alloc, serve)?;
         tell_start(&settings, serve, log);
         match Server::open(self.rt, alloc, settings, places_of(serve), log) {
-            Ok(mut server) => self.serve_opened(&mut server, capture, serve, log),
+            Ok(mut server) => self.serve_opened(&mut server, alloc, serve, log),
             Err(fault) => Err(Failure::Open(fault)),
         }
     }
 
-    /// The same, where the server is open, with a capture where there is one.
+    /// Serves a node whose server is open. Its capture begins only now: if another process serves the same settings,
+    /// its addresses are in use, and the capture of that process stays as it is.
     fn serve_opened<W: Sink>(
         &self,
         server: &mut Server,
-        capture: Option<Capture>,
+        alloc: Global,
         serve: &ServeSettings,
         log: &mut W,
     ) -> Result<(), Failure> {
-        if let Some(capture) = capture {
-            server.capture_to(capture);
-            let file = serve.capture().unwrap_or("");
+        if let Some(file) = serve.capture() {
+            server.capture_to(self.capture(alloc, file)?);
             Journal::new(log, Duration::ZERO).tell(&format_args!("capture {file}"));
         }
         let started = self.now()?;
         self.run(server, serve.tick_ms(), started, log)
-    }
-
-    /// The capture into the file that the settings name, if they name one.
-    fn capture_of(&self, alloc: Global, serve: &ServeSettings) -> Result<Option<Capture>, Failure> {
-        match serve.capture() {
-            Some(file) => Ok(Some(self.capture(alloc, file)?)),
-            None => Ok(None),
-        }
     }
 
     /// A capture into a new file of this name.
@@ -89,7 +80,7 @@ impl<'a> MachineServer<'a> {
         };
         match Capture::begin(alloc, file, started) {
             Ok(capture) => Ok(capture),
-            Err(_) => Err(Failure::Capture),
+            Err(AllocError) => Err(Failure::Open(OpenFault::NoMemory)),
         }
     }
 
@@ -110,7 +101,8 @@ impl<'a> MachineServer<'a> {
         }
     }
 
-    /// Round after round, with the ticks that pass.
+    /// Makes round after round. What came is handed in before the ticks that are due pass, so that a pause fails no
+    /// link whose confirmations came meanwhile.
     fn run<W: Sink>(
         &self,
         server: &mut Server,
@@ -129,8 +121,8 @@ impl<'a> MachineServer<'a> {
                 return Err(Failure::System);
             }
             let now = self.now()?.duration_since(started);
-            was_behind = pass_ticks(&mut clock, was_behind, server, now, log);
             server.turn(self.rt, now, log, &mut Unwatched);
+            was_behind = pass_ticks(&mut clock, was_behind, server, now, log);
             if server.is_stopping() {
                 Journal::new(log, now).tell(&"stop");
                 return Ok(());
@@ -151,7 +143,7 @@ fn pass_ticks<W: Sink>(
     let elapsed = millis(now);
     let is_behind = clock.is_behind(elapsed);
     if is_behind && !was_behind {
-        Journal::new(log, now).tell(&"behind: more than 100 ticks are due");
+        Journal::new(log, now).tell(&format_args!("behind: more than {MOST_TICKS} ticks are due"));
     }
     server.tick(clock.due(elapsed), now, log);
     is_behind

@@ -4,7 +4,7 @@ ghost use Rattle.std.specs.Prelude.{◌≡◌, ◌+◌, ◌-◌, ◌*◌, ◌/�
 
 use std::marker::Model;
 
-/// Ticks that are let pass at once, at most. The others are due later.
+/// Ticks that pass at once, at most. The others are due later.
 pub const MOST_TICKS: u64 = 100;
 
 /// Counts the ticks of a node by the time since its start, in milliseconds: each is handed out once.
@@ -26,7 +26,7 @@ impl Model for TickClock {
 }
 
 impl TickClock {
-    /// A clock whose tick takes so many milliseconds, from 1 on, before its first tick.
+    /// A clock before its first tick. A tick takes `tick_ms` milliseconds, at least one.
     pub fn new(tick_ms: u16) -> TickClock
         requires { 1 ≤ tick_ms }
         ensures { result ≡ record { tick_ms = tick_ms; handed = 0 } }
@@ -37,8 +37,8 @@ impl TickClock {
         }
     }
 
-    /// How many ticks are due after so many milliseconds: as many as passed and weren't handed out, but at most 100.
-    /// The others are due at the next call.
+    /// Hands out the ticks that passed by now and weren't handed out before, at most `MOST_TICKS`. The next call hands
+    /// out the others.
     pub fn due(&mut self, elapsed_ms: u64) -> u64
         ensures ticks { result ≡ min MOST_TICKS (elapsed_ms / self.old.tick_ms - self.old.handed) }
         ensures state { self.new ≡ record self.old { handed = self.old.handed + result } }
@@ -49,7 +49,7 @@ impl TickClock {
         due
     }
 
-    /// Whether more ticks are due than are let pass at once.
+    /// Whether more than `MOST_TICKS` are due.
     pub fn is_behind(&self, elapsed_ms: u64) -> bool
         ensures { IsTrue result ↔ (MOST_TICKS < elapsed_ms / self.now.tick_ms - self.now.handed) }
     {
@@ -57,7 +57,7 @@ impl TickClock {
         passed.saturating_sub(self.handed) > MOST_TICKS
     }
 
-    /// How many milliseconds it takes until the next tick is due.
+    /// How many milliseconds there are until the next tick is due.
     pub fn until_next(&self, elapsed_ms: u64) -> u64
         ensures { result ≡ min (2 ^ 64 - 1) ((self.now.handed + 1) * self.now.tick_ms) - elapsed_ms }
     {

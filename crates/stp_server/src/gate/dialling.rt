@@ -82,10 +82,15 @@ impl Gate {
     }
 }
 
-/// The peer of a socket that is connected.
+/// The peer of a socket that is connected. None for one that is connected to itself: if nobody listens at a port of
+/// this machine, the system may give a socket that connects there this very port.
 fn peer_of(stream: &TcpStream) -> Option<SocketAddr> {
-    match stream.take_error() {
-        Ok(None) => stream.peer_addr().ok(),
-        Ok(Some(_)) | Err(_) => None,
+    let Ok(None) = stream.take_error() else {
+        return None;
+    };
+    let peer = stream.peer_addr().ok()?;
+    if stream.local_addr().ok()? == peer {
+        return None;
     }
+    Some(peer)
 }

@@ -20,6 +20,7 @@ loop-k-preserved c = record {
       (ap (λ (l : LineSoFar). l.octets) c.in-Open.ensures.line.1);
   exchange = c.loop-k.invariant.exchange;
   points = c.loop-k.invariant.points;
+  counters = c.loop-k.invariant.counters;
   room = λ more. c.in-Open.ensures.short;
 }
 
@@ -32,9 +33,9 @@ returns-in-TooLong-clause-done c = λ front behind parts ends room points.
 pub returns-in-Whole-clause-done : goal.returns-in-Whole-clause-done
 returns-in-Whole-clause-done c = λ front behind parts ends room points.
     let now = c.self.view_is ∙ c.loop-k.invariant.line in
-    done-at c.args.octets.now front behind c.loop-k.k parts c.end_line.result c.args.desk.now.exchange.now c.loop-k.desk.exchange.now c.end_line.new.desk.exchange.now c.args.self.now _
+    done-at c.args.octets.now front behind c.loop-k.k parts c.loop-k.desk.counters.now c.args.desk.now.counters.now c.loop-k.invariant.counters c.end_line.result c.args.desk.now.exchange.now c.loop-k.desk.exchange.now c.end_line.new.desk.exchange.now c.args.self.now _
     c.end_line.new.self ends c.loop-k.invariant.none c.loop-k-test.true c.in-Whole.ensures.line.0
-    ((λ i. record (the_view c.self.inside) { line = (c.in-Whole.ensures.line.1 i).octets }) ∙ now) c.loop-k.invariant.exchange (c.end_line.ensures (c.loop-k.invariant.points ∙ points))
+    ((λ i. record (the_view c.self.inside) { line = (c.in-Whole.ensures.line.1 i).octets }) ∙ now) c.loop-k.invariant.exchange (c.end_line.ensures.done (c.loop-k.invariant.points ∙ points))
 
 pub returns-clause-done : goal.returns-clause-done
 returns-clause-done c = λ front behind parts ends room points.

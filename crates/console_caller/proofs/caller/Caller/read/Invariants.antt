@@ -10,5 +10,6 @@ invariant-loop-k l = record {
   line : l.self ≡ record l.fn.self { line = l.fn.self.line ++ take l.k l.octets };
   exchange : l.desk.exchange.now ≡ l.fn.desk.exchange.now;
   points : l.desk.points ≡ l.fn.desk.points;
+  counters : l.desk.counters.now ≡ l.fn.desk.counters.now;
   room : 0 < l.k → length l.self.line ≤ LINE_OCTETS;
 }
