@@ -2,12 +2,14 @@
 use Rattle.std.proofs.Common.{◌≤◌, ◌+◌, ℕ, List, [], ◌++◌, length, Option, Result, Ok, Err, arith, length-append}
 use Rattle.std.specs.Prelude.{OnOk}
 use Rattle.std.specs.Io.KnownBytes.{Consumes}
+use Rattle.exchange.specs.Stands.{Kept}
 use Rattle.stp_node.specs.Faults.{EndsAtLine}
+use Rattle.stp_node.specs.Streams.{Input, Output}
 use Rattle.stp_node.specs.declared.script.TheConstants.{READS}
 use Rattle.stp_node.specs.declared.script.ScriptFault.{ScriptFault}
 use Rattle.stp_node.specs.declared.script.ScriptFault.TheVariants.{Read, Write, Line, TooManyReads, NoMemory}
 use Rattle.stp_node.proofs.Running.{consumes-consumes, consumes-nothing}
-use Rattle.lab.specs.Script.{ReadsAtLeast, ReadsOn}
+use Rattle.lab.specs.Script.{ReadsAtLeast, ReadsOn, EndsInScript, LeavesAll}
 
 pub reads-nothing : (left : Option (List ℕ)) → ReadsAtLeast 0 left left
 reads-nothing left = record { octets = []; many = omega arith; consumed = consumes-nothing left }
@@ -35,3 +37,22 @@ line-reads-on (Err NoMemory) a b h = absurd h
 pub when-ok : {A E P : Type 0} (result : Result A E) → P → OnOk result P
 when-ok (Ok x) h = h
 when-ok (Err e) h = tt
+
+-- ---- a script that was begun
+
+pub line-in-script : (result : Result Unit ScriptFault) → EndsAtLine result → EndsInScript result
+line-in-script (Ok x) h = tt
+line-in-script (Err (Line line)) h = tt
+line-in-script (Err Write) h = tt
+line-in-script (Err Read) h = absurd h
+line-in-script (Err TooManyReads) h = absurd h
+line-in-script (Err NoMemory) h = absurd h
+
+pub begun-leaves : (result : Result Unit ScriptFault) (near near_new far far_new : Kept) (input input_new : Input) (output output_new : Output) → EndsInScript result
+    → LeavesAll result near near_new far far_new input input_new output output_new
+begun-leaves (Ok x) near near_new far far_new input input_new output output_new h = tt
+begun-leaves (Err Read) near near_new far far_new input input_new output output_new h = tt
+begun-leaves (Err Write) near near_new far far_new input input_new output output_new h = tt
+begun-leaves (Err (Line line)) near near_new far far_new input input_new output output_new h = tt
+begun-leaves (Err TooManyReads) near near_new far far_new input input_new output output_new h = tt
+begun-leaves (Err NoMemory) near near_new far far_new input input_new output output_new h = absurd h

@@ -1,5 +1,5 @@
 -- What it is to carry a frame from one exchange to another, by a stream of octets.
-use Rattle.std.specs.Prelude.{◌≡◌, ◌⊎◌, ◌≤◌, ℕ, Bool, true, false, List, ◌++◌, length, take, Option, Some, None}
+use Rattle.std.specs.Prelude.{◌≡◌, ◌⊎◌, ◌≤◌, ℕ, Bool, true, false, List, [], ◌++◌, length, take, Option, Some, None}
 use Rattle.std.specs.Option.{option_map}
 use Rattle.std.specs.Io.KnownBytes.{Appends, Consumes, Keeps, IsAtEnd}
 use Rattle.signalling_types.specs.declared.limits.TheConstants.Limits.{FRAME_OCTETS}
@@ -27,12 +27,15 @@ pub record Carriage : Type 0 where
 abbrev pub carriage : Output → Input → List ℕ → Carriage
 carriage sink source held = record { sink = sink; source = source; held = held }
 
--- the first text of the octets held and of those that were read is this, and the octets behind it stay held
+-- The first text of the octets held and of those that were read is this, and the octets behind it stay held. No read
+-- failed, and where octets were read, the last of them ends the text.
 pub record GivesText (text : List ℕ) (source source_new : Input) (held held_new : List ℕ) : Type 0 where
   pub read : List ℕ
   pub consumed : Consumes source.remaining source_new.remaining read
+  pub well : source_new.failures ≡ source.failures
   pub whole : IsText text
   pub cut : held ++ read ≡ text ++ held_new
+  pub no_more : (read ≡ []) ⊎ (held_new ≡ [])
 
 -- at least one read was made (a count of 64 bits stays at its greatest value), and one failed or found the end
 abbrev pub EndsReading : (source source_new : Input) → Type 0
@@ -47,6 +50,11 @@ pub record GivesNone (source source_new : Input) (held held_new : List ℕ) : Ty
   pub consumed : Consumes source.remaining source_new.remaining read
   pub behind : held_new ≡ held ++ read
   pub why : (next_in held_new ≡ Broken) ⊎ ((next_in held_new ≡ Wait) × EndsReading source source_new)
+
+-- the octets of the frame were written, all of them, and no write failed
+pub record SendsAll (frame : List ℕ) (old new : Carriage) : Type 0 where
+  pub all : Appends old.sink.written new.sink.written frame
+  pub well : new.sink.failures ≡ old.sink.failures
 
 -- a text that came was handed in
 pub record HandsIn {Q : Type 0} (q : QueueKind Q) (to : ℕ) (got : Outcome) (far far_new : State Q) (old new : Carriage)
@@ -65,8 +73,7 @@ pub record FailsToWrite (frame : List ℕ) (old new : Carriage) : Type 0 where
 
 -- the frame was written whole, and no text came
 pub record GetsNone (frame : List ℕ) (old new : Carriage) : Type 0 where
-  pub all : Appends old.sink.written new.sink.written frame
-  pub well : new.sink.failures ≡ old.sink.failures
+  pub sent : SendsAll frame old new
   pub none : GivesNone old.source new.source old.held new.held
 
 -- the streams don't carry the frame
@@ -83,7 +90,7 @@ Carries q from to Nothing near near_new far far_new old new =
     (text_to_take q near from ≡ None) × (near_new ≡ near) × (far_new ≡ far) × (new ≡ old)
 Carries q from to (Got outcome) near near_new far far_new old new =
     (frame : List ℕ) × (text_to_take q near from ≡ Some frame) × (near_new ≡ taken q near from)
-    × Appends old.sink.written new.sink.written frame × HandsIn q to outcome far far_new old new
+    × SendsAll frame old new × HandsIn q to outcome far far_new old new
 Carries q from to Lost near near_new far far_new old new =
     (frame : List ℕ) × (text_to_take q near from ≡ Some frame)
     × (near_new ≡ after q (WentDown from) (taken q near from)) × (far_new ≡ after q (WentDown to) far)
@@ -95,7 +102,7 @@ Carries q from to Lost near near_new far far_new old new =
 abbrev pub Brings : {Q : Type 0} → QueueKind Q → (to : ℕ) → Option Outcome → (frame : List ℕ) → (far far_new : State Q)
     → (old new : Carriage) → Type 0
 Brings q to (Some outcome) frame far far_new old new =
-    Appends old.sink.written new.sink.written frame × HandsIn q to outcome far far_new old new
+    SendsAll frame old new × HandsIn q to outcome far far_new old new
 Brings q to None frame far far_new old new =
     (far_new ≡ far) × Fails frame old new
 

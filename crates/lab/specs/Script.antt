@@ -1,6 +1,8 @@
--- How much of a script is read.
-use Rattle.std.specs.Prelude.{◌≤◌, ℕ, List, length, Option, Result, Ok, Err}
+-- How much of a script is read, and how it ends.
+use Rattle.std.specs.Prelude.{◌≡◌, ◌≤◌, ℕ, List, length, Option, Result, Ok, Err}
 use Rattle.std.specs.Io.KnownBytes.{Consumes}
+use Rattle.exchange.specs.Stands.{Kept}
+use Rattle.stp_node.specs.Streams.{Input, Output}
 use Rattle.stp_node.specs.declared.script.TheConstants.{READS}
 use Rattle.stp_node.specs.declared.script.ScriptFault.{ScriptFault}
 use Rattle.stp_node.specs.declared.script.ScriptFault.TheVariants.{Read, Write, Line, TooManyReads, NoMemory}
@@ -19,3 +21,23 @@ ReadsOn (Err Read) left left_new = Unit {0}
 ReadsOn (Err Write) left left_new = Unit {0}
 ReadsOn (Err (Line line)) left left_new = Unit {0}
 ReadsOn (Err NoMemory) left left_new = Unit {0}
+
+-- a script that was begun: it didn't end for want of memory
+abbrev pub EndsInScript : Result Unit ScriptFault → Type 0
+EndsInScript (Err NoMemory) = ⊥
+EndsInScript (Ok x) = Unit {0}
+EndsInScript (Err Read) = Unit {0}
+EndsInScript (Err Write) = Unit {0}
+EndsInScript (Err (Line line)) = Unit {0}
+EndsInScript (Err TooManyReads) = Unit {0}
+
+-- where memory was refused, neither node has changed, and nothing was read or written
+abbrev pub LeavesAll : Result Unit ScriptFault → (near near_new far far_new : Kept) → (input input_new : Input)
+    → (output output_new : Output) → Type 0
+LeavesAll (Err NoMemory) near near_new far far_new input input_new output output_new =
+    (near_new ≡ near) × (far_new ≡ far) × (input_new ≡ input) × (output_new ≡ output)
+LeavesAll (Ok x) near near_new far far_new input input_new output output_new = Unit {0}
+LeavesAll (Err Read) near near_new far far_new input input_new output output_new = Unit {0}
+LeavesAll (Err Write) near near_new far far_new input input_new output output_new = Unit {0}
+LeavesAll (Err (Line line)) near near_new far far_new input input_new output output_new = Unit {0}
+LeavesAll (Err TooManyReads) near near_new far far_new input input_new output output_new = Unit {0}

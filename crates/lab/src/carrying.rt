@@ -14,8 +14,8 @@ use exchange::{BUFFER_OCTETS, Event, Exchange, FrameText, Framer, Next};
 use stp_node::{Sink, Source};
 use stp_types::{Limits, LinkId, Outcome};
 
-/// Reads of a stream for one frame, at most: no frame has more octets. Each asks for one octet, so none behind the frame
-/// is read.
+/// Reads of a stream for one frame, at most: no frame has more octets. Each read asks for one octet, and only while no
+/// whole frame is held, so no octet behind the frame is read.
 pub const MOVE_READS: usize = 4096;
 
 /// What became of a frame that was to be carried.
@@ -32,8 +32,9 @@ pub enum Carried {
 /// Carries the next frame of the near exchange's link `from` to the far exchange's link `to`: its octets are written to
 /// the sink, and what the source then gives is cut by the framer and handed in.
 ///
-/// `Lost` where the write fails, or where the framer holds no whole frame and is broken, or a read fails or finds the
-/// end: then both ends lost the association. It allocates no memory.
+/// Returns `Lost` if the write failed, or if no whole frame came: what the framer holds can't be cut into frames, or
+/// more was waited for, and a read failed or found the end. Then both exchanges lost the association. If it returns
+/// `Got`, no write and no read failed, and no octet behind the frame was read. It allocates no memory.
 pub fn carry<W: Sink, R: Source>(
     near: &mut Exchange,
     far: &mut Exchange,

@@ -62,7 +62,7 @@ impl<S: Read + Write + Drop> Circuit<S> {
         }
     }
 
-    /// The link's streams are these from now on, and what came by former ones is forgotten.
+    /// Replaces the link's streams by these. What is held of a frame that came by the former ones is dropped.
     pub(crate) fn open(&mut self, near: S, far: S) {
         self.near = Some(Port::new(near));
         self.far = Some(Port::new(far));
@@ -85,8 +85,8 @@ impl<S: Read + Write + Drop> Circuit<S> {
         }
     }
 
-    /// Carries the next frame of a link from one end to the other; nothing where either stream is closed. What the
-    /// streams lose closes both.
+    /// Carries the next frame of a link from one end to the other, unless either stream is closed. If it is lost, both
+    /// streams are closed.
     pub(crate) fn carry_from(
         &mut self,
         end: End,
@@ -104,7 +104,7 @@ impl<S: Read + Write + Drop> Circuit<S> {
         carried
     }
 
-    /// The same, while the streams stay as they are.
+    /// The same, but the streams stay open.
     fn carry_by_open(
         &mut self,
         end: End,
@@ -125,7 +125,7 @@ impl<S: Read + Write + Drop> Circuit<S> {
     }
 }
 
-/// So many links whose streams are closed.
+/// This many links, with their streams closed.
 pub(crate) fn closed_circuits<S: Read + Write + Drop>(
     alloc: Global,
     count: usize,

@@ -18,6 +18,8 @@ type Pipe = Rc<RefCell<VecDeque<u8>>>;
 type Plan = Rc<Cell<Option<u64>>>;
 
 /// Joins the ends of links by streams in memory.
+///
+/// A join or a write also fails if memory for it is refused.
 #[derive(Drop)]
 pub struct MemoryJoiner {
     alloc: Global,
@@ -133,7 +135,8 @@ fn is_planned(plan: &Plan) -> bool {
     calls == Some(0)
 }
 
-/// One end of two streams in memory.
+/// One end of two streams in memory. A read finds the end whenever nothing is under way: the other end may still write
+/// later.
 #[derive(Drop)]
 pub struct MemoryStream {
     incoming: Pipe,

@@ -1,11 +1,11 @@
 //! Running a lab script, octet by octet.
 
-ghost use Rattle.std.specs.Prelude.{◌≡◌, ◌+◌, ◌≤◌, ◌<◌, ◌^◌, length, OnOk};
+ghost use Rattle.std.specs.Prelude.{◌≡◌, ◌+◌, ◌≤◌, ◌<◌, ◌^◌, length, OnOk, Err};
 ghost use Rattle.std.specs.Io.KnownBytes.{IsAtEnd};
 ghost use Rattle.stp_types.specs.Facing.{IsFacing};
 ghost use Rattle.stp_node.specs.Faults.{MakesReads, reads_failed, writes_failed, EndsAtLine};
 ghost use Rattle.stp_types.specs.Naming.{link_names};
-ghost use Rattle.lab.specs.Script.{ReadsOn};
+ghost use Rattle.lab.specs.Script.{EndsInScript, LeavesAll, ReadsOn};
 
 use crate::circuit::{Circuit, closed_circuits};
 use crate::doing::{do_asked, node_at};
@@ -19,7 +19,7 @@ use stp_node::{Grown, Lab, Malformed, OpenLine, READS, ScriptFault, Sink, Source
 /// Octets that one read asks for.
 const PIECE_OCTETS: usize = 4096;
 
-/// The lab with links that are joined so.
+/// A lab whose links this joiner joins.
 #[derive(Drop)]
 pub struct JoinedLab<J> {
     joiner: J,
@@ -32,7 +32,7 @@ impl<J> Model for JoinedLab<J> {
 }
 
 impl<J: Joiner> JoinedLab<J> {
-    /// The lab whose links this joins.
+    /// The lab with this joiner.
     pub fn new(joiner: J) -> JoinedLab<J>
         ensures { result ≡ joiner }
     {
@@ -53,11 +53,12 @@ impl<J: Joiner> Lab for JoinedLab<J> {
     }
 }
 
-/// Does the lines of a lab script, in order, and prints the outcome of each, one line per line. The exchanges face each
-/// other, and name their links alike.
+/// Does the lines of a lab script, in order, and prints what becomes of each: a line, but for `show`, which prints a
+/// text. The exchanges face each other, and name their links alike.
 ///
-/// Lines are read, and faults end the script, as `run_script` has them: it ends well only where its end was found.
-/// Memory is taken before the first line alone: `NoMemory` where it is refused.
+/// The script is read, and faults end it, as in `run_script`; it returns `Ok` only if it found the script's end. Except
+/// for what the streams of links take, all memory is taken before the first read. If that is refused, it returns
+/// `NoMemory`: both exchanges are as before, and nothing was read or written.
 pub fn run_lab<J: Joiner, R: Source, W: Sink>(
     alloc: Global,
     near: &mut Exchange,
@@ -73,6 +74,9 @@ pub fn run_lab<J: Joiner, R: Source, W: Sink>(
     ensures bounded { MakesReads result (R.input reader.old).reads (R.input reader.new).reads }
     ensures reads { (R.input reader.new).failures ≡ reads_failed (R.input reader.old).failures result }
     ensures writes { (W.output writer.new).failures ≡ writes_failed (W.output writer.old).failures result }
+    ensures unchanged { LeavesAll result near.old near.new far.old far.new
+        (R.input reader.old) (R.input reader.new) (W.output writer.old) (W.output writer.new) }
+    ensures joiner { result ≡ Err ScriptFault.NoMemory → joiner.new ≡ joiner.old }
 {
     let Ok(mut circuits) = closed_circuits(alloc, near.settings().link_count()) else {
         return Err(ScriptFault::NoMemory);
@@ -94,6 +98,7 @@ fn run_pieces<J: Joiner, R: Source, W: Sink>(
     ensures bounded { MakesReads result (R.input reader.old).reads (R.input reader.new).reads }
     ensures reads { (R.input reader.new).failures ≡ reads_failed (R.input reader.old).failures result }
     ensures writes { (W.output writer.new).failures ≡ writes_failed (W.output writer.old).failures result }
+    ensures begun { EndsInScript result }
 {
     let mut line = OpenLine::first();
     let mut piece = [0; PIECE_OCTETS];

@@ -1,5 +1,7 @@
 //! Links over TCP on this machine.
 
+ghost use Rattle.std.specs.Prelude.{◌≡◌};
+
 use crate::joining::{JoinFault, Joiner};
 use std::net::{Net, OpenListener, TcpListener, TcpStream};
 
@@ -15,7 +17,9 @@ pub struct Loopback<'a, R> {
 
 impl<'a, R: Net> Loopback<'a, R> {
     /// The connections that this runtime makes.
-    pub fn new(net: &'a R) -> Loopback<'a, R> {
+    pub fn new(net: &'a R) -> Loopback<'a, R>
+        ensures { result.net.now ≡ net.now }
+    {
         Loopback { net }
     }
 }

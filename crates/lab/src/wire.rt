@@ -1,4 +1,4 @@
-//! A stream between two nodes, with counts of what failed of it.
+//! A stream between two nodes that counts its reads, and the reads and writes that failed.
 
 use std::io::{Read, Write};
 use stp_node::{ReadFailed, Sink, Source, WriteFailed, write_whole};

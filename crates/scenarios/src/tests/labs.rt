@@ -8,7 +8,7 @@ use super::facing::node;
 use super::streams::Endless;
 use super::{compare, end_of, joiner};
 use exchange::Exchange;
-use lab::{JoinFault, MemoryJoiner, run_lab};
+use lab::{JoinFault, Joiner, run_lab};
 use std::alloc::Global;
 use std::process::Abort;
 use std::test::*;
@@ -22,9 +22,9 @@ const NEAR: &str = "destination 2/east";
 const FAR: &str = "own 2; set east/1; destination 1/east";
 
 /// Runs a lab script on these two nodes.
-fn run<R: Source, W: Sink>(
+fn run<J: Joiner, R: Source, W: Sink>(
     alloc: Global,
-    joiner: &mut MemoryJoiner,
+    joiner: &mut J,
     reader: &mut R,
     writer: &mut W,
 ) -> Result<Result<(), ScriptFault>, Fail> {
@@ -38,11 +38,11 @@ fn run<R: Source, W: Sink>(
 }
 
 /// Runs a lab script on this near node, and a far one with these settings.
-fn run_with<R: Source, W: Sink>(
+fn run_with<J: Joiner, R: Source, W: Sink>(
     alloc: Global,
     near: &mut Exchange,
     far: Settings,
-    joiner: &mut MemoryJoiner,
+    joiner: &mut J,
     reader: &mut R,
     writer: &mut W,
 ) -> Result<Result<(), ScriptFault>, Fail>
@@ -54,10 +54,10 @@ fn run_with<R: Source, W: Sink>(
 }
 
 /// Runs a lab script of which each `/` is a line feed, and compares what it prints and how it ends.
-fn expect<T: Abort>(
+pub(super) fn expect<T: Abort, J: Joiner>(
     rt: &T,
     alloc: Global,
-    joiner: &mut MemoryJoiner,
+    joiner: &mut J,
     script: &str,
     printed: &str,
     end: Result<(), ScriptFault>,
@@ -74,7 +74,8 @@ fn expect<T: Abort>(
 
 /// Lab scripts, what they print, and the number of the line that ends them, if one does.
 const ROWS: &str = "\
-open e1/move 1 e1/lose 2 e1/take-count 1 e1/|refused 22 NoSuchName/refused 22 NoSuchName/refused 22 NoSuchName/refused 22 NoSuchName/|
+open e1/move 1 e1/|refused 22 NoSuchName/refused 22 NoSuchName/|
+lose 2 e1/take-count 1 e1/|refused 22 NoSuchName/refused 22 NoSuchName/|
 move 1 e0/lose 1 e0/take-count 2 e0/|none/ignored/0/|
 # a remark//open e0/open e0/|handled/not open/|
 show 1 links/show 2 routes/|link e0 Down waiting 0 fsn 16777215 bsn 16777215/route 1 none prohibited/|
@@ -124,7 +125,7 @@ fn expect_row<T: Abort>(rt: &T, alloc: Global, row: &str) -> Result<(), Fail> {
 }
 
 /// A link that opens, of which a frame of 20 octets is carried, octet by octet; it opens again where it was lost.
-const OPENS: &str = "open e0/move 1 e0/move 1 e0/open e0/move 1 e0/";
+pub(super) const OPENS: &str = "open e0/move 1 e0/move 1 e0/open e0/move 1 e0/";
 
 /// How many calls of the streams the first frame takes: the links are joined, it is written, and its octets are read.
 const CALLS: u64 = 22;

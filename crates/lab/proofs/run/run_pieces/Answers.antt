@@ -1,7 +1,7 @@
 use Rattle.std.proofs.Common.{◌≤◌, ◌<◌, ◌+◌, ◌∙◌, sym, refl, arith, take, length}
 use Rattle.std.proofs.lemmas.Grind.{common_steps}
 use Rattle.stp_node.proofs.Running.{line-reads-failed, line-reads-made}
-use Rattle.lab.proofs.Reading.{reads-nothing, reads-more, reads-all, line-reads-on, when-ok}
+use Rattle.lab.proofs.Reading.{reads-nothing, reads-more, reads-all, line-reads-on, line-in-script, when-ok}
 use Rattle.lab.proofs.run.run_pieces.Goals as goal
 
 pub loop-init : goal.loop-init
@@ -30,6 +30,9 @@ returns-then-count-eq0-clause-end g c =
 
 pub returns-then-count-eq0-clause-many : goal.returns-then-count-eq0-clause-many
 returns-then-count-eq0-clause-many g c = line-reads-on c.end.result _ _ c.end.ensures.fault
+
+pub returns-then-count-eq0-clause-begun : goal.returns-then-count-eq0-clause-begun
+returns-then-count-eq0-clause-begun g c = line-in-script c.end.result c.end.ensures.fault
 
 pub returns-clause-many : goal.returns-clause-many
 returns-clause-many g c = reads-all c.loop.counter _ _ (omega (arith, c.loop-test.false)) c.loop.invariant.many
