@@ -5,10 +5,10 @@ mod names;
 mod nodes;
 mod orders;
 mod pairs;
+mod program_words;
 mod streams;
 mod tables;
 mod values;
-mod words;
 
 use std::alloc::Global;
 use std::string::String;
