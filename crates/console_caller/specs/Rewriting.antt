@@ -1,5 +1,5 @@
 -- Lines whose point is written in another format.
-use Rattle.std.specs.Prelude.{◌≡◌, ◌⊎◌, ℕ, ◌<◌, ◌^◌, List, ◌++◌}
+use Rattle.std.specs.Prelude.{◌≡◌, ◌⊎◌, ℕ, List, ◌++◌}
 use Rattle.trace.specs.Points.{IsPointText, point_text}
 use Rattle.trace.specs.declared.point.PointFormat.{PointFormat}
 

@@ -1,6 +1,5 @@
 -- The counters of one link more.
 use Rattle.std.proofs.Common.{◌≡◌, ◌<◌, List, ℕ, length, ◌∙◌, Option, ap, slice_get, subst, arith}
-use Rattle.std.specs.Option.{option_copied}
 use Rattle.std.specs.Io.KnownBytes.{Appends}
 use Rattle.link_counters.specs.declared.row.LinkCounters.{LinkCounters}
 use Rattle.console.specs.Names.{name_in}
