@@ -51,8 +51,14 @@ impl Submitted {
 
 /// A peer that aligns its link, and then neither reads nor acknowledges, and what becomes of messages for others.
 pub(crate) fn meet_deaf_peer(meeting: &mut Meeting<'_>) -> io::Result<()> {
+    let mut peer = meeting.taken()?;
+    endure(meeting, &mut peer)
+}
+
+/// The server has a link to it, which fails in the end.
+fn endure(meeting: &mut Meeting<'_>, peer: &mut Stranger) -> io::Result<()> {
     let before = meeting.pair.accepted();
-    let mut peer = aligned(meeting)?;
+    align(meeting, peer)?;
     let is_in_service = meeting.pair.strangers_standing() == LinkStanding::InService;
     println!(meeting.rt;
         "a peer that aligns its link and then never reads: in service: {is_in_service}"
@@ -60,24 +66,27 @@ pub(crate) fn meet_deaf_peer(meeting: &mut Meeting<'_>) -> io::Result<()> {
     meeting.exchange()?;
     meeting.tell("before", before)?;
     fill_pool(meeting)?;
-    outlast(meeting, &mut peer)?;
+    outlast(meeting, peer)?;
     let_go(meeting)?;
+    exchange_after(meeting)
+}
+
+/// Both ends submit messages once the link of the peer failed.
+fn exchange_after(meeting: &mut Meeting<'_>) -> io::Result<()> {
     let before = meeting.pair.accepted();
     meeting.exchange()?;
     meeting.tell("after", before)
 }
 
-/// A peer whose link is in service: it sends what a link sends on its way there, each once it is awaited.
-fn aligned(meeting: &mut Meeting<'_>) -> io::Result<Stranger> {
-    let mut peer = meeting.taken()?;
+/// The link of the peer comes into service: it sends what a link sends on its way there, each once it is awaited.
+fn align(meeting: &mut Meeting<'_>, peer: &mut Stranger) -> io::Result<()> {
     peer.send(&Status::Alignment.frame())?;
     meeting.await_standing(LinkStanding::Aligned)?;
     peer.send(&Status::ProvingNormal.frame())?;
     meeting.await_standing(LinkStanding::Proving)?;
     peer.send(&Status::Ready.frame())?;
     outlast_proving(meeting)?;
-    meeting.await_standing(LinkStanding::InService)?;
-    Ok(peer)
+    meeting.await_standing(LinkStanding::InService)
 }
 
 /// Ticks pass until the link of the peer is proved.

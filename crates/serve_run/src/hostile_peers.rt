@@ -19,23 +19,51 @@ const CROWDS: u64 = 9;
 
 /// Five peers, one after another.
 pub(crate) fn meet_hostile_peers(rt: &HostRuntime) -> io::Result<()> {
-    let Some(mut meeting) = Meeting::open(rt) else {
-        return println!(rt; "the servers can't be opened");
-    };
-    meeting.pair.rest(rt)?;
-    println!(rt; "hostile peers connect to a fourth link of point 1, which leads to point 3:")?;
-    meet_slow_peer(&mut meeting)?;
-    meet_junk(&mut meeting)?;
-    meet_unended_frame(&mut meeting)?;
-    meet_deaf_peer(&mut meeting)?;
-    meet_crowd(&mut meeting)
+    match Meeting::open(rt) {
+        Some(mut meeting) => {
+            let met = meet_each(&mut meeting);
+            meeting.close();
+            met
+        }
+        None => println!(rt; "the servers can't be opened"),
+    }
+}
+
+/// They meet two servers whose links are to come into service.
+fn meet_each(meeting: &mut Meeting<'_>) -> io::Result<()> {
+    meeting.pair.rest(meeting.rt)?;
+    println!(meeting.rt;
+        "hostile peers connect to a fourth link of point 1, which leads to point 3:"
+    )?;
+    meet_slow_peer(meeting)?;
+    meet_junk(meeting)?;
+    meet_unended_frame(meeting)?;
+    meet_deaf_peer(meeting)?;
+    meet_crowd(meeting)
 }
 
 /// A peer that sends an octet a tick.
 fn meet_slow_peer(meeting: &mut Meeting<'_>) -> io::Result<()> {
+    let mut stranger = meeting.taken()?;
+    outlast_slow(meeting, &mut stranger)
+}
+
+/// It does so until the server closes its connection.
+fn outlast_slow(meeting: &mut Meeting<'_>, stranger: &mut Stranger) -> io::Result<()> {
     let before = meeting.pair.accepted();
     let failures = meeting.failures_by_timer();
-    let mut stranger = meeting.taken()?;
+    let octets = send_slowly(meeting, stranger)?;
+    let failures = meeting.failures_by_timer().saturating_sub(failures);
+    let ends = stranger.sees_end();
+    println!(meeting.rt;
+        "an octet a second: failures by a timer: {failures}, after {octets} octets; the connection ends: {ends}"
+    )?;
+    meeting.tell("meanwhile", before)
+}
+
+/// An octet a tick comes, and both ends submit messages, until the link for strangers is down. Returns how many octets
+/// there were.
+fn send_slowly(meeting: &mut Meeting<'_>, stranger: &mut Stranger) -> io::Result<u32> {
     let mut octets = 0u32;
     for octet in Status::Alignment.frame() {
         if !meeting.pair.has_stranger() {
@@ -47,23 +75,21 @@ fn meet_slow_peer(meeting: &mut Meeting<'_>) -> io::Result<()> {
         meeting.pair.tick();
     }
     meeting.exchange()?;
-    let failures = meeting.failures_by_timer().saturating_sub(failures);
-    let ends = stranger.sees_end();
-    println!(meeting.rt;
-        "an octet a second: failures by a timer: {failures}, after {octets} octets; the connection ends: {ends}"
-    )?;
-    meeting.tell("meanwhile", before)
+    Ok(octets)
 }
 
 /// A peer that sends what can't be cut into frames, and one behind it.
 fn meet_junk(meeting: &mut Meeting<'_>) -> io::Result<()> {
+    let mut stranger = meeting.taken()?;
+    read_junk(meeting, &mut stranger)
+}
+
+/// The server reads what it sends.
+fn read_junk(meeting: &mut Meeting<'_>, stranger: &mut Stranger) -> io::Result<()> {
     let before = meeting.pair.accepted();
     let closed = meeting.pair.near().log().closed_for_framing;
-    let mut stranger = meeting.taken()?;
     meeting.exchange()?;
-    let mut junk = [0; JUNK_OCTETS];
-    Junk::new().fill(&mut junk);
-    stranger.send(&junk)?;
+    send_junk(stranger)?;
     meeting.await_standing(LinkStanding::Down)?;
     meeting.exchange()?;
     let log = meeting.pair.near().log();
@@ -74,6 +100,13 @@ fn meet_junk(meeting: &mut Meeting<'_>) -> io::Result<()> {
     )?;
     meet_next(meeting)?;
     meeting.tell("meanwhile", before)
+}
+
+/// It sends octets that mean nothing.
+fn send_junk(stranger: &mut Stranger) -> io::Result<()> {
+    let mut junk = [0; JUNK_OCTETS];
+    Junk::new().fill(&mut junk);
+    stranger.send(&junk)
 }
 
 /// A peer that connects behind another one, and goes.
@@ -87,9 +120,14 @@ fn meet_next(meeting: &mut Meeting<'_>) -> io::Result<()> {
 
 /// A peer that sends a frame without its last octet.
 fn meet_unended_frame(meeting: &mut Meeting<'_>) -> io::Result<()> {
+    let mut stranger = meeting.taken()?;
+    await_its_end(meeting, &mut stranger)
+}
+
+/// The server waits for that octet, until a timer runs out.
+fn await_its_end(meeting: &mut Meeting<'_>, stranger: &mut Stranger) -> io::Result<()> {
     let before = meeting.pair.accepted();
     let failures = meeting.failures_by_timer();
-    let mut stranger = meeting.taken()?;
     let frame = Status::Alignment.frame();
     stranger.send(&frame[..STATUS_OCTETS - 1])?;
     let ticks = outlast(meeting)?;
@@ -119,8 +157,17 @@ fn outlast(meeting: &mut Meeting<'_>) -> io::Result<u32> {
 /// A thousand connections: the first one stays, and the others are held a while.
 fn meet_crowd(meeting: &mut Meeting<'_>) -> io::Result<()> {
     let before = meeting.pair.accepted();
-    let refused = meeting.pair.near().log().refused;
     let first = meeting.taken()?;
+    let refused = refuse_crowds(meeting);
+    drop(first);
+    refused?;
+    meeting.await_standing(LinkStanding::Down)?;
+    meeting.tell("meanwhile", before)
+}
+
+/// The others come in crowds.
+fn refuse_crowds(meeting: &mut Meeting<'_>) -> io::Result<()> {
+    let refused = meeting.pair.near().log().refused;
     let mut closed = 0u64;
     for _ in 0..CROWDS {
         closed = closed.saturating_add(crowd_in(meeting)?);
@@ -131,10 +178,7 @@ fn meet_crowd(meeting: &mut Meeting<'_>) -> io::Result<()> {
     let count = CROWDS * CROWD + 1;
     println!(meeting.rt;
         "{count} connections: the first is taken: {is_taken}, refused: {refused}, seen to end: {closed}"
-    )?;
-    drop(first);
-    meeting.await_standing(LinkStanding::Down)?;
-    meeting.tell("meanwhile", before)
+    )
 }
 
 /// More connections beside the one that was taken: they are held while both ends submit messages, and then let go.

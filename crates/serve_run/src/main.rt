@@ -16,6 +16,7 @@ mod hostile_peers;
 mod ledger;
 mod measured;
 mod meeting;
+mod message;
 mod node_settings;
 mod opening;
 mod pair;
@@ -42,12 +43,8 @@ const MESSAGES_BEFORE: u32 = 2000;
 const BURST: u32 = 200;
 
 fn main(rt: HostRuntime) -> io::Result<()> {
-    let words = words(&rt)?;
-    match Task::read(words.as_slice()) {
-        Some(Task::Join) => {
-            cut_connections(&rt)?;
-            meet_hostile_peers(&rt)
-        }
+    match asked(&rt)? {
+        Some(Task::Join) => join_servers(&rt),
         Some(Task::Send(traffic)) => measured::send(&rt, traffic),
         Some(Task::Receive(traffic)) => measured::receive(&rt, traffic),
         None => println!(rt;
@@ -56,31 +53,46 @@ fn main(rt: HostRuntime) -> io::Result<()> {
     }
 }
 
-/// The words behind the program's name.
-fn words(rt: &HostRuntime) -> io::Result<Vec<String>> {
-    let words = env::args(rt)?.skip(1).collect(rt.alloc())?;
-    Ok(words)
+/// What the words behind the program's name ask for.
+fn asked(rt: &HostRuntime) -> io::Result<Option<Task>> {
+    let words: Vec<String> = env::args(rt)?.skip(1).collect(rt.alloc())?;
+    Ok(Task::read(words.as_slice()))
+}
+
+/// Pairs of servers, one after another.
+fn join_servers(rt: &HostRuntime) -> io::Result<()> {
+    cut_connections(rt)?;
+    meet_hostile_peers(rt)
 }
 
 /// Two nodes send each other messages while their connections are cut.
 fn cut_connections(rt: &HostRuntime) -> io::Result<()> {
-    let Some(mut pair) = Pair::open(rt) else {
-        return println!(rt; "the servers can't be opened");
-    };
+    match Pair::open(rt) {
+        Some(mut pair) => {
+            let cut = cut_each(rt, &mut pair);
+            pair.close();
+            cut
+        }
+        None => println!(rt; "the servers can't be opened"),
+    }
+}
+
+/// They do so between two servers whose links are to come into service.
+fn cut_each(rt: &HostRuntime, pair: &mut Pair) -> io::Result<()> {
     pair.rest(rt)?;
     for _ in 0..MESSAGES_BEFORE / BURST {
         pair.submit(BURST);
         pair.rest(rt)?;
     }
-    report(rt, &pair)?;
+    report(rt, pair)?;
     let agree = pair.counters_agree();
     println!(rt; "frames and octets out of each end are those into the other: {agree}")?;
     for cut in 0..CUTS {
-        cut_among_messages(rt, &mut pair, cut)?;
+        cut_among_messages(rt, pair, cut)?;
     }
     println!(rt; "{CUTS} cuts")?;
-    report(rt, &pair)?;
-    report_procedures(rt, &pair)
+    report(rt, pair)?;
+    report_procedures(rt, pair)
 }
 
 /// One of the ends cuts a connection in the middle of messages; then all is brought to rest, with all links in service.

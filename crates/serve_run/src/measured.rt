@@ -20,21 +20,19 @@ const REST_MS: u64 = 1_000;
 /// Messages that are submitted between two rounds, at most.
 const BURST: u32 = 1000;
 
-/// A server, and the clock of its run.
+/// The clock of a server's run.
 #[derive(Drop)]
 struct Run<'a> {
     rt: &'a HostRuntime,
-    station: Station,
     clock: TickClock,
     started: Instant,
 }
 
 impl<'a> Run<'a> {
-    /// The run of a server begins.
-    fn begin(rt: &'a HostRuntime, station: Station) -> io::Result<Run<'a>> {
+    /// A run begins.
+    fn begin(rt: &'a HostRuntime) -> io::Result<Run<'a>> {
         Ok(Run {
             rt,
-            station,
             clock: TickClock::new(TICK_MS),
             started: Instant::now(rt)?,
         })
@@ -52,23 +50,23 @@ impl<'a> Run<'a> {
 
     /// Waits until something happens or a tick is due, lets the ticks pass, and does what there is to do. Returns how
     /// long the run had taken when the wait was over.
-    fn round(&mut self) -> io::Result<Duration> {
+    fn round(&mut self, station: &mut Station) -> io::Result<Duration> {
         let now = self.now()?;
         let rest = Duration::from_millis(self.clock.until_next(millis(now)));
-        self.station.wait(now, rest)?;
+        station.wait(now, rest)?;
         let now = self.now()?;
         let ticks = self.clock.due(millis(now));
-        self.station.tick(ticks, now);
-        self.station.turn(self.rt, now);
+        station.tick(ticks, now);
+        station.turn(self.rt, now);
         Ok(now)
     }
 
     /// Round after round, until the server has been at rest for some time.
-    fn await_rest(&mut self) -> io::Result<()> {
+    fn await_rest(&mut self, station: &mut Station) -> io::Result<()> {
         let mut since = self.now()?;
         for _ in 0..u64::MAX {
-            let now = self.round()?;
-            if !self.station.is_at_rest() {
+            let now = self.round(station)?;
+            if !station.is_at_rest() {
                 since = now;
             }
             if millis(now.saturating_sub(since)) > REST_MS || self.is_late()? {
@@ -79,10 +77,10 @@ impl<'a> Run<'a> {
     }
 
     /// Submits messages, at most so many, until one is refused.
-    fn submit(&mut self, most: u32) -> io::Result<()> {
+    fn submit(&self, station: &mut Station, most: u32) -> io::Result<()> {
         let now = self.now()?;
         for _ in 0..most {
-            if !is_taken(&self.station.submit(now)) {
+            if !is_taken(&station.submit(now)) {
                 return Ok(());
             }
         }
@@ -90,24 +88,24 @@ impl<'a> Run<'a> {
     }
 
     /// Submits so many messages, as fast as they are taken.
-    fn submit_all(&mut self, count: u32) -> io::Result<()> {
+    fn submit_all(&mut self, station: &mut Station, count: u32) -> io::Result<()> {
         for _ in 0..u64::MAX {
-            let left = u64::from(count).saturating_sub(self.station.accepted());
+            let left = u64::from(count).saturating_sub(station.accepted());
             if left == 0 || self.is_late()? {
                 return Ok(());
             }
-            self.submit(left.min(u64::from(BURST)) as u32)?;
-            self.round()?;
+            self.submit(station, left.min(u64::from(BURST)) as u32)?;
+            self.round(station)?;
         }
         Ok(())
     }
 
     /// Round after round, until so many messages came. Returns how long it took from the first to the last.
-    fn receive_all(&mut self, count: u32) -> io::Result<Duration> {
+    fn receive_all(&mut self, station: &mut Station, count: u32) -> io::Result<Duration> {
         let mut first = None;
         for _ in 0..u64::MAX {
-            let now = self.round()?;
-            let came = self.station.came().came();
+            let now = self.round(station)?;
+            let came = station.came().came();
             if first.is_none() && came > 0 {
                 first = Some(now);
             }
@@ -120,14 +118,38 @@ impl<'a> Run<'a> {
     }
 
     /// Round after round, until no link is in service any more.
-    fn await_end(&mut self) -> io::Result<()> {
+    fn await_end(&mut self, station: &mut Station) -> io::Result<()> {
         for _ in 0..u64::MAX {
-            if self.station.is_cut_off() || self.is_late()? {
+            if station.is_cut_off() || self.is_late()? {
                 return Ok(());
             }
-            self.round()?;
+            self.round(station)?;
         }
         Ok(())
+    }
+
+    /// Sends messages, and ends when all are confirmed.
+    fn send(&mut self, station: &mut Station, count: u32) -> io::Result<()> {
+        self.await_rest(station)?;
+        self.submit_all(station, count)?;
+        self.await_rest(station)?;
+        let accepted = station.accepted();
+        let confirmed = station.is_at_rest();
+        let failures = station.failures();
+        println!(self.rt;
+            "{accepted} messages submitted; all confirmed: {confirmed}; failures of links: {failures}"
+        )
+    }
+
+    /// Receives messages, prints what came, and ends when the sender does.
+    fn receive(&mut self, station: &mut Station, count: u32) -> io::Result<()> {
+        let took = millis(self.receive_all(station, count)?);
+        let came = station.came().came();
+        let right = station.came().wrong() == 0 && came == u64::from(count);
+        println!(self.rt;
+            "{came} messages came; each once and in order: {right}; {took} ms from the first to the last"
+        )?;
+        self.await_end(station)
     }
 }
 
@@ -138,32 +160,26 @@ fn millis(time: Duration) -> u64 {
 
 /// Sends messages, and ends when all are confirmed.
 pub(crate) fn send(rt: &HostRuntime, traffic: Traffic) -> io::Result<()> {
-    let Some(station) = sending_at(rt, traffic.port) else {
-        return println!(rt; "the server can't be opened");
-    };
-    let mut run = Run::begin(rt, station)?;
-    run.await_rest()?;
-    run.submit_all(traffic.count)?;
-    run.await_rest()?;
-    let accepted = run.station.accepted();
-    let confirmed = run.station.is_at_rest();
-    let failures = run.station.failures();
-    println!(rt;
-        "{accepted} messages submitted; all confirmed: {confirmed}; failures of links: {failures}"
-    )
+    let mut run = Run::begin(rt)?;
+    match sending_at(rt, traffic.port) {
+        Some(mut station) => {
+            let sent = run.send(&mut station, traffic.count);
+            station.close();
+            sent
+        }
+        None => println!(rt; "the server can't be opened"),
+    }
 }
 
 /// Receives messages, prints what came, and ends when the sender does.
 pub(crate) fn receive(rt: &HostRuntime, traffic: Traffic) -> io::Result<()> {
-    let Some(station) = receiving_at(rt, traffic.port) else {
-        return println!(rt; "the server can't be opened");
-    };
-    let mut run = Run::begin(rt, station)?;
-    let took = millis(run.receive_all(traffic.count)?);
-    let came = run.station.came().came();
-    let right = run.station.came().wrong() == 0 && came == u64::from(traffic.count);
-    println!(rt;
-        "{came} messages came; each once and in order: {right}; {took} ms from the first to the last"
-    )?;
-    run.await_end()
+    let mut run = Run::begin(rt)?;
+    match receiving_at(rt, traffic.port) {
+        Some(mut station) => {
+            let received = run.receive(&mut station, traffic.count);
+            station.close();
+            received
+        }
+        None => println!(rt; "the server can't be opened"),
+    }
 }

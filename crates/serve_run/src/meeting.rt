@@ -26,8 +26,18 @@ impl<'a> Meeting<'a> {
     /// Two servers whose links are to come into service. None where a socket or memory can't be had.
     pub(crate) fn open(rt: &'a HostRuntime) -> Option<Meeting<'a>> {
         let pair = Pair::open_to_strangers(rt)?;
-        let address = pair.near().address(strangers_link())?;
-        Some(Meeting { rt, pair, address })
+        match pair.near().address(strangers_link()) {
+            Some(address) => Some(Meeting { rt, pair, address }),
+            None => {
+                pair.close();
+                None
+            }
+        }
+    }
+
+    /// Closes the sockets of both.
+    pub(crate) fn close(self) {
+        self.pair.close();
     }
 
     /// A stranger who is connected.

@@ -1,11 +1,13 @@
 //! The servers of the runs, before their first round.
 
+use crate::message::{LONG_OCTETS, SHORT_OCTETS};
 use crate::node_settings::{LinkSet, POINT_ONE, POINT_THREE, POINT_TWO, Room, node_settings};
-use crate::station::{LINKS, LONG_OCTETS, Points, SHORT_OCTETS, Station};
+use crate::station::{LINKS, Points, Station};
 use serve_settings::Endpoint;
-use std::alloc::Global;
 use std::net::{Ipv4Addr, SocketAddr};
+use stp_server::Places;
 use stp_types::LinkId;
+use trace::PointFormat;
 
 /// User messages that a node of a pair keeps.
 pub(crate) const POOL: u32 = 1000;
@@ -55,6 +57,12 @@ const TO_ONE: LinkSet = LinkSet {
     links: LINKS,
 };
 
+/// How many links there are between the two servers.
+const LINK_COUNT: usize = LINKS as usize;
+
+/// How many links the server has that listens to strangers too.
+const LINK_COUNT_WITH_STRANGERS: usize = LINK_COUNT + 1;
+
 /// The link at which strangers connect: the one behind those to the other server.
 pub(crate) fn strangers_link() -> LinkId {
     LinkId::new(LINKS)
@@ -62,62 +70,81 @@ pub(crate) fn strangers_link() -> LinkId {
 
 /// The server of point 1, whose links listen at any free ports.
 pub(crate) fn listening(rt: &HostRuntime) -> Option<Station> {
+    let ends = [Endpoint::Listen(at(0)); LINK_COUNT];
     let settings = node_settings(rt.alloc(), POINT_ONE, &[TO_TWO], ROOM)?;
-    let ends = free_ports(rt.alloc(), LINKS)?;
-    Station::open(rt, settings, &ends, FROM_ONE, SHORT_OCTETS)
+    Station::open(rt, settings, places(&ends), FROM_ONE, SHORT_OCTETS)
 }
 
 /// The same, with a link for strangers behind them.
 pub(crate) fn listening_to_strangers(rt: &HostRuntime) -> Option<Station> {
+    let ends = [Endpoint::Listen(at(0)); LINK_COUNT_WITH_STRANGERS];
     let settings = node_settings(rt.alloc(), POINT_ONE, &[TO_TWO, TO_STRANGERS], ROOM)?;
-    let ends = free_ports(rt.alloc(), LINKS + TO_STRANGERS.links)?;
-    Station::open(rt, settings, &ends, FROM_ONE, SHORT_OCTETS)
+    Station::open(rt, settings, places(&ends), FROM_ONE, SHORT_OCTETS)
 }
 
 /// The server of point 2, which connects to the other.
 pub(crate) fn connecting(rt: &HostRuntime, near: &Station) -> Option<Station> {
+    let ends = ports_of(near)?;
     let settings = node_settings(rt.alloc(), POINT_TWO, &[TO_ONE], ROOM)?;
-    let ends = ports_of(rt.alloc(), near)?;
-    Station::open(rt, settings, &ends, FROM_TWO, SHORT_OCTETS)
+    Station::open(rt, settings, places(&ends), FROM_TWO, SHORT_OCTETS)
 }
 
 /// The server of point 1 with room for many long messages, whose links listen at this port and those behind it.
 pub(crate) fn sending_at(rt: &HostRuntime, port: u16) -> Option<Station> {
+    let ends = listening_from(port)?;
     let settings = node_settings(rt.alloc(), POINT_ONE, &[TO_TWO], WIDE_ROOM)?;
-    let mut ends = Vec::new(rt.alloc());
-    for link in 0..LINKS {
-        ends.push(Endpoint::Listen(at_port(port, link)?)).ok()?;
-    }
-    Station::open(rt, settings, &ends, FROM_ONE, LONG_OCTETS)
+    Station::open(rt, settings, places(&ends), FROM_ONE, LONG_OCTETS)
 }
 
 /// The server of point 2 with as much room, whose links connect to these ports.
 pub(crate) fn receiving_at(rt: &HostRuntime, port: u16) -> Option<Station> {
+    let ends = connecting_from(port)?;
     let settings = node_settings(rt.alloc(), POINT_TWO, &[TO_ONE], WIDE_ROOM)?;
-    let mut ends = Vec::new(rt.alloc());
-    for link in 0..LINKS {
-        ends.push(Endpoint::Connect(at_port(port, link)?)).ok()?;
-    }
-    Station::open(rt, settings, &ends, FROM_TWO, LONG_OCTETS)
+    Station::open(rt, settings, places(&ends), FROM_TWO, LONG_OCTETS)
 }
 
-/// So many links listen at any free port.
-fn free_ports(alloc: Global, listeners: u8) -> Option<Vec<Endpoint>> {
-    let mut ends = Vec::new(alloc);
-    for _ in 0..listeners {
-        ends.push(Endpoint::Listen(at(0))).ok()?;
+/// A server that is reached there.
+fn places(links: &[Endpoint]) -> Places<'_> {
+    Places {
+        links,
+        console: None,
+        points: PointFormat::Plain,
     }
-    Some(ends)
 }
 
 /// Each link connects to where a server listens for it.
-fn ports_of(alloc: Global, station: &Station) -> Option<Vec<Endpoint>> {
-    let mut ends = Vec::new(alloc);
+fn ports_of(station: &Station) -> Option<[Endpoint; LINK_COUNT]> {
+    let mut ends = [Endpoint::Connect(at(0)); LINK_COUNT];
     for link in 0..LINKS {
         let address = station.address(LinkId::new(link))?;
-        ends.push(Endpoint::Connect(address)).ok()?;
+        set_end(&mut ends, link, Endpoint::Connect(address));
     }
     Some(ends)
+}
+
+/// The links listen at this port and those behind it. None where there are not so many ports.
+fn listening_from(port: u16) -> Option<[Endpoint; LINK_COUNT]> {
+    let mut ends = [Endpoint::Listen(at(0)); LINK_COUNT];
+    for link in 0..LINKS {
+        set_end(&mut ends, link, Endpoint::Listen(at_port(port, link)?));
+    }
+    Some(ends)
+}
+
+/// The links connect to this port and those behind it. None where there are not so many ports.
+fn connecting_from(port: u16) -> Option<[Endpoint; LINK_COUNT]> {
+    let mut ends = [Endpoint::Connect(at(0)); LINK_COUNT];
+    for link in 0..LINKS {
+        set_end(&mut ends, link, Endpoint::Connect(at_port(port, link)?));
+    }
+    Some(ends)
+}
+
+/// The connection of a link comes about in this way.
+fn set_end(ends: &mut [Endpoint; LINK_COUNT], link: u8, endpoint: Endpoint) {
+    if let Some(end) = ends.get_mut(usize::from(link)) {
+        *end = endpoint;
+    }
 }
 
 /// The address of a link, where the first has this port. None where there is no such port.

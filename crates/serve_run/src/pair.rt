@@ -1,10 +1,13 @@
 //! Two servers that are joined by connections of this machine with itself.
 
-use crate::opening::{connecting, listening, listening_to_strangers, strangers_link};
+mod joining;
+mod judging;
+
+use crate::opening::strangers_link;
 use crate::station::{LINKS, Station};
 use exchange::LinkStanding;
-use link_counters::LinkCounters;
 use std::io;
+use std::marker::Model;
 use std::time::Duration;
 use stp_types::LinkId;
 
@@ -37,27 +40,14 @@ pub(crate) struct Pair {
     ticks: u64,
 }
 
+// Nothing is said of a server's state, so nothing is said of two.
+impl Model for Pair {
+    ghost Value = { Unit {0} };
+
+    ghost view = { λ _. tt };
+}
+
 impl Pair {
-    /// Two servers whose links are to come into service. None where a socket or memory can't be had.
-    pub(crate) fn open(rt: &HostRuntime) -> Option<Pair> {
-        Pair::with_near(rt, listening(rt)?)
-    }
-
-    /// The same, where the first one listens for strangers too, at a link of its own.
-    pub(crate) fn open_to_strangers(rt: &HostRuntime) -> Option<Pair> {
-        Pair::with_near(rt, listening_to_strangers(rt)?)
-    }
-
-    /// This server, and one that connects to it.
-    fn with_near(rt: &HostRuntime, near: Station) -> Option<Pair> {
-        let far = connecting(rt, &near)?;
-        Some(Pair {
-            near,
-            far,
-            ticks: 0,
-        })
-    }
-
     /// The server that listens.
     pub(crate) fn near(&self) -> &Station {
         &self.near
@@ -215,45 +205,6 @@ impl Pair {
     pub(crate) fn has_stranger(&self) -> bool {
         self.strangers_standing() != LinkStanding::Down
     }
-
-    /// How many messages each end had taken.
-    pub(crate) fn accepted(&self) -> (u64, u64) {
-        (self.near.accepted(), self.far.accepted())
-    }
-
-    /// Whether each message that was taken came to the other end once, and each flow in order.
-    pub(crate) fn each_once_in_order(&self) -> bool {
-        let (near, far) = (self.near.came(), self.far.came());
-        near.wrong() == 0
-            && far.wrong() == 0
-            && near.came() == self.far.accepted()
-            && far.came() == self.near.accepted()
-    }
-
-    /// Whether a node says that a message may be lost, and whether one says that a flow may be out of order.
-    pub(crate) fn flags(&self) -> (bool, bool) {
-        let (near, far) = (self.near.exchange(), self.far.exchange());
-        (
-            near.lost_any() || far.lost_any(),
-            near.late_any() || far.late_any(),
-        )
-    }
-
-    /// Whether on each link as many frames and octets went out at one end as came in at the other.
-    pub(crate) fn counters_agree(&self) -> bool {
-        (0..LINKS).all(|link| {
-            let link = LinkId::new(link);
-            match (self.near.row(link), self.far.row(link)) {
-                (Some(near), Some(far)) => agree(near, far) && agree(far, near),
-                _ => false,
-            }
-        })
-    }
-}
-
-/// Whether what went out at one end came in at the other.
-fn agree(from: &LinkCounters, to: &LinkCounters) -> bool {
-    from.frames_out == to.frames_in && from.octets_out == to.octets_in
 }
 
 /// One round of a server.

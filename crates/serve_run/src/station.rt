@@ -2,28 +2,18 @@
 
 use crate::gate_log::GateLog;
 use crate::ledger::{FLOWS, Ledger};
-use crate::node_settings::{INTERNATIONAL, ISUP};
-use exchange::{Event, Exchange, Label, LinkStanding};
+use crate::message::{field_of, label_of, message_of};
+use exchange::{Event, Exchange, LinkStanding};
 use link_counters::{Counter, LinkCounters};
-use serve_settings::Endpoint;
 use std::io;
+use std::marker::Model;
 use std::net::SocketAddr;
 use std::time::Duration;
 use stp_server::{Places, Server};
-use stp_types::{FailureReason, LinkId, MsuRef, Outcome, PointCode, Settings, Sls};
-use trace::PointFormat;
+use stp_types::{FailureReason, LinkId, Outcome, Settings};
 
 /// Links between the two servers: the first ones of each.
 pub(crate) const LINKS: u8 = 3;
-
-/// Octets of the longest signalling information field that is submitted.
-pub(crate) const LONG_OCTETS: usize = 100;
-
-/// Octets of the shortest: a label and a number.
-pub(crate) const SHORT_OCTETS: usize = 8;
-
-/// What a long field is filled up with.
-const FILLING: u8 = 0x5a;
 
 /// The point of a server, and that to which it submits.
 #[derive(Clone, Copy)]
@@ -46,32 +36,41 @@ pub(crate) struct Station {
     next_flow: u8,
 }
 
+// Nothing is said of a server's state, so nothing is said of this.
+impl Model for Station {
+    ghost Value = { Unit {0} };
+
+    ghost view = { λ _. tt };
+}
+
 impl Station {
-    /// A server with these settings and ends of links, whose fields have so many octets. None where a socket or memory
+    /// A server with these settings, reached there, whose fields have so many octets. None where a socket or memory
     /// can't be had.
     pub(crate) fn open(
         rt: &HostRuntime,
         settings: Settings,
-        links: &[Endpoint],
+        places: Places<'_>,
         points: Points,
         octets: usize,
     ) -> Option<Station> {
         let mut log = GateLog::new();
-        let places = Places {
-            links,
-            console: None,
-            points: PointFormat::Plain,
-        };
-        let server = Server::open(rt, rt.alloc(), settings, places, &mut log).ok()?;
-        Some(Station {
-            server,
-            log,
-            came: Ledger::new(),
-            points,
-            octets,
-            accepted: [0; FLOWS],
-            next_flow: 0,
-        })
+        match Server::open(rt, rt.alloc(), settings, places, &mut log) {
+            Ok(server) => Some(Station {
+                server,
+                log,
+                came: Ledger::new(),
+                points,
+                octets,
+                accepted: [0; FLOWS],
+                next_flow: 0,
+            }),
+            Err(_) => None,
+        }
+    }
+
+    /// Closes its sockets. Nothing else drops a server, since that is long to prove.
+    pub(crate) fn close(self) {
+        drop(self);
     }
 
     /// Submits the next message to the other point: one of each flow in turn. A message that is refused is the next one
@@ -98,10 +97,7 @@ impl Station {
             return Outcome::Ignored;
         };
         let field = field_of(label, number);
-        let message = MsuRef {
-            sio: INTERNATIONAL << 6 | ISUP,
-            sif: field.get(..self.octets).unwrap_or(&[]),
-        };
+        let message = message_of(field.get(..self.octets).unwrap_or(&[]));
         self.server
             .step(&Event::Submit(message), now, &mut self.log)
     }
@@ -242,22 +238,4 @@ impl Station {
 /// Whether a message was taken.
 pub(crate) fn is_taken(outcome: &Outcome) -> bool {
     matches!(outcome, Outcome::Queued(_) | Outcome::Held)
-}
-
-/// The label of a flow from one point to another.
-fn label_of(flow: u8, from: u16, to: u16) -> Option<Label> {
-    Some(Label {
-        dpc: PointCode::new(to)?,
-        opc: PointCode::new(from)?,
-        sls: Sls::new(flow)?,
-    })
-}
-
-/// A signalling information field: the label, the number, and filling.
-fn field_of(label: Label, number: u32) -> [u8; LONG_OCTETS] {
-    let [l0, l1, l2, l3] = label.write();
-    let [n3, n2, n1, n0] = number.to_be_bytes();
-    let mut field = [FILLING; LONG_OCTETS];
-    field[..SHORT_OCTETS].copy_from_slice(&[l0, l1, l2, l3, n3, n2, n1, n0]);
-    field
 }
