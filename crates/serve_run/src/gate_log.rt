@@ -2,7 +2,7 @@
 
 use stp_node::{Sink, WriteFailed};
 
-/// How many connections were taken, refused and closed, by the lines of the log.
+/// How many connections were refused and closed, and how many callers came and went, by the lines of the log.
 #[derive(Clone, Copy, Drop)]
 pub(crate) struct GateLog {
     /// Connections that were refused.
@@ -11,6 +11,12 @@ pub(crate) struct GateLog {
     pub(crate) closed_for_framing: u64,
     /// Connections that were closed since the node wanted it.
     pub(crate) closed_by_node: u64,
+    /// Callers that came, and had a place.
+    pub(crate) callers: u64,
+    /// Callers that had a place, and are gone.
+    pub(crate) callers_gone: u64,
+    /// Callers for whom there was no place.
+    pub(crate) callers_refused: u64,
 }
 
 impl GateLog {
@@ -20,20 +26,42 @@ impl GateLog {
             refused: 0,
             closed_for_framing: 0,
             closed_by_node: 0,
+            callers: 0,
+            callers_gone: 0,
+            callers_refused: 0,
         }
     }
 
-    /// Counts a line: `TIME refuse LINK PEER`, or `TIME close LINK PEER WHY`.
+    /// Counts a line: `TIME refuse LINK PEER`, `TIME close LINK PEER WHY`, or `TIME caller PEER`, with `gone` or with
+    /// `no place` behind it.
     fn count(&mut self, line: &str) {
         let mut words = line.trim_end().split(' ').skip(1);
         let verb = words.next().unwrap_or("");
-        let why = words.nth(2).unwrap_or("");
-        match (verb, why) {
-            ("refuse", _) => self.refused = self.refused.saturating_add(1),
-            ("close", "framing") => {
-                self.closed_for_framing = self.closed_for_framing.saturating_add(1);
-            }
-            ("close", "node") => self.closed_by_node = self.closed_by_node.saturating_add(1),
+        let third = words.nth(1).unwrap_or("");
+        let fourth = words.next().unwrap_or("");
+        match verb {
+            "refuse" => self.refused = self.refused.saturating_add(1),
+            "close" => self.count_closed(fourth),
+            "caller" => self.count_caller(third),
+            _ => {}
+        }
+    }
+
+    /// Counts a connection that was closed, by the word that says why.
+    fn count_closed(&mut self, why: &str) {
+        match why {
+            "framing" => self.closed_for_framing = self.closed_for_framing.saturating_add(1),
+            "node" => self.closed_by_node = self.closed_by_node.saturating_add(1),
+            _ => {}
+        }
+    }
+
+    /// Counts a caller, by the first word behind where it came from.
+    fn count_caller(&mut self, word: &str) {
+        match word {
+            "" => self.callers = self.callers.saturating_add(1),
+            "gone" => self.callers_gone = self.callers_gone.saturating_add(1),
+            "no" => self.callers_refused = self.callers_refused.saturating_add(1),
             _ => {}
         }
     }

@@ -1,5 +1,6 @@
 //! What came to one end: messages, and the orders of procedures.
 
+use crate::message::{FILLING, SHORT_OCTETS};
 use association::Watch;
 use exchange::{Frame, decode};
 use stp_types::{LinkId, Outcome};
@@ -19,9 +20,10 @@ const CHANGEBACK_DECLARATION: u8 = 0x51;
 /// Octets of a routing label.
 const LABEL_OCTETS: usize = 4;
 
-/// What came to one end.
+/// What came to one end, where messages have so many octets.
 #[derive(Drop)]
 pub struct Ledger {
+    octets: usize,
     next: [u32; FLOWS],
     came: u64,
     wrong: u64,
@@ -30,9 +32,10 @@ pub struct Ledger {
 }
 
 impl Ledger {
-    /// Nothing came yet.
-    pub fn new() -> Ledger {
+    /// Nothing came yet. The signalling information field of each message has so many octets.
+    pub fn new(octets: usize) -> Ledger {
         Ledger {
+            octets,
             next: [0; FLOWS],
             came: 0,
             wrong: 0,
@@ -46,7 +49,7 @@ impl Ledger {
         self.came
     }
 
-    /// How many messages weren't the next of their flow.
+    /// How many messages weren't the next of their flow, or not whole.
     pub fn wrong(&self) -> u64 {
         self.wrong
     }
@@ -61,23 +64,24 @@ impl Ledger {
         self.changebacks
     }
 
-    /// A message of a flow came with this number.
-    fn note_message(&mut self, flow: usize, number: u32) {
+    /// A message of a flow came with this number, whole or not.
+    fn note_message(&mut self, flow: usize, number: u32, is_whole: bool) {
         self.came = self.came.saturating_add(1);
         let Some(next) = self.next.get_mut(flow) else {
             return;
         };
-        if *next != number {
+        if *next != number || !is_whole {
             self.wrong = self.wrong.saturating_add(1);
         }
         *next = number.saturating_add(1);
     }
 
-    /// A message with this signalling information field came for this point.
+    /// A message with this signalling information field came for this point. One that has no number isn't noted.
     fn note_local(&mut self, sif: &[u8]) {
         if let [_, _, _, label, n3, n2, n1, n0, ..] = *sif {
             let number = u32::from_be_bytes([n3, n2, n1, n0]);
-            self.note_message(usize::from(label / 16), number);
+            let is_whole = sif.len() == self.octets && is_filled(sif);
+            self.note_message(usize::from(label / 16), number, is_whole);
         }
     }
 
@@ -108,4 +112,14 @@ impl Watch for Ledger {
     }
 
     fn went_out(&mut self, _link: LinkId, _frame: &[u8]) {}
+}
+
+/// Whether all behind the number of a signalling information field is filling.
+fn is_filled(sif: &[u8]) -> bool {
+    for octet in sif.iter().skip(SHORT_OCTETS) {
+        if *octet != FILLING {
+            return false;
+        }
+    }
+    true
 }

@@ -3,14 +3,21 @@
 //!
 //! Each submits 22,000 messages of 16 flows, and fifty times one of the ends cuts a connection in the middle of them.
 //! It prints whether each message came once and each flow in order, how many changeovers and changebacks there were,
-//! and whether the counters of both ends agree. Then a node with one link more meets peers that do harm. Ticks pass
-//! where nothing else happens, so that a run doesn't depend on time.
+//! and whether the counters of both ends agree. Then a node with one link more meets peers that do harm, one with a
+//! console and a capture meets callers, and one fills a socket. Ticks pass where nothing else happens, so that a run
+//! doesn't depend on time.
 //!
 //! `serve_run send PORT COUNT` and `serve_run receive PORT COUNT`, beside each other, measure how long messages take
 //! from one process to another.
 #![tactic(auto)]
 
+mod caller;
+mod callers_run;
+mod capture_check;
+mod consoles;
+mod crowding_callers;
 mod deaf_peer;
+mod full_socket;
 mod gate_log;
 mod hostile_peers;
 mod ledger;
@@ -24,7 +31,10 @@ mod station;
 mod stranger;
 mod task;
 
+use callers_run::meet_callers;
+use full_socket::fill_socket;
 use hostile_peers::meet_hostile_peers;
+use opening::Kind;
 use pair::{End, Pair};
 use station::LINKS;
 use std::{env, io};
@@ -62,12 +72,14 @@ fn asked(rt: &HostRuntime) -> io::Result<Option<Task>> {
 /// Pairs of servers, one after another.
 fn join_servers(rt: &HostRuntime) -> io::Result<()> {
     cut_connections(rt)?;
-    meet_hostile_peers(rt)
+    meet_hostile_peers(rt)?;
+    meet_callers(rt)?;
+    fill_socket(rt)
 }
 
 /// Two nodes send each other messages while their connections are cut.
 fn cut_connections(rt: &HostRuntime) -> io::Result<()> {
-    match Pair::open(rt) {
+    match Pair::open(rt, Kind::Small) {
         Some(mut pair) => {
             let cut = cut_each(rt, &mut pair);
             pair.close();

@@ -82,11 +82,6 @@ impl<'a> Meeting<'a> {
 
     /// Prints what became of the messages that were taken since there were so many; the word says when that was.
     pub(crate) fn tell(&self, word: &str, before: (u64, u64)) -> io::Result<()> {
-        let (near, far) = self.pair.accepted();
-        let (near, far) = (near.saturating_sub(before.0), far.saturating_sub(before.1));
-        let right = self.pair.each_once_in_order();
-        println!(self.rt;
-            "  {word}: {near} messages to point 2, {far} to point 1, each once and in order: {right}"
-        )
+        self.pair.tell(self.rt, word, before)
     }
 }

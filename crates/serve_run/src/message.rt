@@ -2,16 +2,16 @@
 
 use crate::node_settings::{INTERNATIONAL, ISUP};
 use exchange::Label;
-use stp_types::{MsuRef, PointCode, Sls};
+use stp_types::{Limits, MsuRef, PointCode, Sls};
 
 /// Octets of the shortest signalling information field: a label and a number.
 pub(crate) const SHORT_OCTETS: usize = 8;
 
-/// Octets of the longest that is submitted.
-pub(crate) const LONG_OCTETS: usize = 100;
+/// Octets of the longest.
+pub(crate) const LONGEST_OCTETS: usize = Limits::SIF_OCTETS;
 
 /// What a long field is filled up with.
-const FILLING: u8 = 0x5a;
+pub(crate) const FILLING: u8 = 0x5a;
 
 /// The label of a flow from one point to another.
 pub(crate) fn label_of(flow: u8, from: u16, to: u16) -> Option<Label> {
@@ -23,10 +23,10 @@ pub(crate) fn label_of(flow: u8, from: u16, to: u16) -> Option<Label> {
 }
 
 /// The longest signalling information field with this label and number. Each shorter one is the front of it.
-pub(crate) fn field_of(label: Label, number: u32) -> [u8; LONG_OCTETS] {
+pub(crate) fn field_of(label: Label, number: u32) -> [u8; LONGEST_OCTETS] {
     let [l0, l1, l2, l3] = label.write();
     let [n3, n2, n1, n0] = number.to_be_bytes();
-    let mut field = [FILLING; LONG_OCTETS];
+    let mut field = [FILLING; LONGEST_OCTETS];
     field[..SHORT_OCTETS].copy_from_slice(&[l0, l1, l2, l3, n3, n2, n1, n0]);
     field
 }

@@ -1,6 +1,6 @@
 //! The servers of the runs, before their first round.
 
-use crate::message::{LONG_OCTETS, SHORT_OCTETS};
+use crate::message::{LONGEST_OCTETS, SHORT_OCTETS};
 use crate::node_settings::{LinkSet, POINT_ONE, POINT_THREE, POINT_TWO, Room, node_settings};
 use crate::station::{LINKS, Points, Station};
 use serve_settings::Endpoint;
@@ -23,6 +23,15 @@ const WIDE_ROOM: Room = Room {
     window: 4096,
     pool: 65_535,
 };
+
+/// As many as a node can keep, and as many on each link.
+const LARGEST_ROOM: Room = Room {
+    window: 16_384,
+    pool: 65_535,
+};
+
+/// Octets of a signalling information field of a measured run.
+const MEASURED_OCTETS: usize = 100;
 
 /// The point of the node that listens, and the other.
 const FROM_ONE: Points = Points {
@@ -68,46 +77,85 @@ pub(crate) fn strangers_link() -> LinkId {
     LinkId::new(LINKS)
 }
 
+/// How the two servers of a pair are made.
+#[derive(Clone, Copy)]
+pub(crate) enum Kind {
+    /// With little room, for short messages.
+    Small,
+    /// The same, and each with a console at any free port.
+    WithConsoles,
+    /// With as much room as there can be, for the longest messages.
+    Large,
+}
+
+impl Kind {
+    /// How many messages each node keeps.
+    fn room(self) -> Room {
+        match self {
+            Kind::Small | Kind::WithConsoles => ROOM,
+            Kind::Large => LARGEST_ROOM,
+        }
+    }
+
+    /// How many octets the messages have.
+    fn octets(self) -> usize {
+        match self {
+            Kind::Small | Kind::WithConsoles => SHORT_OCTETS,
+            Kind::Large => LONGEST_OCTETS,
+        }
+    }
+
+    /// Where each console listens.
+    fn console(self) -> Option<SocketAddr> {
+        match self {
+            Kind::Small | Kind::Large => None,
+            Kind::WithConsoles => Some(at(0)),
+        }
+    }
+}
+
 /// The server of point 1, whose links listen at any free ports.
-pub(crate) fn listening(rt: &HostRuntime) -> Option<Station> {
+pub(crate) fn listening(rt: &HostRuntime, kind: Kind) -> Option<Station> {
     let ends = [Endpoint::Listen(at(0)); LINK_COUNT];
-    let settings = node_settings(rt.alloc(), POINT_ONE, &[TO_TWO], ROOM)?;
-    Station::open(rt, settings, places(&ends), FROM_ONE, SHORT_OCTETS)
+    let settings = node_settings(rt.alloc(), POINT_ONE, &[TO_TWO], kind.room())?;
+    let places = places(&ends, kind.console());
+    Station::open(rt, settings, places, FROM_ONE, kind.octets())
 }
 
 /// The same, with a link for strangers behind them.
 pub(crate) fn listening_to_strangers(rt: &HostRuntime) -> Option<Station> {
     let ends = [Endpoint::Listen(at(0)); LINK_COUNT_WITH_STRANGERS];
     let settings = node_settings(rt.alloc(), POINT_ONE, &[TO_TWO, TO_STRANGERS], ROOM)?;
-    Station::open(rt, settings, places(&ends), FROM_ONE, SHORT_OCTETS)
+    Station::open(rt, settings, places(&ends, None), FROM_ONE, SHORT_OCTETS)
 }
 
 /// The server of point 2, which connects to the other.
-pub(crate) fn connecting(rt: &HostRuntime, near: &Station) -> Option<Station> {
+pub(crate) fn connecting(rt: &HostRuntime, kind: Kind, near: &Station) -> Option<Station> {
     let ends = ports_of(near)?;
-    let settings = node_settings(rt.alloc(), POINT_TWO, &[TO_ONE], ROOM)?;
-    Station::open(rt, settings, places(&ends), FROM_TWO, SHORT_OCTETS)
+    let settings = node_settings(rt.alloc(), POINT_TWO, &[TO_ONE], kind.room())?;
+    let places = places(&ends, kind.console());
+    Station::open(rt, settings, places, FROM_TWO, kind.octets())
 }
 
 /// The server of point 1 with room for many long messages, whose links listen at this port and those behind it.
 pub(crate) fn sending_at(rt: &HostRuntime, port: u16) -> Option<Station> {
     let ends = listening_from(port)?;
     let settings = node_settings(rt.alloc(), POINT_ONE, &[TO_TWO], WIDE_ROOM)?;
-    Station::open(rt, settings, places(&ends), FROM_ONE, LONG_OCTETS)
+    Station::open(rt, settings, places(&ends, None), FROM_ONE, MEASURED_OCTETS)
 }
 
 /// The server of point 2 with as much room, whose links connect to these ports.
 pub(crate) fn receiving_at(rt: &HostRuntime, port: u16) -> Option<Station> {
     let ends = connecting_from(port)?;
     let settings = node_settings(rt.alloc(), POINT_TWO, &[TO_ONE], WIDE_ROOM)?;
-    Station::open(rt, settings, places(&ends), FROM_TWO, LONG_OCTETS)
+    Station::open(rt, settings, places(&ends, None), FROM_TWO, MEASURED_OCTETS)
 }
 
 /// A server that is reached there.
-fn places(links: &[Endpoint]) -> Places<'_> {
+fn places(links: &[Endpoint], console: Option<SocketAddr>) -> Places<'_> {
     Places {
         links,
-        console: None,
+        console,
         points: PointFormat::Plain,
     }
 }

@@ -205,6 +205,32 @@ impl Pair {
     pub(crate) fn has_stranger(&self) -> bool {
         self.strangers_standing() != LinkStanding::Down
     }
+
+    /// Whether all links between the two are in service.
+    pub(crate) fn is_in_service(&self) -> bool {
+        self.near.is_in_service() && self.far.is_in_service()
+    }
+
+    /// The first server submits so many messages of one flow, and the other server does nothing, until the first one has
+    /// written what its socket takes.
+    pub(crate) fn submit_unread(&mut self, rt: &HostRuntime, count: u32) -> io::Result<()> {
+        let now = self.now();
+        for _ in 0..count {
+            self.near.submit_in(0, now);
+        }
+        let mut before = 0;
+        for _ in 0..MOST_ROUNDS {
+            for _ in 0..STILL_ROUNDS {
+                round_of(rt, &mut self.near, now)?;
+            }
+            let frames = self.near.frames();
+            if frames == before {
+                return Ok(());
+            }
+            before = frames;
+        }
+        Ok(())
+    }
 }
 
 /// One round of a server.

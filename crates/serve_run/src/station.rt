@@ -9,7 +9,7 @@ use std::io;
 use std::marker::Model;
 use std::net::SocketAddr;
 use std::time::Duration;
-use stp_server::{Places, Server};
+use stp_server::{Capture, Places, Server};
 use stp_types::{FailureReason, LinkId, Outcome, Settings};
 
 /// Links between the two servers: the first ones of each.
@@ -58,7 +58,7 @@ impl Station {
             Ok(server) => Some(Station {
                 server,
                 log,
-                came: Ledger::new(),
+                came: Ledger::new(octets),
                 points,
                 octets,
                 accepted: [0; FLOWS],
@@ -76,7 +76,11 @@ impl Station {
     /// Submits the next message to the other point: one of each flow in turn. A message that is refused is the next one
     /// again.
     pub(crate) fn submit(&mut self, now: Duration) -> Outcome {
-        let flow = self.next_flow;
+        self.submit_in(self.next_flow, now)
+    }
+
+    /// Submits the next message of a flow to the other point.
+    pub(crate) fn submit_in(&mut self, flow: u8, now: Duration) -> Outcome {
         let number = self.accepted.get(usize::from(flow)).copied().unwrap_or(0);
         let outcome = self.submit_to(self.points.other, flow, number, now);
         if is_taken(&outcome) {
@@ -131,6 +135,11 @@ impl Station {
         self.server.cut(link, now, &mut self.log);
     }
 
+    /// Each frame goes into this file too from now on.
+    pub(crate) fn capture_to(&mut self, capture: Capture) {
+        self.server.capture_to(capture);
+    }
+
     /// The node.
     pub(crate) fn exchange(&self) -> &Exchange {
         self.server.exchange()
@@ -156,6 +165,16 @@ impl Station {
     /// Where a link listens.
     pub(crate) fn address(&self, link: LinkId) -> Option<SocketAddr> {
         self.server.link_address(link)
+    }
+
+    /// Where its console listens, where it has one.
+    pub(crate) fn console_address(&self) -> Option<SocketAddr> {
+        self.server.console_address()
+    }
+
+    /// Whether a caller asked it to stop.
+    pub(crate) fn is_stopping(&self) -> bool {
+        self.server.is_stopping()
     }
 
     /// Where a link stands.

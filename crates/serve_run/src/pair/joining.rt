@@ -1,21 +1,23 @@
-//! How two servers come about, and how they end.
+//! How two servers come about, what they have besides their links, and how they end.
 
-use super::Pair;
-use crate::opening::{connecting, listening, listening_to_strangers};
+use super::{End, Pair};
+use crate::opening::{Kind, connecting, listening, listening_to_strangers};
 use crate::station::Station;
+use std::net::SocketAddr;
+use stp_server::Capture;
 
 impl Pair {
     /// Two servers whose links are to come into service. None where a socket or memory can't be had.
-    pub(crate) fn open(rt: &HostRuntime) -> Option<Pair> {
-        let near = listening(rt)?;
-        let far = connecting(rt, &near);
+    pub(crate) fn open(rt: &HostRuntime, kind: Kind) -> Option<Pair> {
+        let near = listening(rt, kind)?;
+        let far = connecting(rt, kind, &near);
         Pair::of(near, far)
     }
 
-    /// Two servers, of which the first one listens for strangers too, at a link of its own.
+    /// Two small servers, of which the first one listens for strangers too, at a link of its own.
     pub(crate) fn open_to_strangers(rt: &HostRuntime) -> Option<Pair> {
         let near = listening_to_strangers(rt)?;
-        let far = connecting(rt, &near);
+        let far = connecting(rt, Kind::Small, &near);
         Pair::of(near, far)
     }
 
@@ -39,5 +41,18 @@ impl Pair {
         let Pair { near, far, .. } = self;
         near.close();
         far.close();
+    }
+
+    /// Where the console of an end listens, where it has one.
+    pub(crate) fn console_address(&self, end: End) -> Option<SocketAddr> {
+        match end {
+            End::Near => self.near.console_address(),
+            End::Far => self.far.console_address(),
+        }
+    }
+
+    /// Each frame of the first server goes into this file too from now on.
+    pub(crate) fn capture_to(&mut self, capture: Capture) {
+        self.near.capture_to(capture);
     }
 }

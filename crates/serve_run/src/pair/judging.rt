@@ -3,6 +3,7 @@
 use super::Pair;
 use crate::station::LINKS;
 use link_counters::LinkCounters;
+use std::io;
 use stp_types::LinkId;
 
 impl Pair {
@@ -11,7 +12,7 @@ impl Pair {
         (self.near.accepted(), self.far.accepted())
     }
 
-    /// Whether each message that was taken came to the other end once, and each flow in order.
+    /// Whether each message that was taken came to the other end whole, once, and each flow in order.
     pub(crate) fn each_once_in_order(&self) -> bool {
         let (near, far) = (self.near.came(), self.far.came());
         near.wrong() == 0
@@ -38,6 +39,16 @@ impl Pair {
                 _ => false,
             }
         })
+    }
+
+    /// Prints what became of the messages that were taken since there were so many; the word says when that was.
+    pub(crate) fn tell(&self, rt: &HostRuntime, word: &str, before: (u64, u64)) -> io::Result<()> {
+        let (near, far) = self.accepted();
+        let (near, far) = (near.saturating_sub(before.0), far.saturating_sub(before.1));
+        let right = self.each_once_in_order();
+        println!(rt;
+            "  {word}: {near} messages to point 2, {far} to point 1, each once and in order: {right}"
+        )
     }
 }
 
