@@ -47,10 +47,10 @@ fn procedure(row: &str) -> Option<Procedure> {
 }
 
 /// Whether a procedure holds a flow, until it is lifted.
-fn is_held(holds: &mut Holds, procedure: Procedure, destination: usize, sls: Sls) -> Option<bool> {
-    holds.hold(procedure, destination, sls);
+fn is_held(holds: &mut Holds, procedure: &Procedure, destination: usize, sls: Sls) -> Option<bool> {
+    holds.hold(*procedure, destination, sls);
     let held = holds.is_held(destination, sls);
-    holds.lift(procedure);
+    holds.lift(*procedure);
     if holds.is_held(destination, sls) {
         None
     } else {
@@ -63,7 +63,7 @@ fn is_so(holds: &mut Holds, row: &str) -> bool {
     match (procedure(row), word(row, 3).parse(), word(row, 4).parse()) {
         (Some(procedure), Ok(destination), Ok(selection)) => {
             let sls = Sls::of_low_bits(selection);
-            is_held(holds, procedure, destination, sls) == Some(word(row, 5) == "held")
+            is_held(holds, &procedure, destination, sls) == Some(word(row, 5) == "held")
         }
         _ => false,
     }

@@ -128,13 +128,13 @@ fn named(row: &str) -> Option<TimerName> {
 }
 
 /// Whether a timer is left aside that is set, started and stopped.
-fn is_left_aside(timers: &mut Timers, name: TimerName) -> bool {
-    timers.set(name, 1);
-    timers.start_unless_running(name, 1);
-    let runs = timers.is_running(name);
+fn is_left_aside(timers: &mut Timers, name: &TimerName) -> bool {
+    timers.set(*name, 1);
+    timers.start_unless_running(*name, 1);
+    let runs = timers.is_running(*name);
     timers.tick();
     let due = timers.next_due();
-    timers.clear(name);
+    timers.clear(*name);
     !runs && due.is_none()
 }
 
@@ -142,7 +142,7 @@ fn is_left_aside(timers: &mut Timers, name: TimerName) -> bool {
 fn leave_aside(timers: &mut Timers) -> bool {
     for row in ABSENT.lines() {
         match named(row) {
-            Some(name) if is_left_aside(timers, name) => {}
+            Some(name) if is_left_aside(timers, &name) => {}
             _ => return false,
         }
     }
