@@ -148,9 +148,7 @@ pub struct PointSink<'a, W> {
 
 impl<'a, W: Sink> PointSink<'a, W> {
     /// The sink that writes to this one, and that counts its own failures.
-    pub fn new(sink: &'a mut W) -> PointSink<'a, W>
-        ensures { ⟦<PointSink<'a, W> as Sink>⟧.output result ≡ record { written = None; failures = 0 } }
-    {
+    pub fn new(sink: &'a mut W) -> PointSink<'a, W> {
         PointSink { sink, failures: 0 }
     }
 }
