@@ -30,8 +30,10 @@ abbrev pub completed_by : Outgoing → ℕ → List (List ℕ)
 completed_by o count = if completes o count then frame_in o ∷ [] else []
 
 abbrev pub after_call : Call → Sent → Sent
-after_call (Fill offered) s =
-    record s { taken = s.taken ++ taken_by s.outgoing offered; outgoing = filled s.outgoing (option_map spelled offered) }
+after_call (Fill offered) s = record s {
+  taken = s.taken ++ taken_by s.outgoing offered;
+  outgoing = filled s.outgoing (option_map spelled offered);
+}
 after_call (Write count) s = record {
   taken = s.taken;
   written = s.written ++ take count s.outgoing.pending;

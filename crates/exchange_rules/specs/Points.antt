@@ -23,7 +23,8 @@ peer_of c link = adjacent_of c (set_of c link)
 
 -- the point of a destination
 abbrev pub point_of : Configuration → (destination : ℕ) → ℕ
-point_of c destination = (slice_index_or c.destinations destination (record { point = 0; sets = []; joined = false })).point
+point_of c destination =
+    (slice_index_or c.destinations destination (record { point = 0; sets = []; joined = false })).point
 
 -- what an adjacent point speaks of: the set that leads to it, and the number of the destination
 abbrev pub route_about : (set destination : Option ℕ) → Result (ℕ × ℕ) Outcome

@@ -62,7 +62,8 @@ allowed_or [] restricted = record { group = restricted; status = Restricted }
 -- the group that messages take: the first with a set that is allowed and has a link in service, else the first with one
 -- that is restricted and has one
 unfoldable pub choice_among : Facts → List Route → Choice
-choice_among f routes = allowed_or (open_group f Allowed (groups_of routes)) (open_group f Restricted (groups_of routes))
+choice_among f routes =
+    allowed_or (open_group f Allowed (groups_of routes)) (open_group f Restricted (groups_of routes))
 
 -- the routes of the group that they take: all of that status whose sets have a link in service
 abbrev pub taken_by : Facts → Choice → List Route
