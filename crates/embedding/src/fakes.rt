@@ -40,7 +40,7 @@ const PLAYED: [Played; 11] = [
 
 /// The network.
 #[derive(Drop)]
-pub struct PlayedNetwork<'a, R> {
+pub(crate) struct PlayedNetwork<'a, R> {
     rt: &'a R,
     links: [LinkId; 2],
     at: usize,
@@ -48,7 +48,7 @@ pub struct PlayedNetwork<'a, R> {
 
 impl<'a, R: Print> PlayedNetwork<'a, R> {
     /// The network of these links.
-    pub fn new(rt: &'a R, links: [LinkId; 2]) -> PlayedNetwork<'a, R> {
+    pub(crate) fn new(rt: &'a R, links: [LinkId; 2]) -> PlayedNetwork<'a, R> {
         PlayedNetwork { rt, links, at: 0 }
     }
 
@@ -102,13 +102,13 @@ impl<R: Print> Network for PlayedNetwork<'_, R> {
 
 /// User parts that print what comes.
 #[derive(Drop)]
-pub struct PrintingUsers<'a, R> {
+pub(crate) struct PrintingUsers<'a, R> {
     rt: &'a R,
 }
 
 impl<'a, R: Print> PrintingUsers<'a, R> {
     /// The user parts.
-    pub fn new(rt: &'a R) -> PrintingUsers<'a, R> {
+    pub(crate) fn new(rt: &'a R) -> PrintingUsers<'a, R> {
         PrintingUsers { rt }
     }
 }

@@ -8,7 +8,7 @@ use exchange::{
 const WAITING_STATUSES: usize = 3;
 
 /// What comes next to a node.
-pub enum Received {
+pub(crate) enum Received {
     /// A frame of so many octets came on a link. It stands at the front of the buffer; one that is longer fills the
     /// buffer, and its length then fails the link.
     Frame(LinkId, usize),
@@ -23,7 +23,7 @@ pub enum Received {
 }
 
 /// The associations of a node's links, and its clock: sockets and a timer, or fakes in a test.
-pub trait Network {
+pub(crate) trait Network {
     /// Opens the association of a link; or, on the side that accepts, answers whether the peer has opened it. False
     /// where it isn't there yet: this is called again.
     fn open(&mut self, link: LinkId) -> bool;
@@ -39,7 +39,7 @@ pub trait Network {
 }
 
 /// The user parts of this point.
-pub trait UserParts {
+pub(crate) trait UserParts {
     /// A message came for this point.
     fn deliver(&mut self, sio: u8, sif: &[u8]);
 
@@ -48,7 +48,7 @@ pub trait UserParts {
 }
 
 /// Serves these links of a node until its network ends.
-pub fn serve<N: Network, U: UserParts>(
+pub(crate) fn serve<N: Network, U: UserParts>(
     exchange: &mut Exchange,
     links: &[LinkId],
     network: &mut N,

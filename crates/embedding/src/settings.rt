@@ -4,10 +4,10 @@ use exchange::{DestinationDraft, Draft, LinkDraft, SetDraft, TimersDraft};
 use std::alloc::{AllocError, Global};
 
 /// The links by their names, and the set and the point of each.
-pub const LINKS: [(&str, &str, i64); 2] = [("e0", "east", 2), ("w0", "west", 3)];
+pub(crate) const LINKS: [(&str, &str, i64); 2] = [("e0", "east", 2), ("w0", "west", 3)];
 
 /// The settings, as they would be written.
-pub fn draft(alloc: Global) -> Result<Draft, AllocError> {
+pub(crate) fn draft(alloc: Global) -> Result<Draft, AllocError> {
     let mut sets = Vec::new(alloc);
     let mut links = Vec::new(alloc);
     let mut destinations = Vec::new(alloc);

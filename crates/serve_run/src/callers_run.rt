@@ -97,7 +97,8 @@ fn tell_notices(consoles: &mut Consoles<'_>) -> io::Result<()> {
     let is_back = may_open && consoles.rests_in_service();
     consoles.dismiss();
     println!(consoles.rt;
-        "watch: answered: {begins}; another caller takes e1 out: {is_out}; the first is told: {is_told}; e1 is back: {is_back}"
+        "watch: answered: {begins}; another caller takes e1 out: {is_out}; the first is told: {is_told}; \
+         e1 is back: {is_back}"
     )
 }
 

@@ -50,7 +50,8 @@ pub(crate) fn meet_one_too_many(consoles: &mut Consoles<'_>) -> io::Result<()> {
     let refused = consoles.pair.near().log().callers_refused;
     consoles.dismiss();
     println!(consoles.rt;
-        "{MOST_CALLERS} callers are answered: {answered}; one more is refused: {refused}, told so: {is_told}; its connection ends: {ends}"
+        "{MOST_CALLERS} callers are answered: {answered}; one more is refused: {refused}, told so: {is_told}; \
+         its connection ends: {ends}"
     )
 }
 
@@ -78,7 +79,8 @@ pub(crate) fn meet_long_line(consoles: &mut Consoles<'_>) -> io::Result<()> {
     let longer = LINE_OCTETS + 1;
     consoles.dismiss();
     println!(consoles.rt;
-        "a line of {LINE_OCTETS} octets: answered: {is_told}; of {longer}: its connection ends: {ends}, another caller is answered: {is_answered}"
+        "a line of {LINE_OCTETS} octets: answered: {is_told}; of {longer}: its connection ends: {ends}, \
+         another caller is answered: {is_answered}"
     )
 }
 

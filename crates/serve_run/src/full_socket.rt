@@ -5,7 +5,8 @@ use crate::opening::Kind;
 use crate::pair::Pair;
 use std::io;
 
-/// Messages that are submitted: more octets than a socket takes, and no more messages than may be unconfirmed on a link.
+/// Messages that are submitted: more octets than a socket takes, and no more messages than may be
+/// unconfirmed on a link.
 const MESSAGES: u32 = 16_000;
 
 /// A server submits messages while the other one doesn't read; then it does.

@@ -6,7 +6,7 @@ use exchange::{Frame, decode};
 use stp_types::{LinkId, Outcome};
 
 /// Flows: one for each signalling link selection.
-pub const FLOWS: usize = 16;
+pub(crate) const FLOWS: usize = 16;
 
 /// The service indicator of network management (Q.704 §14.2.1).
 const MANAGEMENT: u8 = 0;
@@ -22,7 +22,7 @@ const LABEL_OCTETS: usize = 4;
 
 /// What came to one end, where messages have so many octets.
 #[derive(Drop)]
-pub struct Ledger {
+pub(crate) struct Ledger {
     octets: usize,
     next: [u32; FLOWS],
     came: u64,
@@ -33,7 +33,7 @@ pub struct Ledger {
 
 impl Ledger {
     /// Nothing came yet. The signalling information field of each message has so many octets.
-    pub fn new(octets: usize) -> Ledger {
+    pub(crate) fn new(octets: usize) -> Ledger {
         Ledger {
             octets,
             next: [0; FLOWS],
@@ -45,22 +45,22 @@ impl Ledger {
     }
 
     /// How many messages came.
-    pub fn came(&self) -> u64 {
+    pub(crate) fn came(&self) -> u64 {
         self.came
     }
 
     /// How many messages weren't the next of their flow, or not whole.
-    pub fn wrong(&self) -> u64 {
+    pub(crate) fn wrong(&self) -> u64 {
         self.wrong
     }
 
     /// How many changeover orders came.
-    pub fn changeovers(&self) -> u64 {
+    pub(crate) fn changeovers(&self) -> u64 {
         self.changeovers
     }
 
     /// How many changeback declarations came.
-    pub fn changebacks(&self) -> u64 {
+    pub(crate) fn changebacks(&self) -> u64 {
         self.changebacks
     }
 

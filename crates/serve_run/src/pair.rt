@@ -211,8 +211,8 @@ impl Pair {
         self.near.is_in_service() && self.far.is_in_service()
     }
 
-    /// The first server submits so many messages of one flow, and the other server does nothing, until the first one has
-    /// written what its socket takes.
+    /// The first server submits so many messages of one flow, and the other server does nothing, until
+    /// the first one has written what its socket takes.
     pub(crate) fn submit_unread(&mut self, rt: &HostRuntime, count: u32) -> io::Result<()> {
         let now = self.now();
         for _ in 0..count {
