@@ -2,8 +2,9 @@
 
 ghost use Rattle.std.specs.Prelude.{◌≡◌, replicate, slice_get, IfOk};
 ghost use Rattle.std.specs.Option.{option_copied};
-ghost use Rattle.link_counters.specs.Counting.{FrameCame, FrameWent, Failure, Retry, counted_at, no_counts};
+ghost use Rattle.link_counters.specs.Counting.{Failure, Retry, came, counted_at, no_counts, went};
 
+use crate::frame::has_user_message;
 use crate::row::LinkCounters;
 use signalling_types::{FailureReason, LinkId, Outcome};
 use std::alloc::{AllocError, Global};
@@ -41,28 +42,21 @@ impl Counters {
         self.rows.get(link.index())
     }
 
-    /// A frame of so many octets came in on a link, with a user message or without one, and was handed in with this
-    /// outcome.
-    pub fn count_in(
-        &mut self,
-        link: LinkId,
-        octets: usize,
-        has_user_message: bool,
-        outcome: &Outcome,
-    )
-        ensures { self.new ≡ counted_at link (FrameCame octets has_user_message outcome.now) self.old }
+    /// A frame came in on a link, and was handed in with this outcome.
+    pub fn count_in(&mut self, link: LinkId, frame: &[u8], outcome: &Outcome)
+        ensures { self.new ≡ counted_at link (came frame.now outcome.now) self.old }
     {
         if let Some(row) = self.rows.get_mut(link.index()) {
-            row.count_in(octets, has_user_message, outcome);
+            row.count_in(frame.len(), has_user_message(frame), outcome);
         }
     }
 
-    /// A frame of so many octets went out on a link.
-    pub fn count_out(&mut self, link: LinkId, octets: usize)
-        ensures { self.new ≡ counted_at link (FrameWent octets) self.old }
+    /// A frame went out on a link.
+    pub fn count_out(&mut self, link: LinkId, frame: &[u8])
+        ensures { self.new ≡ counted_at link (went frame.now) self.old }
     {
         if let Some(row) = self.rows.get_mut(link.index()) {
-            row.count_out(octets);
+            row.count_out(frame.len());
         }
     }
 

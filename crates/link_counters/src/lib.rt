@@ -3,6 +3,7 @@
 
 pub mod counter;
 pub mod counters;
+mod frame;
 pub mod laws;
 pub mod line;
 pub mod row;

@@ -3,9 +3,9 @@
 use crate::opening::{receiving_at, sending_at};
 use crate::station::{Station, is_taken};
 use crate::task::Traffic;
+use serve_timing::TickClock;
 use std::io;
 use std::time::{Duration, Instant};
-use stp_server::TickClock;
 
 /// How long a tick takes, in milliseconds.
 const TICK_MS: u16 = 100;

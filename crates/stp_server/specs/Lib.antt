@@ -1,3 +1,2 @@
-pub mod Ticking
 pub mod Naming
 pub mod Audience

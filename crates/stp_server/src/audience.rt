@@ -1,7 +1,7 @@
 //! Who is told of what passes: the counters, the capture, and the callers of the console.
 
 ghost use Rattle.std.specs.Prelude.{◌≡◌, ◌≤◌, length};
-ghost use Rattle.stp_server.specs.Audience.{counted_sight, has_user_message};
+ghost use Rattle.stp_server.specs.Audience.{counted_sight};
 
 use crate::callers::Callers;
 use crate::capture::Capture;
@@ -18,12 +18,6 @@ use trace::{Direction, PointFormat, frame_words};
 /// Octets of the line of a message for this point, at most: its link, two digits for each octet of the longest message,
 /// and the word in front.
 const MESSAGE_OCTETS: usize = 640;
-
-/// Service indicators: they are the low four bits of the SIO (Q.704 §14.2).
-const SERVICE_INDICATORS: u8 = 16;
-
-/// The first service indicator of a user: 0 is network management, and 1 link tests (Q.704 §14.2.1).
-const FIRST_USER: u8 = 2;
 
 /// Who is told of the frames of a server.
 #[derive(Drop)]
@@ -115,16 +109,6 @@ impl Audience {
     }
 }
 
-/// Whether a frame has a message of a user, and none of the network's management or of link tests.
-fn has_user_message(frame: &[u8]) -> bool
-    ensures { result ≡ has_user_message frame.now }
-{
-    match decode(frame) {
-        Ok(Frame::Message { sio, .. }) => sio % SERVICE_INDICATORS >= FIRST_USER,
-        Ok(_) | Err(_) => false,
-    }
-}
-
 /// The line of a message for this point, without its line feed: `local LINK HEX`.
 fn message_line(name: &str, sio: u8, sif: &[u8]) -> Option<ArrayVec<u8, MESSAGE_OCTETS>> {
     let mut line = ArrayVec::new();
@@ -158,10 +142,7 @@ impl<U: Watch> Watch for Watching<'_, U> {
         × (after.audience.now.counters ≡ counted_sight sight before.audience.now.counters) };
 
     fn came_in(&mut self, link: LinkId, frame: &[u8], outcome: &Outcome) {
-        let is_users = has_user_message(frame);
-        self.audience
-            .counters
-            .count_in(link, frame.len(), is_users, outcome);
+        self.audience.counters.count_in(link, frame, outcome);
         self.audience.passed(link, Direction::In, frame);
         match outcome {
             Outcome::Local => self.audience.delivered(link, frame),
@@ -174,7 +155,7 @@ impl<U: Watch> Watch for Watching<'_, U> {
     }
 
     fn went_out(&mut self, link: LinkId, frame: &[u8]) {
-        self.audience.counters.count_out(link, frame.len());
+        self.audience.counters.count_out(link, frame);
         self.audience.passed(link, Direction::Out, frame);
         self.user.went_out(link, frame);
     }

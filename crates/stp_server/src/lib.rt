@@ -13,17 +13,13 @@ mod machine;
 mod naming;
 mod node;
 mod noticing;
-mod retrying;
 mod server;
 mod serving;
-mod ticking;
 
 pub use callers::MOST_CALLERS;
 pub use capture::Capture;
 pub use fault::OpenFault;
 pub use machine::run_on_machine;
 pub use naming::SocketName;
-pub use retrying::{LONGEST_WAIT, Retry};
 pub use server::{Places, Server};
 pub use serving::MachineServer;
-pub use ticking::{MOST_TICKS, TickClock};

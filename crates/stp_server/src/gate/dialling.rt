@@ -3,10 +3,10 @@
 use super::{Gate, Passage};
 use crate::journal::Journal;
 use crate::node::Node;
-use crate::retrying::LONGEST_WAIT;
 use mio::Registry;
 use mio::net::TcpStream;
 use serve_settings::Endpoint;
+use serve_timing::LONGEST_WAIT;
 use std::mem;
 use std::net::{Net, SocketAddr};
 use std::time::Duration;

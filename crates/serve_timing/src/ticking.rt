@@ -16,7 +16,7 @@ pub struct TickClock {
 
 impl Model for TickClock {
     ghost use Rattle.std.specs.Prelude.{◌≤◌};
-    ghost use Rattle.stp_server.specs.Ticking.{ClockState};
+    ghost use Rattle.serve_timing.specs.Ticking.{ClockState};
 
     ghost Value = { ClockState };
 

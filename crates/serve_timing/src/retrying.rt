@@ -15,7 +15,7 @@ pub struct Retry {
 
 impl Model for Retry {
     ghost use Rattle.std.specs.Prelude.{ℕ, ◌≤◌};
-    ghost use Rattle.stp_server.specs.declared.retrying.TheConstants.{LONGEST_WAIT};
+    ghost use Rattle.serve_timing.specs.declared.retrying.TheConstants.{LONGEST_WAIT};
 
     ghost Value = { ℕ };
 
