@@ -6,11 +6,9 @@
 //! wait. So what came until then is judged. Where no end said so to the last, nothing may be
 //! waiting any more.
 
-ghost use Rattle.std.specs.Prelude.{◌≡◌};
-ghost use Rattle.link_stops.specs.Counting.{counts_up_from, is_out_of_turn, last_with};
-
-use crate::mark::{FLOWS, Mark};
+use crate::marking::{FLOWS, mark_of, place_of};
 use crate::world::{Book, World};
+use message_marks::{Mark, counts_up};
 use pair_world::End;
 use std::alloc::Global;
 use stp_types::Msu;
@@ -70,7 +68,7 @@ fn first_marks(marks: &[Mark], count: usize) -> &[Mark] {
 fn marks_of(alloc: Global, messages: &[Msu]) -> Option<Vec<Mark>> {
     let mut marks = Vec::new(alloc);
     for message in messages {
-        if let Some(mark) = Mark::of(message) {
+        if let Some(mark) = mark_of(message) {
             marks.push(mark).ok()?;
         }
     }
@@ -91,7 +89,7 @@ fn count_found(alloc: Global, accepted: &[Mark], marks: &[Mark]) -> Option<u64> 
 /// Notes which messages came, each at its place.
 fn see(seen: &mut [bool], marks: &[Mark]) {
     for mark in marks {
-        if let Some(place) = seen.get_mut(mark.place()) {
+        if let Some(place) = seen.get_mut(place_of(*mark)) {
             *place = true;
         }
     }
@@ -101,7 +99,7 @@ fn see(seen: &mut [bool], marks: &[Mark]) {
 fn count_seen(marks: &[Mark], seen: &[bool]) -> u64 {
     let mut count = 0u64;
     for mark in marks {
-        if seen.get(mark.place()) == Some(&true) {
+        if seen.get(place_of(*mark)) == Some(&true) {
             count = count.wrapping_add(1);
         }
     }
@@ -117,34 +115,6 @@ fn turned_flows(marks: &[Mark]) -> u64 {
         }
     }
     count
-}
-
-/// Whether the numbers of a flow are 1, 2, 3 and so on.
-fn counts_up(flow: u8, marks: &[Mark]) -> bool
-    ensures { result ≡ counts_up_from flow 0 marks.now }
-{
-    let mut last = 0u16;
-    for i in 0..marks.len() {
-        if is_out_of_turn(flow, last, marks[i]) {
-            return false;
-        }
-        last = last_with(flow, last, marks[i]);
-    }
-    true
-}
-
-/// Whether a message of this flow has another number than the next one behind this.
-fn is_out_of_turn(flow: u8, last: u16, mark: Mark) -> bool
-    ensures { result ≡ is_out_of_turn flow last mark }
-{
-    mark.flow == flow && mark.number as u32 != last as u32 + 1
-}
-
-/// The last number of this flow, with that of one more message.
-fn last_with(flow: u8, last: u16, mark: Mark) -> u16
-    ensures { result ≡ last_with flow last mark }
-{
-    if mark.flow == flow { mark.number } else { last }
 }
 
 impl Verdict {

@@ -10,7 +10,7 @@ mod dice;
 mod epochs;
 mod joined;
 mod ledger;
-mod mark;
+mod marking;
 mod random;
 mod rounds;
 mod settings;

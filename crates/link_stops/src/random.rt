@@ -1,7 +1,7 @@
 //! Schedules by chance.
 
 use crate::dice::Dice;
-use crate::mark::FLOWS;
+use crate::marking::FLOWS;
 use crate::rounds::{Clock, bring_up, open_all, prove_links, settle};
 use crate::total::Total;
 use crate::world::World;

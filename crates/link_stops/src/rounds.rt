@@ -1,6 +1,6 @@
 //! Frames that are carried in rounds, and links that come into service.
 
-use crate::mark::FLOWS;
+use crate::marking::FLOWS;
 use crate::world::World;
 use pair_world::End;
 use stp_types::LinkId;

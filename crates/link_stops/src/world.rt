@@ -1,11 +1,9 @@
 //! Two nodes, what is done to them, and what they accepted.
 
-ghost use Rattle.std.specs.Prelude.{◌≡◌};
-ghost use Rattle.link_stops.specs.Counting.{is_accepted};
-
 use crate::joined::Joined;
-use crate::mark::{Mark, count_of_flow};
+use crate::marking::{count_of_flow, message_of};
 use crate::settings::{POINT_ONE, POINT_TWO};
+use message_marks::{Mark, is_accepted};
 use pair_world::{End, Step};
 use std::alloc::Global;
 use std::marker::Model;
@@ -166,7 +164,7 @@ impl World {
         let mark = self.book(end).next_mark(flow);
         let (own, adjacent) = points(end);
         // There is one of each mark, since the points and the flow are in range.
-        let Some(message) = mark.message(own, adjacent) else {
+        let Some(message) = message_of(mark, own, adjacent) else {
             return;
         };
         let outcome = self.turn(Step::Submit(end, message));
@@ -226,16 +224,6 @@ impl Book {
         if !late {
             self.in_order = count;
         }
-    }
-}
-
-/// Whether a message that was submitted was accepted.
-fn is_accepted(outcome: &Outcome) -> bool
-    ensures { result ≡ is_accepted outcome.now }
-{
-    match outcome {
-        Outcome::Queued(_) | Outcome::Held => true,
-        Outcome::Local | Outcome::Handled | Outcome::Ignored | Outcome::Refused(_) => false,
     }
 }
 

@@ -2,8 +2,8 @@
 use Rattle.std.proofs.Common.{◌≡◌, ◌∙◌, ◌<◌, ◌≤◌, ◌+◌, ℕ, true, false, List, ◌∷◌, length, drop, get_or, ap, refl}
 use Rattle.std.proofs.lemmas.List.{drop_more}
 use Rattle.std.proofs.Math.ListN.{drop_of_length-le}
-use Rattle.link_stops.specs.declared.mark.Mark.{Mark}
-use Rattle.link_stops.specs.Counting.{counts_up_from, is_out_of_turn, last_with}
+use Rattle.message_marks.specs.declared.mark.Mark.{Mark}
+use Rattle.message_marks.specs.Counting.{counts_up_from, is_out_of_turn, last_with}
 
 -- what stands at a place
 abbrev pub mark_at : List Mark → ℕ → Mark

@@ -2,7 +2,7 @@
 use Rattle.std.specs.Prelude.{◌&&◌, ◌+◌, ℕ, Bool, true, false, not, nat_eq, List, [], ◌∷◌, if◌then◌else◌}
 use Rattle.signalling_types.specs.declared.outcome.Outcome.{Outcome}
 use Rattle.signalling_types.specs.declared.outcome.Outcome.TheVariants.{Handled, Held, Ignored, Local, Queued, Refused}
-use Rattle.link_stops.specs.declared.mark.Mark.{Mark}
+use Rattle.message_marks.specs.declared.mark.Mark.{Mark}
 
 -- a message that was submitted was accepted where it stands in a queue or in Held
 abbrev pub is_accepted : Outcome → Bool
