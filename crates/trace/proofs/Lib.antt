@@ -1,2 +1,5 @@
 pub mod Points
 pub mod Joined
+pub mod Written
+pub mod Numbering
+pub mod Captured

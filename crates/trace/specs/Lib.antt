@@ -1,3 +1,4 @@
 pub mod Points
 pub mod Words
 pub mod Packets
+pub mod Captures

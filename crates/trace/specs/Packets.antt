@@ -2,8 +2,6 @@
 -- packets are those of SCTP, without what carries them.
 use Rattle.std.specs.Prelude.{ℕ, ◌+◌, ◌-◌, ◌/◌, ◌%◌, ◌^◌, List, [], ◌∷◌, ◌++◌, length, replicate, Result, Ok, Err}
 use Rattle.std.specs.Int.{w16, w32, to_le_bytes, to_be_bytes}
-use Rattle.std.specs.Duration.{as_nanos}
-use Rattle.std.specs.declared.time.Duration.{Duration}
 use Rattle.signalling_types.specs.declared.notice.FrameFault.{FrameFault}
 use Rattle.m2pa_codec.specs.Frames.{FrameValue, EmptyFrame, MessageFrame, StatusFrame}
 use Rattle.m2pa_codec.specs.Reading.{read_frame}
@@ -17,11 +15,11 @@ file_header =
     to_le_bytes w32 0xa1b2c3d4 ++ to_le_bytes w16 2 ++ to_le_bytes w16 4 ++ replicate 8 0
     ++ to_le_bytes w32 65535 ++ to_le_bytes w32 248
 
--- the header of a packet: seconds since 1970 and microseconds, and twice how many octets it has
-abbrev pub record_header : Duration → (octets : ℕ) → List ℕ
-record_header time octets =
-    to_le_bytes w32 (as_nanos time / 1_000_000_000 % 2 ^ 32)
-    ++ to_le_bytes w32 (as_nanos time % 1_000_000_000 / 1_000)
+-- the header of a packet so many nanoseconds after 1970: seconds and microseconds, and twice how many octets it has
+abbrev pub record_header : (nanoseconds octets : ℕ) → List ℕ
+record_header nanoseconds octets =
+    to_le_bytes w32 (nanoseconds / 1_000_000_000 % 2 ^ 32)
+    ++ to_le_bytes w32 (nanoseconds % 1_000_000_000 / 1_000)
     ++ to_le_bytes w32 octets ++ to_le_bytes w32 octets
 
 -- the port of this node, that of M2PA
@@ -79,7 +77,8 @@ abbrev pub packet_length : ℕ → ℕ
 packet_length octets = 12 + 16 + octets + padding octets
 
 -- a frame as a packet of the file: both headers of SCTP, the frame and its padding behind the header of the packet
-abbrev pub packet_octets : Duration → (link : ℕ) → Direction → (number : ℕ) (frame : List ℕ) → List ℕ
-packet_octets time link direction number frame =
-    record_header time (packet_length (length frame)) ++ common_header link direction ++ chunk_header number frame
+abbrev pub packet_octets : (nanoseconds link : ℕ) → Direction → (number : ℕ) (frame : List ℕ) → List ℕ
+packet_octets nanoseconds link direction number frame =
+    record_header nanoseconds (packet_length (length frame))
+    ++ common_header link direction ++ chunk_header number frame
     ++ frame ++ replicate (padding (length frame)) 0

@@ -1,6 +1,7 @@
 //! Frames as the packets of a capture file, which tools such as Wireshark open.
 
 ghost use Rattle.std.specs.Prelude.{◌≡◌, ◌+◌, ◌≤◌, ◌<◌, ◌++◌, length, take, replicate};
+ghost use Rattle.std.specs.Duration.{as_nanos};
 ghost use Rattle.trace.specs.Packets.{file_header, record_header, common_header, chunk_header, padding, packet_octets};
 ghost use Rattle.trace.specs.Packets.{stream_of, packet_length, chunk_front, chunk_stream};
 
@@ -86,8 +87,8 @@ pub fn packet(
     frame: &[u8],
 ) -> usize
     requires { length frame.now ≤ Limits.FRAME_OCTETS }
-    ensures count { result ≡ length (packet_octets time link direction number frame.now) }
-    ensures text { take result buffer.new ≡ packet_octets time link direction number frame.now }
+    ensures count { result ≡ length (packet_octets (as_nanos time) link direction number frame.now) }
+    ensures text { take result buffer.new ≡ packet_octets (as_nanos time) link direction number frame.now }
 {
     let at = write_record_header(buffer, time, packet_length(frame.len()));
     let at = write_common_header(buffer, at, link, direction);
@@ -117,7 +118,7 @@ fn packet_length(octets: usize) -> u32
 /// Writes the header of a packet of so many octets at the front, and answers the place behind it.
 fn write_record_header(out: &mut [u8; PACKET_OCTETS], time: Duration, octets: u32) -> usize
     ensures count { result ≡ 16 }
-    ensures text { take result out.new ≡ record_header time octets }
+    ensures text { take result out.new ≡ record_header (as_nanos time) octets }
 {
     let at = write_at(out, 0, &((time.as_secs() % (1 << 32)) as u32).to_le_bytes());
     let at = write_at(out, at, &time.subsec_micros().to_le_bytes());

@@ -1,0 +1,78 @@
+-- What a capture has of the frames that passed on links: one packet for each, one behind the other.
+use Rattle.std.specs.Prelude.{◌≡◌, ℕ, ◌+◌, ◌%◌, ◌^◌, ◌<◌, ◌==◌, ◌&&◌, min, Bool, true, false, Option}
+use Rattle.std.specs.Prelude.{List, [], ◌∷◌, ◌++◌, length, take, slice_index, count_by}
+use Rattle.std.specs.Duration.{as_nanos, max_nanos}
+use Rattle.std.specs.declared.time.Duration.{Duration}
+use Rattle.std.specs.Io.KnownBytes.{Appends}
+use Rattle.trace.specs.declared.direction.Direction.{Direction}
+use Rattle.trace.specs.declared.direction.Direction.TheVariants.{In, Out}
+use Rattle.trace.specs.declared.packet_numbers.PacketNumbers.{PacketNumbers}
+use Rattle.trace.specs.Packets.{file_header, packet_octets}
+
+-- a frame that passed on a link, so long after the node's start
+pub record Seen : Type 0 where
+  pub time : Duration
+  pub link : ℕ
+  pub direction : Direction
+  pub frame : List ℕ
+
+abbrev pub is_same : Direction → Direction → Bool
+is_same In In = true
+is_same In Out = false
+is_same Out In = false
+is_same Out Out = true
+
+-- whether a frame passed on this link in this direction
+abbrev pub passed_on : (link : ℕ) → Direction → Seen → Bool
+passed_on link direction seen = (seen.link == link) && is_same seen.direction direction
+
+-- the number of the next packet of a link and a direction behind these frames: how many of them passed there, modulo
+-- 2^32
+abbrev pub next_number : (link : ℕ) → Direction → (before : List Seen) → ℕ
+next_number link direction before = count_by (passed_on link direction) before % 2 ^ 32
+
+-- how many nanoseconds after 1970 a frame passed, where the node started so long after 1970; at most the longest time
+abbrev pub since_1970 : (started time : Duration) → ℕ
+since_1970 started time = min (as_nanos started + as_nanos time) max_nanos
+
+-- the packet of a frame behind these
+abbrev pub packet_behind : (started : Duration) (before : List Seen) → Seen → List ℕ
+packet_behind started before seen =
+    packet_octets (since_1970 started seen.time) seen.link seen.direction
+    (next_number seen.link seen.direction before) seen.frame
+
+-- the packets of frames, each behind those before it, and all behind these
+abbrev pub packets_behind : (started : Duration) (before : List Seen) → List Seen → List ℕ
+packets_behind started before [] = []
+packets_behind started before (seen ∷ rest) =
+    packet_behind started before seen ++ packets_behind started (before ++ seen ∷ []) rest
+
+-- the octets of a capture of these frames: the header of the file, and their packets
+abbrev pub captured : (started : Duration) → List Seen → List ℕ
+captured started frames = file_header ++ packets_behind started [] frames
+
+-- the known octets grew by the first of these, however many, but not by all
+abbrev pub AppendsPart : Option (List ℕ) → Option (List ℕ) → List ℕ → Type 0
+AppendsPart old new octets = (count : ℕ) × (count < length octets) × Appends old new (take count octets)
+
+-- a capture: what it writes to, how long after 1970 the node started, and the numbers of its next packets
+pub record CaptureOf (O : Type 0) : Type 0 where
+  pub output : O
+  pub started : Duration
+  pub numbers : PacketNumbers
+
+-- the number of the next packet of a link and a direction
+abbrev pub number_at : (link : ℕ) → Direction → PacketNumbers → ℕ
+number_at link In numbers = slice_index numbers.incoming link
+number_at link Out numbers = slice_index numbers.outgoing link
+
+-- these are the numbers of the next packets behind these frames
+pub record IsBehind (numbers : PacketNumbers) (frames : List Seen) : Type 0 where
+  pub each : (link : ℕ) (direction : Direction) → link < 2 ^ 8 →
+      number_at link direction numbers ≡ next_number link direction frames
+
+-- behind what its output had before, a capture wrote that of these frames, and its next packets go on behind them
+pub record Captures {O : Type 0} (written : O → Option (List ℕ)) (before : Option (List ℕ)) (capture : CaptureOf O)
+    (frames : List Seen) : Type 0 where
+  pub octets : Appends before (written capture.output) (captured capture.started frames)
+  pub numbers : IsBehind capture.numbers frames

@@ -1,0 +1,103 @@
+//! A capture of the frames that pass, packet by packet.
+
+ghost use Rattle.std.specs.Prelude.{◌≡◌, ◌<◌, ◌≤◌, ◌∷◌, ◌++◌, [], ℕ, List, Option, true, false, length, take};
+ghost use Rattle.std.specs.Io.KnownBytes.{Appends, Keeps};
+ghost use Rattle.trace.specs.Packets.{file_header};
+ghost use Rattle.trace.specs.Captures.{AppendsPart, Captures, Seen, packet_behind};
+
+use crate::capture::{PACKET_OCTETS, file_header, packet};
+use crate::capture_output::CaptureOutput;
+use crate::direction::Direction;
+use crate::packet_numbers::PacketNumbers;
+use signalling_types::{Limits, LinkId};
+use std::marker::Model;
+use std::time::Duration;
+
+/// A capture of the frames that pass on the links of a node. A write that fails ends it.
+#[derive(Drop)]
+pub struct Capture<O> {
+    output: O,
+    started: Duration,
+    numbers: PacketNumbers,
+}
+
+impl<O> Model for Capture<O> {
+    ghost use Rattle.trace.specs.Captures.{CaptureOf};
+
+    ghost Value = { CaptureOf O };
+
+    ghost view = { λ c. record { output = c.output; started = c.started; numbers = c.numbers } };
+}
+
+impl<O: CaptureOutput> Capture<O> {
+    /// A capture that goes to this output, behind what it has. The node started so long after 1970.
+    ///
+    /// The header of the file is written and flushed. Where that fails, the capture has failed.
+    pub fn begin(mut output: O, started: Duration) -> Capture<O>
+        ensures begun { O.failed result.output ≡ false → Captures O.written (O.written output) result [] }
+        // Nothing but the header is written, or the first octets of it.
+        ensures front { (count : ℕ) × Appends (O.written output) (O.written result.output) (take count file_header) }
+        ensures started { result.started ≡ started }
+    {
+        output.write(&file_header());
+        output.flush();
+        Capture {
+            output,
+            started,
+            numbers: PacketNumbers::new(),
+        }
+    }
+
+    /// What it is written to.
+    pub fn into_output(self) -> O
+        ensures { result ≡ self.output }
+    {
+        let Capture { output, .. } = self;
+        output
+    }
+
+    /// Whether a write or a flush failed.
+    pub fn has_failed(&self) -> bool
+        ensures { result ≡ O.failed self.now.output }
+    {
+        self.output.has_failed()
+    }
+
+    /// Writes the packet of a frame that passed on a link so long after the node's start. Where that fails, no more is
+    /// written. A frame of more octets than any frame has is left out.
+    #[inline(never)]
+    pub fn write(&mut self, now: Duration, link: LinkId, direction: Direction, frame: &[u8])
+        ensures captured { (before : Option (List ℕ)) (frames : List Seen) → Captures O.written before self.old frames
+            → length frame.now ≤ Limits.FRAME_OCTETS → O.failed self.new.output ≡ false
+            → Captures O.written before self.new
+            (frames ++ record { time = now; link = link; direction = direction; frame = frame.now } ∷ []) }
+        // A write that fails writes the first octets of the packet, but not all.
+        ensures part { (before : Option (List ℕ)) (frames : List Seen) → Captures O.written before self.old frames
+            → O.failed self.old.output ≡ false → O.failed self.new.output ≡ true
+            → AppendsPart (O.written self.old.output) (O.written self.new.output) (packet_behind self.old.started frames
+            (record { time = now; link = link; direction = direction; frame = frame.now })) }
+        ensures started { self.new.started ≡ self.old.started }
+        ensures ended { O.failed self.old.output ≡ true → self.new ≡ self.old }
+        ensures too_long { Limits.FRAME_OCTETS < length frame.now → self.new ≡ self.old }
+    {
+        if self.output.has_failed() || frame.len() > Limits::FRAME_OCTETS {
+            return;
+        }
+        let number = self.numbers.take(link, direction);
+        let time = self.started.saturating_add(now);
+        let mut buffer = [0; PACKET_OCTETS];
+        let count = packet(&mut buffer, time, link, direction, number, frame);
+        self.output.write(&buffer[..count]);
+    }
+
+    /// Flushes what was written. Where that fails, the capture has failed.
+    pub fn flush(&mut self)
+        ensures octets { Keeps (O.written self.old.output) (O.written self.new.output) }
+        ensures captured { (before : Option (List ℕ)) (frames : List Seen) → Captures O.written before self.old frames
+            → Captures O.written before self.new frames }
+        ensures started { self.new.started ≡ self.old.started }
+        ensures ended { O.failed self.old.output ≡ true → self.new ≡ self.old }
+    {
+        self.output.flush();
+    }
+}

@@ -1,0 +1,53 @@
+//! The numbers of the packets of a capture.
+
+ghost use Rattle.std.specs.Prelude.{◌≡◌, ◌+◌, ◌%◌, ◌^◌, ◌<◌, [], ◌∷◌, ◌++◌, List, slice_index, slice_set};
+ghost use Rattle.trace.specs.Captures.{IsBehind, Seen, next_number};
+
+use crate::direction::Direction;
+use signalling_types::LinkId;
+
+/// How many links a number of a link tells apart.
+const LINK_NUMBERS: usize = 256;
+
+/// The numbers of the next packets of each link, in each direction.
+#[derive(Drop)]
+pub struct PacketNumbers {
+    incoming: [u32; LINK_NUMBERS],
+    outgoing: [u32; LINK_NUMBERS],
+}
+
+impl PacketNumbers {
+    /// All are 0: no frame passed yet.
+    pub(crate) fn new() -> PacketNumbers
+        ensures { IsBehind result [] }
+    {
+        PacketNumbers {
+            incoming: [0; LINK_NUMBERS],
+            outgoing: [0; LINK_NUMBERS],
+        }
+    }
+
+    /// Counts a frame that passes on a link, and answers the number of its packet.
+    pub(crate) fn take(&mut self, link: LinkId, direction: Direction) -> u32
+        ensures number { (frames : List Seen) → IsBehind self.old frames → result ≡ next_number link direction frames }
+        ensures behind { (frames : List Seen) (seen : Seen) → IsBehind self.old frames → seen.link ≡ link
+            → seen.direction ≡ direction → IsBehind self.new (frames ++ seen ∷ []) }
+    {
+        let place = link.index();
+        match direction {
+            Direction::In => take_number(&mut self.incoming, place),
+            Direction::Out => take_number(&mut self.outgoing, place),
+        }
+    }
+}
+
+/// Counts a packet of the link at this place, and answers its number.
+fn take_number(numbers: &mut [u32; LINK_NUMBERS], place: usize) -> u32
+    requires { place < LINK_NUMBERS }
+    ensures number { result ≡ slice_index numbers.old place }
+    ensures next { numbers.new ≡ slice_set numbers.old place ((slice_index numbers.old place + 1) % 2 ^ 32) }
+{
+    let number = numbers[place];
+    numbers[place] = number.wrapping_add(1);
+    number
+}
