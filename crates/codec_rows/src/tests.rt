@@ -1,5 +1,6 @@
 //! What the rows share: a row is a line of words.
 
+mod capturing;
 mod framing;
 mod labels;
 mod link_tests;

@@ -4,11 +4,11 @@ use crate::consoles::Consoles;
 use crate::station::{LINKS, Station};
 use exchange::decode;
 use link_counters::LinkCounters;
+use std::io::BufWriter;
 use std::time::Duration;
 use std::{fs, io};
-use stp_server::Capture;
 use stp_types::LinkId;
-use trace::{Direction, FILE_HEADER_OCTETS};
+use trace::{Capture, Direction, FILE_HEADER_OCTETS, UntilFailure};
 
 /// The name of the file, in the folder in which the program runs.
 const FILE: &str = "callers.pcap";
@@ -77,8 +77,10 @@ struct Packet<'a> {
 /// The first server writes each frame into the file from now on.
 pub(crate) fn begin_capture(consoles: &mut Consoles<'_>) -> io::Result<()> {
     let file = fs::create(consoles.rt, FILE)?;
-    let capture = Capture::begin(consoles.rt.alloc(), file, Duration::ZERO)?;
-    consoles.pair.capture_to(capture);
+    let output = UntilFailure::new(BufWriter::new(consoles.rt.alloc(), file)?);
+    consoles
+        .pair
+        .capture_to(Capture::begin(output, Duration::ZERO));
     Ok(())
 }
 

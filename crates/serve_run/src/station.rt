@@ -9,7 +9,7 @@ use std::io;
 use std::marker::Model;
 use std::net::SocketAddr;
 use std::time::Duration;
-use stp_server::{Capture, Places, Server};
+use stp_server::{FileCapture, Places, Server};
 use stp_types::{FailureReason, LinkId, Outcome, Settings};
 
 /// Links between the two servers: the first ones of each.
@@ -136,7 +136,7 @@ impl Station {
     }
 
     /// Each frame goes into this file too from now on.
-    pub(crate) fn capture_to(&mut self, capture: Capture) {
+    pub(crate) fn capture_to(&mut self, capture: FileCapture) {
         self.server.capture_to(capture);
     }
 

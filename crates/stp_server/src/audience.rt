@@ -4,7 +4,7 @@ ghost use Rattle.std.specs.Prelude.{◌≡◌, ◌≤◌, length};
 ghost use Rattle.stp_server.specs.Audience.{counted_sight};
 
 use crate::callers::Callers;
-use crate::capture::Capture;
+use crate::server::FileCapture;
 use arrayvec::ArrayVec;
 use association::Watch;
 use console_caller::News;
@@ -24,7 +24,7 @@ const MESSAGE_OCTETS: usize = 640;
 pub(crate) struct Audience {
     pub(crate) names: Vec<String>,
     pub(crate) counters: Counters,
-    pub(crate) capture: Option<Capture>,
+    pub(crate) capture: Option<FileCapture>,
     pub(crate) callers: Callers,
     pub(crate) points: PointFormat,
     pub(crate) now: Duration,

@@ -4,7 +4,6 @@
 mod audience;
 mod caller_socket;
 mod callers;
-mod capture;
 mod connection;
 mod fault;
 mod gate;
@@ -17,9 +16,8 @@ mod server;
 mod serving;
 
 pub use callers::MOST_CALLERS;
-pub use capture::Capture;
 pub use fault::OpenFault;
 pub use machine::run_on_machine;
 pub use naming::SocketName;
-pub use server::{Places, Server};
+pub use server::{FileCapture, Places, Server};
 pub use serving::MachineServer;

@@ -2,7 +2,6 @@
 
 mod opening;
 
-use crate::capture::Capture;
 use crate::connection::Why;
 use crate::gate::Gate;
 use crate::journal::Journal;
@@ -14,16 +13,21 @@ use link_counters::Counters;
 use mio::{Events, Poll};
 use serve_settings::Endpoint;
 use std::alloc::Global;
+use std::fs::File;
 use std::io;
+use std::io::BufWriter;
 use std::marker::Model;
 use std::net::{Net, SocketAddr};
 use std::time::Duration;
 use stp_node::Sink;
 use stp_types::{FailureReason, LinkId, Outcome};
-use trace::PointFormat;
+use trace::{Capture, PointFormat, UntilFailure};
 
 /// Sockets that one wait tells of, at most. Further ones are told of by the next.
 const EVENTS: usize = 128;
+
+/// A capture into a file.
+pub type FileCapture = Capture<UntilFailure<BufWriter<File>>>;
 
 /// Where a server is reached, and how it shows points.
 #[derive(Clone, Copy)]
@@ -59,7 +63,7 @@ impl Model for Server {
 
 impl Server {
     /// Each frame goes into this file too from now on.
-    pub fn capture_to(&mut self, capture: Capture) {
+    pub fn capture_to(&mut self, capture: FileCapture) {
         self.node.audience.capture = Some(capture);
     }
 

@@ -2,19 +2,19 @@
 
 ghost use Rattle.std.specs.Prelude.{◌≤◌};
 
-use crate::capture::Capture;
 use crate::fault::OpenFault;
 use crate::journal::Journal;
-use crate::server::{Places, Server};
+use crate::server::{FileCapture, Places, Server};
 use association::Unwatched;
 use serve_settings::{PointFormat as Shown, ServeFault, ServeSettings};
 use serve_timing::{MOST_TICKS, TickClock};
 use std::alloc::{AllocError, Global};
+use std::io::BufWriter;
 use std::time::{Duration, Instant, SystemTime};
 use std::{fs, io};
 use stp_node::{Serve, Sink, Status};
 use stp_types::Settings;
-use trace::PointFormat;
+use trace::{Capture, PointFormat, UntilFailure};
 
 /// Serves nodes on this machine.
 #[derive(Clone, Copy)]
@@ -71,16 +71,16 @@ impl<'a> MachineServer<'a> {
     }
 
     /// A capture into a new file of this name.
-    fn capture(&self, alloc: Global, file: &str) -> Result<Capture, Failure> {
+    fn capture(&self, alloc: Global, file: &str) -> Result<FileCapture, Failure> {
         let Ok(started) = self.since_1970() else {
             return Err(Failure::System);
         };
         let Ok(file) = fs::create(self.rt, file) else {
             return Err(Failure::Capture);
         };
-        match Capture::begin(alloc, file, started) {
-            Ok(capture) => Ok(capture),
-            Err(AllocError) => Err(Failure::Open(OpenFault::NoMemory)),
+        match BufWriter::new(alloc, file) {
+            Ok(writer) => Ok(Capture::begin(UntilFailure::new(writer), started)),
+            Err(_) => Err(Failure::Open(OpenFault::NoMemory)),
         }
     }
 

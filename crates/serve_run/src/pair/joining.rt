@@ -4,7 +4,7 @@ use super::{End, Pair};
 use crate::opening::{Kind, connecting, listening, listening_to_strangers};
 use crate::station::Station;
 use std::net::SocketAddr;
-use stp_server::Capture;
+use stp_server::FileCapture;
 
 impl Pair {
     /// Two servers whose links are to come into service. None where a socket or memory can't be had.
@@ -52,7 +52,7 @@ impl Pair {
     }
 
     /// Each frame of the first server goes into this file too from now on.
-    pub(crate) fn capture_to(&mut self, capture: Capture) {
+    pub(crate) fn capture_to(&mut self, capture: FileCapture) {
         self.near.capture_to(capture);
     }
 }
