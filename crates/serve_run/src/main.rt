@@ -43,6 +43,12 @@ use task::Task;
 /// How often a connection is cut.
 const CUTS: u32 = 50;
 
+/// Cuts in a row at one place of a round: each end cuts each link once.
+const CUTS_AT_A_PLACE: u32 = 6;
+
+/// Places of a round: behind both ends' turns, or behind that of one alone.
+const PLACES: u32 = 3;
+
 /// Messages that each end submits around a cut, in two halves.
 const MESSAGES_A_CUT: u32 = 400;
 
@@ -112,10 +118,20 @@ fn cut_among_messages(rt: &HostRuntime, pair: &mut Pair, cut: u32) -> io::Result
     let end = if cut % 2 == 0 { End::Near } else { End::Far };
     let link = cut % u32::from(LINKS);
     pair.submit(MESSAGES_A_CUT / 2);
-    pair.round(rt)?;
+    send_some(rt, pair, cut)?;
     pair.cut(rt, end, link as u8)?;
     pair.submit(MESSAGES_A_CUT / 2);
     pair.rest(rt)
+}
+
+/// Messages go out before a cut: by a fixed rule of both ends, or of one alone, whose frames then lie unread at the
+/// other.
+fn send_some(rt: &HostRuntime, pair: &mut Pair, cut: u32) -> io::Result<()> {
+    match cut / CUTS_AT_A_PLACE % PLACES {
+        0 => pair.round(rt),
+        1 => pair.round_at(rt, End::Near),
+        _ => pair.round_at(rt, End::Far),
+    }
 }
 
 /// Prints what became of the messages.

@@ -48,15 +48,16 @@ impl<'a> Run<'a> {
         Ok(millis(self.now()?) > MOST_MS)
     }
 
-    /// Waits until something happens or a tick is due, lets the ticks pass, and does what there is to do. Returns how
-    /// long the run had taken when the wait was over.
+    /// Waits until something happens or a tick is due, lets it pass, and does what there is to do. Returns how long the
+    /// run had taken when the wait was over.
     fn round(&mut self, station: &mut Station) -> io::Result<Duration> {
         let now = self.now()?;
         let rest = Duration::from_millis(self.clock.until_next(millis(now)));
         station.wait(now, rest)?;
         let now = self.now()?;
-        let ticks = self.clock.due(millis(now));
-        station.tick(ticks, now);
+        if self.clock.is_due(millis(now)) {
+            station.tick(1, now);
+        }
         station.turn(self.rt, now);
         Ok(now)
     }

@@ -88,6 +88,12 @@ impl Pair {
         round_of(rt, &mut self.far, now)
     }
 
+    /// One round of one server.
+    pub(crate) fn round_at(&mut self, rt: &HostRuntime, end: End) -> io::Result<()> {
+        let (station, now) = self.end(end);
+        round_of(rt, station, now)
+    }
+
     /// A tick passes at both ends.
     pub(crate) fn tick(&mut self) {
         self.ticks = self.ticks.saturating_add(1);

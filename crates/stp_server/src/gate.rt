@@ -21,8 +21,9 @@ use stp_types::{FailureReason, LinkId, Outcome};
 /// Reads of a link in one round, at most.
 const READS: usize = 16;
 
-/// Writes of a link in one round, at most.
-const WRITES: usize = 256;
+/// Writes of a link in one round, at most: the reads of another link bring fewer frames, so what goes on from one link
+/// to another doesn't pile up while the socket takes it.
+const WRITES: usize = 4096;
 
 /// Connections that are taken in one round, at most.
 const ACCEPTS: usize = 64;

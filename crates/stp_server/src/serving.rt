@@ -101,8 +101,8 @@ impl<'a> MachineServer<'a> {
         }
     }
 
-    /// Makes round after round. What came is handed in before the ticks that are due pass, so that a pause fails no
-    /// link whose confirmations came meanwhile.
+    /// Makes round after round. What came is handed in before a tick that is due passes: after a pause, the
+    /// confirmations that came meanwhile stop their timers first.
     fn run<W: Sink>(
         &self,
         server: &mut Server,
@@ -122,7 +122,7 @@ impl<'a> MachineServer<'a> {
             }
             let now = self.now()?.duration_since(started);
             server.turn(self.rt, now, log, &mut Unwatched);
-            was_behind = pass_ticks(&mut clock, was_behind, server, now, log);
+            was_behind = pass_tick(&mut clock, was_behind, server, now, log);
             if server.is_stopping() {
                 Journal::new(log, now).tell(&"stop");
                 return Ok(());
@@ -132,8 +132,8 @@ impl<'a> MachineServer<'a> {
     }
 }
 
-/// Lets the ticks pass that are due. Returns whether more are due than pass at once; the log is told where that begins.
-fn pass_ticks<W: Sink>(
+/// Lets a tick pass where one is due. Returns whether the clock is behind; the log is told where that begins.
+fn pass_tick<W: Sink>(
     clock: &mut TickClock,
     was_behind: bool,
     server: &mut Server,
@@ -145,7 +145,9 @@ fn pass_ticks<W: Sink>(
     if is_behind && !was_behind {
         Journal::new(log, now).tell(&format_args!("behind: more than {MOST_TICKS} ticks are due"));
     }
-    server.tick(clock.due(elapsed), now, log);
+    if clock.is_due(elapsed) {
+        server.tick(1, now, log);
+    }
     is_behind
 }
 
