@@ -33,6 +33,8 @@ submit 1 85+00400000: refused 7
 submit 1 85+01400000: refused 7
 submit 1 85+ff7f0000: refused 7
 submit 1 80+02400000: refused 7
+submit 1 81+02400000: refused 7
+submit 1 82+02400000: refused 7
 submit 1 83+02400000: refused 7
 submit 1 84+02400000: refused 4
 submit 1 8f+02400000: refused 4
