@@ -4,6 +4,7 @@ mod alignment;
 mod calls;
 mod checked_settings;
 mod facing;
+mod lab_program;
 mod lab_streams;
 mod labs;
 mod lines;

@@ -13,3 +13,4 @@ pub mod Standing
 pub mod Passing
 pub mod Written
 pub mod Told
+pub mod Labs

@@ -1,5 +1,5 @@
 -- What standard error is told.
-use Rattle.std.specs.Prelude.{◌≡◌, ◌⊎◌, ℕ, List, ◌++◌, codes, Result, Ok, Err, String, string_bytes}
+use Rattle.std.specs.Prelude.{◌≡◌, ◌⊎◌, ℕ, List, ◌++◌, codes, decimal, Result, Ok, Err, String, string_bytes}
 use Rattle.std.specs.Global.{Global}
 use Rattle.std.specs.Io.KnownBytes.{Appends}
 use Rattle.settings_faults.specs.Warnings.{AreWarnings}
@@ -71,3 +71,25 @@ IsScriptExplained fault.NoMemory errors errors_new = errors_new ≡ errors
 abbrev pub IsEndExplained : {A : Type 0} → Result A ScriptFault → Output → Output → Type 0
 IsEndExplained (Ok x) errors errors_new = errors_new ≡ errors
 IsEndExplained (Err fault) errors errors_new = IsScriptExplained fault errors errors_new
+
+-- ---- labs
+
+-- the sentence about two files whose nodes a lab doesn't join
+abbrev pub strangers_sentence : (near far : List ℕ) → List ℕ
+strangers_sentence near far =
+    near ++ (codes " and " ++ (far ++ codes " don't face each other: docs/MANUAL.md says what that needs\n"))
+
+-- the sentence about a line that is none of a lab script
+abbrev pub lab_line_sentence : (number : ℕ) → List ℕ
+lab_line_sentence number =
+    codes "line " ++ (decimal number ++ codes ": not a line of a lab script; docs/MANUAL.md lists them\n")
+
+-- why a lab script ended before its end, if it did: as of another script, but for a line
+abbrev pub IsLabEndExplained : Result Unit ScriptFault → Output → Output → Type 0
+IsLabEndExplained (Err (fault.Line number)) errors errors_new =
+    IsToldOf (λ text. text ≡ lab_line_sentence number) errors errors_new
+IsLabEndExplained (Ok x) errors errors_new = errors_new ≡ errors
+IsLabEndExplained (Err fault.Read) errors errors_new = IsScriptExplained fault.Read errors errors_new
+IsLabEndExplained (Err fault.Write) errors errors_new = IsScriptExplained fault.Write errors errors_new
+IsLabEndExplained (Err fault.TooManyReads) errors errors_new = IsScriptExplained fault.TooManyReads errors errors_new
+IsLabEndExplained (Err fault.NoMemory) errors errors_new = errors_new ≡ errors

@@ -1,16 +1,19 @@
 -- What the program does for what its words ask, and its exit statuses.
-use Rattle.std.specs.Prelude.{◌≡◌, ◌⊎◌, ℕ, List, ◌++◌, codes, Result, Ok, Err, String, true}
+use Rattle.std.specs.Prelude.{◌≡◌, ◌≢◌, ◌⊎◌, ℕ, List, ◌++◌, codes, Result, Ok, Err, OnOk, String, true}
 use Rattle.std.specs.Global.{Global}
-use Rattle.std.specs.Io.KnownBytes.{Appends}
+use Rattle.std.specs.Io.KnownBytes.{Appends, IsAtEnd}
 use Rattle.settings_rows.specs.Configuration.{Configuration}
 use Rattle.settings.specs.Faults.{fault_line, no_memory}
 use Rattle.settings.specs.declared.fault.SettingsFault.{SettingsFault}
+use Rattle.stp_types.specs.Facing.{IsFacing}
+use Rattle.stp_types.specs.Naming.{link_names}
 use Rattle.exchange_rules.specs.Sound.{Abstract}
 use Rattle.exchange_rules.specs.First.{first_state}
 use Rattle.exchange_rules.specs.Queues.{whole}
 use Rattle.stp_node.specs.BuiltIn.{built_in_settings}
 use Rattle.settings_faults.specs.Sentences.{Explains}
 use Rattle.stp_node.specs.Explaining.{IsTold, IsToldOf, usage_text, unread_sentence, IsWarned, IsEndExplained}
+use Rattle.stp_node.specs.Explaining.{strangers_sentence, IsLabEndExplained}
 use Rattle.stp_node.specs.Faults.{Counts}
 use Rattle.stp_node.specs.Folders.{FileRead, AreSettings, IsFault}
 use Rattle.stp_node.specs.Runs.{Runs}
@@ -104,7 +107,66 @@ ChecksFile file (Err (file_fault.Unread why)) output output_new errors errors_ne
 ChecksFile file (Err file_fault.NoMemory) output output_new errors errors_new ended =
     EndsWith status.Start (told no_memory) output output_new ended × (errors_new ≡ errors)
 
--- what the program does for a task, where a file is read as `reads` says; of a lab and of a server, nothing is said
+-- a file has these settings, and standard error is warned of it
+abbrev pub HasSettings : (file : List ℕ) → FileRead → Configuration → (errors errors_new : Output) → Type 0
+HasSettings file (Ok octets) settings errors errors_new = AreSettings octets settings × IsWarned file errors errors_new
+HasSettings file (Err fault) settings errors errors_new = ⊥
+
+-- how the program ends where it has no settings of a file: its fault is printed and explained, after warnings; where
+-- the file can't be read, nothing is printed, and standard error is told why
+abbrev pub EndsAtFile : (file : List ℕ) → FileRead → (output output_new errors errors_new : Output) → Status → Type 0
+EndsAtFile file (Ok octets) output output_new errors errors_new ended =
+    (why : SettingsFault) × IsFault octets why × EndsWith status.Start (told why) output output_new ended
+    × (warned : Output) × IsWarned file errors warned × IsToldOf (Explains file octets why) warned errors_new
+EndsAtFile file (Err (file_fault.Unread why)) output output_new errors errors_new ended =
+    (ended ≡ status.Stream) × (output_new ≡ output)
+    × IsToldOf (λ text. text ≡ unread_sentence file why) errors errors_new
+EndsAtFile file (Err file_fault.NoMemory) output output_new errors errors_new ended =
+    EndsWith status.Start (told no_memory) output output_new ended × (errors_new ≡ errors)
+
+-- nodes that a lab joins face each other, and name their links alike
+pub record AreJoined (near far : Configuration) : Type 0 where
+  pub facing : IsFacing near far
+  pub alike : link_names near ≡ link_names far
+
+-- the lab script was begun, and the program ends by how it ended: Done only where it was read to its end, and Stream
+-- only where a read or a write failed or no end was found in all of the reads
+pub record RunsLabScript (old new : Streams) (ended : Status) : Type 0 where
+  pub script : Result Unit ScriptFault
+  pub begun : script ≢ Err fault.NoMemory
+  pub whole : OnOk script (IsAtEnd new.input.remaining)
+  pub counts : Counts script old.input new.input old.output new.output
+  pub status : ended ≡ status_after script
+  pub explained : IsLabEndExplained script old.errors new.errors
+
+-- two nodes of files with these names run the lab script, or memory runs out before it; where they can't be joined,
+-- this is printed and explained, and nothing of the script is read
+abbrev pub RunsNodes : (near far : List ℕ) → (near_settings far_settings : Configuration) → Streams → Streams → Status
+    → Type 0
+RunsNodes near far near_settings far_settings old new ended =
+    (AreJoined near_settings far_settings × (RunsLabScript old new ended ⊎ HasNoMemory old new ended))
+    ⊎ (¬ (AreJoined near_settings far_settings)
+    × EndsWith status.Start (codes "fault NotFacing\n") old.output new.output ended × (new.input ≡ old.input)
+    × IsToldOf (λ text. text ≡ strangers_sentence near far) old.errors new.errors)
+
+-- a file is read, and what comes next is done with its settings; where it has none, nothing of the script is read
+abbrev pub ReadsFile : (file : List ℕ) → (List ℕ → FileRead → Type 0) → (Configuration → Streams → Type 0)
+    → Streams → Streams → Status → Type 0
+ReadsFile file reads Next old new ended =
+    (read : FileRead) × reads file read
+    × (((settings : Configuration) × (warned : Output) × HasSettings file read settings old.errors warned
+    × Next settings (record old { errors = warned }))
+    ⊎ (EndsAtFile file read old.output new.output old.errors new.errors ended × (new.input ≡ old.input)))
+
+-- the near file is read, then the far one, and then their nodes run the lab script
+abbrev pub RunsLab : (near far : List ℕ) → (List ℕ → FileRead → Type 0) → Streams → Streams → Status → Type 0
+RunsLab near far reads old new ended =
+    ReadsFile near reads
+    (λ near_settings between. ReadsFile far reads
+    (λ far_settings begun. RunsNodes near far near_settings far_settings begun new ended) between new ended)
+    old new ended
+
+-- what the program does for a task, where a file is read as `reads` says; of a server, nothing is said
 abbrev pub DoesTask : Task → (List ℕ → FileRead → Type 0) → Streams → Streams → Status → Type 0
 DoesTask BuiltInRun reads old new ended =
     RunsNode (λ settings. settings ≡ built_in_settings) (λ why. why ≡ no_memory) NoText old new ended
@@ -113,7 +175,7 @@ DoesTask (FileRun file) reads old new ended =
 DoesTask (FileCheck file) reads old new ended =
     (read : FileRead) × reads file read
     × ChecksFile file read old.output new.output old.errors new.errors ended × (new.input ≡ old.input)
-DoesTask (LabRun near far) reads old new ended = Unit {0}
+DoesTask (LabRun near far) reads old new ended = RunsLab near far reads old new ended
 DoesTask (FileServe file) reads old new ended = Unit {0}
 DoesTask OtherWords reads old new ended =
     EndsWith status.Usage (codes "usage\n") old.output new.output ended × (new.input ≡ old.input)

@@ -2,7 +2,8 @@
 
 ghost use Rattle.std.specs.Prelude.{◌≡◌};
 ghost use Rattle.stp_node.specs.Explaining.{IsTold, IsToldMade, IsToldOf, usage_text, unread_text, unread_sentence};
-ghost use Rattle.stp_node.specs.Explaining.{IsWarned, IsEndExplained, IsScriptExplained};
+ghost use Rattle.stp_node.specs.Explaining.{IsWarned, IsEndExplained, IsScriptExplained, IsLabEndExplained};
+ghost use Rattle.stp_node.specs.Explaining.{strangers_sentence, lab_line_sentence};
 ghost use Rattle.settings_faults.specs.Sentences.{Explains};
 
 use crate::folder::Unread;
@@ -128,7 +129,10 @@ fn explain_script<E: Sink>(
 }
 
 /// Tells that the nodes of two files don't face each other.
-pub(crate) fn explain_strangers<E: Sink>(alloc: Global, near: &str, far: &str, errors: &mut E) {
+pub(crate) fn explain_strangers<E: Sink>(alloc: Global, near: &str, far: &str, errors: &mut E)
+    ensures { IsToldOf (λ text. text ≡ strangers_sentence near.now far.now)
+        (E.output errors.old) (E.output errors.new) }
+{
     tell_made(
         format!(in alloc;
             "{near} and {far} don't face each other: docs/MANUAL.md says what that needs\n"
@@ -142,15 +146,22 @@ pub(crate) fn explain_lab_end<E: Sink>(
     alloc: Global,
     script: Result<(), ScriptFault>,
     errors: &mut E,
-) {
+)
+    ensures { IsLabEndExplained script (E.output errors.old) (E.output errors.new) }
+{
     if let Err(ScriptFault::Line(number)) = script {
-        tell_made(
-            format!(in alloc;
-                "line {number}: not a line of a lab script; docs/MANUAL.md lists them\n"
-            ),
-            errors,
-        );
+        explain_lab_line(alloc, number, errors);
     } else {
         explain_end(alloc, script, b"", LineFault::Malformed, errors);
     }
+}
+
+/// Tells which line ended a lab script.
+fn explain_lab_line<E: Sink>(alloc: Global, number: u64, errors: &mut E)
+    ensures { IsToldOf (λ text. text ≡ lab_line_sentence number) (E.output errors.old) (E.output errors.new) }
+{
+    tell_made(
+        format!(in alloc; "line {number}: not a line of a lab script; docs/MANUAL.md lists them\n"),
+        errors,
+    );
 }

@@ -1,9 +1,16 @@
 //! Two nodes that a lab joins, with the settings of two files.
 
-ghost use Rattle.std.specs.Prelude.{◌≡◌, IfOk};
+ghost use Rattle.std.specs.Prelude.{◌≡◌, ◌≢◌, ◌⊎◌, IfOk, IfErr, OnOk, Err};
+ghost use Rattle.std.specs.Io.KnownBytes.{IsAtEnd};
+ghost use Rattle.settings.specs.Faults.{no_memory};
 ghost use Rattle.stp_types.specs.Facing.{IsFacing};
-ghost use Rattle.stp_node.specs.Faults.{MakesReads, reads_failed, writes_failed};
 ghost use Rattle.stp_types.specs.Naming.{link_names};
+ghost use Rattle.stp_node.specs.Explaining.{IsLabEndExplained};
+ghost use Rattle.stp_node.specs.Faults.{MakesReads, reads_failed, writes_failed};
+ghost use Rattle.stp_node.specs.Folders.{FileRead};
+ghost use Rattle.stp_node.specs.Program.{told, status_after, EndsWith, HasNoMemory, HasSettings, EndsAtFile};
+ghost use Rattle.stp_node.specs.Program.{RunsLabScript, RunsNodes, RunsLab};
+ghost use Rattle.stp_node.specs.Streams.{streams};
 
 use crate::ending::{end_with, tell_file_fault, tell_no_memory};
 use crate::explaining::{explain_lab_end, explain_strangers, explain_unread, warn};
@@ -18,8 +25,8 @@ use stp_types::Settings;
 
 /// What runs the scripts of two nodes: it joins their links.
 pub trait Lab {
-    /// Does the lines of a lab script on two nodes that face each other and name their links alike. It takes memory
-    /// before the first line alone.
+    /// Does the lines of a lab script on two nodes that face each other and name their links alike. NoMemory comes
+    /// before the first read alone; the links of a lab may take memory later, where they open.
     fn run<R: Source, W: Sink>(
         &mut self,
         alloc: Global,
@@ -30,9 +37,12 @@ pub trait Lab {
     ) -> Result<(), ScriptFault>
         requires facing { IsFacing near.old.settings far.old.settings }
         requires alike { link_names near.old.settings ≡ link_names far.old.settings }
+        ensures end { OnOk result (IsAtEnd (R.input reader.new).remaining) }
         ensures bounded { MakesReads result (R.input reader.old).reads (R.input reader.new).reads }
         ensures reads { (R.input reader.new).failures ≡ reads_failed (R.input reader.old).failures result }
-        ensures writes { (W.output writer.new).failures ≡ writes_failed (W.output writer.old).failures result };
+        ensures writes { (W.output writer.new).failures ≡ writes_failed (W.output writer.old).failures result }
+        ensures unread { result ≡ Err ScriptFault.NoMemory → R.input reader.new ≡ R.input reader.old }
+        ensures unwritten { result ≡ Err ScriptFault.NoMemory → W.output writer.new ≡ W.output writer.old };
 }
 
 /// Runs the lab script on two nodes with the settings of two files. Faults are found in this order: the near file, the
@@ -45,7 +55,11 @@ pub(crate) fn run_files<F: Folder, L: Lab, R: Source, W: Sink, E: Sink>(
     reader: &mut R,
     writer: &mut W,
     errors: &mut E,
-) -> Status {
+) -> Status
+    ensures { RunsLab files.entry.0.now files.entry.1.now (F.reads folder.now)
+        (streams (R.input reader.old) (W.output writer.old) (E.output errors.old))
+        (streams (R.input reader.new) (W.output writer.new) (E.output errors.new)) result }
+{
     let near = match settings_of(alloc, folder, files.0, writer, errors) {
         Ok(settings) => settings,
         Err(status) => return status,
@@ -68,7 +82,11 @@ fn run_if_facing<L: Lab, R: Source, W: Sink, E: Sink>(
     reader: &mut R,
     writer: &mut W,
     errors: &mut E,
-) -> Status {
+) -> Status
+    ensures { RunsNodes files.entry.0.now files.entry.1.now near far
+        (streams (R.input reader.old) (W.output writer.old) (E.output errors.old))
+        (streams (R.input reader.new) (W.output writer.new) (E.output errors.new)) result }
+{
     if near.faces(&far) && near.named_alike(&far) {
         return run_between(alloc, near, far, lab, reader, writer, errors);
     }
@@ -83,7 +101,14 @@ fn settings_of<F: Folder, W: Sink, E: Sink>(
     file: &str,
     writer: &mut W,
     errors: &mut E,
-) -> Result<Settings, Status> {
+) -> Result<Settings, Status>
+    ensures settings { IfOk result (λ settings. (read : FileRead) × F.reads folder.now file.now read
+        × HasSettings file.now read settings (E.output errors.old) (E.output errors.new)
+        × (W.output writer.new ≡ W.output writer.old)) }
+    ensures ended { IfErr result (λ ended. (read : FileRead) × F.reads folder.now file.now read
+        × EndsAtFile file.now read (W.output writer.old) (W.output writer.new)
+        (E.output errors.old) (E.output errors.new) ended) }
+{
     let octets = match folder.read(alloc, file) {
         Ok(octets) => octets,
         Err(FileFault::Unread(why)) => {
@@ -112,6 +137,12 @@ fn run_between<L: Lab, R: Source, W: Sink, E: Sink>(
 ) -> Status
     requires facing { IsFacing near far }
     requires alike { link_names near ≡ link_names far }
+    ensures { RunsLabScript
+        (streams (R.input reader.old) (W.output writer.old) (E.output errors.old))
+        (streams (R.input reader.new) (W.output writer.new) (E.output errors.new)) result
+        ⊎ HasNoMemory
+        (streams (R.input reader.old) (W.output writer.old) (E.output errors.old))
+        (streams (R.input reader.new) (W.output writer.new) (E.output errors.new)) result }
 {
     let Ok(mut near) = booted(alloc, near) else {
         return tell_no_memory(writer);
@@ -131,6 +162,12 @@ fn run_beside<L: Lab, R: Source, W: Sink, E: Sink>(
 ) -> Status
     requires facing { IsFacing near.old.settings far }
     requires alike { link_names near.old.settings ≡ link_names far }
+    ensures { RunsLabScript
+        (streams (R.input reader.old) (W.output writer.old) (E.output errors.old))
+        (streams (R.input reader.new) (W.output writer.new) (E.output errors.new)) result
+        ⊎ HasNoMemory
+        (streams (R.input reader.old) (W.output writer.old) (E.output errors.old))
+        (streams (R.input reader.new) (W.output writer.new) (E.output errors.new)) result }
 {
     let Ok(mut far) = booted(alloc, far) else {
         return tell_no_memory(writer);
@@ -150,6 +187,12 @@ fn run_booted<L: Lab, R: Source, W: Sink, E: Sink>(
 ) -> Status
     requires facing { IsFacing near.old.settings far.old.settings }
     requires alike { link_names near.old.settings ≡ link_names far.old.settings }
+    ensures { RunsLabScript
+        (streams (R.input reader.old) (W.output writer.old) (E.output errors.old))
+        (streams (R.input reader.new) (W.output writer.new) (E.output errors.new)) result
+        ⊎ HasNoMemory
+        (streams (R.input reader.old) (W.output writer.old) (E.output errors.old))
+        (streams (R.input reader.new) (W.output writer.new) (E.output errors.new)) result }
 {
     let script = lab.run(alloc, near, far, reader, writer);
     end_lab(alloc, script, writer, errors)
@@ -168,7 +211,14 @@ fn end_lab<W: Sink, E: Sink>(
     script: Result<(), ScriptFault>,
     writer: &mut W,
     errors: &mut E,
-) -> Status {
+) -> Status
+    ensures memory { script ≡ Err ScriptFault.NoMemory
+        → EndsWith Status.Start (told no_memory) (W.output writer.old) (W.output writer.new) result
+        × (E.output errors.new ≡ E.output errors.old) }
+    ensures status { script ≢ Err ScriptFault.NoMemory → result ≡ status_after script }
+    ensures unwritten { script ≢ Err ScriptFault.NoMemory → W.output writer.new ≡ W.output writer.old }
+    ensures explained { IsLabEndExplained script (E.output errors.old) (E.output errors.new) }
+{
     if let Err(ScriptFault::NoMemory) = script {
         return tell_no_memory(writer);
     }

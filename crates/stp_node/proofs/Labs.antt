@@ -1,0 +1,44 @@
+-- A lab script that ended for want of memory, or otherwise, and how the program ends after it.
+use Rattle.std.proofs.Common.{◌≡◌, ◌≢◌, ◌⊎◌, Result, Ok, Err, refl, inl, inr}
+use Rattle.std.specs.Prelude.{OnOk}
+use Rattle.std.specs.Io.KnownBytes.{IsAtEnd}
+use Rattle.settings.specs.Faults.{no_memory}
+use Rattle.stp_node.specs.Explaining.{IsLabEndExplained}
+use Rattle.stp_node.specs.Faults.{Counts}
+use Rattle.stp_node.specs.Program.{told, status_after, EndsWith, HasNoMemory, RunsLabScript}
+use Rattle.stp_node.specs.Streams.{Input, Output, Streams, streams}
+use Rattle.stp_node.specs.declared.program.Status.{Status}
+use Rattle.stp_node.specs.declared.program.Status.TheVariants as status
+use Rattle.stp_node.specs.declared.script.ScriptFault.{ScriptFault}
+use Rattle.stp_node.specs.declared.script.ScriptFault.TheVariants.{Read, Write, Line, TooManyReads, NoMemory}
+
+pub lacks_memory : (script : Result Unit ScriptFault) → (script ≡ Err NoMemory) ⊎ (script ≢ Err NoMemory)
+lacks_memory (Err NoMemory) = inl refl
+lacks_memory (Ok x) = inr (λ e. cc e)
+lacks_memory (Err Read) = inr (λ e. cc e)
+lacks_memory (Err Write) = inr (λ e. cc e)
+lacks_memory (Err (Line line)) = inr (λ e. cc e)
+lacks_memory (Err TooManyReads) = inr (λ e. cc e)
+
+pub lab-ended : (script : Result Unit ScriptFault) (old : Streams) (input : Input) (output output_new errors : Output) (ended : Status)
+    → OnOk script (IsAtEnd input.remaining)
+    → Counts script old.input input old.output output
+    → (script ≡ Err NoMemory → input ≡ old.input)
+    → (script ≡ Err NoMemory → output ≡ old.output)
+    → (script ≡ Err NoMemory → EndsWith status.Start (told no_memory) output output_new ended × (errors ≡ old.errors))
+    → (script ≢ Err NoMemory → ended ≡ status_after script)
+    → (script ≢ Err NoMemory → output_new ≡ output)
+    → IsLabEndExplained script old.errors errors
+    → RunsLabScript old (streams input output_new errors) ended ⊎ HasNoMemory old (streams input output_new errors) ended
+lab-ended script old input output output_new errors ended whole counts unread unwritten memory by kept explained =
+    elim (lacks_memory script) [
+      | inl e ↦ inr (rw (← unwritten e) (memory e).0, unread e, (memory e).1)
+      | inr n ↦ inl (record {
+          script = script;
+          begun = n;
+          whole = whole;
+          counts = rw (kept n) counts;
+          status = by n;
+          explained = explained;
+        })
+    ]
