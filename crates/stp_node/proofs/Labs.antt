@@ -1,11 +1,12 @@
 -- A lab script that ended for want of memory, or otherwise, and how the program ends after it.
-use Rattle.std.proofs.Common.{◌≡◌, ◌≢◌, ◌⊎◌, Result, Ok, Err, refl, inl, inr}
+use Rattle.std.proofs.Common.{◌≡◌, ◌≢◌, ◌⊎◌, ℕ, List, Result, Ok, Err, refl, inl, inr}
 use Rattle.std.specs.Prelude.{OnOk}
 use Rattle.std.specs.Io.KnownBytes.{IsAtEnd}
 use Rattle.settings.specs.Faults.{no_memory}
+use Rattle.settings_rows.specs.Configuration.{Configuration}
 use Rattle.stp_node.specs.Explaining.{IsLabEndExplained}
 use Rattle.stp_node.specs.Faults.{Counts}
-use Rattle.stp_node.specs.Program.{told, status_after, EndsWith, HasNoMemory, RunsLabScript}
+use Rattle.stp_node.specs.Program.{told, status_after, EndsWith, HasNoMemory, RunsLabScript, RunsNodes}
 use Rattle.stp_node.specs.Streams.{Input, Output, Streams, streams}
 use Rattle.stp_node.specs.declared.program.Status.{Status}
 use Rattle.stp_node.specs.declared.program.Status.TheVariants as status
@@ -42,3 +43,10 @@ lab-ended script old input output output_new errors ended whole counts unread un
           explained = explained;
         })
     ]
+
+-- nodes that begin behind an output that is as it was
+pub output-kept : (near far : List ℕ) (near_settings far_settings : Configuration) (input : Input) (output old errors : Output) (new : Streams) (ended : Status)
+    → output ≡ old
+    → RunsNodes near far near_settings far_settings (streams input output errors) new ended
+    → RunsNodes near far near_settings far_settings (streams input old errors) new ended
+output-kept near far near_settings far_settings input output old errors new ended e ran = rw (← e) ran
