@@ -1,17 +1,20 @@
 -- A lab script that ended for want of memory, or otherwise, and how the program ends after it.
-use Rattle.std.proofs.Common.{◌≡◌, ◌≢◌, ◌⊎◌, ℕ, List, Result, Ok, Err, refl, inl, inr}
-use Rattle.std.specs.Prelude.{OnOk}
+use Rattle.std.proofs.Common.{◌≡◌, ◌≢◌, ◌⊎◌, ℕ, List, Result, Ok, Err, Some, refl, inl, inr}
+use Rattle.std.specs.Prelude.{OnOk, String}
+use Rattle.std.specs.Global.{Global}
 use Rattle.std.specs.Io.KnownBytes.{IsAtEnd}
 use Rattle.settings.specs.Faults.{no_memory}
 use Rattle.settings_rows.specs.Configuration.{Configuration}
 use Rattle.stp_node.specs.Explaining.{IsLabEndExplained}
 use Rattle.stp_node.specs.Faults.{Counts}
-use Rattle.stp_node.specs.Program.{told, status_after, EndsWith, HasNoMemory, RunsLabScript, RunsNodes}
+use Rattle.stp_node.specs.Folders.{FileRead}
+use Rattle.stp_node.specs.Program.{told, status_after, EndsWith, HasNoMemory, RunsLabScript, RunsNodes, RunsLab, DoesTask, Does}
 use Rattle.stp_node.specs.Streams.{Input, Output, Streams, streams}
 use Rattle.stp_node.specs.declared.program.Status.{Status}
 use Rattle.stp_node.specs.declared.program.Status.TheVariants as status
 use Rattle.stp_node.specs.declared.script.ScriptFault.{ScriptFault}
 use Rattle.stp_node.specs.declared.script.ScriptFault.TheVariants.{Read, Write, Line, TooManyReads, NoMemory}
+use Rattle.words.specs.Words.{Task, LabRun, asked}
 
 pub lacks_memory : (script : Result Unit ScriptFault) → (script ≡ Err NoMemory) ⊎ (script ≢ Err NoMemory)
 lacks_memory (Err NoMemory) = inl refl
@@ -50,3 +53,14 @@ pub output-kept : (near far : List ℕ) (near_settings far_settings : Configurat
     → RunsNodes near far near_settings far_settings (streams input output errors) new ended
     → RunsNodes near far near_settings far_settings (streams input old errors) new ended
 output-kept near far near_settings far_settings input output old errors new ended e ran = rw (← e) ran
+
+-- words that ask for a lab
+by-task : (task : Task) (near far : List ℕ) (reads : List ℕ → FileRead → Type 0) (old new : Streams) (ended : Status)
+    → LabRun near far ≡ task → RunsLab near far reads old new ended → DoesTask task reads old new ended
+by-task task near far reads old new ended e ran = rw (← e) ran
+
+pub does-lab : (given : List (String Global)) (near far near_text far_text : List ℕ) (reads : List ℕ → FileRead → Type 0) (old new : Streams) (ended : Status)
+    → near_text ≡ near → far_text ≡ far → Some (LabRun near far) ≡ Some (asked given)
+    → RunsLab near_text far_text reads old new ended → Does given reads old new ended
+does-lab given near far near_text far_text reads old new ended n f e ran =
+    inl (by-task (asked given) near far reads old new ended (cc e) (rw (← n, ← f) ran))
