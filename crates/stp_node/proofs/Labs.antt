@@ -38,13 +38,13 @@ lab-ended script old input output output_new errors ended whole counts unread un
     elim (lacks_memory script) [
       | inl e ↦ inr (rw (← unwritten e) (memory e).0, unread e, (memory e).1)
       | inr n ↦ inl (record {
-          script = script;
-          begun = n;
-          whole = whole;
-          counts = rw (kept n) counts;
-          status = by n;
-          explained = explained;
-        })
+        script = script;
+        begun = n;
+        whole = whole;
+        counts = rw (kept n) counts;
+        status = by n;
+        explained = explained;
+      })
     ]
 
 -- nodes that begin behind an output that is as it was
