@@ -114,12 +114,12 @@ fn expect<T: Abort, R: Source>(
     compare(rt, text.as_bytes(), errors.written(), told);
 }
 
-/// Words, each behind a comma; the script; the exit status; what is printed; and what standard error is told. A `~` is a
-/// line feed.
+/// Words, each behind a comma; the script; the exit status; what is printed; and what standard error is told. A `~` is
+/// a line feed.
 const ROWS: &str = "\
 ,lab,near,far|open e0~move 1 e0~|0|handled~handled~|
 ,lab,near,far||0||
-,lab,near,far|open e0~up e0~open e0~|3|handled~fault 2~|line 2: not a line of a lab script; docs/MANUAL.md lists them~
+,lab,near,far|open e0~up e0~tick 1 1~|3|handled~fault 2~|line 2: not a line of a lab script; docs/MANUAL.md lists them~
 ,lab,near,far|open e0|3|fault 1~|line 1: not a line of a lab script; docs/MANUAL.md lists them~
 ,lab,near,near|open e0~|2|fault NotFacing~|near and near don't face each other: docs/MANUAL.md says what that needs~
 ,lab,far,near|open e1~|0|refused 22 NoSuchName~|
