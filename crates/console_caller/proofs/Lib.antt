@@ -1,2 +1,4 @@
 pub mod Taking
 pub mod Counted
+pub mod Cutting
+pub mod Saying

@@ -1,8 +1,12 @@
 //! Point codes in three parts, in the lines of callers and in the texts that they are answered.
 
-ghost use Rattle.std.specs.Prelude.{◌≡◌, ◌++◌, true, None, IfSome};
-ghost use Rattle.trace.specs.Points.{IsPointText, point_text};
-ghost use Rattle.console_caller.specs.Rewriting.{IsRewritten};
+ghost use Rattle.std.specs.Prelude.{◌≡◌, ◌≤◌, ◌++◌, ℕ, List, IfSome, None, drop, length};
+ghost use Rattle.std.specs.List.{slice_get};
+ghost use Rattle.std.specs.Option.{IfNone, option_and_then, option_map};
+ghost use Rattle.console.specs.Words.{words};
+ghost use Rattle.trace.specs.Points.{point_text};
+ghost use Rattle.console_caller.specs.Rewriting.{in_numbers, in_parts, point_in, shown_place};
+ghost use Rattle.console_caller.specs.Rewriting.{with_word, within, written_if};
 
 use crate::caller::LINE_OCTETS;
 use arrayvec::ArrayVec;
@@ -33,8 +37,7 @@ pub fn line_in_numbers<'a>(
     points: PointFormat,
     room: &'a mut ArrayVec<u8, LINE_OCTETS>,
 ) -> &'a [u8]
-    ensures plain { points ≡ PointFormat.Plain → result.now ≡ line.now }
-    ensures rewritten { IsRewritten points PointFormat.Plain line.now result.now }
+    ensures { result.now ≡ in_numbers points line.now }
 {
     if points == PointFormat::Plain || !line.starts_with(b"title add ") {
         return line;
@@ -55,15 +58,27 @@ struct Parts<'a> {
 
 /// A line cut at the word of this place, from 0. None where it has fewer words.
 fn parts_at(line: &[u8], place: usize) -> Option<Parts<'_>>
-    ensures { IfSome result (λ parts. line.now ≡ parts.front.now ++ parts.word.now ++ parts.back.now) }
+    ensures word { option_map (λ parts. parts.word.now) result ≡ slice_get (words line.now) place }
+    ensures around { IfSome result (λ parts. (text : List ℕ)
+        → with_word line.now place text ≡ parts.front.now ++ text ++ parts.back.now) }
+{
+    let rest = rest_at(line, place)?;
+    let (word, _) = cut(rest);
+    let (front, _) = line.split_at(line.len() - rest.len());
+    let (_, back) = rest.split_at(word.len());
+    Some(Parts { front, word, back })
+}
+
+/// What is left of a line from the word of this place on. None where it has fewer words.
+fn rest_at(line: &[u8], place: usize) -> Option<&[u8]>
+    ensures rest { IfSome result (λ rest. words rest.now ≡ drop place (words line.now)) }
+    ensures none { IfNone result (length (words line.now) ≤ place) }
 {
     let mut rest = line;
     for _ in 0..place {
         rest = cut(rest).1?;
     }
-    let (front, behind) = line.split_at(line.len().saturating_sub(rest.len()));
-    let (word, back) = behind.split_at(cut(rest).0.len().min(behind.len()));
-    Some(Parts { front, word, back })
+    Some(rest)
 }
 
 /// Writes the line with the number of the point that its word is. False where the word is no point, or the line is too
@@ -73,8 +88,10 @@ fn write_number(
     points: PointFormat,
     room: &mut ArrayVec<u8, LINE_OCTETS>,
 ) -> bool
-    ensures { result ≡ true → IsRewritten points PointFormat.Plain
-        (parts.now.front.now ++ parts.now.word.now ++ parts.now.back.now) room.new.items }
+    ensures { written_if result room.new.items
+        ≡ option_and_then (λ point. within LINE_OCTETS
+        (parts.now.front.now ++ point_text PointFormat.Plain point ++ parts.now.back.now))
+        (point_in points parts.now.word.now) }
 {
     match point_of(parts.word, points) {
         Some(point) => write_parts(parts, point, PointFormat::Plain, room),
@@ -84,9 +101,15 @@ fn write_number(
 
 /// The point that a word is in this format.
 fn point_of(word: &[u8], points: PointFormat) -> Option<PointCode>
-    ensures { IfSome result (λ point. IsPointText points word.now point) }
+    ensures { result ≡ point_in points word.now }
 {
-    parse_point(str::from_utf8(word).ok()?, points)
+    let Ok(text) = str::from_utf8(word) else {
+        return None;
+    };
+    let point = parse_point(text, points)?;
+    // No number of more bits is a point, whatever a text says.
+    prove!(point.code() < 1 << 14);
+    Some(point)
 }
 
 /// Writes the line with a point in place of its word. False where the line is too long.
@@ -96,8 +119,8 @@ fn write_parts<const N: usize>(
     points: PointFormat,
     room: &mut ArrayVec<u8, N>,
 ) -> bool
-    ensures { result ≡ true
-        → room.new.items ≡ parts.now.front.now ++ point_text points point ++ parts.now.back.now }
+    ensures { written_if result room.new.items
+        ≡ within N (parts.now.front.now ++ point_text points point ++ parts.now.back.now) }
 {
     room.clear();
     room.try_extend_from_slice(parts.front).is_ok()
@@ -108,7 +131,9 @@ fn write_parts<const N: usize>(
 }
 
 /// The place of the point among the words of a line that is shown, where it has one.
-fn place_of_point(line: &[u8]) -> Option<usize> {
+fn place_of_point(line: &[u8]) -> Option<usize>
+    ensures { result ≡ shown_place (words line.now) }
+{
     let (word, _) = cut(line);
     if word == b"route".as_slice() {
         Some(ROUTE_POINT)
@@ -123,7 +148,7 @@ fn place_of_point(line: &[u8]) -> Option<usize> {
 
 /// A line that is shown, without its line feed, with its point in three parts. What is changed is written to `room`.
 pub fn line_in_parts<'a>(line: &'a [u8], room: &'a mut ArrayVec<u8, POINT_LINE_OCTETS>) -> &'a [u8]
-    ensures { IsRewritten PointFormat.Plain PointFormat.ThreeEightThree line.now result.now }
+    ensures { result.now ≡ in_parts line.now }
 {
     let Some(place) = place_of_point(line) else {
         return line;
