@@ -37,7 +37,7 @@ earlier : (format : PointFormat) (text : List ℕ) (n : ℕ) (r : Option ℕ) �
 earlier format text n None not h = tt
 earlier format text n (Some p) not h =
     let other : p ≡ n → ⊥ = λ e. let yes = says format text n (subst (λ (k : ℕ). IsPointText format text k) e (h.1)) in cc in
-    (below-unless p n (h.0) other , h.1)
+    (below-unless p n (h.0) other, h.1)
 
 one-more : (format : PointFormat) (text : List ℕ) (n : ℕ) (r : Option ℕ) (b : Bool) → says_point format text n ≡ b → IfSome r (λ p. (p < suc n) × IsPointText format text p)
     → ((p : ℕ) → p < suc n → IsPointText format text p → r ≡ Some p) → (IfSome r (λ p. (p < n) × IsPointText format text p) → r ≡ point_below format n text)
@@ -90,4 +90,4 @@ none-found format text word r same none found =
 pub some-found : (format : PointFormat) (text word : List ℕ) (r : Option ℕ) (point : ℕ) → text ≡ word → r ≡ Some point → point < 16384 → IsPointText format text point
     → ((p : ℕ) → p < 16384 → IsPointText format text p → r ≡ Some p) → Some point ≡ point_in format word
 some-found format text word r point same some less is found =
-    subst (λ (t : List ℕ). Some point ≡ point_in format t) same (point-is format text (Some point) (less , is) (λ p less is. sym some ∙ found p less is))
+    subst (λ (t : List ℕ). Some point ≡ point_in format t) same (point-is format text (Some point) (less, is) (λ p less is. sym some ∙ found p less is))

@@ -55,7 +55,7 @@ rewritten from to room line None = line
 rewritten from to room line (Some place) = unwrap_or (new_line from to room line place) line
 
 -- the place of the point among the words of a line that is shown, from 0, by its first word: `route POINT`,
--- `title T P N DIGITS POINT`, `lost CAUSE from POINT`, `unsent CAUSE to POINT`
+-- `title T P N DIGITS POINT`, `lost NUMBER NAME POINT`, `unsent NUMBER NAME POINT`
 abbrev pub place_behind : List ℕ → Option ℕ
 place_behind first =
     if bytes_eq first (codes "route") then Some 1

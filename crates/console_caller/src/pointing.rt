@@ -27,7 +27,7 @@ const ROUTE_POINT: usize = 1;
 /// Its place in what is shown of a translation row, `title T P N DIGITS POINT ..`.
 const TITLE_POINT: usize = 5;
 
-/// Its place in the notices of messages, `lost CAUSE from POINT ..` and `unsent CAUSE to POINT`.
+/// Its place in the notices of messages, `lost NUMBER NAME POINT ..` and `unsent NUMBER NAME POINT`.
 const NOTICE_POINT: usize = 3;
 
 /// A line of a caller with its point as a number, as lines of a script have it: the point of `title add` is read in

@@ -11,6 +11,7 @@ mod lines;
 mod long_lines;
 mod lost;
 mod pair;
+mod points_in_parts;
 mod program;
 mod sentences;
 mod statuses;
