@@ -1,6 +1,7 @@
 -- Lines whose point is written in another format.
-use Rattle.std.specs.Prelude.{ℕ, zero, suc, ◌^◌, ◌||◌, Bool, true, false, List, [], ◌∷◌, ◌++◌, length, nat_le, nat_eq}
+use Rattle.std.specs.Prelude.{ℕ, zero, suc, ◌-◌, ◌^◌, ◌==◌, ◌||◌, Bool, true, false, List, [], ◌∷◌, ◌++◌, length, nat_le, nat_eq}
 use Rattle.std.specs.Prelude.{if◌then◌else◌, codes, bytes_eq, decimal, Option, None, Some, slice_set}
+use Rattle.std.specs.Prelude.{slice_index_or, take}
 use Rattle.std.specs.List.{slice_get, starts_with}
 use Rattle.std.specs.Option.{option_and_then, unwrap_or}
 use Rattle.console.specs.Words.{words}
@@ -84,3 +85,16 @@ in_numbers ThreeEightThree line = rewritten ThreeEightThree Plain LINE_OCTETS li
 abbrev pub written_if : Bool → List ℕ → Option (List ℕ)
 written_if true text = Some text
 written_if false text = None
+
+-- the line that a line feed (10) ends
+abbrev pub ended_line : List ℕ → Option (List ℕ)
+ended_line octets =
+    if slice_index_or octets (length octets - 1) 0 == 10 then Some (take (length octets - 1) octets) else None
+
+abbrev pub shown_line : List ℕ → Option (List ℕ) → List ℕ
+shown_line octets None = octets
+shown_line octets (Some line) = in_parts line ++ 10 ∷ []
+
+-- octets as they are shown: of a line that a line feed ends, the point in three parts
+abbrev pub shown : List ℕ → List ℕ
+shown octets = shown_line octets (ended_line octets)

@@ -1,12 +1,14 @@
 //! Point codes in three parts, in the lines of callers and in the texts that they are answered.
 
-ghost use Rattle.std.specs.Prelude.{◌≡◌, ◌≤◌, ◌++◌, ℕ, List, IfSome, None, drop, length};
+ghost use Rattle.std.specs.Prelude.{◌≡◌, ◌≤◌, ◌++◌, ℕ, List, IfSome, None, drop, length, OnOk, OnErr};
 ghost use Rattle.std.specs.List.{slice_get};
 ghost use Rattle.std.specs.Option.{IfNone, option_and_then, option_map};
 ghost use Rattle.console.specs.Words.{words};
 ghost use Rattle.trace.specs.Points.{point_text};
 ghost use Rattle.console_caller.specs.Rewriting.{in_numbers, in_parts, point_in, shown_place};
-ghost use Rattle.console_caller.specs.Rewriting.{with_word, within, written_if};
+ghost use Rattle.std.specs.Io.KnownBytes.{Appends};
+ghost use Rattle.stp_node.specs.Streams.{AppendsFirst};
+ghost use Rattle.console_caller.specs.Rewriting.{ended_line, shown, with_word, within, written_if};
 
 use crate::caller::LINE_OCTETS;
 use arrayvec::ArrayVec;
@@ -191,11 +193,25 @@ impl<W: Sink> Sink for PointSink<'_, W> {
 }
 
 /// Writes octets, and shows the point in them in three parts where they are a line.
-fn write_shown<W: Sink>(octets: &[u8], sink: &mut W) -> Result<(), WriteFailed> {
-    let [line @ .., b'\n'] = octets else {
+fn write_shown<W: Sink>(octets: &[u8], sink: &mut W) -> Result<(), WriteFailed>
+    ensures all { OnOk result (Appends (W.output sink.old).written (W.output sink.new).written (shown octets.now)) }
+    ensures first { OnErr result
+        (AppendsFirst (W.output sink.old).written (W.output sink.new).written (shown octets.now)) }
+{
+    let Some(line) = ended_line(octets) else {
         return sink.write(octets);
     };
     let mut room = ArrayVec::new();
     sink.write(line_in_parts(line, &mut room))?;
     sink.write(b"\n")
+}
+
+/// A line without the line feed that ends it. None where the octets end in none.
+fn ended_line(octets: &[u8]) -> Option<&[u8]>
+    ensures { option_map (λ line. line.now) result ≡ ended_line octets.now }
+{
+    match octets {
+        [line @ .., b'\n'] => Some(line),
+        _ => None,
+    }
 }
