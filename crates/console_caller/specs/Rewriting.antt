@@ -1,7 +1,7 @@
 -- Lines whose point is written in another format.
-use Rattle.std.specs.Prelude.{ℕ, zero, suc, ◌-◌, ◌^◌, ◌==◌, ◌||◌, Bool, true, false, List, [], ◌∷◌, ◌++◌, length, nat_le, nat_eq}
-use Rattle.std.specs.Prelude.{if◌then◌else◌, codes, bytes_eq, decimal, Option, None, Some, slice_set}
-use Rattle.std.specs.Prelude.{slice_index_or, take}
+use Rattle.std.specs.Prelude.{ℕ, zero, suc, ◌-◌, ◌^◌, ◌==◌, ◌||◌, Bool, true, false, List, [], ◌∷◌, ◌++◌}
+use Rattle.std.specs.Prelude.{length, nat_le, nat_eq, if◌then◌else◌, codes, bytes_eq, decimal, Option, None, Some}
+use Rattle.std.specs.Prelude.{slice_set, slice_index_or, take}
 use Rattle.std.specs.List.{slice_get, starts_with}
 use Rattle.std.specs.Option.{option_and_then, unwrap_or}
 use Rattle.console.specs.Words.{words}

@@ -92,7 +92,8 @@ pub(crate) fn check_capture(consoles: &mut Consoles<'_>) -> io::Result<()> {
     let are_frames = contents.are_frames;
     let agree = agree(&contents, consoles.pair.near());
     println!(consoles.rt;
-        "the capture: each packet is a whole frame: {are_frames}; as many and as long as the counters say, on each link: {agree}"
+        "the capture: each packet is a whole frame: {are_frames}; as many and as long as the counters say, \
+         on each link: {agree}"
     )
 }
 
