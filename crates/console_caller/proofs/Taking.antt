@@ -5,9 +5,9 @@ use Rattle.std.proofs.lemmas.Bool.{cases_lt}
 use Rattle.std.proofs.lemmas.List.{length-take, length-take-le, length-append, take-take, take_all, take_at, get_or-take, get_or_append_left}
 use Rattle.exchange.specs.Stands.{Kept}
 use Rattle.console_caller.specs.Callers.{CallerState, EndsNoLine, IsOneLine, without_return}
-use Rattle.console_caller.specs.Lines.{heard}
-use Rattle.console_caller.specs.WholeLines.{DoesHeard}
+use Rattle.console_caller.specs.WholeLines.{DoesLine}
 use Rattle.link_counters.specs.declared.row.LinkCounters.{LinkCounters}
+use Rattle.trace.specs.declared.point.PointFormat.{PointFormat}
 use Rattle.console_caller.specs.declared.caller.Ending.{Ending}
 use Rattle.console_caller.specs.declared.caller.TheConstants.{LINE_OCTETS}
 
@@ -71,17 +71,18 @@ module _ (octets front behind : List ℕ) (k : ℕ) (parts : octets ≡ front ++
       ]
 
   -- the line that ended is done
-  pub done-at : (rows was : List LinkCounters) → rows ≡ was → (ending : Ending) (s t after : Kept) (old now new : CallerState) → EndsNoLine front → EndsNoLine (take k octets) → k < length octets → slice_index_or octets k 0 ≡ 10
-      → now ≡ record old { line = old.line ++ take k octets } → t ≡ s → DoesHeard (heard (without_return now.line)) rows ending t after (record now { line = [] }) new
-      → (k + 1 ≡ length front + 1) × DoesHeard (heard (without_return (old.line ++ front))) was ending s after (record old { line = [] }) new
-  done-at rows was kept ending s t after old now new front_ends none within ends same same_state does =
+  pub done-at : (p points : PointFormat) → p ≡ points → (rows was : List LinkCounters) → rows ≡ was → (ending : Ending) (s t after : Kept) (old now new : CallerState) → EndsNoLine front → EndsNoLine (take k octets) → k < length octets → slice_index_or octets k 0 ≡ 10
+      → now ≡ record old { line = old.line ++ take k octets } → t ≡ s → DoesLine p (without_return now.line) rows ending t after (record now { line = [] }) new
+      → (k + 1 ≡ length front + 1) × DoesLine points (without_return (old.line ++ front)) was ending s after (record old { line = [] }) new
+  done-at p points read rows was kept ending s t after old now new front_ends none within ends same same_state does =
       let at : k ≡ length front = omega (arith, within-front (omega arith) none, front-within octets front (10 ∷ behind) k parts front_ends ends) in
       let text : take k octets ≡ front = ap (take k) parts ∙ take_at front (10 ∷ behind) k (sym at) in
       let is : now ≡ record old { line = old.line ++ front } = same ∙ (λ i. record old { line = old.line ++ text i }) in (
         ap (λ (n : ℕ). n + 1) at,
-        subst (λ (c : CallerState). DoesHeard (heard (without_return c.line)) was ending s after (record c { line = [] }) new) is
-            (subst (λ (u : Kept). DoesHeard (heard (without_return now.line)) was ending u after (record now { line = [] }) new) same_state
-            (subst (λ (r : List LinkCounters). DoesHeard (heard (without_return now.line)) r ending t after (record now { line = [] }) new) kept does)),
+        subst (λ (c : CallerState). DoesLine points (without_return c.line) was ending s after (record c { line = [] }) new) is
+            (subst (λ (u : Kept). DoesLine points (without_return now.line) was ending u after (record now { line = [] }) new) same_state
+            (subst (λ (r : List LinkCounters). DoesLine points (without_return now.line) r ending t after (record now { line = [] }) new) kept
+            (subst (λ (q : PointFormat). DoesLine q (without_return now.line) rows ending t after (record now { line = [] }) new) read does))),
       )
 
   -- a line that has room ends before it is too long

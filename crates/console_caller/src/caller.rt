@@ -1,13 +1,14 @@
 //! One caller.
 
-ghost use Rattle.std.specs.Prelude.{◌≡◌, ◌≢◌, ℕ, ◌+◌, ◌<◌, ◌≤◌, true, false, List, [], ◌∷◌, ◌++◌};
+ghost use Rattle.std.specs.Prelude.{◌≡◌, ◌≢◌, ℕ, ◌+◌, ◌<◌, ◌≤◌, Bool, true, false, List, [], ◌∷◌, ◌++◌};
 ghost use Rattle.std.specs.Prelude.{length, take, drop};
+ghost use Rattle.exchange.specs.KeptQueues.{kept};
 ghost use Rattle.stp_node.specs.Asking.{asked_line};
-ghost use Rattle.console_caller.specs.Lines.{heard};
+ghost use Rattle.stp_node.specs.Doing.{done};
 ghost use Rattle.console_caller.specs.Answers.{IsAnswered};
 ghost use Rattle.console_caller.specs.Callers.{just_came, sees_of, told_of, OnlyOutboxChanges};
 ghost use Rattle.console_caller.specs.Callers.{line_feed, without_return, EndsNoLine, IsOneLine};
-ghost use Rattle.console_caller.specs.WholeLines.{DoesHeard, IsAnsweredBy, ending_of, output_of};
+ghost use Rattle.console_caller.specs.WholeLines.{DoesLine, IsAnsweredBy, ending_of, output_of};
 ghost use Rattle.console_caller.specs.declared.outbox.TheConstants.{OUTBOX_OCTETS};
 
 use crate::answering::do_script_line;
@@ -134,9 +135,10 @@ impl Caller {
         ensures counters { desk.new.counters.now ≡ desk.old.counters.now }
         // A line that comes to its end, and isn't too long, is done.
         ensures done { (front behind : List ℕ) → octets.now ≡ front ++ line_feed ∷ behind → EndsNoLine front
-            → length self.old.line + length front ≤ LINE_OCTETS → desk.old.points ≡ PointFormat.Plain
-            → (result.0 ≡ length front + 1) × DoesHeard (heard (without_return (self.old.line ++ front)))
-            desk.old.counters.now result.1 desk.old.exchange.now desk.new.exchange.now
+            → length self.old.line + length front ≤ LINE_OCTETS
+            → (result.0 ≡ length front + 1)
+            × DoesLine desk.old.points (without_return (self.old.line ++ front)) desk.old.counters.now result.1
+            desk.old.exchange.now desk.new.exchange.now
             (record self.old { line = [] }) self.new }
     {
         for (k, octet) in octets.iter().enumerate() {
@@ -153,7 +155,7 @@ impl Caller {
     fn end_line(&mut self, desk: &mut Desk<'_>) -> Ending
         ensures points { desk.new.points ≡ desk.old.points }
         ensures counters { desk.new.counters.now ≡ desk.old.counters.now }
-        ensures done { desk.old.points ≡ PointFormat.Plain → DoesHeard (heard (without_return self.old.line))
+        ensures done { DoesLine desk.old.points (without_return self.old.line)
             desk.old.counters.now result desk.old.exchange.now desk.new.exchange.now
             (record self.old { line = [] }) self.new }
     {
@@ -168,7 +170,7 @@ impl Caller {
     fn do_line(&mut self, line: &[u8], desk: &mut Desk<'_>) -> Result<Ending, WriteFailed>
         ensures points { desk.new.points ≡ desk.old.points }
         ensures counters { desk.new.counters.now ≡ desk.old.counters.now }
-        ensures done { desk.old.points ≡ PointFormat.Plain → DoesHeard (heard line.now) desk.old.counters.now
+        ensures done { DoesLine desk.old.points line.now desk.old.counters.now
             (ending_of result) desk.old.exchange.now desk.new.exchange.now self.old self.new }
     {
         let mut room = ArrayVec::new();
@@ -199,6 +201,8 @@ impl Caller {
         ensures same { OnlyOutboxChanges self.old self.new }
         ensures answer { desk.old.points ≡ PointFormat.Plain → IsAnswered (asked_line line.entry) desk.old.exchange.now
             result desk.new.exchange.now (output_of self.old.outbox) (output_of self.new.outbox) }
+        ensures done { (lacks_memory : Bool)
+            × (desk.new.exchange.now ≡ done kept lacks_memory (asked_line line.entry) desk.old.exchange.now) }
     {
         match desk.points {
             PointFormat::Plain => do_script_line(desk.exchange, line, &mut self.outbox),

@@ -1,13 +1,13 @@
 //! Point codes in three parts, in the lines of callers and in the texts that they are answered.
 
 ghost use Rattle.std.specs.Prelude.{◌≡◌, ◌≤◌, ◌++◌, ℕ, List, IfSome, None, drop, length, OnOk, OnErr};
+ghost use Rattle.std.specs.Io.KnownBytes.{Appends};
 ghost use Rattle.std.specs.List.{slice_get};
 ghost use Rattle.std.specs.Option.{IfNone, option_and_then, option_map};
 ghost use Rattle.console.specs.Words.{words};
+ghost use Rattle.stp_node.specs.Streams.{AppendsFirst};
 ghost use Rattle.trace.specs.Points.{point_text};
 ghost use Rattle.console_caller.specs.Rewriting.{in_numbers, in_parts, point_in, shown_place};
-ghost use Rattle.std.specs.Io.KnownBytes.{Appends};
-ghost use Rattle.stp_node.specs.Streams.{AppendsFirst};
 ghost use Rattle.console_caller.specs.Rewriting.{ended_line, shown, with_word, within, written_if};
 
 use crate::caller::LINE_OCTETS;

@@ -25,20 +25,20 @@ loop-k-preserved c = record {
 }
 
 pub returns-in-TooLong-clause-done : goal.returns-in-TooLong-clause-done
-returns-in-TooLong-clause-done c = λ front behind parts ends room points.
+returns-in-TooLong-clause-done c = λ front behind parts ends room.
     let now = c.self.view_is ∙ c.loop-k.invariant.line in
     absurd (has-room c.args.octets.now front behind c.loop-k.k parts c.args.self.now.line c.loop-k.invariant.none c.loop-k-test.true c.in-TooLong.ensures.line.0
     (subst (λ (n : ℕ). 8300 ≤ n) (ap (λ (s : CallerState). length s.line) now) c.in-TooLong.ensures.line.1) room)
 
 pub returns-in-Whole-clause-done : goal.returns-in-Whole-clause-done
-returns-in-Whole-clause-done c = λ front behind parts ends room points.
+returns-in-Whole-clause-done c = λ front behind parts ends room.
     let now = c.self.view_is ∙ c.loop-k.invariant.line in
-    done-at c.args.octets.now front behind c.loop-k.k parts c.loop-k.desk.counters.now c.args.desk.now.counters.now c.loop-k.invariant.counters c.end_line.result c.args.desk.now.exchange.now c.loop-k.desk.exchange.now c.end_line.new.desk.exchange.now c.args.self.now _
+    done-at c.args.octets.now front behind c.loop-k.k parts c.loop-k.desk.points c.args.desk.now.points c.loop-k.invariant.points c.loop-k.desk.counters.now c.args.desk.now.counters.now c.loop-k.invariant.counters c.end_line.result c.args.desk.now.exchange.now c.loop-k.desk.exchange.now c.end_line.new.desk.exchange.now c.args.self.now _
     c.end_line.new.self ends c.loop-k.invariant.none c.loop-k-test.true c.in-Whole.ensures.line.0
-    ((λ i. record (the_view c.self.inside) { line = (c.in-Whole.ensures.line.1 i).octets }) ∙ now) c.loop-k.invariant.exchange (c.end_line.ensures.done (c.loop-k.invariant.points ∙ points))
+    ((λ i. record (the_view c.self.inside) { line = (c.in-Whole.ensures.line.1 i).octets }) ∙ now) c.loop-k.invariant.exchange c.end_line.ensures.done
 
 pub returns-clause-done : goal.returns-clause-done
-returns-clause-done c = λ front behind parts ends room points.
+returns-clause-done c = λ front behind parts ends room.
     absurd (ends-somewhere c.args.octets.now front behind c.loop-k.k parts c.loop-k.invariant.none c.loop-k-test.false)
 
 pub returns-in-Whole-clause-too_long : goal.returns-in-Whole-clause-too_long
