@@ -1,4 +1,4 @@
-//! The program `stp` again, on other words: a server that opens its sockets, and ends since its capture can't be made.
+//! The program `stp` again, on other words: a server that ends since its capture can't be made.
 #![tactic(auto)]
 
 use std::process::ExitCode;
