@@ -7,7 +7,7 @@ use crate::failure::Stage;
 use crate::making::Making;
 use crate::titles::Table;
 use crate::unitdata::bare_octets;
-use stp_types::Limits;
+use settings::Limits;
 
 /// Octets of a routing label, which each message has (Q.704 §2.2).
 pub(crate) const LABEL_OCTETS: usize = 4;

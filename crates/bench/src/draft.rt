@@ -3,10 +3,10 @@
 ghost use Rattle.std.specs.Prelude.{◌≤◌};
 
 use crate::titles::{Table, title_drafts};
-use std::alloc::{AllocError, Global};
-use stp_types::{
+use settings::{
     DestinationDraft, Draft, Limits, LinkDraft, LinkId, PointCode, SetDraft, TimersDraft,
 };
+use std::alloc::{AllocError, Global};
 
 /// The node's own point.
 pub(crate) const OWN: u16 = 1;

@@ -2,8 +2,9 @@
 
 use crate::incoming::Incoming;
 use crate::peer::Peer;
-use link_number::{Number24, next};
-use stp_types::{Limits, LinkId};
+use settings::{Limits, LinkId};
+use signalling_types::Number24;
+use signalling_types::number::next;
 
 /// The peer's end of a link, in an epoch of that link.
 #[derive(Clone, Copy)]

@@ -3,9 +3,9 @@
 use crate::draft::{INTERNATIONAL, adjacent, own};
 use crate::incoming::Incoming;
 use crate::peer::Peer;
-use link_number::Number24;
-use mgmt_codec::{MANAGEMENT_OCTETS, Management};
-use stp_types::Sls;
+use mtp3_codec::{MANAGEMENT_OCTETS, Management};
+use settings::Sls;
+use signalling_types::Number24;
 
 /// How far the link's way is followed.
 #[derive(Clone, Copy)]

@@ -6,9 +6,9 @@ ghost use Rattle.m2pa_codec.specs.Frames.{sif_of};
 ghost use Rattle.m2pa_codec.specs.Values.{value_of};
 
 use exchange::BUFFER_OCTETS;
-use link_number::Number24;
 use m2pa_codec::{Frame, encode};
-use stp_types::Limits;
+use settings::Limits;
+use signalling_types::Number24;
 
 /// Where the backward sequence number stands (RFC 4165 §2.2).
 const BSN_AT: usize = 9;

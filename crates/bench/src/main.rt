@@ -26,10 +26,10 @@ mod unitdata;
 use arguments::{Arguments, Kind};
 use making::make;
 use peer::Peer;
+use settings::Limits;
 use std::alloc::Global;
 use std::process::ExitCode;
 use std::{env, io};
-use stp_types::Limits;
 use total::Total;
 use traffic::carry;
 

@@ -5,8 +5,8 @@ ghost use Rattle.std.specs.Prelude.{◌≤◌};
 use crate::draft::{Shape, draft_with};
 use crate::total::Total;
 use exchange::Exchange;
+use settings::{Limits, Settings};
 use std::alloc::Global;
-use stp_types::{Limits, Settings};
 
 /// How far a node is made.
 #[derive(Clone, Copy)]

@@ -8,8 +8,8 @@ use crate::failure::answer_about;
 use crate::incoming::Incoming;
 use crate::peer::Peer;
 use crate::service::{Ends, first_ends};
-use mgmt_codec::{MANAGEMENT_OCTETS, Management};
-use stp_types::{Limits, LinkId, Sls};
+use mtp3_codec::{MANAGEMENT_OCTETS, Management};
+use settings::{Limits, LinkId, Sls};
 
 /// The last link of the first set fails and returns so many times, and the others of its set carry its flows meanwhile.
 /// Each order and each declaration is answered. Each time a message of the link is held until the last answer came. It

@@ -8,10 +8,11 @@ use crate::incoming::Incoming;
 use crate::making::booted;
 use crate::total::Total;
 use exchange::{BUFFER_OCTETS, Event, Exchange};
-use link_number::{Number24, next};
 use m2pa_codec::{Frame, LinkStatus, encode};
+use settings::{Limits, LinkId, MsuRef, Sls};
+use signalling_types::Number24;
+use signalling_types::number::next;
 use std::alloc::Global;
-use stp_types::{Limits, LinkId, MsuRef, Sls};
 
 /// What a link tells on its way into service: Alignment, Proving Normal, Ready.
 const STATUSES: usize = 3;

@@ -7,8 +7,8 @@ use crate::end::End;
 use crate::incoming::Incoming;
 use crate::peer::Peer;
 use crate::service::{Ends, settle_each};
-use mgmt_codec::{MANAGEMENT_OCTETS, Management};
-use stp_types::{Limits, LinkId, PointCode};
+use mtp3_codec::{MANAGEMENT_OCTETS, Management};
+use settings::{Limits, LinkId, PointCode};
 
 /// Ticks of the clock. With one link the first ten meet T8 of each destination of which its point was told; later ones,
 /// and all with more links, meet no timer that runs.

@@ -6,7 +6,7 @@ use crate::arguments::{Arguments, Kind};
 use crate::end::End;
 use crate::outage::{answer_each, open_set};
 use crate::peer::Peer;
-use stp_types::{Limits, LinkId};
+use settings::{Limits, LinkId};
 
 /// The peers' ends of the links, by their numbers.
 pub(crate) type Ends = [End; Limits::LINKS];

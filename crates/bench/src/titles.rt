@@ -2,8 +2,8 @@
 
 ghost use Rattle.std.specs.Prelude.{◌≤◌};
 
+use settings::{Limits, TitleDraft};
 use std::alloc::{AllocError, Global};
-use stp_types::{Limits, TitleDraft};
 
 /// Rows of a table that is short.
 const FEW_ROWS: usize = 2;

@@ -11,8 +11,8 @@ use crate::peer::Peer;
 use crate::routes::{change_status, enter, prohibit_each, test_routes, tick};
 use crate::service::{Ends, bring_in};
 use crate::unitdata::{ASTRAY, LED, Title, unitdata};
-use routing_label::Label;
-use stp_types::{Limits, MsuRef, PointCode, Sls};
+use mtp3_codec::Label;
+use settings::{Limits, MsuRef, PointCode, Sls};
 
 /// After how many messages an empty frame confirms them.
 const CONFIRMED_AT_ONCE: u32 = 64;

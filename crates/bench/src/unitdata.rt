@@ -7,9 +7,9 @@ ghost use Rattle.sccp_codec.specs.Values.{address_of};
 use crate::draft::{INTERNATIONAL, adjacent, own};
 use crate::incoming::Incoming;
 use crate::titles::{NATURE, PLAN, SUBSYSTEM, TRANSLATION, Table};
-use routing_label::Label;
+use mtp3_codec::Label;
 use sccp_codec::{Address, Field, Parts, Routing, TitleIndicator, Udt};
-use stp_types::{Limits, Sls};
+use settings::{Limits, Sls};
 
 /// The service indicator of SCCP (Q.704 §14.2.1).
 const SCCP: u8 = 3;

@@ -1,7 +1,7 @@
 -- One more flow, and one more destination.
 use Rattle.std.proofs.Common.{◌≡◌, ℕ, zero, suc, ◌+◌, replicate, Bool, true, false, ◌||◌, List, [], ◌∷◌, ◌++◌, refl, ap, sym, ◌∙◌, add-one, nat_eq, slice_index_or}
 use Rattle.std.specs.Prelude.{Option, Some, None}
-use Rattle.route_table.specs.Facts.{Facts, with_link}
+use Rattle.routes.specs.Facts.{Facts, with_link}
 use Rattle.node_links.specs.Network.{Network, facts_of}
 use Rattle.flow_hold.specs.declared.procedure.Procedure.{Procedure}
 use Rattle.signalling_types.specs.declared.limits.TheConstants.Limits.{SELECTIONS}

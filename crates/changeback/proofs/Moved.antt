@@ -3,8 +3,8 @@ use Rattle.std.proofs.Common.{◌≡◌, ◌≢◌, ℕ, zero, suc, ◌<◌, ◌
 use Rattle.std.specs.Prelude.{if◌then◌else◌, Option, Some, None, Contains}
 use Rattle.std.proofs.lemmas.Bool.Decides.{nat_tests}
 use Rattle.std.proofs.lemmas.List.Elements.{Contains-get_or, Contains-append_left, Contains-append_right, Contains-append_cases}
-use Rattle.route_table.specs.Facts.{Facts}
-use Rattle.route_table.specs.Chosen.{chosen_link}
+use Rattle.routes.specs.Facts.{Facts}
+use Rattle.routes.specs.Chosen.{chosen_link}
 use Rattle.node_links.specs.FormerLink.{former_link}
 use Rattle.signalling_types.specs.declared.limits.TheConstants.Limits.{SELECTIONS}
 use Rattle.changeback.specs.Return.{FlowChange, former_link_of, change_from, changes_of, changes, returned}

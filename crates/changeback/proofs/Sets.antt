@@ -6,9 +6,9 @@ use Rattle.std.proofs.Math.Logic.{⊎_elim, inl, inr}
 use Rattle.std.proofs.lemmas.Bool.{cases_eq, ltb-true}
 use Rattle.std.proofs.lemmas.List.{get_or-set_other}
 use Rattle.signalling_types.specs.declared.limits.TheConstants.Limits.{SETS, SELECTIONS}
-use Rattle.route_table.specs.Facts.{Facts, with_link}
-use Rattle.route_table.specs.Chosen.{chosen_link, lone_set}
-use Rattle.route_table.proofs.Lone.{lone_alike}
+use Rattle.routes.specs.Facts.{Facts, with_link}
+use Rattle.routes.specs.Chosen.{chosen_link, lone_set}
+use Rattle.routes.proofs.Lone.{lone_alike}
 use Rattle.node_links.specs.Network.{Network, facts_of}
 use Rattle.node_links.specs.FormerLink.{former_link}
 use Rattle.changeback.specs.Return.{change_from, former_link_of, changes_of, comes_from, gives_up}

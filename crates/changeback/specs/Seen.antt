@@ -3,8 +3,8 @@
 use Rattle.std.specs.Prelude.{◌≡◌, ℕ, ◌+◌, ◌*◌, ◌&&◌, Bool, true, false, List, Option, Some, None, length}
 use Rattle.std.specs.Prelude.{replicate, nat_lt, if◌then◌else◌, slice_index_or, slice_set}
 use Rattle.signalling_types.specs.declared.limits.TheConstants.Limits.{SETS, SELECTIONS}
-use Rattle.route_table.specs.Facts.{with_link}
-use Rattle.route_table.specs.Chosen.{lone_set}
+use Rattle.routes.specs.Facts.{with_link}
+use Rattle.routes.specs.Chosen.{lone_set}
 use Rattle.node_links.specs.Network.{Network, facts_of}
 use Rattle.changeback.specs.Return.{changes_of, gives_up}
 use Rattle.changeback.specs.declared.set_pairs.SetPairs.TheInside.{Inside}

@@ -1,7 +1,7 @@
 //! Controlled rerouting: the flows that a status of a route moves from one link to another.
 
 ghost use Rattle.std.specs.Prelude.{◌≡◌, ℕ, ◌<◌, [], ◌∷◌, None, length, nat_lt, slice_index_or, if◌then◌else◌};
-ghost use Rattle.route_table.specs.Chosen.{chosen_link};
+ghost use Rattle.routes.specs.Chosen.{chosen_link};
 ghost use Rattle.node_links.specs.Network.{facts_of};
 ghost use Rattle.node_links.specs.Statuses.{with_route_status};
 ghost use Rattle.signalling_types.specs.declared.limits.TheConstants.Limits.{SELECTIONS};
@@ -9,7 +9,7 @@ ghost use Rattle.changeback.specs.Rerouting.{is_other_link, rerouted, moved_from
 
 use flow_hold::{Holds, Procedure};
 use node_links::NodeLinks;
-use route_table::RouteStatus;
+use routes::RouteStatus;
 use signalling_types::{Limits, LinkId, SetId, Sls};
 
 /// Gives the route to a destination over a set a status, and holds each flow to that destination that goes from one

@@ -1,7 +1,7 @@
 //! The flows that a link takes over when it enters service.
 
 ghost use Rattle.std.specs.Prelude.{◌≡◌, ℕ, ◌<◌, ◌≤◌, ◌||◌, false, true, length, slice_index_or, IfSome, if◌then◌else◌};
-ghost use Rattle.route_table.specs.Facts.{with_link};
+ghost use Rattle.routes.specs.Facts.{with_link};
 ghost use Rattle.signalling_types.specs.declared.limits.TheConstants.Limits.{SELECTIONS};
 ghost use Rattle.flow_hold.specs.Holds.{HoldSet};
 ghost use Rattle.node_links.specs.LinkState.{is_in_service};

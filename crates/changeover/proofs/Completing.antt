@@ -3,8 +3,8 @@ use Rattle.std.proofs.Common.{◌≡◌, ℕ, ◌+◌, ◌-◌, ◌≤◌, not, 
 use Rattle.std.proofs.lemmas.List.{drop-drop, take-append-drop}
 use Rattle.std.proofs.lemmas.List.Elements.{filter-append}
 use Rattle.signalling_types.specs.Message.{Message, is_management}
-use Rattle.link_sequence.specs.Queue.{Queue, IsQueue}
-use Rattle.link_sequence.proofs.Naming.{finds_named}
+use Rattle.link.specs.Queue.{Queue, IsQueue}
+use Rattle.link.proofs.Naming.{finds_named}
 use Rattle.changeover.specs.Completion.{users_of, accepted_count, behind, in_doubt}
 use Rattle.changeover.specs.Laws.{count_in_the_end, lost_then_moved, each_once, none_lost}
 

@@ -2,10 +2,10 @@
 use Rattle.std.proofs.Common.{◌≡◌, ◌≢◌, ℕ, Bool, ◌<◌, List, ◌++◌, length, drop, refl, ap, ◌∙◌, Option, Some, None}
 use Rattle.signalling_types.specs.Message.{Message}
 use Rattle.cell_pool.specs.Lanes.{lane_at}
-use Rattle.link_sequence.specs.Queue.{Queue}
-use Rattle.link_sequence.specs.Counts.{Counts, counts_of}
-use Rattle.link_sequence.specs.Keeps.{Keeps}
-use Rattle.link_sequence.proofs.Keeping.{answers-last_accepted}
+use Rattle.link.specs.Queue.{Queue}
+use Rattle.link.specs.Counts.{Counts, counts_of}
+use Rattle.link.specs.Keeps.{Keeps}
+use Rattle.link.proofs.Keeping.{answers-last_accepted}
 use Rattle.changeover.specs.Completion.{users_of, managements_of, accepted_count, doubted, held_after, queued_anew}
 use Rattle.changeover.specs.Failure.{begins_with, beginning, kept_beginning}
 use Rattle.changeover.specs.Kept.{kept_accepted_count, kept_behind, kept_done, kept_done_with, kept_doubted}

@@ -3,9 +3,9 @@ use Rattle.std.proofs.Common.{◌≡◌, ℕ, ◌+◌, ◌-◌, ◌≤◌, List,
 use Rattle.std.specs.Option.{option_map}
 use Rattle.std.proofs.lemmas.List.{drop-drop}
 use Rattle.signalling_types.specs.Message.{Message}
-use Rattle.link_sequence.specs.Queue.{Queue, IsQueue, unconfirmed}
-use Rattle.link_sequence.specs.Counts.{counts_of}
-use Rattle.link_sequence.proofs.Kept.{kept-newly_confirmed}
+use Rattle.link.specs.Queue.{Queue, IsQueue, unconfirmed}
+use Rattle.link.specs.Counts.{counts_of}
+use Rattle.link.proofs.Kept.{kept-newly_confirmed}
 use Rattle.changeover.specs.Completion.{users_of, managements_of, accepted_count, behind, in_doubt}
 use Rattle.changeover.specs.Kept.{kept_accepted_count, kept_behind, kept_in_doubt, kept_completes_alike}
 use Rattle.changeover.proofs.Completing.{named-from}

@@ -3,7 +3,7 @@
 use Rattle.std.specs.Prelude.{ℕ, ◌-◌, not, List, [], ◌++◌, take, drop, filter, Option, Some, None}
 use Rattle.std.specs.Option.{option_and_then}
 use Rattle.signalling_types.specs.Message.{Message, is_management}
-use Rattle.link_sequence.specs.Queue.{Queue, named_count}
+use Rattle.link.specs.Queue.{Queue, named_count}
 
 -- the user messages of a list, and its management messages
 abbrev pub users_of : List Message → List Message

@@ -1,7 +1,7 @@
 -- A link fails in service: what its changeover begins with (Q.704 §5.2, §5.3).
 use Rattle.std.specs.Prelude.{ℕ, Bool, if◌then◌else◌}
-use Rattle.link_sequence.specs.Queue.{Queue, last_accepted}
-use Rattle.link_sequence.specs.Counts.{Counts, kept_last_accepted}
+use Rattle.link.specs.Queue.{Queue, last_accepted}
+use Rattle.link.specs.Counts.{Counts, kept_last_accepted}
 use Rattle.changeover.specs.declared.beginning.Beginning.{Beginning}
 use Rattle.changeover.specs.declared.beginning.Beginning.TheVariants.{Orders, Waits}
 

@@ -2,9 +2,9 @@
 use Rattle.std.specs.Prelude.{◌≡◌, ℕ, List, [], take, drop, Option, Some, None}
 use Rattle.std.specs.Option.{option_and_then}
 use Rattle.signalling_types.specs.Message.{Message}
-use Rattle.link_sequence.specs.Counts.{Counts, kept_newly_confirmed}
-use Rattle.link_sequence.specs.Keeps.{Keeps}
-use Rattle.link_sequence.specs.Queue.{Queue}
+use Rattle.link.specs.Counts.{Counts, kept_newly_confirmed}
+use Rattle.link.specs.Keeps.{Keeps}
+use Rattle.link.specs.Queue.{Queue}
 use Rattle.changeover.specs.Completion.{users_of, managements_of, moved, queued_anew, lost}
 
 -- how many of the kept messages the peer accepted

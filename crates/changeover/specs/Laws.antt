@@ -1,7 +1,7 @@
 -- What holds of a completion.
 use Rattle.std.specs.Prelude.{◌≡◌, ℕ, ◌-◌, [], ◌++◌, take, drop}
 use Rattle.std.specs.Prelude.{Option, Some, None}
-use Rattle.link_sequence.specs.Queue.{Queue, IsQueue, Names}
+use Rattle.link.specs.Queue.{Queue, IsQueue, Names}
 use Rattle.changeover.specs.Completion.{users_of, accepted_count, moved, lost}
 
 -- how many messages are confirmed in the end

@@ -3,8 +3,8 @@
 ghost use Rattle.std.specs.Prelude.{◌≡◌};
 ghost use Rattle.changeover.specs.Failure.{kept_beginning};
 
-use link_number::Number24;
-use link_sequence::Sequence;
+use link::Sequence;
+use signalling_types::Number24;
 
 /// What a changeover begins with when a link fails in service (Q.704 §5.2, §5.3).
 #[derive(Clone, Copy, PartialEq, Eq)]

@@ -2,8 +2,8 @@
 
 ghost use Rattle.std.specs.Prelude.{◌≡◌, ℕ, ◌<◌, List, length, replicate, IfOk, if◌then◌else◌};
 ghost use Rattle.signalling_types.specs.Message.{Message};
-ghost use Rattle.link_sequence.specs.Queue.{Queue};
-ghost use Rattle.link_sequence.specs.Keeps.{Keeps};
+ghost use Rattle.link.specs.Queue.{Queue};
+ghost use Rattle.link.specs.Keeps.{Keeps};
 ghost use Rattle.changeover.specs.Failure.{beginning, kept_beginning};
 ghost use Rattle.changeover.specs.Standing.{no_changeover, standing_at, with_standing, may_restart, failed};
 ghost use Rattle.changeover.specs.Standing.{begun_by_peer, completed, acknowledged, expired};
@@ -11,7 +11,7 @@ ghost use Rattle.changeover.specs.Standing.{completed_by_acknowledgement};
 
 use crate::beginning::Beginning;
 use crate::standing::Progress;
-use link_sequence::Sequence;
+use link::Sequence;
 use signalling_types::{ChangeoverTimer, LinkId};
 use std::alloc::{AllocError, Global};
 use std::marker::Model;

@@ -3,16 +3,16 @@
 ghost use Rattle.std.specs.Prelude.{◌≡◌, ◌≢◌, ℕ, ◌<◌, List, length};
 ghost use Rattle.signalling_types.specs.Message.{Message};
 ghost use Rattle.cell_pool.specs.Lanes.{lane_at};
-ghost use Rattle.link_sequence.specs.Queue.{Queue};
-ghost use Rattle.link_sequence.specs.Counts.{kept_emptied};
-ghost use Rattle.link_sequence.specs.Keeps.{Keeps};
+ghost use Rattle.link.specs.Queue.{Queue};
+ghost use Rattle.link.specs.Counts.{kept_emptied};
+ghost use Rattle.link.specs.Keeps.{Keeps};
 ghost use Rattle.changeover.specs.Completion.{accepted_count, doubted, held_after, queued_anew};
 ghost use Rattle.changeover.specs.Kept.{kept_accepted_count, kept_done_with, kept_doubted};
 ghost use Rattle.changeover.specs.Lanes.{spliced};
 
 use cell_pool::{Lanes, UserMessages};
-use link_number::Number24;
-use link_sequence::Sequence;
+use link::Sequence;
+use signalling_types::Number24;
 
 /// How many messages of a failed link may be lost, since it isn't known whether the peer accepted them: those that
 /// were sent and aren't confirmed. They stand first in its list. None where the peer's number is reasonable: it names

@@ -4,7 +4,7 @@ use Rattle.std.specs.Prelude.{Option, None, Some}
 use Rattle.std.specs.Option.{option_map, option_and_then}
 use Rattle.settings_rows.specs.Configuration.{Configuration, TitleEntry}
 use Rattle.sccp_codec.specs.declared.title.TitleKey.{TitleKey}
-use Rattle.stp_types.specs.Readings.{link_place}
+use Rattle.settings.specs.Readings.{link_place}
 use Rattle.exchange.specs.declared.event.Order.{Order}
 use Rattle.exchange.specs.declared.event.Order.TheVariants.{Activate, Deactivate, AddTitle, RemoveTitle}
 use Rattle.console.specs.declared.order.OrderText.{OrderText}

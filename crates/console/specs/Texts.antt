@@ -17,7 +17,7 @@ use Rattle.signalling_types.specs.declared.notice.ChangeoverTimer.TheVariants.{T
 use Rattle.signalling_types.specs.declared.notice.FailureReason.{FailureReason}
 use Rattle.signalling_types.specs.declared.notice.FrameFault.{FrameFault}
 use Rattle.signalling_types.specs.declared.notice.LateTimer.TheVariants.{T3, T4}
-use Rattle.route_table.specs.Chosen.{status_name}
+use Rattle.routes.specs.Chosen.{status_name}
 use Rattle.exchange.specs.declared.view.LinkView.{LinkView}
 use Rattle.exchange.specs.declared.view.RouteView.{RouteView}
 use Rattle.exchange_rules.specs.State.{QueueKind, State}

@@ -7,8 +7,8 @@ use Rattle.signalling_types.specs.declared.limits.TheConstants.Limits.{TITLE_DIG
 use Rattle.settings_rows.specs.Configuration.{TitleEntry}
 use Rattle.settings_rows.specs.declared.title_row.TitleRoute.{TitleRoute}
 use Rattle.settings_rows.specs.declared.title_row.TitleRoute.TheVariants.{Title, Ssn}
-use Rattle.settings_check.specs.Checks.{is_digit}
-use Rattle.settings_check.specs.Meaning.{digit_of}
+use Rattle.settings.specs.Checks.{is_digit}
+use Rattle.settings.specs.Meaning.{digit_of}
 use Rattle.sccp_codec.specs.declared.title.TitleKey.{TitleKey}
 use Rattle.console.specs.Numbers.{number_within}
 use Rattle.console.specs.declared.title_words.RowName.{RowName}

@@ -5,7 +5,7 @@ ghost use Rattle.console.specs.Texts.{cause_text};
 
 use arrayvec::ArrayString;
 use itoa::Buffer;
-use stp_types::Cause;
+use settings::Cause;
 
 /// Octets of a line, at most.
 pub const LINE_OCTETS: usize = 128;

@@ -10,7 +10,7 @@ ghost use Rattle.console.specs.Texts.{Shows, link_line, link_text};
 use crate::line::{LINE_OCTETS, push_number};
 use arrayvec::ArrayString;
 use exchange::{Exchange, LinkView};
-use stp_types::{Limits, LinkId};
+use settings::{Limits, LinkId};
 
 /// Writes line `k`, from 0, of the text of the links: `link NAME STATE waiting Q fsn F bsn B`, one line for each link
 /// in the order of the settings. Q counts the messages that aren't confirmed, F and B are the numbers of the last

@@ -3,7 +3,7 @@
 ghost use Rattle.std.specs.Prelude.{◌≡◌, ◌≤◌, length};
 ghost use Rattle.console.specs.Names.{name_in, set_name_in};
 
-use stp_types::{Limits, LinkId, SetId, Settings};
+use settings::{Limits, LinkId, SetId, Settings};
 
 /// The name of a link; nothing if no link has this number.
 pub fn link_name(settings: &Settings, link: LinkId) -> &str

@@ -10,7 +10,7 @@ use crate::line::{LINE_OCTETS, push_cause, push_number};
 use crate::names::link_name;
 use arrayvec::ArrayString;
 use exchange::Exchange;
-use stp_types::{
+use settings::{
     Cause, ChangeoverTimer, FailureReason, FrameFault, LateTimer, Limits, LinkId, Notice,
     PointCode, Settings, Sls,
 };

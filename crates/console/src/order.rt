@@ -9,7 +9,7 @@ use crate::commands::Command;
 use crate::title_words::{read_name, read_row};
 use crate::words::cut;
 use exchange::{Order, TitleDigits, TitleKey};
-use stp_types::{Settings, TitleRow};
+use settings::{Settings, TitleRow};
 
 /// An order as it was written.
 #[derive(Drop)]

@@ -4,8 +4,8 @@ ghost use Rattle.std.specs.Prelude.{◌≡◌, ◌≤◌, ◌<◌, ◌^◌, if�
 ghost use Rattle.std.specs.Option.{option_map};
 ghost use Rattle.std.specs.List.{list_all};
 ghost use Rattle.settings_rows.specs.Titles.{HasTitleRanges};
-ghost use Rattle.settings_check.specs.Checks.{is_digit};
-ghost use Rattle.settings_check.specs.Meaning.{digit_of};
+ghost use Rattle.settings.specs.Checks.{is_digit};
+ghost use Rattle.settings.specs.Meaning.{digit_of};
 ghost use Rattle.console.specs.Words.{words};
 ghost use Rattle.console.specs.TitleWords.{key_written, digits_written, name_written, ssn_written, route_named};
 ghost use Rattle.console.specs.TitleWords.{row_leading, row_written};
@@ -14,7 +14,7 @@ use crate::numbers::read_number;
 use crate::words::cut;
 use arrayvec::ArrayVec;
 use exchange::{TitleDigits, TitleKey};
-use stp_types::{Limits, PointCode, Ssn, TitleRoute, TitleRow};
+use settings::{Limits, PointCode, Ssn, TitleRoute, TitleRow};
 
 /// The largest translation type.
 const LAST_TRANSLATION: u16 = 255;

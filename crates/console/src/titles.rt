@@ -8,7 +8,7 @@ ghost use Rattle.console.specs.Texts.{Shows, title_line, title_text, digit_octet
 use crate::line::{LINE_OCTETS, push_small};
 use arrayvec::ArrayString;
 use exchange::Exchange;
-use stp_types::{Limits, Ssn, TitleRoute, TitleRow};
+use settings::{Limits, Ssn, TitleRoute, TitleRow};
 
 /// Writes line `k`, from 0, of the text of the translation rows: `title T P N DIGITS POINT ROUTE SSN`, one line for
 /// each row, by translation type, plan, nature, then digits, a prefix before the longer ones. ROUTE is `title` or

@@ -1,7 +1,7 @@
 //! A network of two links that are played from a list, and user parts that print what comes.
 
 use crate::node::{Network, Received, UserParts};
-use crate::settings::LINKS;
+use crate::node_settings::LINKS;
 use exchange::{LinkId, Outcome};
 
 /// What the network gives, one at a time.

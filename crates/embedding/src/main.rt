@@ -4,7 +4,7 @@
 
 mod fakes;
 mod node;
-mod settings;
+mod node_settings;
 
 use exchange::{DraftFault, Exchange, LinkId, NoMemory, Settings};
 use fakes::{PlayedNetwork, PrintingUsers};
@@ -52,7 +52,7 @@ fn main(rt: HostRuntime) -> ExitCode {
 
 /// Boots the node, and serves its links.
 fn run<R: Print>(rt: &R, alloc: Global) -> Result<(), NoStart> {
-    let settings = Settings::check(alloc, settings::draft(alloc)?)?;
+    let settings = Settings::check(alloc, node_settings::draft(alloc)?)?;
     let links = [link_named(&settings, "e0")?, link_named(&settings, "w0")?];
     serve(rt, Exchange::boot(alloc, settings)?, links);
     Ok(())

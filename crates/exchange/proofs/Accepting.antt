@@ -8,9 +8,9 @@ use Rattle.signalling_types.specs.Lent.{lent}
 use Rattle.signalling_types.specs.declared.notice.FailureReason.TheVariants as reasons
 use Rattle.signalling_types.specs.declared.outcome.Outcome.TheVariants.{Handled}
 use Rattle.cell_pool.specs.Lanes.{dropped}
-use Rattle.link_sequence.specs.declared.fault.SeqFault.{SeqFault}
-use Rattle.link_sequence.specs.Queue.{count_confirmed}
-use Rattle.link_sequence.specs.Counts.{Counts, kept_first, kept_after_answer}
+use Rattle.link.specs.declared.fault.SeqFault.{SeqFault}
+use Rattle.link.specs.Queue.{count_confirmed}
+use Rattle.link.specs.Counts.{Counts, kept_first, kept_after_answer}
 use Rattle.exchange_rules.specs.State.{State, with_node}
 use Rattle.exchange_rules.specs.Exchange.{Ends}
 use Rattle.exchange_rules.specs.Failing.{fail}

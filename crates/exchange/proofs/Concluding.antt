@@ -6,7 +6,7 @@ use Rattle.std.proofs.lemmas.List.{set-set, get_or-set_same, get_or-set_other}
 use Rattle.signalling_types.specs.Message.{Message, is_management}
 use Rattle.cell_pool.specs.Lanes.{lane_at, dropped}
 use Rattle.cell_pool.proofs.Moving.{before-kept}
-use Rattle.link_sequence.specs.Counts.{Counts, kept_emptied}
+use Rattle.link.specs.Counts.{Counts, kept_emptied}
 use Rattle.changeover.specs.Completion.{users_of}
 use Rattle.changeover.specs.Kept.{kept_accepted_count, kept_done_with}
 use Rattle.changeover.specs.Lanes.{spliced}

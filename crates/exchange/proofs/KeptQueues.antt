@@ -5,16 +5,16 @@ use Rattle.std.proofs.Math.ListN.{set, get_or-map}
 use Rattle.std.proofs.lemmas.List.{map-set}
 use Rattle.signalling_types.specs.Message.{Message}
 use Rattle.cell_pool.specs.Lanes.{users_in, managements_in}
-use Rattle.link_sequence.specs.Queue as queue
-use Rattle.link_sequence.specs.Queue.{Queue, IsQueue, first_queue, accept_answer, unconfirmed}
-use Rattle.link_sequence.specs.Counts.{Counts, counts_of, kept_emptied}
-use Rattle.link_sequence.proofs.Kept.{kept-accept_answer, counts-accepted, unconfirmed-accepted, kept-to_send, counts-sent_one, unconfirmed-sent_one, unconfirmed-appended, kept-last_sent, kept-last_accepted}
-use Rattle.link_sequence.proofs.Sound.{sound-first, sound-appended, sound-accepted, sound-sent_one, sound-emptied}
+use Rattle.link.specs.Queue as queue
+use Rattle.link.specs.Queue.{Queue, IsQueue, first_queue, accept_answer, unconfirmed}
+use Rattle.link.specs.Counts.{Counts, counts_of, kept_emptied}
+use Rattle.link.proofs.Kept.{kept-accept_answer, counts-accepted, unconfirmed-accepted, kept-to_send, counts-sent_one, unconfirmed-sent_one, unconfirmed-appended, kept-last_sent, kept-last_accepted}
+use Rattle.link.proofs.Sound.{sound-first, sound-appended, sound-accepted, sound-sent_one, sound-emptied}
 use Rattle.signalling_types.specs.declared.limits.TheConstants.Limits.{WINDOW}
 use Rattle.changeover.specs.Completion.{accepted_count, moved, lost}
 use Rattle.changeover.specs.Kept.{kept_accepted_count, kept_lost, kept_queued_anew}
 use Rattle.changeover.proofs.Keeping.{alike, counted-some}
-use Rattle.link_sequence.specs.Keeps.{Keeps}
+use Rattle.link.specs.Keeps.{Keeps}
 use Rattle.exchange_rules.specs.Queues.{WholeQueues, queue_at, with_queue, whole}
 use Rattle.exchange.specs.KeptQueues.{KeptQueues, counts_at, kept}
 use Rattle.exchange_rules.specs.Sound.{AreQueues}

@@ -9,7 +9,7 @@ use Rattle.exchange.specs.Suspending.{with_messages}
 use Rattle.exchange.specs.Head.{with_head}
 use Rattle.signalling_types.specs.Message.{is_management}
 use Rattle.signalling_types.specs.declared.cause.Cause.TheVariants.{LostUnconfirmed}
-use Rattle.link_sequence.specs.Counts.{Counts}
+use Rattle.link.specs.Counts.{Counts}
 use Rattle.changeover.specs.Completion.{users_of}
 use Rattle.changeover.specs.Kept.{kept_doubted, kept_accepted_count, kept_in_doubt, kept_queued_anew}
 use Rattle.exchange_rules.specs.Noting.{flagged}

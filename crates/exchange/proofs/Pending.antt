@@ -4,8 +4,8 @@ use Rattle.std.specs.Prelude.{if◌then◌else◌, slice_get, slice_index_or}
 use Rattle.std.proofs.lemmas.Bool.Decides.{eqb_tells, leb_tells}
 use Rattle.std.proofs.lemmas.Option.{slice_get_past}
 use Rattle.settings_rows.specs.Configuration.{Configuration}
-use Rattle.route_table.specs.Facts.{Facts}
-use Rattle.route_table.specs.declared.route.RouteStatus.{RouteStatus}
+use Rattle.routes.specs.Facts.{Facts}
+use Rattle.routes.specs.declared.route.RouteStatus.{RouteStatus}
 use Rattle.route_management.specs.Told.{ToldTable, is_own_point, row_of, shape_of, told_at, with_told}
 use Rattle.route_management.specs.Owed.{Owed, owed_at, owed_by_sets, status_to_advertise, is_reachable}
 use Rattle.route_management.proofs.Shape.{told_shape}

@@ -7,7 +7,7 @@ use Rattle.signalling_types.specs.declared.cause.Cause.{Cause}
 use Rattle.signalling_types.specs.declared.cause.Cause.TheVariants.{NoMemory}
 use Rattle.signalling_types.specs.declared.outcome.Outcome.{Outcome}
 use Rattle.signalling_types.specs.declared.outcome.Outcome.TheVariants.{Refused}
-use Rattle.global_title.specs.Rows.{with_row}
+use Rattle.sccp_relay.specs.Rows.{with_row}
 use Rattle.exchange_rules.specs.State.{State, with_node, with_parts}
 use Rattle.exchange_rules.specs.Exchange.{Ends}
 use Rattle.exchange_rules.specs.Relaying.{with_titles, add_title_unless}

@@ -2,14 +2,14 @@
 use Rattle.std.proofs.Common.{◌≡◌, ◌<◌, ◌+◌, ℕ, Bool, true, false, ◌||◌, not, length, replicate, List, refl, ap, sym, subst, ◌∙◌}
 use Rattle.std.specs.Prelude.{map, [], ◌∷◌, slice_index_or, if◌then◌else◌, Option, Some, None}
 use Rattle.std.proofs.lemmas.List.{length-set, get_or-set_same}
-use Rattle.route_table.specs.declared.route.RouteStatus.{RouteStatus}
-use Rattle.route_table.specs.Facts.{Facts, with_status_over}
+use Rattle.routes.specs.declared.route.RouteStatus.{RouteStatus}
+use Rattle.routes.specs.Facts.{Facts, with_status_over}
 use Rattle.node_links.specs.Link.{Link}
 use Rattle.node_links.specs.LinkState.{is_in_service, down_link}
 use Rattle.node_links.specs.Network.{Network, facts_of, link_in, with_state, serving}
 use Rattle.node_links.specs.Statuses.{with_route_status}
 use Rattle.node_links.proofs.Serving.{facts_alike}
-use Rattle.timer_wheel.specs.Timers.{Running}
+use Rattle.timers.specs.Timers.{Running}
 use Rattle.cell_pool.specs.Lanes.{lane_at}
 use Rattle.flow_hold.specs.declared.procedure.Procedure.{Procedure}
 use Rattle.flow_hold.specs.Holds.{HoldSet}

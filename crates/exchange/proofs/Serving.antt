@@ -3,11 +3,11 @@ use Rattle.std.proofs.Common.{◌≡◌, ℕ, true, refl, ap}
 use Rattle.std.specs.Prelude.{None}
 use Rattle.std.proofs.lemmas.List.{append-nil, set-get_or}
 use Rattle.settings_rows.specs.Configuration.{Configuration}
-use Rattle.link_alignment.specs.declared.action.Input.TheVariants.{UserData}
-use Rattle.link_alignment.specs.declared.action.Transition.{Transition}
-use Rattle.link_alignment.specs.declared.alignment.Alignment.{Alignment}
-use Rattle.link_alignment.specs.declared.alignment.Alignment.TheVariants.{Down, NotAligned, Aligned, Proving, AlignedReady, InService}
-use Rattle.link_alignment.specs.Table.{action_at}
+use Rattle.link.specs.declared.action.Input.TheVariants.{UserData}
+use Rattle.link.specs.declared.action.Transition.{Transition}
+use Rattle.link.specs.declared.alignment.Alignment.{Alignment}
+use Rattle.link.specs.declared.alignment.Alignment.TheVariants.{Down, NotAligned, Aligned, Proving, AlignedReady, InService}
+use Rattle.link.specs.Table.{action_at}
 use Rattle.node_links.specs.Link.{Link}
 use Rattle.node_links.specs.LinkState.{down_link, is_in_service, stepped}
 use Rattle.exchange_rules.specs.State.{QueueKind, Parts, Node}

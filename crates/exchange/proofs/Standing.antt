@@ -4,10 +4,10 @@ use Rattle.settings_rows.specs.Configuration.{Configuration, TitleEntry}
 use Rattle.signalling_types.specs.Message.{Message}
 use Rattle.signalling_types.specs.declared.limits.TheConstants.Limits.{WINDOW}
 use Rattle.signalling_types.specs.declared.notice.Notice.{Notice}
-use Rattle.link_sequence.specs.Queue.{IsQueue, first_queue, unconfirmed}
-use Rattle.link_sequence.specs.Counts.{Counts, counts_of, kept_first}
-use Rattle.link_sequence.proofs.Sound.{sound-first}
-use Rattle.timer_wheel.specs.Timers.{Running, none_running}
+use Rattle.link.specs.Queue.{IsQueue, first_queue, unconfirmed}
+use Rattle.link.specs.Counts.{Counts, counts_of, kept_first}
+use Rattle.link.proofs.Sound.{sound-first}
+use Rattle.timers.specs.Timers.{Running, none_running}
 use Rattle.node_links.specs.Network.{Network}
 use Rattle.exchange_rules.specs.Routing.{first_network_of}
 use Rattle.exchange_rules.specs.State.{Node, Done, keep}
@@ -25,7 +25,7 @@ use Rattle.changeover.specs.Standing.{Standing, no_changeover}
 use Rattle.changeback.specs.Codes.{Codes, no_codes}
 use Rattle.route_management.specs.Told.{ToldTable, first_told}
 use Rattle.flow_hold.specs.Holds.{HoldSet, no_holds}
-use Rattle.global_title.specs.Rows.{table_of}
+use Rattle.sccp_relay.specs.Rows.{table_of}
 use Rattle.exchange_rules.proofs.Settling.{take-waits}
 use Rattle.exchange_rules.proofs.Sound.{done-waits, done-told, take-told, first-told}
 use Rattle.exchange_rules.proofs.Lists.{each-replicate, map-replicate}

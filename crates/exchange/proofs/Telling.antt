@@ -2,8 +2,8 @@
 use Rattle.std.proofs.Common.{◌≡◌, ◌<◌, ◌≤◌, ℕ, suc, ◌+◌, ◌-◌, length, replicate, Bool, true, false, List, [], ◌∷◌, ◌++◌, Option, Some, None, refl, ap, sym, ◌∙◌, arith}
 use Rattle.std.specs.Prelude.{if◌then◌else◌}
 use Rattle.settings_rows.specs.Configuration.{Configuration}
-use Rattle.route_table.specs.Facts.{Facts}
-use Rattle.route_table.specs.declared.route.RouteStatus.{RouteStatus}
+use Rattle.routes.specs.Facts.{Facts}
+use Rattle.routes.specs.declared.route.RouteStatus.{RouteStatus}
 use Rattle.route_management.specs.Told.{ToldTable, shape_of}
 use Rattle.route_management.specs.Owed.{Owed, owed_at, owed_from, owed_to, owed_by_sets}
 use Rattle.route_management.proofs.Walking.{next_is_owed, next_is_not_owed, later_stay_owed, next_set, owed_are_to, others_stay_owed}

@@ -6,7 +6,7 @@ use Rattle.settings_rows.specs.Configuration.{Configuration}
 use Rattle.signalling_types.specs.declared.cause.Cause.TheVariants.{LostUnconfirmed, NoRoute}
 use Rattle.cell_pool.specs.Lanes.{lane_at, pushed, dropped}
 use Rattle.cell_pool.specs.Moves.{first_behind}
-use Rattle.link_sequence.specs.Counts.{kept_emptied}
+use Rattle.link.specs.Counts.{kept_emptied}
 use Rattle.changeover.specs.Kept.{kept_done_with}
 use Rattle.changeover.specs.Lanes.{spliced}
 use Rattle.exchange_rules.specs.State.{Parts, Node, with_parts}

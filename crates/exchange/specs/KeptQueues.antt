@@ -2,9 +2,9 @@
 use Rattle.std.specs.Prelude.{ℕ, suc, List, [], ◌++◌, is_some, slice_index_or, slice_set}
 use Rattle.signalling_types.specs.Message.{Message}
 use Rattle.cell_pool.specs.Lanes.{lane_at, pushed, dropped, users, managements}
-use Rattle.link_sequence.specs.Queue.{count_confirmed}
-use Rattle.link_sequence.specs.Counts.{Counts, kept_first, kept_accept_answer, kept_accepted}
-use Rattle.link_sequence.specs.Counts.{kept_to_send, kept_sent_one, kept_emptied, kept_last_sent, kept_last_accepted}
+use Rattle.link.specs.Queue.{count_confirmed}
+use Rattle.link.specs.Counts.{Counts, kept_first, kept_accept_answer, kept_accepted}
+use Rattle.link.specs.Counts.{kept_to_send, kept_sent_one, kept_emptied, kept_last_sent, kept_last_accepted}
 use Rattle.changeover.specs.Kept.{kept_accepted_count, kept_moved, kept_lost, kept_queued_anew}
 use Rattle.exchange_rules.specs.State.{QueueKind}
 

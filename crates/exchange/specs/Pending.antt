@@ -1,6 +1,6 @@
 -- Which updates for adjacent points may be pending.
 use Rattle.std.specs.Prelude.{◌≡◌, ◌<◌, ◌+◌, ℕ, Option, None, Some}
-use Rattle.route_table.specs.Facts.{Facts}
+use Rattle.routes.specs.Facts.{Facts}
 use Rattle.route_management.specs.Told.{ToldTable}
 use Rattle.route_management.specs.Owed.{owed_at}
 use Rattle.exchange.specs.declared.exchange.pending.Pending.{Pending}

@@ -1,7 +1,7 @@
 -- What an exchange keeps of an abstract state, and when it stands for one.
 use Rattle.std.specs.Prelude.{◌≡◌, ◌∷◌, map}
-use Rattle.link_sequence.specs.Queue.{unconfirmed}
-use Rattle.link_sequence.specs.Counts.{counts_of}
+use Rattle.link.specs.Queue.{unconfirmed}
+use Rattle.link.specs.Counts.{counts_of}
 use Rattle.exchange_rules.specs.State.{State, keep}
 use Rattle.exchange_rules.specs.Queues.{WholeQueues}
 use Rattle.exchange.specs.KeptQueues.{KeptQueues}

@@ -4,7 +4,7 @@ use Rattle.std.specs.Prelude.{ℕ, zero, suc, Bool, List, length, replicate, Opt
 use Rattle.std.specs.Prelude.{if◌then◌else◌, slice_set}
 use Rattle.settings_rows.specs.Configuration.{Configuration}
 use Rattle.signalling_types.specs.declared.limits.TheConstants.Limits.{LINKS}
-use Rattle.route_table.specs.Facts.{Facts}
+use Rattle.routes.specs.Facts.{Facts}
 use Rattle.flow_hold.specs.declared.procedure.Procedure.{Procedure}
 use Rattle.changeback.specs.Return.{FlowChange, returned, gives_up, held_by}
 use Rattle.exchange_rules.specs.State.{QueueKind, Node, with_parts}

@@ -1,12 +1,12 @@
 -- What an exchange shows of its links and its routes.
 use Rattle.std.specs.Prelude.{ℕ, List, [], ◌∷◌, Option, Some, None, codes, length, slice_get, if◌then◌else◌}
 use Rattle.std.specs.Option.{option_map}
-use Rattle.link_alignment.specs.declared.alignment.Alignment.{Alignment}
-use Rattle.link_alignment.specs.declared.alignment.Alignment.TheVariants as alignment
-use Rattle.route_table.specs.declared.route.Route.{Route}
-use Rattle.route_table.specs.declared.route.RouteStatus.{RouteStatus}
-use Rattle.route_table.specs.declared.route.RouteStatus.TheVariants.{Prohibited}
-use Rattle.route_table.specs.Chosen.{chosen_routes, sets_of}
+use Rattle.link.specs.declared.alignment.Alignment.{Alignment}
+use Rattle.link.specs.declared.alignment.Alignment.TheVariants as alignment
+use Rattle.routes.specs.declared.route.Route.{Route}
+use Rattle.routes.specs.declared.route.RouteStatus.{RouteStatus}
+use Rattle.routes.specs.declared.route.RouteStatus.TheVariants.{Prohibited}
+use Rattle.routes.specs.Chosen.{chosen_routes, sets_of}
 use Rattle.exchange.specs.declared.view.LinkStanding.{LinkStanding}
 use Rattle.exchange.specs.declared.view.LinkStanding.TheVariants as standing
 use Rattle.exchange.specs.declared.view.LinkView.{LinkView}

@@ -3,8 +3,8 @@
 use crate::frame_text::FrameText;
 use arrayvec::ArrayVec;
 use exchange_rules::Wants;
-use global_title::TitleKey;
-use stp_types::{Limits, LinkId, MsuRef, Outcome, TitleRow};
+use sccp_relay::TitleKey;
+use settings::{Limits, LinkId, MsuRef, Outcome, TitleRow};
 
 /// Digits of a translation row, 0 to 15 each.
 pub type TitleDigits = ArrayVec<u8, { Limits::TITLE_DIGITS }>;

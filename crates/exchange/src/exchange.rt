@@ -46,15 +46,15 @@ use changeback::Changeback;
 use changeover::Changeover;
 use circular_buffer::HeapCircularBuffer;
 use flow_hold::Holds;
-use global_title::Translations;
-use link_sequence::Sequence;
+use link::Sequence;
 use m2pa_codec::BUFFER_OCTETS;
 use node_links::NodeLinks;
 use pending::Pending;
 use route_management::Told;
+use sccp_relay::Translations;
+use settings::{LinkId, Notice, Outcome, Settings};
 use std::marker::Model;
-use stp_types::{LinkId, Notice, Outcome, Settings};
-use timer_wheel::Timers;
+use timers::Timers;
 
 /// The links, queues and messages of one node.
 ///
@@ -89,7 +89,7 @@ impl Model for Exchange {
 
     ghost use Rattle.std.specs.Coded.{codes};
     ghost use Rattle.flow_hold.specs.Stored.{hold_set_code};
-    ghost use Rattle.timer_wheel.specs.OneMap.{running_code};
+    ghost use Rattle.timers.specs.OneMap.{running_code};
 
     ghost coded = { Prim.hlevel (codes, hold_set_code, running_code) };
 

@@ -3,8 +3,8 @@
 ghost use Rattle.std.specs.Prelude.{◌≡◌, ℕ, ◌≤◌, List, length};
 
 use arrayvec::ArrayVec;
+use settings::Limits;
 use std::marker::Model;
-use stp_types::Limits;
 
 /// Octets in front of a message's field in its frame: both headers, the priority octet and the service information
 /// octet (RFC 4165 §2).

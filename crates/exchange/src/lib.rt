@@ -12,12 +12,12 @@ pub use event::{Answer, Call, Event, Order, TitleDigits};
 pub use exchange::Exchange;
 pub use exchange_rules::Wants;
 pub use frame_text::{FrameText, LONGEST_FRAME};
-pub use global_title::TitleKey;
 pub use m2pa_codec::{BUFFER_OCTETS, Frame, Framer, Next, decode};
 pub use memory::NoMemory;
-pub use route_table::RouteStatus;
-pub use routing_label::Label;
-pub use stp_types::{
+pub use mtp3_codec::Label;
+pub use routes::RouteStatus;
+pub use sccp_relay::TitleKey;
+pub use settings::{
     Cause, ChangeoverTimer, DestinationDraft, Draft, DraftFault, FailureReason, FaultKind,
     FrameFault, Key, LateTimer, Limits, LinkDraft, LinkId, Msu, MsuRef, Notice, Outcome, PointCode,
     SetDraft, SetId, Settings, Sls, Ssn, TimersDraft, TitleDraft, TitleRoute, TitleRow,

@@ -4,10 +4,10 @@ ghost use Rattle.std.specs.Prelude.{◌≡◌};
 ghost use Rattle.exchange.specs.Views.{standing_name, standing_of, status_shown};
 
 use arrayvec::ArrayVec;
-use link_alignment::Alignment;
-use link_number::Number24;
-use route_table::{Route, RouteStatus};
-use stp_types::{PointCode, SetId};
+use link::Alignment;
+use routes::{Route, RouteStatus};
+use settings::{PointCode, SetId};
+use signalling_types::Number24;
 
 /// How far a link is on its way into service (Q.703 §7, RFC 4165 §4.1.3), without what it remembers there.
 #[derive(Clone, Copy, PartialEq, Eq)]

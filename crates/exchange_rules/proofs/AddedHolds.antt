@@ -3,9 +3,9 @@ use Rattle.std.proofs.Common.{◌≡◌, ℕ, zero, suc, Bool, true, false, ◌&
 use Rattle.std.specs.Prelude.{if◌then◌else◌}
 use Rattle.signalling_types.specs.Message.{Message, flow_of, is_management}
 use Rattle.settings_rows.specs.Configuration.{Configuration}
-use Rattle.stp_types.specs.Readings.{destination_place}
-use Rattle.link_alignment.specs.declared.action.Transition.{Transition}
-use Rattle.route_table.specs.Facts.{Facts}
+use Rattle.settings.specs.Readings.{destination_place}
+use Rattle.link.specs.declared.action.Transition.{Transition}
+use Rattle.routes.specs.Facts.{Facts}
 use Rattle.flow_hold.specs.Holds.{HoldSet, is_held}
 use Rattle.exchange_rules.specs.State.{Parts, Node, with_parts}
 use Rattle.exchange_rules.specs.Queues.{WholeQueues, whole}

@@ -1,7 +1,7 @@
 -- Over every event and every take, all that came in stands, was accepted by a peer, or is named as lost.
 use Rattle.std.proofs.Common.{Bool, List, [], ap, arith, length, refl, replicate, subst, suc, sum_by, sym, zero, ℕ, ◌+◌, ◌∙◌, ◌∷◌, ◌≡◌}
 use Rattle.std.proofs.lemmas.List.Sums.{sum_by-cons}
-use Rattle.link_sequence.specs.Queue.{first_queue, unconfirmed}
+use Rattle.link.specs.Queue.{first_queue, unconfirmed}
 use Rattle.settings_rows.specs.Configuration.{Configuration}
 use Rattle.signalling_types.specs.Message.{Message}
 use Rattle.exchange_rules.specs.Conserving.{gone_that, users_that}

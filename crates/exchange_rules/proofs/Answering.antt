@@ -8,13 +8,13 @@ use Rattle.signalling_types.specs.Message.{Message, dpc_of, flow_of, is_manageme
 use Rattle.signalling_types.specs.declared.cause.Cause.{Cause}
 use Rattle.signalling_types.specs.declared.cause.Cause.TheVariants as causes
 use Rattle.settings_rows.specs.Configuration.{Configuration}
-use Rattle.stp_types.specs.Readings.{destination_place}
-use Rattle.routing_label.specs.declared.discrimination.Discrimination.{Discrimination}
-use Rattle.routing_label.specs.declared.discrimination.Discrimination.TheVariants as whither
+use Rattle.settings.specs.Readings.{destination_place}
+use Rattle.mtp3_codec.specs.declared.discrimination.Discrimination.{Discrimination}
+use Rattle.mtp3_codec.specs.declared.discrimination.Discrimination.TheVariants as whither
 use Rattle.sccp_relay.specs.Return.{returned}
 use Rattle.cell_pool.specs.Lanes.{managements_in}
-use Rattle.link_sequence.specs.Queue as queue
-use Rattle.link_sequence.specs.Queue.{Queue, first_queue, unconfirmed}
+use Rattle.link.specs.Queue as queue
+use Rattle.link.specs.Queue.{Queue, first_queue, unconfirmed}
 use Rattle.route_management.specs.Owed.{owes_nothing}
 use Rattle.exchange_rules.specs.State.{Node, refuse}
 use Rattle.exchange_rules.specs.Queues.{WholeQueues, queue_at, whole}

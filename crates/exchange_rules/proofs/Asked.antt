@@ -2,7 +2,7 @@
 -- holds between the node before and the node after.
 use Rattle.std.proofs.Common.{◌≡◌, ℕ, List, [], ◌∷◌, refl, sym, subst, ◌∙◌}
 use Rattle.settings_rows.specs.Configuration.{Configuration}
-use Rattle.timer_wheel.specs.Timers.{ticked, after_due}
+use Rattle.timers.specs.Timers.{ticked, after_due}
 use Rattle.exchange_rules.specs.State.{Node}
 use Rattle.exchange_rules.specs.Ticking.{with_timers, run_next}
 use Rattle.exchange_rules.specs.Happening.{Happening, Asking, Happens, Takes, AsksWants}

@@ -6,14 +6,14 @@ use Rattle.std.proofs.Math.Logic.{⊎_elim}
 use Rattle.std.proofs.lemmas.Bool.{cases_lt, cases_eq}
 use Rattle.std.proofs.lemmas.Option.{same_Some}
 use Rattle.std.proofs.lemmas.List.{get_or_past, get_or-set_same, get_or-set_other, length-set, length-map}
-use Rattle.route_table.specs.declared.route.Route.{Route}
-use Rattle.route_table.specs.declared.route.RouteStatus.{RouteStatus}
-use Rattle.route_table.specs.declared.route.RouteStatus.TheVariants.{Allowed, Restricted}
-use Rattle.route_table.specs.Facts.{Facts, set_at, routes_to, with_link, with_status_over}
-use Rattle.route_table.specs.Chosen.{chosen_link}
-use Rattle.route_table.proofs.Leaving.{goes_or_stays}
+use Rattle.routes.specs.declared.route.Route.{Route}
+use Rattle.routes.specs.declared.route.RouteStatus.{RouteStatus}
+use Rattle.routes.specs.declared.route.RouteStatus.TheVariants.{Allowed, Restricted}
+use Rattle.routes.specs.Facts.{Facts, set_at, routes_to, with_link, with_status_over}
+use Rattle.routes.specs.Chosen.{chosen_link}
+use Rattle.routes.proofs.Leaving.{goes_or_stays}
 use Rattle.settings_rows.specs.Configuration.{Configuration}
-use Rattle.link_alignment.specs.declared.action.Transition.{Transition}
+use Rattle.link.specs.declared.action.Transition.{Transition}
 use Rattle.flow_hold.specs.Holds.{is_held}
 use Rattle.node_links.specs.LinkState as state
 use Rattle.route_management.proofs.Shape.{reset_shape}

@@ -8,7 +8,7 @@ use Rattle.std.proofs.lemmas.List.Quantifiers.{position-Some}
 use Rattle.std.proofs.lemmas.List.Sums.{sum_by-cons}
 use Rattle.signalling_types.specs.Message.{Message, is_management}
 use Rattle.cell_pool.specs.Lanes.{managements_in}
-use Rattle.link_sequence.specs.Queue.{Queue, first_queue, appended, unconfirmed}
+use Rattle.link.specs.Queue.{Queue, first_queue, appended, unconfirmed}
 use Rattle.changeback.specs.Codes.{Codes, codes_of, free_code, is_outstanding, with_code}
 use Rattle.exchange_rules.specs.Queues.{WholeQueues, queue_at, whole}
 

@@ -11,13 +11,13 @@ use Rattle.std.proofs.lemmas.List.Elements.{Contains-append_right, Contains-appe
 use Rattle.std.proofs.lemmas.List.Quantifiers.{position-Some}
 use Rattle.std.proofs.lemmas.List.Sorted.{Contains-permutation, IsPermutation-sym}
 use Rattle.settings_rows.specs.Configuration.{Configuration, LinkEntry}
-use Rattle.linkset.specs.Members.{has_code, links_below, links_of}
-use Rattle.route_table.specs.Facts.{Facts, first_sets}
-use Rattle.route_table.specs.Chosen.{chosen_link}
-use Rattle.route_table.proofs.Leaving.{IsOfSet, chosen_of_set, none_past}
+use Rattle.routes.specs.Members.{has_code, links_below, links_of}
+use Rattle.routes.specs.Facts.{Facts, first_sets}
+use Rattle.routes.specs.Chosen.{chosen_link}
+use Rattle.routes.proofs.Leaving.{IsOfSet, chosen_of_set, none_past}
 use Rattle.exchange_rules.specs.State.{Parts}
 use Rattle.signalling_types.specs.declared.point.Flow.{Flow}
-use Rattle.stp_types.specs.Readings.{destination_place}
+use Rattle.settings.specs.Readings.{destination_place}
 use Rattle.exchange_rules.specs.Routing.{facts, link_of}
 use Rattle.exchange_rules.specs.Points.{set_of}
 

@@ -3,26 +3,26 @@ use Rattle.std.proofs.Common.{Bool, Err, List, None, Ok, Option, Result, Some, [
 use Rattle.std.specs.Prelude.{if◌then◌else◌}
 use Rattle.changeback.specs.Codes.{is_outstanding}
 use Rattle.changeover.specs.Completion.{managements_of}
-use Rattle.link_alignment.specs.Table.{action_at}
-use Rattle.link_alignment.specs.declared.action.Action.{Action}
-use Rattle.link_alignment.specs.declared.action.Input.TheVariants.{Expiry, Status}
-use Rattle.link_alignment.specs.declared.action.LinkTimer.{LinkTimer}
-use Rattle.link_alignment.specs.declared.action.Transition.{Transition}
-use Rattle.link_sequence.specs.Queue.{Queue, appended}
+use Rattle.link.specs.Table.{action_at}
+use Rattle.link.specs.declared.action.Action.{Action}
+use Rattle.link.specs.declared.action.Input.TheVariants.{Expiry, Status}
+use Rattle.link.specs.declared.action.LinkTimer.{LinkTimer}
+use Rattle.link.specs.declared.action.Transition.{Transition}
+use Rattle.link.specs.Queue.{Queue, appended}
 use Rattle.m2pa_codec.specs.declared.status.LinkStatus.{LinkStatus}
-use Rattle.mgmt_codec.specs.LinkTests.{LinkTestValue}
-use Rattle.mgmt_codec.specs.declared.fault.MgmtFault.{MgmtFault}
-use Rattle.mgmt_codec.specs.declared.link_test.TestKind.{TestKind}
-use Rattle.mgmt_codec.specs.declared.link_test.TestKind.TheVariants.{Acknowledgement, Test}
-use Rattle.mgmt_codec.specs.declared.management.Management.{Management}
-use Rattle.mgmt_codec.specs.declared.management.Management.TheVariants.{ChangebackDeclaration, ExtendedChangeoverOrder, RouteSetTestProhibited, RouteSetTestRestricted}
+use Rattle.mtp3_codec.specs.LinkTests.{LinkTestValue}
+use Rattle.mtp3_codec.specs.declared.fault.MgmtFault.{MgmtFault}
+use Rattle.mtp3_codec.specs.declared.link_test.TestKind.{TestKind}
+use Rattle.mtp3_codec.specs.declared.link_test.TestKind.TheVariants.{Acknowledgement, Test}
+use Rattle.mtp3_codec.specs.declared.management.Management.{Management}
+use Rattle.mtp3_codec.specs.declared.management.Management.TheVariants.{ChangebackDeclaration, ExtendedChangeoverOrder, RouteSetTestProhibited, RouteSetTestRestricted}
 use Rattle.route_management.specs.Owed.{Owed, owed}
 use Rattle.route_management.specs.declared.heard.Heard.{Heard}
 use Rattle.route_management.specs.declared.heard.RouteTest.{RouteTest}
-use Rattle.route_table.specs.Facts.{Facts}
-use Rattle.route_table.specs.Statuses.{status_of}
-use Rattle.route_table.specs.declared.route.RouteStatus.{RouteStatus}
-use Rattle.route_table.specs.declared.route.RouteStatus.TheVariants.{Allowed, Prohibited, Restricted}
+use Rattle.routes.specs.Facts.{Facts}
+use Rattle.routes.specs.Statuses.{status_of}
+use Rattle.routes.specs.declared.route.RouteStatus.{RouteStatus}
+use Rattle.routes.specs.declared.route.RouteStatus.TheVariants.{Allowed, Prohibited, Restricted}
 use Rattle.settings_rows.specs.Configuration.{Configuration}
 use Rattle.signalling_types.specs.Message.{Message, flow_of, is_management}
 use Rattle.signalling_types.specs.declared.cause.Cause.{Cause}
@@ -49,7 +49,7 @@ use Rattle.exchange_rules.specs.Statuses.{act_by_status, act_by_timer, advance, 
 use Rattle.exchange_rules.specs.Telling.{answer_no_route, answered_parts, inhibited, is_inhibited, may_tell, on_route_test, prohibit, send_route_status, tell_each, tell_if, tell_owed, telling, told_parts}
 use Rattle.exchange_rules.proofs.OwnManagement.{made-management, answer-management}
 use Rattle.exchange_rules.proofs.Tallies.{no-user-behind, queue-same}
-use Rattle.link_alignment.specs.declared.action.Action.TheVariants as act
+use Rattle.link.specs.declared.action.Action.TheVariants as act
 use Rattle.signalling_types.specs.declared.cause.Cause.TheVariants as causes
 use Rattle.signalling_types.specs.declared.notice.FrameFault.TheVariants as faults
 use Rattle.route_management.specs.Hearing as hearing

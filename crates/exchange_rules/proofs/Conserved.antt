@@ -3,20 +3,20 @@ use Rattle.std.proofs.Common.{Bool, Err, List, None, Ok, Option, Result, Some, [
 use Rattle.std.proofs.lemmas.List.{take-append-drop}
 use Rattle.std.specs.Prelude.{if◌then◌else◌, take}
 use Rattle.changeover.specs.Standing.{Standing, may_restart}
-use Rattle.global_title.specs.Rows.{has_row, place_of, without_row}
-use Rattle.link_alignment.specs.Table.{action_at}
-use Rattle.link_alignment.specs.declared.action.Action.{Action}
-use Rattle.link_alignment.specs.declared.action.Input.TheVariants.{UserData}
-use Rattle.link_alignment.specs.declared.alignment.Alignment.{Alignment}
-use Rattle.link_sequence.proofs.Kept.{unconfirmed-accepted, unconfirmed-sent_one}
-use Rattle.link_sequence.specs.Queue.{Queue, count_confirmed, first_queue, unconfirmed}
-use Rattle.link_sequence.specs.declared.fault.SeqFault.{SeqFault}
+use Rattle.sccp_relay.specs.Rows.{has_row, place_of, without_row}
+use Rattle.link.specs.Table.{action_at}
+use Rattle.link.specs.declared.action.Action.{Action}
+use Rattle.link.specs.declared.action.Input.TheVariants.{UserData}
+use Rattle.link.specs.declared.alignment.Alignment.{Alignment}
+use Rattle.link.proofs.Kept.{unconfirmed-accepted, unconfirmed-sent_one}
+use Rattle.link.specs.Queue.{Queue, count_confirmed, first_queue, unconfirmed}
+use Rattle.link.specs.declared.fault.SeqFault.{SeqFault}
 use Rattle.m2pa_codec.specs.Frames.{EmptyFrame, FrameValue, MessageFrame, StatusFrame}
 use Rattle.m2pa_codec.specs.Reading.{read_frame}
-use Rattle.mgmt_codec.specs.Management.{read_management}
+use Rattle.mtp3_codec.specs.Management.{read_management}
 use Rattle.node_links.specs.Link.{Link}
 use Rattle.node_links.specs.LinkState.{is_down, is_in_service}
-use Rattle.routing_label.specs.declared.discrimination.Discrimination.{Discrimination}
+use Rattle.mtp3_codec.specs.declared.discrimination.Discrimination.{Discrimination}
 use Rattle.settings_rows.specs.Configuration.{Configuration, TitleEntry}
 use Rattle.signalling_types.specs.Message.{Message, is_management, opc_of, service_indicator}
 use Rattle.signalling_types.specs.declared.cause.Cause.{Cause}
@@ -54,12 +54,12 @@ use Rattle.exchange_rules.proofs.SteppingEvents.{owing-steps}
 use Rattle.exchange_rules.proofs.SteppingLinks.{advance-serves, advance-steps}
 use Rattle.exchange_rules.proofs.Steps.{confirming}
 use Rattle.exchange_rules.proofs.Tallies.{append, none-more, queue-less, queue-same}
-use Rattle.link_alignment.specs.declared.action.Action.TheVariants as act
+use Rattle.link.specs.declared.action.Action.TheVariants as act
 use Rattle.signalling_types.specs.declared.cause.Cause.TheVariants as causes
 use Rattle.signalling_types.specs.declared.notice.FailureReason.TheVariants as reasons
-use Rattle.routing_label.specs.declared.discrimination.Discrimination.TheVariants as whither
-use Rattle.link_alignment.specs.declared.alignment.Alignment.TheVariants as stage
-use Rattle.link_sequence.specs.Queue as queue
+use Rattle.mtp3_codec.specs.declared.discrimination.Discrimination.TheVariants as whither
+use Rattle.link.specs.declared.alignment.Alignment.TheVariants as stage
+use Rattle.link.specs.Queue as queue
 
 module _ (of : Message → Bool) (c : Configuration) where
   -- ---- a message of a frame

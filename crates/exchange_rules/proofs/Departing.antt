@@ -4,20 +4,20 @@ use Rattle.std.proofs.lemmas.List.Elements.{filter_agree}
 use Rattle.std.specs.Prelude.{filter, if◌then◌else◌, is_some}
 use Rattle.changeover.specs.Completion.{accepted_count, behind}
 use Rattle.changeover.specs.Standing.{completed}
-use Rattle.link_sequence.specs.Queue.{IsQueue, Queue}
-use Rattle.mgmt_codec.specs.LinkTests.{read_link_test}
-use Rattle.mgmt_codec.specs.Management.{read_management}
-use Rattle.mgmt_codec.specs.declared.fault.MgmtFault.{MgmtFault}
-use Rattle.mgmt_codec.specs.declared.management.Management.{Management}
-use Rattle.mgmt_codec.specs.declared.management.Management.TheVariants.{ChangebackAcknowledgement, ChangebackDeclaration, EmergencyChangeoverAcknowledgement, EmergencyChangeoverOrder, ExtendedChangeoverAcknowledgement, ExtendedChangeoverOrder, RouteSetTestProhibited, RouteSetTestRestricted, TrafficRestartAllowed, TransferAllowed, TransferProhibited, TransferRestricted}
-use Rattle.route_table.specs.declared.route.RouteStatus.TheVariants.{Allowed, Prohibited, Restricted}
+use Rattle.link.specs.Queue.{IsQueue, Queue}
+use Rattle.mtp3_codec.specs.LinkTests.{read_link_test}
+use Rattle.mtp3_codec.specs.Management.{read_management}
+use Rattle.mtp3_codec.specs.declared.fault.MgmtFault.{MgmtFault}
+use Rattle.mtp3_codec.specs.declared.management.Management.{Management}
+use Rattle.mtp3_codec.specs.declared.management.Management.TheVariants.{ChangebackAcknowledgement, ChangebackDeclaration, EmergencyChangeoverAcknowledgement, EmergencyChangeoverOrder, ExtendedChangeoverAcknowledgement, ExtendedChangeoverOrder, RouteSetTestProhibited, RouteSetTestRestricted, TrafficRestartAllowed, TransferAllowed, TransferProhibited, TransferRestricted}
+use Rattle.routes.specs.declared.route.RouteStatus.TheVariants.{Allowed, Prohibited, Restricted}
 use Rattle.settings_rows.specs.Configuration.{Configuration}
 use Rattle.signalling_types.specs.Message.{Message, flow_of, opc_of, service_indicator}
 use Rattle.signalling_types.specs.declared.notice.ChangeoverTimer.{ChangeoverTimer}
 use Rattle.signalling_types.specs.declared.outcome.Outcome.TheVariants.{Handled, Ignored}
-use Rattle.stp_types.specs.Readings.{destination_place, set_place}
-use Rattle.timer_wheel.specs.Timers.{after_due, due_count, due_name, ticked}
-use Rattle.timer_wheel.specs.declared.name.TimerName.{TimerName}
+use Rattle.settings.specs.Readings.{destination_place, set_place}
+use Rattle.timers.specs.Timers.{after_due, due_count, due_name, ticked}
+use Rattle.timers.specs.declared.name.TimerName.{TimerName}
 use Rattle.exchange_rules.specs.ChangingOver.{complete_if, concluded, fail_by_order, on_changeover_order, on_changeover_timer, with_changeover_acknowledged, with_expiry}
 use Rattle.exchange_rules.specs.Conserving.{Gone, both_gone, gone_by_answer, gone_by_completion, gone_by_expiry, gone_by_order, gone_by_release, gone_by_tick, gone_by_timer, gone_by_timers, gone_by_word, gone_that, is_stranded, nothing_gone, standing, users_that}
 use Rattle.exchange_rules.specs.Failing.{changeover_of, with_changeover}
@@ -37,10 +37,10 @@ use Rattle.exchange_rules.proofs.Moves.{completed-lets, queued-more}
 use Rattle.exchange_rules.proofs.SteppingEvents.{go_by-steps}
 use Rattle.exchange_rules.proofs.Tallies.{append, held-more-by, held-taken-out, none-first, none-more, one-first}
 use Rattle.signalling_types.specs.declared.cause.Cause.TheVariants as causes
-use Rattle.timer_wheel.specs.declared.name.TimerName.TheVariants as name
+use Rattle.timers.specs.declared.name.TimerName.TheVariants as name
 use Rattle.signalling_types.specs.declared.notice.ChangeoverTimer.TheVariants as which
 use Rattle.route_management.specs.declared.heard.RouteTest.TheVariants as tests
-use Rattle.link_alignment.specs.declared.action.LinkTimer.TheVariants as timer
+use Rattle.link.specs.declared.action.LinkTimer.TheVariants as timer
 
 -- both parts of what goes
 pub both-that : (of : Message → Bool) (g h : Gone) → gone_that of (both_gone g h) ≡ gone_that of g + gone_that of h

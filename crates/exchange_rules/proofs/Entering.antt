@@ -1,11 +1,11 @@
 -- What was known of routes before a link entered service.
 use Rattle.std.proofs.Common.{◌≡◌, ℕ, Bool, true, false, List, refl, ap, ◌∙◌}
 use Rattle.settings_rows.specs.Configuration.{Configuration}
-use Rattle.link_alignment.specs.declared.action.Transition.{Transition}
-use Rattle.route_table.specs.Facts.{Facts, with_link}
-use Rattle.route_table.specs.Statuses.{with_statuses_reset}
-use Rattle.route_table.specs.Chosen.{chosen_link}
-use Rattle.route_table.proofs.Resetting.{reset_link}
+use Rattle.link.specs.declared.action.Transition.{Transition}
+use Rattle.routes.specs.Facts.{Facts, with_link}
+use Rattle.routes.specs.Statuses.{with_statuses_reset}
+use Rattle.routes.specs.Chosen.{chosen_link}
+use Rattle.routes.proofs.Resetting.{reset_link}
 use Rattle.node_links.specs.LinkState.{stepped}
 use Rattle.node_links.proofs.Serving.{serving_without}
 use Rattle.exchange_rules.specs.State.{Parts}

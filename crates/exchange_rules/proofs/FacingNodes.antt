@@ -2,9 +2,9 @@
 use Rattle.std.proofs.Common.{◌≡◌, ◌<◌, ℕ, zero, suc, List, [], ◌∷◌, Some, length, map, get_or, is_some, true, false, sym, ap, ◌∙◌, arith}
 use Rattle.std.proofs.lemmas.List.{length-map, get_or-map}
 use Rattle.settings_rows.specs.Configuration.{Configuration, LinkEntry}
-use Rattle.stp_types.specs.Facing.{IsFacing, LeadsOnlyTo}
-use Rattle.stp_types.specs.Readings.{set_place, destination_place}
-use Rattle.stp_types.specs.Well.{IsWell}
+use Rattle.settings.specs.Facing.{IsFacing, LeadsOnlyTo}
+use Rattle.settings.specs.Readings.{set_place, destination_place}
+use Rattle.settings.specs.Well.{IsWell}
 use Rattle.exchange_rules.specs.Points.{entry_of, set_of, adjacent_of, peer_of, point_of}
 use Rattle.exchange_rules.specs.Local.{is_adjacent, link_with_code}
 use Rattle.exchange_rules.proofs.Onward.{link-set}

@@ -1,13 +1,13 @@
 -- Each user message that comes is queued, held, delivered or refused.
 use Rattle.std.proofs.Common.{Bool, Err, None, Ok, Option, Result, Some, ap, false, nat_eq, not, refl, true, ℕ, ◌&&◌, ◌∙◌, ◌≡◌}
 use Rattle.std.specs.Prelude.{if◌then◌else◌}
-use Rattle.link_alignment.specs.Table.{action_at}
-use Rattle.link_alignment.specs.declared.action.Action.{Action}
-use Rattle.link_alignment.specs.declared.action.Input.TheVariants.{UserData}
-use Rattle.link_sequence.specs.declared.fault.SeqFault.{SeqFault}
+use Rattle.link.specs.Table.{action_at}
+use Rattle.link.specs.declared.action.Action.{Action}
+use Rattle.link.specs.declared.action.Input.TheVariants.{UserData}
+use Rattle.link.specs.declared.fault.SeqFault.{SeqFault}
 use Rattle.m2pa_codec.specs.Frames.{EmptyFrame, FrameValue, MessageFrame, StatusFrame}
 use Rattle.m2pa_codec.specs.Reading.{read_frame}
-use Rattle.routing_label.specs.declared.discrimination.Discrimination.{Discrimination}
+use Rattle.mtp3_codec.specs.declared.discrimination.Discrimination.{Discrimination}
 use Rattle.sccp_relay.specs.Relay.{RelayedValue, relay}
 use Rattle.settings_rows.specs.Configuration.{Configuration}
 use Rattle.signalling_types.specs.Message.{Message, dpc_of, flow_of, is_management, service_indicator}
@@ -29,10 +29,10 @@ use Rattle.exchange_rules.specs.Relaying.{in_place_of, on_unitdata, own_of, rela
 use Rattle.exchange_rules.specs.Routing.{link_of}
 use Rattle.exchange_rules.specs.State.{Done, Node, answer, refuse}
 use Rattle.exchange_rules.specs.Statuses.{advance}
-use Rattle.link_alignment.specs.declared.action.Action.TheVariants as act
+use Rattle.link.specs.declared.action.Action.TheVariants as act
 use Rattle.signalling_types.specs.declared.cause.Cause.TheVariants as causes
 use Rattle.sccp_relay.specs.Relay as relays
-use Rattle.routing_label.specs.declared.discrimination.Discrimination.TheVariants as whither
+use Rattle.mtp3_codec.specs.declared.discrimination.Discrimination.TheVariants as whither
 
 module _ (c : Configuration) (n : Node WholeQueues) where
   offer-fate : (room : Option Cause) (waiting : Bool) (link from : Option ℕ) (m : Message) → has_fate (offer whole c room waiting link from m n).outcome ≡ true

@@ -1,11 +1,11 @@
 -- A node has its places, and the counts of its queues are in order: so it stays through each step.
 use Rattle.std.proofs.Common.{List, refl, subst, sym, ℕ, ◌≡◌}
-use Rattle.link_sequence.proofs.Sound.{sound-accepted, sound-appended, sound-emptied, sound-first, sound-sent_one}
-use Rattle.link_sequence.specs.Queue.{IsQueue, Queue, emptied, first_queue}
+use Rattle.link.proofs.Sound.{sound-accepted, sound-appended, sound-emptied, sound-first, sound-sent_one}
+use Rattle.link.specs.Queue.{IsQueue, Queue, emptied, first_queue}
 use Rattle.settings_rows.specs.Configuration.{Configuration}
 use Rattle.signalling_types.specs.Message.{Message}
-use Rattle.timer_wheel.proofs.Dues.{counts-after}
-use Rattle.timer_wheel.specs.Timers.{after_due, ticked}
+use Rattle.timers.proofs.Dues.{counts-after}
+use Rattle.timers.specs.Timers.{after_due, ticked}
 use Rattle.exchange_rules.specs.Exchange.{handle_event}
 use Rattle.exchange_rules.specs.Frames.{carries}
 use Rattle.exchange_rules.specs.Happening.{Happening}

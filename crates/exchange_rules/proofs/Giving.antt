@@ -4,12 +4,12 @@ use Rattle.std.proofs.Math.Logic.{⊎_elim}
 use Rattle.std.proofs.lemmas.Bool.{cases_eq}
 use Rattle.std.proofs.lemmas.List.{get_or-set_other}
 use Rattle.std.specs.Prelude.{if◌then◌else◌}
-use Rattle.link_alignment.specs.declared.action.Transition.{Transition}
-use Rattle.link_sequence.specs.Queue.{Queue, appended, emptied, first_queue}
+use Rattle.link.specs.declared.action.Transition.{Transition}
+use Rattle.link.specs.Queue.{Queue, appended, emptied, first_queue}
 use Rattle.node_links.specs.Link.{Link}
 use Rattle.node_links.specs.LinkState.{is_in_service}
 use Rattle.route_management.specs.Owed.{Owed, owed}
-use Rattle.route_table.specs.Facts.{Facts}
+use Rattle.routes.specs.Facts.{Facts}
 use Rattle.settings_rows.specs.Configuration.{Configuration}
 use Rattle.signalling_types.specs.Message.{Message, flow_of}
 use Rattle.signalling_types.specs.declared.cause.Cause.{Cause}

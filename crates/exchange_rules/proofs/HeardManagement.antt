@@ -2,16 +2,16 @@
 use Rattle.std.proofs.Common.{◌≡◌, ◌<◌, ℕ, Option, Some, length, ap, ◌∙◌, true, arith}
 use Rattle.signalling_types.specs.Message.{Message, opc_of}
 use Rattle.settings_rows.specs.Configuration.{Configuration}
-use Rattle.stp_types.specs.Facing.{IsFacing}
-use Rattle.stp_types.specs.Well.{IsWell}
-use Rattle.routing_label.specs.declared.discrimination.Discrimination.{Discrimination}
-use Rattle.routing_label.specs.declared.discrimination.Discrimination.TheVariants.{Here}
-use Rattle.mgmt_codec.specs.declared.management.Management.{Management}
-use Rattle.mgmt_codec.specs.declared.management.Management.TheVariants.{ExtendedChangeoverOrder}
-use Rattle.mgmt_codec.specs.declared.management.Management.TheVariants.{ExtendedChangeoverAcknowledgement}
-use Rattle.mgmt_codec.specs.declared.management.Management.TheVariants.{ChangebackAcknowledgement}
-use Rattle.mgmt_codec.specs.Management.{IsManagement, read_management}
-use Rattle.mgmt_codec.proofs.Reading.{label_of}
+use Rattle.settings.specs.Facing.{IsFacing}
+use Rattle.settings.specs.Well.{IsWell}
+use Rattle.mtp3_codec.specs.declared.discrimination.Discrimination.{Discrimination}
+use Rattle.mtp3_codec.specs.declared.discrimination.Discrimination.TheVariants.{Here}
+use Rattle.mtp3_codec.specs.declared.management.Management.{Management}
+use Rattle.mtp3_codec.specs.declared.management.Management.TheVariants.{ExtendedChangeoverOrder}
+use Rattle.mtp3_codec.specs.declared.management.Management.TheVariants.{ExtendedChangeoverAcknowledgement}
+use Rattle.mtp3_codec.specs.declared.management.Management.TheVariants.{ChangebackAcknowledgement}
+use Rattle.mtp3_codec.specs.Management.{IsManagement, read_management}
+use Rattle.mtp3_codec.proofs.Reading.{label_of}
 use Rattle.exchange_rules.specs.State.{QueueKind, Node}
 use Rattle.exchange_rules.specs.Made.{management_to}
 use Rattle.exchange_rules.specs.Points.{entry_of}

@@ -8,10 +8,10 @@ use Rattle.signalling_types.specs.declared.cause.Cause.{Cause}
 use Rattle.signalling_types.specs.declared.outcome.Outcome.TheVariants.{Handled, Ignored}
 use Rattle.signalling_types.specs.declared.notice.FailureReason.{FailureReason}
 use Rattle.signalling_types.specs.declared.notice.FailureReason.TheVariants as reasons
-use Rattle.link_alignment.specs.declared.action.Transition.{Transition}
+use Rattle.link.specs.declared.action.Transition.{Transition}
 use Rattle.signalling_types.specs.declared.notice.ChangeoverTimer.{ChangeoverTimer}
 use Rattle.changeover.specs.Standing.{completed}
-use Rattle.route_table.specs.Facts.{Facts}
+use Rattle.routes.specs.Facts.{Facts}
 use Rattle.changeback.specs.Codes.{free_code, is_outstanding}
 use Rattle.exchange_rules.specs.State.{Node, Found, QueueKind, keep, with_parts, answer}
 use Rattle.exchange_rules.specs.Links.{is_link, down, in_service}

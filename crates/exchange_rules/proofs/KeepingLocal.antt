@@ -6,17 +6,17 @@ use Rattle.signalling_types.specs.Message.{Message, opc_of, is_management, servi
 use Rattle.settings_rows.specs.Configuration.{Configuration}
 use Rattle.signalling_types.specs.declared.cause.Cause.TheVariants as causes
 use Rattle.signalling_types.specs.declared.outcome.Outcome.TheVariants.{Local}
-use Rattle.mgmt_codec.specs.declared.fault.MgmtFault.{MgmtFault}
-use Rattle.mgmt_codec.specs.declared.link_test.TestKind.{TestKind}
-use Rattle.mgmt_codec.specs.declared.link_test.TestKind.TheVariants.{Test, Acknowledgement}
-use Rattle.mgmt_codec.specs.declared.management.Management.{Management}
-use Rattle.mgmt_codec.specs.declared.management.Management.TheVariants.{TrafficRestartAllowed, TransferProhibited, TransferRestricted, TransferAllowed, RouteSetTestProhibited, RouteSetTestRestricted, ChangebackDeclaration, ChangebackAcknowledgement, ExtendedChangeoverOrder, ExtendedChangeoverAcknowledgement, EmergencyChangeoverOrder, EmergencyChangeoverAcknowledgement}
-use Rattle.mgmt_codec.specs.LinkTests.{LinkTestValue, read_link_test}
-use Rattle.mgmt_codec.specs.Management.{read_management}
-use Rattle.routing_label.specs.declared.discrimination.Discrimination.{Discrimination}
-use Rattle.routing_label.specs.declared.discrimination.Discrimination.TheVariants as whither
-use Rattle.stp_types.specs.Readings.{set_place, destination_place}
-use Rattle.route_table.specs.declared.route.RouteStatus.TheVariants.{Allowed, Restricted, Prohibited}
+use Rattle.mtp3_codec.specs.declared.fault.MgmtFault.{MgmtFault}
+use Rattle.mtp3_codec.specs.declared.link_test.TestKind.{TestKind}
+use Rattle.mtp3_codec.specs.declared.link_test.TestKind.TheVariants.{Test, Acknowledgement}
+use Rattle.mtp3_codec.specs.declared.management.Management.{Management}
+use Rattle.mtp3_codec.specs.declared.management.Management.TheVariants.{TrafficRestartAllowed, TransferProhibited, TransferRestricted, TransferAllowed, RouteSetTestProhibited, RouteSetTestRestricted, ChangebackDeclaration, ChangebackAcknowledgement, ExtendedChangeoverOrder, ExtendedChangeoverAcknowledgement, EmergencyChangeoverOrder, EmergencyChangeoverAcknowledgement}
+use Rattle.mtp3_codec.specs.LinkTests.{LinkTestValue, read_link_test}
+use Rattle.mtp3_codec.specs.Management.{read_management}
+use Rattle.mtp3_codec.specs.declared.discrimination.Discrimination.{Discrimination}
+use Rattle.mtp3_codec.specs.declared.discrimination.Discrimination.TheVariants as whither
+use Rattle.settings.specs.Readings.{set_place, destination_place}
+use Rattle.routes.specs.declared.route.RouteStatus.TheVariants.{Allowed, Restricted, Prohibited}
 use Rattle.route_management.specs.declared.heard.RouteTest.TheVariants as tests
 use Rattle.exchange_rules.specs.State.{Node, Done, QueueKind, keep, answer, refuse}
 use Rattle.exchange_rules.specs.Noting.{note_refusal}

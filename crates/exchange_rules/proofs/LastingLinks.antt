@@ -7,10 +7,10 @@ use Rattle.std.proofs.lemmas.Bool.Decides.{nat_tests}
 use Rattle.std.proofs.lemmas.List.{get_or_past}
 use Rattle.settings_rows.specs.Configuration.{Configuration}
 use Rattle.signalling_types.specs.declared.limits.TheConstants.Limits.{WINDOW}
-use Rattle.link_sequence.specs.Queue.{Queue, first_queue}
-use Rattle.link_sequence.proofs.Sound.{sound-first}
-use Rattle.timer_wheel.specs.declared.name.TimerName.TheVariants.{L7}
-use Rattle.timer_wheel.proofs.Maps.{left-none}
+use Rattle.link.specs.Queue.{Queue, first_queue}
+use Rattle.link.proofs.Sound.{sound-first}
+use Rattle.timers.specs.declared.name.TimerName.TheVariants.{L7}
+use Rattle.timers.proofs.Maps.{left-none}
 use Rattle.node_links.specs.Link.{Link}
 use Rattle.node_links.specs.LinkState.{down_link}
 use Rattle.changeover.specs.Standing.{Standing, no_changeover}

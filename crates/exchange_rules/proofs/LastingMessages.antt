@@ -4,10 +4,10 @@ use Rattle.std.specs.Prelude.{if◌then◌else◌, filter, drop, slice_set, leng
 use Rattle.std.proofs.lemmas.List.Folds.{list_all-append}
 use Rattle.signalling_types.specs.Message.{Message, is_management}
 use Rattle.settings_rows.specs.Configuration.{Configuration}
-use Rattle.stp_types.specs.Well.{IsWell}
-use Rattle.link_sequence.specs.Queue as queue
-use Rattle.link_sequence.specs.Queue.{Queue, Sending, first_queue, emptied, after_answer, after_sending, accept_answer, to_send, appended}
-use Rattle.link_sequence.specs.declared.fault.SeqFault.{SeqFault}
+use Rattle.settings.specs.Well.{IsWell}
+use Rattle.link.specs.Queue as queue
+use Rattle.link.specs.Queue.{Queue, Sending, first_queue, emptied, after_answer, after_sending, accept_answer, to_send, appended}
+use Rattle.link.specs.declared.fault.SeqFault.{SeqFault}
 use Rattle.changeover.specs.Completion.{behind, moved, accepted_count}
 use Rattle.exchange_rules.specs.State.{Node}
 use Rattle.exchange_rules.specs.Queueing.{queue_on}

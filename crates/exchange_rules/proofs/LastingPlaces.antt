@@ -7,17 +7,17 @@ use Rattle.signalling_types.specs.declared.notice.FailureReason.{FailureReason}
 use Rattle.std.proofs.lemmas.List.{length-set, length-replicate, length-map}
 use Rattle.settings_rows.specs.Configuration.{Configuration, TitleEntry}
 use Rattle.signalling_types.specs.declared.notice.Notice.{Notice}
-use Rattle.link_alignment.specs.Table.{opening}
-use Rattle.link_sequence.specs.Queue as queue
-use Rattle.link_sequence.specs.Queue.{Queue, first_queue, appended, emptied}
+use Rattle.link.specs.Table.{opening}
+use Rattle.link.specs.Queue as queue
+use Rattle.link.specs.Queue.{Queue, first_queue, appended, emptied}
 use Rattle.node_links.specs.LinkState.{down_link, after_failure}
 use Rattle.changeback.specs.Codes.{with_code}
 use Rattle.flow_hold.specs.Holds.{HoldSet}
-use Rattle.timer_wheel.specs.declared.name.NodeCounts.{NodeCounts}
-use Rattle.timer_wheel.specs.Timers.{Running, ticked, after_due}
-use Rattle.timer_wheel.proofs.Dues.{counts-after}
-use Rattle.route_table.specs.declared.route.Route.{Route}
-use Rattle.route_table.specs.Facts.{first_routes}
+use Rattle.timers.specs.declared.name.NodeCounts.{NodeCounts}
+use Rattle.timers.specs.Timers.{Running, ticked, after_due}
+use Rattle.timers.proofs.Dues.{counts-after}
+use Rattle.routes.specs.declared.route.Route.{Route}
+use Rattle.routes.specs.Facts.{first_routes}
 use Rattle.route_management.specs.Told.{ToldTable, shape_of}
 use Rattle.route_management.proofs.Shape.{first_shape}
 use Rattle.node_links.specs.Link.{Link}

@@ -3,7 +3,7 @@ use Rattle.std.proofs.Common.{◌≡◌, ℕ, false, List, [], Option, None, ref
 use Rattle.std.specs.Prelude.{slice_index_or}
 use Rattle.std.proofs.Math.ListN.{get_or-map}
 use Rattle.settings_rows.specs.Configuration.{Configuration, DestinationEntry}
-use Rattle.route_table.specs.Facts.{first_routes}
+use Rattle.routes.specs.Facts.{first_routes}
 use Rattle.route_management.specs.Told.{ToldTable, is_number}
 use Rattle.exchange_rules.specs.State.{Node}
 use Rattle.exchange_rules.specs.Queues.{WholeQueues}

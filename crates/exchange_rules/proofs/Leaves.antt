@@ -8,8 +8,8 @@ use Rattle.signalling_types.specs.declared.cause.Cause.TheVariants as causes
 use Rattle.signalling_types.specs.declared.limits.TheConstants.Limits.{MANAGEMENT_MESSAGES}
 use Rattle.signalling_types.specs.declared.outcome.Outcome.{Outcome}
 use Rattle.signalling_types.specs.declared.outcome.Outcome.TheVariants.{Queued, Held, Local, Handled, Ignored, Refused}
-use Rattle.mgmt_codec.specs.declared.fault.MgmtFault.{MgmtFault}
-use Rattle.mgmt_codec.specs.declared.fault.MgmtFault.TheVariants as mgmt
+use Rattle.mtp3_codec.specs.declared.fault.MgmtFault.{MgmtFault}
+use Rattle.mtp3_codec.specs.declared.fault.MgmtFault.TheVariants as mgmt
 use Rattle.exchange_rules.specs.State.{Node, Done, answer, refuse}
 use Rattle.exchange_rules.specs.Links.{in_service}
 use Rattle.exchange_rules.specs.Queueing.{no_room}

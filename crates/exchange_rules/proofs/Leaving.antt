@@ -11,11 +11,11 @@ use Rattle.m2pa_codec.specs.Frames.{FrameValue}
 use Rattle.m2pa_codec.specs.Reading.{read_frame}
 use Rattle.route_management.specs.Owed.{Owed, owed}
 use Rattle.exchange_rules.specs.Routing.{facts}
-use Rattle.link_alignment.specs.declared.action.Action.{Action}
-use Rattle.link_alignment.specs.declared.action.Action.TheVariants as act
-use Rattle.link_alignment.specs.declared.action.Input.TheVariants.{UserData}
-use Rattle.link_alignment.specs.Table.{action_at}
-use Rattle.link_sequence.specs.Queue.{count_confirmed}
+use Rattle.link.specs.declared.action.Action.{Action}
+use Rattle.link.specs.declared.action.Action.TheVariants as act
+use Rattle.link.specs.declared.action.Input.TheVariants.{UserData}
+use Rattle.link.specs.Table.{action_at}
+use Rattle.link.specs.Queue.{count_confirmed}
 use Rattle.exchange_rules.specs.State.{Node, Done, with_node, with_parts, answer, refuse}
 use Rattle.exchange_rules.specs.Links.{is_link, link_at, down, in_service}
 use Rattle.exchange_rules.specs.Routing.{link_of}

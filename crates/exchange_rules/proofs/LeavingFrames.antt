@@ -10,12 +10,12 @@ use Rattle.signalling_types.specs.declared.notice.FrameFault.{FrameFault}
 use Rattle.signalling_types.specs.declared.notice.FrameFault.TheVariants as faults
 use Rattle.m2pa_codec.specs.Frames.{FrameValue, EmptyFrame, MessageFrame, StatusFrame}
 use Rattle.m2pa_codec.specs.declared.status.LinkStatus.{LinkStatus}
-use Rattle.link_alignment.specs.declared.action.Action.{Action}
-use Rattle.link_alignment.specs.declared.action.Action.TheVariants as act
-use Rattle.link_alignment.specs.declared.action.Input.TheVariants.{Status, UserData}
-use Rattle.link_alignment.specs.Table.{action_at}
-use Rattle.link_sequence.specs.Queue.{count_confirmed}
-use Rattle.link_sequence.specs.declared.fault.SeqFault.{SeqFault}
+use Rattle.link.specs.declared.action.Action.{Action}
+use Rattle.link.specs.declared.action.Action.TheVariants as act
+use Rattle.link.specs.declared.action.Input.TheVariants.{Status, UserData}
+use Rattle.link.specs.Table.{action_at}
+use Rattle.link.specs.Queue.{count_confirmed}
+use Rattle.link.specs.declared.fault.SeqFault.{SeqFault}
 use Rattle.exchange_rules.specs.State.{Parts, Node, Done, with_parts, answer}
 use Rattle.exchange_rules.specs.Links.{link_at, in_service}
 use Rattle.exchange_rules.specs.Noting.{note_outcome, note_refusal}

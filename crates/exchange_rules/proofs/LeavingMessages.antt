@@ -10,28 +10,28 @@ use Rattle.signalling_types.specs.declared.cause.Cause.{Cause}
 use Rattle.signalling_types.specs.declared.cause.Cause.TheVariants as causes
 use Rattle.signalling_types.specs.declared.outcome.Outcome.{Outcome}
 use Rattle.signalling_types.specs.declared.outcome.Outcome.TheVariants.{Local, Handled, Ignored}
-use Rattle.stp_types.specs.Readings.{destination_place, set_place}
-use Rattle.route_table.specs.declared.route.RouteStatus.{RouteStatus}
-use Rattle.route_table.specs.declared.route.RouteStatus.TheVariants.{Allowed, Restricted, Prohibited}
+use Rattle.settings.specs.Readings.{destination_place, set_place}
+use Rattle.routes.specs.declared.route.RouteStatus.{RouteStatus}
+use Rattle.routes.specs.declared.route.RouteStatus.TheVariants.{Allowed, Restricted, Prohibited}
 use Rattle.route_management.specs.declared.heard.Heard.{Heard}
 use Rattle.route_management.specs.declared.heard.Heard.TheVariants as hears
 use Rattle.route_management.specs.declared.heard.RouteTest.{RouteTest}
 use Rattle.route_management.specs.declared.heard.RouteTest.TheVariants as tests
 use Rattle.route_management.specs.Hearing as hearing
 use Rattle.route_management.specs.Told as told
-use Rattle.route_table.specs.Chosen.{chosen_link}
+use Rattle.routes.specs.Chosen.{chosen_link}
 use Rattle.node_links.proofs.Chosen.{chosen_serving}
 use Rattle.exchange_rules.specs.Routing.{facts}
-use Rattle.mgmt_codec.specs.declared.fault.MgmtFault.{MgmtFault}
-use Rattle.mgmt_codec.specs.declared.link_test.TestKind.{TestKind}
-use Rattle.mgmt_codec.specs.declared.link_test.TestKind.TheVariants.{Test, Acknowledgement}
-use Rattle.mgmt_codec.specs.declared.management.Management.{Management}
-use Rattle.mgmt_codec.specs.declared.management.Management.TheVariants.{TrafficRestartAllowed, TransferProhibited, TransferRestricted, TransferAllowed, RouteSetTestProhibited, RouteSetTestRestricted, ChangebackDeclaration, ChangebackAcknowledgement, ExtendedChangeoverOrder, ExtendedChangeoverAcknowledgement, EmergencyChangeoverOrder, EmergencyChangeoverAcknowledgement}
-use Rattle.mgmt_codec.specs.LinkTests.{LinkTestValue, read_link_test}
-use Rattle.mgmt_codec.specs.Management.{read_management}
-use Rattle.routing_label.specs.Label.{label_at}
-use Rattle.routing_label.specs.declared.discrimination.Discrimination.{Discrimination}
-use Rattle.routing_label.specs.declared.discrimination.Discrimination.TheVariants as whither
+use Rattle.mtp3_codec.specs.declared.fault.MgmtFault.{MgmtFault}
+use Rattle.mtp3_codec.specs.declared.link_test.TestKind.{TestKind}
+use Rattle.mtp3_codec.specs.declared.link_test.TestKind.TheVariants.{Test, Acknowledgement}
+use Rattle.mtp3_codec.specs.declared.management.Management.{Management}
+use Rattle.mtp3_codec.specs.declared.management.Management.TheVariants.{TrafficRestartAllowed, TransferProhibited, TransferRestricted, TransferAllowed, RouteSetTestProhibited, RouteSetTestRestricted, ChangebackDeclaration, ChangebackAcknowledgement, ExtendedChangeoverOrder, ExtendedChangeoverAcknowledgement, EmergencyChangeoverOrder, EmergencyChangeoverAcknowledgement}
+use Rattle.mtp3_codec.specs.LinkTests.{LinkTestValue, read_link_test}
+use Rattle.mtp3_codec.specs.Management.{read_management}
+use Rattle.mtp3_codec.specs.Label.{label_at}
+use Rattle.mtp3_codec.specs.declared.discrimination.Discrimination.{Discrimination}
+use Rattle.mtp3_codec.specs.declared.discrimination.Discrimination.TheVariants as whither
 use Rattle.signalling_types.specs.declared.notice.FailureReason.TheVariants as reasons
 use Rattle.exchange_rules.specs.State.{Parts, Node, Done, with_parts, answer, refuse}
 use Rattle.exchange_rules.specs.Links.{is_link, link_at, in_service}
@@ -47,7 +47,7 @@ use Rattle.changeback.specs.Codes.{is_outstanding}
 use Rattle.exchange_rules.specs.Local.{sccp, is_user, is_adjacent, cause_of, test_answer, link_with_code, local, do_order, do_acknowledgement, do_management, do_kind, do_test, manage, distribute}
 use Rattle.exchange_rules.specs.Messages.{deliver_to, submit_to}
 use Rattle.sccp_codec.specs.declared.title.TitleKey.{TitleKey}
-use Rattle.global_title.specs.Rows.{place_of, has_row, without_row}
+use Rattle.sccp_relay.specs.Rows.{place_of, has_row, without_row}
 use Rattle.sccp_relay.specs.Relay.{RelayedValue, relay}
 use Rattle.sccp_relay.specs.Relay as relays
 use Rattle.exchange_rules.specs.Relaying.{own_of, in_place_of, return_unitdata, return_outcome, relay_by, on_unitdata, with_titles, title_refusal, add_title_unless, add_title, remove_title}

@@ -5,12 +5,12 @@ use Rattle.std.proofs.lemmas.Bool.Decides.{nat_tests}
 use Rattle.std.proofs.lemmas.List.{get_or-set_other}
 use Rattle.signalling_types.specs.Message.{flow_of}
 use Rattle.settings_rows.specs.Configuration.{Configuration}
-use Rattle.link_alignment.specs.declared.action.LinkTimer.{LinkTimer}
-use Rattle.link_alignment.specs.declared.action.LinkTimer.TheVariants as timer
-use Rattle.link_sequence.specs.Queue.{first_queue, sent_one}
-use Rattle.timer_wheel.specs.declared.name.TimerName.{TimerName}
-use Rattle.timer_wheel.specs.Timers.{Running, is_due, no_tick_left, ticked, due_name, after_due, due_count}
-use Rattle.timer_wheel.proofs.Dues.{due-left, after-clear, after-none}
+use Rattle.link.specs.declared.action.LinkTimer.{LinkTimer}
+use Rattle.link.specs.declared.action.LinkTimer.TheVariants as timer
+use Rattle.link.specs.Queue.{first_queue, sent_one}
+use Rattle.timers.specs.declared.name.TimerName.{TimerName}
+use Rattle.timers.specs.Timers.{Running, is_due, no_tick_left, ticked, due_name, after_due, due_count}
+use Rattle.timers.proofs.Dues.{due-left, after-clear, after-none}
 use Rattle.exchange_rules.specs.State.{Parts, Node}
 use Rattle.exchange_rules.specs.Timing.{timer_name}
 use Rattle.exchange_rules.specs.Ticking.{with_timers, run_next, run_times, tick}

@@ -2,14 +2,14 @@
 use Rattle.std.proofs.Common.{◌≡◌, ◌≢◌, ℕ, Bool, true, false, refl, sym, ap, ◌∙◌}
 use Rattle.std.specs.Prelude.{if◌then◌else◌, nat_eq, Option, Some, None, is_some}
 use Rattle.settings_rows.specs.Configuration.{Configuration}
-use Rattle.link_alignment.specs.declared.action.LinkTimer.{LinkTimer}
-use Rattle.link_alignment.specs.declared.action.LinkTimer.TheVariants as timer
-use Rattle.link_alignment.specs.declared.action.Transition.{Transition}
-use Rattle.timer_wheel.specs.declared.name.TimerName.{TimerName}
-use Rattle.timer_wheel.specs.declared.name.TimerName.TheVariants.{L7}
-use Rattle.timer_wheel.specs.Names.{key_of}
-use Rattle.timer_wheel.specs.Timers.{Running, set_timer, start_unless_running, is_due, is_running}
-use Rattle.timer_wheel.proofs.Maps.{left-set_other, left-clear_other, counts-set, counts-clear}
+use Rattle.link.specs.declared.action.LinkTimer.{LinkTimer}
+use Rattle.link.specs.declared.action.LinkTimer.TheVariants as timer
+use Rattle.link.specs.declared.action.Transition.{Transition}
+use Rattle.timers.specs.declared.name.TimerName.{TimerName}
+use Rattle.timers.specs.declared.name.TimerName.TheVariants.{L7}
+use Rattle.timers.specs.Names.{key_of}
+use Rattle.timers.specs.Timers.{Running, set_timer, start_unless_running, is_due, is_running}
+use Rattle.timers.proofs.Maps.{left-set_other, left-clear_other, counts-set, counts-clear}
 use Rattle.exchange_rules.specs.Timing.{timer_name, ticks_of, without_timer, without_timers, with_timer, without_timer_if, with_timer_if, timed, timed_sending, timed_confirming, timed_busy, timed_busy_ended}
 use Rattle.exchange_rules.proofs.SteppingTimers.{due-set, due-clear}
 

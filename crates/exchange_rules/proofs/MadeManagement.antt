@@ -9,13 +9,13 @@ use Rattle.signalling_types.specs.Message.{Message, dpc_of, opc_of, sls_of, serv
 use Rattle.signalling_types.specs.declared.point.Flow.{Flow}
 use Rattle.signalling_types.specs.declared.limits.TheConstants.Limits.{SIF_OCTETS}
 use Rattle.settings_rows.specs.Configuration.{Configuration, LinkEntry}
-use Rattle.stp_types.specs.Well.{IsWell, IsLink}
-use Rattle.routing_label.specs.declared.label.Label.{Label}
-use Rattle.routing_label.specs.Label.{label_at}
-use Rattle.routing_label.specs.declared.discrimination.Discrimination.TheVariants.{Here}
-use Rattle.mgmt_codec.specs.declared.management.Management.{Management}
-use Rattle.mgmt_codec.specs.Management.{IsManagement, link_code_of, read_management}
-use Rattle.mgmt_codec.proofs.Reading.{label_of, its-label, message-back, octets-fit, octets-long}
+use Rattle.settings.specs.Well.{IsWell, IsLink}
+use Rattle.mtp3_codec.specs.declared.label.Label.{Label}
+use Rattle.mtp3_codec.specs.Label.{label_at}
+use Rattle.mtp3_codec.specs.declared.discrimination.Discrimination.TheVariants.{Here}
+use Rattle.mtp3_codec.specs.declared.management.Management.{Management}
+use Rattle.mtp3_codec.specs.Management.{IsManagement, link_code_of, read_management}
+use Rattle.mtp3_codec.proofs.Reading.{label_of, its-label, message-back, octets-fit, octets-long}
 use Rattle.exchange_rules.specs.State.{QueueKind, Node}
 use Rattle.exchange_rules.specs.Made.{management_to}
 use Rattle.exchange_rules.specs.Points.{entry_of}

@@ -9,11 +9,11 @@ use Rattle.std.specs.Prelude.{count_by, if◌then◌else◌, slice_set, take}
 use Rattle.changeover.proofs.Completing.{once}
 use Rattle.changeover.specs.Completion.{accepted_count, behind, in_doubt, lost, moved, users_of}
 use Rattle.changeover.specs.Laws.{count_in_the_end}
-use Rattle.link_sequence.proofs.Kept.{unconfirmed-appended}
-use Rattle.link_sequence.specs.Queue.{IsQueue, Queue, appended, emptied, first_queue, unconfirmed}
+use Rattle.link.proofs.Kept.{unconfirmed-appended}
+use Rattle.link.specs.Queue.{IsQueue, Queue, appended, emptied, first_queue, unconfirmed}
 use Rattle.node_links.specs.Link.{Link}
 use Rattle.node_links.specs.LinkState.{down_link, is_in_service}
-use Rattle.routing_label.specs.declared.discrimination.Discrimination.{Discrimination}
+use Rattle.mtp3_codec.specs.declared.discrimination.Discrimination.{Discrimination}
 use Rattle.sccp_relay.specs.Relay.{RelayedValue, relay}
 use Rattle.sccp_relay.specs.Return.{returned}
 use Rattle.settings_rows.specs.Configuration.{Configuration}
@@ -21,7 +21,7 @@ use Rattle.signalling_types.specs.Message.{Message, dpc_of, flow_of, is_manageme
 use Rattle.signalling_types.specs.declared.cause.Cause.{Cause}
 use Rattle.signalling_types.specs.declared.outcome.Outcome.{Outcome}
 use Rattle.signalling_types.specs.declared.outcome.Outcome.TheVariants.{Handled, Held, Ignored, Local, Queued, Refused}
-use Rattle.stp_types.specs.Readings.{destination_place}
+use Rattle.settings.specs.Readings.{destination_place}
 use Rattle.exchange_rules.specs.Arrival.{is_destination, offer, transfer}
 use Rattle.exchange_rules.specs.Conserving.{answered_in, brought_here, brought_to, gone_by_completion, gone_that, relayed_in, returned_in, standing, taken_in, unitdata_in, users_that}
 use Rattle.exchange_rules.specs.Holding.{waits}
@@ -39,7 +39,7 @@ use Rattle.exchange_rules.proofs.LeavingMessages.{chosen_serves, relay_by-leaves
 use Rattle.exchange_rules.proofs.Tallies.{again, append, held-more-by, none-first, none-more, queue-more, sum-less}
 use Rattle.signalling_types.specs.declared.cause.Cause.TheVariants as causes
 use Rattle.sccp_relay.specs.Relay as relays
-use Rattle.routing_label.specs.declared.discrimination.Discrimination.TheVariants as whither
+use Rattle.mtp3_codec.specs.declared.discrimination.Discrimination.TheVariants as whither
 
 -- ---- a link that carries a flow has a queue
 

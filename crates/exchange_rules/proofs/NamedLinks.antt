@@ -5,8 +5,8 @@ use Rattle.std.specs.Option.{option_and_then}
 use Rattle.std.proofs.lemmas.Bool.Decides.{nat_tests}
 use Rattle.std.proofs.lemmas.List.Sums.{position_or_len_is}
 use Rattle.settings_rows.specs.Configuration.{Configuration}
-use Rattle.stp_types.specs.Readings.{set_place, destination_place}
-use Rattle.stp_types.specs.Well.{IsWell, is_same_code, is_same_point, is_set_to_same_point}
+use Rattle.settings.specs.Readings.{set_place, destination_place}
+use Rattle.settings.specs.Well.{IsWell, is_same_code, is_same_point, is_set_to_same_point}
 use Rattle.exchange_rules.specs.Points.{entry_of, set_of, adjacent_of, peer_of, point_of}
 use Rattle.exchange_rules.specs.Local.{link_in_set, link_with_code}
 use Rattle.exchange_rules.proofs.Onward.{link-set}

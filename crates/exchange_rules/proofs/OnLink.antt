@@ -5,10 +5,10 @@ use Rattle.std.proofs.lemmas.List.{get_or-set_same, get_or-set_other, length-set
 use Rattle.signalling_types.specs.Message.{Message}
 use Rattle.signalling_types.specs.declared.notice.FailureReason.{FailureReason}
 use Rattle.settings_rows.specs.Configuration.{Configuration}
-use Rattle.link_alignment.specs.Table.{opening}
-use Rattle.link_sequence.specs.Queue as queue
-use Rattle.link_sequence.specs.Queue.{Queue, Sending, first_queue, emptied}
-use Rattle.timer_wheel.specs.Timers.{Running}
+use Rattle.link.specs.Table.{opening}
+use Rattle.link.specs.Queue as queue
+use Rattle.link.specs.Queue.{Queue, Sending, first_queue, emptied}
+use Rattle.timers.specs.Timers.{Running}
 use Rattle.node_links.specs.Link.{Link}
 use Rattle.node_links.specs.LinkState.{down_link, opened, after_failure}
 use Rattle.changeover.specs.Standing.{Standing, no_changeover}

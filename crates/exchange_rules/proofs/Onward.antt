@@ -9,16 +9,16 @@ use Rattle.std.proofs.lemmas.Bool.Decides.{nat_tests}
 use Rattle.std.proofs.lemmas.List.Quantifiers.{position-Some}
 use Rattle.signalling_types.specs.Message.{Message, dpc_of, flow_of, is_management}
 use Rattle.settings_rows.specs.Configuration.{Configuration, DestinationEntry, LinkEntry, SetEntry}
-use Rattle.stp_types.specs.Well.{IsWell, IsDestination, IsLink, IsSet, IsFarPoint}
-use Rattle.stp_types.specs.Readings.{destination_place, set_place}
-use Rattle.mgmt_codec.specs.declared.management.Management.{Management}
-use Rattle.mgmt_codec.specs.declared.management.Management.TheVariants.{ChangebackDeclaration}
-use Rattle.mgmt_codec.specs.Management.{link_code_of, field_octets}
-use Rattle.mgmt_codec.specs.Headings.{management_heading, kind_heading}
-use Rattle.mgmt_codec.specs.declared.link_test.TestKind.TheVariants.{Acknowledgement}
-use Rattle.mgmt_codec.specs.LinkTests.{LinkTestValue}
-use Rattle.routing_label.specs.Label.{label_octets}
-use Rattle.route_table.specs.Chosen.{chosen_link}
+use Rattle.settings.specs.Well.{IsWell, IsDestination, IsLink, IsSet, IsFarPoint}
+use Rattle.settings.specs.Readings.{destination_place, set_place}
+use Rattle.mtp3_codec.specs.declared.management.Management.{Management}
+use Rattle.mtp3_codec.specs.declared.management.Management.TheVariants.{ChangebackDeclaration}
+use Rattle.mtp3_codec.specs.Management.{link_code_of, field_octets}
+use Rattle.mtp3_codec.specs.Headings.{management_heading, kind_heading}
+use Rattle.mtp3_codec.specs.declared.link_test.TestKind.TheVariants.{Acknowledgement}
+use Rattle.mtp3_codec.specs.LinkTests.{LinkTestValue}
+use Rattle.mtp3_codec.specs.Label.{label_octets}
+use Rattle.routes.specs.Chosen.{chosen_link}
 use Rattle.flow_hold.specs.Holds.{HoldSet}
 use Rattle.exchange_rules.specs.State.{Parts}
 use Rattle.exchange_rules.specs.Routing.{facts, link_of}

@@ -1,7 +1,7 @@
 -- What a node makes itself is management.
 use Rattle.std.proofs.Common.{ap, arith, nat_lt, true, ℕ, ◌%◌, ◌*◌, ◌+◌, ◌≡◌}
-use Rattle.mgmt_codec.specs.LinkTests.{LinkTestValue}
-use Rattle.mgmt_codec.specs.declared.management.Management.{Management}
+use Rattle.mtp3_codec.specs.LinkTests.{LinkTestValue}
+use Rattle.mtp3_codec.specs.declared.management.Management.{Management}
 use Rattle.settings_rows.specs.Configuration.{Configuration}
 use Rattle.signalling_types.specs.Message.{is_management}
 use Rattle.exchange_rules.specs.Local.{test_answer}

@@ -7,11 +7,11 @@ use Rattle.std.proofs.Math.Logic.{⊎_elim}
 use Rattle.std.proofs.lemmas.Bool.{cases_eq, cases_lt}
 use Rattle.std.proofs.lemmas.Bool.Decides.{nat_tests}
 use Rattle.std.proofs.lemmas.List.{get_or_past, get_or-set_other, get_or-set_same, length-map, length-set}
-use Rattle.route_table.specs.declared.route.Route.{Route}
-use Rattle.route_table.specs.declared.route.RouteStatus.{RouteStatus}
-use Rattle.route_table.specs.declared.route.RouteStatus.TheVariants.{Allowed}
-use Rattle.route_table.specs.Facts.{first_route, with_second_joined, with_status_over}
-use Rattle.route_table.specs.Statuses.{leads_by}
+use Rattle.routes.specs.declared.route.Route.{Route}
+use Rattle.routes.specs.declared.route.RouteStatus.{RouteStatus}
+use Rattle.routes.specs.declared.route.RouteStatus.TheVariants.{Allowed}
+use Rattle.routes.specs.Facts.{first_route, with_second_joined, with_status_over}
+use Rattle.routes.specs.Statuses.{leads_by}
 use Rattle.route_management.specs.Told.{ToldTable, is_own_point}
 use Rattle.exchange_rules.proofs.Lists.{map-set_alike}
 use Rattle.exchange_rules.proofs.Steps.{status_over, AreOwnAllowed, AreRerouted, any_status, ways_of}

@@ -13,13 +13,13 @@ use Rattle.settings_rows.specs.Configuration.{Configuration}
 use Rattle.m2pa_codec.specs.Frames.{FrameValue, EmptyFrame, MessageFrame, StatusFrame}
 use Rattle.m2pa_codec.specs.Reading.{read_frame}
 use Rattle.m2pa_codec.specs.declared.status.LinkStatus.{LinkStatus}
-use Rattle.link_alignment.specs.declared.action.Action.{Action}
-use Rattle.link_alignment.specs.declared.action.Action.TheVariants as act
-use Rattle.link_alignment.specs.declared.action.Input.TheVariants.{Status, UserData}
-use Rattle.link_alignment.specs.Table.{action_at}
-use Rattle.link_sequence.specs.Queue as queue
-use Rattle.link_sequence.specs.Queue.{Queue, first_queue, after_answer}
-use Rattle.link_sequence.specs.declared.fault.SeqFault.{SeqFault}
+use Rattle.link.specs.declared.action.Action.{Action}
+use Rattle.link.specs.declared.action.Action.TheVariants as act
+use Rattle.link.specs.declared.action.Input.TheVariants.{Status, UserData}
+use Rattle.link.specs.Table.{action_at}
+use Rattle.link.specs.Queue as queue
+use Rattle.link.specs.Queue.{Queue, first_queue, after_answer}
+use Rattle.link.specs.declared.fault.SeqFault.{SeqFault}
 use Rattle.exchange_rules.specs.State.{Node, answer, refuse}
 use Rattle.exchange_rules.specs.Links.{is_link, link_at, down, in_service}
 use Rattle.exchange_rules.specs.Statuses.{advance, act_by_status}

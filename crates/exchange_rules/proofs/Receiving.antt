@@ -3,8 +3,8 @@ use Rattle.std.proofs.Common.{◌≡◌, ◌≢◌, ℕ, List, Option, Some, Non
 use Rattle.std.specs.Prelude.{slice_set}
 use Rattle.std.proofs.lemmas.List.{get_or-set_other}
 use Rattle.settings_rows.specs.Configuration.{Configuration}
-use Rattle.link_sequence.specs.Queue as queue
-use Rattle.link_sequence.specs.Queue.{Queue, Sending, first_queue, emptied, appended, after_answer, after_sending, accept_answer, to_send}
+use Rattle.link.specs.Queue as queue
+use Rattle.link.specs.Queue.{Queue, Sending, first_queue, emptied, appended, after_answer, after_sending, accept_answer, to_send}
 use Rattle.exchange_rules.specs.State.{Node}
 use Rattle.exchange_rules.specs.Frames.{carries}
 use Rattle.exchange_rules.specs.Queues.{WholeQueues, queue_at}

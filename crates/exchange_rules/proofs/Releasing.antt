@@ -7,7 +7,7 @@ use Rattle.std.proofs.lemmas.List.{append-nil, append_assoc, get_or-set_same, ge
 use Rattle.std.proofs.lemmas.List.Elements.{filter-append}
 use Rattle.signalling_types.specs.Message.{Message, flow_of}
 use Rattle.settings_rows.specs.Configuration.{Configuration}
-use Rattle.link_sequence.specs.Queue.{Queue, first_queue, appended, emptied}
+use Rattle.link.specs.Queue.{Queue, first_queue, appended, emptied}
 use Rattle.changeover.specs.Completion.{moved}
 use Rattle.exchange_rules.specs.State.{Node}
 use Rattle.exchange_rules.specs.Queues.{WholeQueues, queue_at, whole}

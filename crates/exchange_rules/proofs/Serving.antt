@@ -4,16 +4,16 @@ use Rattle.std.proofs.Common.{◌≡◌, ℕ, ◌==◌, Bool, true, false, ◌&&
 use Rattle.std.specs.Prelude.{if◌then◌else◌}
 use Rattle.std.specs.List.{list_all}
 use Rattle.std.proofs.lemmas.Bool.Decides.{nat_tests}
-use Rattle.link_alignment.specs.declared.alignment.Alignment.{Alignment}
-use Rattle.link_alignment.specs.declared.alignment.Alignment.TheVariants.{Down, NotAligned, Aligned, Proving, AlignedReady, InService}
-use Rattle.link_alignment.specs.declared.action.Action.{Action}
-use Rattle.link_alignment.specs.declared.action.Action.TheVariants.{Ignored, Fail, Go}
-use Rattle.link_alignment.specs.declared.action.Input.{Input}
-use Rattle.link_alignment.specs.declared.action.Input.TheVariants.{UserData}
-use Rattle.link_alignment.specs.declared.action.LinkTimer.{LinkTimer}
-use Rattle.link_alignment.specs.declared.action.LinkTimer.TheVariants.{L1, L2, L3, L4, L6, L7}
-use Rattle.link_alignment.specs.declared.action.Transition.{Transition}
-use Rattle.link_alignment.specs.Table.{Effect, Fails, Remembers, Enters, EntersServing, Serves, Cell, table, timer_of, state_number, is_same_input, effect_in, action_of, action_at, staying}
+use Rattle.link.specs.declared.alignment.Alignment.{Alignment}
+use Rattle.link.specs.declared.alignment.Alignment.TheVariants.{Down, NotAligned, Aligned, Proving, AlignedReady, InService}
+use Rattle.link.specs.declared.action.Action.{Action}
+use Rattle.link.specs.declared.action.Action.TheVariants.{Ignored, Fail, Go}
+use Rattle.link.specs.declared.action.Input.{Input}
+use Rattle.link.specs.declared.action.Input.TheVariants.{UserData}
+use Rattle.link.specs.declared.action.LinkTimer.{LinkTimer}
+use Rattle.link.specs.declared.action.LinkTimer.TheVariants.{L1, L2, L3, L4, L6, L7}
+use Rattle.link.specs.declared.action.Transition.{Transition}
+use Rattle.link.specs.Table.{Effect, Fails, Remembers, Enters, EntersServing, Serves, Cell, table, timer_of, state_number, is_same_input, effect_in, action_of, action_at, staying}
 use Rattle.node_links.specs.LinkState.{is_down, is_in_service}
 
 -- ---- states by their numbers

@@ -6,7 +6,7 @@ use Rattle.std.proofs.lemmas.List.Folds.{list_all-append}
 use Rattle.signalling_types.specs.Message.{Message, flow_of}
 use Rattle.signalling_types.specs.declared.cause.Cause.{Cause}
 use Rattle.settings_rows.specs.Configuration.{Configuration}
-use Rattle.route_table.specs.declared.route.RouteStatus.TheVariants.{Prohibited}
+use Rattle.routes.specs.declared.route.RouteStatus.TheVariants.{Prohibited}
 use Rattle.route_management.specs.Owed.{Owed, owed}
 use Rattle.flow_hold.specs.Holds.{HoldSet}
 use Rattle.exchange_rules.specs.State.{Node, with_parts}

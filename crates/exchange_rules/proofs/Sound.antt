@@ -2,16 +2,16 @@
 use Rattle.std.proofs.Common.{◌≡◌, ◌+◌, ◌∷◌, ℕ, Bool, List, [], sum_by, refl, sym, ap, ◌∙◌}
 use Rattle.std.proofs.Math.ListN.{set}
 use Rattle.cell_pool.specs.Lanes.{managements_in}
-use Rattle.link_sequence.specs.Queue as queue
-use Rattle.link_sequence.specs.Queue.{Queue, first_queue, unconfirmed}
-use Rattle.link_sequence.proofs.Kept.{unconfirmed-sent_one}
+use Rattle.link.specs.Queue as queue
+use Rattle.link.specs.Queue.{Queue, first_queue, unconfirmed}
+use Rattle.link.proofs.Kept.{unconfirmed-sent_one}
 use Rattle.exchange_rules.specs.Queues.{WholeQueues, queue_at, whole}
 use Rattle.exchange_rules.proofs.Lists.{map-set_alike, sum_by-map}
 use Rattle.std.proofs.Common.{true, false, ◌&&◌, ◌||◌, not, length, replicate}
 use Rattle.std.specs.Prelude.{Some, None, nat_lt, drop, slice_index_or, if◌then◌else◌}
 use Rattle.settings_rows.specs.Configuration.{Configuration}
-use Rattle.linkset.specs.Preference.{has_link}
-use Rattle.route_table.specs.Facts.{Facts, set_at}
+use Rattle.routes.specs.Preference.{has_link}
+use Rattle.routes.specs.Facts.{Facts, set_at}
 use Rattle.node_links.specs.Link.{Link}
 use Rattle.node_links.specs.LinkState.{is_in_service}
 use Rattle.node_links.proofs.Serving.{facts_alike, serving_none}

@@ -5,23 +5,23 @@ use Rattle.std.proofs.lemmas.List.{get_or-set_same}
 use Rattle.settings_rows.specs.Configuration.{Configuration}
 use Rattle.signalling_types.specs.Message.{flow_of}
 use Rattle.signalling_types.specs.declared.notice.FailureReason.TheVariants as reasons
-use Rattle.link_alignment.specs.declared.alignment.Alignment.{Alignment}
-use Rattle.link_alignment.specs.declared.alignment.Alignment.TheVariants.{Down, NotAligned, Aligned, Proving, AlignedReady, InService}
-use Rattle.link_alignment.specs.declared.action.Action.{Action}
-use Rattle.link_alignment.specs.declared.action.Action.TheVariants as act
-use Rattle.link_alignment.specs.declared.action.Input.TheVariants.{Expiry}
-use Rattle.link_alignment.specs.declared.action.LinkTimer.TheVariants as timer
-use Rattle.link_alignment.specs.Table.{action_at, opening}
-use Rattle.link_sequence.specs.Queue as queue
-use Rattle.link_sequence.specs.Queue.{Queue, Sending, first_queue}
-use Rattle.timer_wheel.specs.declared.name.NodeCounts.{NodeCounts}
-use Rattle.timer_wheel.specs.declared.name.TimerName.{TimerName}
-use Rattle.timer_wheel.specs.declared.name.TimerName.TheVariants.{L7}
-use Rattle.timer_wheel.specs.Names.{is_same}
-use Rattle.timer_wheel.specs.Timers.{Running, is_running, one_less, ticked, due_name, after_due}
-use Rattle.timer_wheel.proofs.Same.{same_is, is_itself}
-use Rattle.timer_wheel.proofs.Maps.{left-clear, left-clear_other, left-ticked}
-use Rattle.timer_wheel.proofs.Dues.{counts-after, after-clear, after-none}
+use Rattle.link.specs.declared.alignment.Alignment.{Alignment}
+use Rattle.link.specs.declared.alignment.Alignment.TheVariants.{Down, NotAligned, Aligned, Proving, AlignedReady, InService}
+use Rattle.link.specs.declared.action.Action.{Action}
+use Rattle.link.specs.declared.action.Action.TheVariants as act
+use Rattle.link.specs.declared.action.Input.TheVariants.{Expiry}
+use Rattle.link.specs.declared.action.LinkTimer.TheVariants as timer
+use Rattle.link.specs.Table.{action_at, opening}
+use Rattle.link.specs.Queue as queue
+use Rattle.link.specs.Queue.{Queue, Sending, first_queue}
+use Rattle.timers.specs.declared.name.NodeCounts.{NodeCounts}
+use Rattle.timers.specs.declared.name.TimerName.{TimerName}
+use Rattle.timers.specs.declared.name.TimerName.TheVariants.{L7}
+use Rattle.timers.specs.Names.{is_same}
+use Rattle.timers.specs.Timers.{Running, is_running, one_less, ticked, due_name, after_due}
+use Rattle.timers.proofs.Same.{same_is, is_itself}
+use Rattle.timers.proofs.Maps.{left-clear, left-clear_other, left-ticked}
+use Rattle.timers.proofs.Dues.{counts-after, after-clear, after-none}
 use Rattle.node_links.specs.Link.{Link}
 use Rattle.node_links.specs.LinkState.{down_link, is_in_service, opened, after_failure}
 use Rattle.changeover.specs.Standing.{Standing}

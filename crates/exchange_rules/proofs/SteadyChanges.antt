@@ -2,14 +2,14 @@
 use Rattle.std.proofs.Common.{◌≡◌, ◌≤◌, ℕ, ◌-◌, ◌+◌, Bool, true, false, ◌&&◌, not, [], length, nat_lt, nat_eq, Option, Some, Result, Ok, refl, ap, sym, ◌∙◌, arith}
 use Rattle.std.specs.Prelude.{if◌then◌else◌}
 use Rattle.std.proofs.lemmas.Bool.Decides.{nat_tests}
-use Rattle.link_alignment.specs.declared.alignment.Alignment.{Alignment}
-use Rattle.link_alignment.specs.declared.action.Input.{Input}
-use Rattle.link_alignment.specs.declared.action.Action.TheVariants.{Ignored, Go}
-use Rattle.link_alignment.specs.declared.action.Transition.{Transition}
-use Rattle.link_alignment.specs.Table.{action_at}
-use Rattle.link_sequence.specs.Queue.{Queue, IsQueue, Sending, accept_answer, accepted, after_answer, after_sending, to_send, sent_one}
-use Rattle.link_sequence.specs.declared.fault.SeqFault.{SeqFault}
-use Rattle.link_sequence.proofs.Sound.{sound-accepted, sound-sent_one}
+use Rattle.link.specs.declared.alignment.Alignment.{Alignment}
+use Rattle.link.specs.declared.action.Input.{Input}
+use Rattle.link.specs.declared.action.Action.TheVariants.{Ignored, Go}
+use Rattle.link.specs.declared.action.Transition.{Transition}
+use Rattle.link.specs.Table.{action_at}
+use Rattle.link.specs.Queue.{Queue, IsQueue, Sending, accept_answer, accepted, after_answer, after_sending, to_send, sent_one}
+use Rattle.link.specs.declared.fault.SeqFault.{SeqFault}
+use Rattle.link.proofs.Sound.{sound-accepted, sound-sent_one}
 use Rattle.node_links.specs.Link.{Link}
 use Rattle.node_links.specs.LinkState.{is_down, is_in_service, stepped}
 use Rattle.changeover.specs.Standing.{Standing}

@@ -1,9 +1,9 @@
 -- A link by its state, its changeover, its queue and its L7: what each step does to these leaves it steady.
 use Rattle.std.proofs.Common.{◌≡◌, ℕ, ◌-◌, Bool, true, false, ◌&&◌, not, [], nat_lt, refl, ap, sym, ◌∙◌}
 use Rattle.signalling_types.specs.Message.{Message}
-use Rattle.link_alignment.specs.declared.alignment.Alignment.{Alignment}
-use Rattle.link_sequence.specs.Queue.{Queue, IsQueue, first_queue, appended, emptied}
-use Rattle.link_sequence.proofs.Sound.{sound-first, sound-appended, sound-emptied}
+use Rattle.link.specs.declared.alignment.Alignment.{Alignment}
+use Rattle.link.specs.Queue.{Queue, IsQueue, first_queue, appended, emptied}
+use Rattle.link.proofs.Sound.{sound-first, sound-appended, sound-emptied}
 use Rattle.node_links.specs.Link.{Link}
 use Rattle.node_links.specs.LinkState.{is_down, is_in_service, opened, after_failure}
 use Rattle.changeover.specs.Standing.{Standing}

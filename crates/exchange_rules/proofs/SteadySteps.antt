@@ -6,15 +6,15 @@ use Rattle.std.proofs.lemmas.Bool.{cases_eq}
 use Rattle.settings_rows.specs.Configuration.{Configuration}
 use Rattle.signalling_types.specs.Message.{Message}
 use Rattle.signalling_types.specs.declared.notice.FailureReason.{FailureReason}
-use Rattle.link_alignment.specs.declared.action.Input.{Input}
-use Rattle.link_alignment.specs.declared.action.Action.TheVariants.{Go}
-use Rattle.link_alignment.specs.declared.action.Transition.{Transition}
-use Rattle.link_alignment.specs.Table.{action_at}
-use Rattle.link_sequence.specs.Queue as queue
-use Rattle.link_sequence.specs.Queue.{Queue, Sending, first_queue, emptied}
-use Rattle.timer_wheel.specs.declared.name.NodeCounts.{NodeCounts}
-use Rattle.timer_wheel.specs.declared.name.TimerName.TheVariants.{L7}
-use Rattle.timer_wheel.specs.Timers.{Running, is_running}
+use Rattle.link.specs.declared.action.Input.{Input}
+use Rattle.link.specs.declared.action.Action.TheVariants.{Go}
+use Rattle.link.specs.declared.action.Transition.{Transition}
+use Rattle.link.specs.Table.{action_at}
+use Rattle.link.specs.Queue as queue
+use Rattle.link.specs.Queue.{Queue, Sending, first_queue, emptied}
+use Rattle.timers.specs.declared.name.NodeCounts.{NodeCounts}
+use Rattle.timers.specs.declared.name.TimerName.TheVariants.{L7}
+use Rattle.timers.specs.Timers.{Running, is_running}
 use Rattle.node_links.specs.Link.{Link}
 use Rattle.node_links.specs.LinkState.{stepped, after_failure}
 use Rattle.changeover.specs.Standing.{Standing}

@@ -14,18 +14,18 @@ use Rattle.signalling_types.specs.declared.notice.ChangeoverTimer.TheVariants as
 use Rattle.m2pa_codec.specs.Frames.{FrameValue, EmptyFrame, MessageFrame, StatusFrame}
 use Rattle.m2pa_codec.specs.Reading.{read_frame}
 use Rattle.m2pa_codec.specs.declared.status.LinkStatus.{LinkStatus}
-use Rattle.link_alignment.specs.declared.action.Action.{Action}
-use Rattle.link_alignment.specs.declared.action.Action.TheVariants as act
-use Rattle.link_alignment.specs.declared.action.Input.TheVariants.{UserData}
-use Rattle.link_alignment.specs.declared.action.LinkTimer.{LinkTimer}
-use Rattle.link_alignment.specs.declared.action.LinkTimer.TheVariants as timer
+use Rattle.link.specs.declared.action.Action.{Action}
+use Rattle.link.specs.declared.action.Action.TheVariants as act
+use Rattle.link.specs.declared.action.Input.TheVariants.{UserData}
+use Rattle.link.specs.declared.action.LinkTimer.{LinkTimer}
+use Rattle.link.specs.declared.action.LinkTimer.TheVariants as timer
 use Rattle.exchange_rules.specs.Timing.{timer_name}
-use Rattle.link_alignment.specs.Table.{action_at}
-use Rattle.link_sequence.specs.Queue.{Sending}
-use Rattle.link_sequence.specs.declared.fault.SeqFault.{SeqFault}
-use Rattle.timer_wheel.specs.declared.name.TimerName.{TimerName}
-use Rattle.timer_wheel.specs.declared.name.TimerName.TheVariants as name
-use Rattle.timer_wheel.specs.Timers.{ticked, due_name, after_due, due_count}
+use Rattle.link.specs.Table.{action_at}
+use Rattle.link.specs.Queue.{Sending}
+use Rattle.link.specs.declared.fault.SeqFault.{SeqFault}
+use Rattle.timers.specs.declared.name.TimerName.{TimerName}
+use Rattle.timers.specs.declared.name.TimerName.TheVariants as name
+use Rattle.timers.specs.Timers.{ticked, due_name, after_due, due_count}
 use Rattle.node_links.specs.Link.{Link}
 use Rattle.node_links.specs.LinkState.{down_link, is_in_service}
 use Rattle.flow_hold.specs.declared.procedure.Procedure.TheVariants.{Time, Code, Reroute}

@@ -12,9 +12,9 @@ use Rattle.signalling_types.specs.declared.notice.FailureReason.TheVariants as r
 use Rattle.signalling_types.specs.declared.notice.ChangeoverTimer.{ChangeoverTimer}
 use Rattle.signalling_types.specs.declared.notice.ChangeoverTimer.TheVariants as which
 use Rattle.settings_rows.specs.Configuration.{Configuration}
-use Rattle.timer_wheel.specs.declared.name.TimerName.TheVariants as name
-use Rattle.timer_wheel.specs.declared.name.RouteTimer.TheVariants as of_set
-use Rattle.timer_wheel.specs.Timers.{Running}
+use Rattle.timers.specs.declared.name.TimerName.TheVariants as name
+use Rattle.timers.specs.declared.name.RouteTimer.TheVariants as of_set
+use Rattle.timers.specs.Timers.{Running}
 use Rattle.changeover.specs.Standing.{Standing, completed, acknowledged, failed, begun_by_peer}
 use Rattle.flow_hold.specs.declared.procedure.Procedure.TheVariants.{Changeover}
 use Rattle.exchange_rules.specs.State.{Parts, Node, Found, with_parts, answer}

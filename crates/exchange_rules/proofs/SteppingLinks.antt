@@ -11,22 +11,22 @@ use Rattle.signalling_types.specs.declared.notice.FailureReason.{FailureReason}
 use Rattle.signalling_types.specs.declared.notice.FailureReason.TheVariants as reasons
 use Rattle.m2pa_codec.specs.declared.status.LinkStatus.{LinkStatus}
 use Rattle.m2pa_codec.specs.declared.status.LinkStatus.TheVariants as says
-use Rattle.link_alignment.specs.declared.alignment.Alignment.TheVariants.{Down}
-use Rattle.link_alignment.specs.declared.action.Action.{Action}
-use Rattle.link_alignment.specs.declared.action.Action.TheVariants as act
-use Rattle.link_alignment.specs.declared.action.Input.{Input}
-use Rattle.link_alignment.specs.declared.action.Input.TheVariants.{Status, Expiry}
-use Rattle.link_alignment.specs.declared.action.LinkTimer.{LinkTimer}
-use Rattle.link_alignment.specs.declared.action.Transition.{Transition}
-use Rattle.link_alignment.specs.Table.{action_at}
+use Rattle.link.specs.declared.alignment.Alignment.TheVariants.{Down}
+use Rattle.link.specs.declared.action.Action.{Action}
+use Rattle.link.specs.declared.action.Action.TheVariants as act
+use Rattle.link.specs.declared.action.Input.{Input}
+use Rattle.link.specs.declared.action.Input.TheVariants.{Status, Expiry}
+use Rattle.link.specs.declared.action.LinkTimer.{LinkTimer}
+use Rattle.link.specs.declared.action.Transition.{Transition}
+use Rattle.link.specs.Table.{action_at}
 use Rattle.node_links.specs.Link.{Link}
 use Rattle.node_links.specs.LinkState.{down_link, is_down, is_in_service, stepped, after_failure}
-use Rattle.timer_wheel.specs.declared.name.RouteTimer.TheVariants as of_set
-use Rattle.timer_wheel.specs.Timers.{clear_set}
+use Rattle.timers.specs.declared.name.RouteTimer.TheVariants as of_set
+use Rattle.timers.specs.Timers.{clear_set}
 use Rattle.route_management.proofs.Shape.{reset_shape}
 use Rattle.changeover.specs.Standing.{Standing, may_restart}
 use Rattle.node_links.specs.Network.{link_in}
-use Rattle.route_table.specs.Facts.{Facts}
+use Rattle.routes.specs.Facts.{Facts}
 use Rattle.exchange_rules.specs.Opening.{may_open, open_link, association_up, fail_if_up, end_association, association_down, set_active, activate, deactivate}
 use Rattle.exchange_rules.specs.State.{Parts, Node, Done, with_parts, answer, refuse}
 use Rattle.exchange_rules.specs.Links.{is_link, link_at, links_with, down, in_service}

@@ -8,21 +8,21 @@ use Rattle.signalling_types.specs.declared.cause.Cause.TheVariants as causes
 use Rattle.signalling_types.specs.declared.notice.Notice.TheVariants as notices
 use Rattle.signalling_types.specs.declared.outcome.Outcome.{Outcome}
 use Rattle.signalling_types.specs.declared.outcome.Outcome.TheVariants.{Queued, Held, Local, Handled, Ignored, Refused}
-use Rattle.stp_types.specs.Readings.{set_place, destination_place}
-use Rattle.mgmt_codec.specs.declared.fault.MgmtFault.{MgmtFault}
-use Rattle.mgmt_codec.specs.declared.link_test.TestKind.{TestKind}
-use Rattle.mgmt_codec.specs.declared.link_test.TestKind.TheVariants.{Test, Acknowledgement}
-use Rattle.mgmt_codec.specs.declared.management.Management.{Management}
-use Rattle.mgmt_codec.specs.declared.management.Management.TheVariants.{TrafficRestartAllowed, ExtendedChangeoverOrder, ExtendedChangeoverAcknowledgement, EmergencyChangeoverOrder, EmergencyChangeoverAcknowledgement, ChangebackDeclaration, ChangebackAcknowledgement, TransferProhibited, TransferRestricted, TransferAllowed, RouteSetTestProhibited, RouteSetTestRestricted}
-use Rattle.mgmt_codec.specs.LinkTests.{LinkTestValue, read_link_test}
-use Rattle.mgmt_codec.specs.Management.{read_management}
-use Rattle.timer_wheel.specs.declared.name.TimerName.TheVariants as name
-use Rattle.route_table.specs.declared.route.RouteStatus.TheVariants.{Allowed, Restricted, Prohibited}
+use Rattle.settings.specs.Readings.{set_place, destination_place}
+use Rattle.mtp3_codec.specs.declared.fault.MgmtFault.{MgmtFault}
+use Rattle.mtp3_codec.specs.declared.link_test.TestKind.{TestKind}
+use Rattle.mtp3_codec.specs.declared.link_test.TestKind.TheVariants.{Test, Acknowledgement}
+use Rattle.mtp3_codec.specs.declared.management.Management.{Management}
+use Rattle.mtp3_codec.specs.declared.management.Management.TheVariants.{TrafficRestartAllowed, ExtendedChangeoverOrder, ExtendedChangeoverAcknowledgement, EmergencyChangeoverOrder, EmergencyChangeoverAcknowledgement, ChangebackDeclaration, ChangebackAcknowledgement, TransferProhibited, TransferRestricted, TransferAllowed, RouteSetTestProhibited, RouteSetTestRestricted}
+use Rattle.mtp3_codec.specs.LinkTests.{LinkTestValue, read_link_test}
+use Rattle.mtp3_codec.specs.Management.{read_management}
+use Rattle.timers.specs.declared.name.TimerName.TheVariants as name
+use Rattle.routes.specs.declared.route.RouteStatus.TheVariants.{Allowed, Restricted, Prohibited}
 use Rattle.route_management.specs.declared.heard.RouteTest.TheVariants as tests
 use Rattle.changeback.specs.Codes.{is_outstanding}
 use Rattle.flow_hold.specs.declared.procedure.Procedure.TheVariants.{Code}
-use Rattle.routing_label.specs.declared.discrimination.Discrimination.{Discrimination}
-use Rattle.routing_label.specs.declared.discrimination.Discrimination.TheVariants as whither
+use Rattle.mtp3_codec.specs.declared.discrimination.Discrimination.{Discrimination}
+use Rattle.mtp3_codec.specs.declared.discrimination.Discrimination.TheVariants as whither
 use Rattle.exchange_rules.specs.State.{Node, Done, with_parts, answer, refuse}
 use Rattle.exchange_rules.specs.Links.{in_service}
 use Rattle.exchange_rules.specs.Noting.{note_outcome}

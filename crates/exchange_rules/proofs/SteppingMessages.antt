@@ -8,12 +8,12 @@ use Rattle.signalling_types.specs.declared.cause.Cause.{Cause}
 use Rattle.signalling_types.specs.declared.cause.Cause.TheVariants as causes
 use Rattle.signalling_types.specs.declared.outcome.Outcome.{Outcome}
 use Rattle.signalling_types.specs.declared.outcome.Outcome.TheVariants.{Handled, Ignored}
-use Rattle.stp_types.specs.Readings.{destination_place}
-use Rattle.timer_wheel.specs.declared.name.TimerName.TheVariants as name
-use Rattle.timer_wheel.specs.Timers.{Running}
-use Rattle.route_table.specs.declared.route.RouteStatus.{RouteStatus}
-use Rattle.route_table.specs.declared.route.RouteStatus.TheVariants.{Allowed, Restricted, Prohibited}
-use Rattle.route_table.specs.Statuses.{status_of}
+use Rattle.settings.specs.Readings.{destination_place}
+use Rattle.timers.specs.declared.name.TimerName.TheVariants as name
+use Rattle.timers.specs.Timers.{Running}
+use Rattle.routes.specs.declared.route.RouteStatus.{RouteStatus}
+use Rattle.routes.specs.declared.route.RouteStatus.TheVariants.{Allowed, Restricted, Prohibited}
+use Rattle.routes.specs.Statuses.{status_of}
 use Rattle.changeback.specs.Rerouting.{rerouted, held_for}
 use Rattle.route_management.specs.Told as told
 use Rattle.route_management.proofs.Shape.{told_shape}

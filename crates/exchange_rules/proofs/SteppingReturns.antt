@@ -4,10 +4,10 @@ use Rattle.std.specs.Prelude.{if◌then◌else◌}
 use Rattle.std.proofs.lemmas.Bool.{and_parts, eqb-true}
 use Rattle.std.proofs.lemmas.Bool.Decides.{nat_tests}
 use Rattle.settings_rows.specs.Configuration.{Configuration}
-use Rattle.timer_wheel.specs.declared.name.TimerName.TheVariants as name
+use Rattle.timers.specs.declared.name.TimerName.TheVariants as name
 use Rattle.node_links.proofs.Chosen.{chosen_serving}
-use Rattle.route_table.specs.Facts.{Facts}
-use Rattle.route_table.specs.Chosen.{chosen_link}
+use Rattle.routes.specs.Facts.{Facts}
+use Rattle.routes.specs.Chosen.{chosen_link}
 use Rattle.flow_hold.specs.declared.procedure.Procedure.{Procedure}
 use Rattle.flow_hold.specs.Flows.{any_flow}
 use Rattle.flow_hold.specs.Pairs.{IsAnyFlow}

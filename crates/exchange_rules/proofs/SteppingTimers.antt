@@ -2,13 +2,13 @@
 use Rattle.std.proofs.Common.{◌≡◌, ◌≢◌, ℕ, Bool, true, false, cond, refl, sym, ap, ◌∙◌, arith}
 use Rattle.std.specs.Prelude.{Option, Some, None, max, is_some}
 use Rattle.std.proofs.lemmas.Bool.Decides.{nat_tests}
-use Rattle.timer_wheel.specs.declared.name.TimerName.{TimerName}
-use Rattle.timer_wheel.specs.declared.name.TimerName.TheVariants.{L7}
-use Rattle.timer_wheel.specs.declared.name.RouteTimer.{RouteTimer}
-use Rattle.timer_wheel.specs.declared.name.RouteTimer.TheVariants as route
-use Rattle.timer_wheel.specs.Names.{has_name, is_same, is_of_set}
-use Rattle.timer_wheel.specs.Timers.{Running, set_timer, clear_timer, clear_set, is_due, no_tick_left}
-use Rattle.timer_wheel.proofs.Maps.{left-set_other, left-clear_other, left-clear_set_other, counts-set, counts-clear, counts-clear_set}
+use Rattle.timers.specs.declared.name.TimerName.{TimerName}
+use Rattle.timers.specs.declared.name.TimerName.TheVariants.{L7}
+use Rattle.timers.specs.declared.name.RouteTimer.{RouteTimer}
+use Rattle.timers.specs.declared.name.RouteTimer.TheVariants as route
+use Rattle.timers.specs.Names.{has_name, is_same, is_of_set}
+use Rattle.timers.specs.Timers.{Running, set_timer, clear_timer, clear_set, is_due, no_tick_left}
+use Rattle.timers.proofs.Maps.{left-set_other, left-clear_other, left-clear_set_other, counts-set, counts-clear, counts-clear_set}
 use Rattle.exchange_rules.proofs.Steps.{AreTimed}
 
 -- where a timer that is due is due still, or has what is never due

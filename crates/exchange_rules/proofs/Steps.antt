@@ -7,19 +7,19 @@ use Rattle.signalling_types.specs.Message.{Message, flow_of}
 use Rattle.signalling_types.specs.declared.notice.Notice.{Notice}
 use Rattle.signalling_types.specs.declared.notice.FailureReason.{FailureReason}
 use Rattle.settings_rows.specs.Configuration.{Configuration, TitleEntry}
-use Rattle.link_alignment.specs.declared.action.Input.{Input}
-use Rattle.link_alignment.specs.declared.action.Action.TheVariants.{Go}
-use Rattle.link_alignment.specs.declared.action.Transition.{Transition}
-use Rattle.link_alignment.specs.Table.{action_at}
-use Rattle.link_sequence.specs.Queue.{Sending}
-use Rattle.mgmt_codec.specs.LinkTests.{LinkTestValue}
-use Rattle.timer_wheel.specs.declared.name.TimerName.{TimerName}
-use Rattle.timer_wheel.specs.declared.name.TimerName.TheVariants.{L7}
-use Rattle.timer_wheel.specs.Timers.{Running, is_running, is_due}
-use Rattle.route_table.specs.declared.route.Route.{Route}
-use Rattle.route_table.specs.declared.route.RouteStatus.{RouteStatus}
-use Rattle.route_table.specs.declared.route.RouteStatus.TheVariants.{Allowed}
-use Rattle.route_table.specs.Statuses.{leads_by}
+use Rattle.link.specs.declared.action.Input.{Input}
+use Rattle.link.specs.declared.action.Action.TheVariants.{Go}
+use Rattle.link.specs.declared.action.Transition.{Transition}
+use Rattle.link.specs.Table.{action_at}
+use Rattle.link.specs.Queue.{Sending}
+use Rattle.mtp3_codec.specs.LinkTests.{LinkTestValue}
+use Rattle.timers.specs.declared.name.TimerName.{TimerName}
+use Rattle.timers.specs.declared.name.TimerName.TheVariants.{L7}
+use Rattle.timers.specs.Timers.{Running, is_running, is_due}
+use Rattle.routes.specs.declared.route.Route.{Route}
+use Rattle.routes.specs.declared.route.RouteStatus.{RouteStatus}
+use Rattle.routes.specs.declared.route.RouteStatus.TheVariants.{Allowed}
+use Rattle.routes.specs.Statuses.{leads_by}
 use Rattle.route_management.specs.Told.{ToldTable, is_own_point, shape_of}
 use Rattle.node_links.specs.Link.{Link}
 use Rattle.changeover.specs.Standing.{Standing}

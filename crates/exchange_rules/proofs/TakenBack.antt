@@ -6,8 +6,8 @@ use Rattle.std.proofs.lemmas.Bool.Decides.{nat_tests}
 use Rattle.std.proofs.lemmas.List.Quantifiers.{position-Some}
 use Rattle.signalling_types.specs.declared.cause.Cause.{Cause}
 use Rattle.settings_rows.specs.Configuration.{Configuration}
-use Rattle.route_table.specs.Facts.{Facts}
-use Rattle.route_table.specs.Chosen.{chosen_link}
+use Rattle.routes.specs.Facts.{Facts}
+use Rattle.routes.specs.Chosen.{chosen_link}
 use Rattle.signalling_types.specs.declared.limits.TheConstants.Limits.{SELECTIONS}
 use Rattle.flow_hold.specs.Holds.{HoldSet, holds, may_hold}
 use Rattle.flow_hold.specs.Flows.{any_flow}

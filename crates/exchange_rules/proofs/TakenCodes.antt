@@ -10,8 +10,8 @@ use Rattle.signalling_types.specs.declared.cause.Cause.{Cause}
 use Rattle.signalling_types.specs.declared.cause.Cause.TheVariants.{ManagementFull}
 use Rattle.signalling_types.specs.declared.limits.TheConstants.Limits.{MANAGEMENT_MESSAGES}
 use Rattle.settings_rows.specs.Configuration.{Configuration}
-use Rattle.link_sequence.specs.Queue.{first_queue, appended}
-use Rattle.route_table.specs.Facts.{Facts}
+use Rattle.link.specs.Queue.{first_queue, appended}
+use Rattle.routes.specs.Facts.{Facts}
 use Rattle.changeback.specs.Codes.{codes_of, free_code, is_outstanding}
 use Rattle.exchange_rules.specs.State.{Node}
 use Rattle.exchange_rules.specs.Points.{set_of}

@@ -4,7 +4,7 @@ use Rattle.std.proofs.lemmas.List.Elements.{filter-append}
 use Rattle.std.proofs.lemmas.List.Sums.{sum_by-append, sum_by-cons, sum_by-set}
 use Rattle.std.specs.Prelude.{count_by, if◌then◌else◌, slice_index_or, slice_set}
 use Rattle.changeover.specs.Completion.{users_of}
-use Rattle.link_sequence.specs.Queue.{Queue, first_queue, unconfirmed}
+use Rattle.link.specs.Queue.{Queue, first_queue, unconfirmed}
 use Rattle.signalling_types.specs.Message.{Message, is_management}
 use Rattle.exchange_rules.specs.Conserving.{standing, users_that}
 use Rattle.exchange_rules.specs.Queues.{WholeQueues, queue_at, whole, with_queue}

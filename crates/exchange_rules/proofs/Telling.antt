@@ -4,7 +4,7 @@ use Rattle.std.specs.Prelude.{if◌then◌else◌}
 use Rattle.signalling_types.specs.declared.cause.Cause.{Cause}
 use Rattle.signalling_types.specs.Message.{Message, flow_of}
 use Rattle.settings_rows.specs.Configuration.{Configuration}
-use Rattle.route_table.specs.Facts.{Facts}
+use Rattle.routes.specs.Facts.{Facts}
 use Rattle.route_management.specs.Told.{ToldTable, row_of, with_told}
 use Rattle.route_management.specs.Owed.{Owed, owed, all_told, owes_nothing}
 use Rattle.route_management.proofs.Walking.{row_kept, AreTo}

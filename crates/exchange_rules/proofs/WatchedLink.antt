@@ -3,13 +3,13 @@ use Rattle.std.proofs.Common.{◌≡◌, ◌≢◌, ◌<◌, ℕ, Bool, true, fa
 use Rattle.std.specs.Prelude.{if◌then◌else◌, is_some}
 use Rattle.std.proofs.lemmas.Bool.Decides.{nat_tests}
 use Rattle.settings_rows.specs.Configuration.{Configuration}
-use Rattle.link_alignment.specs.declared.action.LinkTimer.{LinkTimer}
-use Rattle.link_alignment.specs.declared.action.LinkTimer.TheVariants as timer
-use Rattle.link_alignment.specs.declared.action.Transition.{Transition}
-use Rattle.timer_wheel.specs.declared.name.TimerName.TheVariants.{L6, L7}
-use Rattle.timer_wheel.specs.declared.name.NodeCounts.{NodeCounts}
-use Rattle.timer_wheel.specs.Timers.{Running, set_timer, start_unless_running, clear_timer, is_running}
-use Rattle.timer_wheel.proofs.Maps.{left-set, left-set_other, left-clear, left-clear_other, counts-clear}
+use Rattle.link.specs.declared.action.LinkTimer.{LinkTimer}
+use Rattle.link.specs.declared.action.LinkTimer.TheVariants as timer
+use Rattle.link.specs.declared.action.Transition.{Transition}
+use Rattle.timers.specs.declared.name.TimerName.TheVariants.{L6, L7}
+use Rattle.timers.specs.declared.name.NodeCounts.{NodeCounts}
+use Rattle.timers.specs.Timers.{Running, set_timer, start_unless_running, clear_timer, is_running}
+use Rattle.timers.proofs.Maps.{left-set, left-set_other, left-clear, left-clear_other, counts-clear}
 use Rattle.exchange_rules.specs.Timing.{timer_name, ticks_of, without_timer, without_timers, with_timer, without_timer_if, with_timer_if, timed, timed_sending, timed_confirming, timed_busy, timed_busy_ended}
 use Rattle.exchange_rules.proofs.Serving.{is_l7}
 

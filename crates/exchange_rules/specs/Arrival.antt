@@ -3,7 +3,7 @@
 use Rattle.std.specs.Prelude.{ℕ, Bool, true, false, Option, Some, None, is_some, if◌then◌else◌}
 use Rattle.signalling_types.specs.Message.{Message, flow_of, dpc_of}
 use Rattle.settings_rows.specs.Configuration.{Configuration}
-use Rattle.stp_types.specs.Readings.{destination_place}
+use Rattle.settings.specs.Readings.{destination_place}
 use Rattle.signalling_types.specs.declared.cause.Cause.{Cause}
 use Rattle.signalling_types.specs.declared.cause.Cause.TheVariants.{UnknownDestination, NoRoute}
 use Rattle.signalling_types.specs.declared.outcome.Outcome.TheVariants.{Queued, Held}

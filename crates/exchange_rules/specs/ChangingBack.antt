@@ -9,12 +9,12 @@ use Rattle.signalling_types.specs.declared.outcome.Outcome.TheVariants.{Handled,
 use Rattle.signalling_types.specs.declared.notice.Notice.{Notice}
 use Rattle.signalling_types.specs.declared.notice.Notice.TheVariants as notices
 use Rattle.signalling_types.specs.declared.notice.LateTimer.TheVariants as late_timer
-use Rattle.mgmt_codec.specs.declared.management.Management.TheVariants.{ChangebackDeclaration}
-use Rattle.mgmt_codec.specs.declared.management.Management.TheVariants.{ChangebackAcknowledgement}
-use Rattle.timer_wheel.specs.declared.name.TimerName.TheVariants.{T3, T4}
-use Rattle.timer_wheel.specs.Timers.{set_timer, clear_timer}
-use Rattle.route_table.specs.Facts.{Facts}
-use Rattle.route_table.specs.Chosen.{chosen_link}
+use Rattle.mtp3_codec.specs.declared.management.Management.TheVariants.{ChangebackDeclaration}
+use Rattle.mtp3_codec.specs.declared.management.Management.TheVariants.{ChangebackAcknowledgement}
+use Rattle.timers.specs.declared.name.TimerName.TheVariants.{T3, T4}
+use Rattle.timers.specs.Timers.{set_timer, clear_timer}
+use Rattle.routes.specs.Facts.{Facts}
+use Rattle.routes.specs.Chosen.{chosen_link}
 use Rattle.flow_hold.specs.declared.procedure.Procedure.{Procedure}
 use Rattle.flow_hold.specs.declared.procedure.Procedure.TheVariants.{Code, Time}
 use Rattle.flow_hold.specs.Holds.{lifted}

@@ -9,9 +9,9 @@ use Rattle.signalling_types.specs.declared.outcome.Outcome.TheVariants.{Handled,
 use Rattle.signalling_types.specs.declared.notice.Notice.TheVariants as notices
 use Rattle.signalling_types.specs.declared.notice.ChangeoverTimer.{ChangeoverTimer}
 use Rattle.signalling_types.specs.declared.notice.ChangeoverTimer.TheVariants as timer
-use Rattle.mgmt_codec.specs.declared.management.Management.TheVariants.{ExtendedChangeoverAcknowledgement}
-use Rattle.timer_wheel.specs.declared.name.TimerName.TheVariants.{T1, T2}
-use Rattle.timer_wheel.specs.Timers.{clear_timer}
+use Rattle.mtp3_codec.specs.declared.management.Management.TheVariants.{ExtendedChangeoverAcknowledgement}
+use Rattle.timers.specs.declared.name.TimerName.TheVariants.{T1, T2}
+use Rattle.timers.specs.Timers.{clear_timer}
 use Rattle.flow_hold.specs.declared.procedure.Procedure.TheVariants.{Changeover}
 use Rattle.flow_hold.specs.Holds.{lifted}
 use Rattle.changeover.specs.Standing as standing

@@ -4,21 +4,21 @@ use Rattle.std.specs.Prelude.{if◌then◌else◌, is_some, nat_eq, not, suc, su
 use Rattle.std.specs.Prelude.{◌&&◌, ◌++◌, ◌+◌, ◌-◌, ◌∷◌}
 use Rattle.changeover.specs.Completion.{accepted_count, users_of}
 use Rattle.changeover.specs.Laws.{count_in_the_end}
-use Rattle.link_alignment.specs.Table.{action_at}
-use Rattle.link_alignment.specs.declared.action.Action.{Action}
-use Rattle.link_alignment.specs.declared.action.Input.TheVariants.{UserData}
-use Rattle.link_sequence.specs.Queue.{Queue, count_confirmed, unconfirmed}
-use Rattle.link_sequence.specs.declared.fault.SeqFault.{SeqFault}
+use Rattle.link.specs.Table.{action_at}
+use Rattle.link.specs.declared.action.Action.{Action}
+use Rattle.link.specs.declared.action.Input.TheVariants.{UserData}
+use Rattle.link.specs.Queue.{Queue, count_confirmed, unconfirmed}
+use Rattle.link.specs.declared.fault.SeqFault.{SeqFault}
 use Rattle.m2pa_codec.specs.Frames.{FrameValue}
 use Rattle.m2pa_codec.specs.Reading.{read_frame}
-use Rattle.mgmt_codec.specs.Management.{read_management}
-use Rattle.mgmt_codec.specs.declared.fault.MgmtFault.{MgmtFault}
-use Rattle.mgmt_codec.specs.declared.management.Management.{Management}
-use Rattle.mgmt_codec.specs.declared.management.Management.TheVariants.{EmergencyChangeoverAcknowledgement}
-use Rattle.mgmt_codec.specs.declared.management.Management.TheVariants.{EmergencyChangeoverOrder}
-use Rattle.mgmt_codec.specs.declared.management.Management.TheVariants.{ExtendedChangeoverAcknowledgement}
-use Rattle.mgmt_codec.specs.declared.management.Management.TheVariants.{ExtendedChangeoverOrder}
-use Rattle.routing_label.specs.declared.discrimination.Discrimination.{Discrimination}
+use Rattle.mtp3_codec.specs.Management.{read_management}
+use Rattle.mtp3_codec.specs.declared.fault.MgmtFault.{MgmtFault}
+use Rattle.mtp3_codec.specs.declared.management.Management.{Management}
+use Rattle.mtp3_codec.specs.declared.management.Management.TheVariants.{EmergencyChangeoverAcknowledgement}
+use Rattle.mtp3_codec.specs.declared.management.Management.TheVariants.{EmergencyChangeoverOrder}
+use Rattle.mtp3_codec.specs.declared.management.Management.TheVariants.{ExtendedChangeoverAcknowledgement}
+use Rattle.mtp3_codec.specs.declared.management.Management.TheVariants.{ExtendedChangeoverOrder}
+use Rattle.mtp3_codec.specs.declared.discrimination.Discrimination.{Discrimination}
 use Rattle.sccp_relay.specs.Relay.{RelayedValue, relay}
 use Rattle.sccp_relay.specs.Return.{returned}
 use Rattle.settings_rows.specs.Configuration.{Configuration}
@@ -27,9 +27,9 @@ use Rattle.signalling_types.specs.declared.notice.FrameFault.{FrameFault}
 use Rattle.signalling_types.specs.declared.outcome.Outcome.{Outcome}
 use Rattle.signalling_types.specs.declared.outcome.Outcome.TheVariants.{Handled, Held, Ignored, Local, Queued}
 use Rattle.signalling_types.specs.declared.outcome.Outcome.TheVariants.{Refused}
-use Rattle.timer_wheel.specs.Timers.{after_due, due_count, due_name, ticked}
-use Rattle.timer_wheel.specs.declared.name.TimerName.{TimerName}
-use Rattle.timer_wheel.specs.declared.name.TimerName.TheVariants.{T1, T2}
+use Rattle.timers.specs.Timers.{after_due, due_count, due_name, ticked}
+use Rattle.timers.specs.declared.name.TimerName.{TimerName}
+use Rattle.timers.specs.declared.name.TimerName.TheVariants.{T1, T2}
 use Rattle.exchange_rules.specs.Arrival.{transfer}
 use Rattle.exchange_rules.specs.ChangingOver.{fail_by_order}
 use Rattle.exchange_rules.specs.Exchange.{handle_event, outcome_of}
@@ -49,9 +49,9 @@ use Rattle.exchange_rules.specs.Sound.{Abstract}
 use Rattle.exchange_rules.specs.State.{Node, Parts}
 use Rattle.exchange_rules.specs.Statuses.{advance}
 use Rattle.exchange_rules.specs.Ticking.{run_next, with_timers}
-use Rattle.link_alignment.specs.declared.action.Action.TheVariants as act
+use Rattle.link.specs.declared.action.Action.TheVariants as act
 use Rattle.sccp_relay.specs.Relay as relays
-use Rattle.routing_label.specs.declared.discrimination.Discrimination.TheVariants as whither
+use Rattle.mtp3_codec.specs.declared.discrimination.Discrimination.TheVariants as whither
 
 -- ---- how many
 

@@ -5,11 +5,11 @@ use Rattle.signalling_types.specs.Message.{Message}
 use Rattle.signalling_types.specs.declared.notice.FailureReason.{FailureReason}
 use Rattle.signalling_types.specs.declared.notice.FailureReason.TheVariants as reasons
 use Rattle.signalling_types.specs.declared.notice.Notice.TheVariants as notices
-use Rattle.linkset.specs.Preference.{has_link}
-use Rattle.route_table.specs.Facts.{set_at}
-use Rattle.mgmt_codec.specs.declared.management.Management.TheVariants.{ExtendedChangeoverOrder}
-use Rattle.timer_wheel.specs.declared.name.TimerName.TheVariants.{T1, T2}
-use Rattle.timer_wheel.specs.Timers.{Running, set_timer}
+use Rattle.routes.specs.Preference.{has_link}
+use Rattle.routes.specs.Facts.{set_at}
+use Rattle.mtp3_codec.specs.declared.management.Management.TheVariants.{ExtendedChangeoverOrder}
+use Rattle.timers.specs.declared.name.TimerName.TheVariants.{T1, T2}
+use Rattle.timers.specs.Timers.{Running, set_timer}
 use Rattle.changeover.specs.Standing.{Standing, standing_at, with_standing, failed, begun_by_peer}
 use Rattle.node_links.specs.LinkState.{after_failure}
 use Rattle.exchange_rules.specs.State.{◌▷◌, QueueKind, Parts, Node, with_parts}

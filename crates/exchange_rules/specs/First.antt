@@ -1,16 +1,16 @@
 -- The state that an exchange has once it is booted.
 use Rattle.std.specs.Prelude.{false, [], map, length, replicate}
 use Rattle.settings_rows.specs.Configuration.{Configuration}
-use Rattle.timer_wheel.specs.declared.name.NodeCounts.{NodeCounts}
-use Rattle.timer_wheel.specs.Timers.{none_running}
-use Rattle.link_sequence.specs.Queue.{first_queue}
-use Rattle.route_table.specs.Facts.{first_routes}
+use Rattle.timers.specs.declared.name.NodeCounts.{NodeCounts}
+use Rattle.timers.specs.Timers.{none_running}
+use Rattle.link.specs.Queue.{first_queue}
+use Rattle.routes.specs.Facts.{first_routes}
 use Rattle.node_links.specs.LinkState.{down_link}
 use Rattle.changeover.specs.Standing.{no_changeover}
 use Rattle.changeback.specs.Codes.{no_codes}
 use Rattle.route_management.specs.Told.{first_told}
 use Rattle.flow_hold.specs.Holds.{no_holds}
-use Rattle.global_title.specs.Rows.{table_of}
+use Rattle.sccp_relay.specs.Rows.{table_of}
 use Rattle.exchange_rules.specs.State.{Parts}
 use Rattle.exchange_rules.specs.Sound.{Abstract}
 

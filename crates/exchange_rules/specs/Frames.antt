@@ -10,11 +10,11 @@ use Rattle.signalling_types.specs.declared.notice.FrameFault.{FrameFault}
 use Rattle.signalling_types.specs.declared.notice.FrameFault.TheVariants as faults
 use Rattle.m2pa_codec.specs.Frames.{FrameValue, EmptyFrame, MessageFrame, StatusFrame}
 use Rattle.m2pa_codec.specs.Reading.{read_frame}
-use Rattle.link_alignment.specs.declared.action.Action.{Action}
-use Rattle.link_alignment.specs.declared.action.Action.TheVariants as act
-use Rattle.link_alignment.specs.declared.action.Input.TheVariants.{UserData}
-use Rattle.link_alignment.specs.Table.{action_at}
-use Rattle.link_sequence.specs.declared.fault.SeqFault.{SeqFault}
+use Rattle.link.specs.declared.action.Action.{Action}
+use Rattle.link.specs.declared.action.Action.TheVariants as act
+use Rattle.link.specs.declared.action.Input.TheVariants.{UserData}
+use Rattle.link.specs.Table.{action_at}
+use Rattle.link.specs.declared.fault.SeqFault.{SeqFault}
 use Rattle.exchange_rules.specs.State.{unless◌then◌else◌, QueueKind, Parts, Node, Done, with_parts, answer, refuse}
 use Rattle.exchange_rules.specs.Links.{is_link, link_at, with_link, down}
 use Rattle.exchange_rules.specs.Timing.{timed_confirming}

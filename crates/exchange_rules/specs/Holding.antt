@@ -3,7 +3,7 @@ use Rattle.std.specs.Prelude.{ℕ, Bool, false, ◌&&◌, not, Option, Some, Non
 use Rattle.std.specs.List.{list_all}
 use Rattle.signalling_types.specs.Message.{Message, flow_of, is_management}
 use Rattle.settings_rows.specs.Configuration.{Configuration}
-use Rattle.stp_types.specs.Readings.{destination_place}
+use Rattle.settings.specs.Readings.{destination_place}
 use Rattle.flow_hold.specs.Holds.{HoldSet, is_held}
 use Rattle.exchange_rules.specs.State.{QueueKind, Node}
 

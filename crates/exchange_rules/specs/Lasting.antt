@@ -6,7 +6,7 @@ use Rattle.signalling_types.specs.declared.notice.Notice.{Notice}
 use Rattle.signalling_types.specs.declared.notice.Notice.TheVariants as notices
 use Rattle.signalling_types.specs.declared.notice.ChangeoverTimer.TheVariants as timer
 use Rattle.signalling_types.specs.declared.limits.TheConstants.Limits.{LINKS}
-use Rattle.timer_wheel.specs.Timers.{Running}
+use Rattle.timers.specs.Timers.{Running}
 use Rattle.exchange_rules.specs.Happening.{Asking, Happens, Takes, AsksWants}
 use Rattle.exchange_rules.specs.State.{Parts, Node}
 use Rattle.exchange_rules.specs.ChangingOver.{complete_if}

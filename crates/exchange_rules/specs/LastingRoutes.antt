@@ -1,9 +1,9 @@
 -- The route to an adjacent point over its own set, over every event and every take: a law.
 use Rattle.std.specs.Prelude.{◌≡◌, ℕ, true, List, Some}
 use Rattle.settings_rows.specs.Configuration.{Configuration}
-use Rattle.route_table.specs.declared.route.RouteStatus.{RouteStatus}
-use Rattle.route_table.specs.declared.route.RouteStatus.TheVariants.{Allowed}
-use Rattle.route_table.specs.Statuses.{status_of}
+use Rattle.routes.specs.declared.route.RouteStatus.{RouteStatus}
+use Rattle.routes.specs.declared.route.RouteStatus.TheVariants.{Allowed}
+use Rattle.routes.specs.Statuses.{status_of}
 use Rattle.route_management.specs.Told.{is_own_point}
 use Rattle.exchange_rules.specs.Routing.{facts}
 use Rattle.exchange_rules.specs.Happening.{Asking}

@@ -9,29 +9,29 @@ use Rattle.signalling_types.specs.declared.notice.FrameFault.{FrameFault}
 use Rattle.signalling_types.specs.declared.outcome.Outcome.TheVariants.{Queued, Refused}
 use Rattle.m2pa_codec.specs.Frames.{FrameValue}
 use Rattle.m2pa_codec.specs.Reading.{read_frame}
-use Rattle.link_alignment.specs.declared.action.Action.{Action}
-use Rattle.link_alignment.specs.declared.action.Action.TheVariants as act
-use Rattle.link_alignment.specs.declared.action.Input.TheVariants.{UserData}
-use Rattle.link_alignment.specs.Table.{action_at}
-use Rattle.link_sequence.specs.Queue.{count_confirmed}
+use Rattle.link.specs.declared.action.Action.{Action}
+use Rattle.link.specs.declared.action.Action.TheVariants as act
+use Rattle.link.specs.declared.action.Input.TheVariants.{UserData}
+use Rattle.link.specs.Table.{action_at}
+use Rattle.link.specs.Queue.{count_confirmed}
 use Rattle.exchange_rules.specs.State.{Parts, Node, with_node, with_parts}
 use Rattle.exchange_rules.specs.Links.{is_link, link_at, in_service}
 use Rattle.exchange_rules.specs.Noting.{note}
-use Rattle.link_alignment.specs.declared.action.Transition.{Transition}
+use Rattle.link.specs.declared.action.Transition.{Transition}
 use Rattle.exchange_rules.specs.ChangingOver.{complete_if}
 use Rattle.exchange_rules.specs.Made.{send_routed}
 use Rattle.exchange_rules.specs.Statuses.{advance}
 use Rattle.exchange_rules.specs.Frames.{Carrying, numbers, accept, data_of}
 use Rattle.exchange_rules.specs.Happening.{Happening, CameUp, WentDown, FrameCame, Ticked, Submitted, Activated}
 use Rattle.exchange_rules.specs.Happening.{Deactivated, TitleAdded, TitleRemoved}
-use Rattle.routing_label.specs.declared.discrimination.Discrimination.{Discrimination}
-use Rattle.routing_label.specs.declared.discrimination.Discrimination.TheVariants as whither
+use Rattle.mtp3_codec.specs.declared.discrimination.Discrimination.{Discrimination}
+use Rattle.mtp3_codec.specs.declared.discrimination.Discrimination.TheVariants as whither
 use Rattle.exchange_rules.specs.Local.{sccp}
 use Rattle.exchange_rules.specs.Messages.{whither_goes}
 use Rattle.exchange_rules.specs.Relaying.{return_unitdata}
 use Rattle.std.specs.Option.{option_and_then}
 use Rattle.signalling_types.specs.Message.{Message, service_indicator, dpc_of, flow_of}
-use Rattle.stp_types.specs.Readings.{destination_place}
+use Rattle.settings.specs.Readings.{destination_place}
 use Rattle.changeover.specs.Completion.{moved}
 use Rattle.exchange_rules.specs.Routing.{link_of, goes_by}
 use Rattle.exchange_rules.specs.Holding.{waits}

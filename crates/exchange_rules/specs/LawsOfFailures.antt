@@ -3,8 +3,8 @@ use Rattle.std.specs.Prelude.{◌≡◌, ◌≢◌, ◌<◌, ◌↔◌, ◌⊎�
 use Rattle.signalling_types.specs.Message.{Message, flow_of, is_management}
 use Rattle.signalling_types.specs.declared.notice.FailureReason.{FailureReason}
 use Rattle.settings_rows.specs.Configuration.{Configuration}
-use Rattle.stp_types.specs.Readings.{destination_place}
-use Rattle.route_table.specs.Chosen.{chosen_link}
+use Rattle.settings.specs.Readings.{destination_place}
+use Rattle.routes.specs.Chosen.{chosen_link}
 use Rattle.flow_hold.specs.declared.procedure.Procedure.{Procedure}
 use Rattle.flow_hold.specs.declared.procedure.Procedure.TheVariants.{Changeover}
 use Rattle.signalling_types.specs.declared.limits.TheConstants.Limits.{SELECTIONS}

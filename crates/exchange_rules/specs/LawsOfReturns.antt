@@ -2,9 +2,9 @@
 use Rattle.std.specs.Prelude.{◌≡◌, ◌≢◌, ◌<◌, ◌≤◌, ◌⊎◌, ◌++◌, ℕ, true, false, [], ◌∷◌, Some, None}
 use Rattle.settings_rows.specs.Configuration.{Configuration}
 use Rattle.signalling_types.specs.declared.limits.TheConstants.Limits.{MANAGEMENT_MESSAGES, SELECTIONS}
-use Rattle.link_alignment.specs.declared.action.Transition.{Transition}
-use Rattle.route_table.specs.Facts.{Facts}
-use Rattle.route_table.specs.Chosen.{chosen_link}
+use Rattle.link.specs.declared.action.Transition.{Transition}
+use Rattle.routes.specs.Facts.{Facts}
+use Rattle.routes.specs.Chosen.{chosen_link}
 use Rattle.flow_hold.specs.declared.procedure.Procedure.{Procedure}
 use Rattle.flow_hold.specs.declared.procedure.Procedure.TheVariants.{Code, Time}
 use Rattle.flow_hold.specs.Holds.{holds, is_held}

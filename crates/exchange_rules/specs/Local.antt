@@ -5,30 +5,30 @@ use Rattle.std.specs.Option.{option_and_then}
 use Rattle.std.specs.List.{list_any}
 use Rattle.signalling_types.specs.Message.{Message, service_indicator, opc_of, is_management}
 use Rattle.settings_rows.specs.Configuration.{Configuration}
-use Rattle.stp_types.specs.Readings.{set_place, destination_place}
+use Rattle.settings.specs.Readings.{set_place, destination_place}
 use Rattle.signalling_types.specs.declared.cause.Cause.{Cause}
 use Rattle.signalling_types.specs.declared.cause.Cause.TheVariants.{NotInProfile, NoUserPart, BadManagement}
 use Rattle.signalling_types.specs.declared.cause.Cause.TheVariants.{NotFromAdjacent}
 use Rattle.signalling_types.specs.declared.outcome.Outcome.TheVariants.{Local, Handled, Ignored}
-use Rattle.mgmt_codec.specs.declared.fault.MgmtFault.{MgmtFault}
-use Rattle.mgmt_codec.specs.declared.fault.MgmtFault.TheVariants as faults
-use Rattle.mgmt_codec.specs.declared.link_test.TestKind.{TestKind}
-use Rattle.mgmt_codec.specs.declared.link_test.TestKind.TheVariants.{Test, Acknowledgement}
-use Rattle.mgmt_codec.specs.declared.management.Management.{Management}
-use Rattle.mgmt_codec.specs.declared.management.Management.TheVariants.{TrafficRestartAllowed}
-use Rattle.mgmt_codec.specs.declared.management.Management.TheVariants.{ExtendedChangeoverOrder}
-use Rattle.mgmt_codec.specs.declared.management.Management.TheVariants.{ExtendedChangeoverAcknowledgement}
-use Rattle.mgmt_codec.specs.declared.management.Management.TheVariants.{EmergencyChangeoverOrder}
-use Rattle.mgmt_codec.specs.declared.management.Management.TheVariants.{EmergencyChangeoverAcknowledgement}
-use Rattle.mgmt_codec.specs.declared.management.Management.TheVariants.{ChangebackDeclaration}
-use Rattle.mgmt_codec.specs.declared.management.Management.TheVariants.{ChangebackAcknowledgement}
-use Rattle.mgmt_codec.specs.declared.management.Management.TheVariants.{TransferProhibited, TransferRestricted}
-use Rattle.mgmt_codec.specs.declared.management.Management.TheVariants.{TransferAllowed}
-use Rattle.mgmt_codec.specs.declared.management.Management.TheVariants.{RouteSetTestProhibited}
-use Rattle.mgmt_codec.specs.declared.management.Management.TheVariants.{RouteSetTestRestricted}
-use Rattle.mgmt_codec.specs.LinkTests.{LinkTestValue, read_link_test, spelled, answer_to}
-use Rattle.mgmt_codec.specs.Management.{read_management}
-use Rattle.route_table.specs.declared.route.RouteStatus.TheVariants as status
+use Rattle.mtp3_codec.specs.declared.fault.MgmtFault.{MgmtFault}
+use Rattle.mtp3_codec.specs.declared.fault.MgmtFault.TheVariants as faults
+use Rattle.mtp3_codec.specs.declared.link_test.TestKind.{TestKind}
+use Rattle.mtp3_codec.specs.declared.link_test.TestKind.TheVariants.{Test, Acknowledgement}
+use Rattle.mtp3_codec.specs.declared.management.Management.{Management}
+use Rattle.mtp3_codec.specs.declared.management.Management.TheVariants.{TrafficRestartAllowed}
+use Rattle.mtp3_codec.specs.declared.management.Management.TheVariants.{ExtendedChangeoverOrder}
+use Rattle.mtp3_codec.specs.declared.management.Management.TheVariants.{ExtendedChangeoverAcknowledgement}
+use Rattle.mtp3_codec.specs.declared.management.Management.TheVariants.{EmergencyChangeoverOrder}
+use Rattle.mtp3_codec.specs.declared.management.Management.TheVariants.{EmergencyChangeoverAcknowledgement}
+use Rattle.mtp3_codec.specs.declared.management.Management.TheVariants.{ChangebackDeclaration}
+use Rattle.mtp3_codec.specs.declared.management.Management.TheVariants.{ChangebackAcknowledgement}
+use Rattle.mtp3_codec.specs.declared.management.Management.TheVariants.{TransferProhibited, TransferRestricted}
+use Rattle.mtp3_codec.specs.declared.management.Management.TheVariants.{TransferAllowed}
+use Rattle.mtp3_codec.specs.declared.management.Management.TheVariants.{RouteSetTestProhibited}
+use Rattle.mtp3_codec.specs.declared.management.Management.TheVariants.{RouteSetTestRestricted}
+use Rattle.mtp3_codec.specs.LinkTests.{LinkTestValue, read_link_test, spelled, answer_to}
+use Rattle.mtp3_codec.specs.Management.{read_management}
+use Rattle.routes.specs.declared.route.RouteStatus.TheVariants as status
 use Rattle.route_management.specs.declared.heard.RouteTest.TheVariants as test
 use Rattle.exchange_rules.specs.State.{unless◌then◌else◌, QueueKind, Node, Done, answer, refuse}
 use Rattle.exchange_rules.specs.Made.{own_sio, send_on}

@@ -5,8 +5,8 @@ use Rattle.settings_rows.specs.Configuration.{Configuration}
 use Rattle.signalling_types.specs.declared.cause.Cause.{Cause}
 use Rattle.signalling_types.specs.declared.cause.Cause.TheVariants.{NoRoute}
 use Rattle.signalling_types.specs.declared.notice.Notice.TheVariants as notices
-use Rattle.mgmt_codec.specs.declared.management.Management.{Management}
-use Rattle.mgmt_codec.specs.Management.{management_octets}
+use Rattle.mtp3_codec.specs.declared.management.Management.{Management}
+use Rattle.mtp3_codec.specs.Management.{management_octets}
 use Rattle.exchange_rules.specs.State.{◌▷◌, QueueKind, Parts, Node, with_parts}
 use Rattle.exchange_rules.specs.Noting.{note, flagged}
 use Rattle.exchange_rules.specs.Routing.{link_of}

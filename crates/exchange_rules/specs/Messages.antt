@@ -4,9 +4,9 @@ use Rattle.signalling_types.specs.Message.{Message, is_management}
 use Rattle.settings_rows.specs.Configuration.{Configuration}
 use Rattle.signalling_types.specs.declared.limits.TheConstants.Limits.{SIF_OCTETS}
 use Rattle.signalling_types.specs.declared.cause.Cause.TheVariants.{NotInProfile, TooLong}
-use Rattle.routing_label.specs.Discrimination.{discrimination}
-use Rattle.routing_label.specs.declared.discrimination.Discrimination.{Discrimination}
-use Rattle.routing_label.specs.declared.discrimination.Discrimination.TheVariants as whither
+use Rattle.mtp3_codec.specs.Discrimination.{discrimination}
+use Rattle.mtp3_codec.specs.declared.discrimination.Discrimination.{Discrimination}
+use Rattle.mtp3_codec.specs.declared.discrimination.Discrimination.TheVariants as whither
 use Rattle.exchange_rules.specs.State.{QueueKind, Node, Done, refuse}
 use Rattle.exchange_rules.specs.Noting.{note_refusal}
 use Rattle.exchange_rules.specs.Arrival.{transfer}

@@ -7,7 +7,7 @@ use Rattle.signalling_types.specs.declared.cause.Cause.TheVariants.{ChangeoverPe
 use Rattle.signalling_types.specs.declared.notice.FailureReason.{FailureReason}
 use Rattle.signalling_types.specs.declared.notice.FailureReason.TheVariants as reasons
 use Rattle.signalling_types.specs.declared.outcome.Outcome.TheVariants.{Handled, Ignored}
-use Rattle.link_alignment.specs.Table.{opening}
+use Rattle.link.specs.Table.{opening}
 use Rattle.node_links.specs.Link.{Link}
 use Rattle.exchange_rules.specs.declared.wants.Wants.{Wants}
 use Rattle.exchange_rules.specs.declared.wants.Wants.TheVariants.{Nothing, Open, Close}

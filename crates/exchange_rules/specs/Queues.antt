@@ -2,8 +2,8 @@
 use Rattle.std.specs.Prelude.{ℕ, ◌+◌, ◌-◌, List, [], ◌∷◌, ◌++◌, is_some, sum_by, slice_index_or, slice_set}
 use Rattle.signalling_types.specs.Message.{Message}
 use Rattle.cell_pool.specs.Lanes.{users_in, managements_in}
-use Rattle.link_sequence.specs.Queue as queue
-use Rattle.link_sequence.specs.Queue.{Queue, first_queue}
+use Rattle.link.specs.Queue as queue
+use Rattle.link.specs.Queue.{Queue, first_queue}
 use Rattle.changeover.specs.Completion.{accepted_count, held_after, lost, queued_anew}
 use Rattle.exchange_rules.specs.State.{QueueKind}
 

@@ -8,7 +8,7 @@ use Rattle.signalling_types.specs.declared.cause.Cause.TheVariants.{NoSuchName, 
 use Rattle.signalling_types.specs.declared.outcome.Outcome.{Outcome}
 use Rattle.signalling_types.specs.declared.outcome.Outcome.TheVariants.{Queued, Held, Local, Handled, Ignored, Refused}
 use Rattle.sccp_codec.specs.declared.title.TitleKey.{TitleKey}
-use Rattle.global_title.specs.Rows.{place_of, has_row, with_row, without_row, add_refusal}
+use Rattle.sccp_relay.specs.Rows.{place_of, has_row, with_row, without_row, add_refusal}
 use Rattle.sccp_relay.specs.Relay.{OwnValue, RelayedValue, relay}
 use Rattle.sccp_relay.specs.Relay as relays
 use Rattle.sccp_relay.specs.Return.{returned}

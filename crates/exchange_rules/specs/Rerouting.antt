@@ -6,14 +6,14 @@ use Rattle.settings_rows.specs.Configuration.{Configuration}
 use Rattle.signalling_types.specs.Message.{Message}
 use Rattle.signalling_types.specs.declared.outcome.Outcome.{Outcome}
 use Rattle.signalling_types.specs.declared.outcome.Outcome.TheVariants as outcomes
-use Rattle.mgmt_codec.specs.declared.management.Management.TheVariants.{RouteSetTestProhibited}
-use Rattle.mgmt_codec.specs.declared.management.Management.TheVariants.{RouteSetTestRestricted}
-use Rattle.timer_wheel.specs.declared.name.TimerName.TheVariants as name
-use Rattle.timer_wheel.specs.declared.name.RouteTimer.TheVariants as of_set
-use Rattle.timer_wheel.specs.Timers.{Running, set_timer, clear_timer, clear_set}
-use Rattle.route_table.specs.declared.route.RouteStatus.{RouteStatus}
-use Rattle.route_table.specs.declared.route.RouteStatus.TheVariants.{Allowed, Restricted, Prohibited}
-use Rattle.route_table.specs.Statuses.{status_of}
+use Rattle.mtp3_codec.specs.declared.management.Management.TheVariants.{RouteSetTestProhibited}
+use Rattle.mtp3_codec.specs.declared.management.Management.TheVariants.{RouteSetTestRestricted}
+use Rattle.timers.specs.declared.name.TimerName.TheVariants as name
+use Rattle.timers.specs.declared.name.RouteTimer.TheVariants as of_set
+use Rattle.timers.specs.Timers.{Running, set_timer, clear_timer, clear_set}
+use Rattle.routes.specs.declared.route.RouteStatus.{RouteStatus}
+use Rattle.routes.specs.declared.route.RouteStatus.TheVariants.{Allowed, Restricted, Prohibited}
+use Rattle.routes.specs.Statuses.{status_of}
 use Rattle.node_links.specs.Statuses.{with_route_status, with_statuses_reset}
 use Rattle.flow_hold.specs.declared.procedure.Procedure.TheVariants.{Reroute}
 use Rattle.flow_hold.specs.Holds.{lifted}

@@ -3,9 +3,9 @@ use Rattle.std.specs.Prelude.{ℕ, Bool, false, nat_eq, List, Option, Some, None
 use Rattle.std.specs.Option.{option_and_then}
 use Rattle.signalling_types.specs.declared.point.Flow.{Flow}
 use Rattle.settings_rows.specs.Configuration.{Configuration}
-use Rattle.stp_types.specs.Readings.{destination_place}
-use Rattle.route_table.specs.Facts.{Facts, first_sets}
-use Rattle.route_table.specs.Chosen.{chosen_link}
+use Rattle.settings.specs.Readings.{destination_place}
+use Rattle.routes.specs.Facts.{Facts, first_sets}
+use Rattle.routes.specs.Chosen.{chosen_link}
 use Rattle.node_links.specs.Network.{Network, facts_of, first_network}
 use Rattle.exchange_rules.specs.State.{Parts}
 

@@ -3,7 +3,7 @@ use Rattle.std.specs.Prelude.{ℕ, Bool, true, false, ◌&&◌, not, drop, slice
 use Rattle.settings_rows.specs.Configuration.{Configuration}
 use Rattle.m2pa_codec.specs.declared.status.LinkStatus.{LinkStatus}
 use Rattle.m2pa_codec.specs.Frames.{FrameValue, EmptyFrame, MessageFrame, StatusFrame}
-use Rattle.link_sequence.specs.Queue.{Sending}
+use Rattle.link.specs.Queue.{Sending}
 use Rattle.node_links.specs.Link.{Link}
 use Rattle.exchange_rules.specs.State.{QueueKind, Parts, Node, with_parts}
 use Rattle.node_links.specs.LinkState.{is_in_service}

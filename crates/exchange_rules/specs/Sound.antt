@@ -1,6 +1,6 @@
 -- The abstract exchange's state, and what holds of it between two events.
 use Rattle.std.specs.Prelude.{◌≡◌, ℕ, true}
-use Rattle.link_sequence.specs.Queue.{IsQueue}
+use Rattle.link.specs.Queue.{IsQueue}
 use Rattle.exchange_rules.specs.State.{State}
 use Rattle.exchange_rules.specs.Queues.{WholeQueues, queue_at, whole}
 use Rattle.exchange_rules.specs.Holding.{all_wait}

@@ -6,10 +6,10 @@ use Rattle.signalling_types.specs.declared.cause.Cause.{Cause}
 use Rattle.signalling_types.specs.declared.notice.Notice.{Notice}
 use Rattle.signalling_types.specs.declared.outcome.Outcome.{Outcome}
 use Rattle.signalling_types.specs.declared.outcome.Outcome.TheVariants.{Refused}
-use Rattle.link_sequence.specs.Queue.{Sending}
-use Rattle.link_sequence.specs.declared.fault.SeqFault.{SeqFault}
-use Rattle.timer_wheel.specs.Timers.{Running}
-use Rattle.route_table.specs.declared.route.Route.{Route}
+use Rattle.link.specs.Queue.{Sending}
+use Rattle.link.specs.declared.fault.SeqFault.{SeqFault}
+use Rattle.timers.specs.Timers.{Running}
+use Rattle.routes.specs.declared.route.Route.{Route}
 use Rattle.node_links.specs.Link.{Link}
 use Rattle.changeover.specs.Standing.{Standing}
 use Rattle.changeback.specs.Codes.{Codes}

@@ -6,15 +6,15 @@ use Rattle.signalling_types.specs.declared.notice.FailureReason.TheVariants as r
 use Rattle.signalling_types.specs.declared.outcome.Outcome.TheVariants.{Handled, Ignored}
 use Rattle.m2pa_codec.specs.declared.status.LinkStatus.{LinkStatus}
 use Rattle.m2pa_codec.specs.declared.status.LinkStatus.TheVariants as says
-use Rattle.link_alignment.specs.declared.action.Action.{Action}
-use Rattle.link_alignment.specs.declared.action.Action.TheVariants as act
-use Rattle.link_alignment.specs.declared.action.Input.TheVariants.{Status, Expiry}
-use Rattle.link_alignment.specs.declared.action.LinkTimer.{LinkTimer}
-use Rattle.link_alignment.specs.declared.action.Transition.{Transition}
-use Rattle.link_alignment.specs.Table.{action_at}
+use Rattle.link.specs.declared.action.Action.{Action}
+use Rattle.link.specs.declared.action.Action.TheVariants as act
+use Rattle.link.specs.declared.action.Input.TheVariants.{Status, Expiry}
+use Rattle.link.specs.declared.action.LinkTimer.{LinkTimer}
+use Rattle.link.specs.declared.action.Transition.{Transition}
+use Rattle.link.specs.Table.{action_at}
 use Rattle.exchange_rules.specs.State.{QueueKind, Parts, Node, Done, with_parts, answer}
 use Rattle.node_links.specs.LinkState.{stepped, is_in_service}
-use Rattle.route_table.specs.Facts.{Facts}
+use Rattle.routes.specs.Facts.{Facts}
 use Rattle.exchange_rules.specs.Links.{link_at, links_with, in_service}
 use Rattle.exchange_rules.specs.Routing.{facts}
 use Rattle.exchange_rules.specs.Timing.{timed, timed_busy, timed_busy_ended}

@@ -6,13 +6,13 @@ use Rattle.settings_rows.specs.Configuration.{Configuration}
 use Rattle.signalling_types.specs.Message.{Message}
 use Rattle.signalling_types.specs.declared.outcome.Outcome.{Outcome}
 use Rattle.signalling_types.specs.declared.outcome.Outcome.TheVariants.{Handled, Ignored}
-use Rattle.mgmt_codec.specs.declared.management.Management.{Management}
-use Rattle.mgmt_codec.specs.declared.management.Management.TheVariants.{TransferProhibited, TransferRestricted}
-use Rattle.mgmt_codec.specs.declared.management.Management.TheVariants.{TransferAllowed}
-use Rattle.timer_wheel.specs.declared.name.TimerName.TheVariants.{T8}
-use Rattle.timer_wheel.specs.Timers.{Running, set_timer, is_running}
-use Rattle.route_table.specs.declared.route.RouteStatus.{RouteStatus}
-use Rattle.route_table.specs.declared.route.RouteStatus.TheVariants.{Allowed, Restricted, Prohibited}
+use Rattle.mtp3_codec.specs.declared.management.Management.{Management}
+use Rattle.mtp3_codec.specs.declared.management.Management.TheVariants.{TransferProhibited, TransferRestricted}
+use Rattle.mtp3_codec.specs.declared.management.Management.TheVariants.{TransferAllowed}
+use Rattle.timers.specs.declared.name.TimerName.TheVariants.{T8}
+use Rattle.timers.specs.Timers.{Running, set_timer, is_running}
+use Rattle.routes.specs.declared.route.RouteStatus.{RouteStatus}
+use Rattle.routes.specs.declared.route.RouteStatus.TheVariants.{Allowed, Restricted, Prohibited}
 use Rattle.route_management.specs.declared.heard.RouteTest.{RouteTest}
 use Rattle.route_management.specs.Told.{is_own_point, with_told}
 use Rattle.route_management.specs.Owed.{Owed, owed, owes_nothing}

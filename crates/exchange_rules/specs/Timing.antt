@@ -2,12 +2,12 @@
 use Rattle.std.specs.Prelude.{ℕ, Bool, Option, Some, None, nat_eq, if◌then◌else◌}
 use Rattle.settings_rows.specs.Configuration.{Configuration}
 use Rattle.settings_rows.specs.declared.timer_ticks.TimerTicks.{TimerTicks}
-use Rattle.link_alignment.specs.declared.action.LinkTimer.{LinkTimer}
-use Rattle.link_alignment.specs.declared.action.LinkTimer.TheVariants.{L1, L2, L3, L4, L6, L7}
-use Rattle.link_alignment.specs.declared.action.Transition.{Transition}
-use Rattle.timer_wheel.specs.declared.name.TimerName.{TimerName}
-use Rattle.timer_wheel.specs.declared.name.TimerName.TheVariants as name
-use Rattle.timer_wheel.specs.Timers.{Running, set_timer, start_unless_running, clear_timer}
+use Rattle.link.specs.declared.action.LinkTimer.{LinkTimer}
+use Rattle.link.specs.declared.action.LinkTimer.TheVariants.{L1, L2, L3, L4, L6, L7}
+use Rattle.link.specs.declared.action.Transition.{Transition}
+use Rattle.timers.specs.declared.name.TimerName.{TimerName}
+use Rattle.timers.specs.declared.name.TimerName.TheVariants as name
+use Rattle.timers.specs.Timers.{Running, set_timer, start_unless_running, clear_timer}
 use Rattle.exchange_rules.specs.State.{◌▷◌}
 
 abbrev pub timer_name : ℕ → LinkTimer → TimerName

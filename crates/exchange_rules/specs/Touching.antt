@@ -2,10 +2,10 @@
 use Rattle.std.specs.Prelude.{◌≡◌, ◌≢◌, ◌⊎◌, ℕ, Bool, true, false, nat_eq, List, [], ◌∷◌, ◌++◌}
 use Rattle.std.specs.List.{list_any}
 use Rattle.signalling_types.specs.Message.{Message}
-use Rattle.link_alignment.specs.declared.action.LinkTimer.{LinkTimer}
-use Rattle.link_alignment.specs.declared.action.LinkTimer.TheVariants.{L1, L2, L3, L4, L6, L7}
-use Rattle.link_sequence.specs.Queue.{Queue, emptied}
-use Rattle.timer_wheel.specs.Timers.{is_due, ticked}
+use Rattle.link.specs.declared.action.LinkTimer.{LinkTimer}
+use Rattle.link.specs.declared.action.LinkTimer.TheVariants.{L1, L2, L3, L4, L6, L7}
+use Rattle.link.specs.Queue.{Queue, emptied}
+use Rattle.timers.specs.Timers.{is_due, ticked}
 use Rattle.exchange_rules.specs.Happening.{Happening, CameUp, WentDown, FrameCame, Ticked, Submitted}
 use Rattle.exchange_rules.specs.Happening.{Activated, Deactivated}
 use Rattle.exchange_rules.specs.Happening.{TitleAdded, TitleRemoved}

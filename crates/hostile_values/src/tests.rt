@@ -10,10 +10,10 @@ mod streams;
 mod tables;
 mod values;
 
+use settings::Outcome;
 use std::alloc::Global;
 use std::string::String;
 use std::test::*;
-use stp_types::Outcome;
 
 /// So many octets a part has at most, before they are repeated.
 const PART_OCTETS: usize = 32;

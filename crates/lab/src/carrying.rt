@@ -11,8 +11,8 @@ ghost use Rattle.stp_node.specs.Streams.{counted};
 ghost use Rattle.lab.specs.Carrying.{text_to_take, carriage, Carries, Brings, FindsText, Holds};
 
 use exchange::{BUFFER_OCTETS, Event, Exchange, FrameText, Framer, Next};
+use settings::{Limits, LinkId, Outcome};
 use stp_node::{Sink, Source};
-use stp_types::{Limits, LinkId, Outcome};
 
 /// Reads of a stream for one frame, at most: no frame has more octets. Each read asks for one octet, and only while no
 /// whole frame is held, so no octet behind the frame is read.

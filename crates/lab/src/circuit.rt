@@ -6,9 +6,9 @@ use crate::carrying::{Carried, carry};
 use crate::line::End;
 use crate::wire::Wire;
 use exchange::{Exchange, Framer};
+use settings::LinkId;
 use std::alloc::{AllocError, Global};
 use std::io::{Read, Write};
-use stp_types::LinkId;
 
 /// A node's end of a link's streams.
 #[derive(Drop)]

@@ -2,9 +2,9 @@
 
 ghost use Rattle.std.specs.Prelude.{◌≡◌, ◌+◌, ◌≤◌, ◌<◌, ◌^◌, length, OnOk, Err};
 ghost use Rattle.std.specs.Io.KnownBytes.{IsAtEnd};
-ghost use Rattle.stp_types.specs.Facing.{IsFacing};
+ghost use Rattle.settings.specs.Facing.{IsFacing};
 ghost use Rattle.stp_node.specs.Faults.{MakesReads, reads_failed, writes_failed, EndsAtLine};
-ghost use Rattle.stp_types.specs.Naming.{link_names};
+ghost use Rattle.settings.specs.Naming.{link_names};
 ghost use Rattle.lab.specs.Script.{EndsInScript, LeavesAll, ReadsOn};
 
 use crate::circuit::{Circuit, closed_circuits};

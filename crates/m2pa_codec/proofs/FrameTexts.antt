@@ -7,7 +7,7 @@ use Rattle.std.specs.Int.{w32, to_be_bytes, from_be_bytes}
 use Rattle.std.proofs.lemmas.Nat.{from_be_bytes-to_be_bytes_4}
 use Rattle.std.proofs.lemmas.Bool.Decides.{nat_tests}
 use Rattle.signalling_types.specs.declared.notice.FrameFault.{FrameFault}
-use Rattle.link_number.proofs.Octets.{number_of-three_octets, three_octets-number_of, number_of-fits}
+use Rattle.signalling_types.proofs.Octets.{number_of-three_octets, three_octets-number_of, number_of-fits}
 use Rattle.m2pa_codec.specs.declared.status.LinkStatus.{LinkStatus}
 use Rattle.m2pa_codec.specs.declared.status.LinkStatus.TheVariants.{OutOfService}
 use Rattle.m2pa_codec.specs.Statuses.{status_number}

@@ -1,7 +1,7 @@
 -- The frames of M2PA: what they say, and the texts that say it (RFC 4165 §2).
 use Rattle.std.specs.Prelude.{◌≡◌, ℕ, ◌+◌, ◌<◌, ◌^◌, List, [], ◌∷◌, ◌++◌, length, slice_index}
 use Rattle.std.specs.Int.{w32, to_be_bytes}
-use Rattle.link_number.specs.Numbers.{three_octets}
+use Rattle.signalling_types.specs.Numbers.{three_octets}
 use Rattle.m2pa_codec.specs.declared.status.LinkStatus.{LinkStatus}
 use Rattle.m2pa_codec.specs.Statuses.{status_number}
 

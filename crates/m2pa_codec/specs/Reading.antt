@@ -4,7 +4,7 @@ use Rattle.std.specs.Prelude.{Err, nat_lt, ◌==◌, not, if◌then◌else◌, s
 use Rattle.std.specs.Int.{w32, from_be_bytes}
 use Rattle.signalling_types.specs.declared.notice.FrameFault.{FrameFault}
 use Rattle.signalling_types.specs.declared.notice.FrameFault.TheVariants.{Short, Length, Version, Unknown}
-use Rattle.link_number.specs.Numbers.{number_of}
+use Rattle.signalling_types.specs.Numbers.{number_of}
 use Rattle.m2pa_codec.specs.declared.status.LinkStatus.{LinkStatus}
 use Rattle.m2pa_codec.specs.declared.status.LinkStatus.TheVariants.{OutOfService}
 use Rattle.m2pa_codec.specs.Statuses.{status_of}

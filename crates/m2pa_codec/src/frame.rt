@@ -1,7 +1,7 @@
 //! What a frame says.
 
 use crate::status::LinkStatus;
-use link_number::Number24;
+use signalling_types::Number24;
 
 /// Octets of the buffer that a frame is written into: more than any frame that is written has.
 pub const BUFFER_OCTETS: usize = 300;

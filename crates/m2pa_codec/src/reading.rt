@@ -10,8 +10,7 @@ ghost use Rattle.m2pa_codec.specs.Reading.{number_field, header_fault, read_fram
 use crate::frame::Frame;
 use crate::layout::{BSN_AT, CLASS, FSN_AT, HEADER_OCTETS, LINK_STATUS, USER_DATA, VERSION};
 use crate::status::LinkStatus;
-use link_number::Number24;
-use signalling_types::FrameFault;
+use signalling_types::{FrameFault, Number24};
 
 /// The frame that the octets are, all of them, or their first fault (RFC 4165 §2).
 ///

@@ -10,8 +10,7 @@ use crate::layout::{
     CLASS, HEADER_OCTETS, LINK_STATUS, MESSAGE_HEADER_OCTETS, SPARE, STATUS_OCTETS, USER_DATA,
     VERSION,
 };
-use link_number::Number24;
-use signalling_types::Limits;
+use signalling_types::{Limits, Number24};
 
 /// Writes the frame at the front of the buffer, and answers how many octets it has: 16, or 18 and
 /// those of the message's field, or 20 for a link status. Spare, unused and priority octets are 0,

@@ -3,9 +3,9 @@ use Rattle.std.proofs.Common.{◌≡◌, ◌<◌, ℕ, zero, suc, Bool, true, fa
 use Rattle.std.specs.Prelude.{Option, Some, None, IfSome, slice_index_or, slice_set}
 use Rattle.std.proofs.Math.ListN.{get_or-map}
 use Rattle.std.proofs.lemmas.List.{length-map, length-set}
-use Rattle.route_table.specs.Facts.{Facts, with_link}
-use Rattle.route_table.specs.Chosen.{chosen_link}
-use Rattle.route_table.proofs.InService.{chosen_serves}
+use Rattle.routes.specs.Facts.{Facts, with_link}
+use Rattle.routes.specs.Chosen.{chosen_link}
+use Rattle.routes.proofs.InService.{chosen_serves}
 use Rattle.node_links.specs.Link.{Link}
 use Rattle.node_links.specs.LinkState.{down_link, is_in_service}
 use Rattle.node_links.specs.Network.{Network, serving, facts_of, link_in}

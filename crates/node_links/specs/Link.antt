@@ -1,7 +1,7 @@
 -- What a link is, beside its queue.
 use Rattle.std.specs.Prelude.{Bool, List}
 use Rattle.m2pa_codec.specs.declared.status.LinkStatus.{LinkStatus}
-use Rattle.link_alignment.specs.declared.alignment.Alignment.{Alignment}
+use Rattle.link.specs.declared.alignment.Alignment.{Alignment}
 
 pub record Link : Type 0 where
   -- where it stands on its way into service

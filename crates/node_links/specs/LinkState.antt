@@ -1,13 +1,13 @@
 -- The state of one link, beside its queue.
 use Rattle.std.specs.Prelude.{Bool, true, false, [], ◌++◌}
 use Rattle.std.specs.Option.{option_to_list}
-use Rattle.link_alignment.specs.declared.alignment.Alignment.{Alignment}
-use Rattle.link_alignment.specs.declared.alignment.Alignment.TheVariants.{Down, NotAligned, Aligned, Proving}
-use Rattle.link_alignment.specs.declared.alignment.Alignment.TheVariants.{AlignedReady, InService}
-use Rattle.link_alignment.specs.declared.action.Transition.{Transition}
-use Rattle.link_alignment.specs.declared.action.Action.{Action}
-use Rattle.link_alignment.specs.declared.action.Action.TheVariants.{Ignored, Fail, Go}
-use Rattle.link_alignment.specs.Table.{opening}
+use Rattle.link.specs.declared.alignment.Alignment.{Alignment}
+use Rattle.link.specs.declared.alignment.Alignment.TheVariants.{Down, NotAligned, Aligned, Proving}
+use Rattle.link.specs.declared.alignment.Alignment.TheVariants.{AlignedReady, InService}
+use Rattle.link.specs.declared.action.Transition.{Transition}
+use Rattle.link.specs.declared.action.Action.{Action}
+use Rattle.link.specs.declared.action.Action.TheVariants.{Ignored, Fail, Go}
+use Rattle.link.specs.Table.{opening}
 use Rattle.node_links.specs.Link.{Link}
 
 -- a link that has never been up; the operator lets it open

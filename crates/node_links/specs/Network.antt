@@ -1,8 +1,8 @@
 -- The links of a node, the links of each set, and the routes to each destination.
 use Rattle.std.specs.Prelude.{ℕ, Bool, List, map, length, replicate, slice_index_or, slice_set}
 use Rattle.settings_rows.specs.Configuration.{LinkEntry, DestinationEntry}
-use Rattle.route_table.specs.declared.route.Route.{Route}
-use Rattle.route_table.specs.Facts.{Facts, first_sets, first_routes}
+use Rattle.routes.specs.declared.route.Route.{Route}
+use Rattle.routes.specs.Facts.{Facts, first_sets, first_routes}
 use Rattle.node_links.specs.Link.{Link}
 use Rattle.node_links.specs.LinkState.{down_link, is_in_service}
 

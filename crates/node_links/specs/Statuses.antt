@@ -1,8 +1,8 @@
 -- The statuses of a node's routes, as they change (Q.704 §13).
 use Rattle.std.specs.Prelude.{ℕ}
-use Rattle.route_table.specs.declared.route.RouteStatus.{RouteStatus}
-use Rattle.route_table.specs.Facts as facts
-use Rattle.route_table.specs.Statuses as statuses
+use Rattle.routes.specs.declared.route.RouteStatus.{RouteStatus}
+use Rattle.routes.specs.Facts as facts
+use Rattle.routes.specs.Statuses as statuses
 use Rattle.node_links.specs.Network.{Network, facts_of}
 
 -- the route to a destination by a set gets a status, if there is one

@@ -1,8 +1,8 @@
 //! What holds of the link that a flow takes, and of links that change.
 
 ghost use Rattle.std.specs.Prelude.{ℕ, ◌≡◌, false, true, Some};
-ghost use Rattle.route_table.specs.Facts.{with_link};
-ghost use Rattle.route_table.specs.Chosen.{chosen_link};
+ghost use Rattle.routes.specs.Facts.{with_link};
+ghost use Rattle.routes.specs.Chosen.{chosen_link};
 ghost use Rattle.node_links.specs.Link.{Link};
 ghost use Rattle.node_links.specs.LinkState.{is_in_service};
 ghost use Rattle.node_links.specs.Network.{Network, facts_of, link_in, with_state};

@@ -2,13 +2,13 @@
 
 ghost use Rattle.std.specs.Prelude.{◌≡◌, ◌+◌, ◌≤◌, false, drop, length, slice_get};
 ghost use Rattle.std.specs.Option.{option_to_list};
-ghost use Rattle.link_alignment.specs.Table.{action_at};
+ghost use Rattle.link.specs.Table.{action_at};
 ghost use Rattle.node_links.specs.LinkState.{down_link, stepped, after_action, opened, after_failure};
 ghost use Rattle.node_links.specs.LinkState.{is_down, is_in_service};
 ghost use Rattle.node_links.specs.LinkRoom.{sent_by};
 
 use arrayvec::ArrayVec;
-use link_alignment::{Action, Alignment, Input, Transition};
+use link::{Action, Alignment, Input, Transition};
 use m2pa_codec::LinkStatus;
 use std::marker::Model;
 

@@ -1,10 +1,10 @@
 //! The links of a node, and the routes that they open.
 
 ghost use Rattle.std.specs.Prelude.{◌≡◌, ◌<◌, ◌≤◌, false, true, drop, length, replicate, nat_lt, IfOk, IfSome};
-ghost use Rattle.link_alignment.specs.Table.{action_at};
-ghost use Rattle.linkset.specs.Preference.{has_link};
-ghost use Rattle.route_table.specs.Facts.{set_at, with_link};
-ghost use Rattle.route_table.specs.Chosen.{chosen_link, chosen_routes, chosen_sets, lone_set};
+ghost use Rattle.link.specs.Table.{action_at};
+ghost use Rattle.routes.specs.Preference.{has_link};
+ghost use Rattle.routes.specs.Facts.{set_at, with_link};
+ghost use Rattle.routes.specs.Chosen.{chosen_link, chosen_routes, chosen_sets, lone_set};
 ghost use Rattle.node_links.specs.LinkState.{after_action, down_link, after_failure, is_in_service, opened};
 ghost use Rattle.node_links.specs.Network.{facts_of, first_network, link_in, with_state};
 ghost use Rattle.node_links.specs.FormerLink.{former_link};
@@ -13,8 +13,8 @@ mod statuses;
 
 use crate::link_state::LinkState;
 use arrayvec::ArrayVec;
-use link_alignment::{Action, Input};
-use route_table::{Route, Routes};
+use link::{Action, Input};
+use routes::{Route, Routes};
 use settings_rows::{DestinationRow, LinkRow};
 use signalling_types::{Limits, LinkId, SetId, Sls};
 use std::alloc::{AllocError, Global};

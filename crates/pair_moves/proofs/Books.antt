@@ -3,7 +3,7 @@ use Rattle.std.proofs.Common.{◌≡◌, ◌≢◌, ℕ, Bool, ◌+◌, ◌≤�
 use Rattle.std.proofs.Math.Logic.{⊎_elim}
 use Rattle.std.proofs.lemmas.Bool.{cases_eq}
 use Rattle.signalling_types.specs.Message.{Message}
-use Rattle.link_sequence.specs.Queue.{last_accepted}
+use Rattle.link.specs.Queue.{last_accepted}
 use Rattle.pair_moves.specs.Sayings.{Saying, is_order, is_answer, is_untrue, is_declaration, is_confirmation}
 use Rattle.pair_moves.specs.Ends.{LinkEnd, Line, Side, Pair, turned, turned_line, unreceived}
 use Rattle.pair_moves.specs.Passing.{BecomeAt}

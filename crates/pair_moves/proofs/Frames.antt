@@ -3,10 +3,10 @@ use Rattle.std.proofs.Common.{◌≡◌, ℕ, zero, suc, Bool, true, false, ◌+
 use Rattle.std.proofs.lemmas.Grind.{common_steps}
 use Rattle.std.specs.Option.{option_map}
 use Rattle.signalling_types.specs.Message.{Message}
-use Rattle.link_number.specs.Numbers.{previous_number}
-use Rattle.link_sequence.specs.declared.fault.SeqFault.{SeqFault}
-use Rattle.link_sequence.specs.Queue.{Queue, IsQueue, forward_number, named_count, confirmation, expected, accept_answer, appended, last_sent}
-use Rattle.link_sequence.proofs.Naming.{finds_named}
+use Rattle.signalling_types.specs.Numbers.{previous_number}
+use Rattle.link.specs.declared.fault.SeqFault.{SeqFault}
+use Rattle.link.specs.Queue.{Queue, IsQueue, forward_number, named_count, confirmation, expected, accept_answer, appended, last_sent}
+use Rattle.link.proofs.Naming.{finds_named}
 use Rattle.pair_moves.specs.Ends.{Frame, StatusFrame, EmptyFrame, MessageFrame}
 use Rattle.pair_moves.specs.Flowing.{Carry, Name}
 

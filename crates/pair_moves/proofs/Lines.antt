@@ -5,8 +5,8 @@ use Rattle.std.proofs.lemmas.Bool.Decides.{nat_tests}
 use Rattle.std.proofs.lemmas.Option.{slice_get_within}
 use Rattle.signalling_types.specs.Message.{Message}
 use Rattle.signalling_types.specs.declared.limits.TheConstants.Limits.{WINDOW}
-use Rattle.link_sequence.specs.Queue.{Queue, IsQueue, Sending, forward_number, numbered, to_send, after_sending, last_sent, last_accepted}
-use Rattle.link_sequence.proofs.Sound.{sound-appended}
+use Rattle.link.specs.Queue.{Queue, IsQueue, Sending, forward_number, numbered, to_send, after_sending, last_sent, last_accepted}
+use Rattle.link.proofs.Sound.{sound-appended}
 use Rattle.pair_moves.specs.Ends.{StatusFrame, EmptyFrame, MessageFrame, Line, turned_line}
 use Rattle.pair_moves.specs.Passing.{with_message}
 use Rattle.pair_moves.specs.Carrying.{with_frame, with_sent}

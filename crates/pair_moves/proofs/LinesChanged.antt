@@ -3,8 +3,8 @@ use Rattle.std.proofs.Common.{◌≡◌, ℕ, zero, suc, Bool, true, false, List
 use Rattle.std.specs.Prelude.{unwrap_or}
 use Rattle.signalling_types.specs.Message.{Message}
 use Rattle.signalling_types.specs.declared.limits.TheConstants.Limits.{WINDOW}
-use Rattle.link_sequence.specs.Queue.{named_count, last_accepted}
-use Rattle.link_sequence.proofs.Sound.{sound-first, sound-emptied}
+use Rattle.link.specs.Queue.{named_count, last_accepted}
+use Rattle.link.proofs.Sound.{sound-first, sound-emptied}
 use Rattle.pair_moves.specs.Ends.{LinkEnd, Line, turned_line, closed_end, closed_line}
 use Rattle.pair_moves.specs.Failing.{with_failure, with_completion, without_wait}
 use Rattle.pair_moves.specs.Returning.{opened_line, with_service}

@@ -2,8 +2,8 @@
 use Rattle.std.proofs.Common.{◌≡◌, ◌⊎◌, inl, inr, ℕ, Bool, true, false, ◌+◌, List, ◌∷◌, slice_get, ap, sym, ◌∙◌, subst, arith, Some, Ok}
 use Rattle.signalling_types.specs.Message.{Message}
 use Rattle.signalling_types.specs.declared.limits.TheConstants.Limits.{WINDOW}
-use Rattle.link_sequence.specs.Queue.{Queue, IsQueue, accept_answer, after_answer}
-use Rattle.link_sequence.proofs.Sound.{sound-accepted}
+use Rattle.link.specs.Queue.{Queue, IsQueue, accept_answer, after_answer}
+use Rattle.link.proofs.Sound.{sound-accepted}
 use Rattle.pair_moves.specs.Ends.{Frame, StatusFrame, EmptyFrame, MessageFrame, Line, turned_line}
 use Rattle.pair_moves.specs.Carrying.{with_frames_left, with_accepted}
 use Rattle.pair_moves.specs.Flowing.{Carry, Name, Flows}

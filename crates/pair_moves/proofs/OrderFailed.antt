@@ -5,7 +5,7 @@ use Rattle.std.proofs.lemmas.Bool.{cases_eq}
 use Rattle.std.proofs.lemmas.List.{append-nil, append_assoc}
 use Rattle.signalling_types.specs.Message.{Message}
 use Rattle.signalling_types.specs.declared.point.Flow.{Flow}
-use Rattle.link_sequence.specs.Queue.{last_accepted}
+use Rattle.link.specs.Queue.{last_accepted}
 use Rattle.pair_moves.specs.Sayings.{Saying, Order, Answer, is_user_message}
 use Rattle.pair_moves.specs.Ends.{LinkEnd, Line, Changeover, Code, Time, Side, Pair, turned, unreceived}
 use Rattle.pair_moves.specs.Passing.{BecomeAt}

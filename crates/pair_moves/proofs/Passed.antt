@@ -3,7 +3,7 @@ use Rattle.std.proofs.Common.{◌≡◌, inl, ℕ, zero, suc, true, false, ◌+�
 use Rattle.std.proofs.lemmas.Grind.{common_steps}
 use Rattle.std.proofs.lemmas.List.{drop-append-le}
 use Rattle.signalling_types.specs.Message.{Message}
-use Rattle.link_sequence.specs.Queue.{last_accepted}
+use Rattle.link.specs.Queue.{last_accepted}
 use Rattle.pair_moves.specs.Sayings.{Saying, UserMessage, is_order, is_answer, is_untrue, is_declaration, is_confirmation}
 use Rattle.pair_moves.specs.Ends.{StatusFrame, Line, Side, Pair, turned_line, unreceived}
 use Rattle.pair_moves.specs.Passing.{BecomeAt, with_message, Accepts, TakesOut, Keeps, Places, HandsOver}

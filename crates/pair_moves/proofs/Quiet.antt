@@ -2,7 +2,7 @@
 use Rattle.std.proofs.Common.{◌≡◌, ◌⊎◌, ℕ, Bool, true, ◌+◌, ◌≤◌, [], count_by, refl, ap, arith}
 use Rattle.signalling_types.specs.Message.{Message}
 use Rattle.pair_moves.specs.Sayings.{Saying}
-use Rattle.link_sequence.specs.Queue.{last_accepted}
+use Rattle.link.specs.Queue.{last_accepted}
 use Rattle.pair_moves.specs.Ends.{LinkEnd, Line, Side, Pair, turned, turned_line, unreceived}
 use Rattle.pair_moves.specs.Passing.{BecomeAt}
 use Rattle.pair_moves.specs.Laws.{under_way, one_if}

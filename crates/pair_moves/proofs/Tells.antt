@@ -1,7 +1,7 @@
 -- What an order or an answer that just arrived tells, since it is true.
 use Rattle.std.proofs.Common.{◌≡◌, ℕ, zero, suc, Bool, true, false, ◌+◌, List, [], ◌∷◌, drop, count_by, refl, ap, sym, ◌∙◌, arith, Some}
 use Rattle.signalling_types.specs.Message.{Message}
-use Rattle.link_sequence.specs.Queue.{last_accepted, named_count}
+use Rattle.link.specs.Queue.{last_accepted, named_count}
 use Rattle.pair_moves.specs.Sayings.{Saying, Order, Answer, is_user_message, is_untrue}
 use Rattle.pair_moves.specs.Ends.{LinkEnd, Pair, unreceived}
 use Rattle.pair_moves.specs.Failing.{users_of, managements_of}

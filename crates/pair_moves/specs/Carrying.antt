@@ -2,8 +2,8 @@
 use Rattle.std.specs.Prelude.{◌≡◌, ◌⊎◌, ℕ, Bool, true, false, ◌≤◌, List, ◌∷◌, [], ◌++◌, Some, Ok}
 use Rattle.signalling_types.specs.Message.{Message}
 use Rattle.signalling_types.specs.declared.limits.TheConstants.Limits.{WINDOW}
-use Rattle.link_sequence.specs.Queue.{Queue, Sending, to_send, after_sending, last_sent, last_accepted}
-use Rattle.link_sequence.specs.Queue.{accept_answer, after_answer}
+use Rattle.link.specs.Queue.{Queue, Sending, to_send, after_sending, last_sent, last_accepted}
+use Rattle.link.specs.Queue.{accept_answer, after_answer}
 use Rattle.pair_moves.specs.Sayings.{Saying}
 use Rattle.pair_moves.specs.Ends.{Frame, StatusFrame, EmptyFrame, MessageFrame, Line, Pair}
 use Rattle.pair_moves.specs.Passing.{BecomeAt}

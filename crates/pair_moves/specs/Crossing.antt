@@ -3,7 +3,7 @@
 use Rattle.std.specs.Prelude.{◌≡◌, ℕ, Bool, true, false, List, [], ◌∷◌, drop, slice_index, nat_eq}
 use Rattle.std.specs.Prelude.{Option, Some, None, if◌then◌else◌}
 use Rattle.signalling_types.specs.Message.{Message, is_management}
-use Rattle.link_number.specs.Numbers.{number_of}
+use Rattle.signalling_types.specs.Numbers.{number_of}
 use Rattle.pair_moves.specs.Sayings.{Saying, UserMessage, Order, Answer, Declaration, Confirmation}
 use Rattle.pair_moves.specs.Ends.{Line, Procedure, Changeover, Code, Time, Side, Pair, turned, first_pair}
 use Rattle.pair_moves.specs.Passing.{with_message}

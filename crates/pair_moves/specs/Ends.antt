@@ -2,7 +2,7 @@
 use Rattle.std.specs.Prelude.{ℕ, Bool, false, List, [], drop, Option, None}
 use Rattle.signalling_types.specs.Message.{Message}
 use Rattle.signalling_types.specs.declared.point.Flow.{Flow}
-use Rattle.link_sequence.specs.Queue.{Queue, first_queue}
+use Rattle.link.specs.Queue.{Queue, first_queue}
 
 -- a frame in flight: a link status, User Data without a message, User Data with one (RFC 4165 §2)
 pub data Frame : Type 0 where

@@ -3,7 +3,7 @@ use Rattle.std.specs.Prelude.{◌≡◌, ◌≢◌, ℕ, Bool, true, false, not,
 use Rattle.std.specs.Prelude.{drop, filter, Option, Some}
 use Rattle.signalling_types.specs.Message.{Message}
 use Rattle.signalling_types.specs.declared.point.Flow.{Flow}
-use Rattle.link_sequence.specs.Queue.{named_count, emptied, last_accepted}
+use Rattle.link.specs.Queue.{named_count, emptied, last_accepted}
 use Rattle.pair_moves.specs.Sayings.{Saying, Order, Answer, is_user_message}
 use Rattle.pair_moves.specs.Ends.{Line, Procedure, Changeover, Pair}
 use Rattle.pair_moves.specs.Passing.{BecomeAt, Hears}

@@ -3,8 +3,8 @@ use Rattle.std.specs.Prelude.{◌≡◌, ℕ, Bool, true, false, ◌+◌, ◌≤
 use Rattle.std.specs.Prelude.{Some, unwrap_or}
 use Rattle.signalling_types.specs.Message.{Message}
 use Rattle.signalling_types.specs.declared.limits.TheConstants.Limits.{WINDOW}
-use Rattle.link_number.specs.Numbers.{previous_number}
-use Rattle.link_sequence.specs.Queue.{Queue, IsQueue, forward_number, named_count, last_accepted}
+use Rattle.signalling_types.specs.Numbers.{previous_number}
+use Rattle.link.specs.Queue.{Queue, IsQueue, forward_number, named_count, last_accepted}
 use Rattle.pair_moves.specs.Ends.{Frame, StatusFrame, EmptyFrame, MessageFrame, LinkEnd, Line, unreceived}
 
 -- frames carry the messages of a queue from one count on, in order, up to the last that was sent

@@ -1,7 +1,7 @@
 -- The laws of orders, answers, declarations and confirmations, by counts of the messages under way.
 use Rattle.std.specs.Prelude.{◌≡◌, ℕ, zero, suc, Bool, cond, ◌+◌, ◌≤◌, count_by}
 use Rattle.signalling_types.specs.Message.{Message}
-use Rattle.link_sequence.specs.Queue.{last_accepted}
+use Rattle.link.specs.Queue.{last_accepted}
 use Rattle.pair_moves.specs.Sayings.{Saying, is_order, is_answer, is_untrue, is_declaration, is_confirmation}
 use Rattle.pair_moves.specs.Ends.{Pair, turned, unreceived}
 

@@ -3,7 +3,7 @@
 use Rattle.std.specs.Prelude.{◌≡◌, ◌≢◌, ℕ, true, false, ◌<◌, List, [], ◌∷◌, ◌++◌, filter, Some}
 use Rattle.signalling_types.specs.Message.{Message, flow_of}
 use Rattle.signalling_types.specs.declared.point.Flow.{Flow}
-use Rattle.link_sequence.specs.Queue.{appended}
+use Rattle.link.specs.Queue.{appended}
 use Rattle.pair_moves.specs.Sayings.{Saying, UserMessage, is_user_message, is_of_flow}
 use Rattle.pair_moves.specs.Ends.{Line, Procedure, Side, Pair}
 

@@ -3,10 +3,10 @@ use Rattle.std.proofs.Common.{◌≡◌, ℕ, Bool, true, false, List, [], ◌�
 use Rattle.std.specs.Prelude.{find, slice_index_or, if◌then◌else◌}
 use Rattle.std.specs.Option.{option_map}
 use Rattle.settings_rows.specs.Configuration.{Configuration}
-use Rattle.route_table.specs.declared.route.Route.{Route}
-use Rattle.route_table.specs.declared.route.RouteStatus.{RouteStatus}
-use Rattle.route_table.specs.declared.route.RouteStatus.TheVariants.{Allowed}
-use Rattle.route_table.specs.Facts.{first_route}
+use Rattle.routes.specs.declared.route.Route.{Route}
+use Rattle.routes.specs.declared.route.RouteStatus.{RouteStatus}
+use Rattle.routes.specs.declared.route.RouteStatus.TheVariants.{Allowed}
+use Rattle.routes.specs.Facts.{first_route}
 use Rattle.route_management.specs.Told.{ToldTable, is_own_point}
 use Rattle.exchange_rules.specs.State.{Node}
 use Rattle.exchange_rules.specs.Queues.{WholeQueues}

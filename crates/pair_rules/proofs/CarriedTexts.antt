@@ -6,7 +6,7 @@ use Rattle.signalling_types.specs.Message.{Message}
 use Rattle.settings_rows.specs.Configuration.{Configuration}
 use Rattle.m2pa_codec.specs.Frames.{FrameValue, EmptyFrame, MessageFrame, StatusFrame, spelled}
 use Rattle.m2pa_codec.specs.Reading.{read_frame}
-use Rattle.link_sequence.specs.Queue.{Queue}
+use Rattle.link.specs.Queue.{Queue}
 use Rattle.exchange_rules.specs.Links.{down, is_link}
 use Rattle.exchange_rules.specs.Laws.{carried_message}
 use Rattle.exchange_rules.specs.Receiving.{new_message, new_of}

@@ -1,9 +1,9 @@
 -- The rules by which a changeover goes on and ends: each goes by moves.
 use Rattle.std.proofs.Common.{append-nil}
-use Rattle.link_number.specs.Numbers.{previous_number}
+use Rattle.signalling_types.specs.Numbers.{previous_number}
 use Rattle.exchange_rules.specs.Routing.{link_of}
 use Rattle.exchange_rules.specs.Made.{send}
-use Rattle.link_sequence.specs.Queue.{appended}
+use Rattle.link.specs.Queue.{appended}
 use Rattle.exchange_rules.proofs.SteppingTimers.{clear-timed}
 use Rattle.exchange_rules.specs.State.{answer}
 use Rattle.signalling_types.specs.declared.outcome.Outcome.TheVariants.{Handled, Ignored}
@@ -18,11 +18,11 @@ use Rattle.std.proofs.lemmas.List.{set-get_or, length-set}
 use Rattle.signalling_types.specs.Message.{Message, flow_of}
 use Rattle.signalling_types.specs.declared.notice.FailureReason.TheVariants as reasons
 use Rattle.settings_rows.specs.Configuration.{Configuration}
-use Rattle.mgmt_codec.specs.declared.management.Management.{Management}
-use Rattle.mgmt_codec.specs.declared.management.Management.TheVariants.{ExtendedChangeoverAcknowledgement}
-use Rattle.timer_wheel.specs.Timers.{Running, clear_timer}
-use Rattle.timer_wheel.specs.declared.name.TimerName.TheVariants.{T2}
-use Rattle.link_sequence.specs.Queue.{Queue, emptied, first_queue, named_count, last_accepted}
+use Rattle.mtp3_codec.specs.declared.management.Management.{Management}
+use Rattle.mtp3_codec.specs.declared.management.Management.TheVariants.{ExtendedChangeoverAcknowledgement}
+use Rattle.timers.specs.Timers.{Running, clear_timer}
+use Rattle.timers.specs.declared.name.TimerName.TheVariants.{T2}
+use Rattle.link.specs.Queue.{Queue, emptied, first_queue, named_count, last_accepted}
 use Rattle.changeover.specs.Standing.{Standing, acknowledged, completed, no_changeover}
 use Rattle.changeover.specs.Completion.{behind, managements_of}
 use Rattle.node_links.specs.Link.{Link}

@@ -8,8 +8,8 @@ use Rattle.std.proofs.lemmas.Bool.{cases_eq}
 use Rattle.signalling_types.specs.Message.{Message, is_management}
 use Rattle.settings_rows.specs.Configuration.{Configuration}
 use Rattle.signalling_types.specs.declared.cause.Cause.TheVariants.{LostUnconfirmed}
-use Rattle.timer_wheel.specs.Timers.{Running, clear_timer}
-use Rattle.timer_wheel.specs.declared.name.TimerName.TheVariants.{T1}
+use Rattle.timers.specs.Timers.{Running, clear_timer}
+use Rattle.timers.specs.declared.name.TimerName.TheVariants.{T1}
 use Rattle.route_management.specs.Told.{ToldTable}
 use Rattle.node_links.specs.Link.{Link}
 use Rattle.node_links.specs.Network.{link_in}
@@ -17,7 +17,7 @@ use Rattle.node_links.specs.LinkState.{is_down}
 use Rattle.flow_hold.specs.Holds.{lifted}
 use Rattle.flow_hold.specs.declared.procedure.Procedure.TheVariants as held_by
 use Rattle.flow_hold.proofs.Pairing.{leaves_others}
-use Rattle.link_sequence.specs.Queue.{Queue, emptied, first_queue, named_count, last_accepted}
+use Rattle.link.specs.Queue.{Queue, emptied, first_queue, named_count, last_accepted}
 use Rattle.changeover.specs.Standing.{Standing, standing_at, with_standing}
 use Rattle.changeover.specs.Completion.{accepted_count, behind, users_of, managements_of}
 use Rattle.changeover.specs.Completion as completion

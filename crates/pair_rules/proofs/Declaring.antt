@@ -8,13 +8,13 @@ use Rattle.signalling_types.specs.declared.limits.TheConstants.Limits.{SELECTION
 use Rattle.signalling_types.specs.Message.{Message}
 use Rattle.signalling_types.specs.declared.point.Flow.{Flow}
 use Rattle.settings_rows.specs.Configuration.{Configuration}
-use Rattle.mgmt_codec.specs.declared.management.Management.{Management}
-use Rattle.mgmt_codec.specs.declared.management.Management.TheVariants.{ChangebackDeclaration}
+use Rattle.mtp3_codec.specs.declared.management.Management.{Management}
+use Rattle.mtp3_codec.specs.declared.management.Management.TheVariants.{ChangebackDeclaration}
 use Rattle.flow_hold.specs.Holds as hold
 use Rattle.flow_hold.specs.declared.procedure.Procedure.TheVariants as held_by
-use Rattle.link_sequence.specs.Queue.{Queue, appended, first_queue}
+use Rattle.link.specs.Queue.{Queue, appended, first_queue}
 use Rattle.node_links.proofs.Chosen.{chosen_serving}
-use Rattle.route_table.specs.Facts.{Facts}
+use Rattle.routes.specs.Facts.{Facts}
 use Rattle.changeback.specs.Codes.{is_outstanding, with_code}
 use Rattle.exchange_rules.specs.State.{Node, Parts}
 use Rattle.exchange_rules.specs.Links.{in_service}

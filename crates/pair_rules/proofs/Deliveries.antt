@@ -7,14 +7,14 @@ use Rattle.signalling_types.specs.declared.notice.FailureReason.{FailureReason}
 use Rattle.signalling_types.specs.declared.notice.FailureReason.TheVariants as reasons
 use Rattle.settings_rows.specs.Configuration.{Configuration}
 use Rattle.m2pa_codec.specs.Frames.{FrameValue, EmptyFrame, MessageFrame}
-use Rattle.link_alignment.specs.declared.alignment.Alignment.{Alignment}
-use Rattle.link_alignment.specs.declared.alignment.Alignment.TheVariants.{Down, NotAligned, Aligned, Proving, AlignedReady, InService}
-use Rattle.link_alignment.specs.declared.action.Action.{Action}
-use Rattle.link_alignment.specs.declared.action.Action.TheVariants as act
-use Rattle.link_alignment.specs.declared.action.Input.TheVariants.{UserData}
-use Rattle.link_alignment.specs.declared.action.Input.{Input}
-use Rattle.link_alignment.specs.Table.{action_at}
-use Rattle.link_sequence.specs.declared.fault.SeqFault.{SeqFault}
+use Rattle.link.specs.declared.alignment.Alignment.{Alignment}
+use Rattle.link.specs.declared.alignment.Alignment.TheVariants.{Down, NotAligned, Aligned, Proving, AlignedReady, InService}
+use Rattle.link.specs.declared.action.Action.{Action}
+use Rattle.link.specs.declared.action.Action.TheVariants as act
+use Rattle.link.specs.declared.action.Input.TheVariants.{UserData}
+use Rattle.link.specs.declared.action.Input.{Input}
+use Rattle.link.specs.Table.{action_at}
+use Rattle.link.specs.declared.fault.SeqFault.{SeqFault}
 use Rattle.node_links.specs.Link.{Link}
 use Rattle.node_links.specs.LinkState.{after_failure, down_link, is_down, is_in_service}
 use Rattle.exchange_rules.specs.State.{Node, with_parts}

@@ -10,11 +10,11 @@ use Rattle.settings_rows.specs.Configuration.{Configuration}
 use Rattle.m2pa_codec.specs.Frames.{FrameValue, EmptyFrame, MessageFrame, StatusFrame}
 use Rattle.m2pa_codec.specs.Reading.{read_frame}
 use Rattle.signalling_types.specs.declared.notice.FrameFault.{FrameFault}
-use Rattle.routing_label.specs.declared.discrimination.Discrimination.{Discrimination}
-use Rattle.routing_label.specs.declared.discrimination.Discrimination.TheVariants as whither
-use Rattle.routing_label.specs.declared.label.Label.{Label}
-use Rattle.route_table.specs.declared.route.RouteStatus.{RouteStatus}
-use Rattle.route_table.specs.Facts.{Facts}
+use Rattle.mtp3_codec.specs.declared.discrimination.Discrimination.{Discrimination}
+use Rattle.mtp3_codec.specs.declared.discrimination.Discrimination.TheVariants as whither
+use Rattle.mtp3_codec.specs.declared.label.Label.{Label}
+use Rattle.routes.specs.declared.route.RouteStatus.{RouteStatus}
+use Rattle.routes.specs.Facts.{Facts}
 use Rattle.route_management.specs.Told.{ToldTable, is_own_point}
 use Rattle.std.proofs.Common.{append-nil}
 use Rattle.pair_moves.specs.Sayings.{is_user_message}
@@ -22,8 +22,8 @@ use Rattle.std.proofs.Common.{inl}
 use Rattle.route_management.specs.Told.{told_at}
 use Rattle.route_management.specs.Owed.{Owed, owed, owed_at, owed_by_sets, owed_from, is_owed, is_reachable, is_unlike, status_to_advertise}
 use Rattle.route_management.proofs.Listing.{none_of_point}
-use Rattle.link_alignment.specs.declared.action.Input.TheVariants.{UserData}
-use Rattle.link_alignment.specs.Table.{action_at}
+use Rattle.link.specs.declared.action.Input.TheVariants.{UserData}
+use Rattle.link.specs.Table.{action_at}
 use Rattle.exchange_rules.specs.State.{Node, Done, answer, refuse}
 use Rattle.exchange_rules.specs.Happening.{Happening}
 use Rattle.exchange_rules.specs.Links.{down, is_link, link_at}

@@ -11,7 +11,7 @@ use Rattle.signalling_types.specs.declared.notice.ChangeoverTimer.{ChangeoverTim
 use Rattle.signalling_types.specs.declared.notice.ChangeoverTimer.TheVariants as timer
 use Rattle.signalling_types.specs.declared.notice.Notice.TheVariants as notices
 use Rattle.settings_rows.specs.Configuration.{Configuration}
-use Rattle.link_sequence.specs.Queue.{Queue}
+use Rattle.link.specs.Queue.{Queue}
 use Rattle.changeover.specs.Standing.{Standing, acknowledged, completed}
 use Rattle.changeover.specs.Completion.{behind, managements_of}
 use Rattle.exchange_rules.specs.State.{Node, with_parts}

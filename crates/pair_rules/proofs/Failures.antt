@@ -9,7 +9,7 @@ use Rattle.signalling_types.specs.Message.{Message}
 use Rattle.signalling_types.specs.declared.notice.FailureReason.{FailureReason}
 use Rattle.signalling_types.specs.declared.notice.FailureReason.TheVariants as reasons
 use Rattle.settings_rows.specs.Configuration.{Configuration}
-use Rattle.mgmt_codec.specs.declared.management.Management.TheVariants.{ExtendedChangeoverOrder}
+use Rattle.mtp3_codec.specs.declared.management.Management.TheVariants.{ExtendedChangeoverOrder}
 use Rattle.changeover.specs.Standing.{failed, begun_by_peer}
 use Rattle.node_links.specs.Link.{Link}
 use Rattle.node_links.specs.LinkState.{after_failure}

@@ -3,7 +3,7 @@ use Rattle.signalling_types.specs.declared.limits.TheConstants.Limits.{SELECTION
 use Rattle.exchange_rules.specs.Routing.{goes_by}
 use Rattle.pair_rules.proofs.Lines.{end_by, end-by, link-here, link-other, standing-here, standing-other}
 use Rattle.node_links.specs.LinkState.{is_down}
-use Rattle.mgmt_codec.specs.declared.management.Management.{Management}
+use Rattle.mtp3_codec.specs.declared.management.Management.{Management}
 use Rattle.pair_rules.proofs.World.{said_by, unsaid}
 use Rattle.pair_moves.specs.Sayings.{Order}
 use Rattle.std.proofs.Common.{◌≡◌, ◌≢◌, ◌<◌, ◌&&◌, ℕ, Bool, true, false, not, List, [], ◌∷◌, length, Option, Some, refl, ap, sym, subst, ◌∙◌, nat_eq, nat_lt, arith}
@@ -13,8 +13,8 @@ use Rattle.signalling_types.specs.Message.{Message}
 use Rattle.signalling_types.specs.declared.point.Flow.{Flow}
 use Rattle.signalling_types.specs.declared.notice.FailureReason.{FailureReason}
 use Rattle.settings_rows.specs.Configuration.{Configuration}
-use Rattle.mgmt_codec.specs.declared.management.Management.TheVariants.{ExtendedChangeoverOrder}
-use Rattle.timer_wheel.specs.Timers.{Running}
+use Rattle.mtp3_codec.specs.declared.management.Management.TheVariants.{ExtendedChangeoverOrder}
+use Rattle.timers.specs.Timers.{Running}
 use Rattle.flow_hold.specs.Holds as hold
 use Rattle.flow_hold.specs.Holds.{HoldSet}
 use Rattle.flow_hold.specs.Flows.{with_flows}
@@ -23,7 +23,7 @@ use Rattle.flow_hold.specs.declared.procedure.Procedure.TheVariants as held_by
 use Rattle.changeover.specs.Standing.{Standing, no_changeover, with_standing}
 use Rattle.node_links.specs.Link.{Link}
 use Rattle.node_links.specs.LinkState.{after_failure}
-use Rattle.route_table.specs.Chosen.{chosen_link}
+use Rattle.routes.specs.Chosen.{chosen_link}
 use Rattle.exchange_rules.specs.State.{Node, Parts, with_parts}
 use Rattle.exchange_rules.specs.Links.{down, in_service, link_at}
 use Rattle.exchange_rules.specs.Queues.{WholeQueues, queue_at, whole}

@@ -8,13 +8,13 @@ use Rattle.signalling_types.specs.declared.point.Flow.{Flow}
 use Rattle.signalling_types.specs.declared.limits.TheConstants.Limits.{CHANGEBACK_CODES, SELECTIONS}
 use Rattle.std.proofs.lemmas.Bool.Decides.{nat_tests}
 use Rattle.settings_rows.specs.Configuration.{Configuration, DestinationEntry}
-use Rattle.stp_types.specs.Facing.{IsFacing, LeadsOnlyTo}
-use Rattle.stp_types.specs.Readings.{destination_place}
-use Rattle.stp_types.specs.Well.{IsWell, IsDestination}
-use Rattle.linkset.specs.declared.link_group.Member.{Member}
-use Rattle.linkset.specs.Preference.{preference, is_in_service, serves}
-use Rattle.route_table.specs.Facts.{Facts, first_route, first_routes, routes_to, with_second_joined}
-use Rattle.route_table.specs.Chosen.{Choice, choice_among, taken_by, sets_of, members, link_by, chosen_link}
+use Rattle.settings.specs.Facing.{IsFacing, LeadsOnlyTo}
+use Rattle.settings.specs.Readings.{destination_place}
+use Rattle.settings.specs.Well.{IsWell, IsDestination}
+use Rattle.routes.specs.declared.link_group.Member.{Member}
+use Rattle.routes.specs.Preference.{preference, is_in_service, serves}
+use Rattle.routes.specs.Facts.{Facts, first_route, first_routes, routes_to, with_second_joined}
+use Rattle.routes.specs.Chosen.{Choice, choice_among, taken_by, sets_of, members, link_by, chosen_link}
 use Rattle.route_management.specs.Told.{adjacent_place}
 use Rattle.node_links.specs.Link.{Link}
 use Rattle.node_links.specs.LinkState.{down_link, is_down}
@@ -23,8 +23,8 @@ use Rattle.node_links.proofs.Serving.{serving_none}
 use Rattle.flow_hold.specs.Holds.{by_numbers, holds}
 use Rattle.changeback.specs.Codes.{no_codes, is_outstanding}
 use Rattle.changeover.specs.Standing.{Standing, no_changeover}
-use Rattle.link_sequence.specs.Queue.{Queue, IsQueue, first_queue}
-use Rattle.link_sequence.proofs.Sound.{sound-first}
+use Rattle.link.specs.Queue.{Queue, IsQueue, first_queue}
+use Rattle.link.proofs.Sound.{sound-first}
 use Rattle.exchange_rules.specs.State.{Parts}
 use Rattle.exchange_rules.specs.First.{first_state, first_parts}
 use Rattle.exchange_rules.specs.Routing.{facts, link_of}

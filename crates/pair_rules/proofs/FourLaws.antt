@@ -7,7 +7,7 @@ use Rattle.std.proofs.lemmas.List.{get_or_past}
 use Rattle.std.proofs.lemmas.List.Elements.{Contains-append_left}
 use Rattle.signalling_types.specs.Message.{Message}
 use Rattle.settings_rows.specs.Configuration.{Configuration}
-use Rattle.link_sequence.specs.Queue.{last_accepted, named_count}
+use Rattle.link.specs.Queue.{last_accepted, named_count}
 use Rattle.changeover.specs.Completion.{behind}
 use Rattle.exchange_rules.specs.declared.wants.Wants.TheVariants.{Open}
 use Rattle.exchange_rules.specs.Links.{down}

@@ -3,11 +3,11 @@ use Rattle.std.proofs.Common.{append-nil, inl, inr}
 use Rattle.std.specs.Prelude.{◌⊎◌}
 use Rattle.pair_rules.specs.Pairs.{for_users}
 use Rattle.pair_rules.proofs.Good.{IsFlying}
-use Rattle.link_sequence.specs.Queue as queue
+use Rattle.link.specs.Queue as queue
 use Rattle.std.proofs.Math.Logic.{⊎_elim}
 use Rattle.std.proofs.lemmas.Bool.{cases_eq}
 use Rattle.exchange_rules.specs.Local.{do_test}
-use Rattle.mgmt_codec.specs.LinkTests.{read_link_test}
+use Rattle.mtp3_codec.specs.LinkTests.{read_link_test}
 use Rattle.std.proofs.Common.{◌≡◌, ◌≢◌, ◌<◌, ℕ, Bool, true, false, not, List, [], ◌∷◌, ◌++◌, length, Option, Some, Result, Ok, Err, refl, ap, sym, subst, ◌∙◌, nat_eq, arith}
 use Rattle.std.specs.Prelude.{if◌then◌else◌, is_some, map, nat_le}
 use Rattle.std.proofs.lemmas.Bool.Decides.{nat_tests}
@@ -16,12 +16,12 @@ use Rattle.signalling_types.specs.declared.outcome.Outcome.TheVariants.{Local}
 use Rattle.signalling_types.specs.declared.cause.Cause.TheVariants as causes
 use Rattle.settings_rows.specs.Configuration.{Configuration}
 use Rattle.m2pa_codec.specs.Frames.{FrameValue}
-use Rattle.mgmt_codec.specs.Management.{read_management}
-use Rattle.mgmt_codec.specs.declared.management.Management.{Management}
-use Rattle.mgmt_codec.specs.declared.fault.MgmtFault.{MgmtFault}
-use Rattle.link_sequence.specs.Queue.{Queue, accept_answer, after_answer, first_queue}
-use Rattle.link_sequence.specs.declared.fault.SeqFault.{SeqFault}
-use Rattle.routing_label.specs.declared.discrimination.Discrimination.{Discrimination}
+use Rattle.mtp3_codec.specs.Management.{read_management}
+use Rattle.mtp3_codec.specs.declared.management.Management.{Management}
+use Rattle.mtp3_codec.specs.declared.fault.MgmtFault.{MgmtFault}
+use Rattle.link.specs.Queue.{Queue, accept_answer, after_answer, first_queue}
+use Rattle.link.specs.declared.fault.SeqFault.{SeqFault}
+use Rattle.mtp3_codec.specs.declared.discrimination.Discrimination.{Discrimination}
 use Rattle.exchange_rules.specs.State.{Node, Done, answer, refuse}
 use Rattle.exchange_rules.specs.Links.{down, in_service}
 use Rattle.exchange_rules.specs.Queues.{WholeQueues, queue_at, whole}

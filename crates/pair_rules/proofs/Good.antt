@@ -3,15 +3,15 @@ use Rattle.std.proofs.Common.{zero, suc, subst, ◌≡◌, ◌<◌, ◌^◌, ℕ
 use Rattle.std.specs.Prelude.{slice_get, nat_le}
 use Rattle.signalling_types.specs.Message.{Message, is_management, service_indicator, dpc_of, opc_of}
 use Rattle.settings_rows.specs.Configuration.{Configuration}
-use Rattle.stp_types.specs.Readings.{destination_place, set_place}
-use Rattle.routing_label.specs.declared.label.Label.{Label}
-use Rattle.routing_label.specs.declared.discrimination.Discrimination.TheVariants as whither
+use Rattle.settings.specs.Readings.{destination_place, set_place}
+use Rattle.mtp3_codec.specs.declared.label.Label.{Label}
+use Rattle.mtp3_codec.specs.declared.discrimination.Discrimination.TheVariants as whither
 use Rattle.m2pa_codec.specs.Frames.{FrameValue, EmptyFrame, MessageFrame, StatusFrame, IsSayable}
 use Rattle.m2pa_codec.specs.declared.status.LinkStatus.{LinkStatus}
-use Rattle.mgmt_codec.specs.Management.{read_management}
-use Rattle.mgmt_codec.specs.declared.management.Management.{Management}
-use Rattle.mgmt_codec.specs.declared.management.Management.TheVariants.{ExtendedChangeoverOrder, ExtendedChangeoverAcknowledgement, ChangebackDeclaration, ChangebackAcknowledgement}
-use Rattle.link_number.specs.Numbers.{previous_number}
+use Rattle.mtp3_codec.specs.Management.{read_management}
+use Rattle.mtp3_codec.specs.declared.management.Management.{Management}
+use Rattle.mtp3_codec.specs.declared.management.Management.TheVariants.{ExtendedChangeoverOrder, ExtendedChangeoverAcknowledgement, ChangebackDeclaration, ChangebackAcknowledgement}
+use Rattle.signalling_types.specs.Numbers.{previous_number}
 use Rattle.exchange_rules.specs.State.{Node}
 use Rattle.exchange_rules.specs.Links.{down}
 use Rattle.exchange_rules.specs.Queues.{WholeQueues, queue_at}

@@ -2,14 +2,14 @@
 use Rattle.std.proofs.Common.{◌≡◌, if◌then◌else◌, ◌<◌, ◌^◌, ℕ, Bool, true, false, ◌&&◌, suc, List, [], ◌∷◌, Option, Some, length, map, get_or, nat_eq, position, refl, ap, sym, ◌∙◌, arith}
 use Rattle.std.proofs.lemmas.Bool.Decides.{nat_tests}
 use Rattle.settings_rows.specs.Configuration.{Configuration, LinkEntry}
-use Rattle.stp_types.specs.Facing.{IsFacing}
-use Rattle.stp_types.specs.Readings.{destination_place}
-use Rattle.stp_types.specs.Well.{IsWell}
-use Rattle.stp_types.proofs.Places.{position-map}
-use Rattle.mgmt_codec.specs.Management.{IsManagement, read_management}
-use Rattle.mgmt_codec.specs.declared.management.Management.{Management}
-use Rattle.mgmt_codec.specs.declared.management.Management.TheVariants as says
-use Rattle.mgmt_codec.proofs.Reading.{label_of}
+use Rattle.settings.specs.Facing.{IsFacing}
+use Rattle.settings.specs.Readings.{destination_place}
+use Rattle.settings.specs.Well.{IsWell}
+use Rattle.settings.proofs.Places.{position-map}
+use Rattle.mtp3_codec.specs.Management.{IsManagement, read_management}
+use Rattle.mtp3_codec.specs.declared.management.Management.{Management}
+use Rattle.mtp3_codec.specs.declared.management.Management.TheVariants as says
+use Rattle.mtp3_codec.proofs.Reading.{label_of}
 use Rattle.exchange_rules.specs.Points.{entry_of, set_of}
 use Rattle.exchange_rules.specs.Made.{management_to}
 use Rattle.exchange_rules.proofs.FacingNodes.{facing-turned, sets-one, destinations-one, destination-found, set-sole, peer-sole, set-found, links-alike, codes-alike, code-means}

@@ -10,8 +10,8 @@ use Rattle.signalling_types.specs.declared.point.Flow.{Flow}
 use Rattle.signalling_types.specs.declared.notice.Notice.{Notice}
 use Rattle.signalling_types.specs.declared.outcome.Outcome.TheVariants.{Handled, Ignored}
 use Rattle.settings_rows.specs.Configuration.{Configuration}
-use Rattle.mgmt_codec.specs.declared.management.Management.TheVariants.{ChangebackAcknowledgement}
-use Rattle.timer_wheel.specs.declared.name.TimerName.TheVariants as name
+use Rattle.mtp3_codec.specs.declared.management.Management.TheVariants.{ChangebackAcknowledgement}
+use Rattle.timers.specs.declared.name.TimerName.TheVariants as name
 use Rattle.flow_hold.specs.Holds as hold
 use Rattle.flow_hold.specs.Holds.{HoldSet}
 use Rattle.flow_hold.specs.declared.procedure.Procedure.{Procedure}

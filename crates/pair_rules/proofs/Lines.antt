@@ -10,7 +10,7 @@ use Rattle.settings_rows.specs.Configuration.{Configuration}
 use Rattle.node_links.specs.LinkState.{down_link, is_down, is_in_service}
 use Rattle.node_links.specs.Link.{Link}
 use Rattle.changeover.specs.Standing.{Standing, no_changeover}
-use Rattle.link_sequence.specs.Queue.{Queue, first_queue}
+use Rattle.link.specs.Queue.{Queue, first_queue}
 use Rattle.exchange_rules.specs.State.{Node, Parts}
 use Rattle.exchange_rules.specs.Links.{down, in_service, link_at}
 use Rattle.exchange_rules.specs.Queues.{WholeQueues, queue_at, with_queue}

@@ -4,9 +4,9 @@ use Rattle.std.specs.Prelude.{if◌then◌else◌}
 use Rattle.std.specs.Option.{option_map}
 use Rattle.signalling_types.specs.Message.{Message, opc_of}
 use Rattle.settings_rows.specs.Configuration.{Configuration}
-use Rattle.mgmt_codec.specs.Management.{IsManagement, read_management}
-use Rattle.mgmt_codec.specs.declared.management.Management.{Management}
-use Rattle.mgmt_codec.specs.declared.management.Management.TheVariants.{ExtendedChangeoverOrder, ExtendedChangeoverAcknowledgement}
+use Rattle.mtp3_codec.specs.Management.{IsManagement, read_management}
+use Rattle.mtp3_codec.specs.declared.management.Management.{Management}
+use Rattle.mtp3_codec.specs.declared.management.Management.TheVariants.{ExtendedChangeoverOrder, ExtendedChangeoverAcknowledgement}
 use Rattle.exchange_rules.specs.Points.{entry_of}
 use Rattle.exchange_rules.specs.Made.{management_to}
 use Rattle.exchange_rules.specs.Local.{link_with_code}

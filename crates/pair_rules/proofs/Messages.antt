@@ -6,16 +6,16 @@ use Rattle.signalling_types.specs.Message.{Message, flow_of, is_management, dpc_
 use Rattle.signalling_types.specs.declared.point.Flow.{Flow}
 use Rattle.signalling_types.specs.declared.cause.Cause.{Cause}
 use Rattle.settings_rows.specs.Configuration.{Configuration, LinkEntry}
-use Rattle.stp_types.specs.Readings.{destination_place}
-use Rattle.mgmt_codec.specs.declared.management.Management.{Management}
-use Rattle.mgmt_codec.specs.declared.fault.MgmtFault.{MgmtFault}
-use Rattle.mgmt_codec.specs.declared.management.Management.TheVariants as says
-use Rattle.mgmt_codec.specs.Management.{read_management}
+use Rattle.settings.specs.Readings.{destination_place}
+use Rattle.mtp3_codec.specs.declared.management.Management.{Management}
+use Rattle.mtp3_codec.specs.declared.fault.MgmtFault.{MgmtFault}
+use Rattle.mtp3_codec.specs.declared.management.Management.TheVariants as says
+use Rattle.mtp3_codec.specs.Management.{read_management}
 use Rattle.flow_hold.specs.Holds as hold
 use Rattle.flow_hold.specs.Holds.{HoldSet, is_held}
 use Rattle.flow_hold.specs.declared.procedure.Procedure.{Procedure}
 use Rattle.flow_hold.proofs.Pairing.{held_by}
-use Rattle.link_sequence.specs.Queue.{Queue, appended, first_queue}
+use Rattle.link.specs.Queue.{Queue, appended, first_queue}
 use Rattle.exchange_rules.specs.State.{Node, Parts}
 use Rattle.exchange_rules.specs.Links.{in_service}
 use Rattle.exchange_rules.specs.Queues.{WholeQueues, queue_at, whole}

@@ -8,13 +8,13 @@ use Rattle.signalling_types.specs.declared.point.Flow.{Flow}
 use Rattle.signalling_types.specs.declared.outcome.Outcome.TheVariants.{Handled}
 use Rattle.settings_rows.specs.Configuration.{Configuration}
 use Rattle.m2pa_codec.specs.Frames.{FrameValue}
-use Rattle.link_sequence.specs.Queue.{Queue, first_queue}
+use Rattle.link.specs.Queue.{Queue, first_queue}
 use Rattle.changeover.specs.Standing.{Standing, may_restart}
-use Rattle.link_alignment.specs.declared.alignment.Alignment.{Alignment}
+use Rattle.link.specs.declared.alignment.Alignment.{Alignment}
 use Rattle.node_links.specs.Link.{Link}
 use Rattle.node_links.specs.LinkState.{down_link, is_down, is_in_service, opened}
 use Rattle.node_links.proofs.Serving.{serving_alike}
-use Rattle.route_table.specs.Facts.{Facts}
+use Rattle.routes.specs.Facts.{Facts}
 use Rattle.exchange_rules.specs.declared.wants.Wants.TheVariants.{Nothing, Open, Close}
 use Rattle.exchange_rules.specs.State.{Node, Parts, Done, answer}
 use Rattle.pair_rules.proofs.Deliveries.{serving-up}

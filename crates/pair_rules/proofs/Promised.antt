@@ -4,11 +4,11 @@ use Rattle.std.specs.Prelude.{count_by, drop, filter, if◌then◌else◌}
 use Rattle.signalling_types.specs.Message.{Message, flow_of, is_management}
 use Rattle.signalling_types.specs.declared.point.Flow.{Flow}
 use Rattle.settings_rows.specs.Configuration.{Configuration, LinkEntry}
-use Rattle.stp_types.specs.Well.{IsWell, IsDestination}
+use Rattle.settings.specs.Well.{IsWell, IsDestination}
 use Rattle.settings_rows.specs.Configuration.{DestinationEntry}
 use Rattle.std.proofs.Common.{get_or}
-use Rattle.stp_types.specs.Facing.{IsFacing}
-use Rattle.mgmt_codec.specs.Management.{read_management}
+use Rattle.settings.specs.Facing.{IsFacing}
+use Rattle.mtp3_codec.specs.Management.{read_management}
 use Rattle.changeover.specs.Completion.{users_of}
 use Rattle.exchange_rules.specs.Queues.{queue_at}
 use Rattle.pair_moves.specs.Sayings.{Saying, UserMessage, is_user_message, is_same_flow}

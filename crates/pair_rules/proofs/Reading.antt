@@ -2,12 +2,12 @@
 use Rattle.std.proofs.Common.{◌≡◌, if◌then◌else◌, ℕ, List, Option, map, position, nat_eq, Ok, Err, Result, refl, ap, sym, ◌∙◌}
 use Rattle.signalling_types.specs.Message.{Message, is_management}
 use Rattle.settings_rows.specs.Configuration.{Configuration, LinkEntry}
-use Rattle.stp_types.specs.Facing.{IsFacing}
-use Rattle.stp_types.proofs.Places.{position-map}
-use Rattle.mgmt_codec.specs.Management.{read_management}
-use Rattle.mgmt_codec.specs.declared.fault.MgmtFault.{MgmtFault}
-use Rattle.mgmt_codec.specs.declared.management.Management.{Management}
-use Rattle.mgmt_codec.specs.declared.management.Management.TheVariants as says
+use Rattle.settings.specs.Facing.{IsFacing}
+use Rattle.settings.proofs.Places.{position-map}
+use Rattle.mtp3_codec.specs.Management.{read_management}
+use Rattle.mtp3_codec.specs.declared.fault.MgmtFault.{MgmtFault}
+use Rattle.mtp3_codec.specs.declared.management.Management.{Management}
+use Rattle.mtp3_codec.specs.declared.management.Management.TheVariants as says
 use Rattle.pair_moves.specs.Sayings.{Saying, UserMessage, Order, Answer}
 use Rattle.pair_rules.proofs.World.{link_of_code, said_by, unsaid, management_says, read_says, says_of}
 

@@ -10,14 +10,14 @@ use Rattle.signalling_types.specs.declared.notice.Notice.TheVariants as notices
 use Rattle.signalling_types.specs.declared.outcome.Outcome.{Outcome}
 use Rattle.signalling_types.specs.declared.outcome.Outcome.TheVariants.{Handled, Held, Ignored, Local, Queued, Refused}
 use Rattle.settings_rows.specs.Configuration.{Configuration}
-use Rattle.stp_types.specs.Readings.{destination_place}
-use Rattle.link_alignment.specs.declared.alignment.Alignment.{Alignment}
-use Rattle.timer_wheel.specs.Timers.{Running}
+use Rattle.settings.specs.Readings.{destination_place}
+use Rattle.link.specs.declared.alignment.Alignment.{Alignment}
+use Rattle.timers.specs.Timers.{Running}
 use Rattle.node_links.specs.Link.{Link}
 use Rattle.node_links.specs.LinkState.{down_link, is_down, is_in_service}
 use Rattle.node_links.proofs.Serving.{serving_alike}
-use Rattle.route_table.specs.Facts.{Facts}
-use Rattle.route_table.specs.Chosen.{chosen_link}
+use Rattle.routes.specs.Facts.{Facts}
+use Rattle.routes.specs.Chosen.{chosen_link}
 use Rattle.exchange_rules.specs.State.{Node, with_parts}
 use Rattle.exchange_rules.specs.Links.{link_at}
 use Rattle.exchange_rules.specs.Queues.{WholeQueues, queue_at}

@@ -6,17 +6,17 @@ use Rattle.std.proofs.lemmas.Bool.{and_parts, cases_eq}
 use Rattle.signalling_types.specs.Message.{Message}
 use Rattle.signalling_types.specs.declared.point.Flow.{Flow}
 use Rattle.settings_rows.specs.Configuration.{Configuration}
-use Rattle.link_alignment.specs.declared.action.Action.TheVariants.{Go}
-use Rattle.link_alignment.specs.declared.action.Input.{Input}
-use Rattle.link_alignment.specs.declared.action.Transition.{Transition}
-use Rattle.link_alignment.specs.Table.{action_at}
-use Rattle.timer_wheel.specs.Timers.{Running}
+use Rattle.link.specs.declared.action.Action.TheVariants.{Go}
+use Rattle.link.specs.declared.action.Input.{Input}
+use Rattle.link.specs.declared.action.Transition.{Transition}
+use Rattle.link.specs.Table.{action_at}
+use Rattle.timers.specs.Timers.{Running}
 use Rattle.node_links.specs.Link.{Link}
 use Rattle.node_links.specs.LinkState.{is_down, is_in_service, stepped}
 use Rattle.node_links.proofs.Serving.{facts_alike}
 use Rattle.route_management.specs.Told.{ToldTable}
-use Rattle.route_table.specs.declared.route.Route.{Route}
-use Rattle.route_table.specs.Facts.{Facts}
+use Rattle.routes.specs.declared.route.Route.{Route}
+use Rattle.routes.specs.Facts.{Facts}
 use Rattle.exchange_rules.specs.State.{Node, Parts, with_parts}
 use Rattle.exchange_rules.specs.Links.{down, in_service, link_at}
 use Rattle.exchange_rules.specs.Queues.{WholeQueues, whole}

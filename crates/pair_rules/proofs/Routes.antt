@@ -3,7 +3,7 @@ use Rattle.std.proofs.Common.{◌≡◌, ◌≢◌, ◌<◌, ◌&&◌, ◌||◌,
 use Rattle.std.specs.Prelude.{if◌then◌else◌, slice_set}
 use Rattle.std.specs.Option.{option_and_then}
 use Rattle.signalling_types.specs.declared.limits.TheConstants.Limits.{SELECTIONS}
-use Rattle.stp_types.specs.Readings.{destination_place}
+use Rattle.settings.specs.Readings.{destination_place}
 use Rattle.std.proofs.Math.Logic.{⊎_elim}
 use Rattle.std.proofs.lemmas.Bool.Decides.{nat_tests}
 use Rattle.signalling_types.specs.declared.point.Flow.{Flow}
@@ -12,12 +12,12 @@ use Rattle.flow_hold.specs.Holds.{HoldSet}
 use Rattle.node_links.specs.Link.{Link}
 use Rattle.node_links.specs.LinkState.{after_failure}
 use Rattle.node_links.proofs.Serving.{serving_set}
-use Rattle.route_table.specs.Facts.{Facts, with_link}
-use Rattle.route_table.specs.Chosen.{chosen_link}
+use Rattle.routes.specs.Facts.{Facts, with_link}
+use Rattle.routes.specs.Chosen.{chosen_link}
 use Rattle.exchange_rules.specs.State.{Parts}
 use Rattle.exchange_rules.specs.Links.{link_at}
 use Rattle.exchange_rules.specs.Routing.{facts, link_of, sets_in}
-use Rattle.route_table.proofs.Leaving.{goes_or_stays}
+use Rattle.routes.proofs.Leaving.{goes_or_stays}
 use Rattle.pair_rules.proofs.World.{route_of}
 use Rattle.pair_rules.proofs.Good.{IsJoined}
 

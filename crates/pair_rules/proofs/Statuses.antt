@@ -12,20 +12,20 @@ use Rattle.settings_rows.specs.Configuration.{Configuration}
 use Rattle.m2pa_codec.specs.Frames.{FrameValue, StatusFrame}
 use Rattle.m2pa_codec.specs.declared.status.LinkStatus.{LinkStatus}
 use Rattle.m2pa_codec.specs.declared.status.LinkStatus.TheVariants as says
-use Rattle.link_alignment.specs.declared.action.Action.{Action}
-use Rattle.link_alignment.specs.declared.action.Action.TheVariants as act
-use Rattle.link_alignment.specs.declared.action.Input.TheVariants.{Status, Expiry}
-use Rattle.link_alignment.specs.declared.action.LinkTimer.{LinkTimer}
-use Rattle.link_alignment.specs.declared.action.LinkTimer.TheVariants as its
-use Rattle.link_alignment.specs.Table.{action_at}
-use Rattle.route_table.specs.declared.route.Route.{Route}
-use Rattle.route_table.specs.declared.route.RouteStatus.{RouteStatus}
-use Rattle.route_table.specs.declared.route.RouteStatus.TheVariants.{Allowed}
-use Rattle.route_table.specs.Facts.{first_route}
-use Rattle.route_table.specs.Statuses.{status_of, leads_by}
-use Rattle.timer_wheel.specs.declared.name.TimerName.{TimerName}
-use Rattle.timer_wheel.specs.declared.name.TimerName.TheVariants as name
-use Rattle.timer_wheel.specs.Timers.{ticked, due_name, after_due, due_count}
+use Rattle.link.specs.declared.action.Action.{Action}
+use Rattle.link.specs.declared.action.Action.TheVariants as act
+use Rattle.link.specs.declared.action.Input.TheVariants.{Status, Expiry}
+use Rattle.link.specs.declared.action.LinkTimer.{LinkTimer}
+use Rattle.link.specs.declared.action.LinkTimer.TheVariants as its
+use Rattle.link.specs.Table.{action_at}
+use Rattle.routes.specs.declared.route.Route.{Route}
+use Rattle.routes.specs.declared.route.RouteStatus.{RouteStatus}
+use Rattle.routes.specs.declared.route.RouteStatus.TheVariants.{Allowed}
+use Rattle.routes.specs.Facts.{first_route}
+use Rattle.routes.specs.Statuses.{status_of, leads_by}
+use Rattle.timers.specs.declared.name.TimerName.{TimerName}
+use Rattle.timers.specs.declared.name.TimerName.TheVariants as name
+use Rattle.timers.specs.Timers.{ticked, due_name, after_due, due_count}
 use Rattle.exchange_rules.specs.State.{Node, Done, answer, refuse, with_parts}
 use Rattle.exchange_rules.specs.Links.{down, is_link, link_at}
 use Rattle.exchange_rules.specs.Queues.{WholeQueues, whole}

@@ -14,10 +14,10 @@ use Rattle.m2pa_codec.specs.Frames.{FrameValue, spelled}
 use Rattle.m2pa_codec.specs.Reading.{read_frame}
 use Rattle.node_links.specs.Link.{Link}
 use Rattle.node_links.specs.LinkState.{down_link}
-use Rattle.routing_label.specs.Label.{label_at}
-use Rattle.routing_label.specs.declared.discrimination.Discrimination.{Discrimination}
-use Rattle.routing_label.specs.declared.discrimination.Discrimination.TheVariants as whither
-use Rattle.routing_label.specs.declared.label.Label.{Label}
+use Rattle.mtp3_codec.specs.Label.{label_at}
+use Rattle.mtp3_codec.specs.declared.discrimination.Discrimination.{Discrimination}
+use Rattle.mtp3_codec.specs.declared.discrimination.Discrimination.TheVariants as whither
+use Rattle.mtp3_codec.specs.declared.label.Label.{Label}
 use Rattle.exchange_rules.specs.State.{Node}
 use Rattle.exchange_rules.specs.Happening.{Happening, FrameCame, Submitted}
 use Rattle.exchange_rules.specs.Queues.{WholeQueues, whole}
@@ -25,7 +25,7 @@ use Rattle.exchange_rules.specs.Messages.{whither_goes}
 use Rattle.exchange_rules.specs.Exchange.{after, apply, handle_event, outcome_of, frame_to_take}
 use Rattle.exchange_rules.specs.Receiving.{new_message}
 use Rattle.exchange_rules.specs.Sending.{after_take, frame_from, frame_taken, may_send, message_first, status_first}
-use Rattle.routing_label.specs.Discrimination.{fault_or_destination}
+use Rattle.mtp3_codec.specs.Discrimination.{fault_or_destination}
 use Rattle.signalling_types.specs.declared.outcome.Outcome.TheVariants.{Refused}
 use Rattle.exchange_rules.proofs.Sound.{done-waits}
 use Rattle.exchange_rules.proofs.Settling.{take-waits}

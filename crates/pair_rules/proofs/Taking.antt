@@ -6,8 +6,8 @@ use Rattle.signalling_types.specs.declared.limits.TheConstants.Limits.{SIF_OCTET
 use Rattle.settings_rows.specs.Configuration.{Configuration}
 use Rattle.m2pa_codec.specs.Frames.{FrameValue, EmptyFrame, MessageFrame, StatusFrame, IsSayable, spelled}
 use Rattle.m2pa_codec.specs.declared.status.LinkStatus.{LinkStatus}
-use Rattle.link_sequence.specs.Queue.{Queue, Sending, to_send, forward_number, numbered, sent_one, last_accepted, last_sent}
-use Rattle.link_sequence.specs.Queue as queue
+use Rattle.link.specs.Queue.{Queue, Sending, to_send, forward_number, numbered, sent_one, last_accepted, last_sent}
+use Rattle.link.specs.Queue as queue
 use Rattle.exchange_rules.specs.State.{Node}
 use Rattle.exchange_rules.specs.Links.{in_service, link_at}
 use Rattle.exchange_rules.specs.Queues.{WholeQueues, queue_at, whole}
@@ -22,17 +22,17 @@ use Rattle.pair_rules.proofs.Going.{goes-one}
 use Rattle.pair_rules.proofs.Lines.{queue-here, queue-other}
 use Rattle.pair_rules.proofs.Relinked.{relinked-passes}
 use Rattle.signalling_types.specs.declared.cause.Cause.TheVariants as causes
-use Rattle.routing_label.specs.Discrimination.{discrimination}
-use Rattle.routing_label.specs.declared.discrimination.Discrimination.TheVariants as whither
+use Rattle.mtp3_codec.specs.Discrimination.{discrimination}
+use Rattle.mtp3_codec.specs.declared.discrimination.Discrimination.TheVariants as whither
 use Rattle.exchange_rules.proofs.Lists.{each-set}
 use Rattle.exchange_rules.proofs.SteppingEvents.{take-steps}
 use Rattle.exchange_rules.specs.Sending.{frame_taken, message_first, status_first}
 use Rattle.exchange_rules.specs.Timing.{timed_sending}
-use Rattle.link_sequence.specs.Queue.{IsQueue}
-use Rattle.link_sequence.proofs.Sound.{sound-sent_one}
+use Rattle.link.specs.Queue.{IsQueue}
+use Rattle.link.proofs.Sound.{sound-sent_one}
 use Rattle.std.proofs.lemmas.List.{length-set}
 use Rattle.std.specs.Prelude.{drop}
-use Rattle.link_sequence.specs.Queue.{first_queue}
+use Rattle.link.specs.Queue.{first_queue}
 use Rattle.pair_moves.specs.Passing.{BecomeAt}
 use Rattle.pair_moves.specs.Carrying.{with_frame, with_sent}
 use Rattle.std.proofs.lemmas.Bool.Decides.{nat_tests}

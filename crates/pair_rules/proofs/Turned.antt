@@ -2,7 +2,7 @@
 use Rattle.std.proofs.Common.{◌≡◌, ℕ, List, [], ◌∷◌, map, length, refl, ap, sym, subst, ◌∙◌}
 use Rattle.signalling_types.specs.Message.{Message}
 use Rattle.settings_rows.specs.Configuration.{Configuration}
-use Rattle.stp_types.specs.Facing.{IsFacing}
+use Rattle.settings.specs.Facing.{IsFacing}
 use Rattle.exchange_rules.proofs.FacingNodes.{links-alike}
 use Rattle.pair_moves.specs.Sayings.{Saying}
 use Rattle.pair_moves.specs.Ends.{Pair, turned, first_pair}

@@ -7,7 +7,7 @@ use Rattle.std.proofs.lemmas.Bool.{and_from, cases_order, eq-eqb, le-ltb, lt-ltb
 use Rattle.signalling_types.specs.declared.limits.TheConstants.Limits.{SELECTIONS}
 use Rattle.signalling_types.specs.declared.point.Flow.{Flow}
 use Rattle.settings_rows.specs.Configuration.{Configuration}
-use Rattle.stp_types.specs.Readings.{destination_place}
+use Rattle.settings.specs.Readings.{destination_place}
 use Rattle.flow_hold.specs.Holds as hold
 use Rattle.flow_hold.specs.Holds.{HoldSet}
 use Rattle.flow_hold.specs.Flows.{with_flows}
@@ -18,8 +18,8 @@ use Rattle.flow_hold.proofs.FlowPairs.{flows_has, flows_keep}
 use Rattle.node_links.specs.Link.{Link}
 use Rattle.node_links.specs.LinkState.{is_in_service}
 use Rattle.node_links.specs.Network.{link_in}
-use Rattle.route_table.specs.Facts.{Facts}
-use Rattle.route_table.specs.Chosen.{chosen_link}
+use Rattle.routes.specs.Facts.{Facts}
+use Rattle.routes.specs.Chosen.{chosen_link}
 use Rattle.exchange_rules.specs.State.{Node, Parts}
 use Rattle.exchange_rules.specs.Links.{down, in_service, link_at}
 use Rattle.exchange_rules.specs.Queues.{WholeQueues, whole}

@@ -3,7 +3,7 @@ use Rattle.std.proofs.Common.{◌≡◌, ℕ, Bool, true, false, not, List, [], 
 use Rattle.std.specs.Prelude.{drop, filter, if◌then◌else◌}
 use Rattle.signalling_types.specs.Message.{Message, is_management}
 use Rattle.settings_rows.specs.Configuration.{LinkEntry}
-use Rattle.mgmt_codec.specs.Management.{read_management}
+use Rattle.mtp3_codec.specs.Management.{read_management}
 use Rattle.changeover.specs.Completion.{users_of, managements_of}
 use Rattle.pair_moves.specs.Sayings.{UserMessage, is_user_message}
 use Rattle.pair_moves.specs.Failing.{ChangesOnly, with_completion}

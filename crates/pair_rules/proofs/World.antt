@@ -6,10 +6,10 @@ use Rattle.signalling_types.specs.Message.{Message, is_management}
 use Rattle.signalling_types.specs.declared.point.Flow.{Flow}
 use Rattle.settings_rows.specs.Configuration.{Configuration, LinkEntry}
 use Rattle.m2pa_codec.specs.Frames.{FrameValue, EmptyFrame, MessageFrame, StatusFrame}
-use Rattle.mgmt_codec.specs.Management.{read_management}
-use Rattle.mgmt_codec.specs.declared.fault.MgmtFault.{MgmtFault}
-use Rattle.mgmt_codec.specs.declared.management.Management.{Management}
-use Rattle.mgmt_codec.specs.declared.management.Management.TheVariants as says
+use Rattle.mtp3_codec.specs.Management.{read_management}
+use Rattle.mtp3_codec.specs.declared.fault.MgmtFault.{MgmtFault}
+use Rattle.mtp3_codec.specs.declared.management.Management.{Management}
+use Rattle.mtp3_codec.specs.declared.management.Management.TheVariants as says
 use Rattle.flow_hold.specs.Holds as hold
 use Rattle.flow_hold.specs.declared.procedure.Procedure.{Procedure}
 use Rattle.flow_hold.specs.declared.procedure.Procedure.TheVariants as held_by

@@ -4,9 +4,9 @@ use Rattle.std.specs.Prelude.{unwrap_or}
 use Rattle.signalling_types.specs.Message.{Message, flow_of, is_management}
 use Rattle.signalling_types.specs.declared.point.Flow.{Flow}
 use Rattle.settings_rows.specs.Configuration.{Configuration}
-use Rattle.stp_types.specs.Well.{IsWell}
-use Rattle.stp_types.specs.Facing.{IsFacing}
-use Rattle.link_sequence.specs.Queue.{Queue, named_count, last_accepted}
+use Rattle.settings.specs.Well.{IsWell}
+use Rattle.settings.specs.Facing.{IsFacing}
+use Rattle.link.specs.Queue.{Queue, named_count, last_accepted}
 use Rattle.changeover.specs.Completion.{users_of}
 use Rattle.exchange_rules.specs.Queues.{queue_at}
 use Rattle.pair_moves.specs.Order.{join_to}

@@ -3,7 +3,7 @@ use Rattle.std.proofs.Common.{◌≡◌, ◌+◌, ◌&&◌, ℕ, Bool, true, fal
 use Rattle.std.specs.Prelude.{if◌then◌else◌, not, option_to_list}
 use Rattle.std.proofs.lemmas.Bool.Decides.{nat_tests}
 use Rattle.signalling_types.specs.Message.{Message}
-use Rattle.link_number.specs.Numbers.{previous_number}
+use Rattle.signalling_types.specs.Numbers.{previous_number}
 use Rattle.m2pa_codec.specs.Reading.{read_frame}
 use Rattle.exchange.specs.declared.view.LinkView.{LinkView}
 use Rattle.exchange_rules.specs.Happening.{Happening, FrameCame, Happens}

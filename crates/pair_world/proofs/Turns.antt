@@ -7,7 +7,7 @@ use Rattle.exchange_rules.specs.Sound.{IsSound}
 use Rattle.exchange_rules.specs.Exchange.{wants_of}
 use Rattle.exchange.specs.Stands.{kept_of}
 use Rattle.exchange.proofs.Standing.{stands-first}
-use Rattle.stp_types.specs.Well.{IsWell}
+use Rattle.settings.specs.Well.{IsWell}
 use Rattle.pair_rules.specs.Pairs.{PairState, Step, AtNear, AtFar, Opens, first_pair, turn, turned}
 use Rattle.pair_rules.specs.Promises.{AreJoined}
 use Rattle.pair_world.specs.KeptPairs.{KeptPair, KeptTurn, kept_pair_of, kept_turn, turned_back}

@@ -7,7 +7,7 @@ ghost use Rattle.pair_world.specs.KeptPairs.{both, kept_did, kept_takes};
 use crate::side::Side;
 use crate::step::Doing;
 use exchange::{Event, NoMemory, Order};
-use stp_types::{LinkId, Outcome};
+use settings::{LinkId, Outcome};
 
 /// Does what is done at the near end. After NoMemory nothing has changed.
 pub(crate) fn act(near: &mut Side, far: &mut Side, what: Doing) -> Result<Outcome, NoMemory>

@@ -7,10 +7,10 @@ ghost use Rattle.pair_rules.specs.Pairs.{in_flight};
 ghost use Rattle.pair_world.specs.KeptEnds.{text_to_take, behind, take_outcome, without_first};
 
 use exchange::{BUFFER_OCTETS, Exchange, FrameText, NoMemory};
+use settings::{LinkId, Outcome};
 use std::alloc::Global;
 use std::collections::VecDeque;
 use std::marker::Model;
-use stp_types::{LinkId, Outcome};
 
 /// The frames in flight on one link, in one direction: the first that went out is the first to come.
 #[derive(Drop)]

@@ -8,8 +8,8 @@ ghost use Rattle.pair_rules.specs.Pairs.{for_users};
 ghost use Rattle.pair_world.specs.KeptEnds.{accepted_number, newly_received, new_if_other, user_message_in};
 
 use exchange::{Event, Exchange, Frame, FrameText, LONGEST_FRAME, decode};
-use link_number::Number24;
-use stp_types::{Limits, LinkId, Msu, Outcome};
+use settings::{Limits, LinkId, Msu, Outcome};
+use signalling_types::Number24;
 
 /// The first user part whose messages a pair is about: before it are management, testing and SCCP (Q.704 §14.2.1).
 pub(crate) const FIRST_USER_PART: u8 = 4;

@@ -1,7 +1,7 @@
 //! Two exchanges that face each other.
 
 ghost use Rattle.std.specs.Prelude.{◌≡◌, ◌↔◌, IfOk, IfErr, OnOk, OnErr};
-ghost use Rattle.stp_types.specs.Facing.{IsFacing};
+ghost use Rattle.settings.specs.Facing.{IsFacing};
 ghost use Rattle.exchange.specs.Stands as exchanges;
 ghost use Rattle.pair_rules.specs.Pairs as pairs;
 ghost use Rattle.pair_rules.specs.Pairs.{PairState, first_pair};
@@ -15,9 +15,9 @@ use crate::fault::PairFault;
 use crate::side::Side;
 use crate::step::{Doing, End, Step};
 use exchange::{Exchange, NoMemory, Wants};
+use settings::{LinkId, Msu, Outcome, Settings};
 use std::alloc::Global;
 use std::marker::Model;
-use stp_types::{LinkId, Msu, Outcome, Settings};
 
 /// Two exchanges that face each other, the frames in flight between them, and all user messages that each of them
 /// accepted from its user parts and received from the other.
@@ -37,7 +37,7 @@ impl Model for Pair {
 
     ghost use Rattle.std.specs.Coded.{codes};
     ghost use Rattle.flow_hold.specs.Stored.{hold_set_code};
-    ghost use Rattle.timer_wheel.specs.OneMap.{running_code};
+    ghost use Rattle.timers.specs.OneMap.{running_code};
 
     ghost coded = { Prim.hlevel (codes, hold_set_code, running_code) };
 

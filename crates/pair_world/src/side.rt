@@ -14,10 +14,10 @@ ghost use Rattle.pair_world.specs.KeptEnds.{text_to_take, behind, take_outcome};
 use crate::flight::{Flight, clear_flight, next_in_flight};
 use crate::hearing::{FIRST_USER_PART, add, hand_in};
 use exchange::{Event, Exchange, NoMemory, Wants};
-use routing_label::Label;
+use mtp3_codec::Label;
+use settings::{Cause, LinkId, Msu, Outcome, PointCode, Settings};
 use std::alloc::{AllocError, Global};
 use std::marker::Model;
-use stp_types::{Cause, LinkId, Msu, Outcome, PointCode, Settings};
 
 /// One end: its exchange, the frames in flight to it on each link, and what it accepted and received since it was
 /// booted.
@@ -36,7 +36,7 @@ impl Model for Side {
 
     ghost use Rattle.std.specs.Coded.{codes};
     ghost use Rattle.flow_hold.specs.Stored.{hold_set_code};
-    ghost use Rattle.timer_wheel.specs.OneMap.{running_code};
+    ghost use Rattle.timers.specs.OneMap.{running_code};
 
     ghost coded = { Prim.hlevel (codes, hold_set_code, running_code) };
 

@@ -1,6 +1,6 @@
 //! What is done to a pair.
 
-use stp_types::{LinkId, Msu};
+use settings::{LinkId, Msu};
 
 /// One of the two ends of a pair.
 #[derive(Clone, Copy, Debug, PartialEq, Eq)]

@@ -9,7 +9,7 @@ use std::alloc::AllocError;
 pub(crate) enum Call {
     /// `Settings::check` of the built-in settings with a translation row.
     Check,
-    /// `settings::read` of a file.
+    /// `settings_file::read` of a file.
     Read,
     /// `Trie::insert` of a value.
     Insert,
@@ -51,7 +51,7 @@ impl Call {
     pub(crate) fn name(self) -> &'static str {
         match self {
             Call::Check => "Settings::check",
-            Call::Read => "settings::read",
+            Call::Read => "settings_file::read",
             Call::Insert => "Trie::insert",
             Call::ReadWords => "read_words",
             Call::Boot => "Exchange::boot",

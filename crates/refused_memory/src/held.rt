@@ -6,9 +6,9 @@
 
 use exchange::{Event, Exchange, NoMemory, Order, Outcome, TitleRow};
 use pair_world::{End, Pair, Step};
+use settings::Settings;
 use std::alloc::{AllocError, Global};
 use std::marker::Model;
-use stp_types::Settings;
 
 /// A node.
 #[derive(Drop)]

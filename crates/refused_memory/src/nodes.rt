@@ -1,8 +1,8 @@
 //! The settings of the nodes.
 
+use settings::{DestinationDraft, Draft, Settings, TitleDraft};
 use std::alloc::{AllocError, Global};
 use stp_node::built_in;
-use stp_types::{DestinationDraft, Draft, Settings, TitleDraft};
 
 /// The point of the near node.
 const NEAR: i64 = 1;

@@ -5,11 +5,11 @@ use crate::held::Node;
 use crate::nodes;
 use exchange::{Cause, Exchange, NoMemory, Outcome, PointCode, TitleRoute, TitleRow};
 use lab::{JoinFault, Joiner};
+use settings::Settings;
 use std::alloc::{AllocError, Global};
 use std::io;
 use std::io::{Read, Write};
 use stp_node::{MemorySource, ScriptFault, Sink, WriterSink};
-use stp_types::Settings;
 
 /// `Exchange::boot` with settings that have a translation row.
 pub(crate) fn boot(alloc: Global) -> Result<Answers, AllocError> {

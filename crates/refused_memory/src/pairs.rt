@@ -5,8 +5,8 @@ use crate::held::Joined;
 use crate::nodes;
 use exchange::NoMemory;
 use pair_world::{End, Pair, PairFault, Step};
+use settings::{LinkId, Msu, Outcome, Settings};
 use std::alloc::{AllocError, Global};
-use stp_types::{LinkId, Msu, Outcome, Settings};
 
 /// In so many rounds the link comes into service. A tick passes at both ends in each.
 const ROUNDS: u8 = 8;

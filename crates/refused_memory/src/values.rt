@@ -2,10 +2,10 @@
 
 use crate::answer::{Answer, Answers, NO_MEMORY, OTHER};
 use crate::nodes;
-use digit_trie::{Trie, TrieFault};
+use sccp_relay::{Trie, TrieFault};
+use settings::{Draft, DraftFault, Settings};
 use std::alloc::{AllocError, Global};
 use stp_node::{Words, built_in};
-use stp_types::{Draft, DraftFault, Settings};
 
 /// The settings file of a node.
 const FILE: &str = r#"version = 1
@@ -77,7 +77,7 @@ fn check_one(alloc: Global, draft: Draft) -> Answer {
     })
 }
 
-/// `settings::read` of a file.
+/// `settings_file::read` of a file.
 pub(crate) fn read(alloc: Global) -> Answers {
     Answers {
         first: read_one(alloc),
@@ -87,9 +87,9 @@ pub(crate) fn read(alloc: Global) -> Answers {
 
 /// The same, once.
 fn read_one(alloc: Global) -> Answer {
-    Answer::of(match settings::read(alloc, FILE) {
+    Answer::of(match settings_file::read(alloc, FILE) {
         Ok(_) => "settings",
-        Err(settings::SettingsFault::Draft(DraftFault::NoMemory)) => NO_MEMORY,
+        Err(settings_file::SettingsFault::Draft(DraftFault::NoMemory)) => NO_MEMORY,
         Err(_) => OTHER,
     })
 }

@@ -8,8 +8,8 @@ use Rattle.std.proofs.lemmas.Bool.Decides.{eqb_tells}
 use Rattle.std.proofs.lemmas.List.{length-set}
 use Rattle.std.proofs.lemmas.List.Elements.{All-nil, All-cons}
 use Rattle.std.proofs.lemmas.List.Folds.{list_any-append}
-use Rattle.route_table.specs.declared.route.RouteStatus.{RouteStatus}
-use Rattle.route_table.specs.Facts.{Facts}
+use Rattle.routes.specs.declared.route.RouteStatus.{RouteStatus}
+use Rattle.routes.specs.Facts.{Facts}
 use Rattle.route_management.specs.Told.{ToldTable, row_of, with_told}
 use Rattle.route_management.specs.Owed.{Owed, status_to_advertise, owed_at, owed_about, owed_to, owed, all_told}
 use Rattle.route_management.specs.Laws.{listed_is_owed, told_all_owes_nothing}

@@ -2,10 +2,10 @@
 use Rattle.std.proofs.Common.{◌≡◌, Bool, true, false, ◌&&◌, not, map, refl, ap, ◌∙◌}
 use Rattle.std.specs.Prelude.{Option, Some, None, slice_set, if◌then◌else◌}
 use Rattle.std.specs.Option.{option_map}
-use Rattle.route_table.specs.declared.route.RouteStatus.{RouteStatus}
-use Rattle.route_table.specs.declared.route.RouteStatus.TheVariants.{Allowed, Restricted, Prohibited}
-use Rattle.route_table.proofs.Telling.{other_routes}
-use Rattle.route_table.proofs.Resetting.{reset_routes}
+use Rattle.routes.specs.declared.route.RouteStatus.{RouteStatus}
+use Rattle.routes.specs.declared.route.RouteStatus.TheVariants.{Allowed, Restricted, Prohibited}
+use Rattle.routes.proofs.Telling.{other_routes}
+use Rattle.routes.proofs.Resetting.{reset_routes}
 use Rattle.route_management.specs.Told.{is_own_point, row_of, told_at}
 use Rattle.route_management.specs.Owed.{is_same, said_by, status_to_advertise, is_reachable, is_unlike}
 use Rattle.route_management.specs.Laws.{told_is_kept, told_once, leaves_other_points, leaves_other_destinations}

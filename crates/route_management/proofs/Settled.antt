@@ -5,8 +5,8 @@ use Rattle.std.specs.List.{range_with_len, list_any}
 use Rattle.std.proofs.lemmas.Bool.{eqb-true, eq-eqb}
 use Rattle.std.proofs.lemmas.List.{nil_from_length}
 use Rattle.std.proofs.lemmas.Option.{slice_get_within}
-use Rattle.route_table.specs.declared.route.RouteStatus.{RouteStatus}
-use Rattle.route_table.specs.Facts.{Facts}
+use Rattle.routes.specs.declared.route.RouteStatus.{RouteStatus}
+use Rattle.routes.specs.Facts.{Facts}
 use Rattle.route_management.specs.Told.{ToldTable, is_own_point, row_of, told_at, with_told}
 use Rattle.route_management.specs.Owed.{Owed, status_to_advertise, is_reachable, owed_at, owed, owes_nothing, all_told}
 use Rattle.route_management.proofs.Owing.{owed_by, none_owed}

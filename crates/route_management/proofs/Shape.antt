@@ -4,8 +4,8 @@ use Rattle.std.specs.Prelude.{map, slice_index_or, slice_set}
 use Rattle.std.proofs.Math.ListN.{get_or-map}
 use Rattle.std.proofs.lemmas.List.{map-set, set-get_or, length-set, length-map, length-replicate, get_or-replicate}
 use Rattle.settings_rows.specs.Configuration.{SetEntry, DestinationEntry}
-use Rattle.route_table.specs.declared.route.RouteStatus.{RouteStatus}
-use Rattle.route_table.specs.declared.route.RouteStatus.TheVariants.{Allowed}
+use Rattle.routes.specs.declared.route.RouteStatus.{RouteStatus}
+use Rattle.routes.specs.declared.route.RouteStatus.TheVariants.{Allowed}
 use Rattle.route_management.specs.Told.{ToldTable, row_of, shape_of, first_told, with_told, with_told_reset}
 
 -- a row as long as the one that stood there

@@ -5,8 +5,8 @@ use Rattle.std.specs.Prelude.{Option, Some, None, slice_get, slice_index_or, sli
 use Rattle.std.specs.List.{AllByRecursion, range_with_len, filter_map, cons_option}
 use Rattle.std.specs.Option.{option_map}
 use Rattle.std.proofs.lemmas.List.{get_or-set_other, length-set}
-use Rattle.route_table.specs.declared.route.RouteStatus.{RouteStatus}
-use Rattle.route_table.specs.Facts.{Facts}
+use Rattle.routes.specs.declared.route.RouteStatus.{RouteStatus}
+use Rattle.routes.specs.Facts.{Facts}
 use Rattle.route_management.specs.Told.{ToldTable, is_number, is_own_point, row_of, told_at, with_told}
 use Rattle.route_management.specs.Owed.{Owed, status_to_advertise, is_reachable, owed_at, owed_from, owed_to, owed_by_sets, all_told}
 use Rattle.route_management.proofs.Rows.{rows_as_long}

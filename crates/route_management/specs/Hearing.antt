@@ -1,9 +1,9 @@
 -- What a message of route management from an adjacent point asks (Q.704 §13.2 to §13.5).
 use Rattle.std.specs.Prelude.{ℕ, ◌||◌, Option, Some, None, if◌then◌else◌}
-use Rattle.route_table.specs.declared.route.RouteStatus.{RouteStatus}
-use Rattle.route_table.specs.declared.route.RouteStatus.TheVariants.{Prohibited, Restricted}
-use Rattle.route_table.specs.Facts.{Facts}
-use Rattle.route_table.specs.Statuses.{status_of}
+use Rattle.routes.specs.declared.route.RouteStatus.{RouteStatus}
+use Rattle.routes.specs.declared.route.RouteStatus.TheVariants.{Prohibited, Restricted}
+use Rattle.routes.specs.Facts.{Facts}
+use Rattle.routes.specs.Statuses.{status_of}
 use Rattle.route_management.specs.declared.heard.Heard.{Heard}
 use Rattle.route_management.specs.declared.heard.Heard.TheVariants.{Ignored, Unchanged, Changed}
 use Rattle.route_management.specs.declared.heard.RouteTest.{RouteTest}

@@ -2,10 +2,10 @@
 use Rattle.std.specs.Prelude.{◌≡◌, ◌≢◌, ℕ, false, Some, None, []}
 use Rattle.std.specs.List.{All}
 use Rattle.std.specs.Option.{option_map}
-use Rattle.route_table.specs.declared.route.RouteStatus.{RouteStatus}
-use Rattle.route_table.specs.declared.route.RouteStatus.TheVariants.{Allowed}
-use Rattle.route_table.specs.Facts.{Facts, with_status}
-use Rattle.route_table.specs.Statuses.{with_statuses_reset}
+use Rattle.routes.specs.declared.route.RouteStatus.{RouteStatus}
+use Rattle.routes.specs.declared.route.RouteStatus.TheVariants.{Allowed}
+use Rattle.routes.specs.Facts.{Facts, with_status}
+use Rattle.routes.specs.Statuses.{with_statuses_reset}
 use Rattle.route_management.specs.Told.{ToldTable, told_at, with_told, with_told_reset}
 use Rattle.route_management.specs.Owed.{is_reachable, owed_at, owed, all_told, status_to_advertise}
 

@@ -3,13 +3,13 @@ use Rattle.std.specs.Prelude.{ℕ, Bool, ◌&&◌, ◌==◌, false, not, List, [
 use Rattle.std.specs.Prelude.{if◌then◌else◌}
 use Rattle.std.specs.List.{list_any, range_with_len, filter_map, flat_map}
 use Rattle.std.specs.Option.{option_map}
-use Rattle.linkset.specs.Preference.{has_link}
-use Rattle.route_table.specs.declared.route.Route.{Route}
-use Rattle.route_table.specs.declared.route.RouteStatus.{RouteStatus}
-use Rattle.route_table.specs.declared.route.RouteStatus.TheVariants.{Prohibited}
-use Rattle.route_table.specs.Facts.{Facts, set_at}
-use Rattle.route_table.specs.Chosen.{chosen_routes, status_number}
-use Rattle.route_table.specs.Statuses.{leads_by}
+use Rattle.routes.specs.Preference.{has_link}
+use Rattle.routes.specs.declared.route.Route.{Route}
+use Rattle.routes.specs.declared.route.RouteStatus.{RouteStatus}
+use Rattle.routes.specs.declared.route.RouteStatus.TheVariants.{Prohibited}
+use Rattle.routes.specs.Facts.{Facts, set_at}
+use Rattle.routes.specs.Chosen.{chosen_routes, status_number}
+use Rattle.routes.specs.Statuses.{leads_by}
 use Rattle.route_management.specs.Told.{ToldTable, is_own_point, row_of, told_at, with_told}
 
 -- whether two statuses are the same

@@ -3,7 +3,7 @@
 ghost use Rattle.std.specs.Prelude.{◌≡◌};
 ghost use Rattle.route_management.specs.Hearing.{heard_of, tested};
 
-use route_table::RouteStatus;
+use routes::RouteStatus;
 
 /// What comes of a transfer-prohibited, -restricted or -allowed message (Q.704 §13.2 to §13.4).
 #[derive(Clone, Copy, PartialEq, Eq)]

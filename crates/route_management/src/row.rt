@@ -1,9 +1,9 @@
 //! What one adjacent point was told.
 
 ghost use Rattle.std.specs.Prelude.{◌≡◌, map, replicate, slice_get, slice_set, IfOk};
-ghost use Rattle.route_table.specs.declared.route.RouteStatus.TheVariants as status;
+ghost use Rattle.routes.specs.declared.route.RouteStatus.TheVariants as status;
 
-use route_table::RouteStatus;
+use routes::RouteStatus;
 use std::alloc::{AllocError, Global};
 use std::marker::Model;
 
@@ -15,7 +15,7 @@ pub(crate) struct ToldRow {
 
 impl Model for ToldRow {
     ghost use Rattle.std.specs.Prelude.{List};
-    ghost use Rattle.route_table.specs.declared.route.RouteStatus.{RouteStatus};
+    ghost use Rattle.routes.specs.declared.route.RouteStatus.{RouteStatus};
 
     ghost Value = { List RouteStatus };
 

@@ -2,8 +2,8 @@
 
 ghost use Rattle.std.specs.Prelude.{◌≡◌, Some, None, length, map, position, replicate, nat_eq, IfOk, slice_index_or};
 ghost use Rattle.std.specs.List.{list_any};
-ghost use Rattle.route_table.specs.declared.route.RouteStatus.TheVariants as status;
-ghost use Rattle.route_table.specs.Statuses.{leads_by};
+ghost use Rattle.routes.specs.declared.route.RouteStatus.TheVariants as status;
+ghost use Rattle.routes.specs.Statuses.{leads_by};
 ghost use Rattle.node_links.specs.Network.{facts_of};
 ghost use Rattle.route_management.specs.Told.{first_told, adjacent_place, is_own_point, told_at, with_told};
 ghost use Rattle.route_management.specs.Told.{with_told_reset};
@@ -13,7 +13,7 @@ ghost use Rattle.route_management.specs.Hearing.{heard, answer_to_test};
 use crate::heard::{Heard, RouteTest, heard_of};
 use crate::row::ToldRow;
 use node_links::NodeLinks;
-use route_table::{Route, RouteStatus};
+use routes::{Route, RouteStatus};
 use settings_rows::{DestinationRow, SetRow};
 use signalling_types::SetId;
 use std::alloc::{AllocError, Global};

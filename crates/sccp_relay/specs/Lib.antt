@@ -1,3 +1,13 @@
 pub mod Relay
 pub mod Return
 pub mod Values
+pub mod Faults
+pub mod Digits
+pub mod Nodes
+pub mod Inside
+pub mod Rows
+pub mod Places
+pub mod Ways
+pub mod Translation
+pub mod Table
+pub mod Laws

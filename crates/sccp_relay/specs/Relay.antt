@@ -9,8 +9,8 @@ use Rattle.signalling_types.specs.declared.limits.TheConstants.Limits.{SIF_OCTET
 use Rattle.settings_rows.specs.Configuration.{TitleEntry}
 use Rattle.settings_rows.specs.declared.title_row.TitleRoute.{TitleRoute}
 use Rattle.settings_rows.specs.declared.title_row.TitleRoute.TheVariants as route
-use Rattle.routing_label.specs.declared.label.Label.{Label}
-use Rattle.routing_label.specs.Label.{label_at, label_octets}
+use Rattle.mtp3_codec.specs.declared.label.Label.{Label}
+use Rattle.mtp3_codec.specs.Label.{label_at, label_octets}
 use Rattle.sccp_codec.specs.declared.fault.SccpFault.{SccpFault}
 use Rattle.sccp_codec.specs.declared.fault.SccpFault.TheVariants.{Short, Pointer, Kind}
 use Rattle.sccp_codec.specs.declared.address.Routing.{Routing}
@@ -19,7 +19,7 @@ use Rattle.sccp_codec.specs.Addresses.{AddressValue, address_octets, is_by_ssn}
 use Rattle.sccp_codec.specs.Messages.{PartsValue, UnitdataValue, UdtValue, UdtsValue, parts_of, pointed, spelled}
 use Rattle.sccp_codec.specs.Reading.{read_unitdata}
 use Rattle.sccp_codec.specs.Titles.{TitleValue, read_title, digits_in}
-use Rattle.global_title.specs.Translation.{translation}
+use Rattle.sccp_relay.specs.Translation.{translation}
 
 -- the point that a node is, and the numbers of the subsystems that stand there
 pub record OwnValue : Type 0 where

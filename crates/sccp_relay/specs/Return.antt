@@ -4,8 +4,8 @@ use Rattle.signalling_types.specs.declared.cause.Cause.{Cause}
 use Rattle.signalling_types.specs.declared.cause.Cause.TheVariants.{UnknownDestination, NoRoute, NoNature, NoDigits}
 use Rattle.signalling_types.specs.declared.cause.Cause.TheVariants.{Unequipped, TooLong}
 use Rattle.settings_rows.specs.Configuration.{TitleEntry}
-use Rattle.routing_label.specs.declared.label.Label.{Label}
-use Rattle.routing_label.specs.Label.{label_at}
+use Rattle.mtp3_codec.specs.declared.label.Label.{Label}
+use Rattle.mtp3_codec.specs.Label.{label_at}
 use Rattle.sccp_codec.specs.declared.fault.SccpFault.{SccpFault}
 use Rattle.sccp_codec.specs.declared.address.Routing.{Routing}
 use Rattle.sccp_codec.specs.declared.address.Routing.TheVariants.{Title, Ssn}

@@ -1,17 +1,17 @@
 //! A unitdata message for this point.
 
 ghost use Rattle.std.specs.Prelude.{◌≡◌, ◌≤◌, length, drop, List, ℕ, Ok};
-ghost use Rattle.routing_label.specs.Label.{label_at};
+ghost use Rattle.mtp3_codec.specs.Label.{label_at};
 ghost use Rattle.sccp_codec.specs.Messages.{parts_of};
 ghost use Rattle.sccp_codec.specs.Values.{address_of, parts_value, udt_of, udts_of, unitdata_of};
 ghost use Rattle.sccp_relay.specs.Relay as rule;
 ghost use Rattle.sccp_relay.specs.Values.{own_value, relayed_of, IfOnward};
 
+use crate::Translations;
 use crate::own::Own;
 use crate::relayed::Relayed;
 use crate::writing::{ssn_by, translated, write_udt, write_udts};
-use global_title::Translations;
-use routing_label::Label;
+use mtp3_codec::Label;
 use sccp_codec::{Address, Field, Parts, Routing, SccpFault, Udt, Udts, Unitdata};
 use settings_rows::TitleRow;
 use signalling_types::{Cause, Limits, PointCode};

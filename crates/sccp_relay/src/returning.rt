@@ -5,11 +5,11 @@ ghost use Rattle.sccp_codec.specs.Values.{parts_value, udts_of, unitdata_of};
 ghost use Rattle.sccp_relay.specs.Return as rule;
 ghost use Rattle.sccp_relay.specs.Values.{own_value, written_in};
 
+use crate::Translations;
 use crate::own::Own;
 use crate::relaying::{behind_label, row_of};
 use crate::writing::{same, translated, write_udts};
-use global_title::Translations;
-use routing_label::Label;
+use mtp3_codec::Label;
 use sccp_codec::{Field, Parts, Routing, Udt, Udts, Unitdata};
 use settings_rows::TitleRow;
 use signalling_types::{Cause, Limits, PointCode};

@@ -5,7 +5,7 @@ ghost use Rattle.sccp_codec.specs.Values.{address_of, parts_value, udt_of, udts_
 ghost use Rattle.sccp_relay.specs.Relay as rule;
 ghost use Rattle.sccp_relay.specs.Values.{written_in};
 
-use routing_label::Label;
+use mtp3_codec::Label;
 use sccp_codec::{Address, Field, Routing, Udt, Udts};
 use settings_rows::{TitleRoute, TitleRow};
 use signalling_types::{Limits, PointCode, Ssn};

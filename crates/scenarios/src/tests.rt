@@ -20,10 +20,10 @@ mod titles;
 
 use exchange::Exchange;
 use lab::{JoinedLab, MemoryJoiner};
+use settings::Settings;
 use std::alloc::Global;
 use std::process::Abort;
 use stp_node::{MemorySink, MemorySource, ScriptFault, Sink, Source, built_in, run_script};
-use stp_types::Settings;
 
 /// How many user messages the built-in settings keep.
 const POOL: i64 = 1000;

@@ -3,11 +3,11 @@
 use crate::consoles::Consoles;
 use crate::station::{LINKS, Station};
 use exchange::decode;
-use link_counters::LinkCounters;
+use served_link::LinkCounters;
+use settings::LinkId;
 use std::io::BufWriter;
 use std::time::Duration;
 use std::{fs, io};
-use stp_types::LinkId;
 use trace::{Capture, Direction, FILE_HEADER_OCTETS, UntilFailure};
 
 /// The name of the file, in the folder in which the program runs.

@@ -10,8 +10,8 @@ use crate::pair::End;
 use crate::station::is_taken;
 use crate::stranger::{Status, Stranger};
 use exchange::LinkStanding;
+use settings::{Cause, Outcome};
 use std::io;
-use stp_types::{Cause, Outcome};
 
 /// Messages that are submitted beyond what the pool holds.
 const BEYOND: u32 = 200;

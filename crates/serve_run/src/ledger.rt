@@ -1,9 +1,9 @@
 //! What came to one end: messages, and the orders of procedures.
 
 use crate::message::{FILLING, SHORT_OCTETS};
-use association::Watch;
 use exchange::{Frame, decode};
-use stp_types::{LinkId, Outcome};
+use served_link::Watch;
+use settings::{LinkId, Outcome};
 
 /// Flows: one for each signalling link selection.
 pub(crate) const FLOWS: usize = 16;

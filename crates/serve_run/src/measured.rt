@@ -3,7 +3,7 @@
 use crate::opening::{receiving_at, sending_at};
 use crate::station::{Station, is_taken};
 use crate::task::Traffic;
-use serve_timing::TickClock;
+use served_link::TickClock;
 use std::io;
 use std::time::{Duration, Instant};
 

@@ -4,9 +4,9 @@ use crate::opening::strangers_link;
 use crate::pair::Pair;
 use crate::stranger::Stranger;
 use exchange::LinkStanding;
+use settings::FailureReason;
 use std::io;
 use std::net::SocketAddr;
-use stp_types::FailureReason;
 
 /// Messages that each end submits at once.
 pub(crate) const MESSAGES: u32 = 64;

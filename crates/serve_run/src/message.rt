@@ -2,7 +2,7 @@
 
 use crate::node_settings::{INTERNATIONAL, ISUP};
 use exchange::Label;
-use stp_types::{Limits, MsuRef, PointCode, Sls};
+use settings::{Limits, MsuRef, PointCode, Sls};
 
 /// Octets of the shortest signalling information field: a label and a number.
 pub(crate) const SHORT_OCTETS: usize = 8;

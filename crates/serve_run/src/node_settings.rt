@@ -1,7 +1,7 @@
 //! The settings of the nodes: link sets that lead to one point each.
 
+use settings::{DestinationDraft, Draft, LinkDraft, SetDraft, Settings, TimersDraft};
 use std::alloc::{AllocError, Global};
-use stp_types::{DestinationDraft, Draft, LinkDraft, SetDraft, Settings, TimersDraft};
 
 /// The point of the first node.
 pub(crate) const POINT_ONE: u16 = 1;

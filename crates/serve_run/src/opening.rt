@@ -4,9 +4,9 @@ use crate::message::{LONGEST_OCTETS, SHORT_OCTETS};
 use crate::node_settings::{LinkSet, POINT_ONE, POINT_THREE, POINT_TWO, Room, node_settings};
 use crate::station::{LINKS, Points, Station};
 use serve_settings::Endpoint;
+use settings::LinkId;
 use std::net::{Ipv4Addr, SocketAddr};
 use stp_server::Places;
-use stp_types::LinkId;
 use trace::PointFormat;
 
 /// User messages that a node of a pair keeps.

@@ -6,10 +6,10 @@ mod judging;
 use crate::opening::strangers_link;
 use crate::station::{LINKS, Station};
 use exchange::LinkStanding;
+use settings::LinkId;
 use std::io;
 use std::marker::Model;
 use std::time::Duration;
-use stp_types::LinkId;
 
 /// Rounds in which nothing happens, after which a tick passes.
 const STILL_ROUNDS: u32 = 3;

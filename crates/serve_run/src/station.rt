@@ -4,13 +4,13 @@ use crate::gate_log::GateLog;
 use crate::ledger::{FLOWS, Ledger};
 use crate::message::{field_of, label_of, message_of};
 use exchange::{Event, Exchange, LinkStanding};
-use link_counters::{Counter, LinkCounters};
+use served_link::{Counter, LinkCounters};
+use settings::{FailureReason, LinkId, Outcome, Settings};
 use std::io;
 use std::marker::Model;
 use std::net::SocketAddr;
 use std::time::Duration;
 use stp_server::{FileCapture, Places, Server};
-use stp_types::{FailureReason, LinkId, Outcome, Settings};
 
 /// Links between the two servers: the first ones of each.
 pub(crate) const LINKS: u8 = 3;

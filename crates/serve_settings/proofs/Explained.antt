@@ -3,9 +3,9 @@ use Rattle.std.proofs.Common.{◌≡◌, ℕ, List, Option, None, Some, refl, su
 use Rattle.std.proofs.lemmas.Option.{none-some, same_Some}
 use Rattle.std.specs.Option.{option_map}
 use Rattle.settings_rows.specs.declared.key.Key.{Key}
-use Rattle.settings.specs.declared.fault.SettingsFault.{SettingsFault}
-use Rattle.settings_faults.specs.Sentences as settings
-use Rattle.settings_faults.specs.Sentences.{KeyPlace, IsAboutPlace, IsAbout}
+use Rattle.settings_file.specs.declared.fault.SettingsFault.{SettingsFault}
+use Rattle.settings_file.specs.Sentences as settings
+use Rattle.settings_file.specs.Sentences.{KeyPlace, IsAboutPlace, IsAbout}
 use Rattle.serve_settings.specs.declared.fault.ServeFault.{ServeFault}
 use Rattle.serve_settings.specs.declared.fault.ServeFault.TheVariants as kind
 use Rattle.serve_settings.specs.Sentences.{Explains, place_of}

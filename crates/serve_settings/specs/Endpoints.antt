@@ -5,7 +5,7 @@ use Rattle.std.specs.List.{list_any}
 use Rattle.std.specs.declared.net.socket_addr.SocketAddr.{SocketAddr}
 use Rattle.toml.specs.Data.{Data, Members, get_member}
 use Rattle.settings_rows.specs.declared.key.Key.TheVariants as node
-use Rattle.settings.specs.declared.fault.SettingsFault.TheVariants as found
+use Rattle.settings_file.specs.declared.fault.SettingsFault.TheVariants as found
 use Rattle.serve_settings.specs.declared.server.Endpoint.{Endpoint}
 use Rattle.serve_settings.specs.declared.server.Endpoint.TheVariants.{Listen, Connect}
 use Rattle.serve_settings.specs.declared.key.ServeKey.TheVariants.{LinkListen, LinkConnect}

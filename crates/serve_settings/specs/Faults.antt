@@ -1,8 +1,8 @@
 -- The faults of a server's settings, and the lines that tell them.
 use Rattle.std.specs.Prelude.{◌≡◌, ◌⊎◌, ℕ, List, ◌++◌, codes, Result, Ok, Err}
-use Rattle.settings.specs.Faults as settings
-use Rattle.settings.specs.declared.fault.SettingsFault.{SettingsFault}
-use Rattle.settings.specs.declared.fault.SettingsFault.TheVariants as found
+use Rattle.settings_file.specs.Faults as settings
+use Rattle.settings_file.specs.declared.fault.SettingsFault.{SettingsFault}
+use Rattle.settings_file.specs.declared.fault.SettingsFault.TheVariants as found
 use Rattle.settings_rows.specs.declared.fault.DraftFault.TheVariants as draft
 use Rattle.serve_settings.specs.Keys.{key_path}
 use Rattle.serve_settings.specs.declared.fault.ServeFault.{ServeFault}

@@ -4,9 +4,9 @@ use Rattle.std.specs.Option.{ok_or}
 use Rattle.toml.specs.Data.{Members}
 use Rattle.toml.specs.Parse.{parse_document}
 use Rattle.settings_rows.specs.Configuration.{Configuration}
-use Rattle.settings.specs.Reading as settings
-use Rattle.settings.specs.declared.fault.SettingsFault.{SettingsFault}
-use Rattle.settings.specs.declared.fault.SettingsFault.TheVariants as found
+use Rattle.settings_file.specs.Reading as settings
+use Rattle.settings_file.specs.declared.fault.SettingsFault.{SettingsFault}
+use Rattle.settings_file.specs.declared.fault.SettingsFault.TheVariants as found
 use Rattle.serve_settings.specs.declared.key.ServeKey.TheVariants.{Serve}
 use Rattle.serve_settings.specs.declared.fault.ServeFault.{ServeFault}
 use Rattle.serve_settings.specs.declared.fault.ServeFault.TheVariants.{Settings, Missing, Kind}

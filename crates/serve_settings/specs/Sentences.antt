@@ -3,8 +3,8 @@ use Rattle.std.specs.Prelude.{◌≡◌, ℕ, List, Option, None, Some, IsSome}
 use Rattle.std.specs.Option.{option_map}
 use Rattle.std.specs.Str.{IsUtf8}
 use Rattle.toml.specs.Parse.{parse_document}
-use Rattle.settings_faults.specs.Sentences as settings
-use Rattle.settings_faults.specs.Sentences.{KeyPlace, Names, IsAboutPlace}
+use Rattle.settings_file.specs.Sentences as settings
+use Rattle.settings_file.specs.Sentences.{KeyPlace, Names, IsAboutPlace}
 use Rattle.serve_settings.specs.Keys.{key_front, key_index, key_back}
 use Rattle.serve_settings.specs.declared.key.ServeKey.{ServeKey}
 use Rattle.serve_settings.specs.declared.fault.ServeFault.{ServeFault}

@@ -4,8 +4,8 @@ ghost use Rattle.std.specs.Prelude.{◌≡◌, ◌⊎◌, Ok, IfOk, IfErr};
 ghost use Rattle.std.specs.Option.{ok_or};
 ghost use Rattle.toml.specs.Parse.{parse_document};
 ghost use Rattle.toml.specs.View.{table_view};
-ghost use Rattle.settings.specs.Reading.{IsReadAs};
-ghost use Rattle.settings.specs.declared.fault.SettingsFault.TheVariants as found;
+ghost use Rattle.settings_file.specs.Reading.{IsReadAs};
+ghost use Rattle.settings_file.specs.declared.fault.SettingsFault.TheVariants as found;
 ghost use Rattle.serve_settings.specs.Addresses.{Spelling};
 ghost use Rattle.serve_settings.specs.Faults.{Answers, AnswersOrNoMemory};
 ghost use Rattle.serve_settings.specs.Reading.{serve_at, document, reading, IsFirstFault};
@@ -16,9 +16,9 @@ use crate::key::ServeKey;
 use crate::keys::{capture, console, console_open, points, tick_ms};
 use crate::server::ServeSettings;
 use crate::shapes::{table_in, value};
-use settings::SettingsFault;
+use settings::Settings;
+use settings_file::SettingsFault;
 use std::alloc::Global;
-use stp_types::Settings;
 use toml::Table;
 
 /// The table `serve` of a file.
@@ -77,7 +77,7 @@ fn server(alloc: Global, text: &str) -> Result<ServeSettings, ServeFault>
 /// Reads the settings of a node and those of its server from the text of a settings file, and
 /// checks both.
 ///
-/// Answers both, or the first fault: what `settings::read` finds; then the keys `tick_ms`,
+/// Answers both, or the first fault: what `settings_file::read` finds; then the keys `tick_ms`,
 /// `console`, `capture`, `console_open` and `points` of `[serve]`; then `listen` and `connect` of
 /// each link, from the first on. Want of memory may stand in place of any other. Keys of other names
 /// are ignored.
@@ -87,7 +87,7 @@ pub fn read(alloc: Global, text: &str) -> Result<(Settings, ServeSettings), Serv
     ensures fault { (s : Spelling) → IfErr result (λ fault.
         (fault ≡ ServeFault.NoMemory) ⊎ IsFirstFault s text.now fault) }
 {
-    let settings = settings::read(alloc, text)?;
+    let settings = settings_file::read(alloc, text)?;
     let server = server(alloc, text)?;
     Ok((settings, server))
 }

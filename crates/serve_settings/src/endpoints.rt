@@ -14,10 +14,10 @@ use crate::fault::ServeFault;
 use crate::key::ServeKey;
 use crate::server::Endpoint;
 use crate::shapes::{array_in, found, table_in, value};
-use settings::SettingsFault;
+use settings::Key;
+use settings_file::SettingsFault;
 use std::alloc::Global;
 use std::net::SocketAddr;
-use stp_types::Key;
 use toml::{Table, Value};
 
 /// Whether the console listens on an address.

@@ -4,11 +4,11 @@ ghost use Rattle.std.specs.Prelude.{◌≡◌, Some};
 ghost use Rattle.serve_settings.specs.Faults.{fault_line, fault_of};
 
 use crate::key::ServeKey;
-use settings::SettingsFault;
+use settings::DraftFault;
+use settings_file::SettingsFault;
 use std::alloc::{AllocError, AllocFailed};
 use std::error::Error;
 use std::fmt;
-use stp_types::DraftFault;
 
 /// The first fault of a server's settings. It prints as the line that tells it, with the numbers of
 /// the faults of settings: `fault 2 serve.tick_ms`, `fault 5 link[2].listen`, `fault NoMemory`.

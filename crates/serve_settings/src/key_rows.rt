@@ -1,11 +1,11 @@
 //! What the value of each key of a server has to be.
 
 ghost use Rattle.std.specs.Prelude.{◌≡◌};
-ghost use Rattle.settings_faults.specs.Sentences.{row_place};
+ghost use Rattle.settings_file.specs.Sentences.{row_place};
 ghost use Rattle.serve_settings.specs.Sentences.{key_place};
 
 use crate::key::ServeKey;
-use settings_faults::{KeyRow, entry_key, lone_key};
+use settings_file::{KeyRow, entry_key, lone_key};
 
 const INTEGER: &str = "an integer";
 

@@ -1,17 +1,18 @@
 //! The sentence that says what is wrong with the settings of a server.
 
 ghost use Rattle.std.specs.Prelude.{◌≡◌, Some, IfOk, string_bytes};
-ghost use Rattle.settings_faults.specs.Sentences.{IsAboutPlace};
+ghost use Rattle.settings_file.specs.Sentences.{IsAboutPlace};
 ghost use Rattle.serve_settings.specs.Sentences.{Explains, key_place, place_of};
 
 use crate::address::address_in;
 use crate::fault::ServeFault;
 use crate::key::ServeKey;
 use crate::key_rows::key_row;
-use settings::SettingsFault;
-use settings_faults::{KeyRow, about, document_in, missing, must_be, value_at, value_is};
+use settings::DraftFault;
+use settings_file::{
+    KeyRow, SettingsFault, about, document_in, missing, must_be, value_at, value_is,
+};
 use std::alloc::{AllocError, Global};
-use stp_types::DraftFault;
 use toml::{Table, Value};
 
 /// What is wrong with a link that has neither key.
@@ -28,7 +29,7 @@ const BOTH: &str = "but the link has listen too";
 
 /// The sentence that says what is wrong with a settings file of this name and these octets, which has this fault, with
 /// a line feed: `node.toml: serve.tick_ms is 5, must be 10 to 10000`. Of a fault of the node's settings it is what
-/// `settings_faults::sentence` says.
+/// `settings_file::sentence` says.
 ///
 /// `AllocError` where memory ran out.
 pub fn sentence(
@@ -40,10 +41,10 @@ pub fn sentence(
     ensures { IfOk result (λ sentence. Explains file.now octets.now fault (string_bytes sentence)) }
 {
     match fault {
-        ServeFault::Settings(found) => settings_faults::sentence(alloc, file, octets, found),
+        ServeFault::Settings(found) => settings_file::sentence(alloc, file, octets, found),
         ServeFault::NoMemory => {
             let found = SettingsFault::Draft(DraftFault::NoMemory);
-            settings_faults::sentence(alloc, file, octets, found)
+            settings_file::sentence(alloc, file, octets, found)
         }
         ServeFault::Missing(key)
         | ServeFault::Kind(key)

@@ -1,1 +1,13 @@
-pub mod Each
+pub mod Firsts
+pub mod Entries
+pub mod Indexing
+pub mod Places
+pub mod Adjacent
+pub mod Rows
+pub mod WellNumbers
+pub mod WellSets
+pub mod WellLinks
+pub mod WellDestinations
+pub mod WellTitles
+pub mod Well
+pub mod SameNames

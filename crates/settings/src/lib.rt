@@ -1,13 +1,25 @@
-//! The settings of a node, read from the text of a file.
+//! The settings of a node: a draft is checked, and settings without a fault are kept and read.
 #![tactic(auto)]
 
-mod arrays;
-mod document;
-pub mod fault;
-pub mod limits;
-mod shapes;
+mod check;
+mod destinations;
+mod facing;
+mod links;
+mod names;
+mod naming;
+mod numbers;
+pub mod points;
+mod sets;
+pub mod settings;
 mod timers;
+mod titles;
 
-pub use document::read;
-pub use fault::SettingsFault;
-pub use limits::FirstLimits;
+pub use settings::Settings;
+pub use settings_rows::{
+    DestinationDraft, DestinationRow, Draft, DraftFault, FaultKind, Key, LinkDraft, LinkRow,
+    SetDraft, SetRow, TimerKey, TimerTicks, TimersDraft, TitleDraft, TitleRoute, TitleRow,
+};
+pub use signalling_types::{
+    Cause, ChangeoverTimer, FailureReason, Flow, FrameFault, LateTimer, Limits, LinkId, Msu,
+    MsuRef, Notice, Outcome, PointCode, SetId, Sls, Ssn,
+};

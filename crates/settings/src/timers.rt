@@ -1,72 +1,132 @@
-//! The timers of a settings file.
+//! Ticks of timers.
 
-ghost use Rattle.std.specs.Prelude.{◌≡◌};
-ghost use Rattle.toml.specs.View.{table_view};
-ghost use Rattle.settings.specs.TimerNames.{timer_name};
-ghost use Rattle.settings.specs.Document.{ticks_at, timers_in, timers_at};
+ghost use Rattle.std.specs.Prelude.{◌≡◌, [], None, Some, map, IfOk, OnOk, IfErr};
+ghost use Rattle.settings.specs.Checks.{natural, entries_fault};
+ghost use Rattle.settings.specs.Meaning.{ticks_of};
+ghost use Rattle.settings.specs.FirstFault.{timers_written, ticks_fault, timers_fault};
 
-use crate::fault::SettingsFault;
-use crate::shapes::{integer, table_in, value};
-use stp_types::{Key, TimerKey, TimersDraft};
-use toml::Table;
+use crate::numbers::number;
+use settings_rows::{DraftFault, Key, TimerKey, TimerTicks, TimersDraft};
+use signalling_types::Limits;
 
-/// The name of a timer in its table.
-fn name(timer: TimerKey) -> &'static str
-    ensures { result.now ≡ timer_name timer }
-{
-    match timer {
-        TimerKey::L1 => "l1",
-        TimerKey::L2 => "l2",
-        TimerKey::L3 => "l3",
-        TimerKey::L4 => "l4",
-        TimerKey::L6 => "l6",
-        TimerKey::L7 => "l7",
-        TimerKey::T1 => "t1",
-        TimerKey::T2 => "t2",
-        TimerKey::T3 => "t3",
-        TimerKey::T4 => "t4",
-        TimerKey::T6 => "t6",
-        TimerKey::T8 => "t8",
-        TimerKey::T10 => "t10",
-    }
+/// How many timers there are.
+const TIMERS: usize = 13;
+
+/// A timer with the ticks that were written for it.
+#[derive(Clone, Copy)]
+struct Written {
+    timer: TimerKey,
+    ticks: i64,
 }
 
-/// The ticks that a timer runs.
-#[tactic(auto, unfolding(crate::specs::Document::ticks_at))]
-fn ticks(table: &Table, timer: TimerKey) -> Result<i64, SettingsFault>
-    ensures { result ≡ ticks_at timer (table_view table.now) }
+/// The ticks that the timers run.
+#[tactic(auto, unfolding(crate::specs::FirstFault::timers_fault))]
+pub(crate) fn timer_ticks(timers: &TimersDraft) -> Result<TimerTicks, DraftFault>
+    ensures value { IfOk result (λ t. t ≡ ticks_of timers.now) }
+    ensures well { OnOk result (timers_fault timers.now ≡ None) }
+    ensures fault { IfErr result (λ fault. timers_fault timers.now ≡ Some fault) }
 {
-    integer(table, name(timer), Key::Timer(timer))
-}
-
-/// The ticks that each timer of a table runs.
-#[tactic(auto, unfolding(crate::specs::Document::timers_in))]
-fn timers_in(table: &Table) -> Result<TimersDraft, SettingsFault>
-    ensures { result ≡ timers_in (table_view table.now) }
-{
-    Ok(TimersDraft {
-        l1: ticks(table, TimerKey::L1)?,
-        l2: ticks(table, TimerKey::L2)?,
-        l3: ticks(table, TimerKey::L3)?,
-        l4: ticks(table, TimerKey::L4)?,
-        l6: ticks(table, TimerKey::L6)?,
-        l7: ticks(table, TimerKey::L7)?,
-        t1: ticks(table, TimerKey::T1)?,
-        t2: ticks(table, TimerKey::T2)?,
-        t3: ticks(table, TimerKey::T3)?,
-        t4: ticks(table, TimerKey::T4)?,
-        t6: ticks(table, TimerKey::T6)?,
-        t8: ticks(table, TimerKey::T8)?,
-        t10: ticks(table, TimerKey::T10)?,
+    let [l1, l2, l3, l4, l6, l7, t1, t2, t3, t4, t6, t8, t10] = all_ticks(&all_written(timers))?;
+    Ok(TimerTicks {
+        l1,
+        l2,
+        l3,
+        l4,
+        l6,
+        l7,
+        t1,
+        t2,
+        t3,
+        t4,
+        t6,
+        t8,
+        t10,
     })
 }
 
-/// The timers of a file.
-#[tactic(auto, unfolding(crate::specs::Document::timers_at))]
-pub(crate) fn timers(table: &Table) -> Result<TimersDraft, SettingsFault>
-    ensures { result ≡ timers_at (table_view table.now) }
+/// The timers in their order.
+fn all_written(timers: &TimersDraft) -> [Written; TIMERS]
+    ensures { result ≡ timers_written timers.now }
 {
-    let value = value(table, "timers", Key::Timers)?;
-    let timers = table_in(value, Key::Timers)?;
-    timers_in(timers)
+    [
+        Written {
+            timer: TimerKey::L1,
+            ticks: timers.l1,
+        },
+        Written {
+            timer: TimerKey::L2,
+            ticks: timers.l2,
+        },
+        Written {
+            timer: TimerKey::L3,
+            ticks: timers.l3,
+        },
+        Written {
+            timer: TimerKey::L4,
+            ticks: timers.l4,
+        },
+        Written {
+            timer: TimerKey::L6,
+            ticks: timers.l6,
+        },
+        Written {
+            timer: TimerKey::L7,
+            ticks: timers.l7,
+        },
+        Written {
+            timer: TimerKey::T1,
+            ticks: timers.t1,
+        },
+        Written {
+            timer: TimerKey::T2,
+            ticks: timers.t2,
+        },
+        Written {
+            timer: TimerKey::T3,
+            ticks: timers.t3,
+        },
+        Written {
+            timer: TimerKey::T4,
+            ticks: timers.t4,
+        },
+        Written {
+            timer: TimerKey::T6,
+            ticks: timers.t6,
+        },
+        Written {
+            timer: TimerKey::T8,
+            ticks: timers.t8,
+        },
+        Written {
+            timer: TimerKey::T10,
+            ticks: timers.t10,
+        },
+    ]
+}
+
+/// The ticks of a timer.
+fn ticks(written: &Written) -> Result<u16, DraftFault>
+    ensures value { IfOk result (λ ticks. ticks ≡ natural written.now.ticks) }
+    ensures well { OnOk result (ticks_fault [] written.now ≡ None) }
+    ensures fault { IfErr result (λ fault. ticks_fault [] written.now ≡ Some fault) }
+{
+    number(
+        written.ticks,
+        1,
+        Limits::TICKS as u16,
+        Key::Timer(written.timer),
+    )
+}
+
+/// The ticks of these timers.
+fn all_ticks(timers: &[Written; TIMERS]) -> Result<[u16; TIMERS], DraftFault>
+    ensures value { IfOk result (λ all. all ≡ map (λ w. natural w.ticks) timers.now) }
+    ensures well { OnOk result (entries_fault ticks_fault [] timers.now ≡ None) }
+    ensures fault { IfErr result (λ fault. entries_fault ticks_fault [] timers.now ≡ Some fault) }
+{
+    let mut all = [0; TIMERS];
+    for i in 0..TIMERS {
+        all[i] = ticks(&timers[i])?;
+    }
+    Ok(all)
 }

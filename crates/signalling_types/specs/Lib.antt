@@ -4,3 +4,4 @@ pub mod Room
 pub mod InPlace
 pub mod Causes
 pub mod Notices
+pub mod Numbers

@@ -1,5 +1,5 @@
 //! The small types that every part of the node names: messages, numbers of points and links,
-//! causes, outcomes, notices and limits.
+//! the numbers of messages on a link, causes, outcomes, notices and limits.
 #![tactic(auto)]
 
 pub mod cause;
@@ -7,6 +7,7 @@ pub mod limits;
 pub mod message;
 pub mod msu_ref;
 pub mod notice;
+pub mod number;
 pub mod outcome;
 pub mod point;
 pub mod subsystem;
@@ -16,6 +17,7 @@ pub use limits::Limits;
 pub use message::Msu;
 pub use msu_ref::MsuRef;
 pub use notice::{ChangeoverTimer, FailureReason, FrameFault, LateTimer, Notice};
+pub use number::Number24;
 pub use outcome::Outcome;
 pub use point::{Flow, LinkId, PointCode, SetId, Sls};
 pub use subsystem::Ssn;

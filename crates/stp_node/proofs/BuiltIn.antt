@@ -2,8 +2,8 @@
 use Rattle.std.proofs.Common.{◌≡◌, ℕ, ℤ, pos, Bool, true, false, List, [], ◌∷◌, Some, None, map, refl, ap, sym, ◌∙◌, codes, string_bytes, ◌⊎◌, inl, inr}
 use Rattle.std.specs.Prelude.{unwrap_or, position}
 use Rattle.std.specs.Str.{bytes_eq}
-use Rattle.settings_check.specs.Meaning.{settings_of, set_of, link_of, destination_of, set_number}
-use Rattle.settings_check.specs.FirstFault.{first_fault}
+use Rattle.settings.specs.Meaning.{settings_of, set_of, link_of, destination_of, set_number}
+use Rattle.settings.specs.FirstFault.{first_fault}
 use Rattle.settings_rows.specs.declared.fault.DraftFault.{DraftFault}
 use Rattle.settings_rows.specs.declared.fault.DraftFault.TheVariants.{NoMemory}
 use Rattle.settings_rows.specs.declared.draft.Draft.{Draft}
@@ -11,8 +11,8 @@ use Rattle.settings_rows.specs.declared.draft.SetDraft.{SetDraft}
 use Rattle.settings_rows.specs.declared.draft.LinkDraft.{LinkDraft}
 use Rattle.settings_rows.specs.declared.draft.DestinationDraft.{DestinationDraft}
 use Rattle.stp_node.specs.BuiltIn.{IsBuiltIn, IsSets, IsLinks, IsDestination, IsDestinations, built_in_settings}
-use Rattle.settings.specs.declared.fault.SettingsFault.TheVariants as settings_fault
-use Rattle.settings.specs.Faults.{no_memory}
+use Rattle.settings_file.specs.declared.fault.SettingsFault.TheVariants as settings_fault
+use Rattle.settings_file.specs.Faults.{no_memory}
 use Rattle.stp_node.proofs.BuiltInWell.{has_no_fault}
 
 one-place : {A : Type 0} → (test : A → Bool) (x : A) (b : Bool) → test x ≡ b → ◌≡◌ {A = ℕ} (unwrap_or (position test (x ∷ [])) 0) 0

@@ -3,7 +3,7 @@ use Rattle.std.proofs.Common.{◌≡◌, ◌≢◌, ◌⊎◌, ℕ, List, Result
 use Rattle.std.specs.Prelude.{OnOk, String}
 use Rattle.std.specs.Global.{Global}
 use Rattle.std.specs.Io.KnownBytes.{IsAtEnd}
-use Rattle.settings.specs.Faults.{no_memory}
+use Rattle.settings_file.specs.Faults.{no_memory}
 use Rattle.settings_rows.specs.Configuration.{Configuration}
 use Rattle.stp_node.specs.Explaining.{IsLabEndExplained}
 use Rattle.stp_node.specs.Faults.{Counts}
@@ -14,7 +14,7 @@ use Rattle.stp_node.specs.declared.program.Status.{Status}
 use Rattle.stp_node.specs.declared.program.Status.TheVariants as status
 use Rattle.stp_node.specs.declared.script.ScriptFault.{ScriptFault}
 use Rattle.stp_node.specs.declared.script.ScriptFault.TheVariants.{Read, Write, Line, TooManyReads, NoMemory}
-use Rattle.words.specs.Words.{Task, LabRun, asked}
+use Rattle.command_line.specs.Words.{Task, LabRun, asked}
 
 pub lacks_memory : (script : Result Unit ScriptFault) → (script ≡ Err NoMemory) ⊎ (script ≢ Err NoMemory)
 lacks_memory (Err NoMemory) = inl refl

@@ -2,7 +2,7 @@
 use Rattle.std.specs.Prelude.{◌≡◌, ◌⊎◌, ℕ, List, ◌++◌, codes, decimal, Result, Ok, Err, String, string_bytes}
 use Rattle.std.specs.Global.{Global}
 use Rattle.std.specs.Io.KnownBytes.{Appends}
-use Rattle.settings_faults.specs.Warnings.{AreWarnings}
+use Rattle.settings_file.specs.Warnings.{AreWarnings}
 use Rattle.script_faults.specs.Sentences.{IsAboutLine}
 use Rattle.stp_node.specs.Streams.{Output, AppendsFirst, counted}
 use Rattle.stp_node.specs.declared.folder.Unread.{Unread}

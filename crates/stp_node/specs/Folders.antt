@@ -3,10 +3,10 @@ use Rattle.std.specs.Prelude.{ℕ, ◌≡◌, ◌⊎◌, List, Vec, Result, Ok, 
 use Rattle.std.specs.Global.{Global}
 use Rattle.std.specs.Str.{IsUtf8}
 use Rattle.settings_rows.specs.Configuration.{Configuration}
-use Rattle.settings.specs.Faults.{no_memory}
-use Rattle.settings.specs.Reading.{IsReadAs, IsFirstFault}
-use Rattle.settings.specs.declared.fault.SettingsFault.{SettingsFault}
-use Rattle.settings.specs.declared.fault.SettingsFault.TheVariants.{Text}
+use Rattle.settings_file.specs.Faults.{no_memory}
+use Rattle.settings_file.specs.Reading.{IsReadAs, IsFirstFault}
+use Rattle.settings_file.specs.declared.fault.SettingsFault.{SettingsFault}
+use Rattle.settings_file.specs.declared.fault.SettingsFault.TheVariants.{Text}
 use Rattle.stp_node.specs.declared.folder.FileFault.{FileFault}
 
 -- what a read of a file came to: its octets, or why there are none

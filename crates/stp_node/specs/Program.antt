@@ -3,15 +3,15 @@ use Rattle.std.specs.Prelude.{◌≡◌, ◌≢◌, ◌⊎◌, ℕ, List, ◌++�
 use Rattle.std.specs.Global.{Global}
 use Rattle.std.specs.Io.KnownBytes.{Appends, IsAtEnd}
 use Rattle.settings_rows.specs.Configuration.{Configuration}
-use Rattle.settings.specs.Faults.{fault_line, no_memory}
-use Rattle.settings.specs.declared.fault.SettingsFault.{SettingsFault}
-use Rattle.stp_types.specs.Facing.{IsFacing}
-use Rattle.stp_types.specs.Naming.{link_names}
+use Rattle.settings_file.specs.Faults.{fault_line, no_memory}
+use Rattle.settings_file.specs.declared.fault.SettingsFault.{SettingsFault}
+use Rattle.settings.specs.Facing.{IsFacing}
+use Rattle.settings.specs.Naming.{link_names}
 use Rattle.exchange_rules.specs.Sound.{Abstract}
 use Rattle.exchange_rules.specs.First.{first_state}
 use Rattle.exchange_rules.specs.Queues.{whole}
 use Rattle.stp_node.specs.BuiltIn.{built_in_settings}
-use Rattle.settings_faults.specs.Sentences.{Explains}
+use Rattle.settings_file.specs.Sentences.{Explains}
 use Rattle.stp_node.specs.Explaining.{IsTold, IsToldOf, usage_text, unread_sentence, IsWarned, IsEndExplained}
 use Rattle.stp_node.specs.Explaining.{strangers_sentence, IsLabEndExplained}
 use Rattle.stp_node.specs.Faults.{Counts}
@@ -23,7 +23,7 @@ use Rattle.stp_node.specs.declared.script.ScriptFault.{ScriptFault}
 use Rattle.stp_node.specs.declared.script.ScriptFault.TheVariants as fault
 use Rattle.stp_node.specs.declared.program.Status.{Status}
 use Rattle.stp_node.specs.declared.program.Status.TheVariants as status
-use Rattle.words.specs.Words.{Task, BuiltInRun, FileRun, FileCheck, LabRun, FileServe, OtherWords, are_plain, asked}
+use Rattle.command_line.specs.Words.{Task, BuiltInRun, FileRun, FileCheck, LabRun, FileServe, OtherWords, are_plain, asked}
 
 -- the exit statuses
 abbrev pub status_number : Status → ℕ

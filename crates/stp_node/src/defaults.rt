@@ -3,8 +3,8 @@
 ghost use Rattle.std.specs.Prelude.{◌≡◌, ◌∷◌, [], IfOk};
 ghost use Rattle.stp_node.specs.BuiltIn.{IsBuiltIn, built_in_ticks, IsSets, IsLinks, IsDestination, IsDestinations};
 
+use settings::{DestinationDraft, Draft, LinkDraft, SetDraft, TimersDraft};
 use std::alloc::{AllocError, Global};
-use stp_types::{DestinationDraft, Draft, LinkDraft, SetDraft, TimersDraft};
 
 /// The name of the one link set.
 const SET: &str = "east";

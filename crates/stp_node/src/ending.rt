@@ -2,15 +2,15 @@
 
 ghost use Rattle.std.specs.Prelude.{◌≡◌, ◌≢◌, ◌⊎◌, IfOk, string_bytes, codes};
 ghost use Rattle.std.specs.IoError.{error_kind};
-ghost use Rattle.settings.specs.Faults.{no_memory};
-ghost use Rattle.settings_faults.specs.Sentences.{Explains};
+ghost use Rattle.settings_file.specs.Faults.{no_memory};
+ghost use Rattle.settings_file.specs.Sentences.{Explains};
 ghost use Rattle.stp_node.specs.Explaining.{IsTold, IsToldOf, usage_text};
 ghost use Rattle.stp_node.specs.Program.{told, EndsWith};
 
 use crate::explaining::{explain_fault, explain_words};
 use crate::program::Status;
 use crate::sink::Sink;
-use settings::SettingsFault;
+use settings_file::SettingsFault;
 use std::alloc::{AllocError, Global};
 use std::io::{Error, ErrorKind};
 

@@ -4,13 +4,13 @@ ghost use Rattle.std.specs.Prelude.{◌≡◌};
 ghost use Rattle.stp_node.specs.Explaining.{IsTold, IsToldMade, IsToldOf, usage_text, unread_text, unread_sentence};
 ghost use Rattle.stp_node.specs.Explaining.{IsWarned, IsEndExplained, IsScriptExplained, IsLabEndExplained};
 ghost use Rattle.stp_node.specs.Explaining.{strangers_sentence, lab_line_sentence};
-ghost use Rattle.settings_faults.specs.Sentences.{Explains};
+ghost use Rattle.settings_file.specs.Sentences.{Explains};
 
 use crate::folder::Unread;
 use crate::script::ScriptFault;
 use crate::sink::Sink;
 use script_faults::LineFault;
-use settings::SettingsFault;
+use settings_file::SettingsFault;
 use std::alloc::{AllocError, Global};
 
 /// The words of the program, and their meaning.
@@ -70,7 +70,7 @@ fn unread_text(why: Unread) -> &'static str
 pub(crate) fn warn<E: Sink>(alloc: Global, file: &str, octets: &[u8], errors: &mut E)
     ensures { IsWarned file.now (E.output errors.old) (E.output errors.new) }
 {
-    tell_made(settings_faults::warnings(alloc, file, octets), errors);
+    tell_made(settings_file::warnings(alloc, file, octets), errors);
 }
 
 /// Tells what is wrong with the settings in a file.
@@ -83,10 +83,7 @@ pub(crate) fn explain_fault<E: Sink>(
 )
     ensures { IsToldOf (Explains file.now octets.now fault) (E.output errors.old) (E.output errors.new) }
 {
-    tell_made(
-        settings_faults::sentence(alloc, file, octets, fault),
-        errors,
-    );
+    tell_made(settings_file::sentence(alloc, file, octets, fault), errors);
 }
 
 /// Tells why a script ended before its end, if it did: of a line that ended it, what is wrong with it.

@@ -5,7 +5,7 @@ ghost use Rattle.hex.specs.Hex.{is_hex_digit};
 ghost use Rattle.std.specs.List.{AllPass};
 ghost use Rattle.stp_node.specs.Lines.{is_octets, octets_of};
 
-use stp_types::Limits;
+use settings::Limits;
 
 /// The text of one to 4,096 octets: two digits for each, in either case.
 #[derive(Clone, Copy)]

@@ -20,6 +20,7 @@ pub mod source;
 mod text;
 pub mod two_nodes;
 
+pub use command_line::{Words, read_words};
 pub use defaults::built_in;
 pub use ending::refuse_words;
 pub use folder::{Disk, FileFault, Folder, OneFile, Unread};
@@ -36,4 +37,3 @@ pub use sink::{MemorySink, Sink, WriteFailed, WriterSink, write_whole};
 pub use source::{MemorySource, ReadFailed, ReaderSource, Source};
 pub use text::{Text, console_line, none_line};
 pub use two_nodes::Lab;
-pub use words::{Words, read_words};

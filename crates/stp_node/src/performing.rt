@@ -13,7 +13,7 @@ use crate::line::{Line, Show};
 use crate::text::{Text, frame_line, none_line, outcome_line, wants_line};
 use console::{OrderText, link_name};
 use exchange::{BUFFER_OCTETS, Event, Exchange};
-use stp_types::{Cause, Limits, LinkId, Msu, Outcome};
+use settings::{Cause, Limits, LinkId, Msu, Outcome};
 
 /// What is printed of a line that was done.
 #[derive(Drop)]

@@ -5,7 +5,7 @@ ghost use Rattle.exchange.specs.Stands.{StandsFor};
 ghost use Rattle.exchange_rules.specs.First.{first_state};
 ghost use Rattle.stp_node.specs.BuiltIn.{built_in_settings};
 ghost use Rattle.stp_node.specs.Folders.{FileRead, AreSettings, IsFault};
-ghost use Rattle.settings.specs.Faults.{no_memory};
+ghost use Rattle.settings_file.specs.Faults.{no_memory};
 ghost use Rattle.stp_node.specs.Program.{status_number, status_after, NoText};
 ghost use Rattle.stp_node.specs.Program.{RunsScript, HasNoMemory, RunsNode, RunsFile, ChecksFile, Does};
 ghost use Rattle.stp_node.specs.Streams.{streams};
@@ -20,11 +20,11 @@ use crate::serving::{Serve, serve_file};
 use crate::sink::Sink;
 use crate::source::Source;
 use crate::two_nodes::{Lab, run_files};
+use command_line::{Words, read_words};
 use exchange::{Exchange, NoMemory};
-use settings::SettingsFault;
+use settings::Settings;
+use settings_file::SettingsFault;
 use std::alloc::Global;
-use stp_types::Settings;
-use words::{Words, read_words};
 
 /// How the program ends. The numbers are its exit statuses.
 #[derive(Clone, Copy, Debug, PartialEq, Eq)]
@@ -223,7 +223,7 @@ pub(crate) fn settings_in(alloc: Global, octets: &[u8]) -> Result<Settings, Sett
     ensures fault { IfErr result (IsFault octets.now) }
 {
     match str::from_utf8(octets) {
-        Ok(text) => settings::read(alloc, text),
+        Ok(text) => settings_file::read(alloc, text),
         Err(_) => Err(SettingsFault::Text),
     }
 }

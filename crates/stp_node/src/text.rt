@@ -8,8 +8,8 @@ use arrayvec::ArrayVec;
 use console::LINE_OCTETS;
 use exchange::{BUFFER_OCTETS, Wants};
 use itoa::Buffer;
+use settings::{Limits, Outcome};
 use std::marker::Model;
-use stp_types::{Limits, Outcome};
 
 /// Octets of a printed line, at most: a frame in two digits an octet, the name of its link, and words.
 const TEXT_OCTETS: usize = 640;

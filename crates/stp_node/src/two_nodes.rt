@@ -2,9 +2,9 @@
 
 ghost use Rattle.std.specs.Prelude.{◌≡◌, ◌≢◌, ◌⊎◌, IfOk, IfErr, OnOk, Err};
 ghost use Rattle.std.specs.Io.KnownBytes.{IsAtEnd};
-ghost use Rattle.settings.specs.Faults.{no_memory};
-ghost use Rattle.stp_types.specs.Facing.{IsFacing};
-ghost use Rattle.stp_types.specs.Naming.{link_names};
+ghost use Rattle.settings_file.specs.Faults.{no_memory};
+ghost use Rattle.settings.specs.Facing.{IsFacing};
+ghost use Rattle.settings.specs.Naming.{link_names};
 ghost use Rattle.stp_node.specs.Explaining.{IsLabEndExplained};
 ghost use Rattle.stp_node.specs.Faults.{MakesReads, reads_failed, writes_failed};
 ghost use Rattle.stp_node.specs.Folders.{FileRead};
@@ -20,8 +20,8 @@ use crate::script::ScriptFault;
 use crate::sink::Sink;
 use crate::source::Source;
 use exchange::{Exchange, NoMemory};
+use settings::Settings;
 use std::alloc::Global;
-use stp_types::Settings;
 
 /// What runs the scripts of two nodes: it joins their links.
 pub trait Lab {

@@ -1,6 +1,6 @@
 -- What stays in a watch, whatever it sees.
 use Rattle.std.proofs.Common.{◌≡◌, ◌∙◌, List, [], ◌∷◌, ap}
-use Rattle.association.specs.Watching.{Sight, SeesEach}
+use Rattle.served_link.specs.Watching.{Sight, SeesEach}
 
 -- what each sight leaves as it was is as it was behind all of them
 pub kept :

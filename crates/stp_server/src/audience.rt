@@ -6,13 +6,12 @@ ghost use Rattle.stp_server.specs.Audience.{counted_sight};
 use crate::callers::Callers;
 use crate::server::FileCapture;
 use arrayvec::ArrayVec;
-use association::Watch;
-use console_caller::News;
+use console_session::News;
 use exchange::{Frame, decode};
-use link_counters::Counters;
+use served_link::{Counters, Watch};
+use settings::{Limits, LinkId, Outcome, Settings};
 use std::alloc::{AllocError, Global};
 use std::time::Duration;
-use stp_types::{Limits, LinkId, Outcome, Settings};
 use trace::{Direction, PointFormat, frame_words};
 
 /// Octets of the line of a message for this point, at most: its link, two digits for each octet of the longest message,

@@ -1,6 +1,6 @@
 //! A caller of the console and its socket.
 
-use console_caller::{Caller, Desk, Ending, News};
+use console_session::{Caller, Desk, Ending, News};
 use mio::event::Event;
 use mio::net::TcpStream;
 use std::alloc::Global;

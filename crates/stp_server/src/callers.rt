@@ -4,7 +4,7 @@ use crate::caller_socket::CallerSocket;
 use crate::journal::Journal;
 use crate::naming::SocketName;
 use arrayvec::ArrayString;
-use console_caller::{Desk, News};
+use console_session::{Desk, News};
 use mio::event::Event;
 use mio::net::{TcpListener, TcpStream};
 use mio::{Interest, Registry};

@@ -3,13 +3,13 @@
 use crate::audience::Watching;
 use crate::journal::Journal;
 use crate::node::Node;
-use association::{Association, Broken, Watch};
 use mio::event::Event as Readiness;
 use mio::net::TcpStream;
+use served_link::{Association, Broken, Watch};
+use settings::{FailureReason, LinkId};
 use std::io::{ErrorKind, Read, Write};
 use std::net::SocketAddr;
 use stp_node::Sink;
-use stp_types::{FailureReason, LinkId};
 
 /// Octets that one read asks for.
 const PIECE_OCTETS: usize = 4096;

@@ -6,17 +6,16 @@ use crate::connection::{Connection, Moved, Why};
 use crate::journal::Journal;
 use crate::naming::SocketName;
 use crate::node::Node;
-use association::Watch;
 use exchange::{Event, Wants};
 use mio::event::Event as Readiness;
 use mio::net::{TcpListener, TcpStream};
 use mio::{Interest, Registry};
 use serve_settings::Endpoint;
-use serve_timing::Retry;
+use served_link::{Retry, Watch};
+use settings::{FailureReason, LinkId, Outcome};
 use std::net::{Net, SocketAddr};
 use std::time::Duration;
 use stp_node::Sink;
-use stp_types::{FailureReason, LinkId, Outcome};
 
 /// Reads of a link in one round, at most.
 const READS: usize = 16;

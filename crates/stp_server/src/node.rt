@@ -6,11 +6,11 @@ use crate::journal::Journal;
 use crate::noticing::Seen;
 use arrayvec::{ArrayString, ArrayVec};
 use console::{LINE_OCTETS, show_notices};
-use console_caller::{Desk, News, line_in_parts};
+use console_session::{Desk, News, line_in_parts};
 use exchange::{Event, Exchange};
+use settings::{FailureReason, LinkId, Notice, Settings};
 use std::alloc::Global;
 use stp_node::Sink;
-use stp_types::{FailureReason, LinkId, Notice, Settings};
 use trace::PointFormat;
 
 /// The node, who is told what happens in it, and which notices they were told.

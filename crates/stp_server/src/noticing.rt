@@ -1,9 +1,9 @@
 //! Which notices are new.
 
 use exchange::{Exchange, LinkStanding};
+use settings::{Limits, LinkId, Notice};
 use std::alloc::{AllocError, Global};
 use std::mem;
-use stp_types::{Limits, LinkId, Notice};
 
 /// What was last seen of a node: its notices, and which links weren't down.
 #[derive(Drop)]

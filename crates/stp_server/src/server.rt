@@ -7,11 +7,11 @@ use crate::gate::Gate;
 use crate::journal::Journal;
 use crate::naming::SocketName;
 use crate::node::Node;
-use association::Watch;
 use exchange::{Event, Exchange, Wants};
-use link_counters::Counters;
 use mio::{Events, Poll};
 use serve_settings::Endpoint;
+use served_link::{Counters, Watch};
+use settings::{FailureReason, LinkId, Outcome};
 use std::alloc::Global;
 use std::fs::File;
 use std::io;
@@ -20,7 +20,6 @@ use std::marker::Model;
 use std::net::{Net, SocketAddr};
 use std::time::Duration;
 use stp_node::Sink;
-use stp_types::{FailureReason, LinkId, Outcome};
 use trace::{Capture, PointFormat, UntilFailure};
 
 /// Sockets that one wait tells of, at most. Further ones are told of by the next.

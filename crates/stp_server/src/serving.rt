@@ -5,15 +5,14 @@ ghost use Rattle.std.specs.Prelude.{◌≤◌};
 use crate::fault::OpenFault;
 use crate::journal::Journal;
 use crate::server::{FileCapture, Places, Server};
-use association::Unwatched;
 use serve_settings::{PointFormat as Shown, ServeFault, ServeSettings};
-use serve_timing::{MOST_TICKS, TickClock};
+use served_link::{MOST_TICKS, TickClock, Unwatched};
+use settings::Settings;
 use std::alloc::{AllocError, Global};
 use std::io::BufWriter;
 use std::time::{Duration, Instant, SystemTime};
 use std::{fs, io};
 use stp_node::{Serve, Sink, Status};
-use stp_types::Settings;
 use trace::{Capture, PointFormat, UntilFailure};
 
 /// Serves nodes on this machine.

@@ -9,8 +9,8 @@ use Rattle.m2pa_codec.specs.declared.status.LinkStatus.TheVariants.{ProcessorOut
 use Rattle.m2pa_codec.specs.declared.status.LinkStatus.TheVariants.{BusyEnded, OutOfService}
 use Rattle.m2pa_codec.specs.Frames.{FrameValue, EmptyFrame, MessageFrame, StatusFrame}
 use Rattle.m2pa_codec.specs.Reading.{read_frame}
-use Rattle.routing_label.specs.declared.label.Label.{Label}
-use Rattle.routing_label.specs.Label.{label_in}
+use Rattle.mtp3_codec.specs.declared.label.Label.{Label}
+use Rattle.mtp3_codec.specs.Label.{label_in}
 use Rattle.trace.specs.declared.direction.Direction.{Direction}
 use Rattle.trace.specs.declared.direction.Direction.TheVariants.{In, Out}
 use Rattle.trace.specs.declared.point.PointFormat.{PointFormat}

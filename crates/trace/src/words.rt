@@ -12,10 +12,9 @@ use crate::direction::Direction;
 use crate::point::{PointFormat, point_text};
 use arrayvec::ArrayVec;
 use itoa::Buffer;
-use link_number::Number24;
 use m2pa_codec::{Frame, LinkStatus, decode};
-use routing_label::Label;
-use signalling_types::{Limits, PointCode};
+use mtp3_codec::Label;
+use signalling_types::{Limits, Number24, PointCode};
 use std::marker::Model;
 
 /// Octets of a frame in words, at most: two digits for each of its octets, and the words before them.

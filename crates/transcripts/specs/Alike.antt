@@ -2,7 +2,7 @@
 use Rattle.std.specs.Prelude.{◌≡◌, ℕ, ◌<◌, Bool, List, nat_eq, length}
 use Rattle.std.specs.Bool.{Decides}
 use Rattle.std.specs.List.{list_any}
-use Rattle.settings.specs.Reading.{IsReadAs}
+use Rattle.settings_file.specs.Reading.{IsReadAs}
 use Rattle.settings_rows.specs.Configuration.{Configuration}
 use Rattle.stp_node.specs.BuiltIn.{built_in_settings}
 

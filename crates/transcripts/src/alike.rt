@@ -3,7 +3,7 @@ ghost use Rattle.std.specs.Prelude.{◌≡◌, ◌<◌, ℕ};
 ghost use Rattle.std.specs.Bool.{Decides};
 ghost use Rattle.transcripts.specs.Alike.{AreAlike, HaveSameNumbers, HaveSameUsers};
 
-use stp_types::{DestinationRow, LinkRow, SetId, SetRow, Settings};
+use settings::{DestinationRow, LinkRow, SetId, SetRow, Settings};
 
 /// Whether all that two settings say is the same; of translation rows, whether there are as many.
 pub fn are_alike(a: &Settings, b: &Settings) -> bool

@@ -6,9 +6,8 @@ ghost use Rattle.m2pa_codec.specs.Frames.{sif_of};
 ghost use Rattle.m2pa_codec.specs.Values.{value_of};
 
 use super::{octets, word};
-use link_number::Number24;
 use m2pa_codec::{BUFFER_OCTETS, Frame, FrameFault, Framer, LinkStatus, Next, decode, encode};
-use signalling_types::Limits;
+use signalling_types::{Limits, Number24};
 use std::test::*;
 
 /// An acknowledgement: every message up to number 0 is accepted, and none was sent.

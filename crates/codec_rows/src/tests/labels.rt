@@ -1,7 +1,7 @@
 //! Labels, and where messages go by them.
 
 use super::{octets, word};
-use routing_label::{Discrimination, Label, discriminate};
+use mtp3_codec::{Discrimination, Label, discriminate};
 use signalling_types::{Cause, Limits, Msu, MsuRef, PointCode};
 use std::test::*;
 

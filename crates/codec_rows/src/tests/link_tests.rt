@@ -1,7 +1,7 @@
 //! Link tests as octets: each text is the whole field, from its label on.
 
 use super::{are_octets, octets, word};
-use mgmt_codec::{ANSWER_OCTETS, LinkTest, TestKind};
+use mtp3_codec::{ANSWER_OCTETS, LinkTest, TestKind};
 use signalling_types::{Limits, PointCode};
 use std::test::*;
 

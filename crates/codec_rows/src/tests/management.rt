@@ -1,8 +1,7 @@
 //! Management messages as octets: each text is the whole field, from its label on.
 
 use super::{octets, word};
-use mgmt_codec::{MANAGEMENT_OCTETS, Management, MgmtFault};
-use routing_label::Label;
+use mtp3_codec::{Label, MANAGEMENT_OCTETS, Management, MgmtFault};
 use signalling_types::{Limits, PointCode};
 use std::test::*;
 

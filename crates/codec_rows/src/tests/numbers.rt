@@ -1,7 +1,8 @@
 //! Numbers of messages, at both ends of their range.
 
 use super::word;
-use link_number::{Number24, distance, next, within};
+use signalling_types::Number24;
+use signalling_types::number::{distance, next, within};
 use std::test::*;
 
 /// Calls, and what each answers.

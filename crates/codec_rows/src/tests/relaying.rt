@@ -4,8 +4,7 @@ ghost use Rattle.std.specs.Prelude.{◌≤◌, length};
 
 use super::titles::routed;
 use super::{are_octets, octets, word};
-use global_title::{TitleKey, Translations};
-use sccp_relay::{Field, Own, Relayed, relay, returned};
+use sccp_relay::{Field, Own, Relayed, TitleKey, Translations, relay, returned};
 use signalling_types::{Cause, Limits, PointCode};
 use std::test::*;
 

@@ -1,7 +1,7 @@
 //! Tables of translation rows at their limits: as many rows as there may be, and the longest.
 
 use super::titles::row;
-use global_title::{TitleKey, Translations};
+use sccp_relay::{TitleKey, Translations};
 use settings_rows::{TitleRoute, TitleRow};
 use signalling_types::{Cause, PointCode};
 use std::test::*;

@@ -1,7 +1,7 @@
 //! Tables of translation rows, line by line.
 
 use super::word;
-use global_title::{TitleKey, Translations};
+use sccp_relay::{TitleKey, Translations};
 use settings_rows::{TitleRoute, TitleRow};
 use signalling_types::{Cause, Limits, PointCode, Ssn};
 use std::alloc::Global;

@@ -4,7 +4,7 @@ ghost use Rattle.std.specs.Prelude.{◌<◌, ◌↔◌, All, IsTrue};
 
 use super::titles::digits;
 use super::word;
-use digit_trie::{Trie, TrieFault};
+use sccp_relay::{Trie, TrieFault};
 use std::test::*;
 
 /// So many digits a line has at most.

@@ -4,11 +4,11 @@ ghost use Rattle.std.specs.Prelude.{◌≡◌, ◌<◌, ◌≤◌, ◌&&◌, Non
 ghost use Rattle.std.specs.Option.{option_and_then};
 ghost use Rattle.signalling_types.specs.Lent.{lent};
 ghost use Rattle.signalling_types.specs.Message.{is_management, dpc_of};
-ghost use Rattle.routing_label.specs.Label.{label_at};
-ghost use Rattle.stp_types.specs.Readings.{destination_place};
+ghost use Rattle.mtp3_codec.specs.Label.{label_at};
+ghost use Rattle.settings.specs.Readings.{destination_place};
 ghost use Rattle.flow_hold.specs.Holds.{is_held};
 ghost use Rattle.exchange_rules.specs.Holding as holding;
-ghost use Rattle.route_table.specs.Chosen.{chosen_link};
+ghost use Rattle.routes.specs.Chosen.{chosen_link};
 ghost use Rattle.exchange.specs.KeptQueues.{kept};
 ghost use Rattle.exchange_rules.specs.Exchange.{Ends};
 ghost use Rattle.exchange_rules.specs.Routing as routing;
@@ -18,8 +18,8 @@ ghost use Rattle.exchange_rules.specs.Arrival as rule;
 
 use super::Exchange;
 use cell_pool::Lanes;
-use routing_label::Label;
-use stp_types::{Cause, Limits, LinkId, MsuRef, Outcome, Sls};
+use mtp3_codec::Label;
+use settings::{Cause, Limits, LinkId, MsuRef, Outcome, Sls};
 
 impl Exchange {
     /// A message of this label for another point, with the link that it arrived on, if any: a known destination, then

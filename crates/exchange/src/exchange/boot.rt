@@ -2,12 +2,12 @@
 
 ghost use Rattle.std.specs.Prelude.{◌≡◌, ◌≤◌, ◌+◌, [], length, replicate, IfOk};
 ghost use Rattle.changeover.specs.Standing.{no_changeover};
-ghost use Rattle.timer_wheel.specs.Timers.{none_running};
+ghost use Rattle.timers.specs.Timers.{none_running};
 ghost use Rattle.changeback.specs.Codes.{no_codes};
 ghost use Rattle.route_management.specs.Told.{first_told, shape_of};
 ghost use Rattle.flow_hold.specs.Holds.{no_holds};
-ghost use Rattle.global_title.specs.Rows.{table_of};
-ghost use Rattle.link_sequence.specs.Counts.{kept_first};
+ghost use Rattle.sccp_relay.specs.Rows.{table_of};
+ghost use Rattle.link.specs.Counts.{kept_first};
 ghost use Rattle.exchange.specs.Stands.{StandsFor, kept_of};
 ghost use Rattle.exchange_rules.specs.First.{first_state, counts_in};
 ghost use Rattle.exchange_rules.specs.Routing.{first_network_of};
@@ -20,13 +20,13 @@ use changeback::Changeback;
 use changeover::Changeover;
 use circular_buffer::HeapCircularBuffer;
 use flow_hold::Holds;
-use global_title::Translations;
-use link_sequence::Sequence;
+use link::Sequence;
 use node_links::NodeLinks;
 use route_management::Told;
+use sccp_relay::Translations;
+use settings::{Limits, Settings};
 use std::alloc::{AllocError, Global};
-use stp_types::{Limits, Settings};
-use timer_wheel::{NodeCounts, Timers};
+use timers::{NodeCounts, Timers};
 
 impl Exchange {
     /// An exchange with these settings, whose links are all down and want Open.

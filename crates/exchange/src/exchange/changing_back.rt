@@ -2,7 +2,7 @@
 
 ghost use Rattle.std.specs.Prelude.{◌≡◌, ◌<◌, ℕ, None, Some, false, true, length, replicate, slice_index_or};
 ghost use Rattle.std.specs.Prelude.{IfErr, OnOk, is_ok, if◌then◌else◌};
-ghost use Rattle.route_table.specs.Facts.{with_link};
+ghost use Rattle.routes.specs.Facts.{with_link};
 ghost use Rattle.changeback.specs.Return.{returned, gives_up, held_by};
 ghost use Rattle.exchange_rules.specs.State.{with_node, with_parts};
 ghost use Rattle.exchange.specs.Head.{with_holds};
@@ -19,9 +19,9 @@ ghost use Rattle.exchange.specs.TakingOver as walk;
 use super::Exchange;
 use changeback::{hold_changes, losing};
 use flow_hold::Procedure;
-use mgmt_codec::Management;
-use stp_types::{Cause, LateTimer, Limits, LinkId, Notice, Outcome, PointCode, SetId, Sls};
-use timer_wheel::TimerName;
+use mtp3_codec::Management;
+use settings::{Cause, LateTimer, Limits, LinkId, Notice, Outcome, PointCode, SetId, Sls};
+use timers::TimerName;
 
 impl Exchange {
     /// A link that entered service takes back the flows that took other links before. Those flows are held until the

@@ -18,11 +18,10 @@ use super::lanes::{HELD, lane_of};
 use cell_pool::Lanes;
 use changeover::{complete, count_in_doubt};
 use flow_hold::Procedure;
-use link_number::Number24;
-use mgmt_codec::Management;
-use routing_label::Label;
-use stp_types::{Cause, ChangeoverTimer, LinkId, Notice, Outcome};
-use timer_wheel::TimerName;
+use mtp3_codec::{Label, Management};
+use settings::{Cause, ChangeoverTimer, LinkId, Notice, Outcome};
+use signalling_types::Number24;
+use timers::TimerName;
 
 impl Exchange {
     /// The peer orders a changeover of a link, with the number of the last message that it accepted there, or without

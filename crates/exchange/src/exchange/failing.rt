@@ -9,10 +9,10 @@ ghost use Rattle.exchange_rules.specs.Failing as rule;
 
 use super::Exchange;
 use changeover::Beginning;
-use link_number::Number24;
-use mgmt_codec::Management;
-use stp_types::{FailureReason, LinkId, Notice};
-use timer_wheel::{RouteTimer, TimerName};
+use mtp3_codec::Management;
+use settings::{FailureReason, LinkId, Notice};
+use signalling_types::Number24;
+use timers::{RouteTimer, TimerName};
 
 impl Exchange {
     /// A link fails. Where it was in service, its changeover begins.

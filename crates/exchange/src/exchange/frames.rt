@@ -15,10 +15,10 @@ ghost use Rattle.exchange_rules.specs.Frames.{owing};
 ghost use Rattle.exchange_rules.specs.Frames as rule;
 
 use super::Exchange;
-use link_alignment::{Action, Alignment, Input, LinkTimer, Transition};
-use link_number::Number24;
+use link::{Action, Alignment, Input, LinkTimer, Transition};
 use m2pa_codec::{Frame, LinkStatus, decode};
-use stp_types::{Cause, FailureReason, FrameFault, LinkId, MsuRef, Notice, Outcome};
+use settings::{Cause, FailureReason, FrameFault, LinkId, MsuRef, Notice, Outcome};
+use signalling_types::Number24;
 
 /// User Data: its numbers, and the message that it carries, if it carries one.
 #[derive(Clone, Copy)]

@@ -9,8 +9,8 @@ ghost use Rattle.exchange.specs.Head.{head_of};
 use super::Exchange;
 use super::lanes::{HELD, lane_of};
 use cell_pool::{CellPool, Lanes};
-use routing_label::Label;
-use stp_types::{LinkId, Msu};
+use mtp3_codec::Label;
+use settings::{LinkId, Msu};
 
 /// What is read of a message that stands in a list: its label, and whether it is a management message.
 #[derive(Clone, Copy)]

@@ -10,9 +10,9 @@ ghost use Rattle.exchange.specs.KeptQueues.{kept, link_lane, without_lane};
 
 use super::Exchange;
 use cell_pool::Lanes;
-use link_number::Number24;
-use link_sequence::SeqFault;
-use stp_types::{Cause, Limits, LinkId, MsuRef};
+use link::SeqFault;
+use settings::{Cause, Limits, LinkId, MsuRef};
+use signalling_types::Number24;
 
 /// The list of the messages that are held.
 pub(super) const HELD: usize = 0;

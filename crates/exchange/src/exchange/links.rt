@@ -3,12 +3,12 @@
 ghost use Rattle.std.specs.Prelude.{◌≡◌, ◌<◌, drop, length, not, false, if◌then◌else◌};
 ghost use Rattle.exchange_rules.specs.State.{with_node, with_parts};
 ghost use Rattle.exchange_rules.specs.Links.{link_at, with_link};
-ghost use Rattle.link_alignment.specs.Table.{action_at};
+ghost use Rattle.link.specs.Table.{action_at};
 ghost use Rattle.node_links.specs.LinkState.{after_action, after_failure, opened};
 
 use super::Exchange;
-use link_alignment::{Action, Input};
-use stp_types::LinkId;
+use link::{Action, Input};
+use settings::LinkId;
 
 impl Exchange {
     /// Sets whether a link has an acknowledgement to send.

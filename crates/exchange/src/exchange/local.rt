@@ -2,10 +2,10 @@
 
 ghost use Rattle.std.specs.Prelude.{◌≡◌, ◌<◌, ◌≤◌, ◌&&◌, length, position, nat_eq, IfSome};
 ghost use Rattle.signalling_types.specs.Lent.{lent};
-ghost use Rattle.routing_label.specs.Label.{label_at};
-ghost use Rattle.mgmt_codec.specs.LinkTests.{read_link_test};
-ghost use Rattle.mgmt_codec.specs.Management.{read_management};
-ghost use Rattle.mgmt_codec.specs.Values.{test_value};
+ghost use Rattle.mtp3_codec.specs.Label.{label_at};
+ghost use Rattle.mtp3_codec.specs.LinkTests.{read_link_test};
+ghost use Rattle.mtp3_codec.specs.Management.{read_management};
+ghost use Rattle.mtp3_codec.specs.Values.{test_value};
 ghost use Rattle.exchange_rules.specs.State.{with_node};
 ghost use Rattle.exchange.specs.KeptQueues.{kept};
 ghost use Rattle.exchange_rules.specs.Made.{send_on};
@@ -13,13 +13,12 @@ ghost use Rattle.exchange_rules.specs.Exchange.{Ends};
 ghost use Rattle.exchange_rules.specs.Local as rule;
 
 use super::Exchange;
-use link_number::Number24;
-use mgmt_codec::{ANSWER_OCTETS, LinkTest, Management, MgmtFault, TestKind};
+use mtp3_codec::{ANSWER_OCTETS, Label, LinkTest, Management, MgmtFault, TestKind};
 use route_management::RouteTest;
-use route_table::RouteStatus;
-use routing_label::Label;
+use routes::RouteStatus;
+use settings::{Cause, LinkId, MsuRef, Outcome, PointCode, SetId, Sls};
 use settings_rows::LinkRow;
-use stp_types::{Cause, LinkId, MsuRef, Outcome, PointCode, SetId, Sls};
+use signalling_types::Number24;
 
 /// The service indicator of tests (Q.704 §14.2.1).
 const TESTING: u8 = 1;

@@ -12,9 +12,8 @@ ghost use Rattle.exchange_rules.specs.Made as rule;
 
 use super::Exchange;
 use cell_pool::Lanes;
-use mgmt_codec::{MANAGEMENT_OCTETS, Management};
-use routing_label::Label;
-use stp_types::{Cause, Limits, LinkId, MsuRef, Notice, PointCode};
+use mtp3_codec::{Label, MANAGEMENT_OCTETS, Management};
+use settings::{Cause, Limits, LinkId, MsuRef, Notice, PointCode};
 
 /// The service indicator of management (Q.704 §14.2.1).
 const MANAGEMENT: u8 = 0;

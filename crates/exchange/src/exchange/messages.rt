@@ -2,16 +2,16 @@
 
 ghost use Rattle.std.specs.Prelude.{◌≡◌, ◌<◌, ◌≤◌, length};
 ghost use Rattle.signalling_types.specs.Lent.{lent};
-ghost use Rattle.routing_label.specs.Label.{label_at};
-ghost use Rattle.routing_label.specs.declared.discrimination.Discrimination.{Discrimination};
-ghost use Rattle.routing_label.specs.declared.label.Label.{Label};
+ghost use Rattle.mtp3_codec.specs.Label.{label_at};
+ghost use Rattle.mtp3_codec.specs.declared.discrimination.Discrimination.{Discrimination};
+ghost use Rattle.mtp3_codec.specs.declared.label.Label.{Label};
 ghost use Rattle.exchange.specs.KeptQueues.{kept};
 ghost use Rattle.exchange_rules.specs.Exchange.{Ends};
 ghost use Rattle.exchange_rules.specs.Messages as rule;
 
 use super::Exchange;
-use routing_label::{Discrimination, discriminate};
-use stp_types::{Cause, Limits, LinkId, MsuRef, Notice, Outcome};
+use mtp3_codec::{Discrimination, discriminate};
+use settings::{Cause, Limits, LinkId, MsuRef, Notice, Outcome};
 
 impl Exchange {
     /// A message in a frame, with the link that it came by. Where it is refused, that is noted.

@@ -5,7 +5,7 @@ ghost use Rattle.exchange_rules.specs.State.{with_node, with_parts};
 ghost use Rattle.exchange_rules.specs.Noting as rule;
 
 use super::Exchange;
-use stp_types::Notice;
+use settings::Notice;
 
 impl Exchange {
     /// A message may have been lost from now on.

@@ -10,9 +10,8 @@ ghost use Rattle.exchange_rules.specs.Opening as rule;
 
 use super::Exchange;
 use exchange_rules::Wants;
-use link_alignment::Alignment;
-use link_sequence::Sequence;
-use stp_types::{Cause, FailureReason, LinkId, Outcome};
+use link::{Alignment, Sequence};
+use settings::{Cause, FailureReason, LinkId, Outcome};
 
 impl Exchange {
     /// What a link wants from its caller; Nothing if there is no such link.

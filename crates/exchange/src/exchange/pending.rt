@@ -3,7 +3,7 @@
 ghost use Rattle.std.specs.Prelude.{◌≡◌, if◌then◌else◌};
 ghost use Rattle.exchange.specs.Pending.{all_pending};
 
-use stp_types::SetId;
+use settings::SetId;
 
 /// Which updates for adjacent points may be pending, in the order of sets and, for a set, of destinations.
 #[derive(Clone, Copy, Drop)]

@@ -1,13 +1,13 @@
 //! What the settings say about links, about the points that sets lead to, and about destinations.
 
 ghost use Rattle.std.specs.Prelude.{◌≡◌, ◌<◌, length, IfOk};
-ghost use Rattle.stp_types.specs.Readings.{destination_place, set_place};
+ghost use Rattle.settings.specs.Readings.{destination_place, set_place};
 ghost use Rattle.exchange_rules.specs.Points as rule;
 ghost use Rattle.exchange_rules.specs.Points.{entry_of};
 
 use super::Exchange;
+use settings::{Cause, Limits, LinkId, Outcome, PointCode, SetId, Sls};
 use settings_rows::LinkRow;
-use stp_types::{Cause, Limits, LinkId, Outcome, PointCode, SetId, Sls};
 
 impl Exchange {
     /// The row of a link in the settings.

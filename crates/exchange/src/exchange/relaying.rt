@@ -13,10 +13,9 @@ ghost use Rattle.exchange_rules.specs.Exchange.{Ends};
 ghost use Rattle.exchange_rules.specs.Relaying as rule;
 
 use super::Exchange;
-use global_title::TitleKey;
-use routing_label::Label;
-use sccp_relay::{Own, Relayed, relay, returned};
-use stp_types::{Cause, Limits, MsuRef, Outcome, TitleRow};
+use mtp3_codec::Label;
+use sccp_relay::{Own, Relayed, TitleKey, relay, returned};
+use settings::{Cause, Limits, MsuRef, Outcome, TitleRow};
 
 impl Exchange {
     /// An SCCP message for this point: it is for a subsystem here, or goes on by the title of its called address. One

@@ -3,7 +3,7 @@
 ghost use Rattle.std.specs.Prelude.{◌≡◌, ◌&&◌, not, length};
 ghost use Rattle.exchange_rules.specs.State.{with_node, with_parts};
 ghost use Rattle.exchange.specs.KeptQueues.{kept, held_lane};
-ghost use Rattle.stp_types.specs.Readings.{destination_place};
+ghost use Rattle.settings.specs.Readings.{destination_place};
 ghost use Rattle.exchange_rules.specs.Holding.{is_held_at};
 ghost use Rattle.exchange.specs.Draining as draining;
 ghost use Rattle.exchange_rules.specs.Releasing as rule;
@@ -12,7 +12,7 @@ use super::Exchange;
 use super::head::Head;
 use super::lanes::{HELD, lane_of};
 use cell_pool::Lanes;
-use stp_types::Cause;
+use settings::Cause;
 
 impl Exchange {
     /// Releases messages that are no longer held. Unless a hold changed in the event, each message of Held still waits,

@@ -1,7 +1,7 @@
 //! What adjacent points say about routes, and what that does to flows.
 
 ghost use Rattle.std.specs.Prelude.{◌≡◌, ◌<◌, length};
-ghost use Rattle.stp_types.specs.Readings.{destination_place, set_place};
+ghost use Rattle.settings.specs.Readings.{destination_place, set_place};
 ghost use Rattle.exchange_rules.specs.State.{with_node, with_parts};
 ghost use Rattle.exchange.specs.KeptQueues.{kept};
 ghost use Rattle.exchange_rules.specs.Exchange.{Ends};
@@ -9,7 +9,7 @@ ghost use Rattle.exchange_rules.specs.Routing.{facts};
 ghost use Rattle.exchange_rules.specs.Ticking.{with_timers};
 ghost use Rattle.exchange_rules.specs.Made.{management_to};
 ghost use Rattle.exchange_rules.specs.Points.{adjacent_of, route_about};
-ghost use Rattle.route_table.specs.Statuses.{status_of};
+ghost use Rattle.routes.specs.Statuses.{status_of};
 ghost use Rattle.route_management.specs.Hearing.{heard};
 ghost use Rattle.exchange_rules.specs.Rerouting as rule;
 
@@ -17,11 +17,11 @@ use super::Exchange;
 use super::pending::Pending;
 use changeback::reroute;
 use flow_hold::Procedure;
-use mgmt_codec::Management;
+use mtp3_codec::Management;
 use route_management::Heard;
-use route_table::RouteStatus;
-use stp_types::{Outcome, PointCode, SetId};
-use timer_wheel::{RouteTimer, TimerName};
+use routes::RouteStatus;
+use settings::{Outcome, PointCode, SetId};
+use timers::{RouteTimer, TimerName};
 
 impl Exchange {
     /// A status that an adjacent point reports for another (Q.704 §13.2 to §13.4). It is ignored where the other is

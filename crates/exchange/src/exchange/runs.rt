@@ -16,8 +16,8 @@ use crate::event::{Answer, Call};
 use crate::frame_text::FrameText;
 use crate::memory::NoMemory;
 use m2pa_codec::BUFFER_OCTETS;
+use settings::LinkId;
 use std::alloc::Global;
-use stp_types::LinkId;
 
 impl Exchange {
     /// Makes calls in a row, and returns the answer to each.

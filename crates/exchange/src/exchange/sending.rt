@@ -2,7 +2,7 @@
 
 ghost use Rattle.std.specs.Prelude.{◌≡◌, ◌<◌, ◌≤◌, Some, false, length, is_some, IfSome};
 ghost use Rattle.cell_pool.specs.Lanes.{lane_at};
-ghost use Rattle.link_sequence.specs.Counts.{kept_last_accepted, kept_last_sent, kept_to_send, kept_sent_one};
+ghost use Rattle.link.specs.Counts.{kept_last_accepted, kept_last_sent, kept_to_send, kept_sent_one};
 ghost use Rattle.m2pa_codec.specs.Frames.{sif_of};
 ghost use Rattle.m2pa_codec.specs.Values.{value_of};
 ghost use Rattle.exchange_rules.specs.State.{with_node, with_parts};
@@ -15,10 +15,9 @@ use super::Exchange;
 use super::lanes::lane_of;
 use crate::frame_text::LONGEST_FRAME;
 use cell_pool::CellPool;
-use link_alignment::LinkTimer;
-use link_sequence::Sequence;
+use link::{LinkTimer, Sequence};
 use m2pa_codec::{BUFFER_OCTETS, Frame, LinkStatus, encode};
-use stp_types::{Limits, LinkId};
+use settings::{Limits, LinkId};
 
 impl Exchange {
     /// The next frame that goes out on a link, written to the front of `buffer`.

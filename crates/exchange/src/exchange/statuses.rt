@@ -4,18 +4,18 @@ ghost use Rattle.std.specs.Prelude.{◌≡◌, ◌<◌, length, true, false};
 ghost use Rattle.exchange_rules.specs.State.{with_node, with_parts};
 ghost use Rattle.exchange.specs.KeptQueues.{kept};
 ghost use Rattle.exchange_rules.specs.Exchange.{Ends};
-ghost use Rattle.route_table.specs.Facts.{with_link};
+ghost use Rattle.routes.specs.Facts.{with_link};
 ghost use Rattle.exchange_rules.specs.Links.{link_at, in_service};
 ghost use Rattle.exchange_rules.specs.Points.{set_of};
 ghost use Rattle.exchange_rules.specs.Routing.{facts};
 ghost use Rattle.exchange.specs.Entering.{entered, is_first_in, stepped_by};
-ghost use Rattle.link_alignment.specs.Table.{action_at};
+ghost use Rattle.link.specs.Table.{action_at};
 ghost use Rattle.exchange_rules.specs.Statuses as rule;
 
 use super::Exchange;
-use link_alignment::{Action, Alignment, Input, LinkTimer, Transition};
+use link::{Action, Alignment, Input, LinkTimer, Transition};
 use m2pa_codec::LinkStatus;
-use stp_types::{FailureReason, LinkId, Outcome};
+use settings::{FailureReason, LinkId, Outcome};
 
 impl Exchange {
     /// A link does what its alignment does about an input, and says what that is. If it is the first of its set to

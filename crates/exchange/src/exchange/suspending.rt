@@ -16,7 +16,7 @@ ghost use Rattle.exchange_rules.specs.Suspending.{suspended};
 use super::Exchange;
 use super::head::Head;
 use flow_hold::Procedure;
-use stp_types::{Limits, LinkId, Sls};
+use settings::{Limits, LinkId, Sls};
 
 impl Exchange {
     /// The changeover of a link holds each flow that takes it, and each that has a user message there that isn't

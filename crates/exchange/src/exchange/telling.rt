@@ -1,7 +1,7 @@
 //! What adjacent points are told about routes.
 
 ghost use Rattle.std.specs.Prelude.{◌≡◌, ◌<◌, true, false, length, Some, IfSome};
-ghost use Rattle.stp_types.specs.Readings.{destination_place, set_place};
+ghost use Rattle.settings.specs.Readings.{destination_place, set_place};
 ghost use Rattle.route_management.specs.Hearing as hearing;
 ghost use Rattle.route_management.specs.Owed.{status_to_advertise};
 ghost use Rattle.exchange_rules.specs.State.{with_node, with_parts};
@@ -17,11 +17,11 @@ ghost use Rattle.exchange.specs.Pending.{OwesNoneBefore, OwesNoneBut, OwesNoneUp
 use super::Exchange;
 use super::pending::Pending;
 use cell_pool::Lanes;
-use mgmt_codec::Management;
+use mtp3_codec::Management;
 use route_management::RouteTest;
-use route_table::RouteStatus;
-use stp_types::{LinkId, Outcome, PointCode, SetId};
-use timer_wheel::TimerName;
+use routes::RouteStatus;
+use settings::{LinkId, Outcome, PointCode, SetId};
+use timers::TimerName;
 
 /// Pending updates are queued while the node has fewer management messages than this.
 const TOLD_BELOW: usize = 128;

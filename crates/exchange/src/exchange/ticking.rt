@@ -7,9 +7,9 @@ ghost use Rattle.exchange_rules.specs.Exchange.{Ends};
 ghost use Rattle.exchange_rules.specs.Ticking as rule;
 
 use super::Exchange;
-use link_alignment::LinkTimer;
-use stp_types::{ChangeoverTimer, LinkId, Outcome, SetId};
-use timer_wheel::{TimerName, Timers};
+use link::LinkTimer;
+use settings::{ChangeoverTimer, LinkId, Outcome, SetId};
+use timers::{TimerName, Timers};
 
 impl Exchange {
     /// Lowers every timer by one, and runs those that are due.

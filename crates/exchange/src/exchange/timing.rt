@@ -1,15 +1,15 @@
 //! The timers of links.
 
 ghost use Rattle.std.specs.Prelude.{◌≡◌};
-ghost use Rattle.timer_wheel.specs.Timers.{start_unless_running};
+ghost use Rattle.timers.specs.Timers.{start_unless_running};
 ghost use Rattle.exchange_rules.specs.State.{with_node};
 ghost use Rattle.exchange_rules.specs.Ticking.{with_timers};
 ghost use Rattle.exchange_rules.specs.Timing as rule;
 
 use super::Exchange;
-use link_alignment::{LinkTimer, Transition};
-use stp_types::{LinkId, TimerTicks};
-use timer_wheel::{TimerName, Timers};
+use link::{LinkTimer, Transition};
+use settings::{LinkId, TimerTicks};
+use timers::{TimerName, Timers};
 
 impl Exchange {
     /// A step of a link's alignment stops one timer and starts another.

@@ -7,13 +7,13 @@ ghost use Rattle.exchange.specs.Stands.{StandsFor};
 ghost use Rattle.exchange.specs.KeptQueues.{kept};
 ghost use Rattle.exchange_rules.specs.Queues.{whole};
 ghost use Rattle.exchange_rules.specs.Places.{HasPlacesFor};
-ghost use Rattle.global_title.specs.Rows.{IsOrdered};
+ghost use Rattle.sccp_relay.specs.Rows.{IsOrdered};
 ghost use Rattle.exchange.specs.Views.{link_view, route_view};
 
 use super::Exchange;
 use crate::view::{LinkStanding, LinkView, RouteView, status_shown};
 use circular_buffer::HeapCircularBuffer;
-use stp_types::{LinkId, Notice, Settings, TitleRow};
+use settings::{LinkId, Notice, Settings, TitleRow};
 
 impl Exchange {
     /// The settings that the exchange was booted with.

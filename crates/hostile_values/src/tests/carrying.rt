@@ -5,12 +5,12 @@ use super::{octet, octets, word};
 use exchange::{Event, Exchange, Wants};
 use lab::{Carried, carry};
 use m2pa_codec::Framer;
+use settings::{LinkId, Outcome};
 use std::alloc::Global;
 use std::process::Abort;
 use std::string::String;
 use std::test::*;
 use stp_node::{MemorySink, MemorySource};
-use stp_types::{LinkId, Outcome};
 
 /// The near and the far link, the octets that the framer holds, those that the source gives, and how many writes of the
 /// sink succeed. Then what became of the frame, how many octets were written, and whether the near and the far node's

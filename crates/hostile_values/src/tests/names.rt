@@ -2,11 +2,11 @@
 
 use super::pairs::draft;
 use super::text;
+use settings::{LinkDraft, Settings};
 use std::alloc::Global;
 use std::process::Abort;
 use std::string::String;
 use std::test::*;
-use stp_types::{LinkDraft, Settings};
 
 /// The links of both nodes, each with its name and its signalling link code, and whether the nodes face each other and
 /// name their links alike.

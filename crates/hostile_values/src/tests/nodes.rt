@@ -7,12 +7,12 @@ use arrayvec::ArrayString;
 use console::{LINE_OCTETS, show_links, show_notices, show_routes, show_titles};
 use exchange::{BUFFER_OCTETS, Event, Exchange, Order, TitleKey, Wants};
 use rows::{ABSENT, FRAMES, MANAGEMENT, SHOWN, SUBMITTED, TITLES};
+use settings::{LinkId, MsuRef, Notice, Outcome, PointCode, Settings, TitleRoute, TitleRow};
 use std::alloc::Global;
 use std::process::Abort;
 use std::string::String;
 use std::test::*;
 use stp_node::built_in;
-use stp_types::{LinkId, MsuRef, Notice, Outcome, PointCode, Settings, TitleRoute, TitleRow};
 
 /// So many octets stand in front of a message in its frame: both headers and the priority octet (RFC 4165 §2).
 const IN_FRONT_OF_MESSAGE: usize = 17;

@@ -2,11 +2,11 @@
 
 use super::octets;
 use console::{Parsed, parse_order};
+use settings::Settings;
 use std::alloc::Global;
 use std::process::Abort;
 use std::test::*;
 use stp_node::built_in;
-use stp_types::Settings;
 
 /// What stands in front of a text that is given by its octets.
 const OCTETS: &str = "octets ";

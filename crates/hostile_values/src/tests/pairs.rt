@@ -2,12 +2,12 @@
 
 use super::{octet, octets, refused, shown, word};
 use pair_world::{End, Pair, Step};
+use settings::{DestinationDraft, Draft, LinkId, Msu, Settings};
 use std::alloc::Global;
 use std::process::Abort;
 use std::string::String;
 use std::test::*;
 use stp_node::built_in;
-use stp_types::{DestinationDraft, Draft, LinkId, Msu, Settings};
 
 /// Links that aren't there, nothing in flight, and messages that no user part of an end sends to the other.
 const ROWS: &str = "\

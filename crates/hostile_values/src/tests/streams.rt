@@ -2,11 +2,11 @@
 
 use super::{octets, text, word};
 use m2pa_codec::{Framer, Next, decode};
+use settings::Limits;
 use std::alloc::Global;
 use std::process::Abort;
 use std::string::String;
 use std::test::*;
-use stp_types::Limits;
 
 /// Texts that are read as frames, pieces of a stream, and what stands in front of it.
 const ROWS: &str = "\

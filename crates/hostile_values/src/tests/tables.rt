@@ -1,13 +1,12 @@
 //! What tries and tables of translation rows answer to digits that no row has.
 
 use super::{digits, index, octet, refused, some, text, word};
-use digit_trie::Trie;
-use global_title::{TitleKey, Translations};
+use sccp_relay::{TitleKey, Translations, Trie};
+use settings::{PointCode, TitleRoute, TitleRow};
 use std::alloc::Global;
 use std::process::Abort;
 use std::string::String;
 use std::test::*;
-use stp_types::{PointCode, TitleRoute, TitleRow};
 
 /// The row of the table: translation type 0, plan 1, nature 4, digits 49. The trie has a value at its digits.
 const ROW: [u8; 2] = [4, 9];

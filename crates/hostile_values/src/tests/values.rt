@@ -1,10 +1,10 @@
 //! Which numbers and octets are values.
 
 use super::{octet, octets, word};
+use settings::{Msu, PointCode, Sls, Ssn};
 use std::alloc::Global;
 use std::process::Abort;
 use std::test::*;
-use stp_types::{Msu, PointCode, Sls, Ssn};
 
 /// A value, and whether there is one.
 const ROWS: &str = "\

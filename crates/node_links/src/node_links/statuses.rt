@@ -1,12 +1,12 @@
 //! The statuses of a node's routes.
 
 ghost use Rattle.std.specs.Prelude.{◌≡◌};
-ghost use Rattle.route_table.specs.Statuses.{status_of};
+ghost use Rattle.routes.specs.Statuses.{status_of};
 ghost use Rattle.node_links.specs.Network.{facts_of};
 ghost use Rattle.node_links.specs.Statuses.{with_route_status, with_statuses_reset};
 
 use super::NodeLinks;
-use route_table::RouteStatus;
+use routes::RouteStatus;
 use signalling_types::SetId;
 
 impl NodeLinks {

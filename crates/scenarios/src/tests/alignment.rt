@@ -2,10 +2,10 @@
 
 use super::statuses::status_frame;
 use exchange::{BUFFER_OCTETS, Event, Exchange, Wants};
+use settings::{LinkId, Msu, Notice, Outcome, Settings};
 use std::alloc::Global;
 use std::process::Abort;
 use stp_node::built_in;
-use stp_types::{LinkId, Msu, Notice, Outcome, Settings};
 
 /// User Data without a message, before any message.
 const EMPTY: [u8; 16] = [

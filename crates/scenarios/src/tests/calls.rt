@@ -3,9 +3,9 @@
 use super::statuses::{STATUS_OCTETS, status_frame};
 use super::{POOL, booted};
 use exchange::{Answer, Call, Event, Exchange, Order, Wants};
+use settings::{FrameFault, LinkId, Msu, MsuRef, Notice, Outcome};
 use std::alloc::Global;
 use std::process::Abort;
-use stp_types::{FrameFault, LinkId, Msu, MsuRef, Notice, Outcome};
 
 /// A frame with a message from point 2 to point 300, the first of its link. It confirms the first that went out.
 const COMES: [u8; 24] = [

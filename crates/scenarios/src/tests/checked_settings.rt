@@ -1,11 +1,11 @@
 //! What checking settings answers: the built-in settings with one change, row by row.
 
+use settings::{DestinationDraft, Draft, LinkDraft, SetDraft, Settings, TitleDraft};
 use std::alloc::Global;
 use std::process::Abort;
 use std::string::String;
 use std::test::*;
 use stp_node::built_in;
-use stp_types::{DestinationDraft, Draft, LinkDraft, SetDraft, Settings, TitleDraft};
 
 /// A key with its values, and what checking the settings then answers. The words of an entry stand
 /// between slashes, the sets of a destination between commas.

@@ -1,11 +1,11 @@
 //! Which nodes face each other.
 
 use super::checked_settings::make;
+use settings::Settings;
 use std::alloc::Global;
 use std::process::Abort;
 use std::test::*;
 use stp_node::built_in;
-use stp_types::Settings;
 
 /// Two nodes, each by its changes to the built-in settings, and whether they face each other.
 const ROWS: &str = "\

@@ -1,19 +1,19 @@
 //! Labs whose streams, script or output fail. What a lab does else is in the transcripts.
 
 ghost use Rattle.std.specs.Prelude.{◌≡◌};
-ghost use Rattle.stp_types.specs.Facing.{IsFacing};
-ghost use Rattle.stp_types.specs.Naming.{link_names};
+ghost use Rattle.settings.specs.Facing.{IsFacing};
+ghost use Rattle.settings.specs.Naming.{link_names};
 
 use super::facing::node;
 use super::streams::Endless;
 use super::{compare, end_of, joiner};
 use exchange::Exchange;
 use lab::{JoinFault, Joiner, run_lab};
+use settings::Settings;
 use std::alloc::Global;
 use std::process::Abort;
 use std::test::*;
 use stp_node::{MemorySink, MemorySource, ScriptFault, Sink, Source};
-use stp_types::Settings;
 
 /// How the near node differs from the built-in settings: one link leads to point 2.
 const NEAR: &str = "destination 2/east";

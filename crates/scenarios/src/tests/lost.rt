@@ -2,11 +2,11 @@
 
 use super::compare;
 use exchange::Exchange;
+use settings::{LinkDraft, Settings};
 use std::alloc::Global;
 use std::process::Abort;
 use std::string::String;
 use stp_node::{MemorySink, MemorySource, built_in, run_script};
-use stp_types::{LinkDraft, Settings};
 
 /// Two links to point 2 come into service. The second one takes flows over from the first, and its declaration (CBD)
 /// goes there.

@@ -2,9 +2,9 @@
 
 use super::facing::node;
 use pair_world::{End, Pair, PairFault, Step};
+use settings::{LinkId, Msu, Outcome, Settings};
 use std::alloc::Global;
 use std::test::*;
-use stp_types::{LinkId, Msu, Outcome, Settings};
 
 /// How the near node differs from the built-in settings: three links lead to point 2.
 const NEAR: &str = "link e0/east/0 e1/east/1 e2/east/2; destination 2/east";

@@ -1,7 +1,7 @@
 //! Lines with a point, where points are written in three parts: 4237 is 2 * 2048 + 17 * 8 + 5.
 
 use arrayvec::ArrayVec;
-use console_caller::{LINE_OCTETS, POINT_LINE_OCTETS, line_in_numbers, line_in_parts};
+use console_session::{LINE_OCTETS, POINT_LINE_OCTETS, line_in_numbers, line_in_parts};
 use std::alloc::Global;
 use std::process::Abort;
 use trace::PointFormat;

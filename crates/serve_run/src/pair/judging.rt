@@ -2,9 +2,9 @@
 
 use super::Pair;
 use crate::station::LINKS;
-use link_counters::LinkCounters;
+use served_link::LinkCounters;
+use settings::LinkId;
 use std::io;
-use stp_types::LinkId;
 
 impl Pair {
     /// How many messages each end had taken.

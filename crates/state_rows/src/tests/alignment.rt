@@ -1,7 +1,7 @@
 //! The table of a link's states, cell by cell.
 
 use arrayvec::ArrayString;
-use link_alignment::{Action, Alignment, Input, LinkTimer, Transition};
+use link::{Action, Alignment, Input, LinkTimer, Transition};
 use m2pa_codec::LinkStatus;
 use std::fmt::{Debug, Write};
 use std::test::*;

@@ -7,7 +7,7 @@ use super::sequences::{fill_up, number, sends, sent};
 use super::word;
 use cell_pool::{CellPool, Lanes, RingLanes};
 use changeover::{Beginning, Changeover, complete, count_in_doubt};
-use link_sequence::Sequence;
+use link::Sequence;
 use signalling_types::{ChangeoverTimer, Limits, LinkId};
 use std::alloc::{AllocError, Global};
 use std::test::*;

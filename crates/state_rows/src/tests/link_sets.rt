@@ -3,7 +3,7 @@
 ghost use Rattle.std.specs.Prelude.{◌≤◌, ◌+◌, length};
 ghost use Rattle.signalling_types.specs.declared.limits.TheConstants.Limits;
 
-use linkset::{LinkGroup, LinkSet, Member};
+use routes::{LinkGroup, LinkSet, Member};
 use settings_rows::LinkRow;
 use signalling_types::{Limits, LinkId, SetId, Sls};
 use std::alloc::{AllocError, Global};

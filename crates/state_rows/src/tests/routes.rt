@@ -1,7 +1,7 @@
 //! Which set and which link the flows to a destination take.
 
 use arrayvec::ArrayVec;
-use route_table::{RouteStatus, Routes};
+use routes::{RouteStatus, Routes};
 use settings_rows::{DestinationRow, LinkRow};
 use signalling_types::{LinkId, PointCode, SetId, Sls};
 use std::alloc::{AllocError, Global};

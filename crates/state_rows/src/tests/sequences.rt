@@ -4,9 +4,8 @@ ghost use Rattle.std.specs.Prelude.{◌<◌};
 
 use super::messages::{ISUP, counts, push};
 use cell_pool::{CellPool, Lanes, RingLanes};
-use link_number::Number24;
-use link_sequence::{SeqFault, Sequence};
-use signalling_types::Limits;
+use link::{SeqFault, Sequence};
+use signalling_types::{Limits, Number24};
 use std::test::*;
 
 pub(super) fn number(value: u32) -> Number24 {

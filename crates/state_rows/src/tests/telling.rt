@@ -1,11 +1,11 @@
 //! What adjacent points are owed, on two link sets that both lead to one destination.
 
 use arrayvec::ArrayVec;
-use link_alignment::{Input, LinkTimer};
+use link::{Input, LinkTimer};
 use m2pa_codec::LinkStatus;
 use node_links::NodeLinks;
 use route_management::{Heard, RouteTest, Told};
-use route_table::RouteStatus;
+use routes::RouteStatus;
 use settings_rows::{DestinationRow, LinkRow, SetRow};
 use signalling_types::{LinkId, PointCode, SetId};
 use std::alloc::{AllocError, Global};

@@ -4,7 +4,7 @@ use super::word;
 use signalling_types::{LinkId, SetId};
 use std::alloc::{AllocError, Global};
 use std::test::*;
-use timer_wheel::{NodeCounts, TimerName, Timers};
+use timers::{NodeCounts, TimerName, Timers};
 
 /// Four timers that run out in one tick, set out of order; a fifth that was set again, and one that was stopped. Of
 /// those that are started unless they run only L6 didn't.

@@ -6,7 +6,7 @@ use crate::node::Node;
 use mio::Registry;
 use mio::net::TcpStream;
 use serve_settings::Endpoint;
-use serve_timing::LONGEST_WAIT;
+use served_link::LONGEST_WAIT;
 use std::mem;
 use std::net::{Net, SocketAddr};
 use std::time::Duration;

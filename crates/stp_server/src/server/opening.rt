@@ -9,11 +9,11 @@ use crate::node::Node;
 use mio::net::TcpListener;
 use mio::{Events, Interest, Poll};
 use serve_settings::Endpoint;
+use settings::{LinkId, Settings};
 use std::alloc::Global;
 use std::net::{Net, SocketAddr};
 use std::time::Duration;
 use stp_node::Sink;
-use stp_types::{LinkId, Settings};
 use trace::PointFormat;
 
 impl Server {

@@ -2,7 +2,7 @@
 use Rattle.std.proofs.Common.{◌≡◌, ◌∙◌, ℕ, List, ap, sym, arith, length, slice_index_or}
 use Rattle.std.specs.Prelude.{Option, None, nat_lt}
 use Rattle.std.proofs.lemmas.List.{get_or_default}
-use Rattle.route_table.specs.Chosen.{chosen_link}
+use Rattle.routes.specs.Chosen.{chosen_link}
 use Rattle.node_links.specs.Network.{facts_of}
 use Rattle.changeback.specs.Rerouting.{is_other_link, held_for}
 use Rattle.changeback.proofs.Rerouted.{none_moved, held_more, moved_more}

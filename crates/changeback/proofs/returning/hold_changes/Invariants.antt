@@ -1,6 +1,6 @@
 -- The flows to as many destinations are held as the loop has gone round.
 use Rattle.std.proofs.Common.{◌≡◌, false}
-use Rattle.route_table.specs.Facts.{with_link}
+use Rattle.routes.specs.Facts.{with_link}
 use Rattle.node_links.specs.Network.{facts_of}
 use Rattle.changeback.specs.Return.{changes, held_by}
 use Rattle.changeback.proofs.returning.hold_changes.Given as goal

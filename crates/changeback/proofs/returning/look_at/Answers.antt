@@ -1,7 +1,7 @@
 -- A destination loses nothing more where its pair of sets was looked at; else its links are marked.
 use Rattle.std.proofs.Common.{◌≡◌, ◌||◌, Bool, false, List, ℕ, ap, sym, ◌∙◌, subst, slice_index_or}
-use Rattle.route_table.specs.Facts.{with_link}
-use Rattle.route_table.specs.Chosen.{lone_set}
+use Rattle.routes.specs.Facts.{with_link}
+use Rattle.routes.specs.Chosen.{lone_set}
 use Rattle.node_links.specs.Network.{Network, facts_of}
 use Rattle.signalling_types.specs.declared.limits.TheConstants.Limits.{SELECTIONS}
 use Rattle.changeback.specs.Return.{changes_of, gives_up}

@@ -1,7 +1,7 @@
 -- One more destination is looked at.
 use Rattle.std.proofs.Common.{refl, ap, ◌∙◌, Bool, List, ℕ, arith, replicate, false, subst, sym}
 use Rattle.signalling_types.specs.declared.limits.TheConstants.Limits.{LINKS}
-use Rattle.route_table.specs.Facts.{with_link}
+use Rattle.routes.specs.Facts.{with_link}
 use Rattle.node_links.specs.Network.{facts_of}
 use Rattle.changeback.specs.Return.{changes, gives_up}
 use Rattle.changeback.specs.Seen.{IsSeen}

@@ -1,6 +1,6 @@
 -- The flows of as many selections are marked as the loop has gone round.
 use Rattle.std.proofs.Common.{◌≡◌, ℕ, ◌||◌, false, slice_index_or}
-use Rattle.route_table.specs.Facts.{with_link}
+use Rattle.routes.specs.Facts.{with_link}
 use Rattle.node_links.specs.Network.{facts_of}
 use Rattle.changeback.specs.Return.{changes_of, gives_up}
 use Rattle.changeback.proofs.returning.mark_losing.Given as goal

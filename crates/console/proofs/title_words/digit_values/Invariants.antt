@@ -1,8 +1,8 @@
 -- The digits so far were read, and whether all are digits is told by those that are left.
 use Rattle.std.proofs.Common.{◌≡◌, ◌<◌, ◌^◌, All, map, take, drop}
 use Rattle.std.specs.List.{list_all}
-use Rattle.settings_check.specs.Checks.{is_digit}
-use Rattle.settings_check.specs.Meaning.{digit_of}
+use Rattle.settings.specs.Checks.{is_digit}
+use Rattle.settings.specs.Meaning.{digit_of}
 use Rattle.console.proofs.title_words.digit_values.Given as goal
 
 abbrev pub invariant-loop-octet : goal.invariant-loop-octet

@@ -1,5 +1,5 @@
 use Rattle.std.proofs.Common.{◌≡◌, ◌++◌, map, take, drop}
-use Rattle.route_table.specs.declared.route.RouteStatus.TheVariants.{Allowed}
+use Rattle.routes.specs.declared.route.RouteStatus.TheVariants.{Allowed}
 use Rattle.route_management.proofs.row.allow_all.Given as goal
 
 abbrev pub invariant-loop-status : goal.invariant-loop-status

@@ -1,5 +1,5 @@
 use Rattle.std.proofs.Common.{inl, inr, refl}
-use Rattle.settings.specs.Faults.{no_memory}
+use Rattle.settings_file.specs.Faults.{no_memory}
 use Rattle.stp_node.proofs.program.run_built_in.Goals as goal
 
 pub returns-in-Ok : goal.returns-in-Ok

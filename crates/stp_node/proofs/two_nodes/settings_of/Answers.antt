@@ -1,5 +1,5 @@
 use Rattle.std.proofs.Common.{Ok, inl, inr, refl}
-use Rattle.settings.specs.Faults.{no_memory}
+use Rattle.settings_file.specs.Faults.{no_memory}
 use Rattle.stp_node.proofs.two_nodes.settings_of.Goals as goal
 
 pub returns-clause-ended : goal.returns-clause-ended

@@ -2,7 +2,7 @@
 use Rattle.std.proofs.Common.{◌≡◌, ◌+◌, ℕ, suc, List, [], length, replicate, ap, sym, subst, refl, ◌∙◌, arith}
 use Rattle.std.proofs.lemmas.List.{length-replicate, length-map}
 use Rattle.signalling_types.specs.Message.{Message}
-use Rattle.link_sequence.specs.Counts.{kept_first}
+use Rattle.link.specs.Counts.{kept_first}
 use Rattle.changeover.specs.Standing.{no_changeover}
 use Rattle.node_links.specs.LinkState.{down_link}
 use Rattle.node_links.specs.Network.{Network, facts_of}
@@ -10,7 +10,7 @@ use Rattle.cell_pool.specs.Lanes.{lane_at}
 use Rattle.exchange.specs.KeptQueues.{held_lane}
 use Rattle.exchange_rules.specs.Holding.{all_wait}
 use Rattle.cell_pool.specs.Stored.{Stored}
-use Rattle.route_table.specs.Facts.{first_routes}
+use Rattle.routes.specs.Facts.{first_routes}
 use Rattle.exchange_rules.specs.Places.{HasHoldsFor, HasCodes}
 use Rattle.exchange_rules.proofs.Places.{no_codes-fits, no_holds-fits}
 use Rattle.exchange.specs.declared.exchange.pending.Pending.{Pending}

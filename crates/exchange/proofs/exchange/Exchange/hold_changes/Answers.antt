@@ -1,6 +1,6 @@
 -- Each link, set and destination has its places still.
 use Rattle.std.proofs.Common.{false, sym, subst}
-use Rattle.route_table.specs.Facts.{with_link}
+use Rattle.routes.specs.Facts.{with_link}
 use Rattle.node_links.specs.Network.{facts_of}
 use Rattle.changeback.specs.Return.{returned}
 use Rattle.exchange_rules.specs.Places.{HasHoldsFor}

@@ -1,8 +1,8 @@
 -- What was told keeps its shape, and anything may be pending.
 use Rattle.std.proofs.Common.{length, map, ap, sym, subst, ◌∙◌}
 use Rattle.std.proofs.lemmas.List.{length-map}
-use Rattle.route_table.specs.declared.route.RouteStatus.TheVariants.{Allowed}
-use Rattle.route_table.specs.Facts as facts
+use Rattle.routes.specs.declared.route.RouteStatus.TheVariants.{Allowed}
+use Rattle.routes.specs.Facts as facts
 use Rattle.node_links.specs.Network.{Network, facts_of}
 use Rattle.route_management.specs.Told.{shape_of}
 use Rattle.route_management.proofs.Shape.{reset_shape}

@@ -1,6 +1,6 @@
 -- Where nothing may be pending, nothing is owed.
 use Rattle.std.proofs.Common.{ap, sym}
-use Rattle.route_table.specs.Facts.{Facts}
+use Rattle.routes.specs.Facts.{Facts}
 use Rattle.route_management.specs.Told.{ToldTable}
 use Rattle.route_management.proofs.Settled.{nothing_is_listed, owes_nothing_from_none}
 use Rattle.exchange_rules.specs.State.{State, Node, with_node}

@@ -1,7 +1,7 @@
 -- A point that can't be reached is owed nothing.
 use Rattle.std.proofs.Common.{List, ap, sym, ◌∙◌}
-use Rattle.linkset.specs.Preference.{has_link}
-use Rattle.route_table.specs.Facts.{Facts, set_at}
+use Rattle.routes.specs.Preference.{has_link}
+use Rattle.routes.specs.Facts.{Facts, set_at}
 use Rattle.route_management.specs.Owed.{Owed}
 use Rattle.route_management.proofs.Walking.{unreached_is_owed_nothing}
 use Rattle.exchange_rules.specs.State.{State, with_node}

@@ -1,7 +1,7 @@
 -- The routes know which links are in service, before and after.
 use Rattle.std.proofs.Common.{ap, ◌∙◌, false}
-use Rattle.linkset.specs.Preference.{has_link}
-use Rattle.route_table.specs.Facts.{Facts, set_at, with_link}
+use Rattle.routes.specs.Preference.{has_link}
+use Rattle.routes.specs.Facts.{Facts, set_at, with_link}
 use Rattle.node_links.specs.Network.{facts_of}
 use Rattle.node_links.proofs.Chosen.{facts_kept}
 use Rattle.node_links.proofs.node_links.NodeLinks.has_link_without.Goals as goal

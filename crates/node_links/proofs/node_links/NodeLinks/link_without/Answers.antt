@@ -1,7 +1,7 @@
 -- The routes know which links are in service, before and after.
 use Rattle.std.proofs.Common.{ap, ◌∙◌, false}
-use Rattle.route_table.specs.Facts.{Facts, with_link}
-use Rattle.route_table.specs.Chosen.{chosen_link}
+use Rattle.routes.specs.Facts.{Facts, with_link}
+use Rattle.routes.specs.Chosen.{chosen_link}
 use Rattle.node_links.specs.Network.{facts_of}
 use Rattle.node_links.proofs.Chosen.{facts_kept, other_is_there}
 use Rattle.node_links.proofs.node_links.NodeLinks.link_without.Goals as goal

@@ -1,7 +1,7 @@
 -- The routes know which links are in service.
 use Rattle.std.proofs.Common.{ap, ◌∙◌}
-use Rattle.route_table.specs.Facts.{Facts}
-use Rattle.route_table.specs.Chosen.{lone_set}
+use Rattle.routes.specs.Facts.{Facts}
+use Rattle.routes.specs.Chosen.{lone_set}
 use Rattle.node_links.specs.Network.{facts_of}
 use Rattle.node_links.proofs.Chosen.{facts_kept}
 use Rattle.node_links.proofs.node_links.NodeLinks.lone_set.Goals as goal

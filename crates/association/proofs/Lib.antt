@@ -1,5 +1,0 @@
-pub mod Handing
-pub mod InOrder
-pub mod OneRead
-pub mod Pieces
-pub mod Standing

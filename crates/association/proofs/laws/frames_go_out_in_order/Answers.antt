@@ -1,5 +1,0 @@
-use Rattle.association.proofs.InOrder.{in_order}
-use Rattle.association.proofs.laws.frames_go_out_in_order.Goals as goal
-
-pub returns : goal.returns
-returns c = in_order

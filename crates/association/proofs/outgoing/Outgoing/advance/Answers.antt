@@ -1,7 +1,0 @@
-use Rattle.association.proofs.Pieces.{advanced}
-use Rattle.association.proofs.outgoing.Outgoing.advance.Goals as goal
-
-pub returns : goal.returns
-returns c =
-    let o = c.self.inside in
-    advanced o.buffer o.written o.end c.args.count c.args.self.now c.self.invariant.ordered c.self.invariant.within c.self.view_is c.requires

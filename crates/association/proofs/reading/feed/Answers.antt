@@ -1,7 +1,0 @@
-use Rattle.std.proofs.Common.{refl}
-use Rattle.association.proofs.Handing.{feeds}
-use Rattle.association.proofs.reading.feed.Goals as goal
-
-pub returns : goal.returns
-returns c =
-    feeds c.args.framer.now c.args.octets.now _ c.feed-count.new.self c.feed-count.result c.requires.waits c.requires.room c.requires.some c.feed-count.ensures.count c.feed-count.ensures.held refl

@@ -1,0 +1,86 @@
+-- The words behind the program's name, and what they ask for.
+use Rattle.std.specs.Prelude.{◌≡◌, ◌⊎◌, ◌&&◌, ℕ, Bool, true, false, not, nat_eq, List, [], ◌∷◌, Option, None, Some, map}
+use Rattle.std.specs.Prelude.{if◌then◌else◌}
+use Rattle.std.specs.Prelude.{codes, bytes_eq, string_bytes, String}
+use Rattle.std.specs.Global.{Global}
+use Rattle.std.specs.List.{list_all}
+use Rattle.clap.specs.Words.{Row, Text, first_of}
+use Rattle.command_line.specs.declared.Words.{Words}
+use Rattle.command_line.specs.declared.Words.TheVariants as words
+
+-- run a script, on the built-in settings or on those of a file; check a file; run a lab script on the settings of two
+-- files; serve a node with the settings of a file; anything else
+pub data Task : Type 0 where
+  BuiltInRun : Task
+  FileRun : List ℕ → Task
+  FileCheck : List ℕ → Task
+  LabRun : (near far : List ℕ) → Task
+  FileServe : List ℕ → Task
+  OtherWords : Task
+
+-- a plain word isn't empty, and doesn't begin with `-` (45)
+abbrev pub is_plain : List ℕ → Bool
+is_plain [] = false
+is_plain (first ∷ rest) = not (nat_eq first 45)
+
+-- `run FILE`, `check FILE` and `serve FILE`
+abbrev pub asked_with : List ℕ → List ℕ → Task
+asked_with command file =
+    if bytes_eq command (codes "run") then FileRun file
+    else (if bytes_eq command (codes "check") then FileCheck file
+    else (if bytes_eq command (codes "serve") then FileServe file else OtherWords))
+
+-- `lab NEAR FAR`
+abbrev pub asked_with_two : List ℕ → (near far : List ℕ) → Task
+asked_with_two command near far = if bytes_eq command (codes "lab") then LabRun near far else OtherWords
+
+-- `run`, `run FILE`, `check FILE`, `serve FILE` and `lab NEAR FAR`, and nothing else
+abbrev pub asked_by : List (List ℕ) → Task
+asked_by (command ∷ []) = if bytes_eq command (codes "run") then BuiltInRun else OtherWords
+asked_by (command ∷ file ∷ []) = if is_plain file then asked_with command file else OtherWords
+asked_by (command ∷ near ∷ far ∷ []) =
+    if is_plain near && is_plain far then asked_with_two command near far else OtherWords
+asked_by _ = OtherWords
+
+abbrev pub texts : List (String Global) → List (List ℕ)
+texts words = map (λ word. string_bytes word) words
+
+abbrev pub asked : List (String Global) → Task
+asked words = asked_by (texts words)
+
+-- what the command that was parsed asks for, by the file behind it
+abbrev pub asked_by_command : List ℕ → Option (List ℕ) → Task
+asked_by_command command None = if bytes_eq command (codes "run") then BuiltInRun else OtherWords
+asked_by_command command (Some file) = asked_with command file
+
+-- what `lab` asks for that was parsed, by the files behind it
+abbrev pub asked_by_lab : (near far : Option (List ℕ)) → Task
+asked_by_lab (Some near) (Some far) = LabRun near far
+asked_by_lab near far = OtherWords
+
+-- what a command asks for that was parsed, by the files behind it
+abbrev pub found_by : List ℕ → (file near far : Option (List ℕ)) → Task
+found_by command file near far =
+    if bytes_eq command (codes "lab") then asked_by_lab near far else asked_by_command command file
+
+abbrev pub found : Option (Text × List Row) → Task
+found None = OtherWords
+found (Some p) = found_by p.0 (first_of (codes "file") p.1) (first_of (codes "near") p.1) (first_of (codes "far") p.1)
+
+abbrev pub are_plain : List (String Global) → Bool
+are_plain words = list_all (λ word. is_plain (string_bytes word)) words
+
+-- what words were read as, where memory didn't run out
+abbrev pub said : Words → Option Task
+said (words.Run None) = Some BuiltInRun
+said (words.Run (Some file)) = Some (FileRun (string_bytes file))
+said (words.Check file) = Some (FileCheck (string_bytes file))
+said (words.Lab near far) = Some (LabRun (string_bytes near) (string_bytes far))
+said (words.Serve file) = Some (FileServe (string_bytes file))
+said words.Usage = Some OtherWords
+said words.NoMemory = None
+
+-- words were read as the task that they ask for; or they are plain, and memory ran out
+abbrev pub AreReadAs : List (String Global) → Words → Type 0
+AreReadAs given read =
+    (said read ≡ Some (asked given)) ⊎ ((read ≡ words.NoMemory) × (are_plain given ≡ true))

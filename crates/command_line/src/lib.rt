@@ -1,0 +1,196 @@
+//! The words behind the program's name.
+#![tactic(auto)]
+
+ghost use Rattle.std.specs.Prelude.{◌≡◌, ◌≢◌, IfOk, IfErr, Some, option_map, true, false};
+ghost use Rattle.std.specs.List.{list_all};
+ghost use Rattle.clap.specs.Words.{app_of, kind_of, subcommand_rows_of};
+ghost use Rattle.clap.specs.declared.builder.command.Command.TheViews.{out-Command as fields_of};
+ghost use Rattle.clap.specs.declared.error.kind.ErrorKind.TheVariants.{OutOfMemory};
+ghost use Rattle.command_line.specs.Words.{asked, asked_by_command, asked_by_lab, are_plain, found, found_by, is_plain, said};
+ghost use Rattle.command_line.specs.Words.{OtherWords, AreReadAs};
+ghost use Rattle.command_line.specs.Grammar.{stp, bare, run, check, lab, serve};
+
+use clap::error::ErrorKind;
+use clap::{Arg, ArgMatches, Command, Error};
+use std::alloc::{AllocError, Global};
+
+/// What the words behind the program's name ask for.
+#[derive(Drop)]
+pub enum Words {
+    /// `run` or `run FILE`: run the script on standard input, on the settings of this file, or on those built in.
+    Run(Option<String>),
+    /// `check FILE`: tell whether the settings of this file have a fault.
+    Check(String),
+    /// `lab NEAR FAR`: run the lab script on standard input, on two nodes with the settings of these files.
+    Lab(String, String),
+    /// `serve FILE`: serve a node on the network with the settings of this file.
+    Serve(String),
+    /// Any other words.
+    Usage,
+    /// Memory ran out.
+    NoMemory,
+}
+
+/// What the words behind the program's name ask for. Words of which one is empty or begins with `-` are other words,
+/// and no memory is taken for them; of all others memory may run out.
+pub fn read_words(alloc: Global, words: &[String]) -> Words
+    ensures { AreReadAs words.now result }
+{
+    if !are_plain(words) {
+        return Words::Usage;
+    }
+    match parse(alloc, words) {
+        Ok(matches) => match found(alloc, &matches) {
+            Ok(words) => words,
+            Err(_) => Words::NoMemory,
+        },
+        Err(error) if error.kind() == ErrorKind::OutOfMemory => Words::NoMemory,
+        Err(_) => Words::Usage,
+    }
+}
+
+/// Whether no word is empty or begins with `-`.
+fn are_plain(words: &[String]) -> bool
+    ensures { result ≡ are_plain words.now }
+{
+    words.iter().all(|word| is_plain(word.as_str()))
+}
+
+/// Whether a word isn't empty and doesn't begin with `-`.
+fn is_plain(word: &str) -> bool
+    ensures { result ≡ is_plain word.now }
+{
+    match word.as_bytes() {
+        [] | [b'-', ..] => false,
+        _ => true,
+    }
+}
+
+/// Parses plain words. Where they are others than those of the program, or where memory runs out, the parse fails.
+fn parse<'a>(alloc: Global, words: &'a [String]) -> Result<ArgMatches<'a>, Error>
+    requires { are_plain words.now ≡ true }
+    ensures taken { IfOk result (λ matches. found (subcommand_rows_of matches) ≡ asked words.now) }
+    ensures refused { IfErr result (λ error. kind_of error ≢ OutOfMemory → asked words.now ≡ OtherWords) }
+{
+    stp(alloc)?.try_get_matches_from(words)
+}
+
+/// What the words ask for that were parsed so.
+fn found(alloc: Global, matches: &ArgMatches<'_>) -> Result<Words, AllocError>
+    ensures { IfOk result (λ read. said read ≡ Some (found (subcommand_rows_of matches.now))) }
+{
+    match matches.subcommand() {
+        Some((command, inner)) => {
+            let file = inner.get_str("file");
+            let near = inner.get_str("near");
+            let far = inner.get_str("far");
+            with_files(alloc, command, file, near, far)
+        }
+        None => Ok(Words::Usage),
+    }
+}
+
+/// What a command asks for, by the files behind it.
+fn with_files(
+    alloc: Global,
+    command: &str,
+    file: Option<&str>,
+    near: Option<&str>,
+    far: Option<&str>,
+) -> Result<Words, AllocError>
+    ensures { IfOk result (λ read. said read ≡ Some (found_by command.now (option_map (λ name. name.now) file.entry)
+        (option_map (λ name. name.now) near.entry) (option_map (λ name. name.now) far.entry))) }
+{
+    if command == "lab" {
+        with_two_files(alloc, near, far)
+    } else {
+        with_file(alloc, command, file)
+    }
+}
+
+/// What a command asks for, by the file behind it.
+fn with_file(alloc: Global, command: &str, file: Option<&str>) -> Result<Words, AllocError>
+    ensures { IfOk result (λ read.
+        said read ≡ Some (asked_by_command command.now (option_map (λ name. name.now) file.entry))) }
+{
+    match (command, file) {
+        ("run", None) => Ok(Words::Run(None)),
+        ("run", Some(file)) => Ok(Words::Run(Some(String::from_str(alloc, file)?))),
+        ("check", Some(file)) => Ok(Words::Check(String::from_str(alloc, file)?)),
+        ("serve", Some(file)) => Ok(Words::Serve(String::from_str(alloc, file)?)),
+        _ => Ok(Words::Usage),
+    }
+}
+
+/// What `lab` asks for, by the files behind it.
+fn with_two_files(alloc: Global, near: Option<&str>, far: Option<&str>) -> Result<Words, AllocError>
+    ensures { IfOk result (λ read. said read
+        ≡ Some (asked_by_lab (option_map (λ name. name.now) near.entry) (option_map (λ name. name.now) far.entry))) }
+{
+    match (near, far) {
+        (Some(near), Some(far)) => Ok(Words::Lab(
+            String::from_str(alloc, near)?,
+            String::from_str(alloc, far)?,
+        )),
+        _ => Ok(Words::Usage),
+    }
+}
+
+/// The program's command line.
+fn stp<'a>(alloc: Global) -> Result<Command<'a>, AllocError>
+    ensures { IfOk result (λ command. app_of command ≡ stp) }
+{
+    bare(alloc)
+        .subcommand(run(alloc)?)?
+        .subcommand(check(alloc)?)?
+        .subcommand(lab(alloc)?)?
+        .subcommand(serve(alloc)?)
+}
+
+/// A command line of commands, of which one is needed, without words for help.
+fn bare<'a>(alloc: Global) -> Command<'a>
+    ensures app { app_of result ≡ bare }
+    ensures local { (fields_of result).has_globals ≡ false }
+{
+    Command::new(alloc, "stp")
+        .no_binary_name(true)
+        .disable_help_flag(true)
+        .disable_help_subcommand(true)
+        .subcommand_required(true)
+}
+
+/// `run [FILE]`.
+fn run<'a>(alloc: Global) -> Result<Command<'a>, AllocError>
+    ensures app { IfOk result (λ command. app_of command ≡ run) }
+    ensures local { IfOk result (λ command. (fields_of command).has_globals ≡ false) }
+{
+    Command::new(alloc, "run").arg(Arg::new(alloc, "file"))
+}
+
+/// `check FILE`.
+fn check<'a>(alloc: Global) -> Result<Command<'a>, AllocError>
+    ensures app { IfOk result (λ command. app_of command ≡ check) }
+    ensures local { IfOk result (λ command. (fields_of command).has_globals ≡ false) }
+{
+    let file = Arg::new(alloc, "file").required(true);
+    Command::new(alloc, "check").arg(file)
+}
+
+/// `lab NEAR FAR`.
+fn lab<'a>(alloc: Global) -> Result<Command<'a>, AllocError>
+    ensures app { IfOk result (λ command. app_of command ≡ lab) }
+    ensures local { IfOk result (λ command. (fields_of command).has_globals ≡ false) }
+{
+    let near = Arg::new(alloc, "near").required(true);
+    let far = Arg::new(alloc, "far").required(true);
+    Command::new(alloc, "lab").arg(near)?.arg(far)
+}
+
+/// `serve FILE`.
+fn serve<'a>(alloc: Global) -> Result<Command<'a>, AllocError>
+    ensures app { IfOk result (λ command. app_of command ≡ serve) }
+    ensures local { IfOk result (λ command. (fields_of command).has_globals ≡ false) }
+{
+    let file = Arg::new(alloc, "file").required(true);
+    Command::new(alloc, "serve").arg(file)
+}

@@ -1,0 +1,21 @@
+//! Lines of a script that a caller writes.
+
+ghost use Rattle.std.specs.Prelude.{◌≡◌};
+ghost use Rattle.stp_node.specs.Asking.{asked_line};
+ghost use Rattle.console_session.specs.Answers.{IsAnswered};
+
+use exchange::Exchange;
+use stp_node::{Line, Sink, WriteFailed, perform, print};
+
+/// Does a line of a script, and prints what a script prints for it.
+pub fn do_script_line<W: Sink>(
+    exchange: &mut Exchange,
+    line: Line<'_>,
+    writer: &mut W,
+) -> Result<(), WriteFailed>
+    ensures { IsAnswered (asked_line line.entry) exchange.old result exchange.new
+        (W.output writer.old) (W.output writer.new) }
+{
+    let reply = perform(exchange, line);
+    print(exchange, &reply, writer)
+}

@@ -1,0 +1,293 @@
+//! One caller.
+
+ghost use Rattle.std.specs.Prelude.{◌≡◌, ◌≢◌, ℕ, ◌+◌, ◌<◌, ◌≤◌, Bool, true, false, List, [], ◌∷◌, ◌++◌};
+ghost use Rattle.std.specs.Prelude.{length, take, drop};
+ghost use Rattle.exchange.specs.KeptQueues.{kept};
+ghost use Rattle.stp_node.specs.Asking.{asked_line};
+ghost use Rattle.stp_node.specs.Doing.{done};
+ghost use Rattle.console_session.specs.Answers.{IsAnswered};
+ghost use Rattle.console_session.specs.Callers.{just_came, sees_of, told_of, OnlyOutboxChanges};
+ghost use Rattle.console_session.specs.Callers.{line_feed, without_return, EndsNoLine, IsOneLine};
+ghost use Rattle.console_session.specs.WholeLines.{DoesLine, IsAnsweredBy, ending_of, output_of};
+ghost use Rattle.console_session.specs.declared.outbox.TheConstants.{OUTBOX_OCTETS};
+
+use crate::answering::do_script_line;
+use crate::command::{ConsoleLine, parse_console_line};
+use crate::counting::print_counters;
+use crate::help::HELP;
+use crate::outbox::Outbox;
+use crate::pointing::{PointSink, line_in_numbers};
+use arrayvec::ArrayVec;
+use exchange::Exchange;
+use served_link::Counters;
+use std::alloc::Global;
+use std::marker::Model;
+use std::mem;
+use stp_node::{Grown, Line, Malformed, OpenLine, Sink, WriteFailed};
+use trace::PointFormat;
+
+/// Octets of a line of a caller, at most, without the line feed that ends it: as many as in a script.
+pub const LINE_OCTETS: usize = 8300;
+
+/// What may stand in front of the line feed.
+const CARRIAGE_RETURN: u8 = b'\r';
+
+/// The answer to a line that isn't one of a caller's.
+const MALFORMED: &[u8] = b"malformed: help lists the lines\n";
+
+/// The answer to a line that asks to be told something from now on.
+const WATCHING: &[u8] = b"handled\n";
+
+/// The answer to `stop`.
+const STOPPING: &[u8] = b"stopping\n";
+
+/// What a caller is told from the time on at which it asks for it.
+#[derive(Clone, Copy, Debug, PartialEq, Eq)]
+pub enum News {
+    /// A message for this point.
+    Message,
+    /// A notice.
+    Notice,
+    /// A frame.
+    Frame,
+}
+
+/// What becomes of a caller.
+#[derive(Clone, Copy, Debug, PartialEq, Eq)]
+pub enum Ending {
+    /// Its connection stays open.
+    Stays,
+    /// Its connection is to be closed: a line was too long, or there was no room for what it is told.
+    Closes,
+    /// It asked the node to stop.
+    Stops,
+}
+
+/// What the lines of callers are done on.
+#[derive(Drop)]
+pub struct Desk<'a> {
+    /// The node.
+    pub exchange: &'a mut Exchange,
+    /// The counters of its links.
+    pub counters: &'a Counters,
+    /// How point codes are read and shown.
+    pub points: PointFormat,
+}
+
+/// A caller of the console: the line that it is writing, what waits to be written to it, and what it is told.
+#[derive(Drop)]
+pub struct Caller {
+    line: OpenLine,
+    outbox: Outbox,
+    sees_messages: bool,
+    sees_notices: bool,
+    sees_frames: bool,
+}
+
+impl Model for Caller {
+    ghost use Rattle.console_session.specs.Callers.{CallerState};
+
+    ghost Value = { CallerState };
+
+    ghost view = { λ c. record {
+      line = c.line.octets;
+      outbox = c.outbox;
+      sees_messages = c.sees_messages;
+      sees_notices = c.sees_notices;
+      sees_frames = c.sees_frames;
+    } };
+}
+
+impl Caller {
+    /// A caller that just came.
+    pub fn new(alloc: Global) -> Caller
+        ensures { result ≡ just_came }
+    {
+        Caller {
+            line: OpenLine::first(),
+            outbox: Outbox::new(alloc),
+            sees_messages: false,
+            sees_notices: false,
+            sees_frames: false,
+        }
+    }
+
+    /// Takes octets that came, up to the end of the first line in them, and does that line. If no line ends in them, it
+    /// takes them all, but for those behind the octet that makes the line too long. Returns how many it took, and what
+    /// becomes of the caller.
+    pub fn read(&mut self, octets: &[u8], desk: &mut Desk<'_>) -> (usize, Ending)
+        ensures within { result.0 ≤ length octets.now }
+        ensures one_line { IsOneLine (take result.0 octets.now) }
+        // So whoever calls it again with the octets that are left comes to their end.
+        ensures some { 0 < length octets.now → 0 < result.0 }
+        // Octets that end no line, and for which the line has room, only make it longer.
+        ensures longer { EndsNoLine octets.now → length self.old.line + length octets.now ≤ LINE_OCTETS
+            → self.new ≡ record self.old { line = self.old.line ++ octets.now } }
+        ensures stays { EndsNoLine octets.now → length self.old.line + length octets.now ≤ LINE_OCTETS
+            → result ≡ (length octets.now, Ending.Stays) }
+        ensures too_long { (front behind : List ℕ) → octets.now ≡ front ++ behind → EndsNoLine front → 0 < length front
+            → LINE_OCTETS < length self.old.line + length front → result.1 ≡ Ending.Closes }
+        // They do nothing to the node, and don't stop it.
+        ensures still { EndsNoLine octets.now → desk.new.exchange.now ≡ desk.old.exchange.now }
+        ensures goes_on { EndsNoLine octets.now → result.1 ≢ Ending.Stops }
+        // How points are read, and the counters, stay whatever comes.
+        ensures points { desk.new.points ≡ desk.old.points }
+        ensures counters { desk.new.counters.now ≡ desk.old.counters.now }
+        // A line that comes to its end, and isn't too long, is done.
+        ensures done { (front behind : List ℕ) → octets.now ≡ front ++ line_feed ∷ behind → EndsNoLine front
+            → length self.old.line + length front ≤ LINE_OCTETS
+            → (result.0 ≡ length front + 1)
+            × DoesLine desk.old.points (without_return (self.old.line ++ front)) desk.old.counters.now result.1
+            desk.old.exchange.now desk.new.exchange.now
+            (record self.old { line = [] }) self.new }
+    {
+        for (k, octet) in octets.iter().enumerate() {
+            match self.line.add(*octet) {
+                Grown::Open => {}
+                Grown::TooLong => return (k + 1, Ending::Closes),
+                Grown::Whole => return (k + 1, self.end_line(desk)),
+            }
+        }
+        (octets.len(), Ending::Stays)
+    }
+
+    /// Does the line that just ended, and begins the next one.
+    fn end_line(&mut self, desk: &mut Desk<'_>) -> Ending
+        ensures points { desk.new.points ≡ desk.old.points }
+        ensures counters { desk.new.counters.now ≡ desk.old.counters.now }
+        ensures done { DoesLine desk.old.points (without_return self.old.line)
+            desk.old.counters.now result desk.old.exchange.now desk.new.exchange.now
+            (record self.old { line = [] }) self.new }
+    {
+        let line = mem::replace(&mut self.line, OpenLine::first());
+        match self.do_line(without_return(line.octets()), desk) {
+            Ok(ending) => ending,
+            Err(WriteFailed) => Ending::Closes,
+        }
+    }
+
+    /// Does a whole line. The error means that there is no room for its answer.
+    fn do_line(&mut self, line: &[u8], desk: &mut Desk<'_>) -> Result<Ending, WriteFailed>
+        ensures points { desk.new.points ≡ desk.old.points }
+        ensures counters { desk.new.counters.now ≡ desk.old.counters.now }
+        ensures done { DoesLine desk.old.points line.now desk.old.counters.now
+            (ending_of result) desk.old.exchange.now desk.new.exchange.now self.old self.new }
+    {
+        let mut room = ArrayVec::new();
+        let line = line_in_numbers(line, desk.points, &mut room);
+        match parse_console_line(line) {
+            Ok(ConsoleLine::Skipped) => {}
+            Ok(ConsoleLine::Script(line)) => self.do_script(line, desk)?,
+            Ok(ConsoleLine::Counters) => {
+                print_counters(desk.exchange, desk.counters, &mut self.outbox)?;
+            }
+            Ok(ConsoleLine::Help) => self.answer(HELP)?,
+            Ok(ConsoleLine::Users) => self.begin(News::Message)?,
+            Ok(ConsoleLine::Notices) => self.begin(News::Notice)?,
+            Ok(ConsoleLine::Frames) => self.begin(News::Frame)?,
+            Ok(ConsoleLine::Stop) => {
+                self.answer(STOPPING)?;
+                return Ok(Ending::Stops);
+            }
+            Err(Malformed) => self.answer(MALFORMED)?,
+        }
+        Ok(Ending::Stays)
+    }
+
+    /// Does a line of a script, and answers what a script prints for it.
+    fn do_script(&mut self, line: Line<'_>, desk: &mut Desk<'_>) -> Result<(), WriteFailed>
+        ensures points { desk.new.points ≡ desk.old.points }
+        ensures counters { desk.new.counters.now ≡ desk.old.counters.now }
+        ensures same { OnlyOutboxChanges self.old self.new }
+        ensures answer { desk.old.points ≡ PointFormat.Plain → IsAnswered (asked_line line.entry) desk.old.exchange.now
+            result desk.new.exchange.now (output_of self.old.outbox) (output_of self.new.outbox) }
+        ensures done { (lacks_memory : Bool)
+            × (desk.new.exchange.now ≡ done kept lacks_memory (asked_line line.entry) desk.old.exchange.now) }
+    {
+        match desk.points {
+            PointFormat::Plain => do_script_line(desk.exchange, line, &mut self.outbox),
+            PointFormat::ThreeEightThree => {
+                let mut sink = PointSink::new(&mut self.outbox);
+                do_script_line(desk.exchange, line, &mut sink)
+            }
+        }
+    }
+
+    /// Answers a text.
+    fn answer(&mut self, text: &[u8]) -> Result<(), WriteFailed>
+        ensures { IsAnsweredBy text.now result self.old self.new }
+    {
+        self.outbox.write(text)
+    }
+
+    /// The caller is told such news from now on.
+    fn begin(&mut self, news: News) -> Result<(), WriteFailed>
+        ensures { IsAnsweredBy WATCHING.now result (told_of self.old news) self.new }
+    {
+        match news {
+            News::Message => self.sees_messages = true,
+            News::Notice => self.sees_notices = true,
+            News::Frame => self.sees_frames = true,
+        }
+        self.answer(WATCHING)
+    }
+
+    /// Whether the caller asked for such news.
+    pub fn sees(&self, news: News) -> bool
+        ensures { result ≡ sees_of self.now news }
+    {
+        match news {
+            News::Message => self.sees_messages,
+            News::Notice => self.sees_notices,
+            News::Frame => self.sees_frames,
+        }
+    }
+
+    /// Tells the caller news, where it asked for such. It is to be closed where there is no room for them.
+    pub fn tell(&mut self, news: News, line: &[u8]) -> Ending
+        ensures unasked { sees_of self.old news ≡ false → self.new ≡ self.old }
+        ensures stays { sees_of self.old news ≡ false → result ≡ Ending.Stays }
+        ensures told { sees_of self.old news ≡ true → result ≡ Ending.Stays
+            → self.new.outbox.octets ≡ self.old.outbox.octets ++ line.now }
+        ensures full { sees_of self.old news ≡ true
+            → OUTBOX_OCTETS < length self.old.outbox.octets + length line.now → result ≡ Ending.Closes }
+        ensures refused { result ≡ Ending.Closes → self.new.outbox.octets ≡ self.old.outbox.octets }
+        ensures goes_on { result ≢ Ending.Stops }
+        ensures same { OnlyOutboxChanges self.old self.new }
+    {
+        if !self.sees(news) {
+            return Ending::Stays;
+        }
+        match self.outbox.write(line) {
+            Ok(()) => Ending::Stays,
+            Err(WriteFailed) => Ending::Closes,
+        }
+    }
+
+    /// What waits to be written to the caller.
+    pub fn pending(&self) -> &[u8]
+        ensures { result.now ≡ self.now.outbox.octets }
+    {
+        self.outbox.pending()
+    }
+
+    /// So many of the octets that wait were written, from the first on; no more can have been than wait.
+    pub fn written(&mut self, count: usize)
+        ensures { self.new ≡ record self.old {
+          outbox = record self.old.outbox { octets = drop count self.old.outbox.octets };
+        } }
+    {
+        let waiting = self.outbox.pending().len();
+        self.outbox.written(count.min(waiting));
+    }
+}
+
+/// A line without the carriage return at its end, where it has one.
+fn without_return(line: &[u8]) -> &[u8]
+    ensures { result.now ≡ without_return line.now }
+{
+    match line {
+        [front @ .., CARRIAGE_RETURN] => front,
+        _ => line,
+    }
+}

@@ -1,0 +1,107 @@
+//! The text of the counters.
+
+ghost use Rattle.std.specs.Prelude.{◌++◌, ◌≤◌, ◌≡◌, codes, length, OnOk, OnErr};
+ghost use Rattle.std.specs.Io.KnownBytes.{Appends};
+ghost use Rattle.stp_node.specs.Streams.{AppendsFirst, failures_after};
+ghost use Rattle.console_session.specs.Counters.{counters_text, each_counter, link_text, row_text};
+ghost use Rattle.std.specs.Option.{option_copied};
+ghost use Rattle.served_link.specs.Lines.{counter_line};
+
+use arrayvec::ArrayString;
+use console::link_name;
+use exchange::Exchange;
+use served_link::{Counter, Counters, LINE_OCTETS, LinkCounters, write_counter};
+use settings::{Limits, LinkId};
+use stp_node::{Sink, WriteFailed};
+
+/// Prints the counters of each link, in the order of the settings: a line for each counter.
+pub fn print_counters<W: Sink>(
+    exchange: &Exchange,
+    counters: &Counters,
+    writer: &mut W,
+) -> Result<(), WriteFailed>
+    ensures all { OnOk result (Appends (W.output writer.old).written (W.output writer.new).written
+        (counters_text exchange.now counters.now)) }
+    ensures first { OnErr result (AppendsFirst (W.output writer.old).written (W.output writer.new).written
+        (counters_text exchange.now counters.now)) }
+    ensures counted { (W.output writer.new).failures ≡ failures_after (W.output writer.old).failures result }
+{
+    let settings = exchange.settings();
+    for k in 0..settings.link_count() {
+        let link = LinkId::new(k as u8);
+        print_row(link_name(settings, link), counters.row(link), writer)?;
+    }
+    Ok(())
+}
+
+/// Prints the counters of the link of this name, where it has some.
+#[tactic(auto, using(crate::proofs::Counted::text_steps))]
+fn print_row<W: Sink>(
+    name: &str,
+    row: Option<&LinkCounters>,
+    writer: &mut W,
+) -> Result<(), WriteFailed>
+    requires { length name.now ≤ Limits.NAME_OCTETS }
+    ensures all { OnOk result (Appends (W.output writer.old).written (W.output writer.new).written
+        (row_text name.now (option_copied row.entry))) }
+    ensures first { OnErr result (AppendsFirst (W.output writer.old).written (W.output writer.new).written
+        (row_text name.now (option_copied row.entry))) }
+    ensures counted { (W.output writer.new).failures ≡ failures_after (W.output writer.old).failures result }
+{
+    match row {
+        Some(row) => print_link(name, row, writer),
+        None => Ok(()),
+    }
+}
+
+/// Prints the counters of the link of this name.
+fn print_link<W: Sink>(name: &str, row: &LinkCounters, writer: &mut W) -> Result<(), WriteFailed>
+    requires { length name.now ≤ Limits.NAME_OCTETS }
+    ensures all { OnOk result (Appends (W.output writer.old).written (W.output writer.new).written
+        (link_text name.now row.now)) }
+    ensures first { OnErr result (AppendsFirst (W.output writer.old).written (W.output writer.new).written
+        (link_text name.now row.now)) }
+    ensures counted { (W.output writer.new).failures ≡ failures_after (W.output writer.old).failures result }
+{
+    print_each(&Counter::ALL, name, row, writer)
+}
+
+/// Prints some counters of the link of this name.
+fn print_each<W: Sink>(
+    counters: &[Counter],
+    name: &str,
+    row: &LinkCounters,
+    writer: &mut W,
+) -> Result<(), WriteFailed>
+    requires { length name.now ≤ Limits.NAME_OCTETS }
+    ensures all { OnOk result (Appends (W.output writer.old).written (W.output writer.new).written
+        (each_counter name.now row.now counters.now)) }
+    ensures first { OnErr result (AppendsFirst (W.output writer.old).written (W.output writer.new).written
+        (each_counter name.now row.now counters.now)) }
+    ensures counted { (W.output writer.new).failures ≡ failures_after (W.output writer.old).failures result }
+{
+    for (k, counter) in counters.iter().enumerate() {
+        print_counter(*counter, name, row.get(*counter), writer)?;
+    }
+    Ok(())
+}
+
+/// Prints the line of a counter.
+fn print_counter<W: Sink>(
+    counter: Counter,
+    name: &str,
+    value: u64,
+    writer: &mut W,
+) -> Result<(), WriteFailed>
+    requires { length name.now ≤ Limits.NAME_OCTETS }
+    ensures all { OnOk result (Appends (W.output writer.old).written (W.output writer.new).written
+        (counter_line counter name.now value ++ codes "\n")) }
+    ensures first { OnErr result (AppendsFirst (W.output writer.old).written (W.output writer.new).written
+        (counter_line counter name.now value ++ codes "\n")) }
+    ensures counted { (W.output writer.new).failures ≡ failures_after (W.output writer.old).failures result }
+{
+    let mut line = ArrayString::<LINE_OCTETS>::new();
+    write_counter(counter, name, value, &mut line);
+    writer.write(line.as_bytes())?;
+    writer.write(b"\n")
+}

@@ -1,6 +1,0 @@
-use Rattle.std.proofs.Common.{◌≡◌, ◌<◌, length, take, Some}
-use Rattle.digit_trie.specs.Nodes.{child, reached, root}
-use Rattle.digit_trie.proofs.trie.node_of.Given as goal
-
-abbrev pub invariant-loop-digit : goal.invariant-loop-digit
-invariant-loop-digit l = (reached (child l.nodes) root (take l.digit-index l.digits) ≡ Some l.at) × (l.at < length l.nodes)

@@ -1,9 +1,0 @@
--- The faults of a trie, by number.
-use Rattle.std.specs.Prelude.{ℕ}
-use Rattle.digit_trie.specs.declared.fault.TrieFault.{TrieFault}
-use Rattle.digit_trie.specs.declared.fault.TrieFault.TheVariants.{Present, NoMemory}
-
--- a fault's number
-abbrev pub fault_number : TrieFault → ℕ
-fault_number Present = 1
-fault_number NoMemory = 2

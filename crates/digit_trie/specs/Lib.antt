@@ -1,4 +1,0 @@
-pub mod Faults
-pub mod Digits
-pub mod Nodes
-pub mod Inside

@@ -1,9 +1,0 @@
-pub mod RowOrder
-pub mod LongestRow
-pub mod TableRows
-pub mod OneRow
-pub mod SortedRows
-pub mod OtherRows
-pub mod RowWays
-pub mod Translating
-pub mod KeyRows

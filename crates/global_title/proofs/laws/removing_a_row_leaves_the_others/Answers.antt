@@ -1,8 +1,0 @@
-use Rattle.global_title.proofs.OtherRows.{gone, left}
-use Rattle.global_title.proofs.laws.removing_a_row_leaves_the_others.Goals as goal
-
-pub returns-clause-own : goal.returns-clause-own
-returns-clause-own c = gone
-
-pub returns-clause-others : goal.returns-clause-others
-returns-clause-others c = left

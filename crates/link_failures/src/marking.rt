@@ -1,0 +1,50 @@
+//! How messages carry their marks.
+
+use crate::node_settings::{INTERNATIONAL, ISUP};
+use exchange::Label;
+use message_marks::Mark;
+use settings::{Limits, Msu, PointCode, Sls};
+
+/// Octets of a routing label, which stands in front of each message (Q.704 §2.2).
+const LABEL_OCTETS: usize = 4;
+
+/// How many flows there are to a point: one for each signalling link selection.
+pub(crate) const FLOWS: u8 = Limits::SELECTIONS as u8;
+
+/// The message of a mark from a point to another: two octets behind the label have its number.
+pub(crate) fn message_of(mark: Mark, own: u16, adjacent: u16) -> Option<Msu> {
+    let label = Label {
+        dpc: PointCode::new(adjacent)?,
+        opc: PointCode::new(own)?,
+        sls: Sls::new(mark.flow)?,
+    };
+    let [a, b, c, d] = label.write();
+    let [high, low] = mark.number.to_be_bytes();
+    Msu::new(INTERNATIONAL << 6 | ISUP, &[a, b, c, d, high, low]).ok()
+}
+
+/// The mark of a message.
+pub(crate) fn mark_of(message: &Msu) -> Option<Mark> {
+    let label = Label::read(message.sif())?;
+    let number = message.sif().get(LABEL_OCTETS..)?;
+    Some(Mark {
+        flow: label.sls.number(),
+        number: u16::from_be_bytes(*number.first_chunk::<2>()?),
+    })
+}
+
+/// The place of a mark where all stand by their numbers, and by their flows.
+pub(crate) fn place_of(mark: Mark) -> usize {
+    mark.number as usize * FLOWS as usize + mark.flow as usize
+}
+
+/// How many of these marks are of a flow.
+pub(crate) fn count_of_flow(flow: u8, marks: &[Mark]) -> u16 {
+    let mut count = 0u16;
+    for mark in marks {
+        if mark.flow == flow {
+            count = count.wrapping_add(1);
+        }
+    }
+    count
+}

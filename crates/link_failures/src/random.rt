@@ -1,0 +1,121 @@
+//! Schedules by chance.
+
+use crate::dice::Dice;
+use crate::marking::FLOWS;
+use crate::rounds::{Clock, bring_up, open_all, prove_links, settle};
+use crate::total::Total;
+use crate::world::World;
+use pair_world::End;
+use settings::LinkId;
+use std::alloc::Global;
+
+/// So many steps each schedule has.
+const STEPS: usize = 400;
+
+/// So many times the links come back behind it, so that all that is waiting arrives.
+const RETURNS: usize = 3;
+
+/// So many schedules over so many links.
+pub(crate) fn schedules(alloc: Global, links: u8, count: u64) -> Total {
+    let mut total = Total::NOTHING;
+    for run in 0..count {
+        play(alloc, links, Dice::of_run(run), &mut total);
+    }
+    total
+}
+
+/// One run: a schedule, and what arrives behind it.
+fn play(alloc: Global, links: u8, dice: Dice, total: &mut Total) {
+    let Some(mut world) = total.begin(alloc, links) else {
+        return;
+    };
+    let up = bring_up(&mut world);
+    take_steps(&mut world, dice);
+    settle(&mut world, Clock::STILL);
+    let settled = bring_back(&mut world);
+    total.end(alloc, world, up && settled);
+}
+
+/// The steps of a schedule.
+fn take_steps(world: &mut World, dice: Dice) {
+    let mut dice = dice;
+    for _ in 0..STEPS {
+        step(world, &mut dice);
+    }
+}
+
+/// A step.
+fn step(world: &mut World, dice: &mut Dice) {
+    let chance = dice.below(200);
+    let link = LinkId::new(dice.below(world.links()));
+    let end = thrown_end(dice);
+    match chance {
+        0..=39 => world.submit(end, dice.below(FLOWS)),
+        40..=187 => frame_or_loss(world, chance, end, link),
+        188..=190 => world.tick(end, 1),
+        191 => world.reset(end, link),
+        _ => reopen(world, link),
+    }
+}
+
+/// An end by chance.
+fn thrown_end(dice: &mut Dice) -> End {
+    if dice.below(2) == 0 {
+        End::One
+    } else {
+        End::Two
+    }
+}
+
+/// A frame is sent or comes, or a link is lost.
+fn frame_or_loss(world: &mut World, chance: u8, end: End, link: LinkId) {
+    if chance <= 109 {
+        world.take(end, link);
+    } else if chance <= 184 {
+        world.deliver(end, link);
+    } else {
+        world.lose(end, link);
+    }
+}
+
+/// A link that is down at one end is lost at the other, and opens where both ends want it.
+fn reopen(world: &mut World, link: LinkId) {
+    lose_halves(world, link);
+    world.open(link);
+}
+
+/// A link that is down at one end is lost at the other.
+fn lose_halves(world: &mut World, link: LinkId) {
+    if world.is_down(End::One, link) {
+        world.lose(End::Two, link);
+    }
+    if world.is_down(End::Two, link) {
+        world.lose(End::One, link);
+    }
+}
+
+/// All links that can come back do, several times. Says whether all came to rest behind that.
+fn bring_back(world: &mut World) -> bool {
+    let mut settled = false;
+    for _ in 0..RETURNS {
+        settled = bring_back_once(world);
+    }
+    settled
+}
+
+/// All links that can come back do, and rounds pass until one does nothing. Says whether one did nothing.
+fn bring_back_once(world: &mut World) -> bool {
+    lose_all_halves(world);
+    settle(world, Clock::STILL);
+    open_all(world);
+    settle(world, Clock::STILL);
+    prove_links(world);
+    settle(world, Clock::STILL)
+}
+
+/// Each link that is down at one end is lost at the other.
+fn lose_all_halves(world: &mut World) {
+    for link in 0..world.links() {
+        lose_halves(world, LinkId::new(link));
+    }
+}

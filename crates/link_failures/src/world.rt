@@ -1,0 +1,244 @@
+//! Two nodes, what is done to them, and what they accepted.
+
+use crate::joined::Joined;
+use crate::marking::{count_of_flow, message_of};
+use crate::node_settings::{POINT_ONE, POINT_TWO};
+use message_marks::{Mark, is_accepted};
+use pair_world::{End, Step};
+use settings::{LinkId, Msu, Outcome};
+use std::alloc::Global;
+use std::marker::Model;
+
+/// Two nodes with some links between them. Most of what changes it says whether something came of it.
+#[derive(Drop)]
+pub(crate) struct World {
+    nodes: Joined,
+    links: u8,
+    /// How many frames were taken.
+    frames: u64,
+    /// Whether memory ran out: then not each step was taken.
+    starved: bool,
+    one: Book,
+    two: Book,
+}
+
+impl Model for World {
+    ghost Value = { Unit {0} };
+
+    ghost view = { λ _. tt };
+}
+
+/// What an end submitted, and how much of it came.
+#[derive(Drop)]
+pub(crate) struct Book {
+    /// The messages that were accepted, in order.
+    pub accepted: Vec<Mark>,
+    /// So many messages had come to the other end when neither end had yet said that one may be lost.
+    pub once: usize,
+    /// So many had come when, besides, this end hadn't yet said that one may be late.
+    pub in_order: usize,
+}
+
+impl World {
+    /// Two nodes with so many links, before their first step. None where memory ran out.
+    pub(crate) fn new(alloc: Global, links: u8) -> Option<World> {
+        Some(World {
+            nodes: Joined::new(alloc, links)?,
+            links,
+            frames: 0,
+            starved: false,
+            one: Book::new(alloc),
+            two: Book::new(alloc),
+        })
+    }
+
+    /// How many links there are.
+    pub(crate) fn links(&self) -> u8 {
+        self.links
+    }
+
+    /// How many frames were taken.
+    pub(crate) fn frames(&self) -> u64 {
+        self.frames
+    }
+
+    /// Whether memory ran out.
+    pub(crate) fn is_starved(&self) -> bool {
+        self.starved
+    }
+
+    /// What an end submitted.
+    pub(crate) fn book(&self, end: End) -> &Book {
+        match end {
+            End::One => &self.one,
+            End::Two => &self.two,
+        }
+    }
+
+    /// The messages that an end received.
+    pub(crate) fn received(&self, end: End) -> &[Msu] {
+        self.nodes.received(end)
+    }
+
+    /// Whether an end says that a message may be lost.
+    pub(crate) fn may_have_lost(&self) -> bool {
+        self.nodes.lost_any(End::One) || self.nodes.lost_any(End::Two)
+    }
+
+    /// Whether an end says that a message may be late.
+    pub(crate) fn may_be_late(&self) -> bool {
+        self.nodes.late_any(End::One) || self.nodes.late_any(End::Two)
+    }
+
+    /// Whether a link is down at an end.
+    pub(crate) fn is_down(&self, end: End, link: LinkId) -> bool {
+        self.nodes.is_down(end, link)
+    }
+
+    /// Whether as many messages came as were accepted, or an end says that one may be lost.
+    pub(crate) fn has_brought_all(&self) -> bool {
+        self.may_have_lost()
+            || self.received(End::Two).len() == self.one.accepted.len()
+                && self.received(End::One).len() == self.two.accepted.len()
+    }
+}
+
+impl World {
+    /// Takes a step. It is ignored where memory runs out.
+    fn turn(&mut self, step: Step) -> Outcome {
+        let outcome = self.nodes.turn(step);
+        self.note_received();
+        match outcome {
+            Some(outcome) => outcome,
+            None => {
+                self.starved = true;
+                Outcome::Ignored
+            }
+        }
+    }
+
+    /// Takes a step, and says whether it wasn't ignored.
+    fn act(&mut self, step: Step) -> bool {
+        !is_ignored(&self.turn(step))
+    }
+
+    /// An end sends the next frame of a link.
+    pub(crate) fn take(&mut self, end: End, link: LinkId) -> bool {
+        let taken = self.act(Step::Take(end, link));
+        if taken {
+            self.frames = self.frames.wrapping_add(1);
+        }
+        taken
+    }
+
+    /// The first frame on a link to an end comes.
+    pub(crate) fn deliver(&mut self, end: End, link: LinkId) -> bool {
+        self.act(Step::Deliver(end, link))
+    }
+
+    /// An end loses the association of a link.
+    pub(crate) fn lose(&mut self, end: End, link: LinkId) -> bool {
+        self.act(Step::Lose(end, link))
+    }
+
+    /// A link opens, where both ends want it to.
+    pub(crate) fn open(&mut self, link: LinkId) -> bool {
+        self.act(Step::Open(link))
+    }
+
+    /// So many ticks pass at an end.
+    pub(crate) fn tick(&mut self, end: End, count: u8) {
+        for _ in 0..count {
+            self.act(Step::Tick(end));
+        }
+    }
+
+    /// An operator keeps a link from opening, and lets it open again.
+    pub(crate) fn reset(&mut self, end: End, link: LinkId) {
+        self.act(Step::Deactivate(end, link));
+        self.act(Step::Activate(end, link));
+    }
+
+    /// An end submits its next message on a flow.
+    pub(crate) fn submit(&mut self, end: End, flow: u8) {
+        let mark = self.book(end).next_mark(flow);
+        let (own, adjacent) = points(end);
+        // There is one of each mark, since the points and the flow are in range.
+        let Some(message) = message_of(mark, own, adjacent) else {
+            return;
+        };
+        let outcome = self.turn(Step::Submit(end, message));
+        if is_accepted(&outcome) {
+            self.note_accepted(end, mark);
+        }
+    }
+
+    /// A message of an end was accepted.
+    fn note_accepted(&mut self, end: End, mark: Mark) {
+        let noted = match end {
+            End::One => self.one.accept(mark),
+            End::Two => self.two.accept(mark),
+        };
+        self.starved |= !noted;
+    }
+
+    /// Notes how much came by now, while each message is promised to come once.
+    fn note_received(&mut self) {
+        if self.may_have_lost() {
+            return;
+        }
+        let there = self.received(End::Two).len();
+        let back = self.received(End::One).len();
+        self.one.note(there, self.nodes.late_any(End::One));
+        self.two.note(back, self.nodes.late_any(End::Two));
+    }
+}
+
+impl Book {
+    /// Nothing was submitted.
+    fn new(alloc: Global) -> Book {
+        Book {
+            accepted: Vec::new(alloc),
+            once: 0,
+            in_order: 0,
+        }
+    }
+
+    /// The mark of the next message on a flow.
+    fn next_mark(&self, flow: u8) -> Mark {
+        let before = count_of_flow(flow, self.accepted.as_slice());
+        Mark {
+            flow,
+            number: before.wrapping_add(1),
+        }
+    }
+
+    /// A message was accepted. Says whether there was memory for it.
+    fn accept(&mut self, mark: Mark) -> bool {
+        self.accepted.push(mark).is_ok()
+    }
+
+    /// So many messages came by now, and one may be late.
+    fn note(&mut self, count: usize, late: bool) {
+        self.once = count;
+        if !late {
+            self.in_order = count;
+        }
+    }
+}
+
+/// Whether nothing came of a step.
+fn is_ignored(outcome: &Outcome) -> bool {
+    match outcome {
+        Outcome::Ignored => true,
+        _ => false,
+    }
+}
+
+/// The point of an end, and that of the other.
+fn points(end: End) -> (u16, u16) {
+    match end {
+        End::One => (POINT_ONE, POINT_TWO),
+        End::Two => (POINT_TWO, POINT_ONE),
+    }
+}

@@ -1,5 +1,0 @@
-use Rattle.link_sequence.proofs.Naming.{finds_named}
-use Rattle.link_sequence.proofs.laws.search_finds_the_named_count.Goals as goal
-
-pub returns : goal.returns
-returns c = finds_named

@@ -1,8 +1,0 @@
--- The counts of a link give the fields of its sequence back.
-use Rattle.std.specs.Prelude.{◌≡◌}
-use Rattle.std.proofs.Common.{refl}
-use Rattle.link_sequence.specs.Inside.{counts_in, IsInStep, fields_of}
-use Rattle.link_sequence.specs.declared.sequence.Sequence.TheInside.{Inside}
-
-pub fields_of-counts_in : (s : Inside) → IsInStep s → fields_of (counts_in s) ≡ s
-fields_of-counts_in s h = rw (← h) refl

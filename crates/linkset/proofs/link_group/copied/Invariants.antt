@@ -1,9 +1,0 @@
-use Rattle.std.proofs.Common.{◌≡◌, take}
-use Rattle.arrayvec.specs.ArrayVec.{array_vec_len}
-use Rattle.linkset.proofs.link_group.copied.Given as goal
-
-abbrev pub invariant-loop-member : goal.invariant-loop-member
-invariant-loop-member l = record {
-  members : l.copy.items ≡ take l.member-index l.member-items;
-  count : array_vec_len l.copy ≡ l.member-index;
-}

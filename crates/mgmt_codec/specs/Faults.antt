@@ -1,9 +1,0 @@
--- The faults of management and test messages, by number.
-use Rattle.std.specs.Prelude.{ℕ}
-use Rattle.mgmt_codec.specs.declared.fault.MgmtFault.{MgmtFault}
-use Rattle.mgmt_codec.specs.declared.fault.MgmtFault.TheVariants.{Short, NotInProfile}
-
--- a fault's number
-abbrev pub fault_number : MgmtFault → ℕ
-fault_number Short = 1
-fault_number NotInProfile = 2

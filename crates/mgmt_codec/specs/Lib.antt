@@ -1,6 +1,0 @@
-pub mod Faults
-pub mod Fields
-pub mod Headings
-pub mod LinkTests
-pub mod Values
-pub mod Management

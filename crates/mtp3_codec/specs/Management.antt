@@ -1,0 +1,103 @@
+-- Management messages: messages of service indicator 0 (Q.704 §15, Q.2210 §10).
+use Rattle.std.specs.Prelude.{ℕ, ⊤, ◌<◌, ◌^◌, ◌==◌, if◌then◌else◌, List, [], ◌∷◌, ◌++◌, drop, Result, Ok, Err}
+use Rattle.mtp3_codec.specs.Label.{label_at, label_octets}
+use Rattle.mtp3_codec.specs.declared.fault.MgmtFault.{MgmtFault}
+use Rattle.mtp3_codec.specs.declared.fault.MgmtFault.TheVariants.{Short, NotInProfile}
+use Rattle.mtp3_codec.specs.declared.management.Management.{Management}
+use Rattle.mtp3_codec.specs.declared.management.Management.TheVariants.{ExtendedChangeoverOrder}
+use Rattle.mtp3_codec.specs.declared.management.Management.TheVariants.{ExtendedChangeoverAcknowledgement}
+use Rattle.mtp3_codec.specs.declared.management.Management.TheVariants.{ChangebackDeclaration}
+use Rattle.mtp3_codec.specs.declared.management.Management.TheVariants.{ChangebackAcknowledgement}
+use Rattle.mtp3_codec.specs.declared.management.Management.TheVariants.{EmergencyChangeoverOrder}
+use Rattle.mtp3_codec.specs.declared.management.Management.TheVariants.{EmergencyChangeoverAcknowledgement}
+use Rattle.mtp3_codec.specs.declared.management.Management.TheVariants.{TransferProhibited, TransferRestricted}
+use Rattle.mtp3_codec.specs.declared.management.Management.TheVariants.{TransferAllowed}
+use Rattle.mtp3_codec.specs.declared.management.Management.TheVariants.{RouteSetTestProhibited, RouteSetTestRestricted}
+use Rattle.mtp3_codec.specs.declared.management.Management.TheVariants.{TrafficRestartAllowed}
+use Rattle.mtp3_codec.specs.Fields.{number_in, number_octets, changeback_code_in, point_in, point_octets}
+use Rattle.mtp3_codec.specs.Headings.{heading, management_heading}
+
+-- a message of what is read of its fields
+abbrev pub with_field : (ℕ → Management) → Result ℕ MgmtFault → Result Management MgmtFault
+with_field message (Ok field) = Ok (message field)
+with_field message (Err fault) = Err fault
+
+-- the message of a heading, of the link code in the label, and of the fields behind the heading; what stands behind the
+-- fields is ignored
+abbrev pub message_of : (octet slc : ℕ) (fields : List ℕ) → Result Management MgmtFault
+message_of octet slc fields =
+    if octet == heading 1 3 then with_field (ExtendedChangeoverOrder slc) (number_in fields)
+    else if octet == heading 1 4 then with_field (ExtendedChangeoverAcknowledgement slc) (number_in fields)
+    else if octet == heading 1 5 then with_field (ChangebackDeclaration slc) (changeback_code_in fields)
+    else if octet == heading 1 6 then with_field (ChangebackAcknowledgement slc) (changeback_code_in fields)
+    else if octet == heading 2 1 then Ok (EmergencyChangeoverOrder slc)
+    else if octet == heading 2 2 then Ok (EmergencyChangeoverAcknowledgement slc)
+    else if octet == heading 4 1 then with_field TransferProhibited (point_in fields)
+    else if octet == heading 4 3 then with_field TransferRestricted (point_in fields)
+    else if octet == heading 4 5 then with_field TransferAllowed (point_in fields)
+    else if octet == heading 5 1 then with_field RouteSetTestProhibited (point_in fields)
+    else if octet == heading 5 2 then with_field RouteSetTestRestricted (point_in fields)
+    else if octet == heading 7 1 then Ok TrafficRestartAllowed
+    else Err NotInProfile
+
+-- behind the label: the heading, and what belongs to it
+abbrev pub message_in : ℕ → List ℕ → Result Management MgmtFault
+message_in slc [] = Err Short
+message_in slc (octet ∷ fields) = message_of octet slc fields
+
+-- what a signalling information field says, or its first fault
+abbrev pub read_management : List ℕ → Result Management MgmtFault
+read_management sif = message_in (label_at sif).sls (drop 4 sif)
+
+-- what stands in the label's place of the selection: the link code of a message that has one, else 0
+abbrev pub link_code_of : Management → ℕ
+link_code_of (ExtendedChangeoverOrder slc number) = slc
+link_code_of (ExtendedChangeoverAcknowledgement slc number) = slc
+link_code_of (ChangebackDeclaration slc code) = slc
+link_code_of (ChangebackAcknowledgement slc code) = slc
+link_code_of (EmergencyChangeoverOrder slc) = slc
+link_code_of (EmergencyChangeoverAcknowledgement slc) = slc
+link_code_of (TransferProhibited point) = 0
+link_code_of (TransferRestricted point) = 0
+link_code_of (TransferAllowed point) = 0
+link_code_of (RouteSetTestProhibited point) = 0
+link_code_of (RouteSetTestRestricted point) = 0
+link_code_of TrafficRestartAllowed = 0
+
+-- the fields of a message: the number of the last message that its sender accepted, a changeback code, the code of the
+-- point that it is about, or nothing
+abbrev pub field_octets : Management → List ℕ
+field_octets (ExtendedChangeoverOrder slc number) = number_octets number
+field_octets (ExtendedChangeoverAcknowledgement slc number) = number_octets number
+field_octets (ChangebackDeclaration slc code) = code ∷ []
+field_octets (ChangebackAcknowledgement slc code) = code ∷ []
+field_octets (EmergencyChangeoverOrder slc) = []
+field_octets (EmergencyChangeoverAcknowledgement slc) = []
+field_octets (TransferProhibited point) = point_octets point
+field_octets (TransferRestricted point) = point_octets point
+field_octets (TransferAllowed point) = point_octets point
+field_octets (RouteSetTestProhibited point) = point_octets point
+field_octets (RouteSetTestRestricted point) = point_octets point
+field_octets TrafficRestartAllowed = []
+
+-- the one text that is written of a message from one point to another
+abbrev pub management_octets : (dpc opc : ℕ) → Management → List ℕ
+management_octets dpc opc message =
+    label_octets (record { dpc = dpc; opc = opc; sls = link_code_of message })
+    ++ management_heading message ∷ field_octets message
+
+-- the ranges of what a message names: a link code of four bits, a number of 24, a changeback code of eight, and the
+-- code of a point of 14
+abbrev pub IsManagement : Management → Type 0
+IsManagement (ExtendedChangeoverOrder slc number) = (slc < 2 ^ 4) × (number < 2 ^ 24)
+IsManagement (ExtendedChangeoverAcknowledgement slc number) = (slc < 2 ^ 4) × (number < 2 ^ 24)
+IsManagement (ChangebackDeclaration slc code) = (slc < 2 ^ 4) × (code < 2 ^ 8)
+IsManagement (ChangebackAcknowledgement slc code) = (slc < 2 ^ 4) × (code < 2 ^ 8)
+IsManagement (EmergencyChangeoverOrder slc) = slc < 2 ^ 4
+IsManagement (EmergencyChangeoverAcknowledgement slc) = slc < 2 ^ 4
+IsManagement (TransferProhibited point) = point < 2 ^ 14
+IsManagement (TransferRestricted point) = point < 2 ^ 14
+IsManagement (TransferAllowed point) = point < 2 ^ 14
+IsManagement (RouteSetTestProhibited point) = point < 2 ^ 14
+IsManagement (RouteSetTestRestricted point) = point < 2 ^ 14
+IsManagement TrafficRestartAllowed = ⊤

@@ -1,0 +1,17 @@
+//! MTP level 3 messages as octets: the routing label (Q.704 §14.2), management messages (Q.704 §15) and link
+//! tests (Q.707 §5).
+#![tactic(auto)]
+
+pub mod discrimination;
+pub mod fault;
+mod fields;
+pub mod label;
+pub mod link_test;
+pub mod management;
+mod writing;
+
+pub use discrimination::{Discrimination, discriminate};
+pub use fault::MgmtFault;
+pub use label::Label;
+pub use link_test::{ANSWER_OCTETS, LinkTest, TestKind};
+pub use management::{MANAGEMENT_OCTETS, Management};

@@ -1,5 +1,0 @@
-use Rattle.route_table.proofs.Choosing.{linked_by_sets}
-use Rattle.route_table.proofs.laws.a_flow_has_a_link_where_it_has_a_set.Goals as goal
-
-pub returns : goal.returns
-returns c = λ f destination selection. linked_by_sets f destination selection

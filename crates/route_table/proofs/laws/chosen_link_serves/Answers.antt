@@ -1,5 +1,0 @@
-use Rattle.route_table.proofs.InService.{chosen_serves}
-use Rattle.route_table.proofs.laws.chosen_link_serves.Goals as goal
-
-pub returns : goal.returns
-returns c = λ f destination selection link e. chosen_serves f destination selection link e

@@ -1,7 +1,0 @@
-use Rattle.std.proofs.Common.{◌≡◌}
-use Rattle.route_table.specs.Table.{goes_by_set, mended_below}
-use Rattle.route_table.proofs.routes.table.mend_by_set.Given as goal
-
-abbrev pub invariant-loop-destination : goal.invariant-loop-destination
-invariant-loop-destination l =
-    l.rows ≡ mended_below l.destination (goes_by_set l.fn.set) l.fn.known l.fn.rows

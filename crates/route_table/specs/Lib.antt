@@ -1,5 +1,0 @@
-pub mod Facts
-pub mod Chosen
-pub mod Table
-pub mod Room
-pub mod Statuses

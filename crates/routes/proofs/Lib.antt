@@ -1,0 +1,15 @@
+pub mod Members
+pub mod Preference
+pub mod MembersInService
+pub mod Facts
+pub mod InService
+pub mod Telling
+pub mod Resetting
+pub mod Opening
+pub mod Groups
+pub mod Lone
+pub mod Leaving
+pub mod Choosing
+pub mod Compiling
+pub mod Mending
+pub mod Restoring

@@ -1,0 +1,43 @@
+-- The link that a flow takes is in service and of a set that messages take, and there is one where its group has such a link.
+use Rattle.std.proofs.Common.{◌≡◌, ℕ, Bool, true, false, ◌&&◌, cond, List, [], ◌∷◌, refl, ap, ◌∙◌, sym}
+use Rattle.std.proofs.lemmas.List.Sorted.{list_any-IsPermutation}
+use Rattle.std.specs.List.{list_any}
+use Rattle.std.specs.Option.{option_map}
+use Rattle.std.specs.Prelude.{Some, find, is_some, ◌||◌}
+use Rattle.routes.specs.declared.link_group.Member.{Member}
+use Rattle.routes.specs.Preference.{preference, is_in_service, serves, first_serving}
+use Rattle.routes.proofs.Preference.{preference-permutation}
+
+left_true : (a b : Bool) → (a && b) ≡ true → a ≡ true
+left_true true b e = refl
+left_true false b e = absurd cc
+
+found : (in_service : List Bool) (sets : List ℕ) (group : List Member) (link : ℕ)
+    → option_map (λ (m : Member). m.link) (find (serves in_service sets) group) ≡ Some link → is_in_service in_service link ≡ true
+found in_service sets [] link e = absurd cc
+found in_service sets (x ∷ xs) link e =
+    elim (serves in_service sets x) as (λ b. serves in_service sets x ≡ b
+    → option_map (λ (m : Member). m.link) (cond b (Some x) (find (serves in_service sets) xs)) ≡ Some link → is_in_service in_service link ≡ true) [
+      | true ↦ λ up is.
+          let same : x.link ≡ link = cc in
+          ap (λ n. is_in_service in_service n) (sym same) ∙ left_true (is_in_service in_service x.link) _ up
+      | false ↦ λ down is. found in_service sets xs link is
+    ] refl e
+
+pub first_serves : (selection : ℕ) (in_service : List Bool) (sets : List ℕ) (group : List Member) (link : ℕ)
+    → first_serving selection in_service sets group ≡ Some link → is_in_service in_service link ≡ true
+first_serves selection in_service sets group link e = found in_service sets (preference selection group) link e
+
+some_found : {A B : Type 0} (f : A → B) (p : A → Bool) (xs : List A) → is_some (option_map f (find p xs)) ≡ list_any p xs
+some_found f p [] = refl
+some_found f p (x ∷ xs) =
+    elim (p x) as (λ b. is_some (option_map f (cond b (Some x) (find p xs))) ≡ (b || list_any p xs)) [
+      | true ↦ refl
+      | false ↦ some_found f p xs
+    ]
+
+pub some_serves : (selection : ℕ) (in_service : List Bool) (sets : List ℕ) (group : List Member)
+    → is_some (first_serving selection in_service sets group) ≡ list_any (serves in_service sets) group
+some_serves selection in_service sets group =
+    some_found (λ (m : Member). m.link) (serves in_service sets) (preference selection group)
+    ∙ sym (list_any-IsPermutation (serves in_service sets) group (preference selection group) (preference-permutation selection group))

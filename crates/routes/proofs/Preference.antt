@@ -1,0 +1,26 @@
+-- The order in which links are tried, one link at a time.
+use Rattle.std.proofs.Common.{◌≡◌, ℕ, zero, suc, ◌<◌, ◌/◌, ◌%◌, List, [], ◌∷◌, length, get_or, refl, arith}
+use Rattle.std.proofs.lemmas.Grind.{common_steps}
+use Rattle.std.proofs.lemmas.List.Edits.{length-remove}
+use Rattle.std.proofs.lemmas.List.Sorted.{IsPermutation-refl, IsPermutation-trans, IsPermutation-cons, IsPermutation-remove}
+use Rattle.std.specs.List.{remove}
+use Rattle.std.specs.List.Sorted.{IsPermutation}
+use Rattle.routes.specs.Preference.{order_of, preference}
+
+-- each of n links is tried once
+pub order-permutation : {A : Type 0} (n selection : ℕ) (links : List A) → length links ≡ n → IsPermutation links (order_of n selection links)
+order-permutation zero selection [] e = IsPermutation-refl []
+order-permutation zero selection (first ∷ rest) e = absurd (omega (arith, e))
+order-permutation (suc n) selection [] e = absurd (omega (arith, e))
+order-permutation {A = A} (suc n) selection (first ∷ rest) e =
+    let links : List A = first ∷ rest in
+    let at = selection % suc n in
+    let within : at < length links = omega (arith, e) in
+    let x = get_or links at first in
+    let same : x ≡ get_or links at x = grind (arith, common_steps, within) in
+    let left : length (remove links at) ≡ n = omega (arith, length-remove links at within, e) in
+    let taken = IsPermutation-remove links at x within same in
+    IsPermutation-trans links (x ∷ remove links at) _ taken (IsPermutation-cons x (remove links at) _ (order-permutation n (selection / suc n) (remove links at) left))
+
+pub preference-permutation : {A : Type 0} (selection : ℕ) (links : List A) → IsPermutation links (preference selection links)
+preference-permutation selection links = order-permutation (length links) selection links refl

@@ -1,0 +1,10 @@
+use Rattle.std.proofs.Common.{◌≡◌, take}
+use Rattle.arrayvec.specs.ArrayVec.{array_vec_len}
+use Rattle.routes.specs.Chosen.{sets_of}
+use Rattle.routes.proofs.known.choice.sets_of.Given as goal
+
+abbrev pub invariant-loop-route : goal.invariant-loop-route
+invariant-loop-route l = record {
+  sets : l.sets.items ≡ sets_of (take l.route-index l.fn.routes);
+  count : array_vec_len l.sets ≡ l.route-index;
+}

@@ -1,0 +1,10 @@
+use Rattle.std.proofs.Common.{◌≡◌, ◌≤◌}
+use Rattle.arrayvec.specs.ArrayVec.{array_vec_len}
+use Rattle.routes.specs.Members.{links_below}
+use Rattle.routes.proofs.link_set.LinkSet.of.Given as goal
+
+abbrev pub invariant-loop-slc : goal.invariant-loop-slc
+invariant-loop-slc l = record {
+  links : l.members.items ≡ links_below l.slc l.fn.links l.fn.set;
+  count : array_vec_len l.members ≤ l.slc;
+}

@@ -1,0 +1,10 @@
+use Rattle.std.proofs.Common.{◌≡◌, map, take}
+use Rattle.arrayvec.specs.ArrayVec.{array_vec_len}
+use Rattle.routes.specs.Facts.{first_route}
+use Rattle.routes.proofs.route.RouteList.new.Given as goal
+
+abbrev pub invariant-loop-set : goal.invariant-loop-set
+invariant-loop-set l = record {
+  routes : l.routes.items ≡ map first_route (take l.set-index l.set-items);
+  count : array_vec_len l.routes ≡ l.set-index;
+}

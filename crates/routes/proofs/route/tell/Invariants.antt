@@ -1,0 +1,7 @@
+use Rattle.std.proofs.Common.{◌≡◌, ◌++◌, map, take, drop}
+use Rattle.routes.specs.Facts.{with_status_over}
+use Rattle.routes.proofs.route.tell.Given as goal
+
+abbrev pub invariant-loop-route : goal.invariant-loop-route
+invariant-loop-route l =
+    l.routes ≡ map (with_status_over l.fn.set l.fn.status) (take l.route-index l.fn.routes) ++ drop l.route-index l.fn.routes

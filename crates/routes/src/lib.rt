@@ -1,0 +1,15 @@
+//! Link sets, and the routes over them: which link a message takes, and what is known of each route.
+#![tactic(auto)]
+
+mod flow_links;
+mod known;
+pub mod laws;
+pub mod link_group;
+pub mod link_set;
+pub mod route;
+pub mod routes;
+
+pub use link_group::{LinkGroup, Member};
+pub use link_set::LinkSet;
+pub use route::{Route, RouteStatus};
+pub use routes::Routes;

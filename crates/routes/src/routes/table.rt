@@ -1,0 +1,56 @@
+//! The table of the links of all flows: how it is made, and how it is mended.
+
+ghost use Rattle.std.specs.Prelude.{◌≡◌, length, IfOk};
+ghost use Rattle.routes.specs.Table.{goes_by_link, goes_by_set, mended_at, mended_below, table_of};
+
+use crate::flow_links::FlowLinks;
+use crate::known::KnownRoutes;
+use signalling_types::{LinkId, SetId};
+use std::alloc::{AllocError, Global};
+
+/// The table of all flows.
+pub(super) fn compiled(alloc: Global, known: &KnownRoutes) -> Result<Vec<FlowLinks>, AllocError>
+    ensures { IfOk result (λ rows. rows.items ≡ table_of known.now) }
+{
+    let count = known.destinations();
+    let mut rows = Vec::with_capacity(alloc, count)?;
+    for destination in 0..count {
+        rows.push_reserved(known.links_to(destination));
+    }
+    Ok(rows)
+}
+
+/// The row of a destination is made anew.
+pub(super) fn mend(rows: &mut [FlowLinks], known: &KnownRoutes, destination: usize)
+    ensures { rows.new ≡ mended_at known.now destination rows.old }
+{
+    if destination < rows.len() {
+        rows[destination] = known.links_to(destination);
+    }
+}
+
+/// The rows of those destinations are made anew to which the set of this link leads.
+#[tactic(auto, using(crate::proofs::Compiling::mended))]
+pub(super) fn mend_by_link(rows: &mut [FlowLinks], known: &KnownRoutes, link: LinkId)
+    ensures { rows.new
+        ≡ mended_below (length known.now.routes) (goes_by_link known.now link) known.now rows.old }
+{
+    for destination in 0..known.destinations() {
+        if known.goes_by_link(destination, link) {
+            mend(rows, known, destination);
+        }
+    }
+}
+
+/// The rows of those destinations are made anew to which this set leads.
+#[tactic(auto, using(crate::proofs::Compiling::mended))]
+pub(super) fn mend_by_set(rows: &mut [FlowLinks], known: &KnownRoutes, set: SetId)
+    ensures { rows.new
+        ≡ mended_below (length known.now.routes) (goes_by_set set) known.now rows.old }
+{
+    for destination in 0..known.destinations() {
+        if known.goes_by_set(destination, set) {
+            mend(rows, known, destination);
+        }
+    }
+}

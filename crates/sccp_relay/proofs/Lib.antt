@@ -1,0 +1,15 @@
+pub mod Walking
+pub mod Longest
+pub mod Linking
+pub mod Rows
+pub mod Trees
+pub mod Behind
+pub mod RowOrder
+pub mod LongestRow
+pub mod TableRows
+pub mod OneRow
+pub mod SortedRows
+pub mod OtherRows
+pub mod RowWays
+pub mod Translating
+pub mod KeyRows

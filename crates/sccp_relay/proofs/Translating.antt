@@ -1,0 +1,188 @@
+-- The longest way that is there behind the digits of a key is that of the row by which its addresses are translated.
+use Rattle.std.proofs.Common.{◌≡◌, ℕ, ◌+◌, ◌*◌, ◌<◌, ◌≤◌, ◌^◌, ◌/◌, ◌%◌, Bool, true, false, cond, List, ◌++◌, length, get_or, take, Option, Some, None, refl, sym, ap, subst, ◌∙◌, inl, inr, arith}
+use Rattle.std.proofs.lemmas.Bool.{and_parts, cases_lt, eq-eqb, eqb-true, ne_eqb, lt-ltb, le-ltb}
+use Rattle.std.proofs.lemmas.List.{get_or_default, length-take, length-take-le}
+use Rattle.std.proofs.lemmas.List.Elements.{All-get_or}
+use Rattle.std.specs.Cmp.Lexicographic.{bytes_decides}
+use Rattle.std.specs.List.{filter, list_any, starts_with}
+use Rattle.signalling_types.specs.declared.cause.Cause.TheVariants.{NoNature, NoDigits}
+use Rattle.std.specs.Prelude.{All, Err, nat_eq}
+use Rattle.sccp_relay.specs.Digits.{DigitMap, behind, longest as longest_digits}
+use Rattle.sccp_relay.proofs.Longest.{is-longest, is-none-longest}
+use Rattle.signalling_types.specs.declared.cause.Cause.{Cause}
+use Rattle.sccp_codec.specs.declared.title.TitleKey.{TitleKey}
+use Rattle.settings_rows.specs.Configuration.{TitleEntry}
+use Rattle.settings_rows.specs.Titles.{HasTitleRanges}
+use Rattle.settings_rows.specs.declared.title_row.TitleRoute.{TitleRoute}
+use Rattle.settings_rows.specs.declared.title_row.TitleRoute.TheVariants.{Title, Ssn}
+use Rattle.sccp_relay.specs.Rows.{key_of}
+use Rattle.sccp_relay.specs.Translation.{longest, leads, has_key, IsTranslation, translation, translation_refusal, or_refusal}
+use Rattle.sccp_relay.specs.Ways.{IsRow, IsRoute, IsSsn, key_digits, way_of, lead_of, leads_of, route_number, route_of, row_led}
+use Rattle.sccp_relay.proofs.LongestRow.{is_translation-longest}
+use Rattle.sccp_relay.proofs.RowWays.{SameWay, same-way, FoundRow, found-row, way-leads}
+
+-- ---- a row by its way and where it leads
+
+route-back-title : (n : ℕ) → IsSsn n → route_of n ≡ Title (Some n)
+route-back-title n h =
+    let small : n % 256 ≡ n = omega (arith, h.1) in
+    rw (small, ne_eqb n 0 (λ e. omega (arith, e, h.0)), lt-ltb n 256 (omega (arith, h.1))) refl
+
+route-back-ssn : (n : ℕ) → IsSsn n → route_of (256 + n) ≡ Ssn n
+route-back-ssn n h =
+    let small : (256 + n) % 256 ≡ n = omega (arith, h.1) in
+    rw (small, ne_eqb n 0 (λ e. omega (arith, e, h.0)), le-ltb (256 + n) 256 (omega arith)) refl
+
+route-back : (route : TitleRoute) → IsRoute route → route_of (route_number route) ≡ route
+route-back (Title None) h = refl
+route-back (Title (Some n)) h = route-back-title n h
+route-back (Ssn n) h = route-back-ssn n h
+
+lead-parts : (r p : ℕ) → p < 2 ^ 14 → ((r * 2 ^ 14 + p) % 2 ^ 14 ≡ p) × ((r * 2 ^ 14 + p) / 2 ^ 14 ≡ r)
+lead-parts r p h = (omega (arith, h), omega (arith, h))
+
+pub row-back : (row : TitleEntry) → IsRow row → row_led (key_of row) row.digits (lead_of row) ≡ row
+row-back row is =
+    let parts = lead-parts (route_number row.route) row.point is.point in
+    ap (λ (n : ℕ). record {
+      translation = row.translation;
+      plan = row.plan;
+      nature = row.nature;
+      digits = row.digits;
+      point = n;
+      route = route_of (lead_of row / 2 ^ 14);
+    }) parts.0
+    ∙ ap (λ (r : TitleRoute). record {
+      translation = row.translation;
+      plan = row.plan;
+      nature = row.nature;
+      digits = row.digits;
+      point = row.point;
+      route = r;
+    }) (ap route_of parts.1 ∙ route-back row.route is.route)
+
+led-same : (key : TitleKey) (digits : List ℕ) (row : TitleEntry) → IsRow row → SameWay key digits row → row_led key digits (lead_of row) ≡ row
+led-same key digits row is s =
+    ap (λ (t : ℕ). row_led (record { translation = t; plan = key.plan; nature = key.nature }) digits (lead_of row)) (sym s.translation)
+    ∙ ap (λ (p : ℕ). row_led (record { translation = row.translation; plan = p; nature = key.nature }) digits (lead_of row)) (sym s.plan)
+    ∙ ap (λ (n : ℕ). row_led (record { translation = row.translation; plan = row.plan; nature = n }) digits (lead_of row)) (sym s.nature)
+    ∙ ap (λ (ds : List ℕ). row_led (key_of row) ds (lead_of row)) (sym s.digits_same)
+    ∙ row-back row is
+
+-- ---- rows that lead digits
+
+and-true : (a b : Bool) → a ≡ true → b ≡ true → cond a b false ≡ true
+and-true true b e f = f
+and-true false b e f = e
+
+key-true : (key : TitleKey) (digits : List ℕ) (row : TitleEntry) → SameWay key digits row → has_key key row ≡ true
+key-true key digits row s = rw (eq-eqb row.translation key.translation s.translation, eq-eqb row.plan key.plan s.plan, eq-eqb row.nature key.nature s.nature) refl
+
+begins : (digits : List ℕ) (n : ℕ) (front : List ℕ) → n ≤ length digits → front ≡ take n digits → starts_with nat_eq digits front ≡ true
+begins digits n front le e =
+    let len : length front ≡ n = ap length e ∙ length-take-le n digits le in
+    (bytes_decides front (take (length front) digits)).1 (e ∙ ap (λ (m : ℕ). take m digits) (sym len))
+
+row-leads : (key : TitleKey) (digits : List ℕ) (n : ℕ) (row : TitleEntry) → n ≤ length digits → SameWay key (take n digits) row → leads key digits row ≡ true
+row-leads key digits n row le s = rw (key-true key (take n digits) row s) (begins digits n row.digits le s.digits_same)
+
+-- what a row that leads these digits says of its way
+record Leading (key : TitleKey) (digits : List ℕ) (row : TitleEntry) : Type 0 where
+  pub within : length row.digits ≤ length digits
+  pub way : way_of row ≡ key_digits key ++ take (length row.digits) digits
+
+way-same : (key : TitleKey) (digits : List ℕ) (row : TitleEntry) → SameWay key digits row → way_of row ≡ key_digits key ++ digits
+way-same key digits row s =
+    ap (λ (t : ℕ). key_digits (record { translation = t; plan = row.plan; nature = row.nature }) ++ row.digits) s.translation
+    ∙ ap (λ (p : ℕ). key_digits (record { translation = key.translation; plan = p; nature = row.nature }) ++ row.digits) s.plan
+    ∙ ap (λ (n : ℕ). key_digits (record { translation = key.translation; plan = key.plan; nature = n }) ++ row.digits) s.nature
+    ∙ ap (λ (ds : List ℕ). key_digits key ++ ds) s.digits_same
+
+leading : (key : TitleKey) (digits : List ℕ) (row : TitleEntry) → leads key digits row ≡ true → Leading key digits row
+leading key digits row e =
+    let both = and_parts (has_key key row) (starts_with nat_eq digits row.digits) e in
+    let two = and_parts _ _ both.0 in
+    let first = and_parts _ _ two.0 in
+    let d : row.digits ≡ take (length row.digits) digits = (bytes_decides row.digits (take (length row.digits) digits)).0 both.1 in
+    record {
+      within = omega (arith, ap length d, length-take (length row.digits) digits);
+      way = way-same key (take (length row.digits) digits) row
+          (record { translation = eqb-true _ _ first.0; plan = eqb-true _ _ first.1; nature = eqb-true _ _ two.1; digits_same = d });
+    }
+
+-- ---- the row that is found
+
+pub record Translated (rows : List TitleEntry) (key : TitleKey) (digits : List ℕ) (count lead : ℕ) : Type 0 where
+  pub within : count ≤ length digits
+  pub ranges : HasTitleRanges key.plan key.nature (take count digits)
+  pub row : IsTranslation rows key digits (row_led key (take count digits) lead)
+
+abbrev pub ways_of_key : List TitleEntry → TitleKey → DigitMap
+ways_of_key rows key = behind (leads_of rows) (key_digits key)
+
+same-ranges : (key : TitleKey) (digits : List ℕ) (row : TitleEntry) → SameWay key digits row → HasTitleRanges row.plan row.nature row.digits → HasTitleRanges key.plan key.nature digits
+same-ranges key digits row s h =
+    subst (λ (ds : List ℕ). HasTitleRanges key.plan key.nature ds) s.digits_same
+    (subst (λ (n : ℕ). HasTitleRanges key.plan n row.digits) s.nature (subst (λ (p : ℕ). HasTitleRanges p row.nature row.digits) s.plan h))
+
+not-longer : (rows : List TitleEntry) (key : TitleKey) (digits : List ℕ) (count k : ℕ) (other : TitleEntry) → k < length rows → get_or rows k other ≡ other
+    → leads key digits other ≡ true → ((m : ℕ) → count < m → m ≤ length digits → ways_of_key rows key (take m digits) ≡ None) → length other.digits ≤ count
+not-longer rows key digits count k other lt e t h =
+    let l = leading key digits other t in
+    elim (cases_lt count (length other.digits)) [
+      | inr most ↦ most
+      | inl longer ↦ absurd (way-leads rows k other lt e (ap (leads_of rows) l.way ∙ h (length other.digits) longer l.within))
+    ]
+
+found-translation : (rows : List TitleEntry) (key : TitleKey) (digits : List ℕ) (count lead : ℕ) → count ≤ length digits
+    → (f : FoundRow rows (key_digits key ++ take count digits) lead) → ((m : ℕ) → count < m → m ≤ length digits → ways_of_key rows key (take m digits) ≡ None)
+    → IsTranslation rows key digits f.row
+found-translation rows key digits count lead le f h =
+    let s = same-way key (take count digits) f.row f.way_is in
+    let len : length f.row.digits ≡ count = ap length s.digits_same ∙ length-take-le count digits le in
+    record {
+      among = (f.at, f.within, f.is);
+      leading = row-leads key digits count f.row le s;
+      longest = λ k d lt t.
+          let most = not-longer rows key digits count k (get_or rows k d) lt (get_or_default rows k (get_or rows k d) d lt) t h in omega (arith, most, len);
+    }
+
+-- what the trie answers
+pub walked : (map : DigitMap) (rows : List TitleEntry) (key : TitleKey) (front digits : List ℕ) (r : Option (ℕ × ℕ)) → map ≡ leads_of rows → front ≡ key_digits key
+    → r ≡ longest_digits (behind map front) digits → longest_digits (ways_of_key rows key) digits ≡ r
+walked map rows key front digits r e f g =
+    sym (g ∙ ap (λ (m : DigitMap). longest_digits (behind m front) digits) e ∙ ap (λ (ds : List ℕ). longest_digits (behind (leads_of rows) ds) digits) f)
+
+pub translated : (rows : List TitleEntry) (key : TitleKey) (digits : List ℕ) (count lead : ℕ) → All IsRow rows → longest_digits (ways_of_key rows key) digits ≡ Some (count, lead)
+    → Translated rows key digits count lead
+translated rows key digits count lead all e =
+    let l = is-longest (ways_of_key rows key) digits count lead e in
+    let f = found-row rows (key_digits key ++ take count digits) lead l.stands in
+    let s = same-way key (take count digits) f.row f.way_is in
+    let is : IsRow f.row = subst IsRow f.is (All-get_or IsRow rows f.at f.row f.within all) in
+    let same : row_led key (take count digits) lead ≡ f.row = ap (row_led key (take count digits)) (sym f.lead_is) ∙ led-same key (take count digits) f.row is s in
+    record {
+      within = l.within;
+      ranges = same-ranges key (take count digits) f.row s is.ranges;
+      row = subst (IsTranslation rows key digits) (sym same) (found-translation rows key digits count lead l.within f l.none_longer);
+    }
+
+-- ---- no row
+
+none-leads : (rows : List TitleEntry) (key : TitleKey) (digits : List ℕ) (row : TitleEntry) → longest_digits (ways_of_key rows key) digits ≡ None → IsTranslation rows key digits row → ⊥
+none-leads rows key digits row e t =
+    let l = leading key digits row t.leading in
+    way-leads rows t.among.0 row t.among.1 t.among.2 (ap (leads_of rows) l.way ∙ is-none-longest (ways_of_key rows key) digits (length row.digits) e l.within)
+
+refused-if : (rows : List TitleEntry) (key : TitleKey) (digits : List ℕ) (cause : Cause) (o : Option TitleEntry) → longest (filter (leads key digits) rows) ≡ o
+    → longest_digits (ways_of_key rows key) digits ≡ None → or_refusal o cause ≡ Err cause
+refused-if rows key digits cause None e n = refl
+refused-if rows key digits cause (Some row) e n = absurd (none-leads rows key digits row n (is_translation-longest rows key digits row e))
+
+pub refused : (rows : List TitleEntry) (key : TitleKey) (digits : List ℕ) → longest_digits (ways_of_key rows key) digits ≡ None
+    → translation rows key digits ≡ Err (translation_refusal rows key)
+refused rows key digits n = refused-if rows key digits (translation_refusal rows key) (longest (filter (leads key digits) rows)) refl n
+
+pub refused_by : (rows : List TitleEntry) (key : TitleKey) (digits : List ℕ) (there : Bool) → longest_digits (ways_of_key rows key) digits ≡ None
+    → list_any (has_key key) rows ≡ there → translation rows key digits ≡ Err (cond there NoDigits NoNature)
+refused_by rows key digits there n e = refused rows key digits n ∙ ap (λ (t : Bool). Err (cond t NoDigits NoNature)) e

@@ -1,0 +1,8 @@
+use Rattle.std.proofs.Common.{◌≡◌, ◌<◌, length, take, Some}
+use Rattle.sccp_relay.specs.Digits.{longest_within}
+use Rattle.sccp_relay.specs.Nodes.{child, reached, stored_from}
+use Rattle.sccp_relay.proofs.trie.longest_from.Given as goal
+
+abbrev pub invariant-loop-count : goal.invariant-loop-count
+invariant-loop-count l = (reached (child l.nodes) l.start (take l.count l.digits) ≡ Some l.at) × (l.at < length l.nodes)
+    × (l.best ≡ longest_within (stored_from l.nodes l.start) l.digits l.count)

@@ -1,0 +1,174 @@
+//! A table of translation rows.
+
+ghost use Rattle.std.specs.Prelude.{◌≡◌, ◌≤◌, ◌↔◌, [], length, slice_get, IsTrue, Some, None, Err, IsOk, IfOk};
+ghost use Rattle.std.specs.Prelude.{IfErr, OnOk, OnErr, IsOkUnless, if◌then◌else◌};
+ghost use Rattle.std.specs.List.{IsDistinct, insert};
+ghost use Rattle.std.specs.Result.{is_ok};
+ghost use Rattle.sccp_relay.specs.Digits.{with_value};
+ghost use Rattle.sccp_relay.specs.Nodes.{stored};
+ghost use Rattle.sccp_relay.specs.Rows.{IsOrdered, place_of, has_row, with_row, without_row, add_refusal};
+ghost use Rattle.sccp_relay.specs.Rows.{is_same_place, table_of};
+ghost use Rattle.sccp_relay.specs.Translation.{translation, IsTranslation};
+ghost use Rattle.sccp_relay.specs.Ways.{IsRow, way_of, lead_of};
+
+use crate::Trie;
+use crate::places::{has_key, key_of, place, sort};
+use crate::ways::{enter, key_digits, row_led, trie_of, way_of};
+use sccp_codec::TitleKey;
+use settings_rows::TitleRow;
+use signalling_types::{Cause, Limits};
+use std::alloc::{AllocError, Global};
+use std::marker::Model;
+
+/// A table of at most 65,535 translation rows. No two have one key and the same digits.
+///
+/// The rows stand in their order, and a trie leads to each of them by the digits of its key and its own.
+#[derive(Drop)]
+pub struct Translations {
+    rows: Vec<TitleRow>,
+    trie: Trie,
+}
+
+impl Model for Translations {
+    ghost use Rattle.std.specs.Prelude.{List};
+    ghost use Rattle.settings_rows.specs.Configuration.{TitleEntry};
+
+    ghost Value = { List TitleEntry };
+
+    ghost view = { λ t. t.rows.items };
+
+    ghost use Rattle.sccp_relay.specs.Table.{IsTable};
+
+    ghost invariant = { IsTable };
+}
+
+impl Translations {
+    /// A table without rows. It takes its memory from this allocator as rows are added.
+    pub fn new(alloc: Global) -> Translations
+        ensures { result ≡ [] }
+    {
+        Translations {
+            rows: Vec::new(alloc),
+            trie: Trie::new(alloc),
+        }
+    }
+
+    /// A table of these rows, no two of one key and the same digits, sorted once. It takes its memory, now
+    /// and as rows are added, from this allocator.
+    pub fn of_rows(alloc: Global, rows: &[TitleRow]) -> Result<Translations, AllocError>
+        requires fits { length rows.now ≤ Limits.TITLES }
+        requires differ { IsDistinct is_same_place rows.now }
+        ensures { IfOk result (λ table. table ≡ table_of rows.now) }
+    {
+        let mut rows = Vec::from_slice(alloc, rows)?;
+        sort(&mut rows);
+        let trie = trie_of(alloc, &rows)?;
+        Ok(Translations { rows, trie })
+    }
+
+    /// How many rows there are.
+    pub fn len(&self) -> usize
+        ensures count { result ≡ length self.now }
+        ensures fits { length self.now ≤ Limits.TITLES }
+    {
+        self.rows.len()
+    }
+
+    /// Whether there are none.
+    pub fn is_empty(&self) -> bool
+        ensures { IsTrue result ↔ (self.now ≡ []) }
+    {
+        self.rows.is_empty()
+    }
+
+    /// Adds a row at its place: by translation type, plan, nature, then digit by digit, a prefix before
+    /// what it begins. It looks for the place by halves, and moves the rows behind it.
+    ///
+    /// Refused DuplicateRow where a row of its key and digits is there; else TableFull where 65,535
+    /// rows are; else NoMemory where room for it is refused. A refusal leaves the table as it was.
+    pub fn add(&mut self, row: TitleRow) -> Result<(), Cause>
+        ensures added { OnOk result (self.new ≡ with_row row self.old) }
+        ensures unchanged { OnErr result (self.new ≡ self.old) }
+        ensures refused { (cause : Cause) → add_refusal self.old row ≡ Some cause → result ≡ Err cause }
+        ensures memory { add_refusal self.old row ≡ None → IsOkUnless result Cause.NoMemory }
+    {
+        let Err(place) = place(&self.rows, key_of(&row), row.digits()) else {
+            return Err(Cause::DuplicateRow);
+        };
+        if self.rows.len() >= Limits::TITLES {
+            return Err(Cause::TableFull);
+        }
+        match put(&mut self.rows, &mut self.trie, place, row) {
+            Ok(()) => Ok(()),
+            Err(_) => Err(Cause::NoMemory),
+        }
+    }
+
+    /// Removes the row of this key and these digits, all of them. It looks for it by halves, and moves
+    /// the rows behind it.
+    ///
+    /// Refused NoSuchName where there is none; then the table stays as it was.
+    pub fn remove(&mut self, key: TitleKey, digits: &[u8]) -> Result<(), Cause>
+        ensures found { IsOk result ↔ IsTrue (has_row self.old (place_of key digits.now)) }
+        ensures removed { OnOk result (self.new ≡ without_row (place_of key digits.now) self.old) }
+        ensures refused { IfErr result (λ cause. cause ≡ Cause.NoSuchName) }
+        ensures unchanged { OnErr result (self.new ≡ self.old) }
+    {
+        let Ok(place) = place(&self.rows, key, digits) else {
+            return Err(Cause::NoSuchName);
+        };
+        let row = self.rows.remove(place);
+        let _ = self.trie.remove(way_of(&row).as_slice());
+        Ok(())
+    }
+
+    /// The row of this number, from 0, in the order of the rows. None past the last.
+    pub fn row(&self, index: usize) -> Option<TitleRow>
+        ensures row { result ≡ slice_get self.now index }
+        ensures order { IsOrdered self.now }
+    {
+        self.rows.get(index).copied()
+    }
+
+    /// The row that an address of this key and these digits is translated by: among the rows of the key
+    /// whose digits begin these, the one with the most. It takes a step for each digit, however many rows
+    /// there are; where none begins them, it looks for a row of the key by halves.
+    ///
+    /// Refused NoNature where there is no row of the key; else NoDigits where none of these begins the
+    /// digits (Q.714 §2.6).
+    pub fn translate(&self, key: TitleKey, digits: &[u8]) -> Result<TitleRow, Cause>
+        // What the rows say.
+        ensures exact { result ≡ translation self.now key digits.now }
+        // The row is the longest that leads the digits.
+        ensures longest { IfOk result (IsTranslation self.now key digits.now) }
+    {
+        match self.trie.longest_behind(&key_digits(key), digits) {
+            Some((count, lead)) => Ok(row_led(key, &digits[..count], lead)),
+            None if has_key(&self.rows, key) => Err(Cause::NoDigits),
+            None => Err(Cause::NoNature),
+        }
+    }
+}
+
+/// Puts a row at its place among the others, and lets the trie lead to it. Room is made for both before the row is put
+/// there, so an error leaves both as they were.
+fn put(
+    rows: &mut Vec<TitleRow>,
+    trie: &mut Trie,
+    place: usize,
+    row: TitleRow,
+) -> Result<(), AllocError>
+    requires { place ≤ length rows.old.items }
+    ensures rows { rows.new.items ≡ (if is_ok result then insert rows.old.items place row else rows.old.items) }
+    ensures trie { stored trie.new ≡ (if is_ok result then with_value (stored trie.old) (way_of row) (lead_of row)
+        else stored trie.old) }
+    ensures free { OnOk result (stored trie.old (way_of row) ≡ None) }
+    ensures row { OnOk result (IsRow row) }
+{
+    rows.try_reserve(1)?;
+    if enter(trie, &row).is_err() {
+        return Err(AllocError);
+    }
+    rows.insert(place, row).unwrap();
+    Ok(())
+}

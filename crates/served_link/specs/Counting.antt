@@ -1,0 +1,129 @@
+-- What is counted of a link, and what it adds to each counter.
+use Rattle.std.specs.Prelude.{ℕ, ◌+◌, ◌-◌, ◌%◌, ◌^◌, min, nat_le, Bool, false, if◌then◌else◌, Result, Ok, Err}
+use Rattle.std.specs.Prelude.{List, length, replicate, slice_index, slice_index_or, slice_set}
+use Rattle.m2pa_codec.specs.Frames.{FrameValue, EmptyFrame, MessageFrame, StatusFrame}
+use Rattle.m2pa_codec.specs.Reading.{read_frame}
+use Rattle.signalling_types.specs.Causes.{cause_number}
+use Rattle.signalling_types.specs.declared.notice.FrameFault.{FrameFault}
+use Rattle.signalling_types.specs.declared.notice.FailureReason.{FailureReason}
+use Rattle.signalling_types.specs.declared.notice.FailureReason.TheVariants.{Association, Timer, Sequence, Status}
+use Rattle.signalling_types.specs.declared.notice.FailureReason.TheVariants.{Length, Changeover, Operator}
+use Rattle.signalling_types.specs.declared.outcome.Outcome.{Outcome}
+use Rattle.signalling_types.specs.declared.outcome.Outcome.TheVariants.{Queued, Held, Local, Handled, Ignored, Refused}
+use Rattle.served_link.specs.declared.counter.TheConstants.{CAUSES, REASONS}
+use Rattle.served_link.specs.declared.counter.Counter.{Counter}
+use Rattle.served_link.specs.declared.counter.Counter.TheVariants.{FramesIn, OctetsIn, FramesOut, OctetsOut}
+use Rattle.served_link.specs.declared.counter.Counter.TheVariants.{Forwarded, Delivered, Refused as RefusedBy}
+use Rattle.served_link.specs.declared.counter.Counter.TheVariants.{Failed, Retries}
+use Rattle.served_link.specs.declared.row.LinkCounters.{LinkCounters}
+
+-- what is counted of a link
+pub data Counted : Type 0 where
+  -- a frame of so many octets came in, with a user message or without one, and was handed in with this outcome
+  FrameCame : (octets : ℕ) (has_user_message : Bool) (outcome : Outcome) → Counted
+  -- a frame of so many octets went out
+  FrameWent : (octets : ℕ) → Counted
+  -- the link failed for this reason
+  Failure : (reason : FailureReason) → Counted
+  -- its connection was tried again
+  Retry : Counted
+
+-- a message of a service indicator from 2 on is a user's: 0 is network management, and 1 link tests (Q.704 §14.2.1)
+abbrev pub is_users : FrameValue → Bool
+is_users (EmptyFrame bsn fsn) = false
+is_users (MessageFrame bsn fsn sio sif) = nat_le 2 (sio % 16)
+is_users (StatusFrame bsn fsn status) = false
+
+abbrev pub is_read_as_users : Result FrameValue FrameFault → Bool
+is_read_as_users (Ok frame) = is_users frame
+is_read_as_users (Err fault) = false
+
+-- whether octets are a frame with a message of a user
+abbrev pub has_user_message : List ℕ → Bool
+has_user_message frame = is_read_as_users (read_frame frame)
+
+-- what is counted of a frame that came in, and of one that went out
+abbrev pub came : (frame : List ℕ) → Outcome → Counted
+came frame outcome = FrameCame (length frame) (has_user_message frame) outcome
+
+abbrev pub went : (frame : List ℕ) → Counted
+went frame = FrameWent (length frame)
+
+-- the place of a reason among all
+abbrev pub reason_number : FailureReason → ℕ
+reason_number Association = 0
+reason_number Timer = 1
+reason_number Sequence = 2
+reason_number Status = 3
+reason_number Length = 4
+reason_number Changeover = 5
+reason_number Operator = 6
+
+-- a count of 64 bits and so many more, which stays at its greatest value
+abbrev pub saturated : ℕ → ℕ
+saturated n = min n (2 ^ 64 - 1)
+
+-- nothing is counted yet
+abbrev pub no_counts : LinkCounters
+no_counts = record {
+  frames_in = 0;
+  octets_in = 0;
+  frames_out = 0;
+  octets_out = 0;
+  forwarded = 0;
+  delivered = 0;
+  refused = replicate CAUSES 0;
+  failed = replicate REASONS 0;
+  retries = 0;
+}
+
+abbrev pub one_more_at : ℕ → List ℕ → List ℕ
+one_more_at place counts = slice_set counts place (saturated (slice_index counts place + 1))
+
+-- a message was queued or held; of a user, it is forwarded
+abbrev pub sent_on : (has_user_message : Bool) → LinkCounters → LinkCounters
+sent_on has_user_message row =
+    record row { forwarded = if has_user_message then saturated (row.forwarded + 1) else row.forwarded }
+
+-- what an outcome adds
+abbrev pub outcome_counted : (has_user_message : Bool) → Outcome → LinkCounters → LinkCounters
+outcome_counted has_user_message (Queued link) row = sent_on has_user_message row
+outcome_counted has_user_message Held row = sent_on has_user_message row
+outcome_counted has_user_message Local row = record row { delivered = saturated (row.delivered + 1) }
+outcome_counted has_user_message Handled row = row
+outcome_counted has_user_message Ignored row = row
+outcome_counted has_user_message (Refused cause) row =
+    record row { refused = one_more_at (cause_number cause - 1) row.refused }
+
+-- the counters of a link after one thing more is counted
+abbrev pub counted : Counted → LinkCounters → LinkCounters
+counted (FrameCame octets has_user_message outcome) row =
+    outcome_counted has_user_message outcome (record row {
+      frames_in = saturated (row.frames_in + 1);
+      octets_in = saturated (row.octets_in + octets);
+    })
+counted (FrameWent octets) row =
+    record row { frames_out = saturated (row.frames_out + 1); octets_out = saturated (row.octets_out + octets) }
+counted (Failure reason) row = record row { failed = one_more_at (reason_number reason) row.failed }
+counted Retry row = record row { retries = saturated (row.retries + 1) }
+
+-- the counters of a link, in the counters of all
+abbrev pub row_at : List LinkCounters → ℕ → LinkCounters
+row_at rows link = slice_index_or rows link no_counts
+
+-- one thing more is counted of a link; of a link that isn't there nothing is
+abbrev pub counted_at : (link : ℕ) → Counted → List LinkCounters → List LinkCounters
+counted_at link what rows = slice_set rows link (counted what (row_at rows link))
+
+-- ---- the value of each counter
+
+abbrev pub value_of : Counter → LinkCounters → ℕ
+value_of FramesIn row = row.frames_in
+value_of OctetsIn row = row.octets_in
+value_of FramesOut row = row.frames_out
+value_of OctetsOut row = row.octets_out
+value_of Forwarded row = row.forwarded
+value_of Delivered row = row.delivered
+value_of (RefusedBy cause) row = slice_index row.refused (cause_number cause - 1)
+value_of (Failed reason) row = slice_index row.failed (reason_number reason)
+value_of Retries row = row.retries

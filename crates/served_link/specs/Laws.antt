@@ -1,0 +1,98 @@
+-- What holds of the counters after anything was counted: each is the sum of what was added to it.
+use Rattle.std.specs.Prelude.{◌≡◌, ℕ, ◌<◌, ◌==◌, Bool, true, false, if◌then◌else◌, List, [], ◌∷◌, replicate, sum_by}
+use Rattle.signalling_types.specs.Causes.{cause_number}
+use Rattle.signalling_types.specs.declared.cause.Cause.{Cause}
+use Rattle.signalling_types.specs.declared.outcome.Outcome.{Outcome}
+use Rattle.signalling_types.specs.declared.outcome.Outcome.TheVariants.{Queued, Held, Local, Handled, Ignored, Refused}
+use Rattle.served_link.specs.Counting.{Counted, FrameCame, FrameWent, Failure, Retry, reason_number, saturated}
+use Rattle.served_link.specs.Counting.{no_counts, counted, counted_at, row_at, value_of}
+use Rattle.served_link.specs.declared.counter.Counter.{Counter}
+use Rattle.served_link.specs.declared.counter.Counter.TheVariants.{FramesIn, OctetsIn, FramesOut, OctetsOut}
+use Rattle.served_link.specs.declared.counter.Counter.TheVariants.{Forwarded, Delivered, Refused as RefusedBy, Failed}
+use Rattle.served_link.specs.declared.counter.Counter.TheVariants.{Retries}
+use Rattle.served_link.specs.declared.row.LinkCounters.{LinkCounters}
+
+-- ---- how much is added
+
+-- a user message that was queued or held is forwarded
+abbrev pub is_forwarded : (has_user_message : Bool) → Outcome → Bool
+is_forwarded has_user_message (Queued link) = has_user_message
+is_forwarded has_user_message Held = has_user_message
+is_forwarded has_user_message Local = false
+is_forwarded has_user_message Handled = false
+is_forwarded has_user_message Ignored = false
+is_forwarded has_user_message (Refused cause) = false
+
+-- a message for this node was delivered
+abbrev pub is_delivered : Outcome → Bool
+is_delivered (Queued link) = false
+is_delivered Held = false
+is_delivered Local = true
+is_delivered Handled = false
+is_delivered Ignored = false
+is_delivered (Refused cause) = false
+
+-- it was refused for this cause
+abbrev pub is_refused_by : Cause → Outcome → Bool
+is_refused_by cause (Queued link) = false
+is_refused_by cause Held = false
+is_refused_by cause Local = false
+is_refused_by cause Handled = false
+is_refused_by cause Ignored = false
+is_refused_by cause (Refused other) = cause_number other == cause_number cause
+
+abbrev pub one_if : Bool → ℕ
+one_if true = 1
+one_if false = 0
+
+-- what a frame that came in adds to a counter
+abbrev pub frame_adds : Counter → (octets : ℕ) → (has_user_message : Bool) → Outcome → ℕ
+frame_adds FramesIn octets has_user_message outcome = 1
+frame_adds OctetsIn octets has_user_message outcome = octets
+frame_adds FramesOut octets has_user_message outcome = 0
+frame_adds OctetsOut octets has_user_message outcome = 0
+frame_adds Forwarded octets has_user_message outcome = one_if (is_forwarded has_user_message outcome)
+frame_adds Delivered octets has_user_message outcome = one_if (is_delivered outcome)
+frame_adds (RefusedBy cause) octets has_user_message outcome = one_if (is_refused_by cause outcome)
+frame_adds (Failed reason) octets has_user_message outcome = 0
+frame_adds Retries octets has_user_message outcome = 0
+
+-- what one thing that is counted adds to a counter
+abbrev pub adds : Counter → Counted → ℕ
+adds counter (FrameCame octets has_user_message outcome) = frame_adds counter octets has_user_message outcome
+adds FramesOut (FrameWent octets) = 1
+adds OctetsOut (FrameWent octets) = octets
+adds counter (FrameWent octets) = 0
+adds (Failed reason) (Failure other) = one_if (reason_number other == reason_number reason)
+adds counter (Failure other) = 0
+adds Retries Retry = 1
+adds counter Retry = 0
+
+-- ---- of many
+
+-- the counters of a link after some things are counted of it
+abbrev pub counted_each : List Counted → LinkCounters → LinkCounters
+counted_each [] row = row
+counted_each (what ∷ more) row = counted_each more (counted what row)
+
+-- the counters of all links after some things are counted, each of its link
+abbrev pub counted_all : List (ℕ × Counted) → List LinkCounters → List LinkCounters
+counted_all [] rows = rows
+counted_all (entry ∷ more) rows = counted_all more (counted_at entry.0 entry.1 rows)
+
+-- what is counted of one link
+abbrev pub adds_of : (link : ℕ) → Counter → ℕ × Counted → ℕ
+adds_of link counter entry = if entry.0 == link then adds counter entry.1 else 0
+
+-- ---- the laws
+
+-- each counter of a link is the sum of what was added to it, or 2^64 - 1 where the sum is above
+abbrev pub counters_are_sums : Type 0
+counters_are_sums = (counter : Counter) (whats : List Counted)
+    → value_of counter (counted_each whats no_counts) ≡ saturated (sum_by (adds counter) whats)
+
+-- so is each counter of each of the links, of what was counted of that link
+abbrev pub counters_of_links_are_sums : Type 0
+counters_of_links_are_sums = (links link : ℕ) (counter : Counter) (whats : List (ℕ × Counted)) → link < links
+    → value_of counter (row_at (counted_all whats (replicate links no_counts)) link)
+    ≡ saturated (sum_by (adds_of link counter) whats)

@@ -1,0 +1,10 @@
+pub mod Watching
+pub mod Connections
+pub mod Reading
+pub mod ManyReads
+pub mod Sending
+pub mod Room
+pub mod Ticking
+pub mod Counting
+pub mod Laws
+pub mod Lines

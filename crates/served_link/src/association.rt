@@ -1,0 +1,142 @@
+//! One connection of a link.
+
+ghost use Rattle.std.specs.Prelude.{◌≡◌, ◌≤◌, length};
+ghost use Rattle.exchange.specs.KeptQueues.{kept};
+ghost use Rattle.exchange.specs.Stands.{StandsFor};
+ghost use Rattle.exchange_rules.specs.Queues.{whole};
+ghost use Rattle.exchange_rules.specs.Sound.{Abstract};
+ghost use Rattle.served_link.specs.Connections.{opened, text_to_take, is_pending, filled, after_fill};
+ghost use Rattle.served_link.specs.Connections.{after_write, sights_of_write};
+ghost use Rattle.served_link.specs.Watching.{SeesEach};
+ghost use Rattle.served_link.specs.Reading.{Reads};
+
+use crate::outgoing::Outgoing;
+use crate::reading::read_all;
+use crate::watch::Watch;
+use exchange::{Exchange, Framer};
+use settings::LinkId;
+use std::marker::Model;
+
+/// The octets that came begin, where a frame is due, with a length field that no frame has: under 8, or above 4,096.
+#[derive(Clone, Copy, Debug, PartialEq, Eq)]
+pub struct Broken;
+
+/// One connection of a link: the octets that came and aren't a whole frame yet, and the frame that is being written.
+///
+/// It begins when the connection opens, and ends with it: octets that are held then, and the rest of a frame that isn't
+/// written whole, are gone. It allocates no memory.
+#[derive(Drop)]
+pub struct Association {
+    link: LinkId,
+    framer: Framer,
+    outgoing: Outgoing,
+}
+
+impl Model for Association {
+    ghost use Rattle.served_link.specs.Connections.{Connection};
+
+    ghost Value = { Connection };
+
+    ghost view = { λ a. record { link = a.link; held = a.framer; outgoing = a.outgoing } };
+}
+
+impl Association {
+    /// A new connection of the link: nothing has come, and nothing is going out.
+    pub fn new(link: LinkId) -> Association
+        ensures { result ≡ opened link }
+    {
+        Association {
+            link,
+            framer: Framer::new(),
+            outgoing: Outgoing::new(),
+        }
+    }
+
+    /// The link.
+    pub fn link(&self) -> LinkId
+        ensures { result ≡ self.now.link }
+    {
+        self.link
+    }
+
+    /// Takes octets that came, and hands in each frame that is whole, once and in order; the beginning of the next one
+    /// is held. Any number of octets may come at once, and a frame in any number of pieces.
+    ///
+    /// Broken where a frame is due and a length field comes that no frame has: under 8, or above 4,096 (RFC 4165
+    /// §2.1.5). Frames before it are handed in. Octets behind it are dropped, and each later call is Broken too: close
+    /// the connection, and hand in AssociationDown.
+    pub fn read<W: Watch>(
+        &mut self,
+        exchange: &mut Exchange,
+        octets: &[u8],
+        watch: &mut W,
+    ) -> Result<(), Broken>
+        // For every abstract state that the exchange stood for, what is read is that of the abstract exchange.
+        ensures read { (a : Abstract) → StandsFor exchange.old a → (b : Abstract) × StandsFor exchange.new b
+            × Reads W.sees whole self.old.link octets.now result self.old.held self.new.held a b watch.old watch.new }
+
+        // The same on what is kept.
+        ensures kept_read { Reads W.sees kept self.old.link octets.now result
+            self.old.held self.new.held exchange.old exchange.new watch.old watch.new }
+        ensures same { self.new ≡ record self.old { held = self.new.held } }
+    {
+        read_all(self.link, &mut self.framer, exchange, octets, watch)
+    }
+
+    /// Takes the next frame of the link, unless octets of one are left to write: so at most one frame is taken and not
+    /// written whole, and the others stay in the node, for a changeover. Returns whether octets are left to write.
+    pub fn fill(&mut self, exchange: &mut Exchange) -> bool
+        // For every abstract state that the exchange stood for, the frame is that of the abstract take,
+        ensures frame { (a : Abstract) → StandsFor exchange.old a → self.new ≡ record self.old {
+          outgoing = filled self.old.outgoing (text_to_take whole a self.old.link);
+        } }
+        // and the exchange stands for the state after it.
+        ensures state { (a : Abstract) → StandsFor exchange.old a →
+            StandsFor exchange.new (after_fill whole self.old.outgoing self.old.link a) }
+
+        // The same on what is kept.
+        ensures kept_frame { self.new ≡ record self.old {
+          outgoing = filled self.old.outgoing (text_to_take kept exchange.old self.old.link);
+        } }
+        ensures kept_state { exchange.new ≡ after_fill kept self.old.outgoing self.old.link exchange.old }
+        ensures pending { result ≡ is_pending self.new.outgoing }
+    {
+        self.fill_kept(exchange)
+    }
+
+    /// The same, on what is kept.
+    fn fill_kept(&mut self, exchange: &mut Exchange) -> bool
+        ensures frame { self.new ≡ record self.old {
+          outgoing = filled self.old.outgoing (text_to_take kept exchange.old self.old.link);
+        } }
+        ensures state { exchange.new ≡ after_fill kept self.old.outgoing self.old.link exchange.old }
+        ensures pending { result ≡ is_pending self.new.outgoing }
+    {
+        if !self.outgoing.is_pending() {
+            self.outgoing.take_from(exchange, self.link);
+        }
+        self.outgoing.is_pending()
+    }
+
+    /// The octets of the taken frame that aren't written yet; none where no frame is going out.
+    pub fn pending(&self) -> &[u8]
+        ensures { result.now ≡ self.now.outgoing.pending }
+    {
+        self.outgoing.pending()
+    }
+
+    /// So many of the pending octets were written, from the first on. Where none is left, the watch is told of the
+    /// frame, which went out whole.
+    pub fn written<W: Watch>(&mut self, count: usize, watch: &mut W)
+        requires { count ≤ length self.old.outgoing.pending }
+        ensures state { self.new ≡ record self.old { outgoing = after_write self.old.outgoing count } }
+        ensures seen { SeesEach W.sees (sights_of_write self.old.link self.old.outgoing count) watch.old watch.new }
+    {
+        if self.outgoing.is_completed_by(count) {
+            watch.went_out(self.link, self.outgoing.frame());
+            self.outgoing.clear();
+        } else {
+            self.outgoing.advance(count);
+        }
+    }
+}

@@ -1,0 +1,15 @@
+use Rattle.std.proofs.Common.{◌≡◌, ◌≤◌, [], length, map, take, drop, vec_len, vec_capacity}
+use Rattle.settings.specs.Checks.{entries_fault}
+use Rattle.settings.specs.Meaning.{destination_of, points_of}
+use Rattle.settings.specs.FirstFault.{destination_fault}
+use Rattle.settings.proofs.destinations.destination_rows.Given as goal
+
+abbrev pub invariant-loop-i : goal.invariant-loop-i
+invariant-loop-i l = record {
+  len : vec_len l.rows ≡ l.i;
+  room : length l.destinations ≤ vec_capacity l.rows;
+  rows : l.rows.items ≡ map (destination_of l.sets) (take l.i l.destinations);
+  points : l.points ≡ points_of (take l.i l.destinations);
+  indexed : l.points ≡ map (λ d. d.point) l.rows.items;
+  fault : entries_fault (destination_fault l.own l.sets) (take l.i l.destinations) (drop l.i l.destinations) ≡ entries_fault (destination_fault l.own l.sets) [] l.destinations;
+}

@@ -1,0 +1,6 @@
+use Rattle.std.proofs.Common.{◌≡◌, replicate, None}
+use Rattle.settings.proofs.points.no_places.Given as goal
+
+-- as many as the loop has gone round
+abbrev pub invariant-loop-code : goal.invariant-loop-code
+invariant-loop-code l = l.places.items ≡ replicate l.code None

@@ -1,0 +1,13 @@
+use Rattle.std.proofs.Common.{rules, ◌≡◌}
+use Rattle.std.specs.Prelude.{None}
+use Rattle.std.proofs.lemmas.Result.{err_from_is_err_and}
+use Rattle.settings.specs.Checks.{range_fault}
+use Rattle.settings_rows.specs.declared.key.Key.TheVariants.{TitlePoint}
+use Rattle.settings.proofs.Firsts.{past, there}
+use Rattle.settings.proofs.titles.routed_row.Goals as goal
+
+pub returns-in_err-by_title-clause-fault : goal.returns-in_err-by_title-clause-fault
+returns-in_err-by_title-clause-fault c =
+    let p = err_from_is_err_and c.from_residual-in_err-by_title.result c.from_residual-in_err-by_title.ensures.1 in
+    let point : range_fault 0 16383 (TitlePoint c.args.place) c.args.title.now.point ≡ None = search rules in
+    rw (p.1, p.2) (past _ _ _ point (there _ _ _ (rw c.as_str.ensures.value at c.in_err-by_title.ensures.fault)))

@@ -1,0 +1,28 @@
+-- A key is new where no row before has the same key and digits.
+use Rattle.std.proofs.Common.{◌≡◌, ◌∙◌, ap, refl, inr, not, []}
+use Rattle.std.specs.Prelude.{None}
+use Rattle.std.specs.List.{list_any}
+use Rattle.std.proofs.lemmas.Result.{err_from_is_err_and}
+use Rattle.settings.specs.FirstFault.{is_same_title}
+use Rattle.settings.specs.Titles.{title_key}
+use Rattle.settings_rows.specs.declared.draft.TitleDraft.{TitleDraft}
+use Rattle.settings.proofs.Entries.{any-map}
+use Rattle.settings.proofs.Firsts.{past, there}
+use Rattle.settings.specs.contracts.titles.TitleKeyPartialEq.TheImpl.{eq-value}
+use Rattle.settings.proofs.titles.title_digits.Goals as goal
+
+same : (t e : TitleDraft) → eq-value.it (title_key t) (title_key e) ≡ is_same_title t e
+same t e = refl
+
+pub returns-in_err-ensure-clause-fault : goal.returns-in_err-ensure-clause-fault
+returns-in_err-ensure-clause-fault c =
+    let e : c.in_ok-is_new.is_new ≡ not (list_any (is_same_title c.args.title.now) c.args.earlier.now) = c.in_ok-is_new.ensures.added ∙ ap not (rw (c.title_key.ensures, c.requires) (any-map (eq-value.it (title_key c.args.title.now)) title_key c.args.earlier.now)) in
+    let p = err_from_is_err_and c.from_residual-in_err-ensure.result c.from_residual-in_err-ensure.ensures.1 in
+    let w = rw c.as_str.ensures.value at c.in_ok-digits.ensures.well in
+    rw (p.1, p.2) (inr (past _ _ _ w (there _ [] _ (rw (← e) c.in_err-ensure.ensures.fault))))
+
+pub returns-clause-well : goal.returns-clause-well
+returns-clause-well c =
+    let e : c.in_ok-is_new.is_new ≡ not (list_any (is_same_title c.args.title.now) c.args.earlier.now) = c.in_ok-is_new.ensures.added ∙ ap not (rw (c.title_key.ensures, c.requires) (any-map (eq-value.it (title_key c.args.title.now)) title_key c.args.earlier.now)) in
+    let w = rw c.as_str.ensures.value at c.in_ok-digits.ensures.well in
+    past _ _ None w (past _ [] None (rw (← e) c.in_ok-ensure.ensures.well) refl)

@@ -1,0 +1,99 @@
+-- What settings as they were written mean.
+use Rattle.std.specs.Prelude.{ℕ, Bool, List, Option, codes, map, position, unwrap_or, nat_le, ◌-◌, if◌then◌else◌}
+use Rattle.std.specs.Prelude.{string_bytes}
+use Rattle.std.specs.Option.{option_map}
+use Rattle.std.specs.Str.{bytes_eq}
+use Rattle.settings.specs.Checks.{natural}
+use Rattle.settings_rows.specs.Configuration.{Configuration, SetEntry, LinkEntry, DestinationEntry, TitleEntry}
+use Rattle.settings_rows.specs.declared.title_row.TitleRoute.{TitleRoute}
+use Rattle.settings_rows.specs.declared.title_row.TitleRoute.TheVariants.{Title, Ssn}
+use Rattle.settings_rows.specs.declared.timer_ticks.TimerTicks.{TimerTicks}
+use Rattle.settings_rows.specs.declared.draft.Draft.{Draft}
+use Rattle.settings_rows.specs.declared.draft.TimersDraft.{TimersDraft}
+use Rattle.settings_rows.specs.declared.draft.SetDraft.{SetDraft}
+use Rattle.settings_rows.specs.declared.draft.LinkDraft.{LinkDraft}
+use Rattle.settings_rows.specs.declared.draft.DestinationDraft.{DestinationDraft}
+use Rattle.settings_rows.specs.declared.draft.TitleDraft.{TitleDraft}
+
+abbrev pub ticks_of : TimersDraft → TimerTicks
+ticks_of t = record {
+  l1 = natural t.l1;
+  l2 = natural t.l2;
+  l3 = natural t.l3;
+  l4 = natural t.l4;
+  l6 = natural t.l6;
+  l7 = natural t.l7;
+  t1 = natural t.t1;
+  t2 = natural t.t2;
+  t3 = natural t.t3;
+  t4 = natural t.t4;
+  t6 = natural t.t6;
+  t8 = natural t.t8;
+  t10 = natural t.t10;
+}
+
+-- the place of the set of this name
+abbrev pub set_place : List SetDraft → List ℕ → Option ℕ
+set_place sets name = position (λ s. bytes_eq (string_bytes s.name) name) sets
+
+-- the number of the set of this name, where there is one
+abbrev pub set_number : List SetDraft → List ℕ → ℕ
+set_number sets name = unwrap_or (set_place sets name) 0
+
+abbrev pub set_of : SetDraft → SetEntry
+set_of s = record { name = string_bytes s.name; adjacent = natural s.adjacent }
+
+abbrev pub link_of : List SetDraft → LinkDraft → LinkEntry
+link_of sets l = record {
+  name = string_bytes l.name;
+  set = set_number sets (string_bytes l.set);
+  slc = natural l.slc;
+}
+
+abbrev pub destination_of : List SetDraft → DestinationDraft → DestinationEntry
+destination_of sets d = record {
+  point = natural d.point;
+  sets = map (λ name. set_number sets (string_bytes name)) d.sets.items;
+  joined = d.joined;
+}
+
+-- the point codes of destinations
+abbrev pub points_of : List DestinationDraft → List ℕ
+points_of destinations = map (λ d. natural d.point) destinations
+
+-- the value of a digit that is written 0 to 9 or a to f
+abbrev pub digit_of : ℕ → ℕ
+digit_of octet = if nat_le octet 57 then octet - 48 else octet - 87
+
+-- whether a translation row is routed by title
+abbrev pub is_by_title : TitleDraft → Bool
+is_by_title t = bytes_eq (string_bytes t.route) (codes "title")
+
+-- a route by title has a subsystem number beside it, if any; any other is by its subsystem number
+abbrev pub route_of : Bool → Option ℕ → TitleRoute
+route_of by_title ssn = if by_title then Title ssn else Ssn (unwrap_or ssn 0)
+
+abbrev pub title_of : TitleDraft → TitleEntry
+title_of t = record {
+  translation = natural t.translation;
+  plan = natural t.plan;
+  nature = natural t.nature;
+  digits = map digit_of (string_bytes t.digits);
+  point = natural t.point;
+  route = route_of (is_by_title t) (option_map natural t.ssn);
+}
+
+abbrev pub settings_of : Draft → Configuration
+settings_of d = record {
+  own = natural d.own;
+  network = natural d.network;
+  window = natural d.window;
+  pool = natural d.pool;
+  users = map natural d.users.items;
+  subsystems = map natural d.subsystems.items;
+  timers = ticks_of d.timers;
+  sets = map set_of d.sets.items;
+  links = map (link_of d.sets.items) d.links.items;
+  destinations = map (destination_of d.sets.items) d.destinations.items;
+  titles = map title_of d.titles.items;
+}

@@ -1,0 +1,41 @@
+//! Names of links and link sets.
+
+ghost use Rattle.std.specs.Prelude.{◌≡◌, None, Some, IsTrue, OnOk, IfErr};
+ghost use Rattle.std.specs.List.{list_all};
+ghost use Rattle.settings_rows.specs.Names.{is_name, is_name_octet};
+ghost use Rattle.settings.specs.Checks.{name_fault};
+
+use crate::numbers::ensure;
+use settings_rows::{DraftFault, FaultKind, Key};
+use signalling_types::Limits;
+
+/// Whether an octet may stand in a name.
+fn is_name_octet(octet: u8) -> bool
+    ensures { result ≡ is_name_octet octet }
+{
+    matches!(octet, b'a'..=b'z' | b'0'..=b'9' | b'-')
+}
+
+/// Whether all octets may stand in a name.
+fn are_name_octets(text: &[u8]) -> bool
+    ensures { result ≡ list_all is_name_octet text.now }
+{
+    text.iter().all(|octet| is_name_octet(*octet))
+}
+
+/// Whether a text is a name of a link or a link set.
+pub(crate) fn is_name(text: &str) -> bool
+    ensures { result ≡ is_name text.now }
+{
+    0 < text.len() && text.len() <= Limits::NAME_OCTETS && are_name_octets(text.as_bytes())
+}
+
+/// Sees that a text is a name, and that it doesn't stand twice.
+pub(crate) fn ensure_name(text: &str, is_repeat: bool, key: Key) -> Result<(), DraftFault>
+    ensures form { OnOk result (IsTrue (is_name text.now)) }
+    ensures well { OnOk result (name_fault key text.now is_repeat ≡ None) }
+    ensures fault { IfErr result (λ fault. name_fault key text.now is_repeat ≡ Some fault) }
+{
+    ensure(is_name(text), FaultKind::Range, key)?;
+    ensure(!is_repeat, FaultKind::Duplicate, key)
+}

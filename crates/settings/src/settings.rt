@@ -1,0 +1,214 @@
+//! The checked settings of a node.
+
+ghost use Rattle.std.specs.Str.{bytes_eq};
+ghost use Rattle.std.specs.List.{list_any, IsDistinct};
+ghost use Rattle.std.specs.Option.{option_copied, option_map};
+ghost use Rattle.std.specs.Prelude.{All, IfOk, IfSome, OnOk, IfErr, ◌⊎◌, Some, None, ◌≡◌, position, ◌<◌, ◌≤◌, length};
+ghost use Rattle.std.specs.Prelude.{nat_eq, slice_get};
+ghost use Rattle.settings.specs.Meaning.{settings_of};
+ghost use Rattle.settings.specs.FirstFault.{first_fault};
+ghost use Rattle.settings.specs.Readings.{link_place, destination_place, first_to, set_place};
+ghost use Rattle.settings.specs.Well.{IsWell, IsWithin, IsSet, IsLink, IsDestination, IsTitle, all_ticks};
+ghost use Rattle.settings.specs.Well.{is_same_row};
+
+use crate::check::{Checked, check_draft};
+use settings_rows::{DestinationRow, Draft, DraftFault, LinkRow, SetRow, TimerTicks, TitleRow};
+use signalling_types::{Limits, LinkId, PointCode, SetId};
+use std::alloc::Global;
+use std::marker::Model;
+
+/// The checked settings of a node: every name is known, every number is within its limit.
+#[derive(Drop)]
+pub struct Settings {
+    checked: Checked,
+}
+
+impl Model for Settings {
+    ghost use Rattle.settings_rows.specs.Configuration.{Configuration};
+
+    ghost Value = { Configuration };
+
+    ghost use Rattle.settings.specs.Kept.{configuration_of, IsKept};
+
+    ghost view = { configuration_of };
+
+    ghost invariant = { IsKept };
+}
+
+impl Settings {
+    /// Checks settings as they were written.
+    ///
+    /// Returns the settings, or the first fault: the keys in their order, the entries of an array from the first on,
+    /// and last of all a set whose adjacent point isn't a destination that it leads to first. If an allocation was
+    /// refused, it returns `NoMemory` instead.
+    pub fn check(alloc: Global, draft: Draft) -> Result<Settings, DraftFault>
+        ensures settings { IfOk result (λ settings. settings ≡ settings_of draft) }
+        ensures well { OnOk result (first_fault draft ≡ None) }
+        ensures fault { IfErr result (λ fault.
+            (fault ≡ DraftFault.NoMemory) ⊎ (first_fault draft ≡ Some fault)) }
+    {
+        let checked = check_draft(alloc, &draft)?;
+        Ok(Settings { checked })
+    }
+
+    /// The law that all checked settings keep every limit and name. The call does nothing.
+    pub fn are_well(&self)
+        ensures { IsWell self.now }
+    {
+        let _ = &self.checked;
+    }
+
+    /// The node's own point code.
+    pub fn own(&self) -> PointCode
+        ensures { result ≡ self.now.own }
+    {
+        self.checked.own
+    }
+
+    /// The network indicator of the node's messages, 0 to 3 (Q.704 §14.2.2).
+    pub fn network(&self) -> u8
+        ensures value { result ≡ self.now.network }
+        ensures fits { self.now.network < 4 }
+    {
+        self.checked.network
+    }
+
+    /// How many messages may be sent on a link without being confirmed.
+    pub fn window(&self) -> usize
+        ensures value { result ≡ self.now.window }
+        ensures above { 1 ≤ self.now.window }
+        ensures fits { self.now.window ≤ Limits.WINDOW }
+    {
+        self.checked.window as usize
+    }
+
+    /// How many user messages the node may keep.
+    pub fn pool(&self) -> usize
+        ensures value { result ≡ self.now.pool }
+        ensures above { 1 ≤ self.now.pool }
+        ensures fits { self.now.pool ≤ Limits.POOL }
+    {
+        self.checked.pool as usize
+    }
+
+    /// Whether this node has a user part with this service indicator.
+    pub fn is_user(&self, service_indicator: u8) -> bool
+        ensures { result ≡ list_any (λ user. nat_eq user service_indicator) self.now.users }
+    {
+        self.checked.users.contains(&service_indicator)
+    }
+
+    /// The numbers of this node's subsystems.
+    pub fn subsystems(&self) -> &[u8]
+        ensures value { result.now ≡ self.now.subsystems }
+        ensures numbers { All (IsWithin 1 255) self.now.subsystems }
+    {
+        &self.checked.subsystems
+    }
+
+    /// How many ticks each timer runs: 1 to 65,535.
+    pub fn timers(&self) -> TimerTicks
+        ensures value { result ≡ self.now.timers }
+        ensures ticks { All (IsWithin 1 Limits.TICKS) (all_ticks self.now.timers) }
+    {
+        self.checked.timers
+    }
+
+    /// The link sets, in the order of the settings.
+    pub fn sets(&self) -> &[SetRow]
+        ensures rows { result.now ≡ self.now.sets }
+        ensures above { 1 ≤ length self.now.sets }
+        ensures fits { length self.now.sets ≤ Limits.SETS }
+        ensures well { All (IsSet self.now.own) self.now.sets }
+    {
+        &self.checked.sets
+    }
+
+    /// The links, in the order of the settings.
+    pub fn links(&self) -> &[LinkRow]
+        ensures rows { result.now ≡ self.now.links }
+        ensures above { 1 ≤ length self.now.links }
+        ensures fits { length self.now.links ≤ Limits.LINKS }
+        ensures well { All (IsLink (length self.now.sets)) self.now.links }
+    {
+        &self.checked.links
+    }
+
+    /// The destinations, in the order of the settings.
+    pub fn destinations(&self) -> &[DestinationRow]
+        ensures rows { result.now ≡ self.now.destinations }
+        ensures above { 1 ≤ length self.now.destinations }
+        ensures fits { length self.now.destinations ≤ Limits.DESTINATIONS }
+        ensures well { All (IsDestination self.now.own (length self.now.sets)) self.now.destinations }
+    {
+        &self.checked.destinations
+    }
+
+    /// The translation rows, in the order of the settings.
+    pub fn titles(&self) -> &[TitleRow]
+        ensures rows { result.now ≡ self.now.titles }
+        ensures fits { length self.now.titles ≤ Limits.TITLES }
+        ensures well { All IsTitle self.now.titles }
+        ensures differ { IsDistinct is_same_row self.now.titles }
+    {
+        &self.checked.titles
+    }
+
+    /// How many links there are.
+    pub fn link_count(&self) -> usize
+        ensures value { result ≡ length self.now.links }
+        ensures fits { length self.now.links ≤ Limits.LINKS }
+    {
+        self.checked.links.len()
+    }
+
+    /// The name of a link, or `None` if no link has this number.
+    pub fn link_name(&self, link: LinkId) -> Option<&str>
+        ensures name { option_copied result ≡ option_map (λ row. row.name) (slice_get self.now.links link) }
+        ensures fits { IfSome result (λ name. length name.now ≤ Limits.NAME_OCTETS) }
+    {
+        let row = self.checked.links.get(link.index())?;
+        Some(row.name())
+    }
+
+    /// The link of this name. It looks through all links.
+    pub fn link_named(&self, name: &[u8]) -> Option<LinkId>
+        ensures { result ≡ link_place self.now name.now }
+    {
+        let place = link_position(&self.checked.links, name)?;
+        Some(LinkId::new(place as u8))
+    }
+
+    /// The number of the destination of this point code. It costs one look-up, however many destinations there are.
+    pub fn destination(&self, point: PointCode) -> Option<usize>
+        ensures { result ≡ destination_place self.now point }
+    {
+        self.checked.points.place(point)
+    }
+
+    /// The set whose links lead to this point. It costs the same however many sets there are.
+    pub fn set_to(&self, point: PointCode) -> Option<SetId>
+        ensures { result ≡ set_place self.now point }
+    {
+        let checked = &self.checked;
+        let place = self.destination(point)?;
+        let destination = &checked.destinations[place];
+        first_to(&checked.sets, destination.sets(), point)
+    }
+}
+
+/// The first of these sets, if its links lead to this point.
+fn first_to(sets: &[SetRow], ids: &[SetId], point: PointCode) -> Option<SetId>
+    ensures { result ≡ first_to sets.now ids.now point }
+{
+    let first = *ids.first()?;
+    let row = sets.get(first.index())?;
+    (row.adjacent() == point).then_some(first)
+}
+
+/// The number of the link of this name.
+fn link_position(links: &[LinkRow], name: &[u8]) -> Option<usize>
+    ensures { result ≡ position (λ l. bytes_eq l.name name.now) links.now }
+{
+    links.iter().position(|row| row.name().as_bytes() == name)
+}

@@ -1,0 +1,271 @@
+//! Translation rows of settings.
+
+ghost use Rattle.std.specs.Option.{option_map};
+ghost use Rattle.std.specs.Prelude.{if◌then◌else◌, ◌≡◌, ◌<◌, ◌≤◌, ◌^◌, ◌∷◌, ◌++◌, ◌⊎◌, [], ◌||◌, None, Some, is_some};
+ghost use Rattle.std.specs.Prelude.{All, codes, length, map, IfOk, OnOk, IfErr, string_bytes};
+ghost use Rattle.std.specs.List.{list_all};
+ghost use Rattle.std.specs.Str.{bytes_eq};
+ghost use Rattle.settings.specs.Checks.{natural, fault_unless, entries_fault, is_digit, digits_fault};
+ghost use Rattle.settings.specs.Checks.{route_fault, subsystem_fault};
+ghost use Rattle.settings.specs.Meaning.{title_of, digit_of, route_of};
+ghost use Rattle.settings.specs.Titles.{title_key};
+ghost use Rattle.settings.specs.FirstFault.{title_numbers_fault, title_digits_fault, title_target_fault};
+ghost use Rattle.settings.specs.FirstFault.{title_fault, titles_fault};
+
+use crate::numbers::{ensure, number, point};
+use arrayvec::ArrayVec;
+use indexmap::IndexSet;
+use settings_rows::{DraftFault, FaultKind, Key, TitleDraft, TitleRoute, TitleRow};
+use signalling_types::{Limits, Ssn};
+use std::alloc::Global;
+
+/// The largest subsystem number.
+const LAST_SUBSYSTEM: u16 = 255;
+
+/// The largest translation type.
+const LAST_TRANSLATION: u16 = 255;
+
+/// The largest numbering plan.
+const LAST_PLAN: u16 = 15;
+
+/// The largest nature of address.
+const LAST_NATURE: u16 = 127;
+
+/// Digits of a translation row.
+type Digits = ArrayVec<u8, { Limits::TITLE_DIGITS }>;
+
+/// What may stand in one translation row alone: its key and its digits, as they were written.
+#[derive(PartialEq, Eq, Hash, Drop)]
+struct TitleKey {
+    translation: i64,
+    plan: i64,
+    nature: i64,
+    digits: Digits,
+}
+
+/// The value of a digit that is written 0 to 9 or a to f.
+fn digit(octet: u8) -> Option<u8>
+    ensures { result ≡ (if is_digit octet then Some (digit_of octet) else None) }
+{
+    match octet {
+        b'0'..=b'9' => Some(octet - b'0'),
+        b'a'..=b'f' => Some(octet - b'a' + 10),
+        _ => None,
+    }
+}
+
+/// The values of digits.
+fn digit_values(text: &[u8], key: Key) -> Result<Digits, DraftFault>
+    requires { length text.now ≤ Limits.TITLE_DIGITS }
+    ensures value { IfOk result (λ digits. digits.items ≡ map digit_of text.now) }
+    ensures range { IfOk result (λ digits. All (λ digit. digit < 2 ^ 4) digits.items) }
+    ensures well { OnOk result
+        (fault_unless (list_all is_digit text.now) FaultKind.Range key ≡ None) }
+    ensures fault { IfErr result (λ fault.
+        fault_unless (list_all is_digit text.now) FaultKind.Range key ≡ Some fault) }
+{
+    let mut digits = ArrayVec::new();
+    for octet in text {
+        match digit(*octet) {
+            Some(value) => digits.push(value),
+            None => return Err(DraftFault::At(FaultKind::Range, key)),
+        }
+    }
+    Ok(digits)
+}
+
+/// The digits of a translation row.
+fn digits(text: &str, key: Key) -> Result<Digits, DraftFault>
+    ensures value { IfOk result (λ digits. digits.items ≡ map digit_of text.now) }
+    ensures some { IfOk result (λ digits. 1 ≤ length digits.items) }
+    ensures fits { IfOk result (λ digits. length digits.items ≤ Limits.TITLE_DIGITS) }
+    ensures range { IfOk result (λ digits. All (λ digit. digit < 2 ^ 4) digits.items) }
+    ensures well { OnOk result (digits_fault key text.now ≡ None) }
+    ensures fault { IfErr result (λ fault. digits_fault key text.now ≡ Some fault) }
+{
+    let octets = text.as_bytes();
+    let fits = 0 < octets.len() && octets.len() <= Limits::TITLE_DIGITS;
+    ensure(fits, FaultKind::Range, key)?;
+    digit_values(octets, key)
+}
+
+/// The key and the digits of a translation row, as they were written.
+fn title_key(title: &TitleDraft) -> TitleKey
+    requires { length (string_bytes title.now.digits) ≤ Limits.TITLE_DIGITS }
+    ensures { result ≡ title_key title.now }
+{
+    let mut digits = ArrayVec::new();
+    for octet in title.digits.as_bytes() {
+        digits.push(*octet);
+    }
+    TitleKey {
+        translation: title.translation,
+        plan: title.plan,
+        nature: title.nature,
+        digits,
+    }
+}
+
+/// The digits of a translation row, after the rows before it, whose keys are `seen`.
+fn title_digits(
+    seen: &mut IndexSet<TitleKey>,
+    earlier: &[TitleDraft],
+    title: &TitleDraft,
+) -> Result<Digits, DraftFault>
+    requires { seen.old.keys ≡ map title_key earlier.now }
+    ensures value { IfOk result (λ digits.
+        digits.items ≡ map digit_of (string_bytes title.now.digits)) }
+    ensures some { IfOk result (λ digits. 1 ≤ length digits.items) }
+    ensures fits { IfOk result (λ digits. length digits.items ≤ Limits.TITLE_DIGITS) }
+    ensures range { IfOk result (λ digits. All (λ digit. digit < 2 ^ 4) digits.items) }
+    ensures seen { OnOk result (seen.new.keys ≡ seen.old.keys ++ title_key title.now ∷ []) }
+    ensures well { OnOk result (title_digits_fault earlier.now title.now ≡ None) }
+    ensures fault { IfErr result (λ fault.
+        (fault ≡ DraftFault.NoMemory) ⊎ (title_digits_fault earlier.now title.now ≡ Some fault)) }
+{
+    let key = Key::TitleDigits(earlier.len());
+    let digits = digits(title.digits.as_str(), key)?;
+    let is_new = seen.insert(title_key(title))?;
+    ensure(is_new, FaultKind::Duplicate, key)?;
+    Ok(digits)
+}
+
+/// Whether a route is by title; else it is by subsystem number.
+fn is_by_title(route: &str, key: Key) -> Result<bool, DraftFault>
+    ensures value { IfOk result (λ by_title. by_title ≡ bytes_eq route.now (codes "title")) }
+    ensures well { OnOk result (route_fault key route.now ≡ None) }
+    ensures fault { IfErr result (λ fault. route_fault key route.now ≡ Some fault) }
+{
+    let by_title = route == "title";
+    let by_number = route == "ssn";
+    ensure(by_title || by_number, FaultKind::Range, key)?;
+    Ok(by_title)
+}
+
+/// The subsystem number that was written, if any.
+fn subsystem(ssn: Option<i64>, key: Key) -> Result<Option<Ssn>, DraftFault>
+    ensures value { IfOk result (λ n. n ≡ option_map natural ssn) }
+    ensures well { OnOk result (subsystem_fault key ssn ≡ None) }
+    ensures fault { IfErr result (λ fault. subsystem_fault key ssn ≡ Some fault) }
+{
+    let Some(ssn) = ssn else {
+        return Ok(None);
+    };
+    let number = number(ssn, 1, LAST_SUBSYSTEM, key)?;
+    Ok(Ssn::new(number as u8))
+}
+
+/// How a translation row is routed: by title or not, with this subsystem number, if any.
+fn route(by_title: bool, ssn: Option<Ssn>, key: Key) -> Result<TitleRoute, DraftFault>
+    ensures value { IfOk result (λ route. route ≡ route_of by_title ssn) }
+    ensures well { OnOk result (fault_unless (by_title || is_some ssn) FaultKind.Range key ≡ None) }
+    ensures fault { IfErr result (λ fault.
+        fault_unless (by_title || is_some ssn) FaultKind.Range key ≡ Some fault) }
+{
+    match ssn {
+        _ if by_title => Ok(TitleRoute::Title(ssn)),
+        Some(ssn) => Ok(TitleRoute::Ssn(ssn)),
+        None => Err(DraftFault::At(FaultKind::Range, key)),
+    }
+}
+
+/// The translation type, the numbering plan and the nature of address of a translation row.
+fn title_numbers(title: &TitleDraft, place: usize) -> Result<(u8, u8, u8), DraftFault>
+    ensures value { IfOk result (λ n.
+        n ≡ (natural title.now.translation, natural title.now.plan, natural title.now.nature)) }
+    ensures plan { IfOk result (λ n. n.1 < 2 ^ 4) }
+    ensures nature { IfOk result (λ n. n.2 < 2 ^ 7) }
+    ensures well { OnOk result (title_numbers_fault place title.now ≡ None) }
+    ensures fault { IfErr result (λ fault. title_numbers_fault place title.now ≡ Some fault) }
+{
+    let translation = number(
+        title.translation,
+        0,
+        LAST_TRANSLATION,
+        Key::TitleTranslation(place),
+    )?;
+    let plan = number(title.plan, 0, LAST_PLAN, Key::TitlePlan(place))?;
+    let nature = number(title.nature, 0, LAST_NATURE, Key::TitleNature(place))?;
+    Ok((translation as u8, plan as u8, nature as u8))
+}
+
+/// The translation row of these numbers and digits, which stand in the row that was written.
+fn routed_row(
+    title: &TitleDraft,
+    place: usize,
+    numbers: (u8, u8, u8),
+    digits: &[u8],
+) -> Result<TitleRow, DraftFault>
+    requires numbers { numbers
+        ≡ (natural title.now.translation, natural title.now.plan, natural title.now.nature) }
+    requires digits { digits.now ≡ map digit_of (string_bytes title.now.digits) }
+    requires plan { numbers.1 < 2 ^ 4 }
+    requires nature { numbers.2 < 2 ^ 7 }
+    requires some { 1 ≤ length digits.now }
+    requires fits { length digits.now ≤ Limits.TITLE_DIGITS }
+    requires range { All (λ digit. digit < 2 ^ 4) digits.now }
+    ensures value { IfOk result (λ row. row ≡ title_of title.now) }
+    ensures well { OnOk result (title_target_fault place title.now ≡ None) }
+    ensures fault { IfErr result (λ fault. title_target_fault place title.now ≡ Some fault) }
+{
+    let (translation, plan, nature) = numbers;
+    let point = point(title.point, Key::TitlePoint(place))?;
+    let by_title = is_by_title(title.route.as_str(), Key::TitleRoute(place))?;
+    let ssn = subsystem(title.ssn, Key::TitleSsn(place))?;
+    let route = route(by_title, ssn, Key::TitleSsn(place))?;
+    TitleRow::new(translation, plan, nature, digits, point, route).ok_or(DraftFault::At(
+        FaultKind::Range,
+        Key::TitleDigits(place),
+    ))
+}
+
+/// A translation row, after those before it, whose keys are `seen`.
+fn title_row(
+    seen: &mut IndexSet<TitleKey>,
+    earlier: &[TitleDraft],
+    title: &TitleDraft,
+) -> Result<TitleRow, DraftFault>
+    requires { seen.old.keys ≡ map title_key earlier.now }
+    ensures value { IfOk result (λ row. row ≡ title_of title.now) }
+    ensures seen { OnOk result (seen.new.keys ≡ seen.old.keys ++ title_key title.now ∷ []) }
+    ensures well { OnOk result (title_fault earlier.now title.now ≡ None) }
+    ensures fault { IfErr result (λ fault.
+        (fault ≡ DraftFault.NoMemory) ⊎ (title_fault earlier.now title.now ≡ Some fault)) }
+{
+    let place = earlier.len();
+    let numbers = title_numbers(title, place)?;
+    let digits = title_digits(seen, earlier, title)?;
+    routed_row(title, place, numbers, digits.as_slice())
+}
+
+/// The rows of the translations.
+fn title_rows(alloc: Global, titles: &[TitleDraft]) -> Result<Vec<TitleRow>, DraftFault>
+    ensures value { IfOk result (λ rows. rows.items ≡ map title_of titles.now) }
+    ensures well { OnOk result (entries_fault title_fault [] titles.now ≡ None) }
+    ensures fault { IfErr result (λ fault.
+        (fault ≡ DraftFault.NoMemory) ⊎ (entries_fault title_fault [] titles.now ≡ Some fault)) }
+{
+    let mut rows = Vec::with_capacity(alloc, titles.len())?;
+    let mut seen = IndexSet::with_capacity(alloc, titles.len())?;
+    for i in 0..titles.len() {
+        let row = title_row(&mut seen, &titles[..i], &titles[i])?;
+        rows.push_reserved(row);
+    }
+    Ok(rows)
+}
+
+/// The translation rows, as many as there may be.
+#[tactic(auto, unfolding(crate::specs::FirstFault::titles_fault))]
+pub(crate) fn checked_titles(
+    alloc: Global,
+    titles: &[TitleDraft],
+) -> Result<Vec<TitleRow>, DraftFault>
+    ensures value { IfOk result (λ rows. rows.items ≡ map title_of titles.now) }
+    ensures well { OnOk result (titles_fault titles.now ≡ None) }
+    ensures fault { IfErr result (λ fault.
+        (fault ≡ DraftFault.NoMemory) ⊎ (titles_fault titles.now ≡ Some fault)) }
+{
+    let fits = titles.len() <= Limits::TITLES;
+    ensure(fits, FaultKind::TooMany, Key::Title)?;
+    title_rows(alloc, titles)
+}

@@ -1,3 +1,0 @@
-pub mod Firsts
-pub mod Entries
-pub mod Indexing

@@ -1,6 +1,0 @@
-use Rattle.std.proofs.Common.{◌≡◌, string_eq, drop}
-use Rattle.settings_check.specs.Checks.{has_repeat}
-use Rattle.settings_check.proofs.destinations.has_name_twice.Given as goal
-
-abbrev pub invariant-loop-i : goal.invariant-loop-i
-invariant-loop-i l = has_repeat string_eq (drop l.i l.names) ≡ has_repeat string_eq l.names

@@ -1,8 +1,0 @@
-use Rattle.std.specs.Prelude.{string_bytes}
-use Rattle.std.specs.Str.{bytes_eq}
-use Rattle.settings_rows.specs.declared.draft.SetDraft.{SetDraft}
-use Rattle.settings_check.proofs.Entries.{some_place}
-use Rattle.settings_check.proofs.sets.has_set_named.Goals as goal
-
-pub returns : goal.returns
-returns c = rw (c.is_some.ensures, c.set_place.ensures) (some_place (λ (s : SetDraft). bytes_eq (string_bytes s.name) c.args.name.now) c.args.sets.now)

@@ -1,5 +1,0 @@
-use Rattle.std.proofs.Common.{◌≡◌, take, string_bytes}
-use Rattle.settings_check.proofs.titles.title_key.Given as goal
-
-abbrev pub invariant-loop-octet : goal.invariant-loop-octet
-invariant-loop-octet l = l.digits.items ≡ take l.octet-index (string_bytes l.title.digits)

@@ -1,6 +1,0 @@
-use Rattle.std.proofs.lemmas.Result.{IfOk-weaker}
-use Rattle.settings_faults.proofs.Placed.{is-about}
-use Rattle.settings_faults.proofs.places.about.Goals as goal
-
-pub returns : goal.returns
-returns c = IfOk-weaker c.format.result _ _ (λ sentence written. is-about _ _ _ _ _ _ _ written) c.format.ensures.ok

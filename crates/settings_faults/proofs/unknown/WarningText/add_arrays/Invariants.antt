@@ -1,5 +1,0 @@
-use Rattle.settings_faults.specs.Warnings.{GoesOn}
-use Rattle.settings_faults.proofs.unknown.WarningText.add_arrays.Given as goal
-
-abbrev pub invariant-loop-array : goal.invariant-loop-array
-invariant-loop-array l = GoesOn l.fn.self l.self

@@ -1,5 +1,0 @@
-use Rattle.settings_faults.specs.Warnings.{GoesOn}
-use Rattle.settings_faults.proofs.unknown.WarningText.add_table.Given as goal
-
-abbrev pub invariant-loop-key : goal.invariant-loop-key
-invariant-loop-key l = GoesOn l.fn.self l.self

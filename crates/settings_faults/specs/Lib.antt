@@ -1,4 +1,0 @@
-pub mod Sentences
-pub mod Values
-pub mod KnownKeys
-pub mod Warnings

@@ -1,0 +1,10 @@
+use Rattle.std.proofs.Common.{◌≡◌, drop, map}
+use Rattle.toml.specs.View.{view}
+use Rattle.settings_file.specs.Shapes.{each}
+use Rattle.settings_file.specs.Written.{destination_written}
+use Rattle.settings_file.specs.Entries.{destination_in}
+use Rattle.settings_file.proofs.Each.{after}
+use Rattle.settings_file.proofs.arrays.each_destination.Given as goal
+
+abbrev pub invariant-loop-i : goal.invariant-loop-i
+invariant-loop-i l = after (map destination_written l.destinations.items) (each (destination_in l.has_joined) l.i (map view (drop l.i l.values))) ≡ each (destination_in l.has_joined) 0 (map view l.values)

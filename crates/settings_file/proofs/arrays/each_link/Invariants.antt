@@ -1,0 +1,10 @@
+use Rattle.std.proofs.Common.{◌≡◌, drop, map}
+use Rattle.toml.specs.View.{view}
+use Rattle.settings_file.specs.Shapes.{each}
+use Rattle.settings_file.specs.Written.{link_written}
+use Rattle.settings_file.specs.Entries.{link_entry_in}
+use Rattle.settings_file.proofs.Each.{after}
+use Rattle.settings_file.proofs.arrays.each_link.Given as goal
+
+abbrev pub invariant-loop-i : goal.invariant-loop-i
+invariant-loop-i l = after (map link_written l.links.items) (each link_entry_in l.i (map view (drop l.i l.values))) ≡ each link_entry_in 0 (map view l.values)

@@ -1,0 +1,14 @@
+use Rattle.std.proofs.Common.{refl, codes}
+use Rattle.toml.proofs.Views.{table_get}
+use Rattle.settings_file.proofs.unknown.version_of.Goals as goal
+
+pub returns-in-Some : goal.returns-in-Some
+returns-in-Some c = rw (
+  ← table_get c.get.result (codes "version") c.args.document.now.entries c.get.ensures.value,
+  c.in-Some.is,
+  c.as_integer.ensures,
+) refl
+
+pub returns-in-None : goal.returns-in-None
+returns-in-None c =
+    rw (← table_get c.get.result (codes "version") c.args.document.now.entries c.get.ensures.value, c.in-None.is) refl

@@ -1,0 +1,108 @@
+-- What a document says of settings. Its keys are read in their order, and the first fault among them is the
+-- document's; keys of other names are ignored.
+use Rattle.std.specs.Prelude.{ℤ, pos, Bool, Result, Ok, codes}
+use Rattle.std.specs.Ordering.{int_eq}
+use Rattle.toml.specs.Data.{Members}
+use Rattle.settings_file.specs.TimerNames.{timer_name}
+use Rattle.settings_rows.specs.declared.draft.TimersDraft.{TimersDraft}
+use Rattle.settings_rows.specs.declared.key.Key.TheVariants as key
+use Rattle.settings_rows.specs.declared.key.TimerKey.{TimerKey}
+use Rattle.settings_rows.specs.declared.key.TimerKey.TheVariants.{L1, L2, L3, L4, L6, L7, T1, T2, T3, T4, T6, T8, T10}
+use Rattle.settings_file.specs.declared.fault.SettingsFault.{SettingsFault}
+use Rattle.settings_file.specs.declared.document.Numbers.{Numbers}
+use Rattle.settings_file.specs.Shapes.{and_then, value_at, table_in, integer_at, integers_at}
+use Rattle.settings_file.specs.Written.{Written}
+use Rattle.settings_file.specs.Entries.{sets_at, links_at, destinations_at, titles_at}
+
+-- how many ticks a timer runs
+unfoldable pub ticks_at : TimerKey → Members → Result ℤ SettingsFault
+ticks_at timer t = integer_at (timer_name timer) (key.Timer timer) t
+
+-- how many ticks each timer runs
+unfoldable pub timers_in : Members → Result TimersDraft SettingsFault
+timers_in t =
+    and_then (ticks_at L1 t) (λ l1.
+    and_then (ticks_at L2 t) (λ l2.
+    and_then (ticks_at L3 t) (λ l3.
+    and_then (ticks_at L4 t) (λ l4.
+    and_then (ticks_at L6 t) (λ l6.
+    and_then (ticks_at L7 t) (λ l7.
+    and_then (ticks_at T1 t) (λ t1.
+    and_then (ticks_at T2 t) (λ t2.
+    and_then (ticks_at T3 t) (λ t3.
+    and_then (ticks_at T4 t) (λ t4.
+    and_then (ticks_at T6 t) (λ t6.
+    and_then (ticks_at T8 t) (λ t8.
+    and_then (ticks_at T10 t) (λ t10.
+    Ok (record {
+      l1 = l1;
+      l2 = l2;
+      l3 = l3;
+      l4 = l4;
+      l6 = l6;
+      l7 = l7;
+      t1 = t1;
+      t2 = t2;
+      t3 = t3;
+      t4 = t4;
+      t6 = t6;
+      t8 = t8;
+      t10 = t10;
+    }))))))))))))))
+
+-- the table of timers
+unfoldable pub timers_at : Members → Result TimersDraft SettingsFault
+timers_at t = and_then (value_at (codes "timers") key.Timers t) (λ d. and_then (table_in key.Timers d) timers_in)
+
+-- the numbers that a file begins with
+unfoldable pub numbers_at : Members → Result Numbers SettingsFault
+numbers_at t =
+    and_then (integer_at (codes "version") key.Version t) (λ version.
+    and_then (integer_at (codes "own") key.Own t) (λ own.
+    and_then (integer_at (codes "network") key.Network t) (λ network.
+    and_then (integer_at (codes "window") key.Window t) (λ window.
+    and_then (integer_at (codes "pool") key.Pool t) (λ pool.
+    Ok (record { version = version; own = own; network = network; window = window; pool = pool }))))))
+
+-- the versions of the format
+abbrev pub FIRST_VERSION : ℤ
+FIRST_VERSION = pos 1
+
+abbrev pub LAST_VERSION : ℤ
+LAST_VERSION = pos 2
+
+-- whether the destinations of a file of this version may be joined
+abbrev pub has_joined : ℤ → Bool
+has_joined version = int_eq version LAST_VERSION
+
+-- what a document says: the version of its format, and settings
+pub record Document : Type 0 where
+  pub version : ℤ
+  pub settings : Written
+
+unfoldable pub document : Members → Result Document SettingsFault
+document t =
+    and_then (numbers_at t) (λ numbers.
+    and_then (integers_at (codes "users") key.Users t) (λ users.
+    and_then (integers_at (codes "subsystems") key.Subsystems t) (λ subsystems.
+    and_then (timers_at t) (λ timers.
+    and_then (sets_at t) (λ sets.
+    and_then (links_at t) (λ links.
+    and_then (destinations_at (has_joined numbers.version) t) (λ destinations.
+    and_then (titles_at t) (λ titles.
+    Ok (record {
+      version = numbers.version;
+      settings = record {
+        own = numbers.own;
+        network = numbers.network;
+        window = numbers.window;
+        pool = numbers.pool;
+        users = users;
+        subsystems = subsystems;
+        timers = timers;
+        sets = sets;
+        links = links;
+        destinations = destinations;
+        titles = titles;
+      };
+    })))))))))

@@ -1,0 +1,93 @@
+-- The arrays of a settings file, entry by entry. The keys of an entry are read in their order, and the
+-- first fault among them is the entry's.
+use Rattle.std.specs.Prelude.{ℕ, ℤ, Bool, false, List, [], Option, Some, None, Result, Ok, Err, codes}
+use Rattle.std.specs.Prelude.{if◌then◌else◌, bytes_eq}
+use Rattle.toml.specs.Data.{Data, Members, get_member}
+use Rattle.settings_rows.specs.declared.key.Key.TheVariants as key
+use Rattle.settings_file.specs.declared.fault.SettingsFault.{SettingsFault}
+use Rattle.settings_file.specs.declared.fault.SettingsFault.TheVariants.{Missing}
+use Rattle.settings_file.specs.Shapes.{and_then, each, table_in, array_in, integer_in, truth_in}
+use Rattle.settings_file.specs.Shapes.{integer_at, text_at, texts_at, entries_at}
+use Rattle.settings_file.specs.Written.{WrittenSet, WrittenLink, WrittenDestination, WrittenTitle}
+
+-- a link set: its name and its adjacent point
+unfoldable pub set_in : ℕ → Data → Result WrittenSet SettingsFault
+set_in i d =
+    and_then (table_in (key.SetEntry i) d) (λ t.
+    and_then (text_at (codes "name") (key.SetName i) t) (λ name.
+    and_then (integer_at (codes "adjacent") (key.SetAdjacent i) t) (λ adjacent.
+    Ok (record { name = name; adjacent = adjacent }))))
+
+-- a link: its name, the name of its set and its signalling link code
+unfoldable pub link_entry_in : ℕ → Data → Result WrittenLink SettingsFault
+link_entry_in i d =
+    and_then (table_in (key.LinkEntry i) d) (λ t.
+    and_then (text_at (codes "name") (key.LinkName i) t) (λ name.
+    and_then (text_at (codes "set") (key.LinkSet i) t) (λ set.
+    and_then (integer_at (codes "slc") (key.LinkSlc i) t) (λ slc.
+    Ok (record { name = name; set = set; slc = slc })))))
+
+-- whether the first two sets of a destination are joined, which may be left out
+abbrev pub joined_in : ℕ → Option Data → Result Bool SettingsFault
+joined_in i None = Ok false
+joined_in i (Some d) = truth_in (key.DestinationJoined i) d
+
+-- the same in a file whose version has the key, or doesn't have it: there it is ignored
+unfoldable pub joined_at : (has_key : Bool) → ℕ → Members → Result Bool SettingsFault
+joined_at has_key i t = if has_key then joined_in i (get_member (codes "joined") t) else Ok false
+
+-- a destination: its point, the names of the sets that lead to it, and whether the first two are joined
+unfoldable pub destination_in : (has_joined : Bool) → ℕ → Data → Result WrittenDestination SettingsFault
+destination_in has_joined i d =
+    and_then (table_in (key.DestinationEntry i) d) (λ t.
+    and_then (integer_at (codes "point") (key.DestinationPoint i) t) (λ point.
+    and_then (texts_at (codes "sets") (key.DestinationSets i) t) (λ sets.
+    and_then (joined_at has_joined i t) (λ joined.
+    Ok (record { point = point; sets = sets; joined = joined })))))
+
+-- a subsystem number, which a route by subsystem number needs
+abbrev pub ssn_in : ℕ → List ℕ → Option Data → Result (Option ℤ) SettingsFault
+ssn_in i route None = if bytes_eq route (codes "ssn") then Err (Missing (key.TitleSsn i)) else Ok None
+ssn_in i route (Some d) = and_then (integer_in (key.TitleSsn i) d) (λ n. Ok (Some n))
+
+unfoldable pub ssn_at : ℕ → List ℕ → Members → Result (Option ℤ) SettingsFault
+ssn_at i route t = ssn_in i route (get_member (codes "ssn") t)
+
+-- a translation row
+unfoldable pub title_in : ℕ → Data → Result WrittenTitle SettingsFault
+title_in i d =
+    and_then (table_in (key.TitleEntry i) d) (λ t.
+    and_then (integer_at (codes "translation") (key.TitleTranslation i) t) (λ translation.
+    and_then (integer_at (codes "plan") (key.TitlePlan i) t) (λ plan.
+    and_then (integer_at (codes "nature") (key.TitleNature i) t) (λ nature.
+    and_then (text_at (codes "digits") (key.TitleDigits i) t) (λ digits.
+    and_then (integer_at (codes "point") (key.TitlePoint i) t) (λ point.
+    and_then (text_at (codes "route") (key.TitleRoute i) t) (λ route.
+    and_then (ssn_at i route t) (λ ssn.
+    Ok (record {
+      translation = translation;
+      plan = plan;
+      nature = nature;
+      digits = digits;
+      point = point;
+      route = route;
+      ssn = ssn;
+    })))))))))
+
+-- the arrays of a file, of which only that of translation rows may be left out or empty
+unfoldable pub sets_at : Members → Result (List WrittenSet) SettingsFault
+sets_at t = and_then (entries_at (codes "set") key.Set t) (each set_in 0)
+
+unfoldable pub links_at : Members → Result (List WrittenLink) SettingsFault
+links_at t = and_then (entries_at (codes "link") key.Link t) (each link_entry_in 0)
+
+unfoldable pub destinations_at : (has_joined : Bool) → Members → Result (List WrittenDestination) SettingsFault
+destinations_at has_joined t =
+    and_then (entries_at (codes "destination") key.Destination t) (each (destination_in has_joined) 0)
+
+abbrev pub titles_in : Option Data → Result (List WrittenTitle) SettingsFault
+titles_in None = Ok []
+titles_in (Some d) = and_then (array_in key.Title d) (each title_in 0)
+
+unfoldable pub titles_at : Members → Result (List WrittenTitle) SettingsFault
+titles_at t = titles_in (get_member (codes "title") t)

@@ -1,0 +1,11 @@
+pub mod TimerNames
+pub mod Faults
+pub mod Shapes
+pub mod Written
+pub mod Entries
+pub mod Document
+pub mod Reading
+pub mod Sentences
+pub mod Values
+pub mod KnownKeys
+pub mod Warnings

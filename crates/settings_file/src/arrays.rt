@@ -1,0 +1,217 @@
+//! The arrays of a settings file: link sets, links, destinations and translation rows.
+
+ghost use Rattle.std.specs.Prelude.{◌≡◌, map};
+ghost use Rattle.toml.specs.View.{view, table_view};
+ghost use Rattle.settings_file.specs.Faults.{AnswersOrNoMemory};
+ghost use Rattle.settings_file.specs.Shapes.{each};
+ghost use Rattle.settings_file.specs.Written.{set_written, link_written, destination_written, title_written};
+ghost use Rattle.settings_file.specs.Entries.{set_in, link_entry_in, joined_at, destination_in, ssn_at, title_in};
+ghost use Rattle.settings_file.specs.Entries.{sets_at, links_at, destinations_at, titles_at};
+
+use crate::fault::SettingsFault;
+use crate::shapes::{
+    array_in, entries, found, integer, integer_in, table_in, text, texts, truth_in,
+};
+use settings::{DestinationDraft, Key, LinkDraft, SetDraft, TitleDraft};
+use std::alloc::Global;
+use toml::{Table, Value};
+
+/// A link set.
+#[tactic(auto, unfolding(crate::specs::Entries::set_in))]
+fn set(alloc: Global, i: usize, value: &Value) -> Result<SetDraft, SettingsFault>
+    ensures { AnswersOrNoMemory set_written (set_in i (view value.now)) result }
+{
+    let table = table_in(value, Key::SetEntry(i))?;
+    let name = text(alloc, table, "name", Key::SetName(i))?;
+    let adjacent = integer(table, "adjacent", Key::SetAdjacent(i))?;
+    Ok(SetDraft { name, adjacent })
+}
+
+/// A link.
+#[tactic(auto, unfolding(crate::specs::Entries::link_entry_in))]
+fn link(alloc: Global, i: usize, value: &Value) -> Result<LinkDraft, SettingsFault>
+    ensures { AnswersOrNoMemory link_written (link_entry_in i (view value.now)) result }
+{
+    let table = table_in(value, Key::LinkEntry(i))?;
+    let name = text(alloc, table, "name", Key::LinkName(i))?;
+    let set = text(alloc, table, "set", Key::LinkSet(i))?;
+    let slc = integer(table, "slc", Key::LinkSlc(i))?;
+    Ok(LinkDraft { name, set, slc })
+}
+
+/// Whether the first two sets of a destination are joined. Where the file's version doesn't have the key it is ignored.
+#[tactic(auto, unfolding(crate::specs::Entries::joined_at))]
+fn joined(has_key: bool, table: &Table, i: usize) -> Result<bool, SettingsFault>
+    ensures { result ≡ joined_at has_key i (table_view table.now) }
+{
+    if !has_key {
+        return Ok(false);
+    }
+    match found(table, "joined") {
+        Some(value) => truth_in(value, Key::DestinationJoined(i)),
+        None => Ok(false),
+    }
+}
+
+/// A destination, in a file whose version has the key `joined` or doesn't have it.
+#[tactic(auto, unfolding(crate::specs::Entries::destination_in))]
+fn destination(
+    alloc: Global,
+    has_joined: bool,
+    i: usize,
+    value: &Value,
+) -> Result<DestinationDraft, SettingsFault>
+    ensures { AnswersOrNoMemory destination_written (destination_in has_joined i (view value.now)) result }
+{
+    let table = table_in(value, Key::DestinationEntry(i))?;
+    let point = integer(table, "point", Key::DestinationPoint(i))?;
+    let sets = texts(alloc, table, "sets", Key::DestinationSets(i))?;
+    let joined = joined(has_joined, table, i)?;
+    Ok(DestinationDraft {
+        point,
+        sets,
+        joined,
+    })
+}
+
+/// The subsystem number of a translation row, which a route by subsystem number needs.
+#[tactic(auto, unfolding(crate::specs::Entries::ssn_at))]
+fn ssn(table: &Table, i: usize, route: &str) -> Result<Option<i64>, SettingsFault>
+    ensures { result ≡ ssn_at i route.now (table_view table.now) }
+{
+    let key = Key::TitleSsn(i);
+    match found(table, "ssn") {
+        Some(value) => Ok(Some(integer_in(value, key)?)),
+        None if route == "ssn" => Err(SettingsFault::Missing(key)),
+        None => Ok(None),
+    }
+}
+
+/// A translation row.
+#[tactic(auto, unfolding(crate::specs::Entries::title_in))]
+fn title(alloc: Global, i: usize, value: &Value) -> Result<TitleDraft, SettingsFault>
+    ensures { AnswersOrNoMemory title_written (title_in i (view value.now)) result }
+{
+    let table = table_in(value, Key::TitleEntry(i))?;
+    let translation = integer(table, "translation", Key::TitleTranslation(i))?;
+    let plan = integer(table, "plan", Key::TitlePlan(i))?;
+    let nature = integer(table, "nature", Key::TitleNature(i))?;
+    let digits = text(alloc, table, "digits", Key::TitleDigits(i))?;
+    let point = integer(table, "point", Key::TitlePoint(i))?;
+    let route = text(alloc, table, "route", Key::TitleRoute(i))?;
+    let ssn = ssn(table, i, route.as_str())?;
+    Ok(TitleDraft {
+        translation,
+        plan,
+        nature,
+        digits,
+        point,
+        route,
+        ssn,
+    })
+}
+
+/// The link sets that values are.
+fn each_set(alloc: Global, values: &[Value]) -> Result<Vec<SetDraft>, SettingsFault>
+    ensures { AnswersOrNoMemory (λ sets. map set_written sets.items)
+        (each set_in 0 (map view values.now)) result }
+{
+    let mut sets = Vec::with_capacity(alloc, values.len())?;
+    for i in 0..values.len() {
+        let set = set(alloc, i, &values[i])?;
+        sets.push(set)?;
+    }
+    Ok(sets)
+}
+
+/// The links that values are.
+fn each_link(alloc: Global, values: &[Value]) -> Result<Vec<LinkDraft>, SettingsFault>
+    ensures { AnswersOrNoMemory (λ links. map link_written links.items)
+        (each link_entry_in 0 (map view values.now)) result }
+{
+    let mut links = Vec::with_capacity(alloc, values.len())?;
+    for i in 0..values.len() {
+        let link = link(alloc, i, &values[i])?;
+        links.push(link)?;
+    }
+    Ok(links)
+}
+
+/// The destinations that values are.
+fn each_destination(
+    alloc: Global,
+    has_joined: bool,
+    values: &[Value],
+) -> Result<Vec<DestinationDraft>, SettingsFault>
+    ensures { AnswersOrNoMemory (λ destinations. map destination_written destinations.items)
+        (each (destination_in has_joined) 0 (map view values.now)) result }
+{
+    let mut destinations = Vec::with_capacity(alloc, values.len())?;
+    for i in 0..values.len() {
+        let destination = destination(alloc, has_joined, i, &values[i])?;
+        destinations.push(destination)?;
+    }
+    Ok(destinations)
+}
+
+/// The translation rows that values are.
+fn each_title(alloc: Global, values: &[Value]) -> Result<Vec<TitleDraft>, SettingsFault>
+    ensures { AnswersOrNoMemory (λ titles. map title_written titles.items)
+        (each title_in 0 (map view values.now)) result }
+{
+    let mut titles = Vec::with_capacity(alloc, values.len())?;
+    for i in 0..values.len() {
+        let title = title(alloc, i, &values[i])?;
+        titles.push(title)?;
+    }
+    Ok(titles)
+}
+
+/// The link sets of a file.
+#[tactic(auto, unfolding(crate::specs::Entries::sets_at))]
+pub(crate) fn sets(alloc: Global, table: &Table) -> Result<Vec<SetDraft>, SettingsFault>
+    ensures { AnswersOrNoMemory (λ sets. map set_written sets.items)
+        (sets_at (table_view table.now)) result }
+{
+    let values = entries(table, "set", Key::Set)?;
+    each_set(alloc, values)
+}
+
+/// The links of a file.
+#[tactic(auto, unfolding(crate::specs::Entries::links_at))]
+pub(crate) fn links(alloc: Global, table: &Table) -> Result<Vec<LinkDraft>, SettingsFault>
+    ensures { AnswersOrNoMemory (λ links. map link_written links.items)
+        (links_at (table_view table.now)) result }
+{
+    let values = entries(table, "link", Key::Link)?;
+    each_link(alloc, values)
+}
+
+/// The destinations of a file, whose version has the key `joined` or doesn't have it.
+#[tactic(auto, unfolding(crate::specs::Entries::destinations_at))]
+pub(crate) fn destinations(
+    alloc: Global,
+    has_joined: bool,
+    table: &Table,
+) -> Result<Vec<DestinationDraft>, SettingsFault>
+    ensures { AnswersOrNoMemory (λ destinations. map destination_written destinations.items)
+        (destinations_at has_joined (table_view table.now)) result }
+{
+    let values = entries(table, "destination", Key::Destination)?;
+    each_destination(alloc, has_joined, values)
+}
+
+/// The translation rows of a file, which may have none.
+#[tactic(auto, unfolding(crate::specs::Entries::titles_at))]
+pub(crate) fn titles(alloc: Global, table: &Table) -> Result<Vec<TitleDraft>, SettingsFault>
+    ensures { AnswersOrNoMemory (λ titles. map title_written titles.items)
+        (titles_at (table_view table.now)) result }
+{
+    match found(table, "title") {
+        Some(value) => {
+            let values = array_in(value, Key::Title)?;
+            each_title(alloc, values)
+        }
+        None => Ok(Vec::new(alloc)),
+    }
+}

@@ -1,0 +1,171 @@
+//! Reading a settings file.
+
+ghost use Rattle.std.specs.Prelude.{◌≡◌, ◌⊎◌, None, Some, IfOk, OnOk, IfErr};
+ghost use Rattle.std.specs.Option.{ok_or};
+ghost use Rattle.toml.specs.Parse.{parse_document};
+ghost use Rattle.toml.specs.View.{table_view};
+ghost use Rattle.settings.specs.Meaning.{settings_of};
+ghost use Rattle.settings_file.specs.Faults.{AnswersOrNoMemory, no_memory};
+ghost use Rattle.settings_file.specs.Written.{written};
+ghost use Rattle.settings_file.specs.Document.{numbers_at, document};
+ghost use Rattle.settings_file.specs.Reading.{reading, limits_fault, settings_fault, IsReadAs, IsFirstFault};
+
+use crate::arrays::{destinations, links, sets, titles};
+use crate::fault::SettingsFault;
+use crate::limits::FirstLimits;
+use crate::shapes::{integer, integers};
+use crate::timers::timers;
+use settings::{Draft, DraftFault, FaultKind, Key, Settings};
+use std::alloc::Global;
+use toml::Table;
+
+/// The versions of the format: the first, which keeps the limits that it had, and the last, in which destinations may
+/// be joined.
+const FIRST_VERSION: i64 = 1;
+
+const LAST_VERSION: i64 = 2;
+
+/// The numbers that a file begins with.
+#[derive(Clone, Copy)]
+pub(crate) struct Numbers {
+    /// The version of the format.
+    pub version: i64,
+    /// The own point code.
+    pub own: i64,
+    /// The network indicator.
+    pub network: i64,
+    /// How many messages of a link may be sent and not confirmed.
+    pub window: i64,
+    /// How many messages the node holds at most.
+    pub pool: i64,
+}
+
+/// What a document says: the version of its format, and settings.
+#[derive(Drop)]
+pub(crate) struct Document {
+    /// The version of its format.
+    pub version: i64,
+    /// The settings, not checked yet.
+    pub draft: Draft,
+}
+
+/// The numbers that a file begins with.
+#[tactic(auto, unfolding(crate::specs::Document::numbers_at))]
+fn leading_numbers(table: &Table) -> Result<Numbers, SettingsFault>
+    ensures { result ≡ numbers_at (table_view table.now) }
+{
+    Ok(Numbers {
+        version: integer(table, "version", Key::Version)?,
+        own: integer(table, "own", Key::Own)?,
+        network: integer(table, "network", Key::Network)?,
+        window: integer(table, "window", Key::Window)?,
+        pool: integer(table, "pool", Key::Pool)?,
+    })
+}
+
+/// What a document says.
+#[tactic(auto, unfolding(crate::specs::Document::document))]
+fn contents(alloc: Global, table: &Table) -> Result<Document, SettingsFault>
+    ensures { AnswersOrNoMemory (λ d. record { version = d.version; settings = written d.draft })
+        (document (table_view table.now)) result }
+{
+    let numbers = leading_numbers(table)?;
+    let users = integers(alloc, table, "users", Key::Users)?;
+    let subsystems = integers(alloc, table, "subsystems", Key::Subsystems)?;
+    let timers = timers(table)?;
+    let sets = sets(alloc, table)?;
+    let links = links(alloc, table)?;
+    let has_joined = numbers.version == LAST_VERSION;
+    let destinations = destinations(alloc, has_joined, table)?;
+    let titles = titles(alloc, table)?;
+    Ok(Document {
+        version: numbers.version,
+        draft: Draft {
+            own: numbers.own,
+            network: numbers.network,
+            window: numbers.window,
+            pool: numbers.pool,
+            users,
+            subsystems,
+            timers,
+            sets,
+            links,
+            destinations,
+            titles,
+        },
+    })
+}
+
+/// The table that a text is, where it is TOML.
+fn parse(alloc: Global, text: &str) -> Result<Table, SettingsFault>
+    ensures { AnswersOrNoMemory table_view
+        (ok_or (parse_document text.now) SettingsFault.Text) result }
+{
+    match toml::table_from_str(alloc, text) {
+        Ok(table) => Ok(table),
+        Err(error) if error.is_memory() => Err(SettingsFault::Draft(DraftFault::NoMemory)),
+        Err(_) => Err(SettingsFault::Text),
+    }
+}
+
+/// The document that a text is, where it is of a known version.
+#[tactic(auto, unfolding(crate::specs::Reading::reading))]
+fn known_document(alloc: Global, text: &str) -> Result<Document, SettingsFault>
+    ensures { AnswersOrNoMemory (λ d. record { version = d.version; settings = written d.draft })
+        (reading text.now) result }
+{
+    let table = parse(alloc, text)?;
+    let document = contents(alloc, &table)?;
+    if document.version != FIRST_VERSION && document.version != LAST_VERSION {
+        return Err(SettingsFault::Version);
+    }
+    Ok(document)
+}
+
+/// Whether settings keep to the limits of a file's version.
+fn keep_limits(version: i64, settings: &Settings) -> Result<(), DraftFault>
+    ensures well { OnOk result (limits_fault version settings.now ≡ None) }
+    ensures fault { IfErr result (λ fault. limits_fault version settings.now ≡ Some fault) }
+{
+    if version != FIRST_VERSION {
+        return Ok(());
+    }
+    if settings.window() > FirstLimits::WINDOW {
+        return Err(DraftFault::At(FaultKind::Range, Key::Window));
+    }
+    if settings.destinations().len() > FirstLimits::DESTINATIONS {
+        return Err(DraftFault::At(FaultKind::TooMany, Key::Destination));
+    }
+    Ok(())
+}
+
+/// The settings of a file of this version, checked.
+#[tactic(auto, unfolding(crate::specs::Reading::settings_fault))]
+fn checked(alloc: Global, version: i64, draft: Draft) -> Result<Settings, DraftFault>
+    ensures settings { IfOk result (λ settings. settings ≡ settings_of draft) }
+    ensures well { OnOk result (settings_fault version draft ≡ None) }
+    ensures fault { IfErr result (λ fault.
+        (fault ≡ DraftFault.NoMemory) ⊎ (settings_fault version draft ≡ Some fault)) }
+{
+    let settings = Settings::check(alloc, draft)?;
+    keep_limits(version, &settings)?;
+    Ok(settings)
+}
+
+/// Reads settings from the text of a file, and checks them.
+///
+/// Answers the settings, or the first fault: `Text` where the text isn't TOML; then `Missing` and
+/// `Kind` over all keys in their order, the entries of an array from the first on; then `Version`;
+/// then what `Settings::check` finds; and last, in a file of the first version, a window and then
+/// destinations beyond the `FirstLimits`. Want of memory may stand in place of any other. Keys of
+/// other names are ignored.
+pub fn read(alloc: Global, text: &str) -> Result<Settings, SettingsFault>
+    ensures settings { IfOk result (IsReadAs text.now) }
+    ensures fault { IfErr result (λ fault. (fault ≡ no_memory) ⊎ IsFirstFault text.now fault) }
+{
+    let Document { version, draft } = known_document(alloc, text)?;
+    match checked(alloc, version, draft) {
+        Ok(settings) => Ok(settings),
+        Err(fault) => Err(SettingsFault::Draft(fault)),
+    }
+}

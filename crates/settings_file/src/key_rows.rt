@@ -1,0 +1,130 @@
+//! The keys of a settings file: where each stands, and what its value has to be.
+
+ghost use Rattle.std.specs.Prelude.{◌≡◌, None, Some, []};
+ghost use Rattle.settings_file.specs.Sentences.{key_place, row_place};
+
+use settings::Key;
+
+/// A key of a settings file: where it stands, and what its value has to be, in words. `lone_key` and `entry_key` make
+/// one.
+#[derive(Clone, Copy)]
+pub struct KeyRow {
+    /// The key as it is written; of an entry of an array and of a key in one, the name of the array.
+    pub front: &'static str,
+    /// The place of the entry in its array, from 0.
+    pub entry: Option<usize>,
+    /// The key in its entry; empty for the entry itself, and for a key that stands in no array.
+    pub name: &'static str,
+    /// The type that the value has to have.
+    pub kind: &'static str,
+    /// What a value of this type has to be; in a file of the last version, where versions differ.
+    pub demand: &'static str,
+}
+
+const INTEGER: &str = "an integer";
+
+const TEXT: &str = "a text";
+
+const TRUTH: &str = "true or false";
+
+const INTEGERS: &str = "a list of integers";
+
+const TEXTS: &str = "a list of texts";
+
+const TABLE: &str = "a table";
+
+const TABLES: &str = "an array of tables";
+
+const NAME: &str = "1 to 16 of a to z, 0 to 9 and -";
+
+const POINT: &str = "0 to 16383";
+
+const FAR_POINT: &str = "0 to 16383, and not the node's own";
+
+const TICKS: &str = "1 to 65535";
+
+const SET_NAMES: &str = "1 to 8 names of sets";
+
+const ALONE: &str = "false with one set";
+
+const DIGITS: &str = "1 to 32 of 0 to 9 and a to f";
+
+/// The row of a key.
+pub(crate) fn key_row(key: Key) -> KeyRow
+    ensures { row_place result ≡ key_place key }
+{
+    match key {
+        Key::Version => lone_key("version", INTEGER, "1 or 2"),
+        Key::Own => lone_key("own", INTEGER, POINT),
+        Key::Network => lone_key("network", INTEGER, "0 to 3"),
+        Key::Window => lone_key("window", INTEGER, "1 to 16384"),
+        Key::Pool => lone_key("pool", INTEGER, "1 to 65535"),
+        Key::Users => lone_key("users", INTEGERS, "numbers from 4 to 15"),
+        Key::Subsystems => lone_key("subsystems", INTEGERS, "numbers from 1 to 255"),
+        Key::Timers => lone_key("timers", TABLE, ""),
+        Key::Timer(timer) => lone_key(timer.path(), INTEGER, TICKS),
+        Key::Set => lone_key("set", TABLES, "1 to 32"),
+        Key::SetEntry(i) => entry_key("set", i, "", TABLE, ""),
+        Key::SetName(i) => entry_key("set", i, "name", TEXT, NAME),
+        Key::SetAdjacent(i) => entry_key("set", i, "adjacent", INTEGER, FAR_POINT),
+        Key::Link => lone_key("link", TABLES, "1 to 64"),
+        Key::LinkEntry(i) => entry_key("link", i, "", TABLE, ""),
+        Key::LinkName(i) => entry_key("link", i, "name", TEXT, NAME),
+        Key::LinkSet(i) => entry_key("link", i, "set", TEXT, NAME),
+        Key::LinkSlc(i) => entry_key("link", i, "slc", INTEGER, "0 to 15"),
+        Key::Destination => lone_key("destination", TABLES, "1 to 4096"),
+        Key::DestinationEntry(i) => entry_key("destination", i, "", TABLE, ""),
+        Key::DestinationPoint(i) => entry_key("destination", i, "point", INTEGER, FAR_POINT),
+        Key::DestinationSets(i) => entry_key("destination", i, "sets", TEXTS, SET_NAMES),
+        Key::DestinationJoined(i) => entry_key("destination", i, "joined", TRUTH, ALONE),
+        Key::Title => lone_key("title", TABLES, "at most 65535"),
+        Key::TitleEntry(i) => entry_key("title", i, "", TABLE, ""),
+        Key::TitleTranslation(i) => entry_key("title", i, "translation", INTEGER, "0 to 255"),
+        Key::TitlePlan(i) => entry_key("title", i, "plan", INTEGER, "0 to 15"),
+        Key::TitleNature(i) => entry_key("title", i, "nature", INTEGER, "0 to 127"),
+        Key::TitleDigits(i) => entry_key("title", i, "digits", TEXT, DIGITS),
+        Key::TitlePoint(i) => entry_key("title", i, "point", INTEGER, POINT),
+        Key::TitleRoute(i) => entry_key("title", i, "route", TEXT, "\"title\" or \"ssn\""),
+        Key::TitleSsn(i) => entry_key("title", i, "ssn", INTEGER, "1 to 255"),
+    }
+}
+
+/// The row of a key that stands in no array, and is written so: `own`, `timers.l1`.
+pub fn lone_key(front: &'static str, kind: &'static str, demand: &'static str) -> KeyRow
+    ensures front { result.front.now ≡ front.now }
+    ensures entry { result.entry ≡ None }
+    ensures name { result.name.now ≡ [] }
+    ensures kind { result.kind.now ≡ kind.now }
+    ensures demand { result.demand.now ≡ demand.now }
+{
+    KeyRow {
+        front,
+        entry: None,
+        name: "",
+        kind,
+        demand,
+    }
+}
+
+/// The row of the key of this name in an entry of an array; where the name is empty, that of the entry itself.
+pub fn entry_key(
+    array: &'static str,
+    entry: usize,
+    name: &'static str,
+    kind: &'static str,
+    demand: &'static str,
+) -> KeyRow
+    ensures front { result.front.now ≡ array.now }
+    ensures entry { result.entry ≡ Some entry }
+    ensures name { result.name.now ≡ name.now }
+    ensures kind { result.kind.now ≡ kind.now }
+    ensures demand { result.demand.now ≡ demand.now }
+{
+    KeyRow {
+        front: array,
+        entry: Some(entry),
+        name,
+        kind,
+        demand,
+    }
+}

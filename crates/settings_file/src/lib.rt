@@ -1,0 +1,28 @@
+//! Settings as a file says them (TOML): what is read, the first fault, and sentences about faults for a person.
+#![tactic(auto)]
+
+mod arrays;
+mod document;
+mod documents;
+pub mod fault;
+mod key_rows;
+pub mod limits;
+mod phrases;
+mod places;
+mod sentences;
+mod shapes;
+#[cfg(test)]
+mod tests;
+mod timers;
+mod unknown;
+mod values;
+
+pub use document::read;
+pub use documents::document_in;
+pub use fault::SettingsFault;
+pub use key_rows::{KeyRow, entry_key, lone_key};
+pub use limits::FirstLimits;
+pub use phrases::{missing, must_be, value_is};
+pub use places::{about, value_at};
+pub use sentences::sentence;
+pub use unknown::warnings;

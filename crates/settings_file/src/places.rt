@@ -1,0 +1,107 @@
+//! Where a key of a settings file stands, as a person reads it.
+
+ghost use Rattle.std.specs.Prelude.{◌≡◌, Some, IfOk, string_bytes};
+ghost use Rattle.std.specs.Option.{option_copied, option_map};
+ghost use Rattle.toml.specs.Data.{get_member};
+ghost use Rattle.toml.specs.View.{view, table_view};
+ghost use Rattle.settings_file.specs.Sentences.{place_of, behind_colon, row_place, IsAboutPlace};
+ghost use Rattle.settings_file.specs.Values.{value_at, value_at_path, entry_at};
+
+use crate::key_rows::KeyRow;
+use crate::values::is_shown;
+use std::alloc::{AllocError, Global};
+use std::fmt;
+use toml::{Table, Value};
+
+/// The place of a key: `own`, `timers.l1`, `link[2]`, `link[2] "e2": slc`.
+#[derive(Clone, Copy)]
+struct Place<'a> {
+    /// The key.
+    row: KeyRow,
+    /// The name that the entry of the key has in the file, where it has one.
+    entry_name: Option<&'a str>,
+}
+
+impl fmt::Display for Place<'_> {
+    ghost output = { λ place. Some (place_of place.row.front.now place.row.entry
+        (option_copied place.entry_name) (behind_colon place.row.name.now)) };
+
+    fn fmt<W: fmt::Write>(&self, f: &mut fmt::Formatter<W>) -> fmt::Result {
+        let KeyRow {
+            front,
+            entry,
+            name,
+            ..
+        } = self.row;
+        match (entry, self.entry_name, name) {
+            (None, _, _) => f.write_str(front),
+            (Some(i), None, "") => write!(f, "{front}[{i}]"),
+            (Some(i), None, name) => write!(f, "{front}[{i}]: {name}"),
+            (Some(i), Some(entry_name), "") => write!(f, "{front}[{i}] \"{entry_name}\""),
+            (Some(i), Some(entry_name), name) => write!(f, "{front}[{i}] \"{entry_name}\": {name}"),
+        }
+    }
+}
+
+/// The value that a document has at a key of this row, where it has one.
+pub fn value_at<'a>(document: &'a Table, row: &KeyRow) -> Option<&'a Value>
+    ensures { option_map (λ value. view value.now) result ≡ value_at row.now (table_view document.now) }
+{
+    match (row.entry, row.name) {
+        (None, _) => value_at_path(document, row.front),
+        (Some(i), "") => entry_at(document, row.front, i),
+        (Some(i), name) => entry_at(document, row.front, i)?.get(name),
+    }
+}
+
+/// The value of a key that is written alone, or behind the name of its table and a dot.
+fn value_at_path<'a>(document: &'a Table, path: &str) -> Option<&'a Value>
+    ensures { option_map (λ value. view value.now) result ≡ value_at_path path.now (table_view document.now) }
+{
+    match path.split_once('.') {
+        Some((table, key)) => found(document, table)?.get(key),
+        None => found(document, path),
+    }
+}
+
+/// An entry of an array, from 0.
+fn entry_at<'a>(document: &'a Table, array: &str, i: usize) -> Option<&'a Value>
+    ensures { option_map (λ value. view value.now) result ≡ entry_at array.now i (table_view document.now) }
+{
+    found(document, array)?.get(i)
+}
+
+/// The value of a key of the document.
+fn found<'a>(document: &'a Table, key: &str) -> Option<&'a Value>
+    ensures { option_map (λ value. view value.now) result ≡ get_member key.now (table_view document.now) }
+{
+    document.get(key)
+}
+
+/// The name that the entry of a key of this row has in the document, where a sentence shows it.
+fn entry_name<'a>(document: &'a Table, row: &KeyRow) -> Option<&'a str> {
+    let name = entry_at(document, row.front, row.entry?)?
+        .get("name")?
+        .as_str()?;
+    is_shown(name).then_some(name)
+}
+
+/// The sentence about a key of this row in a document, which a file of this name is, with a line feed. What is wrong
+/// stands behind the key: `node.toml: link[2] "e2": slc is 16, must be 0 to 15`.
+///
+/// `AllocError` where memory ran out.
+pub fn about(
+    alloc: Global,
+    file: &str,
+    document: &Table,
+    row: &KeyRow,
+    wrong: &str,
+) -> Result<String, AllocError>
+    ensures { IfOk result (λ sentence. IsAboutPlace file.now (row_place row.now) (string_bytes sentence)) }
+{
+    let place = Place {
+        row: *row,
+        entry_name: entry_name(document, row),
+    };
+    format!(in alloc; "{file}: {place} {wrong}\n")
+}

@@ -1,0 +1,127 @@
+//! The sentence that says what is wrong with a settings file.
+
+ghost use Rattle.std.specs.Prelude.{◌≡◌, Some, IfOk, string_bytes};
+ghost use Rattle.settings_rows.specs.declared.key.Key.{Key};
+ghost use Rattle.settings_file.specs.Sentences.{IsAbout, Names, Explains, key_of};
+
+use crate::SettingsFault;
+use crate::documents::document_in;
+use crate::key_rows::{KeyRow, key_row};
+use crate::phrases::{missing, must_be, value_is};
+use crate::places::{about, value_at};
+use settings::{DraftFault, FaultKind, Key};
+use std::alloc::{AllocError, Global};
+use toml::{Table, Value};
+
+/// The first version of the format, which has smaller limits.
+const FIRST_VERSION: i64 = 1;
+
+/// The sentence that says what is wrong with a settings file of this name and these octets, which
+/// has this fault, with a line feed: `node.toml: link[2] "e2": slc is 16, must be 0 to 15`.
+///
+/// `AllocError` where memory ran out.
+pub fn sentence(
+    alloc: Global,
+    file: &str,
+    octets: &[u8],
+    fault: SettingsFault,
+) -> Result<String, AllocError>
+    ensures { IfOk result (λ sentence. Explains file.now octets.now fault (string_bytes sentence)) }
+{
+    match document_in(alloc, file, octets)? {
+        Ok(document) => in_document(alloc, file, &document, fault),
+        Err(why) => Ok(why),
+    }
+}
+
+/// The sentence about a file that is TOML.
+fn in_document(
+    alloc: Global,
+    file: &str,
+    document: &Table,
+    fault: SettingsFault,
+) -> Result<String, AllocError>
+    ensures names { IfOk result (λ sentence. Names file.now (string_bytes sentence)) }
+    ensures key { IfOk result (λ sentence. (key : Key) → key_of fault ≡ Some key
+        → IsAbout file.now key (string_bytes sentence)) }
+{
+    let Some(key) = key_of(fault) else {
+        return format!(in alloc; "{file}: out of memory\n");
+    };
+    let row = KeyRow {
+        demand: demand(document, key),
+        ..key_row(key)
+    };
+    let wrong = wrong(alloc, &row, value_at(document, &row), fault)?;
+    about(alloc, file, document, &row, wrong.as_str())
+}
+
+/// The key that a fault of a document is at.
+fn key_of(fault: SettingsFault) -> Option<Key>
+    ensures { result ≡ key_of fault }
+{
+    match fault {
+        SettingsFault::Missing(key) | SettingsFault::Kind(key) => Some(key),
+        SettingsFault::Draft(DraftFault::At(_, key)) => Some(key),
+        SettingsFault::Version => Some(Key::Version),
+        SettingsFault::Text | SettingsFault::Draft(DraftFault::NoMemory) => None,
+    }
+}
+
+/// What the value of a key has to be in this file, as its version says.
+fn demand(document: &Table, key: Key) -> &'static str {
+    match key {
+        Key::Window if is_first_version(document) => "1 to 4096 in version 1",
+        Key::Destination if is_first_version(document) => "1 to 1024 in version 1",
+        _ => key_row(key).demand,
+    }
+}
+
+/// Whether a file is of the first version.
+fn is_first_version(document: &Table) -> bool {
+    match document.get("version") {
+        Some(Value::Integer(version)) => *version == FIRST_VERSION,
+        _ => false,
+    }
+}
+
+/// What is wrong at a key of this row, which has this value.
+fn wrong(
+    alloc: Global,
+    row: &KeyRow,
+    value: Option<&Value>,
+    fault: SettingsFault,
+) -> Result<String, AllocError> {
+    let Some(value) = value else {
+        return missing(alloc, row.kind);
+    };
+    match fault {
+        SettingsFault::Missing(_) => String::from_str(
+            alloc,
+            "has no entry, must have one at least",
+        ),
+        SettingsFault::Kind(_) => must_be(alloc, value, row.kind),
+        SettingsFault::Draft(DraftFault::At(kind, _)) => at_key(alloc, row, value, kind),
+        _ => must_be(alloc, value, row.demand),
+    }
+}
+
+/// What the check of settings finds wrong with the value of a key.
+fn at_key(
+    alloc: Global,
+    row: &KeyRow,
+    value: &Value,
+    kind: FaultKind,
+) -> Result<String, AllocError> {
+    match kind {
+        FaultKind::Range | FaultKind::TooMany => must_be(alloc, value, row.demand),
+        FaultKind::Duplicate if value.is_array() => String::from_str(alloc, "has an entry twice"),
+        FaultKind::Duplicate => value_is(alloc, value, "which another entry has too"),
+        FaultKind::UnknownName if value.is_integer() => value_is(
+            alloc,
+            value,
+            "and no [[destination]] of this point names this set first",
+        ),
+        FaultKind::UnknownName => value_is(alloc, value, "and no [[set]] is named so"),
+    }
+}

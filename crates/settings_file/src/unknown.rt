@@ -1,0 +1,275 @@
+//! Keys of a settings file that no table knows.
+
+ghost use Rattle.std.specs.Prelude.{◌≡◌, IfOk, OnOk, map, string_bytes};
+ghost use Rattle.toml.specs.View.{table_view};
+ghost use Rattle.settings_file.specs.KnownKeys.{version_of, arrays_of, known_in};
+ghost use Rattle.settings_file.specs.Warnings.{Ignored, warning, AreWarnings, IsSoFar, GoesOn};
+
+use crate::values::is_shown;
+use std::alloc::{AllocError, Global};
+use strsim::osa_distance;
+use toml::{Table, Value};
+
+/// The keys of a settings file that stand in no array.
+const TOP: [&str; 13] = [
+    "version",
+    "own",
+    "network",
+    "window",
+    "pool",
+    "users",
+    "subsystems",
+    "timers",
+    "set",
+    "link",
+    "destination",
+    "title",
+    "serve",
+];
+
+/// The keys of the table `timers`.
+const TIMERS: [&str; 13] = [
+    "l1", "l2", "l3", "l4", "l6", "l7", "t1", "t2", "t3", "t4", "t6", "t8", "t10",
+];
+
+/// The keys of the table `serve`.
+const SERVE: [&str; 5] = ["tick_ms", "console", "capture", "console_open", "points"];
+
+/// The keys of a link set.
+const SET: &[&str] = &["name", "adjacent"];
+
+/// The keys of a link.
+const LINK: &[&str] = &["name", "set", "slc", "listen", "connect"];
+
+/// The keys of a translation row.
+const TITLE: &[&str] = &[
+    "translation",
+    "plan",
+    "nature",
+    "digits",
+    "point",
+    "route",
+    "ssn",
+];
+
+/// The keys of a destination.
+const DESTINATION: &[&str] = &["point", "sets"];
+
+/// The keys of a destination in a file of version 2.
+const DESTINATION_OF_TWO: &[&str] = &["point", "sets", "joined"];
+
+/// An array of tables.
+#[derive(Clone, Copy)]
+struct TableArray {
+    /// The key of the array.
+    name: &'static str,
+    /// The keys of its entries.
+    keys: &'static [&'static str],
+}
+
+/// Warnings of one file, at most.
+const MOST_WARNINGS: usize = 20;
+
+/// A known key is near if at most one edit leads to it, or one for each so many octets of the key that is ignored.
+const OCTETS_PER_EDIT: usize = 3;
+
+/// The warnings of a file, as they are written.
+#[derive(Drop)]
+struct WarningText<'a> {
+    file: &'a str,
+    text: String,
+    count: usize,
+}
+
+/// A warning for each of the first 20 keys of a settings file of this name and these octets that no
+/// table knows. It names the nearest known key, if one is near: `node.toml: windw is ignored; the
+/// nearest key is window`, `node.toml: colour is ignored: no such key`. Each ends with a line feed.
+/// There is none of a file that isn't TOML.
+///
+/// `AllocError` where memory ran out.
+pub fn warnings(alloc: Global, file: &str, octets: &[u8]) -> Result<String, AllocError>
+    ensures { IfOk result (λ text. AreWarnings file.now (string_bytes text)) }
+{
+    let mut warnings = WarningText {
+        file,
+        text: String::new(alloc),
+        count: 0,
+    };
+    if let Ok(text) = str::from_utf8(octets) {
+        if let Ok(document) = toml::table_from_str(alloc, text) {
+            warnings.add_document(alloc, &document)?;
+        }
+    }
+    Ok(warnings.text)
+}
+
+impl WarningText<'_> {
+    /// Warns of the keys of a document.
+    fn add_document(&mut self, alloc: Global, document: &Table) -> Result<(), AllocError>
+        requires { IsSoFar self.old }
+        ensures { OnOk result (GoesOn self.old self.new) }
+    {
+        self.add_table(alloc, "", document, &TOP)?;
+        self.add_inner_table(alloc, document, "timers", "timers.", &TIMERS)?;
+        self.add_inner_table(alloc, document, "serve", "serve.", &SERVE)?;
+        self.add_arrays(alloc, document)
+    }
+
+    /// Warns of the keys of a table in a document.
+    fn add_inner_table(
+        &mut self,
+        alloc: Global,
+        document: &Table,
+        name: &str,
+        front: &str,
+        known: &[&str],
+    ) -> Result<(), AllocError>
+        requires { IsSoFar self.old }
+        ensures { OnOk result (GoesOn self.old self.new) }
+    {
+        match document.get(name) {
+            Some(Value::Table(table)) => self.add_table(alloc, front, table, known),
+            _ => Ok(()),
+        }
+    }
+
+    /// Warns of the keys of the arrays in a document.
+    fn add_arrays(&mut self, alloc: Global, document: &Table) -> Result<(), AllocError>
+        requires { IsSoFar self.old }
+        ensures { OnOk result (GoesOn self.old self.new) }
+    {
+        for array in arrays_of(document) {
+            if let Some(Value::Array(entries)) = document.get(array.name) {
+                self.add_entries(alloc, array.name, entries, array.keys)?;
+            }
+        }
+        Ok(())
+    }
+
+    /// Warns of the keys of the entries of an array.
+    fn add_entries(
+        &mut self,
+        alloc: Global,
+        array: &str,
+        entries: &[Value],
+        known: &[&str],
+    ) -> Result<(), AllocError>
+        requires { IsSoFar self.old }
+        ensures { OnOk result (GoesOn self.old self.new) }
+    {
+        for (i, entry) in entries.iter().enumerate() {
+            if let Value::Table(table) = entry {
+                let front = format!(in alloc; "{array}[{i}].")?;
+                self.add_table(alloc, front.as_str(), table, known)?;
+            }
+        }
+        Ok(())
+    }
+
+    /// Warns of the keys of a table, before which this stands.
+    fn add_table(
+        &mut self,
+        alloc: Global,
+        front: &str,
+        table: &Table,
+        known: &[&str],
+    ) -> Result<(), AllocError>
+        requires { IsSoFar self.old }
+        ensures { OnOk result (GoesOn self.old self.new) }
+    {
+        for key in table.keys() {
+            if !(&*known).contains(&key.as_str()) {
+                self.add(alloc, front, key.as_str(), known)?;
+            }
+        }
+        Ok(())
+    }
+
+    /// Warns of a key, unless there are enough warnings.
+    fn add(
+        &mut self,
+        alloc: Global,
+        front: &str,
+        key: &str,
+        known: &[&str],
+    ) -> Result<(), AllocError>
+        requires { IsSoFar self.old }
+        ensures { OnOk result (GoesOn self.old self.new) }
+    {
+        if self.count >= MOST_WARNINGS {
+            return Ok(());
+        }
+        let warning = warning(alloc, self.file, front, key, known)?;
+        self.count += 1;
+        self.text.push_str(warning.as_str())
+    }
+}
+
+/// The version of a document, where it says one.
+fn version_of(document: &Table) -> Option<i64>
+    ensures { result ≡ version_of (table_view document.now) }
+{
+    match document.get("version") {
+        Some(version) => version.as_integer(),
+        None => None,
+    }
+}
+
+/// The arrays of tables of a document, by its version.
+fn arrays_of(document: &Table) -> [TableArray; 4]
+    ensures { map known_in result ≡ arrays_of (version_of (table_view document.now)) }
+{
+    let destination = match version_of(document) {
+        Some(2) => DESTINATION_OF_TWO,
+        _ => DESTINATION,
+    };
+    [
+        array("set", SET),
+        array("link", LINK),
+        array("destination", destination),
+        array("title", TITLE),
+    ]
+}
+
+/// An array of tables, whose entries have these keys.
+fn array(name: &'static str, keys: &'static [&'static str]) -> TableArray
+    ensures name { result.name.now ≡ name.now }
+    ensures keys { result.keys.now ≡ keys.now }
+{
+    TableArray { name, keys }
+}
+
+/// The warning of a key, before which this stands.
+fn warning(
+    alloc: Global,
+    file: &str,
+    front: &str,
+    key: &str,
+    known: &[&str],
+) -> Result<String, AllocError>
+    ensures { IfOk result (λ text. (i : Ignored) × (string_bytes text ≡ warning file.now i)) }
+{
+    if !is_shown(key) {
+        let octets = key.len();
+        let key = format!(in alloc; "(a key of {octets} octets)")?;
+        return format!(in alloc; "{file}: {front}{key} is ignored\n");
+    }
+    let Some(nearest) = nearest(alloc, key, known)? else {
+        return format!(in alloc; "{file}: {front}{key} is ignored: no such key\n");
+    };
+    format!(in alloc; "{file}: {front}{key} is ignored; the nearest key is {front}{nearest}\n")
+}
+
+/// The near known key that the fewest edits lead to.
+fn nearest<'a>(alloc: Global, key: &str, known: &[&'a str]) -> Result<Option<&'a str>, AllocError> {
+    let mut nearest = None;
+    let mut too_many = 1 + (key.len() / OCTETS_PER_EDIT).max(1);
+    for candidate in known {
+        let edits = osa_distance(alloc, key, candidate)?;
+        if edits < too_many {
+            too_many = edits;
+            nearest = Some(*candidate);
+        }
+    }
+    Ok(nearest)
+}

@@ -1,5 +1,0 @@
-use Rattle.std.proofs.Common.{◌≡◌, map, take}
-use Rattle.stp_types.proofs.naming.have_same_names.Given as goal
-
-abbrev pub invariant-loop-i : goal.invariant-loop-i
-invariant-loop-i l = map (λ l. l.name) (take l.i l.near) ≡ map (λ l. l.name) (take l.i l.far)

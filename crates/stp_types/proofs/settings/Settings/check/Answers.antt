@@ -1,8 +1,0 @@
-use Rattle.stp_types.proofs.Well.{well_of}
-use Rattle.stp_types.proofs.settings.Settings.check.Goals as goal
-
-pub invariant_of-result : goal.invariant_of-result
-invariant_of-result c = record {
-  well = rw c.in_ok-checked.ensures.settings (well_of c.args.draft c.in_ok-checked.ensures.well);
-  indexed = c.in_ok-checked.ensures.points;
-}

@@ -1,7 +1,0 @@
-use Rattle.std.proofs.Common.{nat_eq}
-use Rattle.stp_types.proofs.Places.{position-map}
-use Rattle.stp_types.proofs.settings.Settings.destination.Goals as goal
-
-pub returns : goal.returns
-returns c =
-    rw (c.place.ensures, c.self.invariant.indexed, ← c.self.view_is) (position-map (nat_eq c.args.point) (λ d. d.point) c.self.inside.checked.destinations.items)

@@ -1,5 +1,0 @@
-use Rattle.timer_wheel.proofs.Maps.{left-ticked}
-use Rattle.timer_wheel.proofs.laws.a_tick_lowers_each_timer.Goals as goal
-
-pub returns : goal.returns
-returns c = left-ticked

@@ -1,6 +1,0 @@
-use Rattle.std.proofs.Common.{arith}
-use Rattle.std.proofs.lemmas.Nat.{one_shl, pow_below}
-use Rattle.timer_wheel.proofs.moments.leaves_at.Goals as goal
-
-pub returns-clause-fits : goal.returns-clause-fits
-returns-clause-fits c = omega (arith, one_shl c.args.levels 64 (omega arith), pow_below c.args.levels 49 (omega arith))

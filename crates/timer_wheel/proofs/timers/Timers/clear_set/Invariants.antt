@@ -1,7 +1,0 @@
-use Rattle.std.proofs.Common.{◌≡◌}
-use Rattle.timer_wheel.proofs.ClearedSet.{cleared_below}
-use Rattle.timer_wheel.proofs.timers.Timers.clear_set.Given as goal
-
--- stopped for as many destinations as the loop has gone round
-abbrev pub invariant-loop-destination : goal.invariant-loop-destination
-invariant-loop-destination l = l.self ≡ cleared_below l.timer l.set l.destination l.fn.self

@@ -1,4 +1,0 @@
-use Rattle.timer_wheel.proofs.tree.+count_below.Given as goal
-
-abbrev pub decreases-count_below : goal.decreases-count_below
-decreases-count_below l = l.levels

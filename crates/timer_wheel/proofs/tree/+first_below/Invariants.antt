@@ -1,4 +1,0 @@
-use Rattle.timer_wheel.proofs.tree.+first_below.Given as goal
-
-abbrev pub decreases-first_below : goal.decreases-first_below
-decreases-first_below l = l.levels

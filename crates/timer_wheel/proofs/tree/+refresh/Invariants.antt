@@ -1,5 +1,0 @@
-use Rattle.std.proofs.Common.{◌-◌}
-use Rattle.timer_wheel.proofs.tree.+refresh.Given as goal
-
-abbrev pub decreases-refresh : goal.decreases-refresh
-decreases-refresh l = l.leaves - l.node

@@ -1,8 +1,0 @@
-use Rattle.std.proofs.Common.{arith}
-use Rattle.std.proofs.lemmas.Grind.{common_steps}
-use Rattle.std.proofs.lemmas.List.Edits.{map_over_more}
-use Rattle.timer_wheel.specs.Tree.{rebased}
-use Rattle.timer_wheel.proofs.tree.rebase.Goals as goal
-
-pub loop-moment-preserved : goal.loop-moment-preserved
-loop-moment-preserved c = grind (arith, common_steps, map_over_more (rebased c.args.clock))

@@ -1,6 +1,0 @@
-use Rattle.std.proofs.Common.{◌≡◌, ◌++◌, map, take, drop}
-use Rattle.timer_wheel.specs.Tree.{rebased}
-use Rattle.timer_wheel.proofs.tree.rebase.Given as goal
-
-abbrev pub invariant-loop-moment : goal.invariant-loop-moment
-invariant-loop-moment l = l.nodes ≡ map (rebased l.clock) (take l.moment-index l.fn.nodes) ++ drop l.moment-index l.fn.nodes

@@ -1,0 +1,20 @@
+-- The sets that an octet names are the node's, or none is missing.
+use Rattle.std.proofs.Common.{◌≡◌, ℕ, nat_lt, ◌<◌, min, ap, arith}
+use Rattle.std.proofs.lemmas.Bool.Decides.{nat_tests}
+use Rattle.std.specs.Prelude.{◌&&◌}
+use Rattle.timers.specs.declared.name.TimerName.TheVariants.{T4, T8, T10}
+use Rattle.timers.specs.declared.name.NodeCounts.{NodeCounts}
+use Rattle.timers.specs.Names.{has_name}
+use Rattle.timers.specs.Places.{named_sets}
+
+same_sets : (set sets : ℕ) → set < 256 → nat_lt set (min sets 256) ≡ nat_lt set sets
+same_sets set sets h = grind (arith, nat_tests, h)
+
+pub named-code : (n : NodeCounts) (set code : ℕ) → set < 256 → has_name (named_sets n) (T4 set code) ≡ has_name n (T4 set code)
+named-code n set code h = ap (λ b. b && nat_lt code 16) (same_sets set n.sets h)
+
+pub named-t8 : (n : NodeCounts) (set destination : ℕ) → set < 256 → has_name (named_sets n) (T8 set destination) ≡ has_name n (T8 set destination)
+named-t8 n set destination h = ap (λ b. b && nat_lt destination n.destinations) (same_sets set n.sets h)
+
+pub named-t10 : (n : NodeCounts) (set destination : ℕ) → set < 256 → has_name (named_sets n) (T10 set destination) ≡ has_name n (T10 set destination)
+named-t10 n set destination h = ap (λ b. b && nat_lt destination n.destinations) (same_sets set n.sets h)

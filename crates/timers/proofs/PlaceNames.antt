@@ -1,0 +1,194 @@
+-- The name at a place, and the place of a name.
+use Rattle.std.proofs.Common.{◌≡◌, ℕ, zero, suc, nat_lt, ◌+◌, ◌-◌, ◌*◌, ◌/◌, ◌%◌, ◌<◌, ◌≤◌, ◌⊎◌, inl, inr, true, false, cond, refl, sym, ap, subst, ◌∙◌, arith}
+use Rattle.std.specs.Prelude.{◌&&◌}
+use Rattle.std.proofs.Math.Nat.{mul-le-mul_right, div-add-mod, mod-lt, div-lt_iff_lt-mul, mul_comm}
+use Rattle.std.proofs.lemmas.Nat.{div-mul-add, mod-mul-add}
+use Rattle.std.proofs.lemmas.Bool.Decides.{nat_tests}
+use Rattle.timers.specs.declared.name.TimerName.{TimerName}
+use Rattle.timers.specs.declared.name.TimerName.TheVariants.{L1, L2, L3, L4, L6, L7, T1, T2, T3, T4, T6, T8, T10}
+use Rattle.timers.specs.declared.name.NodeCounts.{NodeCounts}
+use Rattle.timers.specs.Names.{has_name, count_of}
+use Rattle.timers.specs.Places.{codes_from, destinations_from, t8_from, t10_from, place_in, link_name, code_name, route_name, name_at}
+
+under : {a b : ℕ} → a < b → nat_lt a b ≡ true
+under {a} {b} h = grind (arith, nat_tests)
+
+over : {a b : ℕ} → b ≤ a → nat_lt a b ≡ false
+over {a} {b} h = grind (arith, nat_tests)
+
+below : (a b : ℕ) → nat_lt a b ≡ true → a < b
+below a b h = grind (arith, nat_tests, h)
+
+both_below : (a b c d : ℕ) → (nat_lt a b && nat_lt c d) ≡ true → (a < b) × (c < d)
+both_below a b c d h = (grind (arith, nat_tests, h), grind (arith, nat_tests, h))
+
+both : (a b c d : ℕ) → a < b → c < d → (nat_lt a b && nat_lt c d) ≡ true
+both a b c d h k = grind (arith, nat_tests)
+
+sides : (a b : ℕ) → (a < b) ⊎ (b ≤ a)
+sides a b = elim (nat_lt a b) as (λ c. nat_lt a b ≡ c → (a < b) ⊎ (b ≤ a)) [ true ↦ λ h. inl (below a b h) | false ↦ λ h. inr (grind (arith, nat_tests, h)) ] refl
+
+in_rows : (rows count k l : ℕ) → k < count → l < rows → k * rows + l < count * rows
+in_rows rows count k l h j =
+    let whole : k + 1 ≤ count = omega arith in
+    omega (arith, mul-le-mul_right rows whole)
+
+-- ---- by the kind of a place
+
+abbrev from_t8 : NodeCounts → ℕ → TimerName
+from_t8 n p = cond (nat_lt p (t10_from n)) (route_name (λ s d. T8 s d) n.destinations (p - t8_from n)) (route_name (λ s d. T10 s d) n.destinations (p - t10_from n))
+
+abbrev from_destinations : NodeCounts → ℕ → TimerName
+from_destinations n p = cond (nat_lt p (t8_from n)) (T6 (p - destinations_from n)) (from_t8 n p)
+
+abbrev from_codes : NodeCounts → ℕ → TimerName
+from_codes n p = cond (nat_lt p (destinations_from n)) (code_name (p - codes_from n)) (from_destinations n p)
+
+at_links : (n : NodeCounts) (p : ℕ) → p < codes_from n → name_at n p ≡ link_name (p / n.links) (p % n.links)
+at_links n p h = ap (λ b. cond b (link_name (p / n.links) (p % n.links)) (from_codes n p)) (under h)
+
+past_links : (n : NodeCounts) (p : ℕ) → codes_from n ≤ p → name_at n p ≡ from_codes n p
+past_links n p h = ap (λ b. cond b (link_name (p / n.links) (p % n.links)) (from_codes n p)) (over h)
+
+at_codes : (n : NodeCounts) (p : ℕ) → codes_from n ≤ p → p < destinations_from n → name_at n p ≡ code_name (p - codes_from n)
+at_codes n p h k = past_links n p h ∙ ap (λ b. cond b (code_name (p - codes_from n)) (from_destinations n p)) (under k)
+
+past_codes : (n : NodeCounts) (p : ℕ) → destinations_from n ≤ p → name_at n p ≡ from_destinations n p
+past_codes n p h = past_links n p (omega (arith, h)) ∙ ap (λ b. cond b (code_name (p - codes_from n)) (from_destinations n p)) (over h)
+
+at_destinations : (n : NodeCounts) (p : ℕ) → destinations_from n ≤ p → p < t8_from n → name_at n p ≡ T6 (p - destinations_from n)
+at_destinations n p h k = past_codes n p h ∙ ap (λ b. cond b (T6 (p - destinations_from n)) (from_t8 n p)) (under k)
+
+past_destinations : (n : NodeCounts) (p : ℕ) → t8_from n ≤ p → name_at n p ≡ from_t8 n p
+past_destinations n p h = past_codes n p (omega (arith, h)) ∙ ap (λ b. cond b (T6 (p - destinations_from n)) (from_t8 n p)) (over h)
+
+at_t8 : (n : NodeCounts) (p : ℕ) → t8_from n ≤ p → p < t10_from n → name_at n p ≡ route_name (λ s d. T8 s d) n.destinations (p - t8_from n)
+at_t8 n p h k =
+    past_destinations n p h
+    ∙ ap (λ b. cond b (route_name (λ s d. T8 s d) n.destinations (p - t8_from n)) (route_name (λ s d. T10 s d) n.destinations (p - t10_from n))) (under k)
+
+at_t10 : (n : NodeCounts) (p : ℕ) → t10_from n ≤ p → name_at n p ≡ route_name (λ s d. T10 s d) n.destinations (p - t10_from n)
+at_t10 n p h =
+    past_destinations n p (omega (arith, h))
+    ∙ ap (λ b. cond b (route_name (λ s d. T8 s d) n.destinations (p - t8_from n)) (route_name (λ s d. T10 s d) n.destinations (p - t10_from n))) (over h)
+
+-- ---- the name at the place of a name is that name
+
+link-named : (n : NodeCounts) (kind link : ℕ) → kind < 9 → nat_lt link n.links ≡ true → name_at n (kind * n.links + link) ≡ link_name kind link
+link-named n kind link k h =
+    let l = below link n.links h in
+    at_links n (kind * n.links + link) (in_rows n.links 9 kind link k l)
+    ∙ (λ i. link_name (div-mul-add kind n.links link l i) (mod-mul-add kind n.links link l i))
+
+past : (a b : ℕ) → (a + b) - a ≡ b
+past a b = omega arith
+
+row-named : (name : ℕ → ℕ → TimerName) (width from row column : ℕ) → column < width → name (((from + (row * width + column)) - from) / width) (((from + (row * width + column)) - from) % width) ≡ name row column
+row-named name width from row column h =
+    ap (λ p. name (p / width) (p % width)) (past from (row * width + column))
+    ∙ (λ i. name (div-mul-add row width column h i) (mod-mul-add row width column h i))
+
+pub name-place : (n : NodeCounts) (name : TimerName) → has_name n name ≡ true → name_at n (place_in n name) ≡ name
+name-place n (L1 link) h = link-named n 0 link (omega arith) h
+name-place n (L2 link) h = link-named n 1 link (omega arith) h
+name-place n (L3 link) h = link-named n 2 link (omega arith) h
+name-place n (L4 link) h = link-named n 3 link (omega arith) h
+name-place n (L6 link) h = link-named n 4 link (omega arith) h
+name-place n (L7 link) h = link-named n 5 link (omega arith) h
+name-place n (T1 link) h = link-named n 6 link (omega arith) h
+name-place n (T2 link) h = link-named n 7 link (omega arith) h
+name-place n (T3 link) h = link-named n 8 link (omega arith) h
+name-place n (T4 set code) h =
+    let b = both_below set n.sets code 16 h in
+    let f = in_rows 16 n.sets set code b.0 b.1 in
+    at_codes n (place_in n (T4 set code)) (omega arith) (omega (arith, f)) ∙ row-named (λ s c. T4 s c) 16 (codes_from n) set code b.1
+name-place n (T6 destination) h =
+    let l = below destination n.destinations h in
+    at_destinations n (place_in n (T6 destination)) (omega arith) (omega (arith, l)) ∙ ap (λ d. T6 d) (past (destinations_from n) destination)
+name-place n (T8 set destination) h =
+    let b = both_below set n.sets destination n.destinations h in
+    let f = in_rows n.destinations n.sets set destination b.0 b.1 in
+    at_t8 n (place_in n (T8 set destination)) (omega arith) (omega (arith, f)) ∙ row-named (λ s d. T8 s d) n.destinations (t8_from n) set destination b.1
+name-place n (T10 set destination) h =
+    let b = both_below set n.sets destination n.destinations h in
+    at_t10 n (place_in n (T10 set destination)) (omega arith) ∙ row-named (λ s d. T10 s d) n.destinations (t10_from n) set destination b.1
+
+-- ---- the name at a place exists, and stands there
+
+pub record IsNamed (n : NodeCounts) (p : ℕ) (name : TimerName) : Type 0 where
+  pub has : has_name n name ≡ true
+  pub place : place_in n name ≡ p
+
+link-is : (n : NodeCounts) (kind link : ℕ) → kind < 9 → nat_lt link n.links ≡ true → IsNamed n (kind * n.links + link) (link_name kind link)
+link-is n zero link h k = record { has = k; place = refl }
+link-is n (suc zero) link h k = record { has = k; place = refl }
+link-is n (suc (suc zero)) link h k = record { has = k; place = refl }
+link-is n (suc (suc (suc zero))) link h k = record { has = k; place = refl }
+link-is n (suc (suc (suc (suc zero)))) link h k = record { has = k; place = refl }
+link-is n (suc (suc (suc (suc (suc zero))))) link h k = record { has = k; place = refl }
+link-is n (suc (suc (suc (suc (suc (suc zero)))))) link h k = record { has = k; place = refl }
+link-is n (suc (suc (suc (suc (suc (suc (suc zero))))))) link h k = record { has = k; place = refl }
+link-is n (suc (suc (suc (suc (suc (suc (suc (suc zero)))))))) link h k = record { has = k; place = refl }
+link-is n (suc (suc (suc (suc (suc (suc (suc (suc (suc kind))))))))) link h k = absurd (omega arith)
+
+-- a place in a table is that of a row and a column
+record HasRow (rows width p : ℕ) : Type 0 where
+  row : p / width < rows
+  column : p % width < width
+  whole : (p / width) * width + p % width ≡ p
+
+has_row : (rows width p : ℕ) → p < rows * width → HasRow rows width p
+has_row zero width p h = absurd (omega (arith, h))
+has_row (suc rows) zero p h = absurd (omega (arith, h))
+has_row (suc rows) (suc width) p h =
+    let some : 0 < suc width = omega arith in
+    record {
+      row = (div-lt_iff_lt-mul some).1 h;
+      column = mod-lt p some;
+      whole = omega (arith, div-add-mod p (suc width), mul_comm (suc width) (p / suc width));
+    }
+
+named-link : (n : NodeCounts) (p : ℕ) → p < codes_from n → IsNamed n p (link_name (p / n.links) (p % n.links))
+named-link n p h =
+    let r = has_row 9 n.links p h in
+    let i = link-is n (p / n.links) (p % n.links) r.row (under r.column) in
+    record { has = i.has; place = i.place ∙ r.whole }
+
+named-code : (n : NodeCounts) (p : ℕ) → codes_from n ≤ p → p < destinations_from n → IsNamed n p (code_name (p - codes_from n))
+named-code n p h k =
+    let r = has_row n.sets 16 (p - codes_from n) (omega (arith, h, k)) in
+    record {
+      has = both ((p - codes_from n) / 16) n.sets ((p - codes_from n) % 16) 16 r.row r.column;
+      place = omega (arith, r.whole, h);
+    }
+
+named-destination : (n : NodeCounts) (p : ℕ) → destinations_from n ≤ p → p < t8_from n → IsNamed n p (T6 (p - destinations_from n))
+named-destination n p h k = record { has = under (omega (arith, h, k)); place = omega (arith, h) }
+
+named-t8 : (n : NodeCounts) (p : ℕ) → t8_from n ≤ p → p < t10_from n → IsNamed n p (route_name (λ s d. T8 s d) n.destinations (p - t8_from n))
+named-t8 n p h k =
+    let q = p - t8_from n in
+    let r = has_row n.sets n.destinations q (omega (arith, h, k)) in
+    record { has = both (q / n.destinations) n.sets (q % n.destinations) n.destinations r.row r.column; place = omega (arith, r.whole, h) }
+
+named-t10 : (n : NodeCounts) (p : ℕ) → t10_from n ≤ p → p < count_of n → IsNamed n p (route_name (λ s d. T10 s d) n.destinations (p - t10_from n))
+named-t10 n p h k =
+    let q = p - t10_from n in
+    let r = has_row n.sets n.destinations q (omega (arith, h, k)) in
+    record { has = both (q / n.destinations) n.sets (q % n.destinations) n.destinations r.row r.column; place = omega (arith, r.whole, h) }
+
+pub named : (n : NodeCounts) (p : ℕ) → p < count_of n → IsNamed n p (name_at n p)
+named n p f =
+    elim (sides p (codes_from n)) [
+      | inl h ↦ subst (IsNamed n p) (sym (at_links n p h)) (named-link n p h)
+      | inr h ↦ elim (sides p (destinations_from n)) [
+        | inl k ↦ subst (IsNamed n p) (sym (at_codes n p h k)) (named-code n p h k)
+        | inr k ↦ elim (sides p (t8_from n)) [
+          | inl l ↦ subst (IsNamed n p) (sym (at_destinations n p k l)) (named-destination n p k l)
+          | inr l ↦ elim (sides p (t10_from n)) [
+            | inl m ↦ subst (IsNamed n p) (sym (at_t8 n p l m)) (named-t8 n p l m)
+            | inr m ↦ subst (IsNamed n p) (sym (at_t10 n p m)) (named-t10 n p m f)
+          ]
+        ]
+      ]
+    ]

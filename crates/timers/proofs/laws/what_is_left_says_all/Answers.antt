@@ -1,0 +1,5 @@
+use Rattle.timers.specs.OneMap.{one_map}
+use Rattle.timers.proofs.laws.what_is_left_says_all.Goals as goal
+
+pub returns : goal.returns
+returns c = one_map

@@ -1,0 +1,4 @@
+use Rattle.timers.proofs.tree.+first_below.Given as goal
+
+abbrev pub decreases-first_below : goal.decreases-first_below
+decreases-first_below l = l.levels

@@ -1,0 +1,5 @@
+use Rattle.std.proofs.Common.{◌-◌}
+use Rattle.timers.proofs.tree.+refresh.Given as goal
+
+abbrev pub decreases-refresh : goal.decreases-refresh
+decreases-refresh l = l.leaves - l.node

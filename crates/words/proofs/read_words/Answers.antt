@@ -1,8 +1,0 @@
-use Rattle.std.proofs.Common.{◌∙◌, sym, ap, inl, Some}
-use Rattle.words.specs.Words.{texts}
-use Rattle.words.proofs.Reading.{plain-texts, unplain}
-use Rattle.words.proofs.read_words.Goals as goal
-
-pub returns-then-not-are_plain : goal.returns-then-not-are_plain
-returns-then-not-are_plain c = inl (ap (λ t. Some t)
-    (sym (unplain (texts c.args.words.now) (sym (plain-texts c.args.words.now) ∙ sym c.if-not-are_plain.ensures))))
