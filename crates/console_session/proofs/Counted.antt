@@ -3,14 +3,14 @@ use Rattle.std.proofs.Common.{◌≡◌, ◌∙◌, ◌+◌, ◌<◌, ◌-◌, �
 use Rattle.std.proofs.lemmas.Option.{slice_get-get_or}
 use Rattle.std.specs.Prelude.{Result, Ok, Err, OnOk, OnErr}
 use Rattle.std.specs.Io.KnownBytes.{Appends}
-use Rattle.stp_node.specs.Streams.{AppendsFirst}
+use Rattle.script.specs.Streams.{AppendsFirst}
 use Rattle.served_link.specs.Counting.{value_of}
 use Rattle.served_link.specs.Lines.{counter_line}
 use Rattle.served_link.specs.declared.counter.Counter.{Counter}
 use Rattle.served_link.specs.declared.counter.Counter.TheVariants.{FramesIn}
 use Rattle.served_link.specs.declared.row.LinkCounters.{LinkCounters}
 use Rattle.console_session.specs.Counters.{first_texts, counter_at}
-use Rattle.stp_node.proofs.Appending.{appends-appends, appends-first, appends-nothing}
+use Rattle.script.proofs.Appending.{appends-appends, appends-first, appends-nothing}
 
 take-within : (n : ℕ) (xs zs : List ℕ) → take (length (take n xs)) (xs ++ zs) ≡ take n xs
 take-within zero xs zs = refl

@@ -2,8 +2,8 @@
 use Rattle.std.proofs.Common.{◌≡◌, ◌∙◌, ℕ, List, [], ◌∷◌, ◌++◌, Option, Some, sym, ap, subst}
 use Rattle.std.specs.Prelude.{Result, Ok, Err, OnErr}
 use Rattle.std.specs.Io.KnownBytes.{Appends}
-use Rattle.stp_node.specs.Streams.{AppendsFirst}
-use Rattle.stp_node.proofs.Appending.{appends-first}
+use Rattle.script.specs.Streams.{AppendsFirst}
+use Rattle.script.proofs.Appending.{appends-first}
 use Rattle.console_session.specs.Rewriting.{ended_line, shown_line, shown, in_parts}
 use Rattle.console_session.proofs.Counted.{first-of-more}
 

@@ -3,10 +3,10 @@ use Rattle.std.specs.Prelude.{◌≡◌, ℕ, Bool, List, Result, Ok, Err}
 use Rattle.std.specs.Io.KnownBytes.{Appends}
 use Rattle.exchange.specs.KeptQueues.{kept}
 use Rattle.exchange.specs.Stands.{Kept}
-use Rattle.stp_node.specs.Asking.{Asked}
-use Rattle.stp_node.specs.Doing.{printed, done}
-use Rattle.stp_node.specs.Streams.{Output, AppendsFirst, failures_after}
-use Rattle.stp_node.specs.declared.sink.WriteFailed.{WriteFailed}
+use Rattle.script.specs.Asking.{Asked}
+use Rattle.script.specs.Doing.{printed, done}
+use Rattle.script.specs.Streams.{Output, AppendsFirst, failures_after}
+use Rattle.script.specs.declared.sink.WriteFailed.{WriteFailed}
 
 -- the octets that wait to be written to a caller, and how many writes there was no room for
 pub record Waiting : Type 0 where

@@ -1,9 +1,9 @@
 -- What a caller of the console asks for by a line.
 use Rattle.std.specs.Prelude.{ℕ, Bool, true, false, if◌then◌else◌, List, codes, Option, None, Some, Result, Ok, Err}
 use Rattle.std.specs.Prelude.{bytes_eq}
-use Rattle.stp_node.specs.Asking.{Asked, AskUp, AskDown, AskFrame, AskTick, AskTake, AskWants, AskSubmit, AskOrder}
-use Rattle.stp_node.specs.Asking.{AskShow, Reading, Skips, IsMalformed, Asks, asked_line, parsed_line}
-use Rattle.stp_node.specs.declared.line.Malformed.{Malformed}
+use Rattle.script.specs.Asking.{Asked, AskUp, AskDown, AskFrame, AskTick, AskTake, AskWants, AskSubmit, AskOrder}
+use Rattle.script.specs.Asking.{AskShow, Reading, Skips, IsMalformed, Asks, asked_line, parsed_line}
+use Rattle.script.specs.declared.line.Malformed.{Malformed}
 use Rattle.console_session.specs.declared.command.ConsoleLine.{ConsoleLine}
 use Rattle.console_session.specs.declared.command.ConsoleLine.TheVariants as line
 

@@ -2,10 +2,10 @@
 use Rattle.std.specs.Prelude.{◌≡◌, ℕ, Bool, List, ◌++◌, take, Some, Result, Ok, Err}
 use Rattle.exchange.specs.KeptQueues.{kept}
 use Rattle.exchange.specs.Stands.{Kept}
-use Rattle.stp_node.specs.Asking.{Asked}
-use Rattle.stp_node.specs.Doing.{done}
-use Rattle.stp_node.specs.Streams.{Output, counted}
-use Rattle.stp_node.specs.declared.sink.WriteFailed.{WriteFailed}
+use Rattle.script.specs.Asking.{Asked}
+use Rattle.script.specs.Doing.{done}
+use Rattle.script.specs.Streams.{Output, counted}
+use Rattle.script.specs.declared.sink.WriteFailed.{WriteFailed}
 use Rattle.console_session.specs.Lines.{Heard, heard, HearsNothing, HearsScript, HearsCounters, HearsHelp, HearsUsers}
 use Rattle.console_session.specs.Lines.{HearsNotices, HearsFrames, HearsStop, HearsNoLine}
 use Rattle.console_session.specs.Answers.{Waiting, IsAnswered}

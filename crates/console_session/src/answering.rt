@@ -1,11 +1,11 @@
 //! Lines of a script that a caller writes.
 
 ghost use Rattle.std.specs.Prelude.{◌≡◌};
-ghost use Rattle.stp_node.specs.Asking.{asked_line};
+ghost use Rattle.script.specs.Asking.{asked_line};
 ghost use Rattle.console_session.specs.Answers.{IsAnswered};
 
 use exchange::Exchange;
-use stp_node::{Line, Sink, WriteFailed, perform, print};
+use script::{Line, Sink, WriteFailed, perform, print};
 
 /// Does a line of a script, and prints what a script prints for it.
 pub fn do_script_line<W: Sink>(

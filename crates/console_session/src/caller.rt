@@ -3,8 +3,8 @@
 ghost use Rattle.std.specs.Prelude.{◌≡◌, ◌≢◌, ℕ, ◌+◌, ◌<◌, ◌≤◌, Bool, true, false, List, [], ◌∷◌, ◌++◌};
 ghost use Rattle.std.specs.Prelude.{length, take, drop};
 ghost use Rattle.exchange.specs.KeptQueues.{kept};
-ghost use Rattle.stp_node.specs.Asking.{asked_line};
-ghost use Rattle.stp_node.specs.Doing.{done};
+ghost use Rattle.script.specs.Asking.{asked_line};
+ghost use Rattle.script.specs.Doing.{done};
 ghost use Rattle.console_session.specs.Answers.{IsAnswered};
 ghost use Rattle.console_session.specs.Callers.{just_came, sees_of, told_of, OnlyOutboxChanges};
 ghost use Rattle.console_session.specs.Callers.{line_feed, without_return, EndsNoLine, IsOneLine};
@@ -19,11 +19,11 @@ use crate::outbox::Outbox;
 use crate::pointing::{PointSink, line_in_numbers};
 use arrayvec::ArrayVec;
 use exchange::Exchange;
+use script::{Grown, Line, Malformed, OpenLine, Sink, WriteFailed};
 use served_link::Counters;
 use std::alloc::Global;
 use std::marker::Model;
 use std::mem;
-use stp_node::{Grown, Line, Malformed, OpenLine, Sink, WriteFailed};
 use trace::PointFormat;
 
 /// Octets of a line of a caller, at most, without the line feed that ends it: as many as in a script.

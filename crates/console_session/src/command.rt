@@ -2,9 +2,9 @@
 
 ghost use Rattle.std.specs.Prelude.{◌≡◌};
 ghost use Rattle.console_session.specs.Lines.{heard, heard_of, own_line, own_line_of, is_for_callers};
-ghost use Rattle.stp_node.specs.Asking.{asked_line};
+ghost use Rattle.script.specs.Asking.{asked_line};
 
-use stp_node::{Line, Malformed, parse_line};
+use script::{Line, Malformed, parse_line};
 
 /// What a line of a caller asks for.
 #[derive(Drop)]

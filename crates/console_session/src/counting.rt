@@ -2,7 +2,7 @@
 
 ghost use Rattle.std.specs.Prelude.{◌++◌, ◌≤◌, ◌≡◌, codes, length, OnOk, OnErr};
 ghost use Rattle.std.specs.Io.KnownBytes.{Appends};
-ghost use Rattle.stp_node.specs.Streams.{AppendsFirst, failures_after};
+ghost use Rattle.script.specs.Streams.{AppendsFirst, failures_after};
 ghost use Rattle.console_session.specs.Counters.{counters_text, each_counter, link_text, row_text};
 ghost use Rattle.std.specs.Option.{option_copied};
 ghost use Rattle.served_link.specs.Lines.{counter_line};
@@ -10,9 +10,9 @@ ghost use Rattle.served_link.specs.Lines.{counter_line};
 use arrayvec::ArrayString;
 use console::link_name;
 use exchange::Exchange;
+use script::{Sink, WriteFailed};
 use served_link::{Counter, Counters, LINE_OCTETS, LinkCounters, write_counter};
 use settings::{Limits, LinkId};
-use stp_node::{Sink, WriteFailed};
 
 /// Prints the counters of each link, in the order of the settings: a line for each counter.
 pub fn print_counters<W: Sink>(

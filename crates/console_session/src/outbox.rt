@@ -2,11 +2,11 @@
 
 ghost use Rattle.std.specs.Prelude.{◌≡◌, ◌+◌, ◌<◌, ◌≤◌, [], drop, length, IsErr, OnOk, OnErr, Some};
 ghost use Rattle.std.specs.Io.KnownBytes.{Appends};
-ghost use Rattle.stp_node.specs.Streams.{AppendsFirst, failures_after};
+ghost use Rattle.script.specs.Streams.{AppendsFirst, failures_after};
 
+use script::{Sink, WriteFailed};
 use std::alloc::Global;
 use std::marker::Model;
-use stp_node::{Sink, WriteFailed};
 
 /// Octets that wait for one caller, at most. The longest answer, of 65,535 translation rows, fits in it.
 pub const OUTBOX_OCTETS: usize = 8_388_608;

@@ -5,7 +5,7 @@ ghost use Rattle.std.specs.Io.KnownBytes.{Appends};
 ghost use Rattle.std.specs.List.{slice_get};
 ghost use Rattle.std.specs.Option.{IfNone, option_and_then, option_map};
 ghost use Rattle.console.specs.Words.{words};
-ghost use Rattle.stp_node.specs.Streams.{AppendsFirst};
+ghost use Rattle.script.specs.Streams.{AppendsFirst};
 ghost use Rattle.trace.specs.Points.{point_text};
 ghost use Rattle.console_session.specs.Rewriting.{in_numbers, in_parts, point_in, shown_place};
 ghost use Rattle.console_session.specs.Rewriting.{ended_line, shown, with_word, within, written_if};
@@ -13,8 +13,8 @@ ghost use Rattle.console_session.specs.Rewriting.{ended_line, shown, with_word, 
 use crate::caller::LINE_OCTETS;
 use arrayvec::ArrayVec;
 use console::words::cut;
+use script::{Sink, WriteFailed};
 use settings::PointCode;
-use stp_node::{Sink, WriteFailed};
 use trace::{PointFormat, parse_point, point_text};
 
 /// Octets of a line of a text with a point in it, at most.

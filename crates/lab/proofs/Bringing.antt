@@ -7,8 +7,8 @@ use Rattle.m2pa_codec.specs.Streams.{IsText, next_in}
 use Rattle.m2pa_codec.specs.Reading.{length_field}
 use Rattle.m2pa_codec.specs.declared.framer.Next.TheVariants.{Whole, Wait}
 use Rattle.m2pa_codec.proofs.StreamTexts.{next_in-whole, length_field-append}
-use Rattle.stp_node.proofs.Running.{consumes-consumes}
-use Rattle.stp_node.specs.Streams.{Input}
+use Rattle.script.proofs.Running.{consumes-consumes}
+use Rattle.script.specs.Streams.{Input}
 use Rattle.lab.specs.Carrying.{GivesText}
 
 -- the last octet held came when more was waited for

@@ -3,12 +3,12 @@ use Rattle.std.proofs.Common.{◌≤◌, ◌+◌, ℕ, List, [], ◌++◌, lengt
 use Rattle.std.specs.Prelude.{OnOk}
 use Rattle.std.specs.Io.KnownBytes.{Consumes}
 use Rattle.exchange.specs.Stands.{Kept}
-use Rattle.stp_node.specs.Faults.{EndsAtLine}
-use Rattle.stp_node.specs.Streams.{Input, Output}
-use Rattle.stp_node.specs.declared.script.TheConstants.{READS}
-use Rattle.stp_node.specs.declared.script.ScriptFault.{ScriptFault}
-use Rattle.stp_node.specs.declared.script.ScriptFault.TheVariants.{Read, Write, Line, TooManyReads, NoMemory}
-use Rattle.stp_node.proofs.Running.{consumes-consumes, consumes-nothing}
+use Rattle.script.specs.Faults.{EndsAtLine}
+use Rattle.script.specs.Streams.{Input, Output}
+use Rattle.script.specs.declared.fault.TheConstants.{READS}
+use Rattle.script.specs.declared.fault.ScriptFault.{ScriptFault}
+use Rattle.script.specs.declared.fault.ScriptFault.TheVariants.{Read, Write, Line, TooManyReads, NoMemory}
+use Rattle.script.proofs.Running.{consumes-consumes, consumes-nothing}
 use Rattle.lab.specs.Script.{ReadsAtLeast, ReadsOn, EndsInScript, LeavesAll}
 
 pub reads-nothing : (left : Option (List ℕ)) → ReadsAtLeast 0 left left

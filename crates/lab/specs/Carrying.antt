@@ -10,7 +10,7 @@ use Rattle.m2pa_codec.specs.declared.framer.Next.TheVariants.{Wait, Broken}
 use Rattle.exchange_rules.specs.State.{QueueKind, State}
 use Rattle.exchange_rules.specs.Happening.{WentDown, FrameCame}
 use Rattle.exchange_rules.specs.Exchange.{outcome_of, after, frame_to_take, taken}
-use Rattle.stp_node.specs.Streams.{Input, Output, AppendsFirst, counted}
+use Rattle.script.specs.Streams.{Input, Output, AppendsFirst, counted}
 use Rattle.lab.specs.declared.carrying.Carried.{Carried}
 use Rattle.lab.specs.declared.carrying.Carried.TheVariants.{Nothing, Got, Lost}
 

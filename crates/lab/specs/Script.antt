@@ -2,10 +2,10 @@
 use Rattle.std.specs.Prelude.{◌≡◌, ◌≤◌, ℕ, List, length, Option, Result, Ok, Err}
 use Rattle.std.specs.Io.KnownBytes.{Consumes}
 use Rattle.exchange.specs.Stands.{Kept}
-use Rattle.stp_node.specs.Streams.{Input, Output}
-use Rattle.stp_node.specs.declared.script.TheConstants.{READS}
-use Rattle.stp_node.specs.declared.script.ScriptFault.{ScriptFault}
-use Rattle.stp_node.specs.declared.script.ScriptFault.TheVariants.{Read, Write, Line, TooManyReads, NoMemory}
+use Rattle.script.specs.Streams.{Input, Output}
+use Rattle.script.specs.declared.fault.TheConstants.{READS}
+use Rattle.script.specs.declared.fault.ScriptFault.{ScriptFault}
+use Rattle.script.specs.declared.fault.ScriptFault.TheVariants.{Read, Write, Line, TooManyReads, NoMemory}
 
 -- octets were read, at least so many
 pub record ReadsAtLeast (least : ℕ) (left left_new : Option (List ℕ)) : Type 0 where

@@ -7,12 +7,12 @@ ghost use Rattle.exchange_rules.specs.Exchange.{taken};
 ghost use Rattle.exchange_rules.specs.Queues.{whole};
 ghost use Rattle.exchange_rules.specs.Sound.{Abstract};
 ghost use Rattle.m2pa_codec.specs.Streams.{next_in};
-ghost use Rattle.stp_node.specs.Streams.{counted};
+ghost use Rattle.script.specs.Streams.{counted};
 ghost use Rattle.lab.specs.Carrying.{text_to_take, carriage, Carries, Brings, FindsText, Holds};
 
 use exchange::{BUFFER_OCTETS, Event, Exchange, FrameText, Framer, Next};
+use script::{Sink, Source};
 use settings::{Limits, LinkId, Outcome};
-use stp_node::{Sink, Source};
 
 /// Reads of a stream for one frame, at most: no frame has more octets. Each read asks for one octet, and only while no
 /// whole frame is held, so no octet behind the frame is read.

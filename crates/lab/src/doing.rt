@@ -7,9 +7,9 @@ use crate::line::{End, LabLine};
 use arrayvec::ArrayString;
 use console::{LINE_OCTETS, link_name};
 use exchange::{Event, Exchange, Wants};
+use script::{Line, Reply, console_line, none_line, perform};
 use settings::{Cause, LinkId, Outcome};
 use std::fmt::Write;
-use stp_node::{Line, Reply, console_line, none_line, perform};
 
 /// Does what a line asks for, and answers what is printed of it, and whose names and texts it tells.
 pub(crate) fn do_asked<J: Joiner>(

@@ -15,5 +15,5 @@ mod wire;
 pub use carrying::{Carried, MOVE_READS, carry};
 pub use joining::{JoinFault, Joiner};
 pub use memory::{MemoryJoiner, MemoryStream};
-pub use run::{JoinedLab, run_lab};
+pub use run::run_lab;
 pub use sockets::Loopback;

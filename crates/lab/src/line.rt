@@ -2,7 +2,7 @@
 
 use console::Command;
 use console::words::cut;
-use stp_node::{Line, Malformed, is_skipped, line_with_one_word};
+use script::{Line, Malformed, is_skipped, line_with_one_word};
 
 /// A node of the lab.
 #[derive(Clone, Copy, PartialEq, Eq)]

@@ -3,7 +3,7 @@
 ghost use Rattle.std.specs.Prelude.{◌≡◌, ◌+◌, ◌≤◌, ◌<◌, ◌^◌, length, OnOk, Err};
 ghost use Rattle.std.specs.Io.KnownBytes.{IsAtEnd};
 ghost use Rattle.settings.specs.Facing.{IsFacing};
-ghost use Rattle.stp_node.specs.Faults.{MakesReads, reads_failed, writes_failed, EndsAtLine};
+ghost use Rattle.script.specs.Faults.{MakesReads, reads_failed, writes_failed, EndsAtLine};
 ghost use Rattle.settings.specs.Naming.{link_names};
 ghost use Rattle.lab.specs.Script.{EndsInScript, LeavesAll, ReadsOn};
 
@@ -12,46 +12,11 @@ use crate::doing::{do_asked, node_at};
 use crate::joining::Joiner;
 use crate::line::parse_lab_line;
 use exchange::Exchange;
+use script::{Grown, Malformed, OpenLine, READS, ScriptFault, Sink, Source, print};
 use std::alloc::Global;
-use std::marker::Model;
-use stp_node::{Grown, Lab, Malformed, OpenLine, READS, ScriptFault, Sink, Source, print};
 
 /// Octets that one read asks for.
 const PIECE_OCTETS: usize = 4096;
-
-/// A lab whose links this joiner joins.
-#[derive(Drop)]
-pub struct JoinedLab<J> {
-    joiner: J,
-}
-
-impl<J> Model for JoinedLab<J> {
-    ghost Value = { J };
-
-    ghost view = { λ l. l.joiner };
-}
-
-impl<J: Joiner> JoinedLab<J> {
-    /// The lab with this joiner.
-    pub fn new(joiner: J) -> JoinedLab<J>
-        ensures { result ≡ joiner }
-    {
-        JoinedLab { joiner }
-    }
-}
-
-impl<J: Joiner> Lab for JoinedLab<J> {
-    fn run<R: Source, W: Sink>(
-        &mut self,
-        alloc: Global,
-        near: &mut Exchange,
-        far: &mut Exchange,
-        reader: &mut R,
-        writer: &mut W,
-    ) -> Result<(), ScriptFault> {
-        run_lab(alloc, near, far, &mut self.joiner, reader, writer)
-    }
-}
 
 /// Does the lines of a lab script, in order, and prints what becomes of each: a line, but for `show`, which prints a
 /// text. The exchanges face each other, and name their links alike.

@@ -1,7 +1,7 @@
 //! A stream between two nodes that counts its reads, and the reads and writes that failed.
 
+use script::{ReadFailed, Sink, Source, WriteFailed, write_whole};
 use std::io::{Read, Write};
-use stp_node::{ReadFailed, Sink, Source, WriteFailed, write_whole};
 
 /// A stream that frames are written to and read from.
 #[derive(Drop)]

@@ -3,8 +3,8 @@
 //! node on the network.
 #![tactic(auto)]
 
+use program::run_on_machine;
 use std::process::ExitCode;
-use stp_server::run_on_machine;
 
 fn main(rt: HostRuntime) -> ExitCode {
     run_on_machine(&rt)

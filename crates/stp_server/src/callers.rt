@@ -8,11 +8,11 @@ use console_session::{Desk, News};
 use mio::event::Event;
 use mio::net::{TcpListener, TcpStream};
 use mio::{Interest, Registry};
+use script::Sink;
 use std::alloc::{AllocError, Global};
 use std::fmt::Write as _;
 use std::io::Write;
 use std::net::SocketAddr;
-use stp_node::Sink;
 
 /// Octets of the line for a caller that finds no place, at most.
 const LINE_OCTETS: usize = 64;

@@ -5,11 +5,11 @@ use crate::journal::Journal;
 use crate::node::Node;
 use mio::event::Event as Readiness;
 use mio::net::TcpStream;
+use script::Sink;
 use served_link::{Association, Broken, Watch};
 use settings::{FailureReason, LinkId};
 use std::io::{ErrorKind, Read, Write};
 use std::net::SocketAddr;
-use stp_node::Sink;
 
 /// Octets that one read asks for.
 const PIECE_OCTETS: usize = 4096;

@@ -1,4 +1,4 @@
-//! Why a server doesn't start.
+//! Why a server doesn't start, or ends.
 
 use exchange::NoMemory;
 use std::alloc::{AllocError, AllocFailed};
@@ -15,6 +15,16 @@ pub enum OpenFault {
     Poll,
     /// It can't listen at this address, for this reason.
     Listen(SocketAddr, ErrorKind),
+}
+
+/// Why a node isn't served any more, where nobody stopped it.
+pub enum ServeFailure {
+    /// The server couldn't be opened.
+    Open(OpenFault),
+    /// The capture file couldn't be made.
+    Capture,
+    /// The clock or the poll failed.
+    System,
 }
 
 impl From<AllocError> for OpenFault {

@@ -10,12 +10,12 @@ use exchange::{Event, Wants};
 use mio::event::Event as Readiness;
 use mio::net::{TcpListener, TcpStream};
 use mio::{Interest, Registry};
+use script::Sink;
 use serve_settings::Endpoint;
 use served_link::{Retry, Watch};
 use settings::{FailureReason, LinkId, Outcome};
 use std::net::{Net, SocketAddr};
 use std::time::Duration;
-use stp_node::Sink;
 
 /// Reads of a link in one round, at most.
 const READS: usize = 16;

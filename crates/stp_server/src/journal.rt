@@ -1,10 +1,10 @@
 //! The log of a server.
 
 use arrayvec::ArrayString;
+use script::Sink;
 use std::fmt;
 use std::fmt::Write;
 use std::time::Duration;
-use stp_node::Sink;
 
 /// Octets of a line of the log with its line feed, at most.
 const LINE_OCTETS: usize = 256;

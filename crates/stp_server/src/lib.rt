@@ -8,7 +8,6 @@ mod connection;
 mod fault;
 mod gate;
 mod journal;
-mod machine;
 mod naming;
 mod node;
 mod noticing;
@@ -16,8 +15,7 @@ mod server;
 mod serving;
 
 pub use callers::MOST_CALLERS;
-pub use fault::OpenFault;
-pub use machine::run_on_machine;
+pub use fault::{OpenFault, ServeFailure};
 pub use naming::SocketName;
 pub use server::{FileCapture, Places, Server};
-pub use serving::MachineServer;
+pub use serving::serve;

@@ -8,9 +8,9 @@ use arrayvec::{ArrayString, ArrayVec};
 use console::{LINE_OCTETS, show_notices};
 use console_session::{Desk, News, line_in_parts};
 use exchange::{Event, Exchange};
+use script::Sink;
 use settings::{FailureReason, LinkId, Notice, Settings};
 use std::alloc::Global;
-use stp_node::Sink;
 use trace::PointFormat;
 
 /// The node, who is told what happens in it, and which notices they were told.

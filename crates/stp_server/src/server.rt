@@ -9,6 +9,7 @@ use crate::naming::SocketName;
 use crate::node::Node;
 use exchange::{Event, Exchange, Wants};
 use mio::{Events, Poll};
+use script::Sink;
 use serve_settings::Endpoint;
 use served_link::{Counters, Watch};
 use settings::{FailureReason, LinkId, Outcome};
@@ -19,7 +20,6 @@ use std::io::BufWriter;
 use std::marker::Model;
 use std::net::{Net, SocketAddr};
 use std::time::Duration;
-use stp_node::Sink;
 use trace::{Capture, PointFormat, UntilFailure};
 
 /// Sockets that one wait tells of, at most. Further ones are told of by the next.

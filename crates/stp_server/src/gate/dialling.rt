@@ -5,12 +5,12 @@ use crate::journal::Journal;
 use crate::node::Node;
 use mio::Registry;
 use mio::net::TcpStream;
+use script::Sink;
 use serve_settings::Endpoint;
 use served_link::LONGEST_WAIT;
 use std::mem;
 use std::net::{Net, SocketAddr};
 use std::time::Duration;
-use stp_node::Sink;
 
 /// After so many seconds a connection that isn't made is given up.
 const GIVEN_UP_AFTER_SECONDS: u64 = LONGEST_WAIT;

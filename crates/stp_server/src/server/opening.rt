@@ -8,12 +8,12 @@ use crate::naming::SocketName;
 use crate::node::Node;
 use mio::net::TcpListener;
 use mio::{Events, Interest, Poll};
+use script::Sink;
 use serve_settings::Endpoint;
 use settings::{LinkId, Settings};
 use std::alloc::Global;
 use std::net::{Net, SocketAddr};
 use std::time::Duration;
-use stp_node::Sink;
 use trace::PointFormat;
 
 impl Server {

@@ -2,9 +2,9 @@
 use Rattle.std.proofs.Common.{List, ℕ, codes, subst, ◌∙◌}
 use Rattle.std.specs.Io.KnownBytes.{Appends}
 use Rattle.served_link.specs.Lines.{counter_line}
-use Rattle.stp_node.specs.Streams.{AppendsFirst}
+use Rattle.script.specs.Streams.{AppendsFirst}
 use Rattle.console_session.proofs.Counted.{line-ended, line-cut, first-of-more}
-use Rattle.stp_node.proofs.Shown.{on-error}
+use Rattle.script.proofs.Shown.{on-error}
 use Rattle.console_session.proofs.counting.print_counter.Goals as goal
 
 pub returns-in_err-write-clause-first : goal.returns-in_err-write-clause-first

@@ -4,9 +4,9 @@ use Rattle.std.specs.Io.KnownBytes.{Appends}
 use Rattle.served_link.specs.declared.row.LinkCounters.{LinkCounters}
 use Rattle.console.specs.Names.{name_in}
 use Rattle.console_session.specs.Counters.{row_text}
-use Rattle.stp_node.specs.Streams.{AppendsFirst}
+use Rattle.script.specs.Streams.{AppendsFirst}
 use Rattle.console_session.proofs.Counted.{texts-next, texts-broken}
-use Rattle.stp_node.proofs.Shown.{on-error}
+use Rattle.script.proofs.Shown.{on-error}
 use Rattle.console_session.proofs.counting.print_counters.Goals as goal
 
 -- the name of the link, and its counters

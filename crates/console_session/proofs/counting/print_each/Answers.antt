@@ -2,9 +2,9 @@
 use Rattle.std.proofs.Common.{List, ℕ, length, slice_get, subst, ◌∙◌}
 use Rattle.std.specs.Io.KnownBytes.{Appends}
 use Rattle.console_session.specs.Counters.{counter_at}
-use Rattle.stp_node.specs.Streams.{AppendsFirst}
+use Rattle.script.specs.Streams.{AppendsFirst}
 use Rattle.console_session.proofs.Counted.{texts-next, texts-broken, counter-shown}
-use Rattle.stp_node.proofs.Shown.{on-error}
+use Rattle.script.proofs.Shown.{on-error}
 use Rattle.console_session.proofs.counting.print_each.Goals as goal
 
 pub loop-k-preserved : goal.loop-k-preserved

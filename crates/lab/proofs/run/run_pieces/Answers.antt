@@ -1,6 +1,6 @@
 use Rattle.std.proofs.Common.{◌≤◌, ◌<◌, ◌+◌, ◌∙◌, sym, refl, arith, take, length}
 use Rattle.std.proofs.lemmas.Grind.{common_steps}
-use Rattle.stp_node.proofs.Running.{line-reads-failed, line-reads-made}
+use Rattle.script.proofs.Running.{line-reads-failed, line-reads-made}
 use Rattle.lab.proofs.Reading.{reads-nothing, reads-more, reads-all, line-reads-on, line-in-script, when-ok}
 use Rattle.lab.proofs.run.run_pieces.Goals as goal
 

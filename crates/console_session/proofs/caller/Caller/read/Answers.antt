@@ -1,6 +1,6 @@
 use Rattle.std.proofs.Common.{◌≢◌, ◌≤◌, ◌∙◌, ℕ, length, ap, subst}
 use Rattle.std.proofs.lemmas.List.Elements.{All-more}
-use Rattle.stp_node.specs.Steps.{LineSoFar}
+use Rattle.script.specs.Steps.{LineSoFar}
 use Rattle.console_session.specs.Callers.{CallerState}
 use Rattle.console_session.specs.contracts.caller.Caller.{the_view}
 use Rattle.console_session.proofs.Taking.{up-to, grown, done-at, has-room, ends-somewhere, ends-too-late, never-ends}

@@ -1,0 +1,4 @@
+pub mod BuiltInWell
+pub mod BuiltIn
+pub mod Told
+pub mod Labs

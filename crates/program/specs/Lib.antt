@@ -1,0 +1,4 @@
+pub mod Folders
+pub mod Sentences
+pub mod Explaining
+pub mod Program

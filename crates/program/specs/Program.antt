@@ -1,0 +1,207 @@
+-- What the program does for what its words ask, and its exit statuses.
+use Rattle.std.specs.Prelude.{◌≡◌, ◌≢◌, ◌⊎◌, ℕ, List, ◌++◌, codes, Result, Ok, Err, OnOk, String, true}
+use Rattle.std.specs.Global.{Global}
+use Rattle.std.specs.Io.KnownBytes.{Appends, IsAtEnd}
+use Rattle.settings_rows.specs.Configuration.{Configuration}
+use Rattle.settings_file.specs.Faults.{fault_line, no_memory}
+use Rattle.settings_file.specs.declared.fault.SettingsFault.{SettingsFault}
+use Rattle.settings.specs.Facing.{IsFacing}
+use Rattle.settings.specs.Naming.{link_names}
+use Rattle.exchange_rules.specs.Sound.{Abstract}
+use Rattle.exchange_rules.specs.First.{first_state}
+use Rattle.exchange_rules.specs.Queues.{whole}
+use Rattle.script.specs.BuiltIn.{built_in_settings}
+use Rattle.settings_file.specs.Sentences.{Explains}
+use Rattle.program.specs.Explaining.{IsTold, IsToldOf, usage_text, unread_sentence, IsWarned, IsEndExplained}
+use Rattle.program.specs.Explaining.{strangers_sentence, IsLabEndExplained}
+use Rattle.script.specs.Faults.{Counts}
+use Rattle.program.specs.Folders.{FileRead, AreSettings, IsFault}
+use Rattle.script.specs.Runs.{Runs}
+use Rattle.script.specs.Streams.{Input, Output, AppendsFirst, counted}
+use Rattle.program.specs.declared.folder.FileFault.TheVariants as file_fault
+use Rattle.script.specs.declared.fault.ScriptFault.{ScriptFault}
+use Rattle.script.specs.declared.fault.ScriptFault.TheVariants as fault
+use Rattle.program.specs.declared.program.Status.{Status}
+use Rattle.program.specs.declared.program.Status.TheVariants as status
+use Rattle.command_line.specs.Words.{Task, BuiltInRun, FileRun, FileCheck, LabRun, FileServe, OtherWords, are_plain, asked}
+
+-- the streams of a program: its input, its output, and its standard error
+pub record Streams : Type 0 where
+  pub input : Input
+  pub output : Output
+  pub errors : Output
+
+abbrev pub streams : Input → Output → Output → Streams
+streams input output errors = record { input = input; output = output; errors = errors }
+
+-- the exit statuses
+abbrev pub status_number : Status → ℕ
+status_number status.Done = 0
+status_number status.Usage = 1
+status_number status.Start = 2
+status_number status.Line = 3
+status_number status.Stream = 4
+
+-- how the program ends after a script
+abbrev pub status_after : {A : Type 0} → Result A ScriptFault → Status
+status_after (Ok x) = status.Done
+status_after (Err fault.Read) = status.Stream
+status_after (Err fault.Write) = status.Stream
+status_after (Err (fault.Line line)) = status.Line
+status_after (Err fault.TooManyReads) = status.Stream
+status_after (Err fault.NoMemory) = status.Start
+
+-- a fault of settings, as it is printed
+abbrev pub told : SettingsFault → List ℕ
+told fault = fault_line fault ++ codes "\n"
+
+-- a last line was written, and the program ends so; or its write failed
+abbrev pub EndsWith : Status → List ℕ → Output → Output → Status → Type 0
+EndsWith wanted line output output_new ended =
+    ((ended ≡ wanted) × Appends output.written output_new.written line × (output_new.failures ≡ output.failures))
+    ⊎ ((ended ≡ status.Stream) × AppendsFirst output.written output_new.written line
+    × (output_new.failures ≡ counted output.failures))
+
+-- the script ran from the first state of a node with these settings, and the program ends by how it ended, which
+-- standard error is told
+abbrev pub RunsScript : Configuration → Streams → Streams → Status → Type 0
+RunsScript settings old new ended =
+    (script : Result Unit ScriptFault) × (after : Abstract)
+    × Runs whole script (first_state settings) after
+    old.input.remaining new.input.remaining old.output.written new.output.written
+    × Counts script old.input new.input old.output new.output × (ended ≡ status_after script)
+    × IsEndExplained script old.errors new.errors
+
+-- memory ran out before the script: nothing of it is read, and standard error is told nothing
+abbrev pub HasNoMemory : Streams → Streams → Status → Type 0
+HasNoMemory old new ended =
+    EndsWith status.Start (told no_memory) old.output new.output ended × (new.input ≡ old.input)
+    × (new.errors ≡ old.errors)
+
+-- no text explains a fault of the built-in settings
+abbrev pub NoText : SettingsFault → List ℕ → Type 0
+NoText why text = ⊥
+
+-- a node runs the script, or the fault of its settings is told and explained, and nothing of the script is read
+abbrev pub RunsNode : (Configuration → Type 0) → (SettingsFault → Type 0) → (SettingsFault → List ℕ → Type 0)
+    → Streams → Streams → Status → Type 0
+RunsNode IsGiven IsWrong IsSentence old new ended =
+    ((settings : Configuration) × IsGiven settings × RunsScript settings old new ended)
+    ⊎ ((why : SettingsFault) × IsWrong why × EndsWith status.Start (told why) old.output new.output ended
+    × (new.input ≡ old.input) × IsToldOf (IsSentence why) old.errors new.errors)
+
+-- the same with the settings of a file, after warnings of it; where the file can't be read, nothing is printed, and
+-- standard error is told why
+abbrev pub RunsFile : (file : List ℕ) → FileRead → Streams → Streams → Status → Type 0
+RunsFile file (Ok octets) old new ended =
+    (warned : Output) × IsWarned file old.errors warned
+    × RunsNode (AreSettings octets) (IsFault octets) (Explains file octets)
+    (record old { errors = warned }) new ended
+RunsFile file (Err (file_fault.Unread why)) old new ended =
+    (ended ≡ status.Stream) × (new.output ≡ old.output) × (new.input ≡ old.input)
+    × IsToldOf (λ text. text ≡ unread_sentence file why) old.errors new.errors
+RunsFile file (Err file_fault.NoMemory) old new ended = HasNoMemory old new ended
+
+-- `ok` is printed of a file that has settings, and else the fault, which standard error explains, after warnings
+abbrev pub ChecksFile : (file : List ℕ) → FileRead → (output output_new errors errors_new : Output) → Status → Type 0
+ChecksFile file (Ok octets) output output_new errors errors_new ended =
+    (warned : Output) × IsWarned file errors warned
+    × (((settings : Configuration) × AreSettings octets settings
+    × EndsWith status.Done (codes "ok\n") output output_new ended × (errors_new ≡ warned))
+    ⊎ ((why : SettingsFault) × IsFault octets why × EndsWith status.Start (told why) output output_new ended
+    × IsToldOf (Explains file octets why) warned errors_new))
+ChecksFile file (Err (file_fault.Unread why)) output output_new errors errors_new ended =
+    (ended ≡ status.Stream) × (output_new ≡ output)
+    × IsToldOf (λ text. text ≡ unread_sentence file why) errors errors_new
+ChecksFile file (Err file_fault.NoMemory) output output_new errors errors_new ended =
+    EndsWith status.Start (told no_memory) output output_new ended × (errors_new ≡ errors)
+
+-- a file has these settings, and standard error is warned of it
+abbrev pub HasSettings : (file : List ℕ) → FileRead → Configuration → (errors errors_new : Output) → Type 0
+HasSettings file (Ok octets) settings errors errors_new = AreSettings octets settings × IsWarned file errors errors_new
+HasSettings file (Err fault) settings errors errors_new = ⊥
+
+-- how the program ends where it has no settings of a file: its fault is printed and explained, after warnings; where
+-- the file can't be read, nothing is printed, and standard error is told why
+abbrev pub EndsAtFile : (file : List ℕ) → FileRead → (output output_new errors errors_new : Output) → Status → Type 0
+EndsAtFile file (Ok octets) output output_new errors errors_new ended =
+    (why : SettingsFault) × IsFault octets why × EndsWith status.Start (told why) output output_new ended
+    × (warned : Output) × IsWarned file errors warned × IsToldOf (Explains file octets why) warned errors_new
+EndsAtFile file (Err (file_fault.Unread why)) output output_new errors errors_new ended =
+    (ended ≡ status.Stream) × (output_new ≡ output)
+    × IsToldOf (λ text. text ≡ unread_sentence file why) errors errors_new
+EndsAtFile file (Err file_fault.NoMemory) output output_new errors errors_new ended =
+    EndsWith status.Start (told no_memory) output output_new ended × (errors_new ≡ errors)
+
+-- a file that is served has settings, and nothing is said of what a server does; or it has none, and the program ends
+-- as it ends then
+abbrev pub ServesFile : (file : List ℕ) → FileRead → (output output_new errors errors_new : Output) → Status → Type 0
+ServesFile file (Ok octets) output output_new errors errors_new ended =
+    ((settings : Configuration) × AreSettings octets settings)
+    ⊎ EndsAtFile file (Ok octets) output output_new errors errors_new ended
+ServesFile file (Err fault) output output_new errors errors_new ended =
+    EndsAtFile file (Err fault) output output_new errors errors_new ended
+
+-- nodes that a lab joins face each other, and name their links alike
+pub record AreJoined (near far : Configuration) : Type 0 where
+  pub facing : IsFacing near far
+  pub alike : link_names near ≡ link_names far
+
+-- the lab script was begun, and the program ends by how it ended: Done only where it was read to its end, and Stream
+-- only where a read or a write failed or no end was found in all of the reads
+pub record RunsLabScript (old new : Streams) (ended : Status) : Type 0 where
+  pub script : Result Unit ScriptFault
+  pub begun : script ≢ Err fault.NoMemory
+  pub whole : OnOk script (IsAtEnd new.input.remaining)
+  pub counts : Counts script old.input new.input old.output new.output
+  pub status : ended ≡ status_after script
+  pub explained : IsLabEndExplained script old.errors new.errors
+
+-- two nodes of files with these names run the lab script, or memory runs out before it; where they can't be joined,
+-- this is printed and explained, and nothing of the script is read
+abbrev pub RunsNodes : (near far : List ℕ) → (near_settings far_settings : Configuration) → Streams → Streams → Status
+    → Type 0
+RunsNodes near far near_settings far_settings old new ended =
+    (AreJoined near_settings far_settings × (RunsLabScript old new ended ⊎ HasNoMemory old new ended))
+    ⊎ (¬ (AreJoined near_settings far_settings)
+    × EndsWith status.Start (codes "fault NotFacing\n") old.output new.output ended × (new.input ≡ old.input)
+    × IsToldOf (λ text. text ≡ strangers_sentence near far) old.errors new.errors)
+
+-- a file is read, and what comes next is done with its settings; where it has none, nothing of the script is read
+abbrev pub ReadsFile : (file : List ℕ) → (List ℕ → FileRead → Type 0) → (Configuration → Streams → Type 0)
+    → Streams → Streams → Status → Type 0
+ReadsFile file reads Next old new ended =
+    (read : FileRead) × reads file read
+    × (((settings : Configuration) × (warned : Output) × HasSettings file read settings old.errors warned
+    × Next settings (record old { errors = warned }))
+    ⊎ (EndsAtFile file read old.output new.output old.errors new.errors ended × (new.input ≡ old.input)))
+
+-- the near file is read, then the far one, and then their nodes run the lab script
+abbrev pub RunsLab : (near far : List ℕ) → (List ℕ → FileRead → Type 0) → Streams → Streams → Status → Type 0
+RunsLab near far reads old new ended =
+    ReadsFile near reads
+    (λ near_settings between. ReadsFile far reads
+    (λ far_settings begun. RunsNodes near far near_settings far_settings begun new ended) between new ended)
+    old new ended
+
+-- what the program does for a task, where a file is read as `reads` says
+abbrev pub DoesTask : Task → (List ℕ → FileRead → Type 0) → Streams → Streams → Status → Type 0
+DoesTask BuiltInRun reads old new ended =
+    RunsNode (λ settings. settings ≡ built_in_settings) (λ why. why ≡ no_memory) NoText old new ended
+DoesTask (FileRun file) reads old new ended =
+    (read : FileRead) × reads file read × RunsFile file read old new ended
+DoesTask (FileCheck file) reads old new ended =
+    (read : FileRead) × reads file read
+    × ChecksFile file read old.output new.output old.errors new.errors ended × (new.input ≡ old.input)
+DoesTask (LabRun near far) reads old new ended = RunsLab near far reads old new ended
+DoesTask (FileServe file) reads old new ended =
+    (read : FileRead) × reads file read
+    × ServesFile file read old.output new.output old.errors new.errors ended × (new.input ≡ old.input)
+DoesTask OtherWords reads old new ended =
+    EndsWith status.Usage (codes "usage\n") old.output new.output ended × (new.input ≡ old.input)
+    × IsTold usage_text old.errors new.errors
+
+-- what the program does for its words: what they ask for, or memory runs out for them, where they are plain
+abbrev pub Does : List (String Global) → (List ℕ → FileRead → Type 0) → Streams → Streams → Status → Type 0
+Does words reads old new ended =
+    DoesTask (asked words) reads old new ended ⊎ ((are_plain words ≡ true) × HasNoMemory old new ended)

@@ -1,0 +1,86 @@
+//! Last lines of the program, and how it ends with them.
+
+ghost use Rattle.std.specs.Prelude.{◌≡◌, ◌≢◌, ◌⊎◌, IfOk, string_bytes, codes};
+ghost use Rattle.std.specs.IoError.{error_kind};
+ghost use Rattle.settings_file.specs.Faults.{no_memory};
+ghost use Rattle.settings_file.specs.Sentences.{Explains};
+ghost use Rattle.program.specs.Explaining.{IsTold, IsToldOf, usage_text};
+ghost use Rattle.program.specs.Program.{told, EndsWith};
+
+use crate::explaining::{explain_fault, explain_words};
+use crate::program::Status;
+use script::Sink;
+use settings_file::SettingsFault;
+use std::alloc::{AllocError, Global};
+use std::io::{Error, ErrorKind};
+
+/// Refuses words that couldn't be read: they aren't the program's, unless memory ran out.
+pub fn refuse_words<W: Sink, E: Sink>(error: &Error, writer: &mut W, errors: &mut E) -> Status
+    ensures memory { error_kind error.now ≡ ErrorKind.OutOfMemory
+        → EndsWith Status.Start (told no_memory) (W.output writer.old) (W.output writer.new) result
+        × (E.output errors.new ≡ E.output errors.old) }
+    ensures usage { error_kind error.now ≢ ErrorKind.OutOfMemory
+        → EndsWith Status.Usage (codes "usage\n") (W.output writer.old) (W.output writer.new) result
+        × IsTold usage_text (E.output errors.old) (E.output errors.new) }
+{
+    if error.kind() == ErrorKind::OutOfMemory {
+        return tell_no_memory(writer);
+    }
+    tell_usage(writer, errors)
+}
+
+/// Prints that the words aren't those of the program, and tells what these are.
+pub(crate) fn tell_usage<W: Sink, E: Sink>(writer: &mut W, errors: &mut E) -> Status
+    ensures printed { EndsWith Status.Usage (codes "usage\n") (W.output writer.old) (W.output writer.new) result }
+    ensures told { IsTold usage_text (E.output errors.old) (E.output errors.new) }
+{
+    explain_words(errors);
+    end_with(Status::Usage, b"usage\n", writer)
+}
+
+/// Prints a line, and ends with this status; or with that of a failed write.
+pub(crate) fn end_with<W: Sink>(status: Status, line: &[u8], writer: &mut W) -> Status
+    ensures { EndsWith status line.now (W.output writer.old) (W.output writer.new) result }
+{
+    match writer.write(line) {
+        Ok(()) => status,
+        Err(_) => Status::Stream,
+    }
+}
+
+/// Prints that memory ran out.
+pub(crate) fn tell_no_memory<W: Sink>(writer: &mut W) -> Status
+    ensures { EndsWith Status.Start (told no_memory) (W.output writer.old) (W.output writer.new) result }
+{
+    end_with(Status::Start, b"fault NoMemory\n", writer)
+}
+
+/// Prints what is wrong with the settings in a file, and explains it; or prints that memory ran out.
+pub(crate) fn tell_file_fault<W: Sink, E: Sink>(
+    alloc: Global,
+    file: &str,
+    octets: &[u8],
+    fault: SettingsFault,
+    writer: &mut W,
+    errors: &mut E,
+) -> Status
+    ensures { (EndsWith Status.Start (told fault) (W.output writer.old) (W.output writer.new) result
+        × IsToldOf (Explains file.now octets.now fault) (E.output errors.old) (E.output errors.new))
+        ⊎ (EndsWith Status.Start (told no_memory) (W.output writer.old) (W.output writer.new) result
+        × (E.output errors.new ≡ E.output errors.old)) }
+{
+    match told(alloc, fault) {
+        Ok(line) => {
+            explain_fault(alloc, file, octets, fault, errors);
+            end_with(Status::Start, line.as_bytes(), writer)
+        }
+        Err(_) => tell_no_memory(writer),
+    }
+}
+
+/// The line of a fault of settings.
+fn told(alloc: Global, fault: SettingsFault) -> Result<String, AllocError>
+    ensures { IfOk result (λ line. string_bytes line ≡ told fault) }
+{
+    format!(in alloc; "{fault}\n")
+}

@@ -1,0 +1,163 @@
+//! What goes to standard error: why the program doesn't do what was meant.
+
+ghost use Rattle.std.specs.Prelude.{◌≡◌};
+ghost use Rattle.program.specs.Explaining.{IsTold, IsToldMade, IsToldOf, usage_text, unread_text, unread_sentence};
+ghost use Rattle.program.specs.Explaining.{IsWarned, IsEndExplained, IsScriptExplained, IsLabEndExplained};
+ghost use Rattle.program.specs.Explaining.{strangers_sentence, lab_line_sentence};
+ghost use Rattle.settings_file.specs.Sentences.{Explains};
+
+use crate::folder::Unread;
+use crate::sentences::sentence;
+use script::{LineFault, ScriptFault, Sink};
+use settings_file::SettingsFault;
+use std::alloc::{AllocError, Global};
+
+/// The words of the program, and their meaning.
+const USAGE: &[u8] = b"\
+stp run           runs the script on standard input, with the built-in settings
+stp run FILE      runs it with the settings in FILE
+stp check FILE    prints ok, or the first fault of the settings in FILE
+stp lab NEAR FAR  runs the lab script on standard input, on two nodes that it joins
+stp serve FILE    serves a node on the network, with the settings in FILE
+The lines of a script, the settings and the exit statuses are in docs/MANUAL.md.
+";
+
+/// Tells a text. Where that fails, nothing more can be told.
+fn tell<E: Sink>(text: &[u8], errors: &mut E)
+    ensures { IsTold text.now (E.output errors.old) (E.output errors.new) }
+{
+    let _told = errors.write(text);
+}
+
+/// Tells a text, unless memory ran out for it.
+fn tell_made<E: Sink>(text: Result<String, AllocError>, errors: &mut E)
+    ensures { IsToldMade text (E.output errors.old) (E.output errors.new) }
+{
+    if let Ok(text) = text {
+        tell(text.as_bytes(), errors);
+    }
+}
+
+/// Tells the words of the program, and their meaning.
+pub(crate) fn explain_words<E: Sink>(errors: &mut E)
+    ensures { IsTold usage_text (E.output errors.old) (E.output errors.new) }
+{
+    tell(USAGE, errors);
+}
+
+/// Tells why a file can't be read.
+pub(crate) fn explain_unread<E: Sink>(alloc: Global, file: &str, why: Unread, errors: &mut E)
+    ensures { IsToldOf (λ text. text ≡ unread_sentence file.now why) (E.output errors.old) (E.output errors.new) }
+{
+    let why = unread_text(why);
+    tell_made(format!(in alloc; "{file}: {why}\n"), errors);
+}
+
+/// Why a file can't be read.
+fn unread_text(why: Unread) -> &'static str
+    ensures { result.now ≡ unread_text why }
+{
+    match why {
+        Unread::Missing => "there is no such file",
+        Unread::Forbidden => "reading it isn't permitted",
+        Unread::Directory => "it is a directory",
+        Unread::Failed => "a read of it failed",
+    }
+}
+
+/// Warns about unknown keys in a settings file.
+pub(crate) fn warn<E: Sink>(alloc: Global, file: &str, octets: &[u8], errors: &mut E)
+    ensures { IsWarned file.now (E.output errors.old) (E.output errors.new) }
+{
+    tell_made(settings_file::warnings(alloc, file, octets), errors);
+}
+
+/// Tells what is wrong with the settings in a file.
+pub(crate) fn explain_fault<E: Sink>(
+    alloc: Global,
+    file: &str,
+    octets: &[u8],
+    fault: SettingsFault,
+    errors: &mut E,
+)
+    ensures { IsToldOf (Explains file.now octets.now fault) (E.output errors.old) (E.output errors.new) }
+{
+    tell_made(settings_file::sentence(alloc, file, octets, fault), errors);
+}
+
+/// Tells why a script ended before its end, if it did: of a line that ended it, what is wrong with it.
+pub(crate) fn explain_end<E: Sink>(
+    alloc: Global,
+    script: Result<(), ScriptFault>,
+    line: &[u8],
+    wrong: LineFault,
+    errors: &mut E,
+)
+    ensures { IsEndExplained script (E.output errors.old) (E.output errors.new) }
+{
+    if let Err(fault) = script {
+        explain_script(alloc, fault, line, wrong, errors);
+    }
+}
+
+/// Tells why a script ended before its end.
+fn explain_script<E: Sink>(
+    alloc: Global,
+    fault: ScriptFault,
+    line: &[u8],
+    wrong: LineFault,
+    errors: &mut E,
+)
+    ensures { IsScriptExplained fault (E.output errors.old) (E.output errors.new) }
+{
+    match fault {
+        ScriptFault::Line(number) => {
+            tell_made(sentence(alloc, number, line, wrong), errors);
+        }
+        ScriptFault::Read => tell(b"standard input: a read failed\n", errors),
+        ScriptFault::Write => tell(b"standard output: a write failed\n", errors),
+        ScriptFault::TooManyReads => tell(
+            b"standard input: its end wasn't found in 4194304 reads\n",
+            errors,
+        ),
+        ScriptFault::NoMemory => {}
+    }
+}
+
+/// Tells that the nodes of two files don't face each other.
+pub(crate) fn explain_strangers<E: Sink>(alloc: Global, near: &str, far: &str, errors: &mut E)
+    ensures { IsToldOf (λ text. text ≡ strangers_sentence near.now far.now)
+        (E.output errors.old) (E.output errors.new) }
+{
+    tell_made(
+        format!(in alloc;
+            "{near} and {far} don't face each other: docs/MANUAL.md says what that needs\n"
+        ),
+        errors,
+    );
+}
+
+/// Tells why a lab script ended before its end, if it did.
+pub(crate) fn explain_lab_end<E: Sink>(
+    alloc: Global,
+    script: Result<(), ScriptFault>,
+    errors: &mut E,
+)
+    ensures { IsLabEndExplained script (E.output errors.old) (E.output errors.new) }
+{
+    if let Err(ScriptFault::Line(number)) = script {
+        explain_lab_line(alloc, number, errors);
+    } else {
+        explain_end(alloc, script, b"", LineFault::Malformed, errors);
+    }
+}
+
+/// Tells which line ended a lab script.
+fn explain_lab_line<E: Sink>(alloc: Global, number: u64, errors: &mut E)
+    ensures { IsToldOf (λ text. text ≡ lab_line_sentence number) (E.output errors.old) (E.output errors.new) }
+{
+    tell_made(
+        format!(in alloc; "line {number}: not a line of a lab script; docs/MANUAL.md lists them\n"),
+        errors,
+    );
+}

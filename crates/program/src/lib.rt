@@ -1,0 +1,17 @@
+//! The program: what its words ask for, the files of settings, what standard error is told, and the
+//! exit statuses.
+#![tactic(auto)]
+
+mod ending;
+mod explaining;
+pub mod folder;
+mod machine;
+pub mod program;
+mod sentences;
+mod serving;
+mod two_nodes;
+
+pub use ending::refuse_words;
+pub use folder::{Disk, FileFault, Folder, OneFile, Unread};
+pub use machine::run_on_machine;
+pub use program::{Status, run_program};

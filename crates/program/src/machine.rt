@@ -1,0 +1,36 @@
+//! The program on the machine that it runs on.
+
+use crate::ending::refuse_words;
+use crate::folder::Disk;
+use crate::program::run_program;
+use lab::Loopback;
+use script::{ReaderSource, WriterSink};
+use std::process::ExitCode;
+use std::{env, io};
+
+/// The program `stp` with the machine's words, files and standard streams. Its lab joins links by TCP on this machine,
+/// and it serves a node on the network. `main` is this call.
+pub fn run_on_machine(rt: &HostRuntime) -> ExitCode {
+    let mut reader = ReaderSource::new(rt.stdin());
+    let mut writer = WriterSink::new(io::writer(rt));
+    let mut errors = WriterSink::new(rt.stderr());
+    let status = match words(rt) {
+        Ok(words) => run_program(
+            rt,
+            words.as_slice(),
+            &Disk::new(rt),
+            &mut Loopback::new(rt),
+            &mut reader,
+            &mut writer,
+            &mut errors,
+        ),
+        Err(error) => refuse_words(&error, &mut writer, &mut errors),
+    };
+    ExitCode::from(status.number())
+}
+
+/// The words behind the program's name.
+fn words(rt: &HostRuntime) -> io::Result<Vec<String>> {
+    let words = env::args(rt)?.skip(1).collect(rt.alloc())?;
+    Ok(words)
+}

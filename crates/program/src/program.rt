@@ -1,0 +1,237 @@
+//! The program around scripts: what it does for its words, and how it ends.
+
+ghost use Rattle.std.specs.Prelude.{◌≡◌, ◌⊎◌, IfOk, IfErr, Ok, codes};
+ghost use Rattle.exchange.specs.Stands.{StandsFor};
+ghost use Rattle.exchange_rules.specs.First.{first_state};
+ghost use Rattle.script.specs.BuiltIn.{built_in_settings};
+ghost use Rattle.program.specs.Folders.{FileRead, AreSettings, IsFault};
+ghost use Rattle.settings_file.specs.Faults.{no_memory};
+ghost use Rattle.program.specs.Program.{status_number, status_after, streams, NoText};
+ghost use Rattle.program.specs.Program.{RunsScript, HasNoMemory, RunsNode, RunsFile, ChecksFile, Does};
+
+use crate::ending::{end_with, tell_file_fault, tell_no_memory, tell_usage};
+use crate::explaining::{explain_end, explain_unread, warn};
+use crate::folder::{FileFault, Folder};
+use crate::serving::serve_file;
+use crate::two_nodes::run_files;
+use command_line::{Words, read_words};
+use exchange::{Exchange, NoMemory};
+use lab::Joiner;
+use script::{OpenLine, ScriptFault, Sink, Source, built_in, run_pieces};
+use settings::Settings;
+use settings_file::SettingsFault;
+use std::alloc::Global;
+
+/// How the program ends. The numbers are its exit statuses.
+#[derive(Clone, Copy, Debug, PartialEq, Eq)]
+pub enum Status {
+    /// Everything was done.
+    Done = 0,
+    /// Words that aren't the program's.
+    Usage = 1,
+    /// The settings, two nodes that don't face each other, or the memory to start with.
+    Start = 2,
+    /// A line of the script.
+    Line = 3,
+    /// A read or a write failed, or the end of the script wasn't reached within the limit of reads.
+    Stream = 4,
+}
+
+impl Status {
+    /// The exit status.
+    pub fn number(self) -> u8
+        ensures { result ≡ status_number self }
+    {
+        self as u8
+    }
+}
+
+/// The whole program: does what the words after its name ask for. Settings files come from the folder, the script from
+/// the reader, and all that it prints goes to the writer. Why it doesn't do what was meant goes to `errors`, in
+/// sentences for a person. The joiner joins the links of a lab; a node is served on the machine's network.
+pub fn run_program<F: Folder, J: Joiner, R: Source, W: Sink, E: Sink>(
+    rt: &HostRuntime,
+    words: &[String],
+    folder: &F,
+    joiner: &mut J,
+    reader: &mut R,
+    writer: &mut W,
+    errors: &mut E,
+) -> Status
+    ensures { Does words.now (F.reads folder.now)
+        (streams (R.input reader.old) (W.output writer.old) (E.output errors.old))
+        (streams (R.input reader.new) (W.output writer.new) (E.output errors.new)) result }
+{
+    let alloc = rt.alloc();
+    match read_words(alloc, words) {
+        Words::Run(None) => run_built_in(alloc, reader, writer, errors),
+        Words::Run(Some(file)) => run_file(alloc, folder, file.as_str(), reader, writer, errors),
+        Words::Check(file) => check_file(alloc, folder, file.as_str(), writer, errors),
+        Words::Lab(near, far) => {
+            let files = (near.as_str(), far.as_str());
+            run_files(alloc, folder, files, joiner, reader, writer, errors)
+        }
+        Words::Serve(file) => serve_file(rt, folder, file.as_str(), writer, errors),
+        Words::Usage => tell_usage(writer, errors),
+        Words::NoMemory => tell_no_memory(writer),
+    }
+}
+
+/// Runs the script on a node with the built-in settings, which have no fault: it can only run out of memory.
+fn run_built_in<R: Source, W: Sink, E: Sink>(
+    alloc: Global,
+    reader: &mut R,
+    writer: &mut W,
+    errors: &mut E,
+) -> Status
+    ensures { RunsNode (λ settings. settings ≡ built_in_settings) (λ why. why ≡ no_memory) NoText
+        (streams (R.input reader.old) (W.output writer.old) (E.output errors.old))
+        (streams (R.input reader.new) (W.output writer.new) (E.output errors.new)) result }
+{
+    match built_in_settings(alloc) {
+        Ok(settings) => run_on(alloc, settings, reader, writer, errors),
+        Err(_) => tell_no_memory(writer),
+    }
+}
+
+/// Runs the script on a node with the settings of a file.
+fn run_file<F: Folder, R: Source, W: Sink, E: Sink>(
+    alloc: Global,
+    folder: &F,
+    file: &str,
+    reader: &mut R,
+    writer: &mut W,
+    errors: &mut E,
+) -> Status
+    ensures { (read : FileRead) × F.reads folder.now file.now read × RunsFile file.now read
+        (streams (R.input reader.old) (W.output writer.old) (E.output errors.old))
+        (streams (R.input reader.new) (W.output writer.new) (E.output errors.new)) result }
+{
+    match folder.read(alloc, file) {
+        Ok(octets) => run_octets(alloc, file, octets.as_slice(), reader, writer, errors),
+        Err(FileFault::Unread(why)) => {
+            explain_unread(alloc, file, why, errors);
+            Status::Stream
+        }
+        Err(FileFault::NoMemory) => tell_no_memory(writer),
+    }
+}
+
+/// Runs the script on a node with the settings in the octets of a file.
+fn run_octets<R: Source, W: Sink, E: Sink>(
+    alloc: Global,
+    file: &str,
+    octets: &[u8],
+    reader: &mut R,
+    writer: &mut W,
+    errors: &mut E,
+) -> Status
+    ensures { RunsFile file.now (Ok octets.now)
+        (streams (R.input reader.old) (W.output writer.old) (E.output errors.old))
+        (streams (R.input reader.new) (W.output writer.new) (E.output errors.new)) result }
+{
+    warn(alloc, file, octets, errors);
+    match settings_in(alloc, octets) {
+        Ok(settings) => run_on(alloc, settings, reader, writer, errors),
+        Err(fault) => tell_file_fault(alloc, file, octets, fault, writer, errors),
+    }
+}
+
+/// Tells whether the settings of a file have a fault.
+fn check_file<F: Folder, W: Sink, E: Sink>(
+    alloc: Global,
+    folder: &F,
+    file: &str,
+    writer: &mut W,
+    errors: &mut E,
+) -> Status
+    ensures { (read : FileRead) × F.reads folder.now file.now read × ChecksFile file.now read
+        (W.output writer.old) (W.output writer.new) (E.output errors.old) (E.output errors.new) result }
+{
+    match folder.read(alloc, file) {
+        Ok(octets) => check_octets(alloc, file, octets.as_slice(), writer, errors),
+        Err(FileFault::Unread(why)) => {
+            explain_unread(alloc, file, why, errors);
+            Status::Stream
+        }
+        Err(FileFault::NoMemory) => tell_no_memory(writer),
+    }
+}
+
+/// Tells whether the settings that the octets of a file are have a fault.
+fn check_octets<W: Sink, E: Sink>(
+    alloc: Global,
+    file: &str,
+    octets: &[u8],
+    writer: &mut W,
+    errors: &mut E,
+) -> Status
+    ensures { ChecksFile file.now (Ok octets.now)
+        (W.output writer.old) (W.output writer.new) (E.output errors.old) (E.output errors.new) result }
+{
+    warn(alloc, file, octets, errors);
+    match settings_in(alloc, octets) {
+        Ok(_) => end_with(Status::Done, b"ok\n", writer),
+        Err(fault) => tell_file_fault(alloc, file, octets, fault, writer, errors),
+    }
+}
+
+/// Runs the script on a node with these settings.
+fn run_on<R: Source, W: Sink, E: Sink>(
+    alloc: Global,
+    settings: Settings,
+    reader: &mut R,
+    writer: &mut W,
+    errors: &mut E,
+) -> Status
+    ensures { RunsScript settings
+        (streams (R.input reader.old) (W.output writer.old) (E.output errors.old))
+        (streams (R.input reader.new) (W.output writer.new) (E.output errors.new)) result
+        ⊎ HasNoMemory (streams (R.input reader.old) (W.output writer.old) (E.output errors.old))
+        (streams (R.input reader.new) (W.output writer.new) (E.output errors.new)) result }
+{
+    match Exchange::boot(alloc, settings) {
+        Ok(mut exchange) => {
+            let mut line = OpenLine::first();
+            let script = run_pieces(&mut line, &mut exchange, reader, writer);
+            explain_end(alloc, script, line.octets(), line.wrong(), errors);
+            status_after(script)
+        }
+        Err(NoMemory) => tell_no_memory(writer),
+    }
+}
+
+/// The settings that a node has where it is given none.
+fn built_in_settings(alloc: Global) -> Result<Settings, SettingsFault>
+    ensures settings { IfOk result (λ settings. settings ≡ built_in_settings) }
+    ensures fault { IfErr result (λ why. why ≡ no_memory) }
+{
+    let draft = built_in(alloc)?;
+    match Settings::check(alloc, draft) {
+        Ok(settings) => Ok(settings),
+        Err(fault) => Err(SettingsFault::Draft(fault)),
+    }
+}
+
+/// The settings that these octets are.
+pub(crate) fn settings_in(alloc: Global, octets: &[u8]) -> Result<Settings, SettingsFault>
+    ensures settings { IfOk result (AreSettings octets.now) }
+    ensures fault { IfErr result (IsFault octets.now) }
+{
+    match str::from_utf8(octets) {
+        Ok(text) => settings_file::read(alloc, text),
+        Err(_) => Err(SettingsFault::Text),
+    }
+}
+
+/// How the program ends after a script.
+pub(crate) fn status_after(script: Result<(), ScriptFault>) -> Status
+    ensures { result ≡ status_after script }
+{
+    match script {
+        Ok(()) => Status::Done,
+        Err(ScriptFault::Line(_)) => Status::Line,
+        Err(ScriptFault::Read | ScriptFault::Write | ScriptFault::TooManyReads) => Status::Stream,
+        Err(ScriptFault::NoMemory) => Status::Start,
+    }
+}

@@ -1,0 +1,201 @@
+//! Two nodes that a lab joins, with the settings of two files.
+
+ghost use Rattle.std.specs.Prelude.{◌≡◌, ◌≢◌, ◌⊎◌, IfOk, IfErr, Err};
+ghost use Rattle.settings_file.specs.Faults.{no_memory};
+ghost use Rattle.settings.specs.Facing.{IsFacing};
+ghost use Rattle.settings.specs.Naming.{link_names};
+ghost use Rattle.program.specs.Explaining.{IsLabEndExplained};
+ghost use Rattle.program.specs.Folders.{FileRead};
+ghost use Rattle.program.specs.Program.{streams, told, status_after, EndsWith, HasNoMemory, HasSettings, EndsAtFile};
+ghost use Rattle.program.specs.Program.{RunsLabScript, RunsNodes, RunsLab};
+
+use crate::ending::{end_with, tell_file_fault, tell_no_memory};
+use crate::explaining::{explain_lab_end, explain_strangers, explain_unread, warn};
+use crate::folder::{FileFault, Folder};
+use crate::program::{Status, settings_in, status_after};
+use exchange::{Exchange, NoMemory};
+use lab::{Joiner, run_lab};
+use script::{ScriptFault, Sink, Source};
+use settings::Settings;
+use std::alloc::Global;
+
+/// Runs the lab script on two nodes with the settings of two files. Faults are found in this order: the near file, the
+/// far file, whether the nodes face each other, memory for them, the script.
+pub(crate) fn run_files<F: Folder, J: Joiner, R: Source, W: Sink, E: Sink>(
+    alloc: Global,
+    folder: &F,
+    files: (&str, &str),
+    joiner: &mut J,
+    reader: &mut R,
+    writer: &mut W,
+    errors: &mut E,
+) -> Status
+    ensures { RunsLab files.entry.0.now files.entry.1.now (F.reads folder.now)
+        (streams (R.input reader.old) (W.output writer.old) (E.output errors.old))
+        (streams (R.input reader.new) (W.output writer.new) (E.output errors.new)) result }
+{
+    let near = match settings_of(alloc, folder, files.0, writer, errors) {
+        Ok(settings) => settings,
+        Err(status) => return status,
+    };
+    let far = match settings_of(alloc, folder, files.1, writer, errors) {
+        Ok(settings) => settings,
+        Err(status) => return status,
+    };
+    run_if_facing(alloc, near, far, files, joiner, reader, writer, errors)
+}
+
+/// Runs the lab script on two nodes with these settings, which files of these names have, if they face each other and
+/// name their links alike.
+fn run_if_facing<J: Joiner, R: Source, W: Sink, E: Sink>(
+    alloc: Global,
+    near: Settings,
+    far: Settings,
+    files: (&str, &str),
+    joiner: &mut J,
+    reader: &mut R,
+    writer: &mut W,
+    errors: &mut E,
+) -> Status
+    ensures { RunsNodes files.entry.0.now files.entry.1.now near far
+        (streams (R.input reader.old) (W.output writer.old) (E.output errors.old))
+        (streams (R.input reader.new) (W.output writer.new) (E.output errors.new)) result }
+{
+    if near.faces(&far) && near.named_alike(&far) {
+        return run_between(alloc, near, far, joiner, reader, writer, errors);
+    }
+    explain_strangers(alloc, files.0, files.1, errors);
+    end_with(Status::Start, b"fault NotFacing\n", writer)
+}
+
+/// The settings of a file, or how the program ends without them.
+fn settings_of<F: Folder, W: Sink, E: Sink>(
+    alloc: Global,
+    folder: &F,
+    file: &str,
+    writer: &mut W,
+    errors: &mut E,
+) -> Result<Settings, Status>
+    ensures settings { IfOk result (λ settings. (read : FileRead) × F.reads folder.now file.now read
+        × HasSettings file.now read settings (E.output errors.old) (E.output errors.new)
+        × (W.output writer.new ≡ W.output writer.old)) }
+    ensures ended { IfErr result (λ ended. (read : FileRead) × F.reads folder.now file.now read
+        × EndsAtFile file.now read (W.output writer.old) (W.output writer.new)
+        (E.output errors.old) (E.output errors.new) ended) }
+{
+    let octets = match folder.read(alloc, file) {
+        Ok(octets) => octets,
+        Err(FileFault::Unread(why)) => {
+            explain_unread(alloc, file, why, errors);
+            return Err(Status::Stream);
+        }
+        Err(FileFault::NoMemory) => return Err(tell_no_memory(writer)),
+    };
+    let octets = octets.as_slice();
+    warn(alloc, file, octets, errors);
+    match settings_in(alloc, octets) {
+        Ok(settings) => Ok(settings),
+        Err(fault) => Err(tell_file_fault(alloc, file, octets, fault, writer, errors)),
+    }
+}
+
+/// Runs the lab script on two nodes with these settings.
+fn run_between<J: Joiner, R: Source, W: Sink, E: Sink>(
+    alloc: Global,
+    near: Settings,
+    far: Settings,
+    joiner: &mut J,
+    reader: &mut R,
+    writer: &mut W,
+    errors: &mut E,
+) -> Status
+    requires facing { IsFacing near far }
+    requires alike { link_names near ≡ link_names far }
+    ensures { RunsLabScript
+        (streams (R.input reader.old) (W.output writer.old) (E.output errors.old))
+        (streams (R.input reader.new) (W.output writer.new) (E.output errors.new)) result
+        ⊎ HasNoMemory
+        (streams (R.input reader.old) (W.output writer.old) (E.output errors.old))
+        (streams (R.input reader.new) (W.output writer.new) (E.output errors.new)) result }
+{
+    let Ok(mut near) = booted(alloc, near) else {
+        return tell_no_memory(writer);
+    };
+    run_beside(alloc, &mut near, far, joiner, reader, writer, errors)
+}
+
+/// The same, where the near node is booted.
+fn run_beside<J: Joiner, R: Source, W: Sink, E: Sink>(
+    alloc: Global,
+    near: &mut Exchange,
+    far: Settings,
+    joiner: &mut J,
+    reader: &mut R,
+    writer: &mut W,
+    errors: &mut E,
+) -> Status
+    requires facing { IsFacing near.old.settings far }
+    requires alike { link_names near.old.settings ≡ link_names far }
+    ensures { RunsLabScript
+        (streams (R.input reader.old) (W.output writer.old) (E.output errors.old))
+        (streams (R.input reader.new) (W.output writer.new) (E.output errors.new)) result
+        ⊎ HasNoMemory
+        (streams (R.input reader.old) (W.output writer.old) (E.output errors.old))
+        (streams (R.input reader.new) (W.output writer.new) (E.output errors.new)) result }
+{
+    let Ok(mut far) = booted(alloc, far) else {
+        return tell_no_memory(writer);
+    };
+    run_booted(alloc, near, &mut far, joiner, reader, writer, errors)
+}
+
+/// The same, where both nodes are booted.
+fn run_booted<J: Joiner, R: Source, W: Sink, E: Sink>(
+    alloc: Global,
+    near: &mut Exchange,
+    far: &mut Exchange,
+    joiner: &mut J,
+    reader: &mut R,
+    writer: &mut W,
+    errors: &mut E,
+) -> Status
+    requires facing { IsFacing near.old.settings far.old.settings }
+    requires alike { link_names near.old.settings ≡ link_names far.old.settings }
+    ensures { RunsLabScript
+        (streams (R.input reader.old) (W.output writer.old) (E.output errors.old))
+        (streams (R.input reader.new) (W.output writer.new) (E.output errors.new)) result
+        ⊎ HasNoMemory
+        (streams (R.input reader.old) (W.output writer.old) (E.output errors.old))
+        (streams (R.input reader.new) (W.output writer.new) (E.output errors.new)) result }
+{
+    let script = run_lab(alloc, near, far, joiner, reader, writer);
+    end_lab(alloc, script, writer, errors)
+}
+
+/// The node with these settings, before its first event.
+fn booted(alloc: Global, settings: Settings) -> Result<Exchange, NoMemory>
+    ensures { IfOk result (λ node. node.settings ≡ settings) }
+{
+    Exchange::boot(alloc, settings)
+}
+
+/// Tells why a lab script ended before its end, if it did, and how the program ends.
+fn end_lab<W: Sink, E: Sink>(
+    alloc: Global,
+    script: Result<(), ScriptFault>,
+    writer: &mut W,
+    errors: &mut E,
+) -> Status
+    ensures memory { script ≡ Err ScriptFault.NoMemory
+        → EndsWith Status.Start (told no_memory) (W.output writer.old) (W.output writer.new) result
+        × (E.output errors.new ≡ E.output errors.old) }
+    ensures status { script ≢ Err ScriptFault.NoMemory → result ≡ status_after script }
+    ensures unwritten { script ≢ Err ScriptFault.NoMemory → W.output writer.new ≡ W.output writer.old }
+    ensures explained { IsLabEndExplained script (E.output errors.old) (E.output errors.new) }
+{
+    if let Err(ScriptFault::NoMemory) = script {
+        return tell_no_memory(writer);
+    }
+    explain_lab_end(alloc, script, errors);
+    status_after(script)
+}

@@ -1,0 +1,8 @@
+-- The ticks that passed and those that are left are all of them.
+use Rattle.std.proofs.Common.{◌≡◌, ◌-◌}
+use Rattle.exchange.specs.KeptQueues.{kept}
+use Rattle.script.specs.Doing.{after_ticks}
+use Rattle.script.proofs.performing.pass.Given as goal
+
+abbrev pub invariant-loop : goal.invariant-loop
+invariant-loop l = after_ticks kept (l.ticks - l.counter) l.exchange ≡ after_ticks kept l.ticks l.initial.exchange

@@ -1,0 +1,11 @@
+pub mod Streams
+pub mod Lines
+pub mod Asking
+pub mod Texts
+pub mod Showing
+pub mod Replies
+pub mod Doing
+pub mod Faults
+pub mod Steps
+pub mod Runs
+pub mod BuiltIn

@@ -1,5 +1,0 @@
-use Rattle.stp_node.proofs.Told.{told-of}
-use Rattle.stp_node.proofs.explaining.explain_fault.Goals as goal
-
-pub returns : goal.returns
-returns g c = told-of c.sentence.result _ _ _ c.sentence.ensures c.tell_made.ensures

@@ -1,5 +1,0 @@
-use Rattle.stp_node.proofs.Told.{told-of}
-use Rattle.stp_node.proofs.explaining.explain_strangers.Goals as goal
-
-pub returns : goal.returns
-returns g c = told-of c.format.result _ _ _ c.format.ensures.ok c.tell_made.ensures

@@ -1,6 +1,0 @@
-use Rattle.std.proofs.Common.{arith}
-use Rattle.stp_node.proofs.Octets.{octets_tested}
-use Rattle.stp_node.proofs.hex_octets.is_octets.Goals as goal
-
-pub returns : goal.returns
-returns c = octets_tested c.args.text.now _ (omega arith) (omega arith) (omega arith) c.are_hex_digits.ensures

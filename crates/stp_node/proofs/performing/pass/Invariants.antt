@@ -1,8 +1,0 @@
--- The ticks that passed and those that are left are all of them.
-use Rattle.std.proofs.Common.{◌≡◌, ◌-◌}
-use Rattle.exchange.specs.KeptQueues.{kept}
-use Rattle.stp_node.specs.Doing.{after_ticks}
-use Rattle.stp_node.proofs.performing.pass.Given as goal
-
-abbrev pub invariant-loop : goal.invariant-loop
-invariant-loop l = after_ticks kept (l.ticks - l.counter) l.exchange ≡ after_ticks kept l.ticks l.initial.exchange

@@ -1,7 +1,0 @@
-use Rattle.std.proofs.Common.{ap}
-use Rattle.std.proofs.lemmas.Result.{IfOk-weaker}
-use Rattle.exchange.specs.Stands.{Kept}
-use Rattle.stp_node.proofs.two_nodes.booted.Goals as goal
-
-pub returns : goal.returns
-returns c = IfOk-weaker c.boot.result _ _ (λ node e. ap (λ (k : Kept). k.settings) e) c.boot.ensures.exact
