@@ -2,3 +2,4 @@ pub mod Completing
 pub mod Finishing
 pub mod Keeping
 pub mod Splicing
+pub mod CompletionExamples

@@ -5,3 +5,4 @@ pub mod Kept
 pub mod Lanes
 pub mod Standing
 pub mod Inside
+pub mod CompletionExamples

@@ -72,3 +72,4 @@ pub mod FacingNodes
 pub mod MadeManagement
 pub mod HeardManagement
 pub mod CarriedMessages
+pub mod RuleExamples

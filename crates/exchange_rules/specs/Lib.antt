@@ -40,3 +40,4 @@ pub mod LastingRoutes
 pub mod Receiving
 pub mod Conserving
 pub mod LawsOfMessages
+pub mod RuleExamples

@@ -11,3 +11,4 @@ pub mod FlowPairs
 pub mod Adding
 pub mod Standing
 pub mod Changed
+pub mod HoldExamples

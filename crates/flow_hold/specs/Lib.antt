@@ -6,3 +6,4 @@ pub mod Pairs
 pub mod Table
 pub mod TableRoom
 pub mod Room
+pub mod HoldExamples

@@ -4,3 +4,4 @@ pub mod Sound
 pub mod Keeping
 pub mod Lanes
 pub mod Naming
+pub mod SequenceExamples

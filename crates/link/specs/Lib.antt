@@ -7,3 +7,4 @@ pub mod Fields
 pub mod Outgoing
 pub mod Naming
 pub mod Faults
+pub mod SequenceExamples

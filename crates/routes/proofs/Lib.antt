@@ -1,6 +1,7 @@
 pub mod Members
 pub mod Preference
 pub mod MembersInService
+pub mod PreferenceExamples
 pub mod Facts
 pub mod InService
 pub mod Telling
@@ -13,3 +14,4 @@ pub mod Choosing
 pub mod Compiling
 pub mod Mending
 pub mod Restoring
+pub mod RouteExamples

@@ -1,7 +1,9 @@
 pub mod Members
 pub mod Preference
+pub mod PreferenceExamples
 pub mod Facts
 pub mod Chosen
 pub mod Table
 pub mod Room
 pub mod Statuses
+pub mod RouteExamples

@@ -13,3 +13,4 @@ pub mod OtherRows
 pub mod RowWays
 pub mod Translating
 pub mod KeyRows
+pub mod TitleExamples

@@ -11,3 +11,4 @@ pub mod Ways
 pub mod Translation
 pub mod Table
 pub mod Laws
+pub mod TitleExamples

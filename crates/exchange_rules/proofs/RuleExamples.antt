@@ -1,0 +1,60 @@
+-- Laws of the exchange at nodes of one link, by computation.
+use Rattle.std.proofs.Common.{◌≡◌, Bool, true, false, ◌×◌, refl, ap, sym, ◌∙◌, [], ◌∷◌}
+use Rattle.std.proofs.lemmas.Bool.{true≢false}
+use Rattle.routes.specs.Chosen.{choice_among, link_by}
+use Rattle.routes.specs.Facts.{first_sets}
+use Rattle.flow_hold.specs.declared.procedure.Procedure.{Procedure}
+use Rattle.flow_hold.specs.declared.procedure.Procedure.TheVariants.{Changeover}
+use Rattle.flow_hold.specs.Holds.{holds, is_held}
+use Rattle.flow_hold.proofs.Flows.{flows_add}
+use Rattle.flow_hold.proofs.Holding.{holds_its_flow}
+use Rattle.flow_hold.proofs.Pairing.{held_by, none_at_first}
+use Rattle.exchange_rules.specs.State.{Node}
+use Rattle.exchange_rules.specs.Queues.{WholeQueues, queue_at, whole}
+use Rattle.exchange_rules.specs.Exchange.{apply}
+use Rattle.exchange_rules.specs.Telling.{tell_owed}
+use Rattle.exchange_rules.specs.Releasing.{go_by}
+use Rattle.exchange_rules.specs.Routing.{facts}
+use Rattle.exchange_rules.specs.Suspending.{is_failed}
+use Rattle.exchange_rules.specs.RuleExamples as examples
+use Rattle.exchange_rules.specs.RuleExamples.{settings, message, nothing_held, flow_held, node_with, the_routes}
+
+-- ---- flags
+
+pub no_number_is_reasonable : examples.no_number_is_reasonable
+no_number_is_reasonable = refl
+
+pub completion_raises_the_flag : examples.completion_raises_the_flag
+completion_raises_the_flag = refl
+
+pub opening_leaves_the_flag : examples.opening_leaves_the_flag
+unfolding apply tell_owed first_sets
+opening_leaves_the_flag = refl
+
+-- ---- a release
+
+pub message_waits : examples.message_waits
+message_waits = holds_its_flow nothing_held (Changeover 0) 0 0 refl
+
+pub message_stays : examples.message_stays
+message_stays = ap (λ (b : Bool). (go_by whole settings b message (node_with flow_held the_routes [] [])).queues.held) message_waits
+
+not-held : (b : Bool) → (b ≡ true → (procedure : Procedure) × (holds nothing_held procedure 0 0 ≡ true)) → b ≡ false
+not-held false held = refl
+not-held true held = absurd (true≢false (sym (held refl).1 ∙ none_at_first 1 1 1 (held refl).0 0 0))
+
+goes-on : is_held nothing_held 0 0 ≡ false
+goes-on = not-held (is_held nothing_held 0 0) (held_by nothing_held 0 0).0
+
+pub message_goes_on : examples.message_goes_on
+unfolding choice_among link_by first_sets
+message_goes_on =
+    ap (λ (b : Bool). (queue_at (go_by whole settings b message (node_with nothing_held the_routes [] [])).queues 0).all) goes-on
+
+-- ---- a failure
+
+pub failure_holds_the_flow : examples.failure_holds_the_flow
+unfolding choice_among link_by first_sets
+failure_holds_the_flow =
+    let node : Node WholeQueues = node_with nothing_held [] [] (message ∷ []) in
+    flows_add nothing_held (Changeover 0) (is_failed settings (facts settings node.parts) 0 (message ∷ [])) 0 0

@@ -1,0 +1,126 @@
+-- Laws of the exchange at nodes of one link, where wrong definitions make them false.
+use Rattle.std.specs.Prelude.{◌≡◌, true, false, List, [], ◌∷◌, None}
+use Rattle.signalling_types.specs.Message.{Message}
+use Rattle.signalling_types.specs.declared.notice.FailureReason.TheVariants as reasons
+use Rattle.settings_rows.specs.Configuration.{Configuration}
+use Rattle.settings_rows.specs.declared.timer_ticks.TimerTicks.{TimerTicks}
+use Rattle.link.specs.declared.alignment.Alignment.TheVariants.{InService}
+use Rattle.link.specs.Queue.{first_queue}
+use Rattle.routes.specs.declared.route.Route.{Route}
+use Rattle.routes.specs.declared.route.RouteStatus.TheVariants.{Allowed}
+use Rattle.node_links.specs.LinkState.{down_link}
+use Rattle.flow_hold.specs.declared.procedure.Procedure.TheVariants.{Changeover}
+use Rattle.flow_hold.specs.Holds.{HoldSet, no_holds, holds, with_hold}
+use Rattle.exchange_rules.specs.State.{Node, with_node, with_parts}
+use Rattle.exchange_rules.specs.Queues.{WholeQueues, queue_at, whole}
+use Rattle.exchange_rules.specs.Sound.{Abstract}
+use Rattle.exchange_rules.specs.First.{first_parts, first_state}
+use Rattle.exchange_rules.specs.Noting.{flagged}
+use Rattle.exchange_rules.specs.Holding.{waits}
+use Rattle.exchange_rules.specs.Happening.{Happens, CameUp}
+use Rattle.exchange_rules.specs.ChangingOver.{complete_if}
+use Rattle.exchange_rules.specs.Releasing.{release}
+use Rattle.exchange_rules.specs.Failing.{fail}
+use Rattle.exchange_rules.specs.Lasting.{after_each}
+
+abbrev pub ticks : TimerTicks
+ticks = record {
+  l1 = 1;
+  l2 = 1;
+  l3 = 1;
+  l4 = 1;
+  l6 = 1;
+  l7 = 1;
+  t1 = 1;
+  t2 = 1;
+  t3 = 1;
+  t4 = 1;
+  t6 = 1;
+  t8 = 1;
+  t10 = 1;
+}
+
+-- one link to an adjacent point, which is the only destination
+abbrev pub settings : Configuration
+settings = record {
+  own = 1;
+  network = 2;
+  window = 2;
+  pool = 10;
+  users = [];
+  subsystems = [];
+  timers = ticks;
+  sets = record { name = []; adjacent = 2 } ∷ [];
+  links = record { name = []; set = 0; slc = 0 } ∷ [];
+  destinations = record { point = 2; sets = 0 ∷ []; joined = false } ∷ [];
+  titles = [];
+}
+
+-- a user message for that point
+abbrev pub message : Message
+message = record { sio = 133; sif = 2 ∷ 0 ∷ 0 ∷ 0 ∷ [] }
+
+abbrev pub booted : Abstract
+booted = first_state settings
+
+-- the link is in service, with messages that weren't sent; others are held
+abbrev pub node_with : HoldSet → (routes : List Route) → (held unsent : List Message) → Node WholeQueues
+node_with its_holds routes held unsent = record {
+  queues = record { held = held; links = record first_queue { all = unsent } ∷ [] };
+  parts = record (first_parts settings) {
+    links = record down_link { alignment = InService; association = true } ∷ [];
+    routes = routes ∷ [];
+    holds = its_holds;
+  };
+}
+
+-- the route over its set is allowed
+abbrev pub the_routes : List Route
+the_routes = record { set = 0; status = Allowed; joined = false } ∷ []
+
+-- ---- flags
+
+-- a completion without a number raises the flag, also where the link has no message
+abbrev pub no_number_is_reasonable : Type 0
+no_number_is_reasonable = (whole.found booted.node.queues 0 None).is_reasonable ≡ false
+
+abbrev pub completion_raises_the_flag : Type 0
+completion_raises_the_flag = (complete_if whole settings true 0 None booted.node).parts.lost_any ≡ true
+
+-- and an association that comes up leaves it
+abbrev pub with_flag : Abstract
+with_flag = with_node booted (with_parts booted.node (flagged booted.node.parts))
+
+abbrev pub opening_leaves_the_flag : Type 0
+opening_leaves_the_flag = (after_each (Happens (CameUp 0) ∷ []) with_flag).node.parts.lost_any ≡ true
+
+-- ---- a release
+
+abbrev pub nothing_held : HoldSet
+nothing_held = no_holds 1 1 1
+
+abbrev pub flow_held : HoldSet
+flow_held = with_hold nothing_held (Changeover 0) 0 0
+
+-- a message whose flow is held stays in Held
+abbrev pub message_waits : Type 0
+message_waits = waits settings flow_held message ≡ true
+
+abbrev pub message_stays : Type 0
+message_stays =
+    (release whole settings (node_with flow_held the_routes (message ∷ []) [])).queues.held ≡ message ∷ []
+
+-- a message whose flow isn't held goes to the queue of its link, once
+abbrev pub message_goes_on : Type 0
+message_goes_on =
+    (queue_at (release whole settings (node_with nothing_held the_routes (message ∷ []) [])).queues 0).all
+    ≡ message ∷ []
+
+-- ---- a failure
+
+-- a message stands on the link that was never sent, and its flow has no link any more: the changeover holds it
+abbrev pub failure_holds_the_flow : Type 0
+failure_holds_the_flow =
+    holds (fail whole settings 0 reasons.Association (node_with nothing_held [] [] (message ∷ []))).parts.holds
+    (Changeover 0) 0 0
+    ≡ true

@@ -1,0 +1,29 @@
+-- The law of translation at two rows of which one begins the other, where a definition that takes another prefix than
+-- the longest makes it false.
+use Rattle.std.specs.Prelude.{◌≡◌, ℕ, List, [], ◌∷◌, Ok, None}
+use Rattle.settings_rows.specs.Configuration.{TitleEntry}
+use Rattle.settings_rows.specs.declared.title_row.TitleRoute.TheVariants.{Title}
+use Rattle.sccp_codec.specs.declared.title.TitleKey.{TitleKey}
+use Rattle.sccp_relay.specs.Rows.{IsOrdered}
+use Rattle.sccp_relay.specs.Translation.{IsTranslation, translation}
+
+abbrev pub key : TitleKey
+key = record { translation = 0; plan = 1; nature = 4 }
+
+-- a row of this key
+abbrev pub row : (digits : List ℕ) → TitleEntry
+row digits = record { translation = 0; plan = 1; nature = 4; digits = digits; point = 2; route = Title None }
+
+-- rows 49 and 4917
+abbrev pub rows : List TitleEntry
+rows = row (4 ∷ 9 ∷ []) ∷ row (4 ∷ 9 ∷ 1 ∷ 7 ∷ []) ∷ []
+
+abbrev pub are_ordered : Type 0
+are_ordered = IsOrdered rows
+
+abbrev pub is_translation : Type 0
+is_translation = IsTranslation rows key (4 ∷ 9 ∷ 1 ∷ 7 ∷ 5 ∷ []) (row (4 ∷ 9 ∷ 1 ∷ 7 ∷ []))
+
+-- so it is what the table answers
+abbrev pub longest_is_found : Type 0
+longest_is_found = translation rows key (4 ∷ 9 ∷ 1 ∷ 7 ∷ 5 ∷ []) ≡ Ok (row (4 ∷ 9 ∷ 1 ∷ 7 ∷ []))
