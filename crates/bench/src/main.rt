@@ -16,7 +16,7 @@ mod incoming;
 mod making;
 mod outage;
 mod peer;
-mod routes;
+mod route_changes;
 mod service;
 mod titles;
 mod total;

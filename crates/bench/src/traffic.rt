@@ -8,7 +8,7 @@ use crate::failure::change_over;
 use crate::incoming::Incoming;
 use crate::outage::come_and_go;
 use crate::peer::Peer;
-use crate::routes::{change_status, enter, prohibit_each, test_routes, tick};
+use crate::route_changes::{change_status, enter, prohibit_each, test_routes, tick};
 use crate::service::{Ends, bring_in};
 use crate::unitdata::{ASTRAY, LED, Title, unitdata};
 use mtp3_codec::Label;
