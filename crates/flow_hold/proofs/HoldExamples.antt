@@ -1,8 +1,14 @@
--- Two procedures of one link, by computation.
-use Rattle.flow_hold.specs.declared.procedure.Procedure.TheVariants.{Changeover, Time}
+-- A hold beside another, by computation.
+use Rattle.std.proofs.Common.{ℕ, ◌∙◌}
+use Rattle.std.specs.FinSet.{empty, insert, contains-insert}
+use Rattle.flow_hold.specs.declared.procedure.Procedure.TheVariants.{Changeover}
+use Rattle.flow_hold.specs.Holds.{Hold}
 use Rattle.flow_hold.specs.HoldExamples as examples
-use Rattle.flow_hold.proofs.Holding.{contains-with_hold}
+use Rattle.flow_hold.proofs.Numbers.{in_order}
 
-pub time_holds_what_it_held : examples.time_holds_what_it_held
-time_holds_what_it_held =
-    contains-with_hold examples.nothing_held (Changeover 0) 0 0 (record { procedure = Time 0; destination = 0; sls = 0 })
+-- the pair of the changeover and a flow
+abbrev pair : (sls : ℕ) → Hold
+pair sls = record { procedure = Changeover 0; destination = 0; sls = sls }
+
+pub first_stays_held : examples.first_stays_held
+first_stays_held = contains-insert in_order (insert empty (pair 0)) (pair 1) (pair 0) ∙ contains-insert in_order empty (pair 0) (pair 0)
