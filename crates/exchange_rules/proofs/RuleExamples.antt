@@ -1,10 +1,12 @@
 -- Laws of the exchange at nodes of one link, by computation.
-use Rattle.std.proofs.Common.{◌≡◌, Bool, true, false, ◌×◌, refl, ap, sym, ◌∙◌, [], ◌∷◌}
+use Rattle.std.proofs.Common.{◌≡◌, Bool, true, false, refl, ap, sym, ◌∙◌, [], ◌∷◌}
 use Rattle.std.proofs.lemmas.Bool.{true≢false}
 use Rattle.routes.specs.Chosen.{choice_among, link_by}
 use Rattle.routes.specs.Facts.{first_sets}
+use Rattle.routes.specs.Members.{links_below}
 use Rattle.flow_hold.specs.declared.procedure.Procedure.{Procedure}
 use Rattle.flow_hold.specs.declared.procedure.Procedure.TheVariants.{Changeover}
+use Rattle.flow_hold.specs.Flows.{with_flows}
 use Rattle.flow_hold.specs.Holds.{holds, is_held}
 use Rattle.flow_hold.proofs.Flows.{flows_add}
 use Rattle.flow_hold.proofs.Holding.{holds_its_flow}
@@ -28,7 +30,7 @@ pub completion_raises_the_flag : examples.completion_raises_the_flag
 completion_raises_the_flag = refl
 
 pub opening_leaves_the_flag : examples.opening_leaves_the_flag
-unfolding apply tell_owed first_sets
+unfolding apply tell_owed first_sets links_below
 opening_leaves_the_flag = refl
 
 -- ---- a release
@@ -47,14 +49,14 @@ goes-on : is_held nothing_held 0 0 ≡ false
 goes-on = not-held (is_held nothing_held 0 0) (held_by nothing_held 0 0).0
 
 pub message_goes_on : examples.message_goes_on
-unfolding choice_among link_by first_sets
+unfolding choice_among link_by first_sets links_below
 message_goes_on =
     ap (λ (b : Bool). (queue_at (go_by whole settings b message (node_with nothing_held the_routes [] [])).queues 0).all) goes-on
 
 -- ---- a failure
 
 pub failure_holds_the_flow : examples.failure_holds_the_flow
-unfolding choice_among link_by first_sets
+unfolding choice_among link_by first_sets links_below with_flows
 failure_holds_the_flow =
     let node : Node WholeQueues = node_with nothing_held [] [] (message ∷ []) in
     flows_add nothing_held (Changeover 0) (is_failed settings (facts settings node.parts) 0 (message ∷ [])) 0 0
