@@ -1,9 +1,8 @@
 //! The changeover of a link with many messages on it.
 
-use crate::draft::{INTERNATIONAL, adjacent, own};
 use crate::incoming::Incoming;
 use crate::peer::Peer;
-use mtp3_codec::{MANAGEMENT_OCTETS, Management};
+use mtp3_codec::Management;
 use settings::Sls;
 use signalling_types::Number24;
 
@@ -53,8 +52,5 @@ fn complete(peer: &mut Peer, before: Number24) {
 
 /// The peer's answer to a changeover order about the link of a code (Q.2210 §9.8).
 pub(crate) fn answer_about(code: Sls, number: Number24) -> Incoming {
-    let mut octets = [0; MANAGEMENT_OCTETS];
-    let answer = Management::ExtendedChangeoverAcknowledgement(code, number);
-    let count = answer.write(own(), adjacent(), &mut octets);
-    Incoming::with_message(INTERNATIONAL << 6, &octets[..count])
+    Incoming::with_management(Management::ExtendedChangeoverAcknowledgement(code, number))
 }

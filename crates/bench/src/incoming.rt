@@ -5,8 +5,10 @@ ghost use Rattle.m2pa_codec.specs.declared.frame.TheConstants.{BUFFER_OCTETS};
 ghost use Rattle.m2pa_codec.specs.Frames.{sif_of};
 ghost use Rattle.m2pa_codec.specs.Values.{value_of};
 
+use crate::draft::{INTERNATIONAL, adjacent, own};
 use exchange::BUFFER_OCTETS;
 use m2pa_codec::{Frame, encode};
+use mtp3_codec::{MANAGEMENT_OCTETS, Management};
 use settings::Limits;
 use signalling_types::Number24;
 
@@ -39,6 +41,13 @@ impl Incoming {
             sio,
             sif,
         })
+    }
+
+    /// A frame with a management message of the adjacent point of the first set.
+    pub(crate) fn with_management(management: Management) -> Incoming {
+        let mut octets = [0; MANAGEMENT_OCTETS];
+        let count = management.write(own(), adjacent(), &mut octets);
+        Incoming::with_message(INTERNATIONAL << 6, &octets[..count])
     }
 
     /// A frame without a message.

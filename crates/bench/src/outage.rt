@@ -2,14 +2,13 @@
 
 ghost use Rattle.std.specs.Prelude.{◌≤◌};
 
-use crate::draft::{INTERNATIONAL, adjacent, own};
 use crate::end::End;
 use crate::failure::answer_about;
 use crate::incoming::Incoming;
 use crate::peer::Peer;
 use crate::service::{Ends, first_ends};
-use mtp3_codec::{MANAGEMENT_OCTETS, Management};
-use settings::{Limits, LinkId, Sls};
+use mtp3_codec::Management;
+use settings::{Limits, LinkId};
 
 /// The last link of the first set fails and returns so many times, and the others of its set carry its flows meanwhile.
 /// Each order and each declaration is answered. Each time a message of the link is held until the last answer came. It
@@ -74,15 +73,9 @@ fn answer_on(peer: &mut Peer, link: LinkId, end: &mut End) {
         return;
     }
     if let Some(code) = peer.declared() {
-        let mut answer = answer_to(peer.selection(), code);
+        // The peer's answer to a declaration (Q.704 §15.5).
+        let answer = Management::ChangebackAcknowledgement(peer.selection(), code);
+        let mut answer = Incoming::with_management(answer);
         end.answer(peer, link, &mut answer);
     }
-}
-
-/// The peer's answer to a declaration (Q.704 §15.5).
-fn answer_to(slc: Sls, code: u8) -> Incoming {
-    let mut octets = [0; MANAGEMENT_OCTETS];
-    let answer = Management::ChangebackAcknowledgement(slc, code);
-    let count = answer.write(own(), adjacent(), &mut octets);
-    Incoming::with_message(INTERNATIONAL << 6, &octets[..count])
 }

@@ -2,12 +2,12 @@
 
 ghost use Rattle.std.specs.Prelude.{◌≤◌};
 
-use crate::draft::{INTERNATIONAL, OWN, adjacent, own};
+use crate::draft::OWN;
 use crate::end::End;
 use crate::incoming::Incoming;
 use crate::peer::Peer;
 use crate::service::{Ends, settle_each};
-use mtp3_codec::{MANAGEMENT_OCTETS, Management};
+use mtp3_codec::Management;
 use settings::{Limits, LinkId, PointCode};
 
 /// Ticks of the clock. With one link the first ten meet T8 of each destination of which its point was told; later ones,
@@ -28,8 +28,8 @@ pub(crate) fn change_status(
 )
     requires { links ≤ Limits.LINKS }
 {
-    let mut prohibited = message_of(Management::TransferProhibited(about));
-    let mut allowed = message_of(Management::TransferAllowed(about));
+    let mut prohibited = Incoming::with_management(Management::TransferProhibited(about));
+    let mut allowed = Incoming::with_management(Management::TransferAllowed(about));
     for _ in 0..count {
         hear(peer, ends, links, &mut prohibited);
         hear(peer, ends, links, &mut allowed);
@@ -61,7 +61,7 @@ pub(crate) fn prohibit_each(peer: &mut Peer, ends: &mut Ends, destinations: usiz
 {
     for number in 0..destinations {
         let about = PointCode::of_low_bits(u32::from(OWN) + 1 + number as u32);
-        let mut prohibited = message_of(Management::TransferProhibited(about));
+        let mut prohibited = Incoming::with_management(Management::TransferProhibited(about));
         hear(peer, ends, links, &mut prohibited);
     }
 }
@@ -83,11 +83,4 @@ fn hear(peer: &mut Peer, ends: &mut Ends, links: usize, message: &mut Incoming)
 {
     ends[0].answer(peer, LinkId::new(0), message);
     settle_each(peer, ends, links);
-}
-
-/// A management message of the adjacent point of the first set.
-fn message_of(management: Management) -> Incoming {
-    let mut octets = [0; MANAGEMENT_OCTETS];
-    let count = management.write(own(), adjacent(), &mut octets);
-    Incoming::with_message(INTERNATIONAL << 6, &octets[..count])
 }

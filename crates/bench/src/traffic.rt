@@ -10,7 +10,7 @@ use crate::outage::come_and_go;
 use crate::peer::Peer;
 use crate::route_changes::{change_status, enter, prohibit_each, test_routes, tick};
 use crate::service::{Ends, bring_in};
-use crate::unitdata::{ASTRAY, LED, Title, unitdata};
+use crate::unitdata::{title_from, unitdata};
 use mtp3_codec::Label;
 use settings::{Limits, MsuRef, PointCode, Sls};
 
@@ -33,8 +33,8 @@ pub(crate) fn carry(peer: &mut Peer, arguments: &Arguments)
     let count = arguments.count;
     match arguments.kind {
         Kind::Acknowledgement => acknowledge(peer, count),
-        Kind::Relay(_) => forward(peer, unitdata_of(peer, arguments, &LED), count),
-        Kind::Udts(_) => forward(peer, unitdata_of(peer, arguments, &ASTRAY), count),
+        Kind::Relay(_) => forward(peer, unitdata_of(peer, arguments, 0), count),
+        Kind::Udts(_) => forward(peer, unitdata_of(peer, arguments, 0xff), count),
         Kind::Tick => tick(peer, count),
         Kind::Status => {
             let about = PointCode::new(last_point(arguments)).unwrap();
@@ -91,13 +91,13 @@ fn selection_of(peer: &Peer, arguments: &Arguments) -> Sls {
     }
 }
 
-/// A UDT with this title.
-fn unitdata_of(peer: &Peer, arguments: &Arguments, title: &Title) -> Incoming
+/// A UDT with a title that begins with these octets.
+fn unitdata_of(peer: &Peer, arguments: &Arguments, first: u8) -> Incoming
     requires { arguments.now.octets ≤ Limits.SIF_OCTETS }
 {
     let table = arguments.kind.table(arguments.size);
     let selection = selection_of(peer, arguments);
-    unitdata(title, table, selection, arguments.octets)
+    unitdata(&title_from(first), table, selection, arguments.octets)
 }
 
 /// Messages that come, and go on or back, each confirmed by the next one.

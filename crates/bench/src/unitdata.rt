@@ -38,51 +38,23 @@ const DIGITS: usize = 12;
 /// The octets of a title with as many digits as a row may have. The first twelve are a title, too.
 pub(crate) type Title = [u8; TITLE_HEAD + Limits::TITLE_DIGITS / 2];
 
-/// A title that the first row leads: its digits are 0000 4917 2000, and further zeros.
-pub(crate) const LED: Title = [
-    TRANSLATION,
-    PLAN_AND_SCHEME,
-    NATURE,
-    0x00,
-    0x00,
-    0x94,
-    0x71,
-    0x02,
-    0x00,
-    0x00,
-    0x00,
-    0x00,
-    0x00,
-    0x00,
-    0x00,
-    0x00,
-    0x00,
-    0x00,
-    0x00,
-];
-
-/// A title that no row leads: its digits are ffff 4917 2000, and further zeros.
-pub(crate) const ASTRAY: Title = [
-    TRANSLATION,
-    PLAN_AND_SCHEME,
-    NATURE,
-    0xff,
-    0xff,
-    0x94,
-    0x71,
-    0x02,
-    0x00,
-    0x00,
-    0x00,
-    0x00,
-    0x00,
-    0x00,
-    0x00,
-    0x00,
-    0x00,
-    0x00,
-    0x00,
-];
+/// A title that begins with these two octets: the first row leads that of zeros, and no row that of 0xff. Behind them
+/// are the digits 4917 2000, and further zeros.
+pub(crate) fn title_from(first: u8) -> Title {
+    let mut title = [0; TITLE_HEAD + Limits::TITLE_DIGITS / 2];
+    let head = [
+        TRANSLATION,
+        PLAN_AND_SCHEME,
+        NATURE,
+        first,
+        first,
+        0x94,
+        0x71,
+        0x02,
+    ];
+    title[..head.len()].copy_from_slice(&head);
+    title
+}
 
 /// Octets of such a message beside its data and its title: the label, the message type, the class, three pointers, and
 /// each behind its length, the called address, the calling one and the data.

@@ -1,31 +1,57 @@
-//! A node, the far ends of its links, and what is handed in to it.
+//! The node, its links, and what is handed in.
 
-use crate::case::Case;
-use crate::far_end::{FarEnd, FarEnds, Numbers, none_yet};
-use crate::good::{empty_frame, status_frame, write_data_of};
-use crate::judge::confirmed_by;
-use crate::node::Node;
-use crate::node_settings::WINDOW;
+use crate::good::{FarEnd, add_data, add_empty, add_status};
 use crate::octets::Octets;
-use crate::reading::{bsn_of, first_fault, fsn_of, message_of, told_status};
-use crate::taken::Taken;
-use crate::total::{Tally, Total};
-use exchange::{LinkId, LinkStanding, Outcome, Wants};
+use crate::shown::{Shown, all_links};
+use exchange::{BUFFER_OCTETS, Event, Frame, LinkId, LinkStanding, Outcome, Wants, decode};
 use signalling_types::Number24;
-use signalling_types::number::{distance, next};
 use std::alloc::Global;
 use std::marker::Model;
+use test_nodes::Node;
 
-/// So many frames at most are taken of a link at a time: a window, three statuses, and an acknowledgement.
-const MOST_TAKEN: usize = WINDOW + 4;
+/// The node's own point.
+pub(crate) const OWN: u32 = 1;
 
-/// A node, the far ends of its links, and what became of the frames.
+/// The settings: a window and a pool that fill, and timers that run out soon.
+const SETTINGS: &str = r#"window = 3
+pool = 4
+timers = { l1 = 6, l2 = 6, l3 = 6, l4 = 2, l6 = 8, l7 = 4, t1 = 3, t2 = 3, t3 = 2, t4 = 2, t6 = 2, t8 = 2, t10 = 5 }
+set = [{ name = "east", adjacent = 2 }, { name = "west", adjacent = 3 }]
+link = [
+  { name = "e0", set = "east", slc = 0 }, { name = "e1", set = "east", slc = 1 },
+  { name = "w0", set = "west", slc = 0 }, { name = "w1", set = "west", slc = 1 },
+]
+destination = [
+  { point = 2, sets = ["east"] }, { point = 3, sets = ["west"] },
+  { point = 300, sets = ["west", "east"] }, { point = 400, sets = ["east"] },
+]
+title = [
+  { translation = 0, plan = 1, nature = 4, digits = "49", point = 3, route = "title" },
+  { translation = 0, plan = 1, nature = 4, digits = "4917", point = 300, route = "ssn", ssn = 6 },
+  { translation = 0, plan = 1, nature = 4, digits = "33", point = 1, route = "ssn", ssn = 8 },
+]
+"#;
+
+/// Where the SIO of a message stands in its frame, behind both headers and the priority octet (RFC 4165 §2.3.1).
+const MESSAGE_AT: usize = 17;
+
+/// A node, the frame that was taken last, and what became of the frames that were handed in.
 #[derive(Drop)]
 pub(crate) struct World {
     node: Node,
-    far_ends: FarEnds,
-    tally: Tally,
-    taken: Taken,
+    taken: [u8; BUFFER_OCTETS],
+    found: Found,
+}
+
+/// What became of frames.
+#[derive(Clone, Copy, Default)]
+pub(crate) struct Found {
+    /// How many frames were tried and returned.
+    pub returned: u64,
+    /// A bit for each kind of outcome that they had.
+    pub kinds: u8,
+    /// How many frames, the good ones between them too, changed what they may not.
+    pub changed: u64,
 }
 
 impl Model for World {
@@ -35,207 +61,196 @@ impl Model for World {
 }
 
 impl World {
-    /// A node before its first event. None where memory ran out.
+    /// A node before its first event. None if memory ran out.
     pub(crate) fn new(alloc: Global) -> Option<World> {
         Some(World {
-            node: Node::new(alloc)?,
-            far_ends: FarEnds::new(),
-            tally: Tally::new(),
-            taken: Taken::new(),
+            node: Node::new(alloc, SETTINGS).ok()?,
+            taken: [0; BUFFER_OCTETS],
+            found: Found::default(),
         })
     }
 
     /// What became of the frames.
-    pub(crate) fn total(&self) -> Total {
-        self.tally.total()
-    }
-
-    /// What a good frame of the far end of a link has to say.
-    pub(crate) fn numbers(&self, link: LinkId) -> Numbers {
-        let far = self.far_ends.of(link);
-        let sent = match self.node.link(link) {
-            Some(view) => view.last_accepted,
-            None => none_yet(),
-        };
-        Numbers {
-            point: far.point,
-            heard: far.heard,
-            sent,
-        }
+    pub(crate) fn found(&self) -> Found {
+        self.found
     }
 
     /// Where a link stands.
     pub(crate) fn standing(&self, link: LinkId) -> LinkStanding {
-        match self.node.link(link) {
+        match self.node.shown().link(link) {
             Some(view) => view.standing,
             None => LinkStanding::Down,
         }
     }
-}
 
-impl World {
+    /// The far end of a link, which has received all that was taken.
+    pub(crate) fn far_end(&self, link: LinkId) -> FarEnd {
+        let none = Number24::zero().previous();
+        let (heard, sent) = match self.node.shown().link(link) {
+            Some(view) => (view.last_sent, view.last_accepted),
+            None => (none, none),
+        };
+        let point = if link.index() < 2 { 2 } else { 3 };
+        FarEnd { point, heard, sent }
+    }
+
     /// Tries a frame on a link.
     pub(crate) fn try_frame(&mut self, link: LinkId, octets: &[u8]) {
-        let case = self.receive(link, octets);
-        self.tally.add(&case);
-        self.follow(&case);
+        let outcome = self.hand_in(link, octets);
+        self.found.returned = self.found.returned.wrapping_add(1);
+        self.found.kinds |= bit_of(outcome);
     }
 
-    /// Something isn't as the rules say.
-    pub(crate) fn note_untold(&mut self) {
-        self.tally.note_untold();
-    }
-
-    /// A good frame comes on a link. Returns what became of it.
+    /// Hands in a frame on a link, and looks at what the node shows. What is refused or ignored changes nothing. Only a
+    /// message changes queues and numbers even then: it is confirmed, and may be answered. And it brings a link into
+    /// service that is ready.
     fn hand_in(&mut self, link: LinkId, octets: &[u8]) -> Outcome {
-        let case = self.receive(link, octets);
-        self.tally.add_between(&case);
-        self.follow(&case);
-        case.outcome
-    }
-
-    /// A frame comes on a link.
-    fn receive<'a>(&mut self, link: LinkId, octets: &'a [u8]) -> Case<'a> {
-        let before = self.node.shown();
-        let outcome = self.node.receive(link, octets);
-        Case {
-            link,
-            octets,
-            confirmed: self.far_ends.of(link).confirmed,
-            before,
-            outcome,
-            after: self.node.shown(),
+        let message = matches!(decode(octets), Ok(Frame::Message { .. }));
+        let enters = message && self.standing(link) == LinkStanding::AlignedReady;
+        let before = Shown::of(self.node.shown(), !message);
+        let outcome = self.node.step(&Event::Frame(link, octets));
+        let changed = before != Shown::of(self.node.shown(), !message);
+        if changed && !enters && matches!(outcome, Outcome::Ignored | Outcome::Refused(_)) {
+            self.found.changed = self.found.changed.wrapping_add(1);
         }
-    }
-
-    /// The far end remembers what the node took as confirmed.
-    fn follow(&mut self, case: &Case<'_>) {
-        if case.after.standing(case.link) == LinkStanding::InService && is_data_taken(case) {
-            self.far_ends.confirm(case.link, bsn_of(case.octets));
-        }
+        outcome
     }
 }
 
-/// Whether a frame was User Data with right numbers.
-fn is_data_taken(case: &Case<'_>) -> bool {
-    first_fault(case.octets).is_none()
-        && told_status(case.octets).is_none()
-        && confirmed_by(case).is_some()
+/// The bit of an outcome's kind.
+fn bit_of(outcome: Outcome) -> u8 {
+    match outcome {
+        Outcome::Queued(_) => 1,
+        Outcome::Held => 2,
+        Outcome::Local => 4,
+        Outcome::Handled => 8,
+        Outcome::Ignored => 16,
+        Outcome::Refused(_) => 32,
+    }
 }
 
 impl World {
-    /// The association of a link comes up, and a new epoch begins, where the link takes it.
-    pub(crate) fn associate(&mut self, link: LinkId) {
-        if self.node.associate(link) == Outcome::Handled {
-            self.far_ends.begin_epoch(link);
-        }
-    }
-
     /// The association of a link is lost.
     pub(crate) fn lose(&mut self, link: LinkId) {
-        self.node.lose(link);
+        self.node.step(&Event::AssociationDown(link));
     }
 
     /// A tick passes.
     pub(crate) fn tick(&mut self) {
-        self.node.tick();
+        self.node.step(&Event::Tick);
     }
 
-    /// What a link wants is done: its association is closed, or comes up.
+    /// So many ticks pass, before each of which all that waits is taken and acknowledged.
+    pub(crate) fn tend_and_tick(&mut self, ticks: usize) {
+        for _ in 0..ticks {
+            for link in all_links() {
+                self.tend(link);
+            }
+            self.tick();
+        }
+    }
+
+    /// Opens or closes the association of a link, as it wants.
     pub(crate) fn serve(&mut self, link: LinkId) {
-        match self.node.wants(link) {
+        match self.node.shown().wants(link) {
             Wants::Close => self.lose(link),
-            Wants::Open => self.associate(link),
+            Wants::Open => {
+                self.node.step(&Event::AssociationUp(link));
+            }
             Wants::Nothing => {}
         }
     }
 
-    /// All that is to go out on a link is taken, and what was heard is acknowledged.
+    /// Takes all that is to go out on a link, and acknowledges it.
     pub(crate) fn tend(&mut self, link: LinkId) {
-        self.take_all(link);
-        let far = self.far_ends.of(link);
-        if self.standing(link) == LinkStanding::InService && far.heard != far.confirmed {
-            self.acknowledge(link);
+        // At most a window of messages, three statuses, and an acknowledgement go out.
+        for _ in 0..7 {
+            self.node.take(link, &mut self.taken);
         }
-    }
-
-    /// What was heard on a link is acknowledged.
-    fn acknowledge(&mut self, link: LinkId) {
-        let frame = empty_frame(&self.numbers(link));
-        self.hand_in(link, &frame);
+        if self.standing(link) == LinkStanding::InService {
+            let mut frame = Octets::new();
+            add_empty(&self.far_end(link), &mut frame);
+            self.hand_in(link, frame.as_slice());
+        }
     }
 
     /// The far end of a link tells a state.
     pub(crate) fn tell(&mut self, link: LinkId, state: u8) {
-        let frame = status_frame(&self.numbers(link), state);
-        self.hand_in(link, &frame);
-    }
-}
-
-impl World {
-    /// All that is to go out on a link is taken.
-    fn take_all(&mut self, link: LinkId) {
-        for _ in 0..MOST_TAKEN {
-            if !self.take_next(link) {
-                return;
-            }
-        }
-    }
-
-    /// The next frame of a link is taken, and heard by its far end. False where there is none.
-    fn take_next(&mut self, link: LinkId) -> bool {
-        let taken = self.taken.take(&mut self.node, link);
-        if taken {
-            self.hear(link);
-        }
-        taken
-    }
-
-    /// The far end of a link hears the frame that was taken last, and its numbers are looked at.
-    fn hear(&mut self, link: LinkId) {
-        let far = self.far_ends.of(link);
-        let accepted = self.numbers(link).sent;
-        match heard_in(self.taken.as_slice(), &far, accepted) {
-            Some(heard) => self.far_ends.hear(link, heard),
-            None => self.note_untold(),
-        }
+        let mut frame = Octets::new();
+        add_status(&self.far_end(link), state, &mut frame);
+        self.hand_in(link, frame.as_slice());
     }
 
     /// Whether a message that comes on a link is queued, and goes out as it came.
     pub(crate) fn passes(&mut self, link: LinkId, message: &[u8]) -> bool {
-        let numbers = self.numbers(link);
         let mut frame = Octets::new();
-        write_data_of(&numbers, message, &mut frame);
-        match self.hand_in(link, frame.as_slice()) {
-            Outcome::Queued(to) => self.sends(to, message),
-            _ => false,
-        }
-    }
-
-    /// Whether the next message that goes out on a link is this one.
-    fn sends(&mut self, link: LinkId, message: &[u8]) -> bool {
-        let sent = self.take_next(link) && self.taken.message() == message;
-        self.tend(link);
+        add_data(&self.far_end(link), message, &mut frame);
+        let Outcome::Queued(to) = self.hand_in(link, frame.as_slice()) else {
+            return false;
+        };
+        let octets = self.node.take(to, &mut self.taken).unwrap_or(0);
+        let sent = self.taken.get(MESSAGE_AT..octets) == Some(message);
+        self.tend(to);
         sent
     }
 }
 
-/// What a far end heard last behind a frame of the node. None where the frame isn't sound, or its numbers are wrong: it
-/// has to confirm what the node accepted; a message has the number behind the last, and any other User Data the last;
-/// and no more than a window isn't confirmed.
-fn heard_in(octets: &[u8], far: &FarEnd, accepted: Number24) -> Option<Number24> {
-    let (heard, confirmed) = (far.heard, far.confirmed);
-    if first_fault(octets).is_some() {
-        return None;
+impl World {
+    /// Brings a link into service.
+    pub(crate) fn restore(&mut self, link: LinkId) {
+        // A changeover may have to end first.
+        for _ in 0..12 {
+            if self.standing(link) != LinkStanding::InService {
+                self.bring_up(link);
+            }
+        }
     }
-    if told_status(octets).is_some() {
-        return Some(heard);
+
+    /// A link gets a new association, and is proved. If it may not open yet, a tick passes.
+    fn bring_up(&mut self, link: LinkId) {
+        self.lose(link);
+        self.serve(link);
+        if self.standing(link) == LinkStanding::Down {
+            self.tend_and_tick(1);
+            return;
+        }
+        // Proving Normal and Ready (RFC 4165 §2.3.2), and L4.
+        self.tell(link, 2);
+        self.tell(link, 4);
+        self.tend_and_tick(2);
     }
-    let fsn = fsn_of(octets);
-    let wanted = match message_of(octets) {
-        Some(_) => next(heard),
-        None => heard,
-    };
-    let open = distance(confirmed, fsn) as usize;
-    (fsn == wanted && bsn_of(octets) == accepted && open <= WINDOW).then_some(fsn)
+
+    /// All links lose their associations and come into service again, and a good message of each of the 16 selections
+    /// comes on each. Returns how many of these 64 went out as they came.
+    pub(crate) fn count_through(&mut self) -> u64 {
+        for link in all_links() {
+            self.lose(link);
+        }
+        // In eight ticks all timers of a changeover, a changeback and a rerouting run out.
+        self.tend_and_tick(8);
+        for link in all_links() {
+            self.restore(link);
+        }
+        self.tend_and_tick(8);
+        let mut count = 0u64;
+        for link in all_links() {
+            count = count.wrapping_add(self.count_from(link));
+        }
+        count
+    }
+
+    /// How many messages of ISUP that come on a link go through: from point 2 to point 300, or from point 3 to point 2.
+    fn count_from(&mut self, link: LinkId) -> u64 {
+        let east = link.index() < 2;
+        let low = if east { 0x2c } else { 0x02 };
+        let high = if east { 0x81 } else { 0xc0 };
+        let mut count = 0u64;
+        for selection in 0..16u8 {
+            let code = selection % 16 * 16;
+            if self.passes(link, &[0x85, low, high, 0, code, 0xaa, selection]) {
+                count = count.wrapping_add(1);
+            }
+        }
+        count
+    }
 }

@@ -3,7 +3,7 @@
 use crate::rounds::{Clock, settle, steps_over};
 use crate::stops::{Stop, Stopped, round_with, stop_and_return};
 use crate::total::Total;
-use settings::LinkId;
+use exchange::LinkId;
 use std::alloc::Global;
 
 /// So many links there are.

@@ -5,8 +5,8 @@ use crate::rounds::{
 };
 use crate::total::Total;
 use crate::world::World;
+use exchange::LinkId;
 use pair_world::End;
-use settings::LinkId;
 use std::alloc::Global;
 
 /// So many links there are.

@@ -6,11 +6,10 @@
 //! wait. So what came until then is judged. Where no end said so to the last, nothing may be
 //! waiting any more.
 
-use crate::marking::{FLOWS, mark_of, place_of};
+use crate::marking::{FLOWS, Mark, counts_up, mark_of, place_of};
 use crate::world::{Book, World};
-use message_marks::{Mark, counts_up};
+use exchange::Msu;
 use pair_world::End;
-use settings::Msu;
 use std::alloc::Global;
 
 /// What became of the messages of some runs.

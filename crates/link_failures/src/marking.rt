@@ -1,15 +1,25 @@
 //! How messages carry their marks.
 
-use crate::node_settings::{INTERNATIONAL, ISUP};
-use exchange::Label;
-use message_marks::Mark;
-use settings::{Limits, Msu, PointCode, Sls};
+use exchange::{Label, Limits, Msu, PointCode, Sls};
+
+/// The service information octet of the ISDN user part in the international network (Q.704 §14.2).
+const SIO: u8 = 0x85;
 
 /// Octets of a routing label, which stands in front of each message (Q.704 §2.2).
 const LABEL_OCTETS: usize = 4;
 
 /// How many flows there are to a point: one for each signalling link selection.
 pub(crate) const FLOWS: u8 = Limits::SELECTIONS as u8;
+
+/// What no two messages that a node accepted have in common: their flow, and their number in it. The accepted messages
+/// of a flow have the numbers 1, 2, 3 and so on.
+#[derive(Clone, Copy)]
+pub(crate) struct Mark {
+    /// The flow: the signalling link selection (Q.704 §2.2.4).
+    pub flow: u8,
+    /// The number.
+    pub number: u16,
+}
 
 /// The message of a mark from a point to another: two octets behind the label have its number.
 pub(crate) fn message_of(mark: Mark, own: u16, adjacent: u16) -> Option<Msu> {
@@ -20,7 +30,7 @@ pub(crate) fn message_of(mark: Mark, own: u16, adjacent: u16) -> Option<Msu> {
     };
     let [a, b, c, d] = label.write();
     let [high, low] = mark.number.to_be_bytes();
-    Msu::new(INTERNATIONAL << 6 | ISUP, &[a, b, c, d, high, low]).ok()
+    Msu::new(SIO, &[a, b, c, d, high, low]).ok()
 }
 
 /// The mark of a message.
@@ -47,4 +57,18 @@ pub(crate) fn count_of_flow(flow: u8, marks: &[Mark]) -> u16 {
         }
     }
     count
+}
+
+/// Whether the numbers of a flow are 1, 2, 3 and so on.
+pub(crate) fn counts_up(flow: u8, marks: &[Mark]) -> bool {
+    let mut last = 0u16;
+    for mark in marks {
+        if mark.flow == flow {
+            if mark.number != last.wrapping_add(1) {
+                return false;
+            }
+            last = mark.number;
+        }
+    }
+    true
 }

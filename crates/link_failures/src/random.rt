@@ -1,13 +1,13 @@
-//! Schedules by chance.
+//! Random schedules.
 
-use crate::dice::Dice;
 use crate::marking::FLOWS;
 use crate::rounds::{Clock, bring_up, open_all, prove_links, settle};
 use crate::total::Total;
 use crate::world::World;
+use exchange::LinkId;
 use pair_world::End;
-use settings::LinkId;
 use std::alloc::Global;
+use test_nodes::Dice;
 
 /// So many steps each schedule has.
 const STEPS: usize = 400;
@@ -19,7 +19,7 @@ const RETURNS: usize = 3;
 pub(crate) fn schedules(alloc: Global, links: u8, count: u64) -> Total {
     let mut total = Total::NOTHING;
     for run in 0..count {
-        play(alloc, links, Dice::of_run(run), &mut total);
+        play(alloc, links, Dice::new(run), &mut total);
     }
     total
 }
@@ -46,11 +46,11 @@ fn take_steps(world: &mut World, dice: Dice) {
 
 /// A step.
 fn step(world: &mut World, dice: &mut Dice) {
-    let chance = dice.below(200);
-    let link = LinkId::new(dice.below(world.links()));
+    let chance = dice.octet() % 200;
+    let link = LinkId::new(dice.octet() % world.links().max(1));
     let end = thrown_end(dice);
     match chance {
-        0..=39 => world.submit(end, dice.below(FLOWS)),
+        0..=39 => world.submit(end, dice.octet() % FLOWS),
         40..=187 => frame_or_loss(world, chance, end, link),
         188..=190 => world.tick(end, 1),
         191 => world.reset(end, link),
@@ -58,9 +58,9 @@ fn step(world: &mut World, dice: &mut Dice) {
     }
 }
 
-/// An end by chance.
+/// A random end.
 fn thrown_end(dice: &mut Dice) -> End {
-    if dice.below(2) == 0 {
+    if dice.octet() % 2 == 0 {
         End::One
     } else {
         End::Two

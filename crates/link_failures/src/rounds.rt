@@ -2,8 +2,8 @@
 
 use crate::marking::FLOWS;
 use crate::world::World;
+use exchange::LinkId;
 use pair_world::End;
-use settings::LinkId;
 
 /// So many rounds at most carry what is left.
 const MOST_ROUNDS: usize = 200;

@@ -3,8 +3,8 @@
 use crate::rounds::{Clock, bring_up, come_back, settle, step_of_round, steps_over, submit_all};
 use crate::total::Total;
 use crate::world::World;
+use exchange::LinkId;
 use pair_world::End;
-use settings::LinkId;
 use std::alloc::Global;
 
 /// So many rounds pass in which a link may stop.

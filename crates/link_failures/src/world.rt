@@ -1,18 +1,22 @@
 //! Two nodes, what is done to them, and what they accepted.
 
-use crate::joined::Joined;
-use crate::marking::{count_of_flow, message_of};
-use crate::node_settings::{POINT_ONE, POINT_TWO};
-use message_marks::{Mark, is_accepted};
+use crate::marking::{Mark, count_of_flow, message_of};
+use exchange::{LinkId, LinkStanding, Msu, Outcome};
 use pair_world::{End, Step};
-use settings::{LinkId, Msu, Outcome};
 use std::alloc::Global;
 use std::marker::Model;
+use test_nodes::{LinkedNodes, settings_to};
+
+/// The point of the first node.
+const POINT_ONE: u16 = 1;
+
+/// The point of the second node.
+const POINT_TWO: u16 = 2;
 
 /// Two nodes with some links between them. Most of what changes it says whether something came of it.
 #[derive(Drop)]
 pub(crate) struct World {
-    nodes: Joined,
+    nodes: LinkedNodes,
     links: u8,
     /// How many frames were taken.
     frames: u64,
@@ -43,7 +47,7 @@ impl World {
     /// Two nodes with so many links, before their first step. None where memory ran out.
     pub(crate) fn new(alloc: Global, links: u8) -> Option<World> {
         Some(World {
-            nodes: Joined::new(alloc, links)?,
+            nodes: linked(alloc, links)?,
             links,
             frames: 0,
             starved: false,
@@ -82,17 +86,20 @@ impl World {
 
     /// Whether an end says that a message may be lost.
     pub(crate) fn may_have_lost(&self) -> bool {
-        self.nodes.lost_any(End::One) || self.nodes.lost_any(End::Two)
+        self.nodes.shown(End::One).lost_any() || self.nodes.shown(End::Two).lost_any()
     }
 
     /// Whether an end says that a message may be late.
     pub(crate) fn may_be_late(&self) -> bool {
-        self.nodes.late_any(End::One) || self.nodes.late_any(End::Two)
+        self.nodes.shown(End::One).late_any() || self.nodes.shown(End::Two).late_any()
     }
 
     /// Whether a link is down at an end.
     pub(crate) fn is_down(&self, end: End, link: LinkId) -> bool {
-        self.nodes.is_down(end, link)
+        match self.nodes.shown(end).link(link) {
+            Some(view) => view.standing == LinkStanding::Down,
+            None => true,
+        }
     }
 
     /// Whether as many messages came as were accepted, or an end says that one may be lost.
@@ -109,8 +116,8 @@ impl World {
         let outcome = self.nodes.turn(step);
         self.note_received();
         match outcome {
-            Some(outcome) => outcome,
-            None => {
+            Ok(outcome) => outcome,
+            Err(_) => {
                 self.starved = true;
                 Outcome::Ignored
             }
@@ -189,8 +196,8 @@ impl World {
         }
         let there = self.received(End::Two).len();
         let back = self.received(End::One).len();
-        self.one.note(there, self.nodes.late_any(End::One));
-        self.two.note(back, self.nodes.late_any(End::Two));
+        self.one.note(there, self.nodes.shown(End::One).late_any());
+        self.two.note(back, self.nodes.shown(End::Two).late_any());
     }
 }
 
@@ -224,6 +231,21 @@ impl Book {
         if !late {
             self.in_order = count;
         }
+    }
+}
+
+/// Two nodes with so many links. None where memory ran out.
+fn linked(alloc: Global, links: u8) -> Option<LinkedNodes> {
+    let one = settings_to(alloc, POINT_ONE, POINT_TWO, links).ok()?;
+    let two = settings_to(alloc, POINT_TWO, POINT_ONE, links).ok()?;
+    LinkedNodes::new(alloc, one, two).ok()
+}
+
+/// Whether a message that was submitted was accepted: it is queued or held.
+fn is_accepted(outcome: &Outcome) -> bool {
+    match outcome {
+        Outcome::Queued(_) | Outcome::Held => true,
+        _ => false,
     }
 }
 

@@ -1,103 +1,108 @@
-//! What the rows share.
+//! What the tests share.
 
-mod alignment;
+mod absent_links;
 mod calls;
-mod checked_settings;
-mod facing;
-mod lab_program;
-mod lab_streams;
+mod endless;
 mod labs;
-mod lines;
-mod long_lines;
 mod lost;
+mod octets;
 mod pair;
-mod points_in_parts;
-mod program;
-mod sentences;
-mod statuses;
+mod points;
+mod settings;
 mod streams;
-mod titles;
 
-use exchange::Exchange;
-use lab::{JoinedLab, MemoryJoiner};
-use settings::Settings;
-use std::alloc::Global;
+use lab::MemoryJoiner;
+use program::{FileFault, Folder, Status, Unread, run_program};
+use script::{Sink, Source};
+use std::alloc::{AllocError, Global};
 use std::process::Abort;
-use stp_node::{MemorySink, MemorySource, ScriptFault, Sink, Source, built_in, run_script};
+use std::test::*;
 
-/// How many user messages the built-in settings keep.
-const POOL: i64 = 1000;
+/// The settings of point OWN, whose one link leads to point OTHER.
+const SETTINGS: &str = r#"version = 1
+own = OWN
+network = 2
+window = 128
+pool = 1000
+users = [5]
+subsystems = [8]
+timers = { l1 = 10, l2 = 10, l3 = 10, l4 = 3, l6 = 20, l7 = 5, t1 = 4, t2 = 6, t3 = 4, t4 = 4, t6 = 4, t8 = 3, t10 = 8 }
+set = [{ name = "east", adjacent = OTHER }]
+link = [{ name = "e0", set = "east", slc = 0 }]
+destination = [{ point = OTHER, sets = ["east"] }]
+"#;
 
-/// A node with the built-in settings but for its pool, before its first event.
-fn booted<T: Abort>(rt: &T, alloc: Global, pool: i64) -> Exchange {
-    let mut draft = built_in(alloc).expect(rt, "memory");
-    draft.pool = pool;
-    let settings = Settings::check(alloc, draft).expect(rt, "good settings");
-    Exchange::boot(alloc, settings).expect(rt, "memory")
+/// The settings files of two points that face each other, `1` and `2`, and an empty file.
+#[derive(Clone, Copy)]
+struct Files;
+
+impl Folder for Files {
+    ghost reads = { λ _ _ _. Unit {0} };
+
+    fn read(&self, alloc: Global, name: &str) -> Result<Vec<u8>, FileFault> {
+        let octets = match name {
+            "1" => settings_file(alloc, "1", "2"),
+            "2" => settings_file(alloc, "2", "1"),
+            "empty" => Ok(Vec::new(alloc)),
+            _ => return Err(FileFault::Unread(Unread::Missing)),
+        };
+        octets.map_err(|_| FileFault::NoMemory)
+    }
 }
 
-/// Runs a script on such a node.
-fn run<T: Abort, R: Source, W: Sink>(
-    rt: &T,
-    alloc: Global,
-    pool: i64,
+/// The settings of a point whose link leads to another.
+fn settings_file(alloc: Global, own: &str, other: &str) -> Result<Vec<u8>, AllocError> {
+    let text = SETTINGS.replace(alloc, "OWN", own)?;
+    Ok(text.replace(alloc, "OTHER", other)?.into_bytes())
+}
+
+/// Runs the program with these words, each behind a comma. The links of its lab are streams in memory.
+fn run<R: Source, W: Sink, E: Sink>(
+    rt: &HostRuntime,
+    words: &str,
     reader: &mut R,
     writer: &mut W,
-) -> Result<(), ScriptFault> {
-    let mut exchange = booted(rt, alloc, pool);
-    run_script(&mut exchange, reader, writer)
+    errors: &mut E,
+) -> Result<Status, Fail> {
+    let alloc = rt.alloc();
+    let mut list = Vec::new(alloc);
+    for word in words.split(',').skip(1) {
+        list.push(String::from_str(alloc, word)?)?;
+    }
+    Ok(run_program(
+        rt,
+        list.as_slice(),
+        &Files,
+        &mut MemoryJoiner::new(alloc)?,
+        reader,
+        writer,
+        errors,
+    ))
 }
 
-/// Runs a script on such a node, and compares what it prints and how it ends.
-fn expect_run<T: Abort>(
-    rt: &T,
-    alloc: Global,
-    pool: i64,
-    script: &[u8],
-    printed: &str,
-    end: Result<(), ScriptFault>,
-) {
-    let mut reader = MemorySource::new(script);
-    let mut writer = MemorySink::new(alloc);
-    let ended = run(rt, alloc, pool, &mut reader, &mut writer);
-    compare(rt, script, writer.written(), printed);
-    assert_eq!(rt; ended, end, "of {script:?}");
-}
-
-/// The same, with the built-in settings as they are.
-fn expect_script<T: Abort>(
-    rt: &T,
-    alloc: Global,
-    script: &[u8],
-    printed: &str,
-    end: Result<(), ScriptFault>,
-) {
-    expect_run(rt, alloc, POOL, script, printed, end);
-}
-
-/// The lab whose links are streams in memory, of which each read gives one octet.
-fn lab_in_memory<T: Abort>(rt: &T, alloc: Global) -> JoinedLab<MemoryJoiner> {
-    JoinedLab::new(joiner(rt, alloc))
-}
-
-/// What joins its links.
-fn joiner<T: Abort>(rt: &T, alloc: Global) -> MemoryJoiner {
-    let joiner = MemoryJoiner::new(alloc).ok().expect(rt, "memory");
-    joiner.in_pieces_of(1)
-}
-
-/// Compares what a script printed.
-fn compare<T: Abort>(rt: &T, script: &[u8], written: &[u8], printed: &str) {
+/// Compares what was written of a script or of words.
+fn compare<T: Abort>(rt: &T, of: &str, written: &[u8], wanted: &str) {
     assert!(rt;
-        written == printed.as_bytes(),
-        "{written:?} was printed of {script:?}"
+        written == wanted.as_bytes(),
+        "{:?} was written of {of}",
+        str::from_utf8(written)
     );
 }
 
-/// How a script is to end: in a fault of the line of this number, or well where there is no number.
-fn end_of(number: &str) -> Result<(), ScriptFault> {
-    match number.parse() {
-        Ok(line) => Err(ScriptFault::Line(line)),
-        Err(_) => Ok(()),
+/// The first lines of a text.
+fn first_lines(text: &str, count: usize) -> &str {
+    let mut end: usize = 0;
+    for line in text.split_inclusive('\n').take(count) {
+        end = end.saturating_add(line.len());
     }
+    text.get(..end).unwrap_or("")
+}
+
+/// A text, and behind it so many times another.
+fn longer(alloc: Global, start: &str, times: usize, text: &str) -> Result<String, Fail> {
+    let mut line = String::from_str(alloc, start)?;
+    for _ in 0..times {
+        line.push_str(text)?;
+    }
+    Ok(line)
 }

@@ -13,8 +13,6 @@ pub mod laws;
 mod sentences;
 pub mod server;
 mod shapes;
-#[cfg(test)]
-mod tests;
 
 pub use document::read;
 pub use fault::ServeFault;

@@ -11,8 +11,6 @@ mod phrases;
 mod places;
 mod sentences;
 mod shapes;
-#[cfg(test)]
-mod tests;
 mod timers;
 mod unknown;
 mod values;

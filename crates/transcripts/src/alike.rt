@@ -1,91 +1,47 @@
-//! Whether two settings are alike.
-ghost use Rattle.std.specs.Prelude.{◌≡◌, ◌<◌, ℕ};
-ghost use Rattle.std.specs.Bool.{Decides};
-ghost use Rattle.transcripts.specs.Alike.{AreAlike, HaveSameNumbers, HaveSameUsers};
+//! Whether a settings file has the settings that are built in.
 
-use settings::{DestinationRow, LinkRow, SetId, SetRow, Settings};
+use anyhow::Result;
+use script::built_in;
+use settings::{DestinationRow, Settings};
+use std::alloc::Global;
+
+/// Whether the settings of a file are those built in.
+pub fn is_built_in(alloc: Global, text: &str) -> Result<bool> {
+    let read = settings_file::read(alloc, text)?;
+    let built_in = Settings::check(alloc, built_in(alloc)?)?;
+    Ok(are_alike(&read, &built_in))
+}
 
 /// Whether all that two settings say is the same; of translation rows, whether there are as many.
-pub fn are_alike(a: &Settings, b: &Settings) -> bool
-    ensures { Decides result (AreAlike a.now b.now) }
-{
-    have_same_numbers(a, b)
-        && have_same_users(a, b)
-        && a.subsystems() == b.subsystems()
-        && a.timers() == b.timers()
-        && are_same_sets(a.sets(), b.sets())
-        && are_same_links(a.links(), b.links())
-        && are_same_destinations(a.destinations(), b.destinations())
-        && a.titles().len() == b.titles().len()
+fn are_alike(a: &Settings, b: &Settings) -> bool {
+    have_same_numbers(a, b) && have_same_rows(a, b) && a.titles().len() == b.titles().len()
 }
 
 /// Whether their numbers are the same.
-fn have_same_numbers(a: &Settings, b: &Settings) -> bool
-    ensures { Decides result (HaveSameNumbers a.now b.now) }
-{
+fn have_same_numbers(a: &Settings, b: &Settings) -> bool {
     a.own() == b.own()
         && a.network() == b.network()
         && a.window() == b.window()
         && a.pool() == b.pool()
+        && a.timers() == b.timers()
+        && a.subsystems() == b.subsystems()
+        && (0..16u8).all(|user| a.is_user(user) == b.is_user(user))
 }
 
-/// Whether the same user parts stand on the node.
-fn have_same_users(a: &Settings, b: &Settings) -> bool
-    ensures { Decides result (HaveSameUsers a.now b.now) }
-{
-    for user in 0..16u8 {
-        if a.is_user(user) != b.is_user(user) {
-            return false;
-        }
-    }
-    true
-}
-
-/// Whether these are the same link sets.
-fn are_same_sets(a: &[SetRow], b: &[SetRow]) -> bool
-    ensures { Decides result (a.now ≡ b.now) }
-{
-    a.len() == b.len() && a.iter().zip(b).all(|(a, b)| is_same_set(a, b))
-}
-
-/// Whether these are the same link set.
-fn is_same_set(a: &SetRow, b: &SetRow) -> bool
-    ensures { Decides result (a.now ≡ b.now) }
-{
-    a.name() == b.name() && a.adjacent() == b.adjacent()
-}
-
-/// Whether these are the same links.
-fn are_same_links(a: &[LinkRow], b: &[LinkRow]) -> bool
-    ensures { Decides result (a.now ≡ b.now) }
-{
-    a.len() == b.len() && a.iter().zip(b).all(|(a, b)| is_same_link(a, b))
-}
-
-/// Whether these are the same link.
-fn is_same_link(a: &LinkRow, b: &LinkRow) -> bool
-    ensures { Decides result (a.now ≡ b.now) }
-{
-    a.name() == b.name() && a.set() == b.set() && a.slc() == b.slc()
-}
-
-/// Whether these are the same destinations.
-fn are_same_destinations(a: &[DestinationRow], b: &[DestinationRow]) -> bool
-    ensures { Decides result (a.now ≡ b.now) }
-{
-    a.len() == b.len() && a.iter().zip(b).all(|(a, b)| is_same_destination(a, b))
+/// Whether their sets, links and destinations are the same.
+fn have_same_rows(a: &Settings, b: &Settings) -> bool {
+    let mut same_sets = a.sets().iter().zip(b.sets());
+    let mut same_links = a.links().iter().zip(b.links());
+    let mut same_ways = a.destinations().iter().zip(b.destinations());
+    a.sets().len() == b.sets().len()
+        && a.links().len() == b.links().len()
+        && a.destinations().len() == b.destinations().len()
+        && same_sets.all(|(a, b)| a.name() == b.name() && a.adjacent() == b.adjacent())
+        && same_links.all(|(a, b)| a.name() == b.name() && a.set() == b.set() && a.slc() == b.slc())
+        && same_ways.all(|(a, b)| is_same_way(a, b))
 }
 
 /// Whether these are the same destination.
-fn is_same_destination(a: &DestinationRow, b: &DestinationRow) -> bool
-    ensures { Decides result (a.now ≡ b.now) }
-{
-    a.point() == b.point() && are_same_ids(a.sets(), b.sets()) && a.joined() == b.joined()
-}
-
-/// Whether these are the numbers of the same sets.
-fn are_same_ids(a: &[SetId], b: &[SetId]) -> bool
-    ensures { Decides result (a.now ≡ b.now) }
-{
-    a.len() == b.len() && a.iter().zip(b).all(|(a, b)| a == b)
+fn is_same_way(a: &DestinationRow, b: &DestinationRow) -> bool {
+    a.point() == b.point() && a.sets() == b.sets() && a.joined() == b.joined()
 }

@@ -1,67 +1,68 @@
 //! The lines of a transcript.
 
-ghost use Rattle.std.specs.Prelude.{◌≡◌, IfOk, map, option_map};
-ghost use Rattle.transcripts.specs.Lines.{behind, line_of, said};
-ghost use Rattle.transcripts.specs.Texts.{lines_of};
-
-use std::alloc::{AllocError, Global};
-
 /// What a line of a transcript is.
 #[derive(Clone, Copy)]
 pub enum Line<'a> {
     /// A remark, or an empty line.
     Remark,
     /// `$ WORDS`: the words of a command.
-    Command(&'a [u8]),
+    Command(&'a str),
     /// `- LINE`: this line is taken out of the settings file.
-    Without(&'a [u8]),
+    Without(&'a str),
     /// `+ LINE`: this line is put into the settings file.
-    With(&'a [u8]),
+    With(&'a str),
     /// `> LINE`, or `>` alone for an empty one: a line of the script.
-    Given(&'a [u8]),
+    Given(&'a str),
+    /// `> *N LINE`: so many lines of the script.
+    Repeated(usize, &'a str),
+    /// `> @FILE`: the lines of this file are lines of the script.
+    Prologue(&'a str),
     /// `>| TEXT`: the end of the script, without a line feed.
-    Cut(&'a [u8]),
+    Cut(&'a str),
+    /// `! TEXT`: a line on standard error.
+    Told(&'a str),
+    /// `!`: standard error has no other line than those of `! TEXT`.
+    Silent,
     /// A line that is printed.
-    Printed(&'a [u8]),
+    Printed(&'a str),
 }
 
 /// What a line of a transcript is.
-pub fn read_line(line: &[u8]) -> Line<'_>
-    ensures { said result ≡ line_of line.now }
-{
-    if line.is_empty() || behind(b"#", line).is_some() {
+pub fn read_line(line: &str) -> Line<'_> {
+    if line.is_empty() || line.starts_with("#") {
         Line::Remark
-    } else if let Some(words) = behind(b"$ ", line) {
+    } else if let Some(words) = line.strip_prefix("$ ") {
         Line::Command(words)
-    } else if let Some(rest) = behind(b"- ", line) {
+    } else if let Some(rest) = line.strip_prefix("- ") {
         Line::Without(rest)
-    } else if let Some(rest) = behind(b"+ ", line) {
+    } else if let Some(rest) = line.strip_prefix("+ ") {
         Line::With(rest)
-    } else if let Some(rest) = behind(b"> ", line) {
-        Line::Given(rest)
-    } else if let Some(rest) = behind(b">| ", line) {
-        Line::Cut(rest)
-    } else if let Some(rest) = behind(b">", line) {
-        Line::Given(rest)
+    } else if let Some(rest) = line.strip_prefix(">") {
+        read_given(rest)
+    } else if let Some(rest) = line.strip_prefix("! ") {
+        Line::Told(rest)
+    } else if line == "!" {
+        Line::Silent
     } else {
         Line::Printed(line)
     }
 }
 
-/// What stands behind a mark, where the line begins with it.
-fn behind<'a>(mark: &[u8], line: &'a [u8]) -> Option<&'a [u8]>
-    ensures { option_map (λ rest. rest.now) result ≡ behind mark.now line.now }
-{
-    if line.starts_with(mark) {
-        Some(&line[mark.len()..])
+/// What a line of the script is, by what stands behind its `>`.
+fn read_given(rest: &str) -> Line<'_> {
+    if let Some(text) = rest.strip_prefix("| ") {
+        Line::Cut(text)
+    } else if let Some(file) = rest.strip_prefix(" @") {
+        Line::Prologue(file)
+    } else if let Some(repeated) = rest.strip_prefix(" *") {
+        read_repeated(repeated)
     } else {
-        None
+        Line::Given(rest.strip_prefix(" ").unwrap_or(rest))
     }
 }
 
-/// The lines of a text.
-pub fn lines(alloc: Global, text: &[u8]) -> Result<Vec<&[u8]>, AllocError>
-    ensures { IfOk result (λ lines. map (λ line. line.now) lines.items ≡ lines_of text.now) }
-{
-    text.split(|octet| *octet == b'\n').collect(alloc)
+/// How often a line of the script is given, and the line. Without a number it is no line of a script.
+fn read_repeated(repeated: &str) -> Line<'_> {
+    let (times, line) = repeated.split_once(" ").unwrap_or(("", repeated));
+    Line::Repeated(times.parse().unwrap_or(0), line)
 }

@@ -1,189 +1,102 @@
 //! Calls of an exchange in a row.
 
-use super::statuses::{STATUS_OCTETS, status_frame};
-use super::{POOL, booted};
-use exchange::{Answer, Call, Event, Exchange, Order, Wants};
-use settings::{FrameFault, LinkId, Msu, MsuRef, Notice, Outcome};
+use exchange::{Answer, Call, Event, Exchange, Wants};
+use settings::{FrameFault, LinkId, Msu, Notice, Outcome};
 use std::alloc::Global;
 use std::process::Abort;
+use std::test::*;
+use test_nodes::boot;
+
+/// A Link Status before any message: the peer proves.
+const PROVING: &[u8] = &[
+    0x01, 0x00, 0x0b, 0x02, 0x00, 0x00, 0x00, 0x14, 0x00, 0xff, 0xff, 0xff, 0x00, 0xff, 0xff, 0xff,
+    0x00, 0x00, 0x00, 0x02,
+];
+
+/// The same: the peer is ready.
+const READY: &[u8] = &[
+    0x01, 0x00, 0x0b, 0x02, 0x00, 0x00, 0x00, 0x14, 0x00, 0xff, 0xff, 0xff, 0x00, 0xff, 0xff, 0xff,
+    0x00, 0x00, 0x00, 0x04,
+];
 
 /// A frame with a message from point 2 to point 300, the first of its link. It confirms the first that went out.
-const COMES: [u8; 24] = [
+const COMES: &[u8] = &[
     0x01, 0x00, 0x0b, 0x01, 0x00, 0x00, 0x00, 0x18, 0x00, 0x00, 0x00, 0x00, 0x00, 0x00, 0x00, 0x00,
     0x00, 0x85, 0x2c, 0x81, 0x00, 0x50, 0xaa, 0xbb,
 ];
 
 /// The frame that it leaves by, the second that went out.
-const GOES: [u8; 24] = [
+const GOES: &[u8] = &[
     0x01, 0x00, 0x0b, 0x01, 0x00, 0x00, 0x00, 0x18, 0x00, 0x00, 0x00, 0x00, 0x00, 0x00, 0x00, 0x01,
     0x00, 0x85, 0x2c, 0x81, 0x00, 0x50, 0xaa, 0xbb,
 ];
 
 /// A frame of another version.
-const OTHER_VERSION: [u8; 8] = [0x02, 0x00, 0x0b, 0x02, 0x00, 0x00, 0x00, 0x08];
+const OTHER_VERSION: &[u8] = &[0x02, 0x00, 0x0b, 0x02, 0x00, 0x00, 0x00, 0x08];
 
-/// The frames of the calls.
-#[derive(Drop)]
-struct Frames<'a> {
-    proving: &'a [u8],
-    ready: &'a [u8],
-    comes: &'a [u8],
-    other_version: &'a [u8],
+/// Calls about link 0, and what is answered to them. The link comes into service, what its adjacent point is told of
+/// point 300 is taken, and a message goes through.
+const CALLS: &str =
+    "up handled; proving handled; ready handled; tick handled; tick handled; tick handled; \
+    take status; take status; take status; take other; comes queued; version ignored; submit local; \
+    take goes; take none; wants nothing";
+
+/// The call of a row.
+fn call<'a>(row: &str, message: &'a Msu) -> Call<'a> {
+    let link = LinkId::new(0);
+    match row.split(' ').next().unwrap_or("") {
+        "up" => Call::Step(Event::AssociationUp(link)),
+        "proving" => Call::Step(Event::Frame(link, PROVING)),
+        "ready" => Call::Step(Event::Frame(link, READY)),
+        "tick" => Call::Step(Event::Tick),
+        "comes" => Call::Step(Event::Frame(link, COMES)),
+        "version" => Call::Step(Event::Frame(link, OTHER_VERSION)),
+        "submit" => Call::Step(Event::Submit(message.lend())),
+        "take" => Call::Take(link),
+        _ => Call::Wants(link),
+    }
 }
 
-/// Brings a link into service, takes what its adjacent point is told of point 300, and lets a message through; then an
-/// operator closes the link, its association goes, and he lets it open again, which it may once its changeover has
-/// ended by T1.
-fn calls<'a>(link: LinkId, frames: Frames<'a>, message: MsuRef<'a>) -> [Call<'a>; 28] {
-    [
-        Call::Step(Event::AssociationUp(link)),
-        Call::Step(Event::Frame(link, frames.proving)),
-        Call::Step(Event::Frame(link, frames.ready)),
-        Call::Step(Event::Tick),
-        Call::Step(Event::Tick),
-        Call::Step(Event::Tick),
-        Call::Take(link),
-        Call::Take(link),
-        Call::Take(link),
-        Call::Take(link),
-        Call::Step(Event::Frame(link, frames.comes)),
-        Call::Step(Event::Frame(link, frames.other_version)),
-        Call::Step(Event::Submit(message)),
-        Call::Take(link),
-        Call::Take(link),
-        Call::Wants(link),
-        Call::Step(Event::Order(Order::Deactivate(link))),
-        Call::Wants(link),
-        Call::Step(Event::AssociationDown(link)),
-        Call::Wants(link),
-        Call::Step(Event::AssociationUp(link)),
-        Call::Step(Event::Order(Order::Activate(link))),
-        Call::Wants(link),
-        Call::Step(Event::Tick),
-        Call::Step(Event::Tick),
-        Call::Step(Event::Tick),
-        Call::Step(Event::Tick),
-        Call::Wants(link),
-    ]
+/// What an exchange answers to the calls.
+fn made(alloc: Global, exchange: &mut Exchange) -> Result<Vec<Answer>, Fail> {
+    let message = Msu::new(0x85, &[0x01, 0x80, 0x00, 0x50])?;
+    let mut calls = Vec::new(alloc);
+    for row in CALLS.split("; ") {
+        calls.push(call(row, &message))?;
+    }
+    Ok(exchange.run(alloc, calls.as_slice())?)
 }
 
-/// What an exchange answers to these calls.
-fn made<T: Abort>(rt: &T, alloc: Global, exchange: &mut Exchange, message: Msu) -> Vec<Answer> {
-    let proving = status_frame(2);
-    let ready = status_frame(4);
-    let frames = Frames {
-        proving: &proving,
-        ready: &ready,
-        comes: &COMES,
-        other_version: &OTHER_VERSION,
-    };
-    let calls = calls(LinkId::new(0), frames, message.lend());
-    exchange.run(alloc, &calls).expect(rt, "memory")
-}
-
-/// What is answered to them.
-const ANSWERS: [&str; 28] = [
-    "handled",
-    "handled",
-    "handled",
-    "handled",
-    "handled",
-    "handled",
-    "a status",
-    "a status",
-    "a status",
-    "another frame",
-    "queued",
-    "ignored",
-    "local",
-    "the frame",
-    "none",
-    "nothing",
-    "handled",
-    "close",
-    "handled",
-    "nothing",
-    "refused",
-    "handled",
-    "nothing",
-    "handled",
-    "handled",
-    "handled",
-    "handled",
-    "open",
-];
-
-/// What an answer is, in a word or two.
+/// What an answer is, in a word.
 fn shown(answer: &Answer) -> &'static str {
     match answer {
-        Answer::Stepped(outcome) => shown_outcome(*outcome),
-        Answer::Taken(Some(text)) => shown_frame(text.octets()),
+        Answer::Stepped(Outcome::Queued(_)) => "queued",
+        Answer::Stepped(Outcome::Local) => "local",
+        Answer::Stepped(Outcome::Handled) => "handled",
+        Answer::Stepped(Outcome::Ignored) => "ignored",
+        Answer::Taken(Some(text)) if text.octets() == GOES => "goes",
+        Answer::Taken(Some(text)) if text.octets().len() == READY.len() => "status",
         Answer::Taken(None) => "none",
         Answer::Wanted(Wants::Nothing) => "nothing",
-        Answer::Wanted(Wants::Open) => "open",
-        Answer::Wanted(Wants::Close) => "close",
+        _ => "other",
     }
 }
 
-/// What a frame is, in two words.
-fn shown_frame(octets: &[u8]) -> &'static str {
-    if octets == GOES.as_slice() {
-        "the frame"
-    } else if octets.len() == STATUS_OCTETS {
-        "a status"
-    } else {
-        "another frame"
-    }
-}
-
-/// What an outcome is, in a word.
-fn shown_outcome(outcome: Outcome) -> &'static str {
-    match outcome {
-        Outcome::Queued(_) => "queued",
-        Outcome::Held => "held",
-        Outcome::Local => "local",
-        Outcome::Handled => "handled",
-        Outcome::Ignored => "ignored",
-        Outcome::Refused(_) => "refused",
-    }
-}
-
-/// Compares an answer.
-fn expect_answer<T: Abort>(rt: &T, answers: &[Answer], at: usize, wanted: &str) {
-    let answer = answers.get(at).expect(rt, "an answer for each call");
-    assert!(rt; shown(answer) == wanted, "no {wanted}");
+#[test]
+fn calls_in_a_row(rt: HostRuntime) -> Result<(), Fail> {
+    let mut exchange = boot(rt.alloc(), "")?;
+    let answers = made(rt.alloc(), &mut exchange)?;
+    expect_answers(&rt, answers.as_slice());
+    let notice = exchange.notices().front().copied();
+    let wanted = Notice::Frame(FrameFault::Version, LinkId::new(0));
+    assert!(rt; notice == Some(wanted), "another notice");
+    Ok(())
 }
 
 /// Compares the answers.
 fn expect_answers<T: Abort>(rt: &T, answers: &[Answer]) {
-    assert_eq!(rt; answers.len(), ANSWERS.len());
-    for (at, wanted) in ANSWERS.iter().enumerate() {
-        expect_answer(rt, answers, at, wanted);
+    assert_eq!(rt; answers.len(), CALLS.split("; ").count());
+    for (answer, row) in answers.iter().zip(CALLS.split("; ")) {
+        assert!(rt; row.ends_with(shown(answer)), "{row}");
     }
-}
-
-/// Makes the calls, and compares their answers.
-fn expect_calls<T: Abort>(rt: &T, alloc: Global, exchange: &mut Exchange) {
-    let message = Msu::new(0x85, &[0x01, 0x80, 0x00, 0x50]).expect(rt, "at most 272 octets");
-    let answers = made(rt, alloc, exchange, message);
-    expect_answers(rt, answers.as_slice());
-}
-
-/// Compares the notice that they leave.
-fn expect_notice<T: Abort>(rt: &T, exchange: &Exchange) {
-    let notice = exchange.notices().front().copied();
-    let wanted = Notice::Frame(FrameFault::Version, LinkId::new(0));
-    assert!(rt; notice == Some(wanted), "another notice");
-}
-
-/// Makes the calls on a node, and compares what they answer and leave.
-fn expect_all<T: Abort>(rt: &T, alloc: Global) {
-    let mut exchange = booted(rt, alloc, POOL);
-    expect_calls(rt, alloc, &mut exchange);
-    expect_notice(rt, &exchange);
-}
-
-#[test]
-fn calls_in_a_row(rt: HostRuntime) {
-    expect_all(&rt, rt.alloc());
 }

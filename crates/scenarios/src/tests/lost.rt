@@ -1,15 +1,17 @@
 //! When a node says that messages may be lost, or late: no script sees it.
 
-use super::compare;
 use exchange::Exchange;
-use settings::{LinkDraft, Settings};
+use script::{MemorySink, MemorySource, run_script};
 use std::alloc::Global;
 use std::process::Abort;
-use std::string::String;
-use stp_node::{MemorySink, MemorySource, built_in, run_script};
+use std::test::*;
+use test_nodes::boot;
 
-/// Two links to point 2 come into service. The second one takes flows over from the first, and its declaration (CBD)
-/// goes there.
+/// What differs from the built-in settings: two links lead to point 2.
+const TWO_LINKS: &str =
+    r#"link = [{ name = "e0", set = "east", slc = 0 }, { name = "e1", set = "east", slc = 1 }]"#;
+
+/// Both links come into service. The second one takes flows over from the first, and its declaration (CBD) goes there.
 const ALIGNED: &str = "\
 up e0
 frame e0 01000b020000001400ffffff00ffffff00000002
@@ -18,17 +20,6 @@ up e1
 frame e1 01000b020000001400ffffff00ffffff00000002
 frame e1 01000b020000001400ffffff00ffffff00000004
 tick 3
-";
-
-/// What is printed of it.
-const ALIGNED_PRINTS: &str = "\
-handled
-handled
-handled
-handled
-handled
-handled
-handled
 ";
 
 /// The declaration is answered by CBA (61), and a message to point 2 goes out on the second link.
@@ -41,26 +32,10 @@ submit 8502400010aa
 take e1
 ";
 
-/// What is printed of it.
-const SENT_PRINTS: &str = "\
-handled
-frame e1 01000b020000001400ffffff00ffffff00000001
-frame e1 01000b020000001400ffffff00ffffff00000002
-frame e1 01000b020000001400ffffff00ffffff00000004
-queued e1
-frame e1 01000b010000001700ffffff00000000008502400010aa
-";
-
 /// The message is held, and T4 runs out after four ticks: it goes on without the answer.
 const LATE: &str = "\
 submit 8502400010aa
 tick 3
-";
-
-/// What is printed of it.
-const LATE_PRINTS: &str = "\
-held
-handled
 ";
 
 /// Point 2 orders the second link over by XCO (31), with the number before that of the message. So the message moves.
@@ -90,105 +65,55 @@ frame e0 01000b010000001a00ffffff0000000100800180001031ffffff
 tick 6
 ";
 
-/// What is printed of three lines that are handled.
-const THREE_HANDLED: &str = "\
-handled
-handled
-handled
-";
+/// A script, a last one, and what a node says behind both: whether messages may be lost, and whether they may be late.
+/// Before the last script it says neither.
+const ROWS: [(&str, &str, (bool, bool)); 6] = [
+    (SENT, BY_NUMBER, (false, false)),
+    (SENT, WITHOUT_NUMBER, (true, false)),
+    (SENT, OVER_ALREADY, (false, false)),
+    (SENT, NO_ANSWER, (true, false)),
+    (LATE, "tick 1\n", (false, true)),
+    (SENT, "tick 1\n", (false, false)),
+];
 
-/// What is printed of five.
-const FIVE_HANDLED: &str = "\
-handled
-handled
-handled
-handled
-handled
-";
-
-/// The second link of the node.
-fn second_link<T: Abort>(rt: &T, alloc: Global) -> LinkDraft {
-    LinkDraft {
-        name: String::from_str(alloc, "e1").expect(rt, "memory"),
-        set: String::from_str(alloc, "east").expect(rt, "memory"),
-        slc: 1,
+#[test]
+fn messages_that_may_be_lost_or_late(rt: HostRuntime) -> Result<(), Fail> {
+    for (before, last, said) in ROWS {
+        expect(&rt, rt.alloc(), before, last, said)?;
     }
+    Ok(())
 }
 
-/// A node with two links to point 2, before its first event.
-fn booted_with_two<T: Abort>(rt: &T, alloc: Global) -> Exchange {
-    let mut draft = built_in(alloc).expect(rt, "memory");
-    draft
-        .links
-        .push(second_link(rt, alloc))
-        .expect(rt, "memory");
-    let settings = Settings::check(alloc, draft).expect(rt, "good settings");
-    Exchange::boot(alloc, settings).expect(rt, "memory")
-}
-
-/// Runs a script on a node, and compares what it prints.
-fn expect_run<T: Abort>(
+/// Compares what a node says.
+fn expect<T: Abort>(
     rt: &T,
     alloc: Global,
-    exchange: &mut Exchange,
-    script: &str,
-    printed: &str,
-) {
+    before: &str,
+    last: &str,
+    said: (bool, bool),
+) -> Result<(), Fail> {
+    let mut exchange = boot(alloc, TWO_LINKS)?;
+    play(alloc, &mut exchange, ALIGNED)?;
+    play(alloc, &mut exchange, before)?;
+    assert_eq!(rt; says(&exchange), (false, false), "before {last}");
+    play(alloc, &mut exchange, last)?;
+    assert_eq!(rt; says(&exchange), said, "after {last}");
+    Ok(())
+}
+
+/// What a node says.
+fn says(exchange: &Exchange) -> (bool, bool) {
+    (exchange.lost_any(), exchange.late_any())
+}
+
+/// Runs a script on a node. Each of its lines has to be done, and not refused or ignored.
+fn play(alloc: Global, exchange: &mut Exchange, script: &str) -> Result<(), Fail> {
     let mut reader = MemorySource::new(script.as_bytes());
     let mut writer = MemorySink::new(alloc);
-    let ended = run_script(exchange, &mut reader, &mut writer);
-    assert_eq!(rt; ended, Ok(()), "of {script}");
-    compare(rt, script.as_bytes(), writer.written(), printed);
-}
-
-/// Compares whether messages may be lost after this.
-fn expect_lost<T: Abort>(rt: &T, alloc: Global, script: &str, printed: &str, lost: bool) {
-    let mut exchange = booted_with_two(rt, alloc);
-    expect_run(rt, alloc, &mut exchange, ALIGNED, ALIGNED_PRINTS);
-    expect_run(rt, alloc, &mut exchange, SENT, SENT_PRINTS);
-    assert_eq!(rt; exchange.lost_any(), false, "before {script}");
-    expect_run(rt, alloc, &mut exchange, script, printed);
-    assert_eq!(rt; exchange.lost_any(), lost, "after {script}");
-    assert_eq!(rt; exchange.late_any(), false, "after {script}");
-}
-
-/// Compares whether messages may be late, before one more tick and after it.
-fn expect_late<T: Abort>(rt: &T, alloc: Global, before: &str, printed: &str, late: bool) {
-    let mut exchange = booted_with_two(rt, alloc);
-    expect_run(rt, alloc, &mut exchange, ALIGNED, ALIGNED_PRINTS);
-    expect_run(rt, alloc, &mut exchange, before, printed);
-    assert_eq!(rt; exchange.late_any(), false, "before the tick");
-    expect_run(rt, alloc, &mut exchange, "tick 1\n", "handled\n");
-    assert_eq!(rt; exchange.late_any(), late, "after {before}");
-    assert_eq!(rt; exchange.lost_any(), false, "after {before}");
-}
-
-#[test]
-fn nothing_lost_by_a_number(rt: HostRuntime) {
-    expect_lost(&rt, rt.alloc(), BY_NUMBER, "handled\n", false);
-}
-
-#[test]
-fn lost_without_a_number(rt: HostRuntime) {
-    expect_lost(&rt, rt.alloc(), WITHOUT_NUMBER, "handled\n", true);
-}
-
-#[test]
-fn nothing_lost_by_what_is_over(rt: HostRuntime) {
-    expect_lost(&rt, rt.alloc(), OVER_ALREADY, FIVE_HANDLED, false);
-}
-
-#[test]
-fn lost_without_an_answer(rt: HostRuntime) {
-    expect_lost(&rt, rt.alloc(), NO_ANSWER, THREE_HANDLED, true);
-}
-
-#[test]
-fn late_without_an_answer(rt: HostRuntime) {
-    expect_late(&rt, rt.alloc(), LATE, LATE_PRINTS, true);
-}
-
-#[test]
-fn nothing_late_by_an_answer(rt: HostRuntime) {
-    expect_late(&rt, rt.alloc(), SENT, SENT_PRINTS, false);
+    run_script(exchange, &mut reader, &mut writer)?;
+    let printed = str::from_utf8(writer.written())?;
+    if printed.contains("refused") || printed.contains("ignored") {
+        return Err(Fail::new("a line isn't done"));
+    }
+    Ok(())
 }

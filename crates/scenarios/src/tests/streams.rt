@@ -1,17 +1,25 @@
-//! Streams that give little, fail, or never end.
+//! The program where streams give little, or fail. What it does else is in the transcripts.
 
-ghost use Rattle.std.specs.Prelude.{None};
-
-use super::{POOL, run};
-use std::alloc::Global;
+use super::{compare, first_lines, run};
+use program::Status;
+use script::{MemorySink, MemorySource, ReaderSource, Sink, Source, WriterSink};
 use std::io;
 use std::process::Abort;
-use stp_node::{
-    MemorySink, MemorySource, ReadFailed, ReaderSource, ScriptFault, Source, WriterSink,
-};
+use std::test::*;
 
-/// A link comes into service, and sends its first message.
-const SCRIPT: &str = "up e0
+/// Words of the program, each behind a comma, and a script each of whose lines prints one line.
+#[derive(Clone, Copy)]
+struct Case {
+    words: &'static str,
+    script: &'static str,
+    printed: &'static str,
+}
+
+/// A link comes into service, and sends its first message: Alignment, Proving Normal and Ready go out, and the message
+/// that point 300 can't be reached (TFP).
+const OF_A_NODE: Case = Case {
+    words: ",run",
+    script: "up e0
 take e0
 frame e0 01000b020000001400ffffff00ffffff00000001
 take e0
@@ -20,10 +28,8 @@ tick 3
 take e0
 frame e0 01000b020000001400ffffff00ffffff00000004
 take e0
-";
-
-/// What that prints: Alignment, Proving Normal and Ready go out, and the message that point 300 can't be reached (TFP).
-const PRINTED: &str = "handled
+",
+    printed: "handled
 frame e0 01000b020000001400ffffff00ffffff00000001
 handled
 frame e0 01000b020000001400ffffff00ffffff00000002
@@ -32,158 +38,179 @@ handled
 frame e0 01000b020000001400ffffff00ffffff00000004
 handled
 frame e0 01000b010000001900ffffff00000000008002400000142c01
-";
+",
+};
 
-/// How many octets the first lines of the script print, and how many they have.
-const LINES: [(usize, u64); 10] = [
-    (0, 0),
-    (8, 6),
-    (58, 14),
-    (66, 64),
-    (116, 72),
-    (124, 122),
-    (132, 129),
-    (182, 137),
-    (190, 187),
-    (250, 195),
-];
+/// A link opens, and its first frame is carried.
+const OF_A_LAB: Case = Case {
+    words: ",lab,1,2",
+    script: "open e0\nmove 1 e0\nmove 1 e0\n",
+    printed: "handled\nhandled\nnone\n",
+};
 
-/// How many lines there are.
-const LINE_COUNT: u64 = 9;
+/// How a run ends: its status, and what standard error is told.
+type End = (Status, &'static str);
 
-/// How many octets they have.
-const SCRIPT_OCTETS: u64 = 195;
+const GOOD: End = (Status::Done, "");
 
-/// What the first lines of the script print.
-fn printed(lines: usize) -> &'static [u8] {
-    let (octets, _) = LINES.get(lines).copied().unwrap_or((0, 0));
-    PRINTED.as_bytes().get(..octets).unwrap_or(b"")
+const UNREAD: End = (Status::Stream, "standard input: a read failed\n");
+
+const UNWRITTEN: End = (Status::Stream, "standard output: a write failed\n");
+
+/// How many octets a read gives at most, and how many reads and writes are made before one fails.
+#[derive(Clone, Copy)]
+struct Plan {
+    most: usize,
+    reads: usize,
+    writes: usize,
 }
 
-/// What the lines print that are whole in so many octets of the script.
-fn printed_in(octets: u64) -> &'static [u8] {
-    let mut printed = 0;
-    for (count, end) in LINES {
-        if end <= octets {
-            printed = count;
+/// None fails.
+const SMOOTH: Plan = Plan {
+    most: usize::MAX,
+    reads: usize::MAX,
+    writes: usize::MAX,
+};
+
+/// How many lines end in a text.
+fn lines_in(text: &str) -> usize {
+    text.split('\n').count().saturating_sub(1)
+}
+
+/// How a run is to end. A read of one octet each fails before the script's end is found, or a write of one line each.
+fn end_of(case: Case, plan: Plan) -> End {
+    if plan.writes < lines_in(case.script) {
+        UNWRITTEN
+    } else if plan.reads <= case.script.len() {
+        UNREAD
+    } else {
+        GOOD
+    }
+}
+
+/// Runs the program on streams of such a plan, and compares how it ends. Lines are printed that were read whole.
+fn expect<T: Abort + AllocGlobal>(
+    rt: &T,
+    host: &HostRuntime,
+    case: Case,
+    plan: Plan,
+) -> Result<(), Fail> {
+    let source = MemorySource::new(case.script.as_bytes()).in_pieces_of(plan.most);
+    let mut reader = source.failing_after(plan.reads as u64);
+    let mut writer = MemorySink::new(rt.alloc()).failing_after(plan.writes as u64);
+    expect_end(rt, host, case, &mut reader, &mut writer, end_of(case, plan))?;
+    let read = case.script.get(..plan.reads).unwrap_or(case.script);
+    let printed = first_lines(case.printed, lines_in(read).min(plan.writes));
+    compare(rt, case.script, writer.written(), printed);
+    Ok(())
+}
+
+/// Runs the program on these streams, and compares how it ends.
+fn expect_end<T: Abort + AllocGlobal, R: Source, W: Sink>(
+    rt: &T,
+    host: &HostRuntime,
+    case: Case,
+    reader: &mut R,
+    writer: &mut W,
+    end: End,
+) -> Result<(), Fail> {
+    let mut errors = MemorySink::new(rt.alloc());
+    let status = run(host, case.words, reader, writer, &mut errors)?;
+    assert_eq!(rt; status, end.0, "of {}", case.words);
+    compare(rt, case.words, errors.written(), end.1);
+    Ok(())
+}
+
+#[test]
+fn pieces_of_any_size(rt: HostRuntime) -> Result<(), Fail> {
+    for most in 0..OF_A_NODE.script.len() {
+        expect(&rt, &rt, OF_A_NODE, Plan { most, ..SMOOTH })?;
+    }
+    Ok(())
+}
+
+/// Each read of a script fails in turn. One more than its octets finds the end.
+fn expect_reads<T: Abort + AllocGlobal>(
+    rt: &T,
+    host: &HostRuntime,
+    case: Case,
+) -> Result<(), Fail> {
+    for reads in 0..case.script.len() + 2 {
+        let plan = Plan { most: 1, ..SMOOTH };
+        expect(rt, host, case, Plan { reads, ..plan })?;
+    }
+    Ok(())
+}
+
+#[test]
+fn each_read_failing_in_turn(rt: HostRuntime) -> Result<(), Fail> {
+    expect_reads(&rt, &rt, OF_A_NODE)
+}
+
+#[test]
+fn each_read_of_a_lab_failing_in_turn(rt: HostRuntime) -> Result<(), Fail> {
+    expect_reads(&rt, &rt, OF_A_LAB)
+}
+
+/// Each write of a script's output fails in turn. The last case writes that of a fault.
+#[test]
+fn each_write_failing_in_turn(rt: HostRuntime) -> Result<(), Fail> {
+    let script = "up e0\nup\n";
+    for case in [
+        OF_A_NODE,
+        OF_A_LAB,
+        Case {
+            script,
+            ..OF_A_NODE
+        },
+    ] {
+        for writes in 0..lines_in(case.script) {
+            expect(&rt, &rt, case, Plan { writes, ..SMOOTH })?;
         }
     }
-    PRINTED.as_bytes().get(..printed).unwrap_or(b"")
+    Ok(())
 }
 
-/// Runs a script on a node with the built-in settings, and compares how it ends, how many reads and
-/// writes failed, and what was written.
-fn expect<T: Abort>(
-    rt: &T,
-    alloc: Global,
-    reader: &mut MemorySource<'_>,
-    writer: &mut MemorySink,
-    end: Result<(), ScriptFault>,
-    printed: &[u8],
-) {
-    let ended = run(rt, alloc, POOL, reader, writer);
-    assert_eq!(rt; ended, end);
-    expect_failures(rt, end, reader.failures(), writer.failures());
-    assert!(rt; writer.written() == printed, "other octets were written");
-}
-
-/// Compares how many reads and writes failed with how the script ended.
-fn expect_failures<T: Abort>(rt: &T, end: Result<(), ScriptFault>, reads: u64, writes: u64) {
-    assert_eq!(rt; reads, u64::from(end == Err(ScriptFault::Read)));
-    assert_eq!(rt; writes, u64::from(end == Err(ScriptFault::Write)));
-}
-
-/// Reads of so many octets.
-fn expect_pieces<T: Abort>(rt: &T, alloc: Global, most: usize) {
-    let mut reader = MemorySource::new(SCRIPT.as_bytes()).in_pieces_of(most);
-    let mut writer = MemorySink::new(alloc);
-    expect(
-        rt,
-        alloc,
-        &mut reader,
-        &mut writer,
-        Ok(()),
-        printed(LINES.len() - 1),
-    );
-}
-
+/// Nothing is printed where the one write of a run without a script fails.
 #[test]
-fn pieces_of_any_size(rt: HostRuntime) {
-    for most in 0..SCRIPT.len() {
-        expect_pieces(&rt, rt.alloc(), most);
+fn faults_that_cannot_be_told(rt: HostRuntime) -> Result<(), Fail> {
+    for words in ["", ",check,empty", ",run,empty", ",lab,2,2"] {
+        let mut reader = MemorySource::new(b"");
+        let mut writer = MemorySink::new(rt.alloc()).failing_after(0);
+        let mut errors = MemorySink::new(rt.alloc());
+        let status = run(&rt, words, &mut reader, &mut writer, &mut errors)?;
+        assert_eq!(rt; status, Status::Stream, "of {words}");
+        compare(&rt, words, writer.written(), "");
     }
+    Ok(())
 }
 
-/// A read that fails after so many others, of one octet each. One more read finds the end of the script.
-fn expect_failing_read<T: Abort>(rt: &T, alloc: Global, reads: u64) {
-    let pieces = MemorySource::new(SCRIPT.as_bytes()).in_pieces_of(1);
-    let mut reader = pieces.failing_after(reads);
-    let mut writer = MemorySink::new(alloc);
-    let end = if reads <= SCRIPT_OCTETS {
-        Err(ScriptFault::Read)
-    } else {
-        Ok(())
-    };
-    expect(rt, alloc, &mut reader, &mut writer, end, printed_in(reads));
-}
-
+/// A standard error that takes nothing changes neither the status nor what is printed.
 #[test]
-fn each_read_failing_in_turn(rt: HostRuntime) {
-    for reads in 0..=SCRIPT_OCTETS + 1 {
-        expect_failing_read(&rt, rt.alloc(), reads);
-    }
+fn errors_that_fail(rt: HostRuntime) -> Result<(), Fail> {
+    let mut reader = MemorySource::new(b"up e0\ntik 3\n");
+    let mut writer = MemorySink::new(rt.alloc());
+    let mut errors = MemorySink::new(rt.alloc()).failing_after(0);
+    let status = run(&rt, ",run", &mut reader, &mut writer, &mut errors)?;
+    assert_eq!(rt; status, Status::Line);
+    compare(&rt, "tik 3", writer.written(), "handled\nfault 2\n");
+    Ok(())
 }
 
-/// A script with a write that fails after so many others.
-fn expect_failing_write<T: Abort>(rt: &T, alloc: Global, script: &str, writes: u64) {
-    let mut reader = MemorySource::new(script.as_bytes());
-    let mut writer = MemorySink::new(alloc).failing_after(writes);
-    let end = if writes < LINE_COUNT {
-        Err(ScriptFault::Write)
-    } else {
-        Ok(())
-    };
-    expect(
-        rt,
-        alloc,
-        &mut reader,
-        &mut writer,
-        end,
-        printed(writes as usize),
-    );
-}
-
-#[test]
-fn each_write_failing_in_turn(rt: HostRuntime) {
-    for writes in 0..=LINE_COUNT {
-        expect_failing_write(&rt, rt.alloc(), SCRIPT, writes);
-    }
-}
-
-/// The write of a fault's own line fails.
-#[test]
-fn a_fault_that_cannot_be_told(rt: HostRuntime) {
-    expect_failing_write(&rt, rt.alloc(), "up e0\nup\n", 1);
-}
-
-/// A writer that takes three octets a call while it has room, and then none. It knows how many it took, and
-/// whether they are what the script prints.
+/// A writer that takes three octets a call while it has room, and then none.
 #[derive(Drop)]
 struct Narrow {
-    taken: usize,
+    taken: Vec<u8>,
     room: usize,
-    is_printed: bool,
 }
 
 impl io::Write for Narrow {
     fn write(&mut self, octets: &[u8]) -> io::Result<usize> {
         let count = octets.len().min(3).min(self.room);
-        let wanted = PRINTED.as_bytes().get(self.taken..).unwrap_or(b"");
-        if !wanted.starts_with(&octets[..count]) {
-            self.is_printed = false;
+        match self.taken.extend_from_slice(&octets[..count]) {
+            Ok(()) => self.room -= count,
+            Err(_) => return Err(io::Error::from(io::ErrorKind::OutOfMemory)),
         }
-        self.taken = self.taken.saturating_add(count);
-        self.room -= count;
         Ok(count)
     }
 
@@ -192,37 +219,29 @@ impl io::Write for Narrow {
     }
 }
 
-/// Runs the script into this writer, and compares how it ends.
-fn run_into<T: Abort>(rt: &T, alloc: Global, narrow: &mut Narrow, end: Result<(), ScriptFault>) {
-    let mut reader = ReaderSource::new(SCRIPT.as_bytes());
-    let mut writer = WriterSink::new(narrow);
-    let ended = run(rt, alloc, POOL, &mut reader, &mut writer);
-    assert_eq!(rt; ended, end);
-    expect_failures(rt, end, reader.failures(), writer.failures());
+#[test]
+fn narrow_writers(rt: HostRuntime) -> Result<(), Fail> {
+    for room in 0..OF_A_NODE.printed.len() {
+        expect_narrow(&rt, &rt, room, UNWRITTEN)?;
+    }
+    expect_narrow(&rt, &rt, OF_A_NODE.printed.len(), GOOD)
 }
 
 /// A writer with room for so many octets.
-fn expect_narrow<T: Abort>(rt: &T, alloc: Global, room: usize) {
-    let mut narrow = Narrow {
-        taken: 0,
-        room,
-        is_printed: true,
-    };
-    let end = if room < PRINTED.len() {
-        Err(ScriptFault::Write)
-    } else {
-        Ok(())
-    };
-    run_into(rt, alloc, &mut narrow, end);
-    assert!(rt; narrow.is_printed, "with room for {room} octets");
-    assert_eq!(rt; narrow.taken, room);
-}
-
-#[test]
-fn narrow_writers(rt: HostRuntime) {
-    for room in 0..=PRINTED.len() {
-        expect_narrow(&rt, rt.alloc(), room);
-    }
+fn expect_narrow<T: Abort + AllocGlobal>(
+    rt: &T,
+    host: &HostRuntime,
+    room: usize,
+    end: End,
+) -> Result<(), Fail> {
+    let taken = Vec::new(rt.alloc());
+    let mut narrow = Narrow { taken, room };
+    let mut reader = ReaderSource::new(OF_A_NODE.script.as_bytes());
+    let mut writer = WriterSink::new(&mut narrow);
+    expect_end(rt, host, OF_A_NODE, &mut reader, &mut writer, end)?;
+    let printed = OF_A_NODE.printed.get(..room).unwrap_or("");
+    compare(rt, "a narrow writer", narrow.taken.as_slice(), printed);
+    Ok(())
 }
 
 /// A reader that fails.
@@ -235,65 +254,17 @@ impl io::Read for Broken {
     }
 }
 
-/// Runs what such a reader gives.
-fn expect_broken<T: Abort>(rt: &T, alloc: Global) {
-    let mut reader = ReaderSource::new(Broken);
-    let mut writer = MemorySink::new(alloc);
-    let ended = run(rt, alloc, POOL, &mut reader, &mut writer);
-    assert_eq!(rt; ended, Err(ScriptFault::Read));
-    assert_eq!(rt; (reader.failures(), writer.written().len()), (1, 0));
-}
-
 #[test]
-fn broken_readers(rt: HostRuntime) {
-    expect_broken(&rt, rt.alloc());
-}
-
-/// Empty lines for ever, one octet a read.
-#[derive(Drop)]
-pub(super) struct Endless {
-    reads: u64,
-}
-
-impl Endless {
-    /// A script before its first read.
-    pub(super) fn new() -> Endless {
-        Endless { reads: 0 }
-    }
-
-    /// How many reads were made.
-    pub(super) fn reads(&self) -> u64 {
-        self.reads
-    }
-}
-
-impl Source for Endless {
-    ghost use Rattle.std.specs.Prelude.{None};
-
-    ghost input = { λ s. record { remaining = None; reads = s.reads; failures = 0 } };
-
-    fn read(&mut self, buffer: &mut [u8]) -> Result<usize, ReadFailed> {
-        self.reads = self.reads.saturating_add(1);
-        match buffer.first_mut() {
-            Some(octet) => {
-                *octet = b'\n';
-                Ok(1)
-            }
-            None => Ok(0),
-        }
-    }
-}
-
-/// Reads a script that has no end.
-fn expect_endless<T: Abort>(rt: &T, alloc: Global) {
-    let mut reader = Endless::new();
-    let mut writer = MemorySink::new(alloc);
-    let ended = run(rt, alloc, POOL, &mut reader, &mut writer);
-    assert_eq!(rt; ended, Err(ScriptFault::TooManyReads));
-    assert_eq!(rt; (reader.reads, writer.written().len()), (4_194_304, 0));
-}
-
-#[test]
-fn too_many_reads(rt: HostRuntime) {
-    expect_endless(&rt, rt.alloc());
+fn broken_readers(rt: HostRuntime) -> Result<(), Fail> {
+    let mut writer = MemorySink::new(rt.alloc());
+    expect_end(
+        &rt,
+        &rt,
+        OF_A_NODE,
+        &mut ReaderSource::new(Broken),
+        &mut writer,
+        UNREAD,
+    )?;
+    compare(&rt, "nothing", writer.written(), "");
+    Ok(())
 }

@@ -1,168 +1,127 @@
-//! Which set and which link the flows to a destination take.
+//! Which links flows take, and what adjacent points are told, with the most links that lead to a destination.
 
+ghost use Rattle.std.specs.Prelude.{◌≤◌, length};
+ghost use Rattle.signalling_types.specs.declared.limits.TheConstants.Limits;
+
+use super::{Part, all_right, first_wrong, number, octet, word};
 use arrayvec::ArrayVec;
+use node_links::NodeLinks;
+use route_management::{Heard, Told};
 use routes::{RouteStatus, Routes};
-use settings_rows::{DestinationRow, LinkRow};
+use settings_rows::{DestinationRow, LinkRow, SetRow};
 use signalling_types::{LinkId, PointCode, SetId, Sls};
 use std::alloc::{AllocError, Global};
 use std::test::*;
 
-/// The links e0, e1, e2 of set 0 and w0 of set 1.
-fn four_links() -> [LinkRow; 4] {
-    let east = SetId::new(0);
-    [
-        LinkRow::new("e0", east, 0),
-        LinkRow::new("e1", east, 1),
-        LinkRow::new("e2", east, 2),
-        LinkRow::new("w0", SetId::new(1), 0),
-    ]
+/// Two sets of 16 links lead to destinations 0 and 1, to 1 joined. Links, sets and destinations that aren't there
+/// change nothing, and nothing is told of them. The flows of the least and of the greatest selection take each link
+/// once, when the one that they take fails each time.
+const ROUTES: &str = "\
+rise 32; set 32 up; set 255 down; prohibit 0 2; prohibit 0 255; prohibit 2 0; prohibit 18446744073709551615 255
+reset 255; unknown 2 0; unknown 18446744073709551615 0; unknown 0 255; sets 2 0; sets 18446744073709551615 0
+fail 2 15 0; fail 18446744073709551615 15 0; sets 0 1; sets 1 2
+untold 2 0; untold 255 0; untold 1 2; untold 1 18446744073709551615; untold 255 18446744073709551615
+fail 1 0 32; sets 1 0; fail 1 15 0; rise 32; fail 1 15 32; rise 32; fail 0 0 32; sets 0 0; rise 32; fail 0 15 32
+";
+
+#[derive(Drop)]
+struct Network {
+    routes: Routes,
+    links: NodeLinks,
+    told: Told,
 }
 
-/// A destination, which both sets lead to, set 0 first, joined or not.
-fn by_both_sets(joined: bool) -> DestinationRow {
+/// A destination that both sets lead to.
+fn destination(code: u32, joined: bool) -> DestinationRow {
     let mut sets = ArrayVec::new();
     sets.push(SetId::new(0));
     sets.push(SetId::new(1));
-    DestinationRow::new(PointCode::new(2).unwrap(), sets, joined)
+    DestinationRow::new(PointCode::of_low_bits(code), sets, joined)
 }
 
-/// A node with these links, all in service, and that destination.
-fn two_sets(alloc: Global, joined: bool) -> Result<Routes, AllocError> {
-    let mut routes = Routes::new(alloc, 2, &four_links(), &[by_both_sets(joined)])?;
-    for link in 0..4u8 {
+/// The first row that doesn't hold of a node with these links.
+fn wrong_with(alloc: Global, links: &[LinkRow]) -> Result<&'static str, AllocError>
+    requires { length links.now ≤ Limits.LINKS }
+{
+    let sets = [
+        SetRow::new("east", PointCode::of_low_bits(2)),
+        SetRow::new("west", PointCode::of_low_bits(3)),
+    ];
+    let destinations = [destination(300, false), destination(301, true)];
+    let mut network = Network {
+        routes: Routes::new(alloc, 2, links, &destinations)?,
+        links: NodeLinks::new(alloc, 2, links, &destinations)?,
+        told: Told::new(alloc, &sets, &destinations)?,
+    };
+    Ok(first_wrong(&mut network, ROUTES))
+}
+
+/// The same of a node with as many links as two sets may have.
+fn wrong(alloc: Global) -> Result<&'static str, AllocError> {
+    let mut links = Vec::new(alloc);
+    for code in 0..32u8 {
+        links.push(LinkRow::new("l", SetId::new(code / 16), code % 16))?;
+    }
+    if links.len() > 32 {
+        return Ok("too many links");
+    }
+    wrong_with(alloc, links.as_slice())
+}
+
+/// So many links come into service.
+fn rise(routes: &mut Routes, count: u8) {
+    for link in 0..count {
         routes.set_link(LinkId::new(link), true);
     }
-    Ok(routes)
 }
 
-/// The link that the flow of a selection takes.
-fn taken(routes: &Routes, selection: u8) -> Option<LinkId> {
-    match Sls::new(selection) {
-        Some(sls) => routes.link_of(0, sls),
-        None => None,
-    }
-}
-
-/// Whether the flows of all 16 selections take these links.
-fn take(routes: &Routes, links: &[u8; 16]) -> bool {
-    for (selection, link) in (0..16u8).zip(links) {
-        if taken(routes, selection) != Some(LinkId::new(*link)) {
-            return false;
+/// Fails the link that a flow takes, until it has none: how many failed.
+fn fail(routes: &mut Routes, destination: usize, sls: Sls) -> usize {
+    for count in 0..100usize {
+        match routes.link_of(destination, sls) {
+            Some(link) => routes.set_link(link, false),
+            None => return count,
         }
     }
-    true
+    100
 }
 
-/// Whether load is shared as links fail one by one.
-fn share(routes: &mut Routes) -> bool {
-    let all = take(routes, &[0, 1, 2, 0, 1, 2, 0, 1, 2, 0, 1, 2, 0, 1, 2, 0]);
-    routes.set_link(LinkId::new(1), false);
-    let two = take(routes, &[0, 0, 2, 0, 2, 2, 0, 0, 2, 0, 2, 2, 0, 0, 2, 0]);
-    routes.set_link(LinkId::new(2), false);
-    let one = take(routes, &[0; 16]);
-    routes.set_link(LinkId::new(0), false);
-    all && two && one && take(routes, &[3; 16])
+/// Whether nothing is told, heard or owed about a destination.
+fn is_untold(told: &mut Told, links: &NodeLinks, set: SetId, destination: usize) -> bool {
+    told.tell(set, destination, RouteStatus::Prohibited);
+    told.reset(set);
+    told.received(links, set, destination, RouteStatus::Prohibited) == Heard::Ignored
+        && told.owed(links, set, destination).is_none()
+        && !told.is_own_point(set, destination)
 }
 
-#[test]
-fn load_sharing(rt: HostRuntime) -> Result<(), Fail> {
-    assert!(rt; share(&mut two_sets(rt.alloc(), false)?));
-    Ok(())
-}
-
-/// Load sharing by two joined sets, as links fail and statuses change: by the links of both sets together.
-fn share_joined(routes: &mut Routes) -> bool {
-    let (east, west) = (SetId::new(0), SetId::new(1));
-    let all = take(routes, &[0, 1, 2, 3, 0, 1, 2, 3, 0, 1, 2, 3, 0, 1, 2, 3]);
-    routes.set_status(0, west, RouteStatus::Prohibited);
-    let first = take(routes, &[0, 1, 2, 0, 0, 1, 2, 1, 0, 1, 2, 2, 0, 1, 2, 0]);
-    routes.set_status(0, west, RouteStatus::Allowed);
-    routes.set_status(0, east, RouteStatus::Restricted);
-    let second = take(routes, &[3; 16]);
-    routes.set_status(0, west, RouteStatus::Restricted);
-    all && first && second && take(routes, &[0, 1, 2, 3, 0, 1, 2, 3, 0, 1, 2, 3, 0, 1, 2, 3])
-}
-
-#[test]
-fn joined_sets_share(rt: HostRuntime) -> Result<(), Fail> {
-    assert!(rt; share_joined(&mut two_sets(rt.alloc(), true)?));
-    Ok(())
-}
-
-/// The set that messages to a destination take, where it is one.
-fn set_of(routes: &Routes, destination: usize) -> Option<SetId> {
-    let sets = routes.sets_of(destination);
-    if sets.len() == 1 { Some(sets[0]) } else { None }
-}
-
-/// Whether the set of the destination goes by the statuses.
-fn choose(routes: &mut Routes) -> bool {
-    let (east, west) = (SetId::new(0), SetId::new(1));
-    let preferred = set_of(routes, 0) == Some(east);
-    routes.set_status(0, east, RouteStatus::Restricted);
-    let allowed = set_of(routes, 0) == Some(west);
-    routes.set_status(0, west, RouteStatus::Prohibited);
-    let restricted = set_of(routes, 0) == Some(east);
-    routes.set_status(0, east, RouteStatus::Prohibited);
-    preferred && allowed && restricted && set_of(routes, 0).is_none() && set_of(routes, 1).is_none()
+impl Part for Network {
+    fn holds(&mut self, call: &str) -> bool {
+        let (first, second) = (number(call, 1), number(call, 2));
+        let (low, high) = (octet(call, 1), octet(call, 2));
+        match word(call, 0) {
+            "set" => self
+                .routes
+                .set_link(LinkId::new(low), word(call, 2) == "up"),
+            "rise" => rise(&mut self.routes, low),
+            "reset" => self.routes.reset_statuses(SetId::new(low)),
+            "prohibit" => self
+                .routes
+                .set_status(first, SetId::new(high), RouteStatus::Prohibited),
+            "unknown" => return self.routes.status_of(first, SetId::new(high)).is_none(),
+            "sets" => return self.routes.sets_of(first).len() == second,
+            "fail" => {
+                let sls = Sls::of_low_bits(u32::from(high));
+                return fail(&mut self.routes, first, sls) == number(call, 3);
+            }
+            "untold" => return is_untold(&mut self.told, &self.links, SetId::new(low), second),
+            _ => return false,
+        }
+        true
+    }
 }
 
 #[test]
-fn allowed_then_restricted(rt: HostRuntime) -> Result<(), Fail> {
-    assert!(rt; choose(&mut two_sets(rt.alloc(), false)?));
-    Ok(())
-}
-
-/// Whether statuses are read as they were told, until those of a set are reset.
-fn tell_and_reset(routes: &mut Routes) -> bool {
-    let (east, west) = (SetId::new(0), SetId::new(1));
-    let allowed = routes.status_of(0, east) == Some(RouteStatus::Allowed);
-    routes.set_status(0, east, RouteStatus::Prohibited);
-    routes.set_status(0, west, RouteStatus::Restricted);
-    let told = routes.status_of(0, east) == Some(RouteStatus::Prohibited);
-    routes.reset_statuses(east);
-    let reset = routes.status_of(0, east) == Some(RouteStatus::Allowed);
-    let left = routes.status_of(0, west) == Some(RouteStatus::Restricted);
-    allowed && told && reset && left && routes.status_of(1, east).is_none()
-}
-
-#[test]
-fn told_then_reset(rt: HostRuntime) -> Result<(), Fail> {
-    assert!(rt; tell_and_reset(&mut two_sets(rt.alloc(), false)?));
-    Ok(())
-}
-
-/// Tells of links, sets and destinations that aren't there, and of a set that doesn't lead to the destination.
-fn tell_of_absent(routes: &mut Routes) {
-    routes.set_link(LinkId::new(4), true);
-    routes.set_link(LinkId::new(255), false);
-    routes.set_status(0, SetId::new(2), RouteStatus::Prohibited);
-    routes.set_status(0, SetId::new(255), RouteStatus::Prohibited);
-    routes.set_status(1, SetId::new(0), RouteStatus::Prohibited);
-    routes.set_status(usize::MAX, SetId::new(255), RouteStatus::Prohibited);
-    routes.reset_statuses(SetId::new(255));
-}
-
-/// Whether nothing leads to a destination that isn't there.
-fn is_absent(routes: &Routes, destination: usize) -> bool {
-    routes.sets_of(destination).is_empty()
-        && routes.routes_of(destination).is_empty()
-        && routes.link_of(destination, Sls::of_low_bits(15)).is_none()
-        && routes.status_of(destination, SetId::new(0)).is_none()
-}
-
-/// Whether what isn't there is left aside.
-fn leave_aside(routes: &mut Routes) -> bool {
-    tell_of_absent(routes);
-    is_absent(routes, 1)
-        && is_absent(routes, usize::MAX)
-        && routes.status_of(0, SetId::new(255)).is_none()
-        && set_of(routes, 0) == Some(SetId::new(0))
-        && take(routes, &[0, 1, 2, 0, 1, 2, 0, 1, 2, 0, 1, 2, 0, 1, 2, 0])
-}
-
-#[test]
-fn what_is_absent(rt: HostRuntime) -> Result<(), Fail> {
-    assert!(rt; leave_aside(&mut two_sets(rt.alloc(), false)?));
-    Ok(())
+fn the_most_links_and_none(rt: HostRuntime) -> Result<(), Fail> {
+    all_right(&rt, wrong(rt.alloc()))
 }

@@ -1,0 +1,117 @@
+//! Tries of digits, tables of translation rows, and messages that are relayed and returned by these.
+
+ghost use Rattle.std.specs.Prelude.{◌<◌, ◌↔◌, All, IsTrue};
+
+use crate::rows::{digits, word};
+use crate::said::Said;
+use sccp_relay::{Own, Relayed, TitleKey, Translations, Trie, relay, returned};
+use settings_rows::{TitleRoute, TitleRow};
+use signalling_types::{Cause, Limits, PointCode, Ssn};
+
+/// Makes the call of a row of a trie, and says the answer.
+pub fn digits_of(said: &mut Said, trie: &mut Trie, row: &str) {
+    let mut buffer = [0; 64];
+    let digits = digits(word(row, 2), &mut buffer);
+    match (word(row, 1), word(row, 3).parse()) {
+        ("longest", _) => said.show(&trie.longest(digits)),
+        ("remove", _) => said.show(&trie.remove(digits)),
+        (_, Ok(value)) if are_digits(digits) => said.show(&trie.insert(digits, value)),
+        _ => said.say("no value at digits"),
+    }
+}
+
+/// Whether each is the value of a digit, 0 to 15.
+fn are_digits(digits: &[u8]) -> bool
+    ensures { IsTrue result ↔ All (λ digit. digit < 16) digits.now }
+{
+    digits.iter().all(|digit| *digit < 16)
+}
+
+/// Makes the call of a row of a table, and says the answer.
+pub fn titles(said: &mut Said, table: &mut Translations, row: &str) {
+    let mut buffer = [0; 64];
+    let digits = digits(word(row, 5), &mut buffer);
+    match (word(row, 1), key(row)) {
+        ("entry", _) => {
+            let place = word(row, 2).parse().unwrap_or(usize::MAX);
+            say_row(said, table.row(place).ok_or(Cause::NoSuchName));
+        }
+        ("fill", Some(key)) => fill(said, table, key),
+        ("add", Some(key)) => match new_row(key, digits, word(row, 6), word(row, 7)) {
+            Some(row) => said.show(&table.add(row)),
+            None => said.say("no row"),
+        },
+        ("remove", Some(key)) => said.show(&table.remove(key, digits)),
+        (_, Some(key)) => say_row(said, table.translate(key, digits)),
+        _ => said.say("no key"),
+    }
+}
+
+/// The key of a row: translation type, plan and nature.
+fn key(row: &str) -> Option<TitleKey> {
+    Some(TitleKey {
+        translation: word(row, 2).parse().ok()?,
+        plan: word(row, 3).parse().ok()?,
+        nature: word(row, 4).parse().ok()?,
+    })
+}
+
+/// Says a translation row, or the cause for which there is none.
+fn say_row(said: &mut Said, row: Result<TitleRow, Cause>) {
+    let row = match row {
+        Ok(row) => row,
+        Err(cause) => return said.fault(cause.number(), &cause),
+    };
+    said.name("translation", row.translation());
+    said.name("plan", row.plan());
+    said.name("nature", row.nature());
+    said.show(&row.digits());
+    said.name("point", row.point().code());
+    match row.route() {
+        TitleRoute::Title(_) => said.say("title"),
+        TitleRoute::Ssn(ssn) => said.name("ssn", ssn.number()),
+    }
+}
+
+/// A row that leads to the point of a word, routed there by the subsystem of another word, or by its title.
+fn new_row(key: TitleKey, digits: &[u8], point: &str, ssn: &str) -> Option<TitleRow> {
+    let point = PointCode::new(point.parse().ok()?)?;
+    let route = match ssn.parse() {
+        Ok(number) => TitleRoute::Ssn(Ssn::new(number)?),
+        Err(_) => TitleRoute::Title(None),
+    };
+    TitleRow::new(key.translation, key.plan, key.nature, digits, point, route)
+}
+
+/// Adds rows of all translation types and of all two digits until one is refused, and says how many were added.
+fn fill(said: &mut Said, table: &mut Translations, key: TitleKey) {
+    for number in 0..=u16::MAX {
+        let [translation, last] = number.to_be_bytes();
+        let key = TitleKey { translation, ..key };
+        match new_row(key, &[last / 16, last % 16], "1", "title") {
+            Some(row) if table.add(row).is_ok() => {}
+            _ => return said.say(number),
+        }
+    }
+}
+
+/// Relays a field at point 1, which has subsystem 8, and says what goes on, or is returned.
+pub fn relayed(said: &mut Said, table: &Translations, sif: &[u8]) {
+    let mut field = [0xee; Limits::SIF_OCTETS];
+    let own = Own {
+        point: PointCode::of_low_bits(1),
+        subsystems: &[8],
+    };
+    if sif.len() < 4 {
+        return;
+    }
+    match relay(sif, table, &own, &mut field) {
+        Relayed::Delivered => said.say("delivered"),
+        Relayed::Onward(count) => said.octets(field.get(..count).unwrap_or(&[])),
+        Relayed::Refused(cause) => {
+            said.fault(cause.number(), &cause);
+            let returned = returned(sif, cause, table, &own, &mut field);
+            said.octets(field.get(..returned.unwrap_or(0)).unwrap_or(&[]));
+        }
+    }
+}

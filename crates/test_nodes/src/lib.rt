@@ -1,0 +1,12 @@
+//! What test programs share: nodes, and random numbers.
+#![tactic(auto)]
+
+pub mod dice;
+pub mod linked;
+pub mod node;
+pub mod settings_text;
+
+pub use dice::Dice;
+pub use linked::{LinkedNodes, settings_to};
+pub use node::{Node, boot};
+pub use settings_text::settings_of;

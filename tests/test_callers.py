@@ -1,0 +1,91 @@
+"""Two nodes with consoles, and the callers of these."""
+
+import socket
+
+from harness import MALFORMED, NodeTest
+from traffic import FAR, Pair
+
+MESSAGES = 64
+MOST_CALLERS = 16
+LINE_OCTETS = 8300
+QUESTIONS = 6000
+HELP_LINES = 16
+ROUTE = f"route {FAR} to-{FAR} allowed"
+
+
+class Callers(NodeTest):
+    def setUp(self) -> None:
+        super().setUp()
+        self.pair = Pair(self)
+        self.near, self.far = self.pair.near, self.pair.far
+
+    def test_what_there_is(self) -> None:
+        shown = self.near.ask("show links")
+        self.assertEqual(len(shown), 3)
+        for number, line in enumerate(shown):
+            self.assertRegex(line, rf"^link e{number} InService waiting 0 fsn \d+ bsn \d+$")
+        self.assertEqual(self.near.ask("show routes"), [ROUTE])
+        self.assertEqual(len(self.near.ask("show counters")), 3 * 36)
+        self.assertEqual(len(self.near.ask("help")), HELP_LINES)
+        self.assertEqual(self.near.ask("# nothing\n"), [])
+        caller = self.near.call()
+        caller.write("up e0\n")
+        self.assertEqual(caller.read_line(), MALFORMED, "the network isn't a caller's")
+
+    def test_messages_are_told(self) -> None:
+        listener, submitter = self.near.call(), self.far.call()
+        self.assertEqual(listener.ask("users"), ["handled"])
+        self.assertEqual(submitter.ask("submit 8501800010010010"), ["queued e1"])
+        self.assertEqual(listener.read_line(), "local e1 8501800010010010")
+
+    def test_notices_and_frames_are_told(self) -> None:
+        watcher, frames = self.near.call(), self.near.call()
+        self.assertEqual(watcher.ask("watch"), ["handled"])
+        self.assertEqual(frames.ask("watch frames"), ["handled"])
+        self.assertEqual(self.near.ask("deactivate e1"), ["handled"])
+        self.assertEqual(watcher.read_line(), "failed e1 operator")
+        self.assertRegex(frames.read_line(), r"^e[02] out fsn \d+ bsn \d+ opc 1 dpc 2 sls 1 si 0 31[0-9a-f]{6}$")
+        self.assertEqual(self.near.ask("activate e1"), ["handled"])
+        self.pair.await_service()
+        self.pair.exchange(MESSAGES)
+
+    def test_one_too_many(self) -> None:
+        callers = [*self.near.callers, *(self.near.call() for _ in range(MOST_CALLERS - len(self.near.callers)))]
+        last = self.near.call()
+        self.assertEqual(last.read_line(), "no place: 16 callers are connected")
+        self.assertTrue(last.sees_end())
+        for caller in callers:
+            self.assertEqual(caller.ask("show routes"), [ROUTE])
+        callers[-1].close()
+        self.near.await_log("caller .* gone$")
+        self.assertEqual(self.near.call().ask("show routes"), [ROUTE])
+
+    def test_the_longest_line(self) -> None:
+        first, second = self.near.call(), self.near.call()
+        first.write("x" * LINE_OCTETS + "\n")
+        self.assertEqual(first.read_line(), MALFORMED)
+        second.write("x" * (LINE_OCTETS + 1))
+        self.assertTrue(second.sees_end())
+        self.assertEqual(first.ask("show routes"), [ROUTE])
+
+    def test_a_caller_that_never_reads(self) -> None:
+        # What its sockets hold is less than the answers, which are some 7 MB.
+        deaf = self.near.call(receive_octets=4096)
+        deaf.write("help\n" * QUESTIONS)
+        self.assertEqual(self.near.ask("show routes"), [ROUTE])
+        self.pair.exchange(MESSAGES)
+        answers = deaf.read_lines(HELP_LINES * QUESTIONS)
+        self.assertEqual(answers, answers[:HELP_LINES] * QUESTIONS)
+
+    def test_the_end_of_what_a_caller_writes(self) -> None:
+        caller = self.near.call()
+        caller.write("users\r\nshow routes\r\nshow ro")
+        caller.socket.shutdown(socket.SHUT_WR)
+        self.assertEqual(caller.read_lines(2), ["handled", ROUTE])
+        self.assertTrue(caller.sees_end(), "the beginning of a line does nothing")
+
+    def test_stop(self) -> None:
+        self.near.stop()
+        for number in range(3):
+            self.far.await_log(f"notice failed e{number} association$")
+        self.assertEqual([state for state, _ in self.far.links().values()], ["Down"] * 3)

@@ -1,0 +1,62 @@
+"""Nodes that end and come back, and nodes that are paused."""
+
+import signal
+import time
+
+from harness import Node, NodeTest, wait_until
+from traffic import Flowing, Pair
+
+MESSAGES = 200
+
+# In ticks of 50 ms: a changeover ends soon where no link is left, as nobody answers it.
+SOON = {"t1": 4, "t2": 6}
+
+# L7 of a node that is paused, in ticks, and the pause in seconds, which is longer. Behind a pause ticks pass at most
+# twice as fast.
+L7_TICKS, PAUSE_SECONDS = 60, 4
+
+
+class Restarts(NodeTest):
+    def test_the_node_that_connects(self) -> None:
+        pair = Pair(self, **SOON)
+        self.end_and_start(pair, pair.far, pair.near)
+
+    def test_the_node_that_listens(self) -> None:
+        pair = Pair(self, **SOON)
+        self.end_and_start(pair, pair.near, pair.far)
+
+    def end_and_start(self, pair: Pair, ended: Node, other: Node) -> None:
+        """A program is killed; once it runs again, the links come back by themselves, and carry messages."""
+        pair.exchange(MESSAGES)
+        ended.kill()
+        for name in pair.names:
+            other.await_log(f"notice failed {name} association$")
+        wait_until(lambda: all(state == "Down" for state, _ in other.links().values()), "the links are down")
+        ended.start()
+        pair.await_service()
+        self.assertEqual(other.logged("open e"), 6)
+        self.assertEqual(other.logged("notice failed"), 3)
+        pair.begin_anew()
+        pair.exchange(MESSAGES)
+
+
+class Pauses(NodeTest):
+    def test_a_pause_fails_no_link(self) -> None:
+        """What came while a node was stopped is handed in before the ticks of that time."""
+        pair = Pair(self, l7=L7_TICKS)
+        for node, flowing in ((pair.near, pair.forth), (pair.far, pair.back)):
+            pair.await_service()
+            self.pause(node, flowing)
+        pair.exchange(MESSAGES)
+        self.assertEqual(pair.near.logged("notice"), 0)
+        self.assertEqual(pair.far.logged("notice"), 0)
+
+    def pause(self, node: Node, flowing: Flowing) -> None:
+        """The confirmations of its last messages come while it is stopped, and so do further messages."""
+        flowing.submit(MESSAGES)
+        node.signal(signal.SIGSTOP)
+        time.sleep(PAUSE_SECONDS)
+        wanted = flowing.write(5)
+        node.signal(signal.SIGCONT)
+        flowing.take_answers(wanted)
+        flowing.settle()

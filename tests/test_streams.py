@@ -1,0 +1,65 @@
+"""Sockets that fill, and streams that fail."""
+
+import os
+import signal
+
+from harness import NodeTest, run
+from traffic import Pair
+
+MESSAGES = 200
+
+# A message of the longest kind, and as many as may be unconfirmed on a link: more octets than a socket takes.
+LONGEST_OCTETS, MANY, BURST = 272, 16_000, 1000
+
+
+class FullSocket(NodeTest):
+    LIMIT = 200
+
+    def test_a_node_that_does_not_read(self) -> None:
+        """The socket takes a part of the messages, and the rest once the other node goes on."""
+        pair = Pair(self, links=1, window=16_384, pool=65_535, octets=LONGEST_OCTETS)
+        pair.far.signal(signal.SIGSTOP)
+        before, sent, written = pair.near.counters()["e0"]["frames_out"], 0, 0
+        while written == sent < MANY:
+            pair.forth.submit(BURST, flows=1)
+            sent += BURST
+            written = pair.near.counters()["e0"]["frames_out"] - before
+        self.assertLess(written, sent)
+        self.assertEqual(pair.near.links()["e0"], ("InService", sent))
+        pair.far.signal(signal.SIGCONT)
+        pair.forth.settle()
+        pair.await_service()
+        self.assertEqual(pair.far.counters()["e0"]["delivered"], sent)
+
+
+class FailingStreams(NodeTest):
+    def setUp(self) -> None:
+        """Three ways in which a standard output fails: it is full, nobody reads it, and it is closed."""
+        super().setUp()
+        reader, broken = os.pipe()
+        os.close(reader)
+        full = os.open("/dev/full", os.O_WRONLY)
+        self.addCleanup(os.close, broken)
+        self.addCleanup(os.close, full)
+        self.ways = [{"stdout": full}, {"stdout": broken}, {"preexec_fn": lambda: os.close(1)}]
+
+    def test_a_log_that_fails(self) -> None:
+        """The node goes on without it."""
+        for way in self.ways:
+            Pair(self, near_streams=way).exchange(MESSAGES)
+
+    def test_an_output_that_fails(self) -> None:
+        for way in self.ways:
+            ended = run("run", folder=self.folder, text="show links\n", **way)
+            self.assertEqual((ended.returncode, ended.stderr), (4, "standard output: a write failed\n"), way)
+
+    def test_an_input_that_fails(self) -> None:
+        folder = os.open("/", os.O_RDONLY)
+        self.addCleanup(os.close, folder)
+        ended = run("run", folder=self.folder, text=None, stdin=folder)
+        self.assertEqual((ended.returncode, ended.stdout), (4, ""))
+        self.assertEqual(ended.stderr, "standard input: a read failed\n")
+
+    def test_a_standard_error_that_fails(self) -> None:
+        ended = run("nonsense", folder=self.folder, preexec_fn=lambda: os.close(2))
+        self.assertEqual((ended.returncode, ended.stdout), (1, "usage\n"))
