@@ -18,7 +18,7 @@ use std::net::SocketAddr;
 const LINE_OCTETS: usize = 64;
 
 /// Callers at once, at most.
-pub const MOST_CALLERS: usize = 16;
+const MOST_CALLERS: usize = 16;
 
 /// Callers that are taken in one round, at most.
 const ACCEPTS: usize = 16;
@@ -56,11 +56,6 @@ impl Callers {
     pub(crate) fn listen(&mut self, listener: TcpListener) {
         self.listener = Some(listener);
         self.can_accept = true;
-    }
-
-    /// The address of the console, where it has one.
-    pub(crate) fn address(&self) -> Option<SocketAddr> {
-        self.listener.as_ref()?.local_addr().ok()
     }
 
     /// Someone may have come.

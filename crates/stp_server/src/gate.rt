@@ -75,11 +75,6 @@ impl Gate {
         self.link
     }
 
-    /// The address at which it listens, where it does.
-    pub(crate) fn address(&self) -> Option<SocketAddr> {
-        self.listener.as_ref()?.local_addr().ok()
-    }
-
     /// A connection may have come.
     pub(crate) fn mark_listener(&mut self) {
         self.can_accept = self.listener.is_some();

@@ -14,7 +14,6 @@ mod noticing;
 mod server;
 mod serving;
 
-pub use callers::MOST_CALLERS;
 pub use fault::{OpenFault, ServeFailure};
 pub use naming::SocketName;
 pub use server::{FileCapture, Places, Server};

@@ -2,7 +2,6 @@
 
 mod opening;
 
-use crate::connection::Why;
 use crate::gate::Gate;
 use crate::journal::Journal;
 use crate::naming::SocketName;
@@ -11,7 +10,7 @@ use exchange::{Event, Exchange, Wants};
 use mio::{Events, Poll};
 use script::Sink;
 use serve_settings::Endpoint;
-use served_link::{Counters, Watch};
+use served_link::Watch;
 use settings::{FailureReason, LinkId, Outcome};
 use std::alloc::Global;
 use std::fs::File;
@@ -71,21 +70,6 @@ impl Server {
         &self.node.exchange
     }
 
-    /// The counters of the links.
-    pub fn counters(&self) -> &Counters {
-        &self.node.audience.counters
-    }
-
-    /// The address at which a link listens, where it does.
-    pub fn link_address(&self, link: LinkId) -> Option<SocketAddr> {
-        self.gates.get(link.index())?.address()
-    }
-
-    /// The address of the console, where there is one.
-    pub fn console_address(&self) -> Option<SocketAddr> {
-        self.node.audience.callers.address()
-    }
-
     /// Whether a caller asked the node to stop.
     pub fn is_stopping(&self) -> bool {
         self.is_stopping
@@ -119,15 +103,6 @@ impl Server {
             gate.mark_listener();
         }
         self.node.audience.callers.mark_console();
-    }
-
-    /// Closes the connection of a link, so that the node loses the association. The log gives `node` as the reason.
-    pub fn cut<W: Sink>(&mut self, link: LinkId, now: Duration, log: &mut W) {
-        let mut journal = Journal::new(log, now);
-        if let Some(gate) = self.gates.get_mut(link.index()) {
-            gate.close(Why::Node, &mut self.node, &mut journal);
-        }
-        self.is_busy = true;
     }
 
     /// Waits until a socket is ready, a connection is to be tried, or `most` is over. If the last turn left something
