@@ -11,7 +11,7 @@ use mio::{Events, Poll};
 use script::Sink;
 use serve_settings::Endpoint;
 use served_link::Watch;
-use settings::{FailureReason, LinkId, Outcome};
+use settings::{FailureReason, Outcome};
 use std::alloc::Global;
 use std::fs::File;
 use std::io;
