@@ -1,41 +1,25 @@
 """What the program says of its words, its files and its scripts, and the status that it ends with."""
 
-from harness import HOST, Link, NodeTest, free_port, links_between, run, settings
+from harness import ROOT, Link, NodeTest, free_port, links_between, run, settings
 from traffic import FAR, NEAR
 
-# Each line of the lab and what it prints. The link opens, aligns and carries a message, which is confirmed; then one
-# end loses it, and the other doesn't know.
-LAB = """\
-open e0: handled
-move 1 e0: handled
-move 2 e0: handled
-move 1 e0: handled
-move 2 e0: handled
-tick 1 3: handled
-tick 2 3: handled
-move 1 e0: handled
-move 2 e0: handled
-submit 1 8502400010aa: queued e0
-take-count 1 e0: 1
-move 1 e0: local
-move 2 e0: handled
-take-count 1 e0: 0
-move 1 e0: none
-lose 1 e0: handled
-open e0: not open
-"""
+# The first of its runs is one of a link.
+TRANSCRIPT = ROOT / "crates/transcripts/data/lab.transcript"
 
 # A change of the settings, the fault that it makes, and what is wrong there.
 FAULTS = (
-    ("version = 2", "version =", "fault 1", None),
-    ("[serve]", "[served]", "fault 2 serve", None),
+    ("version = 2", "version =", "fault 1", ""),
     ("tick_ms = 50", "tick_ms = 5", "fault 4 serve.tick_ms", "serve.tick_ms is 5, must be 10 to 10000"),
-    ("tick_ms = 50", 'tick_ms = "a"', "fault 3 serve.tick_ms", None),
-    (f'console = "{HOST}', 'console = "192.0.2.1', "fault 4 serve.console", None),
-    (f'listen = "{HOST}:', 'listen = "localhost:', "fault 4 link[0].listen", None),
-    ("listen = ", "hears = ", "fault 2 link[0].listen", None),
-    ("listen = ", f'connect = "{HOST}:1"\nlisten = ', "fault 5 link[0].connect", None),
     ("slc = 0", "slc = 16", "fault 4 link[0].slc", 'link[0] "e0": slc is 16, must be 0 to 15'),
+)
+
+# Lines whose octets no transcript holds, and what is printed of them.
+OCTETS = (
+    ("\0", "fault 1"),
+    ("\xff e0", "fault 1"),
+    ("activate\xff", "fault 1"),
+    ("activate \0", "refused 22 NoSuchName"),
+    ("activate \xff", "refused 22 NoSuchName"),
 )
 
 
@@ -62,13 +46,7 @@ class Words(NodeTest):
                 (self.folder / "node.toml").write_text(text.replace(old, new, 1))
                 ended = run("serve", "node.toml", folder=self.folder)
                 self.assertEqual((ended.returncode, ended.stdout), (2, fault + "\n"))
-                self.assertIn("node.toml: " + (sentence or ""), ended.stderr)
-
-    def test_an_address_twice(self) -> None:
-        port = free_port()
-        (self.folder / "node.toml").write_text(settings(NEAR, links_between([port, port], FAR, True)))
-        ended = run("serve", "node.toml", folder=self.folder)
-        self.assertEqual((ended.returncode, ended.stdout), (2, "fault 5 link[1].listen\n"))
+                self.assertIn("node.toml: " + sentence, ended.stderr)
 
     def test_a_script(self) -> None:
         for script, status, printed in (("show links\n", 0, ""), ("show links\ntik 3\n", 3, "fault 2\n")):
@@ -76,19 +54,25 @@ class Words(NodeTest):
             shown = "link e0 Down waiting 0 fsn 16777215 bsn 16777215\n"
             self.assertEqual((ended.returncode, ended.stdout), (status, shown + printed))
 
+    def test_octets_that_are_no_text(self) -> None:
+        for line, printed in OCTETS:
+            with self.subTest(line):
+                ended = run("run", folder=self.folder, text=line + "\n", encoding="latin-1")
+                self.assertEqual(ended.stdout, printed + "\n")
 
-class Labs(NodeTest):
-    def lab(self, script: str, far_link: str = "e0"):
-        for name, own, other, link in (("near.toml", NEAR, FAR, "e0"), ("far.toml", FAR, NEAR, far_link)):
-            (self.folder / name).write_text(settings(own, [Link(link, other, 0, 1, True)]))
-        return run("lab", "near.toml", "far.toml", folder=self.folder, text=script)
+    def test_hostile_words(self) -> None:
+        for name, why in (("a\nb", "there is no such file"), ("a" * 100_000, "a read of it failed")):
+            ended = run("check", name, folder=self.folder)
+            self.assertEqual((ended.returncode, ended.stdout, ended.stderr), (4, "", f"{name}: {why}\n"))
+        self.assertEqual(run("run" * 40_000, folder=self.folder).returncode, 1)
 
-    def test_a_link_over_a_connection(self) -> None:
-        lines, printed = zip(*(line.split(": ") for line in LAB.splitlines()))
-        ended = self.lab("\n".join(lines) + "\n")
+    def test_a_lab_over_a_connection(self) -> None:
+        """A link opens, aligns and carries a message, as in the transcript, whose links are streams in memory."""
+        for name, own, other in (("near.toml", NEAR, FAR), ("far.toml", FAR, NEAR)):
+            (self.folder / name).write_text(settings(own, [Link("e0", other, 0, 1, True)]))
+        lines = TRANSCRIPT.read_text().split("\n\n")[1].splitlines()[2:]
+        script = "".join(line[2:] + "\n" for line in lines if line.startswith("> "))
+        ended = run("lab", "near.toml", "far.toml", folder=self.folder, text=script)
         self.assertEqual((ended.returncode, ended.stderr), (0, ""))
-        self.assertEqual(ended.stdout.splitlines(), list(printed))
-
-    def test_nodes_that_do_not_face(self) -> None:
-        ended = self.lab("", far_link="e1")
-        self.assertEqual((ended.returncode, ended.stdout), (2, "fault NotFacing\n"))
+        self.assertEqual(ended.stdout.splitlines(), [line for line in lines if not line.startswith("> ")])
+        self.assertEqual(len(ended.stdout.splitlines()), 17)
