@@ -105,6 +105,11 @@ impl Server {
         self.node.audience.callers.mark_console();
     }
 
+    /// Closes its sockets. Only this drops a server: its parts are many, and so are the states of a body that drops them.
+    pub fn close(self) {
+        drop(self);
+    }
+
     /// Waits until a socket is ready, a connection is to be tried, or `most` is over. If the last turn left something
     /// to do, it doesn't wait.
     pub fn wait(&mut self, now: Duration, most: Duration) -> io::Result<()> {

@@ -23,7 +23,11 @@ pub fn serve<W: Sink>(
 ) -> Result<(), ServeFailure> {
     tell_start(&settings, serve, log);
     match Server::open(rt, rt.alloc(), settings, places_of(serve), log) {
-        Ok(mut server) => serve_opened(rt, &mut server, serve, log),
+        Ok(mut server) => {
+            let served = serve_opened(rt, &mut server, serve, log);
+            server.close();
+            served
+        }
         Err(fault) => Err(ServeFailure::Open(fault)),
     }
 }
