@@ -27,9 +27,24 @@ impl Server {
     ) -> Result<Server, OpenFault> {
         let mut journal = Journal::new(log, Duration::ZERO);
         let mut server = Server::boot(net, alloc, settings, places.points)?;
-        server.add_gates(net, places.links, &mut journal)?;
-        server.add_console(net, places.console, &mut journal)?;
-        Ok(server)
+        match server.add_listeners(net, places, &mut journal) {
+            Ok(()) => Ok(server),
+            Err(fault) => {
+                server.close();
+                Err(fault)
+            }
+        }
+    }
+
+    /// Adds the gates of all links, and the console.
+    fn add_listeners<N: Net, W: Sink>(
+        &mut self,
+        net: &N,
+        places: Places<'_>,
+        journal: &mut Journal<'_, W>,
+    ) -> Result<(), OpenFault> {
+        self.add_gates(net, places.links, journal)?;
+        self.add_console(net, places.console, journal)
     }
 
     /// A server of a node with these settings that has no gates, and no console.
