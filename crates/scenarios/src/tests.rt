@@ -15,21 +15,16 @@ use lab::MemoryJoiner;
 use program::{FileFault, Folder, Status, Unread, run_program};
 use script::{Sink, Source};
 use std::alloc::{AllocError, Global};
-use std::process::Abort;
 use std::test::*;
+use test_nodes::settings_text::with_built_in;
 
-/// The settings of point OWN, whose one link leads to point OTHER.
-const SETTINGS: &str = r#"version = 1
-own = OWN
-network = 2
-window = 128
-pool = 1000
-users = [5]
-subsystems = [8]
-timers = { l1 = 10, l2 = 10, l3 = 10, l4 = 3, l6 = 20, l7 = 5, t1 = 4, t2 = 6, t3 = 4, t4 = 4, t6 = 4, t8 = 3, t10 = 8 }
-set = [{ name = "east", adjacent = OTHER }]
-link = [{ name = "e0", set = "east", slc = 0 }]
-destination = [{ point = OTHER, sets = ["east"] }]
+/// What is other than built in, point 1, where it leads to point 2 alone.
+const NEAR: &str = r#"destination = [{ point = 2, sets = ["east"] }]"#;
+
+/// The same, at point 2.
+const FAR: &str = r#"own = 2
+set = [{ name = "east", adjacent = 1 }]
+destination = [{ point = 1, sets = ["east"] }]
 "#;
 
 /// The settings files of two points that face each other, `1` and `2`, and an empty file.
@@ -40,20 +35,17 @@ impl Folder for Files {
     ghost reads = { λ _ _ _. Unit {0} };
 
     fn read(&self, alloc: Global, name: &str) -> Result<Vec<u8>, FileFault> {
-        let octets = match name {
-            "1" => settings_file(alloc, "1", "2"),
-            "2" => settings_file(alloc, "2", "1"),
-            "empty" => Ok(Vec::new(alloc)),
+        let text = match name {
+            "1" => with_built_in(alloc, NEAR),
+            "2" => with_built_in(alloc, FAR),
+            "empty" => Ok(String::new(alloc)),
             _ => return Err(FileFault::Unread(Unread::Missing)),
         };
-        octets.map_err(|_| FileFault::NoMemory)
+        match text {
+            Ok(text) => Ok(text.into_bytes()),
+            Err(AllocError) => Err(FileFault::NoMemory),
+        }
     }
-}
-
-/// The settings of a point whose link leads to another.
-fn settings_file(alloc: Global, own: &str, other: &str) -> Result<Vec<u8>, AllocError> {
-    let text = SETTINGS.replace(alloc, "OWN", own)?;
-    Ok(text.replace(alloc, "OTHER", other)?.into_bytes())
 }
 
 /// Runs the program with these words, each behind a comma. The links of its lab are streams in memory.
@@ -78,15 +70,6 @@ fn run<R: Source, W: Sink, E: Sink>(
         writer,
         errors,
     ))
-}
-
-/// Compares what was written of a script or of words.
-fn compare<T: Abort>(rt: &T, of: &str, written: &[u8], wanted: &str) {
-    assert!(rt;
-        written == wanted.as_bytes(),
-        "{:?} was written of {of}",
-        str::from_utf8(written)
-    );
 }
 
 /// The first lines of a text.

@@ -25,7 +25,7 @@ pub fn settings_of(alloc: Global, text: &str) -> Result<Settings, SettingsFault>
 }
 
 /// The built-in settings of the keys that a text doesn't have, and then the text.
-fn with_built_in(alloc: Global, text: &str) -> Result<String, AllocError> {
+pub fn with_built_in(alloc: Global, text: &str) -> Result<String, AllocError> {
     let mut whole = String::new(alloc);
     for line in BUILT_IN.lines() {
         if !has_key_of(text, line) {

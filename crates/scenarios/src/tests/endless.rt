@@ -2,10 +2,9 @@
 
 ghost use Rattle.std.specs.Prelude.{None};
 
-use super::{compare, run};
+use super::run;
 use program::Status;
 use script::{MemorySink, ReadFailed, Source};
-use std::process::Abort;
 use std::test::*;
 
 /// Empty lines for ever, one octet a read.
@@ -33,27 +32,23 @@ impl Source for Endless {
 
 #[test]
 fn too_many_reads(rt: HostRuntime) -> Result<(), Fail> {
-    expect_endless(&rt, &rt, ",run")
+    assert!(&rt; gives_up(&rt, ",run")?);
+    Ok(())
 }
 
 #[test]
 fn too_many_reads_of_a_lab(rt: HostRuntime) -> Result<(), Fail> {
-    expect_endless(&rt, &rt, ",lab,1,2")
+    assert!(&rt; gives_up(&rt, ",lab,1,2")?);
+    Ok(())
 }
 
-/// Runs the program on a script that has no end.
-fn expect_endless<T: Abort + AllocGlobal>(
-    rt: &T,
-    host: &HostRuntime,
-    words: &str,
-) -> Result<(), Fail> {
+/// Whether the program gives up reading a script that has no end, and says so.
+fn gives_up(rt: &HostRuntime, words: &str) -> Result<bool, Fail> {
     let mut reader = Endless { reads: 0 };
     let mut writer = MemorySink::new(rt.alloc());
     let mut errors = MemorySink::new(rt.alloc());
-    let status = run(host, words, &mut reader, &mut writer, &mut errors)?;
-    assert_eq!(rt; status, Status::Stream, "of {words}");
-    assert_eq!(rt; (reader.reads, writer.written().len()), (4_194_304, 0));
+    let status = run(rt, words, &mut reader, &mut writer, &mut errors)?;
     let told = "standard input: its end wasn't found in 4194304 reads\n";
-    compare(rt, words, errors.written(), told);
-    Ok(())
+    let is_told = status == Status::Stream && errors.written() == told.as_bytes();
+    Ok(is_told && reader.reads == 4_194_304 && writer.written().len() == 0)
 }

@@ -4,7 +4,6 @@ ghost use Rattle.std.specs.Prelude.{◌≡◌};
 ghost use Rattle.settings.specs.Facing.{IsFacing};
 ghost use Rattle.settings.specs.Naming.{link_names};
 
-use super::compare;
 use exchange::Exchange;
 use lab::{JoinFault, Joiner, MemoryJoiner, run_lab};
 use script::{MemorySink, MemorySource, ScriptFault, Sink, Source};
@@ -12,7 +11,6 @@ use settings::Settings;
 use std::alloc::Global;
 use std::io;
 use std::io::Read;
-use std::process::Abort;
 use std::test::*;
 use test_nodes::settings_to;
 
@@ -48,27 +46,16 @@ fn run_with<J: Joiner, R: Source, W: Sink>(
     Ok(run_lab(alloc, near, &mut far, joiner, reader, writer))
 }
 
-/// What joins links by streams in memory, of which each read gives one octet.
-fn joiner(alloc: Global) -> Result<MemoryJoiner, Fail> {
-    Ok(MemoryJoiner::new(alloc)?.in_pieces_of(1))
-}
-
 /// A link that opens, of which a frame of 20 octets is carried, octet by octet; it opens again where it was lost.
 const OPENS: &str = "open e0\nmove 1 e0\nmove 1 e0\nopen e0\nmove 1 e0\n";
 
-/// Runs that, and compares what it prints, where each `/` is a line feed.
-fn expect<T: Abort, J: Joiner>(
-    rt: &T,
-    alloc: Global,
-    joiner: &mut J,
-    printed: &str,
-) -> Result<(), Fail> {
+/// Whether that prints this, where each `/` is a line feed.
+fn prints<J: Joiner>(alloc: Global, joiner: &mut J, printed: &str) -> Result<bool, Fail> {
     let mut reader = MemorySource::new(OPENS.as_bytes());
     let mut writer = MemorySink::new(alloc);
     run(alloc, joiner, &mut reader, &mut writer)??;
     let printed = printed.replace(alloc, "/", "\n")?;
-    compare(rt, OPENS, writer.written(), printed.as_str());
-    Ok(())
+    Ok(writer.written() == printed.as_bytes())
 }
 
 /// How many calls of the streams the first frame takes: the links are joined, it is written, and its octets are read.
@@ -86,28 +73,31 @@ fn printed_of(calls: u64) -> &'static str {
 #[test]
 fn each_call_of_the_streams_failing_in_turn(rt: HostRuntime) -> Result<(), Fail> {
     for calls in 0..=CALLS {
-        expect_failing_call(&rt, rt.alloc(), JoinFault::Connect, calls)?;
+        let is_printed = is_printed_behind(rt.alloc(), JoinFault::Connect, calls)?;
+        assert!(&rt; is_printed, "after {calls}");
     }
     Ok(())
 }
 
 #[test]
-fn each_fault_of_a_join(rt: HostRuntime) -> Result<(), Fail> {
-    for fault in [JoinFault::Listen, JoinFault::Connect, JoinFault::Accept] {
-        expect_failing_call(&rt, rt.alloc(), fault, 0)?;
-    }
+fn other_faults_of_a_join(rt: HostRuntime) -> Result<(), Fail> {
+    assert!(&rt;
+        is_printed_behind(rt.alloc(), JoinFault::Listen, 0)?,
+        "listen"
+    );
+    assert!(&rt;
+        is_printed_behind(rt.alloc(), JoinFault::Accept, 0)?,
+        "accept"
+    );
     Ok(())
 }
 
-/// A call of the streams that fails after so many others; where it joins them, by this fault.
-fn expect_failing_call<T: Abort>(
-    rt: &T,
-    alloc: Global,
-    fault: JoinFault,
-    calls: u64,
-) -> Result<(), Fail> {
-    let mut joiner = joiner(alloc)?.with_fault(fault).failing_after(calls);
-    expect(rt, alloc, &mut joiner, printed_of(calls))
+/// Whether it is printed where a call of streams that give an octet a read fails after so many others; where it joins
+/// them, by this fault.
+fn is_printed_behind(alloc: Global, fault: JoinFault, calls: u64) -> Result<bool, Fail> {
+    let joiner = MemoryJoiner::new(alloc)?.in_pieces_of(1);
+    let mut joiner = joiner.with_fault(fault).failing_after(calls);
+    prints(alloc, &mut joiner, printed_of(calls))
 }
 
 /// A stream that takes all that is written to it, and gives these octets and then its end.
@@ -156,7 +146,8 @@ fn streams_that_give_no_frame(rt: HostRuntime) -> Result<(), Fail> {
     for count in 0..=TOO_SHORT.len() {
         let octets = &TOO_SHORT[..count];
         let printed = "handled/lost e0/none/handled/lost e0/";
-        expect(&rt, rt.alloc(), &mut ReplayingJoiner { octets }, printed)?;
+        let mut joiner = ReplayingJoiner { octets };
+        assert!(&rt; prints(rt.alloc(), &mut joiner, printed)?, "{count} octets");
     }
     Ok(())
 }

@@ -1,31 +1,17 @@
 //! Lines with octets that stand in no transcript, and lines at the limits of their length.
 
-use super::{compare, longer, run};
+use super::{longer, run};
 use script::{MemorySink, MemorySource};
-use std::alloc::Global;
-use std::process::Abort;
 use std::test::*;
 
-/// Runs a script with the built-in settings, and compares what it prints.
-fn expect<T: Abort + AllocGlobal>(
-    rt: &T,
-    host: &HostRuntime,
-    alloc: Global,
-    script: &[u8],
-    printed: &str,
-) -> Result<(), Fail> {
+/// Whether a script prints this with the built-in settings, and ends with the status of a faulty line if one is told.
+fn prints(rt: &HostRuntime, script: &[u8], printed: &str) -> Result<bool, Fail> {
     let mut reader = MemorySource::new(script);
-    let mut writer = MemorySink::new(alloc);
-    let mut errors = MemorySink::new(alloc);
-    let status = run(host, ",run", &mut reader, &mut writer, &mut errors)?;
-    let is_fault = printed.contains("fault");
-    assert_eq!(rt;
-        status.number(),
-        if is_fault { 3 } else { 0 },
-        "of {script:?}"
-    );
-    compare(rt, "a script", writer.written(), printed);
-    Ok(())
+    let mut writer = MemorySink::new(rt.alloc());
+    let mut errors = MemorySink::new(rt.alloc());
+    let status = run(rt, ",run", &mut reader, &mut writer, &mut errors)?;
+    let number = if printed.contains("fault") { 3 } else { 0 };
+    Ok(status.number() == number && writer.written() == printed.as_bytes())
 }
 
 /// Scripts of one line that end at it, each behind a bar: a line feed alone ends a line.
@@ -34,27 +20,22 @@ const NO_LINES: &str = "|\r\n|\0\n|frame e0 00\r\n";
 #[test]
 fn octets_of_no_line(rt: HostRuntime) -> Result<(), Fail> {
     for line in NO_LINES.split('|').skip(1) {
-        expect(&rt, &rt, rt.alloc(), line.as_bytes(), "fault 1\n")?;
+        assert!(&rt; prints(&rt, line.as_bytes(), "fault 1\n")?, "{line}");
     }
     Ok(())
 }
 
 #[test]
-fn a_name_with_a_carriage_return(rt: HostRuntime) -> Result<(), Fail> {
-    expect(
-        &rt,
-        &rt,
-        rt.alloc(),
-        b"up e0\r\n",
-        "refused 22 NoSuchName\n",
-    )
-}
-
-#[test]
-fn remarks_of_any_octets(rt: HostRuntime) -> Result<(), Fail> {
-    expect(&rt, &rt, rt.alloc(), b"\n\n#\n# up e0\n#\xff\0\r\n", "")?;
+fn octets_that_do_nothing(rt: HostRuntime) -> Result<(), Fail> {
+    let refused = "refused 22 NoSuchName\n";
+    assert!(&rt; prints(&rt, b"up e0\r\n", refused)?, "a name with CR");
+    assert!(&rt; prints(&rt, b"\n\n#\n# up e0\n#\xff\0\r\n", "")?, "remarks");
     let printed = "refused 22 NoSuchName\nfault 3\n";
-    expect(&rt, &rt, rt.alloc(), b"up e9\n# \xff\nup\nup e0\n", printed)
+    assert!(&rt;
+        prints(&rt, b"up e9\n# \xff\nup\nup e0\n", printed)?,
+        "a remark is a line"
+    );
+    Ok(())
 }
 
 /// The start of a line, how often which text follows, and what it prints on a node with the built-in settings before
@@ -75,23 +56,18 @@ submit 852c410050|269|a5|refused 13 TooLong/handled/
 #[test]
 fn long_lines(rt: HostRuntime) -> Result<(), Fail> {
     for row in LONG_LINES.lines() {
-        expect_row(&rt, &rt, rt.alloc(), row)?;
+        assert!(&rt; is_printed(&rt, row)?, "{row}");
     }
     Ok(())
 }
 
-/// Runs the line of a row, and `up e0`.
-fn expect_row<T: Abort + AllocGlobal>(
-    rt: &T,
-    host: &HostRuntime,
-    alloc: Global,
-    row: &str,
-) -> Result<(), Fail> {
+/// Whether the line of a row, and `up e0` behind it, print what the row says.
+fn is_printed(rt: &HostRuntime, row: &str) -> Result<bool, Fail> {
     let mut fields = row.split('|');
     let start = fields.next().unwrap_or("");
     let times = fields.next().unwrap_or("").parse().unwrap_or(0);
-    let mut script = longer(alloc, start, times, fields.next().unwrap_or(""))?;
+    let mut script = longer(rt.alloc(), start, times, fields.next().unwrap_or(""))?;
     script.push_str("\nup e0\n")?;
-    let printed = fields.next().unwrap_or("").replace(alloc, "/", "\n")?;
-    expect(rt, host, alloc, script.as_bytes(), printed.as_str())
+    let printed = fields.next().unwrap_or("").replace(rt.alloc(), "/", "\n")?;
+    prints(rt, script.as_bytes(), printed.as_str())
 }

@@ -6,30 +6,22 @@ use console_session::{LINE_OCTETS, POINT_LINE_OCTETS, line_in_numbers, line_in_p
 use std::test::*;
 use trace::PointFormat;
 
-/// Lines, and how they are shown: a row a line, fields parted by a bar.
-const SHOWN: &str = "route 4237 west allowed|route 2-017-5 west allowed
-route 4237|route 2-017-5
-route 0 none prohibited|route 0-000-0 none prohibited
-route 9 west allowed|route 0-001-1 west allowed
-route 16383 west allowed|route 7-255-7 west allowed
-title 0 1 4 4917 4237 ssn 6|title 0 1 4 4917 2-017-5 ssn 6
-title 0 1 4 4917 4237 title -|title 0 1 4 4917 2-017-5 title -
-lost 4 NoRoute 4237 5|lost 4 NoRoute 2-017-5 5
-unsent 4 NoRoute 4237|unsent 4 NoRoute 2-017-5";
-
-/// Lines that are shown as they are, with a semicolon between them.
-const SHOWN_SO: &str = "route 16384 west allowed;route 04237 west allowed;route +5 west allowed;\
+/// Lines, and how they are shown behind a bar; those without one are shown as they are.
+const SHOWN: &str = "route 4237 west allowed|route 2-017-5 west allowed;route 4237|route 2-017-5;\
+    route 0 none prohibited|route 0-000-0 none prohibited;route 9 west allowed|route 0-001-1 west allowed;\
+    route 16383 west allowed|route 7-255-7 west allowed;title 0 1 4 4917 4237 ssn 6|title 0 1 4 4917 2-017-5 ssn 6;\
+    title 0 1 4 4917 4237 title -|title 0 1 4 4917 2-017-5 title -;lost 4 NoRoute 4237 5|lost 4 NoRoute 2-017-5 5;\
+    unsent 4 NoRoute 4237|unsent 4 NoRoute 2-017-5;\
+    route 16384 west allowed;route 04237 west allowed;route +5 west allowed;\
     route 2-017-5 west allowed;route  4237;route ;route;routes 4237;link 4237 up;title 9 9 9 9 x 9;\
     title 0 1 4 4917;lost 4 NoRoute;lost;unsent 4 NoRoute x;";
 
-/// Lines of a caller, and the lines of a script that they are.
-const READ: &str = "title add 0 1 4 4917 2-017-5 ssn 6|title add 0 1 4 4917 4237 ssn 6
-title add 0 1 4 4917 2-017-5|title add 0 1 4 4917 4237
-title add 0 1 4 4917 0-000-0 ssn 6|title add 0 1 4 4917 0 ssn 6
-title add 0 1 4 4917 7-255-7 ssn 6|title add 0 1 4 4917 16383 ssn 6";
-
-/// Lines that are read as they are.
-const READ_SO: &str = "title add 0 1 4 4917 4237 ssn 6;title add 0 1 4 4917 8-000-0 ssn 6;\
+/// Lines of a caller, and the lines of a script that they are behind a bar; those without one are read as they are.
+const READ: &str = "title add 0 1 4 4917 2-017-5 ssn 6|title add 0 1 4 4917 4237 ssn 6;\
+    title add 0 1 4 4917 2-017-5|title add 0 1 4 4917 4237;\
+    title add 0 1 4 4917 0-000-0 ssn 6|title add 0 1 4 4917 0 ssn 6;\
+    title add 0 1 4 4917 7-255-7 ssn 6|title add 0 1 4 4917 16383 ssn 6;\
+    title add 0 1 4 4917 4237 ssn 6;title add 0 1 4 4917 8-000-0 ssn 6;\
     title add 0 1 4 4917 2-256-5 ssn 6;title add 0 1 4 4917 2-017-8 ssn 6;title add 0 1 4 4917 2-17-5 ssn 6;\
     title add 2-017-5 1 4 4917 x ssn 6;title add 0 1 4 4917;title add  0 1 4 4917 2-017-5;\
     title remove 0 1 4 4917 2-017-5;title add;show routes;route 2-017-5;";
@@ -57,23 +49,17 @@ fn is_read_in_parts(line: &str, wanted: &str) -> bool {
 
 #[test]
 fn lines_that_are_shown(rt: HostRuntime) {
-    for row in SHOWN.lines() {
-        let (line, wanted) = row.split_once('|').unwrap_or((row, "a field"));
+    for row in SHOWN.split(';') {
+        let (line, wanted) = row.split_once('|').unwrap_or((row, row));
         assert!(rt; is_shown(line, wanted), "{row}");
-    }
-    for line in SHOWN_SO.split(';') {
-        assert!(rt; is_shown(line, line), "{line}");
     }
 }
 
 #[test]
 fn lines_that_are_read(rt: HostRuntime) {
-    for row in READ.lines() {
-        let (line, wanted) = row.split_once('|').unwrap_or((row, "a field"));
+    for row in READ.split(';') {
+        let (line, wanted) = row.split_once('|').unwrap_or((row, row));
         assert!(rt; is_read_in_parts(line, wanted), "{row}");
-    }
-    for line in READ_SO.split(';') {
-        assert!(rt; is_read_in_parts(line, line), "{line}");
     }
     for line in PLAIN.split(';') {
         assert!(rt; is_read(line, PointFormat::Plain, line), "{line}");

@@ -3,31 +3,29 @@
 use exchange::{Draft, Settings, TitleDraft};
 use script::built_in;
 use std::alloc::Global;
-use std::process::Abort;
 use std::test::*;
 
 #[test]
 fn settings_without_a_row(rt: HostRuntime) -> Result<(), Fail> {
     let mut draft = built_in(rt.alloc())?;
     draft.destinations.clear();
-    expect_answer(&rt, rt.alloc(), draft, "fault 4 destination")?;
+    assert_eq!(&rt; answer(rt.alloc(), draft)?.as_str(), "fault 4 destination");
     let mut draft = built_in(rt.alloc())?;
     draft.links.clear();
-    expect_answer(&rt, rt.alloc(), draft, "fault 4 link")?;
+    assert_eq!(&rt; answer(rt.alloc(), draft)?.as_str(), "fault 4 link");
     let mut draft = built_in(rt.alloc())?;
     draft.sets.clear();
-    expect_answer(&rt, rt.alloc(), draft, "fault 4 set")
+    assert_eq!(&rt; answer(rt.alloc(), draft)?.as_str(), "fault 4 set");
+    Ok(())
 }
 
 #[test]
 fn most_titles(rt: HostRuntime) -> Result<(), Fail> {
-    expect_answer(&rt, rt.alloc(), with_titles(rt.alloc(), 65_535)?, "ok")?;
-    expect_answer(
-        &rt,
-        rt.alloc(),
-        with_titles(rt.alloc(), 65_536)?,
-        "fault 7 title",
-    )
+    let most = with_titles(rt.alloc(), 65_535)?;
+    assert_eq!(&rt; answer(rt.alloc(), most)?.as_str(), "ok");
+    let more = with_titles(rt.alloc(), 65_536)?;
+    assert_eq!(&rt; answer(rt.alloc(), more)?.as_str(), "fault 7 title");
+    Ok(())
 }
 
 /// The built-in settings with so many translation rows.
@@ -52,12 +50,10 @@ fn title(alloc: Global, number: u32) -> Result<TitleDraft, Fail> {
     })
 }
 
-/// Checks settings, and compares the answer.
-fn expect_answer<T: Abort>(rt: &T, alloc: Global, draft: Draft, wanted: &str) -> Result<(), Fail> {
-    let answer = match Settings::check(alloc, draft) {
+/// What a check of settings answers.
+fn answer(alloc: Global, draft: Draft) -> Result<String, Fail> {
+    Ok(match Settings::check(alloc, draft) {
         Ok(_) => String::from_str(alloc, "ok")?,
         Err(fault) => format!(in alloc; "{fault}")?,
-    };
-    assert_eq!(rt; answer.as_str(), wanted);
-    Ok(())
+    })
 }

@@ -1,10 +1,9 @@
 //! The program where streams give little, or fail. What it does else is in the transcripts.
 
-use super::{compare, first_lines, run};
+use super::{first_lines, run};
 use program::Status;
 use script::{MemorySink, MemorySource, ReaderSource, Sink, Source, WriterSink};
 use std::io;
-use std::process::Abort;
 use std::test::*;
 
 /// Words of the program, each behind a comma, and a script each of whose lines prints one line.
@@ -88,84 +87,64 @@ fn end_of(case: Case, plan: Plan) -> End {
     }
 }
 
-/// Runs the program on streams of such a plan, and compares how it ends. Lines are printed that were read whole.
-fn expect<T: Abort + AllocGlobal>(
-    rt: &T,
-    host: &HostRuntime,
-    case: Case,
-    plan: Plan,
-) -> Result<(), Fail> {
+/// Runs the program on streams of such a plan. Whether it ends so, and prints the lines that were read whole.
+fn goes(rt: &HostRuntime, case: Case, plan: Plan) -> Result<bool, Fail> {
     let source = MemorySource::new(case.script.as_bytes()).in_pieces_of(plan.most);
     let mut reader = source.failing_after(plan.reads as u64);
     let mut writer = MemorySink::new(rt.alloc()).failing_after(plan.writes as u64);
-    expect_end(rt, host, case, &mut reader, &mut writer, end_of(case, plan))?;
+    let ends = ends(rt, case.words, &mut reader, &mut writer, end_of(case, plan))?;
     let read = case.script.get(..plan.reads).unwrap_or(case.script);
     let printed = first_lines(case.printed, lines_in(read).min(plan.writes));
-    compare(rt, case.script, writer.written(), printed);
-    Ok(())
+    Ok(ends && writer.written() == printed.as_bytes())
 }
 
-/// Runs the program on these streams, and compares how it ends.
-fn expect_end<T: Abort + AllocGlobal, R: Source, W: Sink>(
-    rt: &T,
-    host: &HostRuntime,
-    case: Case,
+/// Runs the program on these streams. Whether it ends so.
+fn ends<R: Source, W: Sink>(
+    rt: &HostRuntime,
+    words: &str,
     reader: &mut R,
     writer: &mut W,
     end: End,
-) -> Result<(), Fail> {
+) -> Result<bool, Fail> {
     let mut errors = MemorySink::new(rt.alloc());
-    let status = run(host, case.words, reader, writer, &mut errors)?;
-    assert_eq!(rt; status, end.0, "of {}", case.words);
-    compare(rt, case.words, errors.written(), end.1);
-    Ok(())
+    let status = run(rt, words, reader, writer, &mut errors)?;
+    Ok(status == end.0 && errors.written() == end.1.as_bytes())
 }
 
 #[test]
 fn pieces_of_any_size(rt: HostRuntime) -> Result<(), Fail> {
     for most in 0..OF_A_NODE.script.len() {
-        expect(&rt, &rt, OF_A_NODE, Plan { most, ..SMOOTH })?;
+        let plan = Plan { most, ..SMOOTH };
+        assert!(&rt; goes(&rt, OF_A_NODE, plan)?, "pieces of {most}");
     }
     Ok(())
 }
 
 /// Each read of a script fails in turn. One more than its octets finds the end.
-fn expect_reads<T: Abort + AllocGlobal>(
-    rt: &T,
-    host: &HostRuntime,
-    case: Case,
-) -> Result<(), Fail> {
-    for reads in 0..case.script.len() + 2 {
-        let plan = Plan { most: 1, ..SMOOTH };
-        expect(rt, host, case, Plan { reads, ..plan })?;
-    }
-    Ok(())
-}
-
 #[test]
 fn each_read_failing_in_turn(rt: HostRuntime) -> Result<(), Fail> {
-    expect_reads(&rt, &rt, OF_A_NODE)
-}
-
-#[test]
-fn each_read_of_a_lab_failing_in_turn(rt: HostRuntime) -> Result<(), Fail> {
-    expect_reads(&rt, &rt, OF_A_LAB)
+    for case in [OF_A_NODE, OF_A_LAB] {
+        for reads in 0..case.script.len() + 2 {
+            let plan = Plan { most: 1, ..SMOOTH };
+            let plan = Plan { reads, ..plan };
+            assert!(&rt; goes(&rt, case, plan)?, "read {reads} of {}", case.words);
+        }
+    }
+    Ok(())
 }
 
 /// Each write of a script's output fails in turn. The last case writes that of a fault.
 #[test]
 fn each_write_failing_in_turn(rt: HostRuntime) -> Result<(), Fail> {
     let script = "up e0\nup\n";
-    for case in [
-        OF_A_NODE,
-        OF_A_LAB,
-        Case {
-            script,
-            ..OF_A_NODE
-        },
-    ] {
+    let faulty = Case {
+        script,
+        ..OF_A_NODE
+    };
+    for case in [OF_A_NODE, OF_A_LAB, faulty] {
         for writes in 0..lines_in(case.script) {
-            expect(&rt, &rt, case, Plan { writes, ..SMOOTH })?;
+            let plan = Plan { writes, ..SMOOTH };
+            assert!(&rt; goes(&rt, case, plan)?, "write {writes} of {}", case.script);
         }
     }
     Ok(())
@@ -179,8 +158,8 @@ fn faults_that_cannot_be_told(rt: HostRuntime) -> Result<(), Fail> {
         let mut writer = MemorySink::new(rt.alloc()).failing_after(0);
         let mut errors = MemorySink::new(rt.alloc());
         let status = run(&rt, words, &mut reader, &mut writer, &mut errors)?;
-        assert_eq!(rt; status, Status::Stream, "of {words}");
-        compare(&rt, words, writer.written(), "");
+        assert_eq!(&rt; status, Status::Stream, "of {words}");
+        assert_eq!(&rt; writer.written().len(), 0, "of {words}");
     }
     Ok(())
 }
@@ -192,8 +171,11 @@ fn errors_that_fail(rt: HostRuntime) -> Result<(), Fail> {
     let mut writer = MemorySink::new(rt.alloc());
     let mut errors = MemorySink::new(rt.alloc()).failing_after(0);
     let status = run(&rt, ",run", &mut reader, &mut writer, &mut errors)?;
-    assert_eq!(rt; status, Status::Line);
-    compare(&rt, "tik 3", writer.written(), "handled\nfault 2\n");
+    assert_eq!(&rt; status, Status::Line);
+    assert!(&rt;
+        writer.written() == "handled\nfault 2\n".as_bytes(),
+        "tik 3"
+    );
     Ok(())
 }
 
@@ -221,27 +203,23 @@ impl io::Write for Narrow {
 
 #[test]
 fn narrow_writers(rt: HostRuntime) -> Result<(), Fail> {
-    for room in 0..OF_A_NODE.printed.len() {
-        expect_narrow(&rt, &rt, room, UNWRITTEN)?;
+    for room in 0..=OF_A_NODE.printed.len() {
+        assert!(&rt; is_filled(&rt, room)?, "room for {room}");
     }
-    expect_narrow(&rt, &rt, OF_A_NODE.printed.len(), GOOD)
+    Ok(())
 }
 
-/// A writer with room for so many octets.
-fn expect_narrow<T: Abort + AllocGlobal>(
-    rt: &T,
-    host: &HostRuntime,
-    room: usize,
-    end: End,
-) -> Result<(), Fail> {
+/// Whether a writer with room for so many octets is filled by the first ones, and a lack of room is told.
+fn is_filled(rt: &HostRuntime, room: usize) -> Result<bool, Fail> {
+    let printed = OF_A_NODE.printed.get(..room).unwrap_or("");
+    let is_whole = room == OF_A_NODE.printed.len();
     let taken = Vec::new(rt.alloc());
     let mut narrow = Narrow { taken, room };
     let mut reader = ReaderSource::new(OF_A_NODE.script.as_bytes());
     let mut writer = WriterSink::new(&mut narrow);
-    expect_end(rt, host, OF_A_NODE, &mut reader, &mut writer, end)?;
-    let printed = OF_A_NODE.printed.get(..room).unwrap_or("");
-    compare(rt, "a narrow writer", narrow.taken.as_slice(), printed);
-    Ok(())
+    let end = if is_whole { GOOD } else { UNWRITTEN };
+    let ends = ends(rt, OF_A_NODE.words, &mut reader, &mut writer, end)?;
+    Ok(ends && narrow.taken.as_slice() == printed.as_bytes())
 }
 
 /// A reader that fails.
@@ -256,15 +234,9 @@ impl io::Read for Broken {
 
 #[test]
 fn broken_readers(rt: HostRuntime) -> Result<(), Fail> {
+    let mut reader = ReaderSource::new(Broken);
     let mut writer = MemorySink::new(rt.alloc());
-    expect_end(
-        &rt,
-        &rt,
-        OF_A_NODE,
-        &mut ReaderSource::new(Broken),
-        &mut writer,
-        UNREAD,
-    )?;
-    compare(&rt, "nothing", writer.written(), "");
+    assert!(&rt; ends(&rt, ",run", &mut reader, &mut writer, UNREAD)?);
+    assert_eq!(&rt; writer.written().len(), 0);
     Ok(())
 }
