@@ -1,5 +1,5 @@
 -- A lab script that ended for want of memory, or otherwise, and how the program ends after it.
-use Rattle.std.proofs.Common.{◌≡◌, ◌≢◌, ◌⊎◌, ℕ, List, Result, Ok, Err, Some, refl, inl, inr}
+use Rattle.std.proofs.Common.{◌≡◌, ◌≢◌, ◌⊎◌, ℕ, List, Result, Ok, Err, Some, refl, subst, inl, inr}
 use Rattle.std.specs.Prelude.{OnOk, String}
 use Rattle.std.specs.Global.{Global}
 use Rattle.std.specs.Io.KnownBytes.{IsAtEnd}
@@ -10,7 +10,7 @@ use Rattle.lab.specs.Script.{LeavesAll}
 use Rattle.program.specs.Explaining.{IsLabEndExplained}
 use Rattle.script.specs.Faults.{Counts}
 use Rattle.program.specs.Folders.{FileRead}
-use Rattle.program.specs.Program.{Streams, streams, told, status_after, EndsWith, HasNoMemory, RunsLabScript, RunsNodes, RunsLab, DoesTask, Does}
+use Rattle.program.specs.Program.{Streams, streams, told, status_after, EndsWith, EndsAtFile, HasNoMemory, RunsLabScript, RunsNodes, RunsLab, DoesTask, Does}
 use Rattle.script.specs.Streams.{Input, Output}
 use Rattle.program.specs.declared.program.Status.{Status}
 use Rattle.program.specs.declared.program.Status.TheVariants as status
@@ -74,6 +74,11 @@ pub output-kept : (near far : List ℕ) (near_settings far_settings : Configurat
     → RunsNodes near far near_settings far_settings (streams input output errors) new ended
     → RunsNodes near far near_settings far_settings (streams input old errors) new ended
 output-kept near far near_settings far_settings input output old errors new ended e ran = rw (← e) ran
+
+-- the same where the second file has no settings
+pub ends-kept : (file : List ℕ) (read : FileRead) (output old new errors errors_new : Output) (ended : Status) → output ≡ old
+    → EndsAtFile file read output new errors errors_new ended → EndsAtFile file read old new errors errors_new ended
+ends-kept file read output old new errors errors_new ended e h = subst (λ (o : Output). EndsAtFile file read o new errors errors_new ended) e h
 
 -- words that ask for a lab
 by-task : (task : Task) (near far : List ℕ) (reads : List ℕ → FileRead → Type 0) (old new : Streams) (ended : Status)
