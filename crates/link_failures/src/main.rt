@@ -1,9 +1,9 @@
 //! Two nodes whose links stop and come back, at each place of a busy exchange and at random.
 //!
-//! Two nodes (`Pair` of `pair_world`) with the built-in timers have one to four links of one set between them, and each
-//! other as the one destination. All that is done is a `Pair::turn`. A round is, for each end and each link in order, a
-//! frame that is taken and then delivered at the other end. Each message carries its flow in its label, and behind that
-//! its number in the flow: the accepted messages of a flow are numbered 1, 2, 3 and so on.
+//! Two nodes (`Pair` of `pair_world`) with the built-in timers have one to four links of one set between them, and
+//! each other as the one destination. All that is done is a `Pair::turn`. A round is, for each end and each link in
+//! order, a frame that is taken and then delivered at the other end. Each message carries its flow in its label, and
+//! behind that its number in the flow: the accepted messages of a flow are numbered 1, 2, 3 and so on.
 //!
 //! # What a line says
 //!
@@ -11,9 +11,9 @@
 //! - `all once (N)`: N messages came while neither end had set `lost_any`. None of them came twice, and each had been
 //!   accepted; in a run in which no end ever set it, all that was accepted came. If that isn't so, the line says how
 //!   many were `lost` and `doubled`.
-//! - `in order (N)`: N of these came while the end that accepted them hadn't set `late_any` either. Those of each flow
-//!   are the first that were accepted of it, in order, with none left out. If that isn't so, the line says how many
-//!   `flows` were `out of order`.
+//! - `in order (N)`: N of these came while the end that accepted them hadn't set `late_any` either. Those of each
+//!   flow are the first that were accepted of it, in order, with none left out. If that isn't so, the line says how
+//!   many `flows` were `out of order`.
 //! - `lost_any`, `late_any`: in how many runs an end set the flag.
 //! - `unended`: in how many runs a link that was to open didn't, rounds never came to rest, or not all messages came
 //!   while one of several links was down, though no end had set `lost_any`.
@@ -24,28 +24,29 @@
 //! # The groups
 //!
 //! - Stopped: all links come up, and each end submits a message on each of the 16 flows. At one of the places before,
-//!   between and after the steps of eight rounds (12 steps a round over 3 links, so 97 places; 65 over 2; 33 over 1) a
-//!   link stops, at end 1, at end 2 or at both. Rounds pass until one does nothing; by then all has come. All is
+//!   between and after the steps of eight rounds (12 steps a round over 3 links, so 97 places; 65 over 2; 33 over 1)
+//!   a link stops, at end 1, at end 2 or at both. Rounds pass until one does nothing; by then all has come. All is
 //!   submitted again, the link comes back while these messages wait on the others, all is submitted a third time, and
-//!   rounds pass. Without a tick no timer of a changeover or a changeback runs out, so no flag is set. With ticks after
-//!   each round T1 to T4 run out, at either end or at both.
-//! - Stopped again: `e1` stops at both ends at the first place and comes back. After the third submissions end 1 loses
-//!   one of the links at one of the 13 places of the next round, while flows are taken back.
+//!   rounds pass. Without a tick no timer of a changeover or a changeback runs out, so no flag is set. With ticks
+//!   after each round T1 to T4 run out, at either end or at both.
+//! - Stopped again: `e1` stops at both ends at the first place and comes back. After the third submissions end 1
+//!   loses one of the links at one of the 13 places of the next round, while flows are taken back.
 //! - An answer late: both ends lose a link. The answer to one end's order stays behind, the link opens if it may,
 //!   carries messages and is lost again, and only then the answer comes: for each end and each link, with 0 to 3
 //!   messages that come before and 1 to 4 that are lost.
-//! - By chance: 400 steps from a seed. Of 256 steps 80 submit a message, 86 take a frame, 75 deliver one, 3 lose a link
-//!   at an end, 3 let a tick pass, 1 closes a link by an operator's order and lets it open, and 8 open a link again. Then
-//!   the links come back three times, and rounds pass until nothing is left.
+//! - By chance: 400 steps from a seed. Of 256 steps 80 submit a message, 86 take a frame, 75 deliver one, 3 lose a
+//!   link at an end, 3 let a tick pass, 1 closes a link by an operator's order and lets it open, and 8 open a link
+//!   again. Then the links come back three times, and rounds pass until nothing is left.
 //!
-//! A link that fails while no other is left loses what waits for it when T1 runs out, and doesn't open before that. So
-//! in each run over one link an end sets `lost_any`: what is left to judge is that nothing comes twice or out of order.
+//! A link that fails while no other is left loses what waits for it when T1 runs out, and doesn't open before that.
+//! So in each run over one link an end sets `lost_any`: what is left to judge is that nothing comes twice or out of
+//! order.
 //!
 //! # What it has caught
 //!
 //! Six wrong bodies were put in by hand. A changeover that drops unsent messages, one that moves messages behind the
-//! held ones, a changeback declaration on the link that came back, and a returning link that holds no flow show in many
-//! lines; a link that may open while the answer to its order is awaited shows in "an answer late" alone; and an
+//! held ones, a changeback declaration on the link that came back, and a returning link that holds no flow show in
+//! many lines; a link that may open while the answer to its order is awaited shows in "an answer late" alone; and an
 //! acknowledgement that also lifts the hold of a changeover shows at random over 3 and 4 links alone.
 #![tactic(auto)]
 

@@ -105,7 +105,8 @@ impl Server {
         self.node.audience.callers.mark_console();
     }
 
-    /// Closes its sockets. Only this drops a server: its parts are many, and so are the states of a body that drops them.
+    /// Closes its sockets. Only this drops a server: its parts are many, and so are the states of a body that drops
+    /// them.
     pub fn close(self) {
         drop(self);
     }
