@@ -1,6 +1,23 @@
 -- The law of translation at two rows, by computation.
-use Rattle.std.proofs.Common.{refl}
+use Rattle.std.proofs.Common.{◌≤◌, length, refl, arith}
+use Rattle.std.specs.Prelude.{IsTrue}
+use Rattle.std.proofs.lemmas.List.Elements.{All-from_recursion}
+use Rattle.settings_rows.specs.Configuration.{TitleEntry}
+use Rattle.sccp_relay.specs.Translation.{leads}
 use Rattle.sccp_relay.specs.TitleExamples as examples
+
+pub are_ordered : examples.are_ordered
+are_ordered = ((refl, tt), (tt, tt))
+
+abbrev NoLonger : TitleEntry → Type 0
+NoLonger other = IsTrue (leads examples.key examples.digits other) → length other.digits ≤ 4
+
+pub is_translation : examples.is_translation
+is_translation = record {
+  among = (1, omega arith, refl);
+  leading = refl;
+  longest = All-from_recursion NoLonger examples.rows ((λ leads. omega arith), ((λ leads. omega arith), tt));
+}
 
 pub longest_is_found : examples.longest_is_found
 longest_is_found = refl

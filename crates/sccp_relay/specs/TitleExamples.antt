@@ -18,12 +18,16 @@ row digits = record { translation = 0; plan = 1; nature = 4; digits = digits; po
 abbrev pub rows : List TitleEntry
 rows = row (4 ∷ 9 ∷ []) ∷ row (4 ∷ 9 ∷ 1 ∷ 7 ∷ []) ∷ []
 
+-- digits that both of them begin
+abbrev pub digits : List ℕ
+digits = 4 ∷ 9 ∷ 1 ∷ 7 ∷ 5 ∷ []
+
 abbrev pub are_ordered : Type 0
 are_ordered = IsOrdered rows
 
 abbrev pub is_translation : Type 0
-is_translation = IsTranslation rows key (4 ∷ 9 ∷ 1 ∷ 7 ∷ 5 ∷ []) (row (4 ∷ 9 ∷ 1 ∷ 7 ∷ []))
+is_translation = IsTranslation rows key digits (row (4 ∷ 9 ∷ 1 ∷ 7 ∷ []))
 
 -- so it is what the table answers
 abbrev pub longest_is_found : Type 0
-longest_is_found = translation rows key (4 ∷ 9 ∷ 1 ∷ 7 ∷ 5 ∷ []) ≡ Ok (row (4 ∷ 9 ∷ 1 ∷ 7 ∷ []))
+longest_is_found = translation rows key digits ≡ Ok (row (4 ∷ 9 ∷ 1 ∷ 7 ∷ []))
