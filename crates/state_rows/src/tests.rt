@@ -1,7 +1,7 @@
 //! What the rows share.
 
 mod names;
-mod routes;
+mod network;
 mod stores;
 
 use std::alloc::AllocError;
