@@ -2,13 +2,13 @@
 
 mod absent_links;
 mod calls;
+mod drafts;
 mod endless;
 mod labs;
 mod lost;
 mod octets;
 mod pair;
 mod points;
-mod settings;
 mod streams;
 
 use lab::MemoryJoiner;
