@@ -8,7 +8,7 @@ use Rattle.pair_moves.specs.Carrying.{TakesMessage}
 use Rattle.pair_moves.specs.Failing.{CompletesByOrder, CompletesByAnswer}
 use Rattle.pair_moves.specs.Returning.{MayOpen}
 use Rattle.pair_moves.specs.Moves.{Moves, last_of}
-use Rattle.pair_moves.specs.Flowing.{IsFlowing, IsEnd, NamesReceived, WaitsRightly}
+use Rattle.pair_moves.specs.Flowing.{IsFlowing, OpensAlone, IsEnd, NamesReceived, WaitsRightly}
 use Rattle.pair_moves.specs.Laws.{OrdersAreAwaited, WordsAreTrue, CodesAreOutstanding, under_way, saying}
 use Rattle.pair_moves.specs.Once.{EachOnce}
 use Rattle.pair_moves.specs.Order.{IsInOrder}
@@ -27,9 +27,12 @@ Always Statement =
     (last_of (first_pair links) pairs).far.lost ≡ false →
     BothWays (Statement read) (last_of (first_pair links) pairs)
 
--- law (i); how the ends of a link are; and a message that comes is the first that its end lacked
+-- law (i), and what holds in place of it; how the ends of a link are; and a message that comes is the first that its end lacked
 abbrev pub lines_flow : Type 0
 lines_flow = Always (λ read p. (link : ℕ) → IsFlowing (p.line link))
+
+abbrev pub first_ends_are_alone : Type 0
+first_ends_are_alone = Always (λ read p. (link : ℕ) → OpensAlone (p.line link))
 
 abbrev pub ends_are_sound : Type 0
 ends_are_sound = Always (λ read p. (link : ℕ) → IsEnd (p.line link).near)
