@@ -6,6 +6,7 @@
 ghost use Rattle.pair_moves.specs.Theorems.{lines_flow, first_ends_are_alone, ends_are_sound};
 ghost use Rattle.pair_moves.specs.Theorems.{messages_come_in_order};
 ghost use Rattle.pair_moves.specs.Theorems.{orders_are_awaited, opens_with_nothing_under_way};
+ghost use Rattle.pair_moves.specs.Theorems.{follows_with_nothing_under_way};
 ghost use Rattle.pair_moves.specs.Theorems.{words_are_true, numbers_name_what_was_received, what_waits_is_lacked};
 ghost use Rattle.pair_moves.specs.Theorems.{orders_move_what_is_lacked, answers_move_what_is_lacked};
 ghost use Rattle.pair_moves.specs.Crossing.{Crosses};
@@ -30,10 +31,11 @@ pub fn frames_carry_what_was_not_received()
 
 /// Law (ii). Of a node's changeover orders about a link and the peer's answers about it, one
 /// message at most is under way, and only while the node awaits that answer (Q.704 §5.4). So none
-/// is when the link may open.
+/// is when the link may open at both ends, nor where an end may follow the other.
 pub fn orders_and_answers_are_awaited()
     ensures awaited { orders_are_awaited }
     ensures opening { opens_with_nothing_under_way }
+    ensures following { follows_with_nothing_under_way }
 {}
 
 /// Law (iii). An order or an answer about a link is under way only while the link is down at the
