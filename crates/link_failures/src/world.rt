@@ -148,9 +148,9 @@ impl World {
         self.act(Step::Lose(end, link))
     }
 
-    /// A link opens, where both ends want it to.
+    /// A link opens at end 1, where that wants it to and it may open at end 2, which then follows.
     pub(crate) fn open(&mut self, link: LinkId) -> bool {
-        self.act(Step::Open(link))
+        self.act(Step::OpenFirst(End::One, link)) && self.act(Step::OpenSecond(End::Two, link))
     }
 
     /// So many ticks pass at an end.

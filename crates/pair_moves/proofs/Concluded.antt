@@ -6,7 +6,7 @@ use Rattle.pair_moves.specs.Sayings.{Saying}
 use Rattle.pair_moves.specs.Ends.{Pair, turned, first_pair}
 use Rattle.pair_moves.specs.Moves.{last_of}
 use Rattle.pair_moves.specs.Order.{IsInOrder}
-use Rattle.pair_moves.specs.Theorems.{Always, lines_flow, ends_are_sound, messages_come_in_order, orders_are_awaited, opens_with_nothing_under_way}
+use Rattle.pair_moves.specs.Theorems.{Always, lines_flow, first_ends_are_alone, ends_are_sound, messages_come_in_order, orders_are_awaited, opens_with_nothing_under_way, follows_with_nothing_under_way}
 use Rattle.pair_moves.specs.Theorems.{words_are_true, numbers_name_what_was_received, what_waits_is_lacked}
 use Rattle.pair_moves.specs.Theorems.{orders_move_what_is_lacked, answers_move_what_is_lacked}
 use Rattle.pair_moves.specs.Theorems.{codes_are_outstanding, each_message_once, each_flow_in_order}
@@ -31,6 +31,9 @@ always Statement follows read links pairs moves near far =
 pub lines_flow-always : lines_flow
 lines_flow-always = always _ (λ read p h link. (h.sound.lines link).there)
 
+pub first_ends_are_alone-always : first_ends_are_alone
+first_ends_are_alone-always = always _ (λ read p h link. (h.sound.lines link).first)
+
 pub ends_are_sound-always : ends_are_sound
 ends_are_sound-always = always _ (λ read p h link. (h.sound.lines link).near)
 
@@ -44,6 +47,16 @@ orders_are_awaited-always = always _ (λ read p h link. h.sound.there.orders lin
 pub opens_with_nothing-always : opens_with_nothing_under_way
 opens_with_nothing-always = always _ (λ read p h link near far.
     omega (arith, h.sound.there.orders link, h.sound.back.orders link, none-said (p.line link).near.awaited near.unawaited, none-said (p.line link).far.awaited far.unawaited))
+
+pub follows_with_nothing-always : follows_with_nothing_under_way
+follows_with_nothing-always = always _ (λ read p h link follows near.
+    omega (
+      arith,
+      h.sound.there.orders link,
+      h.sound.back.orders link,
+      none-said (p.line link).near.awaited near.unawaited,
+      none-said (p.line link).far.awaited ((h.sound.lines link).second follows).unawaited,
+    ))
 
 pub words_are_true-always : words_are_true
 words_are_true-always = always _ (λ read p h link. h.sound.there.words link)

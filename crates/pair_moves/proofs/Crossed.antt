@@ -5,11 +5,11 @@ use Rattle.pair_moves.specs.Passing.{with_message}
 use Rattle.pair_moves.specs.Carrying.{with_sent, with_frames_left, with_accepted}
 use Rattle.pair_moves.specs.Failing.{with_failure, with_completion}
 use Rattle.pair_moves.specs.Moves as moves
-use Rattle.pair_moves.specs.Moves.{Move}
+use Rattle.pair_moves.specs.Moves.{Move, Moves}
 use Rattle.pair_moves.specs.Crossing as run
 use Rattle.pair_moves.specs.Crossing.{read_plainly, the_message, the_order, the_answer, lines_with, held_by_changeover, Crosses}
 use Rattle.pair_moves.proofs.Lines.{false_is_true}
-use Rattle.pair_moves.proofs.CrossingBegun.{set, some-none, held-alone, opens-first, opens-both, serves-first, serves-second, serves-first_there, serves-second_there, accepts, places-first, sends-first, fails-near, places-order, sends-order}
+use Rattle.pair_moves.proofs.CrossingBegun.{set, some-none, held-alone, joining, opens-first, joins-first, opens-second, joins-second, serves-first, serves-second, serves-first_there, serves-second_there, accepts, places-first, sends-first, fails-near, places-order, sends-order}
 
 -- ---- the order comes, and its answer
 
@@ -186,9 +186,17 @@ hands-over = moves.far (moves.hands_over (record {
   after = refl;
 }))
 
+crossing : Moves read_plainly run.opened_both run.crossing_run
+crossing =
+    (serves-first, (serves-second, (serves-first_there, (serves-second_there, (accepts, (places-first, (sends-first, (fails-near, (places-order, (sends-order, (takes-order, (fails-far, (drops, (completes-far, (places-answer, (sends-answer, (takes-answer, (completes-near, (takes-out, (places-second, (sends-second, (takes-second, (hands-over, tt)))))))))))))))))))))))
+
 pub crosses : Crosses
 crosses = record {
-  moves = (opens-first, (opens-both, (serves-first, (serves-second, (serves-first_there, (serves-second_there, (accepts, (places-first, (sends-first, (fails-near, (places-order, (sends-order, (takes-order, (fails-far, (drops, (completes-far, (places-answer, (sends-answer, (takes-answer, (completes-near, (takes-out, (places-second, (sends-second, (takes-second, (hands-over, tt)))))))))))))))))))))))));
+  moves = (
+    opens-first,
+    joining run.first_opens 0 run.second_run joins-first
+        (opens-second, joining run.second_opens 1 run.crossing_run joins-second crossing),
+  );
   crossed = record {
     accepted = refl;
     received = refl;

@@ -1,13 +1,13 @@
 -- The run of the example begins: the link opens, and fails under its message.
-use Rattle.std.proofs.Common.{◌≡◌, ◌≢◌, ℕ, Bool, true, false, ◌<◌, [], refl, ap, arith, Some, None, if◌then◌else◌}
+use Rattle.std.proofs.Common.{◌≡◌, ◌≢◌, inr, ℕ, Bool, true, false, ◌<◌, List, [], ◌∷◌, ◌++◌, refl, ap, arith, Some, None, if◌then◌else◌}
 use Rattle.std.proofs.lemmas.Bool.{ne_eqb}
-use Rattle.pair_moves.specs.Ends.{Line, Procedure, Changeover, Code, Time, Pair, turned, first_pair}
+use Rattle.pair_moves.specs.Ends.{StatusFrame, Line, Procedure, Changeover, Code, Time, Pair, turned, first_pair}
 use Rattle.pair_moves.specs.Passing.{BecomeAt, with_message}
-use Rattle.pair_moves.specs.Carrying.{with_sent}
+use Rattle.pair_moves.specs.Carrying.{with_frame, with_sent, with_heard, with_frames_left}
 use Rattle.pair_moves.specs.Failing.{with_failure}
-use Rattle.pair_moves.specs.Returning.{opened_line, with_service}
+use Rattle.pair_moves.specs.Returning.{MayOpen, opened_first, opened_second, with_service}
 use Rattle.pair_moves.specs.Moves as moves
-use Rattle.pair_moves.specs.Moves.{Move}
+use Rattle.pair_moves.specs.Moves.{NearMove, Move, Moves}
 use Rattle.pair_moves.specs.Crossing as run
 use Rattle.pair_moves.specs.Crossing.{read_plainly, the_message, the_order, the_answer, lines_with, held_by_changeover, Crosses}
 use Rattle.pair_moves.proofs.Lines.{false_is_true}
@@ -35,30 +35,142 @@ held-alone link (Time returned) d = refl
 
 -- ---- the moves, in order
 
-pub opens-first : Move read_plainly (first_pair 2) run.opened_first
-opens-first = moves.near (moves.opens (record {
-  link = 0;
-  near_may = record { down = refl; complete = refl; unawaited = refl };
-  far_may = record { down = refl; complete = refl; unawaited = refl };
-  lines = lines_with (first_pair 2) 0 opened_line;
-  set = set (first_pair 2) 0 opened_line (omega arith);
-  after = refl;
-}))
+module _ (p : Pair) (link : ℕ) (inside : link < p.links) where
+  pub opens : MayOpen (p.line link).near → MayOpen (p.line link).far → Move read_plainly p (run.opens p link)
+  opens near far = moves.near (moves.opens_first (record {
+    link = link;
+    near_may = near;
+    far_may = far;
+    lines = lines_with p link (opened_first (p.line link));
+    set = set p link (opened_first (p.line link)) inside;
+    after = refl;
+  }))
 
-pub opens-both : Move read_plainly run.opened_first run.opened_both
-opens-both = moves.near (moves.opens (record {
-  link = 1;
-  near_may = record { down = refl; complete = refl; unawaited = refl };
+  follows : (p.line link).near_may_follow ≡ true → MayOpen (p.line link).near → NearMove read_plainly p (run.follows p link)
+  follows may near = moves.opens_second (record {
+    link = link;
+    follows = may;
+    near_may = near;
+    lines = lines_with p link (opened_second (p.line link));
+    set = set p link (opened_second (p.line link)) inside;
+    after = refl;
+  })
+
+  says : (p.line link).near.up ≡ true → NearMove read_plainly p (run.says_so p link)
+  says up = moves.sends_status (record {
+    link = link;
+    up = up;
+    lines = lines_with p link (with_frame (p.line link) StatusFrame);
+    set = set p link (with_frame (p.line link) StatusFrame) inside;
+    after = refl;
+  })
+
+  hears : (p.line link).near.up ≡ true → (p.line link).to_near ≡ StatusFrame ∷ [] → NearMove read_plainly p (run.hears p link)
+  hears up first = moves.hears_frame (record {
+    link = link;
+    up = up;
+    frame = StatusFrame;
+    rest = [];
+    first = first;
+    lines = lines_with p link (with_heard (p.line link));
+    set = set p link (with_heard (p.line link)) inside;
+    after = refl;
+  })
+
+  drops : (p.line link).to_near ≡ StatusFrame ∷ [] → NearMove read_plainly p (run.drops p link)
+  drops first = moves.drops (record {
+    link = link;
+    frame = StatusFrame;
+    rest = [];
+    first = first;
+    silent = inr refl;
+    lines = lines_with p link (with_frames_left (p.line link) []);
+    set = set p link (with_frames_left (p.line link) []) inside;
+    after = refl;
+  })
+
+-- what a link is as the far end follows, and both are told
+pub record Joins (p : Pair) (link : ℕ) : Type 0 where
+  pub inside : link < p.links
+  pub follows : ((turned p).line link).near_may_follow ≡ true
+  pub far_may : MayOpen ((turned p).line link).near
+  pub up : ((run.followed p link).line link).near.up ≡ true
+  pub far_up : ((turned (run.said p link)).line link).near.up ≡ true
+  pub still_up : ((run.said_back p link).line link).near.up ≡ true
+  pub told : ((run.said_back p link).line link).to_near ≡ StatusFrame ∷ []
+  pub told_still : ((run.heard p link).line link).to_near ≡ StatusFrame ∷ []
+  pub far_still_up : ((turned (run.dropped p link)).line link).near.up ≡ true
+  pub far_told : ((turned (run.dropped p link)).line link).to_near ≡ StatusFrame ∷ []
+  pub far_told_still : ((turned (run.heard_there p link)).line link).to_near ≡ StatusFrame ∷ []
+
+pub joining : (p : Pair) (link : ℕ) (others : List Pair) → Joins p link → Moves read_plainly (run.joined p link) others →
+    Moves read_plainly p (run.joining p link ++ others)
+joining p link others j rest = (
+  moves.far (follows (turned p) link j.inside j.follows j.far_may),
+  (
+    moves.near (says (run.followed p link) link j.inside j.up),
+    (
+      moves.far (says (turned (run.said p link)) link j.inside j.far_up),
+      (
+        moves.near (hears (run.said_back p link) link j.inside j.still_up j.told),
+        (
+          moves.near (drops (run.heard p link) link j.inside j.told_still),
+          (
+            moves.far (hears (turned (run.dropped p link)) link j.inside j.far_still_up j.far_told),
+            (
+              moves.far (drops (turned (run.heard_there p link)) link j.inside j.far_told_still),
+              rest,
+            ),
+          ),
+        ),
+      ),
+    ),
+  ),
+)
+
+pub opens-first : Move read_plainly (first_pair 2) run.first_opens
+opens-first =
+    opens (first_pair 2) 0 (omega arith) (record { down = refl; complete = refl; unawaited = refl }) (record { down = refl; complete = refl; unawaited = refl })
+
+pub joins-first : Joins run.first_opens 0
+joins-first = record {
+  inside = omega arith;
+  follows = refl;
   far_may = record { down = refl; complete = refl; unawaited = refl };
-  lines = lines_with run.opened_first 1 opened_line;
-  set = set run.opened_first 1 opened_line (omega arith);
-  after = refl;
-}))
+  up = refl;
+  far_up = refl;
+  still_up = refl;
+  told = refl;
+  told_still = refl;
+  far_still_up = refl;
+  far_told = refl;
+  far_told_still = refl;
+}
+
+pub opens-second : Move read_plainly (run.joined run.first_opens 0) run.second_opens
+opens-second =
+    opens (run.joined run.first_opens 0) 1 (omega arith) (record { down = refl; complete = refl; unawaited = refl }) (record { down = refl; complete = refl; unawaited = refl })
+
+pub joins-second : Joins run.second_opens 1
+joins-second = record {
+  inside = omega arith;
+  follows = refl;
+  far_may = record { down = refl; complete = refl; unawaited = refl };
+  up = refl;
+  far_up = refl;
+  still_up = refl;
+  told = refl;
+  told_still = refl;
+  far_still_up = refl;
+  far_told = refl;
+  far_told_still = refl;
+}
 
 pub serves-first : Move read_plainly run.opened_both run.first_serves
 serves-first = moves.near (moves.enters (record {
   link = 0;
   up = refl;
+  heard = refl;
   route = λ flow. Some 0;
   kept = λ flow other e. some-none other e;
   lines = lines_with run.opened_both 0 (with_service ((run.opened_both).line 0));
@@ -70,6 +182,7 @@ pub serves-second : Move read_plainly run.first_serves run.second_serves
 serves-second = moves.near (moves.enters (record {
   link = 1;
   up = refl;
+  heard = refl;
   route = λ flow. Some 0;
   kept = λ flow other e. e;
   lines = lines_with run.first_serves 1 (with_service ((run.first_serves).line 1));
@@ -81,6 +194,7 @@ pub serves-first_there : Move read_plainly run.second_serves run.first_serves_th
 serves-first_there = moves.far (moves.enters (record {
   link = 0;
   up = refl;
+  heard = refl;
   route = λ flow. None;
   kept = λ flow other e. e;
   lines = lines_with (turned run.second_serves) 0 (with_service (((turned run.second_serves)).line 0));
@@ -92,6 +206,7 @@ pub serves-second_there : Move read_plainly run.first_serves_there run.second_se
 serves-second_there = moves.far (moves.enters (record {
   link = 1;
   up = refl;
+  heard = refl;
   route = λ flow. None;
   kept = λ flow other e. e;
   lines = lines_with (turned run.first_serves_there) 1 (with_service (((turned run.first_serves_there)).line 1));

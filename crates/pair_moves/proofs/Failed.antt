@@ -1,5 +1,5 @@
 -- Moves of a failure and its changeover are sound.
-use Rattle.std.proofs.Common.{◌≡◌, ◌≢◌, inr, ℕ, Bool, true, false, ◌+◌, ◌≤◌, List, [], ◌∷◌, ◌++◌, drop, count_by, nat_eq, refl, sym, subst, arith}
+use Rattle.std.proofs.Common.{◌≡◌, ◌≢◌, inl, inr, ℕ, Bool, true, false, ◌+◌, ◌≤◌, List, [], ◌∷◌, ◌++◌, drop, count_by, nat_eq, refl, sym, subst, arith}
 use Rattle.std.proofs.Math.Logic.{⊎_elim}
 use Rattle.std.proofs.lemmas.Bool.{cases_eq}
 use Rattle.signalling_types.specs.Message.{Message}
@@ -30,7 +30,7 @@ module _ (read : Message → Saying) (p q : Pair) where
         truth = still-true read p m.link (with_failure z z.near.awaited).near (λ u. m.up) (inr refl) h;
         far_truth = h.back.words m.link;
       })
-      (line-failure z z.near.awaited m.up (h.lines m.link))
+      (line-failure z z.near.awaited m.up (inr refl) (h.lines m.link))
       (λ test. omega arith) (λ test. omega arith) h)
 
   pub sound-falls_with_order : FallsWithOrder read p q → Sound read p → Sound read q
@@ -71,7 +71,7 @@ module _ (read : Message → Saying) (p q : Pair) where
         accepted = λ test. omega (arith, said-no_user read m.order (Order m.link last) m.says refl test);
         received = λ test. omega arith;
       })
-      (each-line p m.link y m.lines m.set (λ k x. IsLine x) (λ k d. h.lines k) (line-failure z true up (h.lines m.link)))
+      (each-line p m.link y m.lines m.set (λ k x. IsLine x) (λ k d. h.lines k) (line-failure z true up (inl m.serving) (h.lines m.link)))
       h)
 
   pub sound-completes_by_order : CompletesByOrder read p q → Sound read p → Sound read q
@@ -121,7 +121,7 @@ module _ (read : Message → Saying) (p q : Pair) where
         accepted = λ test. omega (arith, said-no_user read m.answer (Answer m.link last) m.answers refl test);
         received = λ test. omega (arith, said-no_user read m.heard.message (Order m.link m.number) m.heard.says refl test);
       })
-      (each-line p m.link y m.lines m.set (λ k x. IsLine x) (λ k d. h.lines k) (line-completion z z.near.awaited down t.far_down (h.lines m.link)))
+      (each-line p m.link y m.lines m.set (λ k x. IsLine x) (λ k d. h.lines k) (line-completion z z.near.awaited down t.far_down m.incomplete (h.lines m.link)))
       h)
 
   pub sound-answers_order : AnswersOrder read p q → Sound read p → Sound read q
@@ -199,7 +199,7 @@ module _ (read : Message → Saying) (p q : Pair) where
         accepted = λ test. omega arith;
         received = λ test. omega (arith, said-no_user read m.heard.message (Answer m.link m.number) m.heard.says refl test);
       })
-      (each-line p m.link y m.lines m.set (λ k x. IsLine x) (λ k d. h.lines k) (line-completion z false down t.far_down (h.lines m.link)))
+      (each-line p m.link y m.lines m.set (λ k x. IsLine x) (λ k d. h.lines k) (line-completion z false down t.far_down m.incomplete (h.lines m.link)))
       h)
 
   pub sound-ends_wait : EndsWait read p q → Sound read p → Sound read q

@@ -5,7 +5,7 @@ use Rattle.std.specs.Option.{option_map}
 use Rattle.signalling_types.specs.Message.{Message}
 use Rattle.signalling_types.specs.Numbers.{previous_number}
 use Rattle.link.specs.declared.fault.SeqFault.{SeqFault}
-use Rattle.link.specs.Queue.{Queue, IsQueue, forward_number, named_count, confirmation, expected, accept_answer, appended, last_sent}
+use Rattle.link.specs.Queue.{Queue, IsQueue, first_queue, forward_number, named_count, confirmation, expected, accept_answer, appended, last_sent}
 use Rattle.link.proofs.Naming.{finds_named}
 use Rattle.pair_moves.specs.Ends.{Frame, StatusFrame, EmptyFrame, MessageFrame}
 use Rattle.pair_moves.specs.Flowing.{Carry, Name}
@@ -71,6 +71,22 @@ name-more from to [] h = h
 name-more from to (StatusFrame ∷ frames) h = name-more from to frames h
 name-more from to (EmptyFrame fsn bsn ∷ frames) h = (h.0, h.1, omega (arith, h.2), h.3, name-more h.0 to frames h.4)
 name-more from to (MessageFrame fsn bsn x ∷ frames) h = (h.0, h.1, omega (arith, h.2), h.3, name-more h.0 to frames h.4)
+
+-- ---- what is in flight from an end that opened first
+
+-- the first frame comes, which carries no message
+pub carry-rest : (frame : Frame) (frames : List Frame) → Carry first_queue 0 (frame ∷ frames) → Carry first_queue 0 frames
+carry-rest StatusFrame frames h = h
+carry-rest (EmptyFrame fsn bsn) frames h = h.1
+carry-rest (MessageFrame fsn bsn x) frames h = (let none : slice_get first_queue.all 0 ≡ Some x = h.1 in grind (arith, common_steps, none))
+
+only-none : (n : ℕ) → n ≤ 0 → n ≡ 0
+only-none n l = omega (arith, l)
+
+pub name-rest : (frame : Frame) (frames : List Frame) → Name 0 0 (frame ∷ frames) → Name 0 0 frames
+name-rest StatusFrame frames h = h
+name-rest (EmptyFrame fsn bsn) frames h = subst (λ (n : ℕ). Name n 0 frames) (only-none h.0 h.2) h.4
+name-rest (MessageFrame fsn bsn x) frames h = subst (λ (n : ℕ). Name n 0 frames) (only-none h.0 h.2) h.4
 
 -- ---- the count that a number names
 

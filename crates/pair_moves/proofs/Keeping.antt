@@ -10,9 +10,9 @@ use Rattle.pair_moves.specs.Order.{IsInOrder}
 use Rattle.pair_moves.proofs.Lines.{line-turned}
 use Rattle.pair_moves.proofs.Sound.{Sound}
 use Rattle.pair_moves.proofs.First.{sound-first_pair, order-first_pair}
-use Rattle.pair_moves.proofs.Passed.{sound-accepts, sound-takes_out, sound-keeps, sound-places, sound-hands_over, sound-sends_status, sound-sends_message, sound-sends_empty, sound-drops, sound-takes_empty, sound-takes_message}
+use Rattle.pair_moves.proofs.Passed.{sound-accepts, sound-takes_out, sound-keeps, sound-places, sound-hands_over, sound-sends_status, sound-sends_message, sound-sends_empty, sound-hears_frame, sound-drops, sound-takes_empty, sound-takes_message}
 use Rattle.pair_moves.proofs.Failed.{sound-falls, sound-falls_with_order, sound-completes_by_order, sound-answers_order, sound-completes_by_answer, sound-ends_wait, sound-ignores_answer}
-use Rattle.pair_moves.proofs.Returned.{sound-opens, sound-enters, sound-declares, sound-waits, sound-confirms, sound-ends_hold, sound-ignores_confirmation, sound-runs_late}
+use Rattle.pair_moves.proofs.Returned.{sound-opens_first, sound-opens_second, sound-enters, sound-declares, sound-waits, sound-confirms, sound-ends_hold, sound-ignores_confirmation, sound-runs_late}
 use Rattle.pair_moves.proofs.OrderPassed as passed
 use Rattle.pair_moves.proofs.OrderPlaced as placed
 use Rattle.pair_moves.proofs.OrderFailed as failed
@@ -92,6 +92,8 @@ module _ (read : Message → Saying) where
       step p q _ m.after refl refl refl refl (sound-sends_message read p q m) (λ f s. passed.order-sends_message read f p q m) (λ f s. passed.back-sends_message read f p q m)
   near-kept p q (moves.sends_empty m) =
       step p q _ m.after refl refl refl refl (sound-sends_empty read p q m) (λ f s. passed.order-sends_empty read f p q m) (λ f s. passed.back-sends_empty read f p q m)
+  near-kept p q (moves.hears_frame m) =
+      step p q _ m.after refl refl refl refl (sound-hears_frame read p q m) (λ f s. passed.order-hears_frame read f p q m) (λ f s. passed.back-hears_frame read f p q m)
   near-kept p q (moves.drops m) =
       step p q _ m.after refl refl refl refl (sound-drops read p q m) (λ f s. passed.order-drops read f p q m) (λ f s. passed.back-drops read f p q m)
   near-kept p q (moves.takes_empty m) =
@@ -112,8 +114,10 @@ module _ (read : Message → Saying) where
       step p q _ m.after refl refl refl refl (sound-ends_wait read p q m) (λ f s. failed.order-ends_wait read f p q m) (λ f s. failed.back-ends_wait read f p q m)
   near-kept p q (moves.ignores_answer m) =
       step p q _ m.after refl refl refl refl (sound-ignores_answer read p q m) (λ f s. failed.order-ignores_answer read f p q m) (λ f s. failed.back-ignores_answer read f p q m)
-  near-kept p q (moves.opens m) =
-      step p q _ m.after refl refl refl refl (sound-opens read p q m) (λ f s. returned.order-opens read f p q m s) (λ f s. returned.back-opens read f p q m s)
+  near-kept p q (moves.opens_first m) =
+      step p q _ m.after refl refl refl refl (sound-opens_first read p q m) (λ f s. returned.order-opens_first read f p q m s) (λ f s. returned.back-opens_first read f p q m s)
+  near-kept p q (moves.opens_second m) =
+      step p q _ m.after refl refl refl refl (sound-opens_second read p q m) (λ f s. returned.order-opens_second read f p q m s) (λ f s. returned.back-opens_second read f p q m s)
   near-kept p q (moves.enters m) =
       step p q _ m.after refl refl refl refl (sound-enters read p q m) (λ f s. returned.order-enters read f p q m) (λ f s. returned.back-enters read f p q m)
   near-kept p q (moves.declares m) =

@@ -1,16 +1,16 @@
 -- A line whose ends and frames agree with law (i), and what the near end's messages and frames keep
 -- of it.
-use Rattle.std.proofs.Common.{◌≡◌, ℕ, Bool, true, false, ◌+◌, ◌-◌, ◌≤◌, ◌<◌, ◌||◌, [], ◌∷◌, ◌++◌, length, slice_get, nat_lt, refl, sym, ◌∙◌, subst, arith, Option, Some, None, if◌then◌else◌}
+use Rattle.std.proofs.Common.{◌≡◌, ℕ, Bool, true, false, not, ◌+◌, ◌-◌, ◌≤◌, ◌<◌, ◌||◌, ◌&&◌, List, [], ◌∷◌, ◌++◌, length, slice_get, nat_lt, refl, sym, ◌∙◌, subst, arith, Option, Some, None, if◌then◌else◌}
 use Rattle.std.proofs.lemmas.Bool.Decides.{nat_tests}
 use Rattle.std.proofs.lemmas.Option.{slice_get_within}
 use Rattle.signalling_types.specs.Message.{Message}
 use Rattle.signalling_types.specs.declared.limits.TheConstants.Limits.{WINDOW}
-use Rattle.link.specs.Queue.{Queue, IsQueue, Sending, forward_number, numbered, to_send, after_sending, last_sent, last_accepted}
+use Rattle.link.specs.Queue.{Queue, IsQueue, Sending, first_queue, forward_number, numbered, to_send, after_sending, last_sent, last_accepted}
 use Rattle.link.proofs.Sound.{sound-appended}
-use Rattle.pair_moves.specs.Ends.{StatusFrame, EmptyFrame, MessageFrame, Line, turned_line}
+use Rattle.pair_moves.specs.Ends.{Frame, StatusFrame, EmptyFrame, MessageFrame, Line, turned_line}
 use Rattle.pair_moves.specs.Passing.{with_message}
-use Rattle.pair_moves.specs.Carrying.{with_frame, with_sent}
-use Rattle.pair_moves.specs.Flowing.{Carry, Flows, IsFlowing, IsEnd}
+use Rattle.pair_moves.specs.Carrying.{with_frame, with_sent, with_heard}
+use Rattle.pair_moves.specs.Flowing.{Carry, Name, Flows, IsFlowing, OpenedAlone, OpensAlone, IsEnd}
 use Rattle.pair_moves.proofs.Frames.{carry-appended, carry-status, carry-empty, carry-message, name-status, name-empty, name-message}
 
 pub record IsLine (z : Line) : Type 0 where
@@ -18,9 +18,11 @@ pub record IsLine (z : Line) : Type 0 where
   pub far : IsEnd z.far
   pub there : IsFlowing z
   pub back : IsFlowing (turned_line z)
+  pub first : OpensAlone z
+  pub second : OpensAlone (turned_line z)
 
 pub line-turned : (z : Line) → IsLine z → IsLine (turned_line z)
-line-turned z h = record { near = h.far; far = h.near; there = h.back; back = h.there }
+line-turned z h = record { near = h.far; far = h.near; there = h.back; back = h.there; first = h.second; second = h.first }
 
 -- ---- tests
 
@@ -78,6 +80,63 @@ pub busy : {A : Type 0} (a b : Bool) → a ≡ true → (a || b) ≡ false → A
 busy true b s e = true_is_false e
 busy false b s e = false_is_true s
 
+-- ---- which end may follow
+
+-- where none may, and an end is in use
+pub used-by : (near far used : Bool) → near ≡ false → far ≡ false → used ≡ true → (not (near || far) && used) ≡ true
+used-by true far used n f u = true_is_false n
+used-by false true used n f u = true_is_false f
+used-by false false used n f u = u
+
+pub none-may : (near far used : Bool) → (not (near || far) && used) ≡ true → (near ≡ false) × (far ≡ false)
+none-may true far used e = false_is_true e
+none-may false true used e = false_is_true e
+none-may false false used e = (refl, refl)
+
+pub unless-true : (b : Bool) → (b ≡ true → false ≡ true) → b ≡ false
+unless-true true f = sym (f refl)
+unless-true false f = refl
+
+no-frame : {A : Type 0} (frames : List Frame) (frame : Frame) (rest : List Frame) → frames ≡ frame ∷ rest → frames ≡ [] → A
+no-frame frames frame rest e f = (let no : frame ∷ rest ≡ [] = sym e ∙ f in absurd cc)
+
+module _ {A : Type 0} (z : Line) (h : IsLine z) where
+  -- an end that is up doesn't follow
+  pub up-first : z.near.up ≡ true → z.near_may_follow ≡ true → A
+  up-first up m = both up (h.second m).far_may.down
+
+  -- one that serves didn't open alone, nor one whose changeover isn't complete
+  pub serving-joined : z.near.serving ≡ true → z.far_may_follow ≡ true → A
+  serving-joined serving m = both serving (h.first m).unserved
+
+  pub incomplete-joined : z.near.incomplete ≡ true → z.far_may_follow ≡ true → A
+  incomplete-joined incomplete m = both incomplete (h.first m).complete
+
+  pub incomplete-first : z.near.incomplete ≡ true → z.near_may_follow ≡ true → A
+  incomplete-first incomplete m = both incomplete (h.second m).far_may.complete
+
+  -- nothing comes to an end that opened alone
+  pub heard-joined : (frame : Frame) (rest : List Frame) → z.to_near ≡ frame ∷ rest → z.far_may_follow ≡ true → A
+  heard-joined frame rest e m = no-frame z.to_near frame rest e (h.first m).silent
+
+module _ (z : Line) (h : IsLine z) where
+  pub serving-flows : z.near.serving ≡ true → Flows z
+  serving-flows serving =
+      let up : z.near.up ≡ true = h.near.serving serving in
+      h.there (used-by z.near_may_follow z.far_may_follow (z.near.up || z.near.incomplete || z.far.up)
+      (unless-true z.near_may_follow (up-first z h up)) (unless-true z.far_may_follow (serving-joined z h serving)) (or-first z.near.up z.near.incomplete z.far.up up))
+
+  module _ (frame : Frame) (rest : List Frame) (first : z.to_near ≡ frame ∷ rest) (up : z.near.up ≡ true) where
+    pub hearing-there : Flows z
+    hearing-there =
+        h.there (used-by z.near_may_follow z.far_may_follow (z.near.up || z.near.incomplete || z.far.up)
+        (unless-true z.near_may_follow (up-first z h up)) (unless-true z.far_may_follow (heard-joined z h frame rest first)) (or-first z.near.up z.near.incomplete z.far.up up))
+
+    pub hearing-back : Flows (turned_line z)
+    hearing-back =
+        h.back (used-by z.far_may_follow z.near_may_follow (z.far.up || z.far.incomplete || z.near.up)
+        (unless-true z.far_may_follow (heard-joined z h frame rest first)) (unless-true z.near_may_follow (up-first z h up)) (or-third z.far.up z.far.incomplete z.near.up up))
+
 -- ---- the near end gets a message, and sends
 
 pub line-message : (z : Line) (m : Message) → z.near.serving ≡ true → IsLine z → IsLine (with_message z m)
@@ -88,20 +147,36 @@ line-message z m serving h = record {
       record { confirmed = f.confirmed; received = f.received; carried = λ u. carry-appended z.near.queue m z.far.queue.received z.to_far (f.carried u); named = f.named };
   back = λ e. let f : Flows (turned_line z) = h.back e in
       record { confirmed = f.confirmed; received = f.received; carried = f.carried; named = f.named };
+  first = λ n. serving-joined z h serving n;
+  second = λ n. up-first z h (h.near.serving serving) n;
 }
 
-pub line-status : (z : Line) → IsLine z → IsLine (with_frame z StatusFrame)
-line-status z h = record {
+pub line-status : (z : Line) → z.near.up ≡ true → IsLine z → IsLine (with_frame z StatusFrame)
+line-status z up h = record {
   near = h.near;
   far = h.far;
   there = λ e. let f : Flows z = h.there e in
       record { confirmed = f.confirmed; received = f.received; carried = λ u. carry-status z.near.queue z.far.queue.received z.to_far (f.carried u); named = f.named };
   back = λ e. let f : Flows (turned_line z) = h.back e in
       record { confirmed = f.confirmed; received = f.received; carried = f.carried; named = λ u. name-status z.far.queue.confirmed z.near.queue.received z.to_far (f.named u) };
+  first = λ n. let o : OpenedAlone z = h.first n in
+      record {
+        alone = o.alone;
+        far_may = o.far_may;
+        unserved = o.unserved;
+        complete = o.complete;
+        unawaited = o.unawaited;
+        unheard = o.unheard;
+        queue = o.queue;
+        silent = o.silent;
+        carried = carry-status first_queue 0 z.to_far o.carried;
+        named = name-status 0 0 z.to_far o.named;
+      };
+  second = λ n. up-first z h up n;
 }
 
-pub line-empty : (z : Line) → IsLine z → IsLine (with_frame z (EmptyFrame (last_sent z.near.queue) (last_accepted z.near.queue)))
-line-empty z h = record {
+pub line-empty : (z : Line) → z.near.up ≡ true → IsLine z → IsLine (with_frame z (EmptyFrame (last_sent z.near.queue) (last_accepted z.near.queue)))
+line-empty z up h = record {
   near = h.near;
   far = h.far;
   there = λ e. let f : Flows z = h.there e in
@@ -113,6 +188,37 @@ line-empty z h = record {
         carried = f.carried;
         named = λ u. name-empty (last_sent z.near.queue) z.far.queue.confirmed z.near.queue.received z.to_far f.confirmed (f.named u);
       };
+  first = λ n. let o : OpenedAlone z = h.first n in
+      record {
+        alone = o.alone;
+        far_may = o.far_may;
+        unserved = o.unserved;
+        complete = o.complete;
+        unawaited = o.unawaited;
+        unheard = o.unheard;
+        queue = o.queue;
+        silent = o.silent;
+        carried =
+            subst (λ (q : Queue). Carry first_queue 0 (z.to_far ++ EmptyFrame (last_sent q) (last_accepted q) ∷ [])) (sym o.queue)
+            (carry-empty first_queue (last_accepted first_queue) 0 z.to_far o.carried);
+        named =
+            subst (λ (q : Queue). Name 0 0 (z.to_far ++ EmptyFrame (last_sent q) (last_accepted q) ∷ [])) (sym o.queue)
+            (name-empty (last_sent first_queue) 0 0 z.to_far (omega arith) o.named);
+      };
+  second = λ n. up-first z h up n;
+}
+
+-- it hears the far end
+pub line-heard : (z : Line) (frame : Frame) (rest : List Frame) → z.to_near ≡ frame ∷ rest → z.near.up ≡ true → IsLine z → IsLine (with_heard z)
+line-heard z frame rest first up h = record {
+  near = record { queue = h.near.queue; base = h.near.base; serving = h.near.serving; incomplete = h.near.incomplete; awaited = h.near.awaited; idle = h.near.idle };
+  far = h.far;
+  there = λ e. let f : Flows z = h.there e in
+      record { confirmed = f.confirmed; received = f.received; carried = f.carried; named = f.named };
+  back = λ e. let f : Flows (turned_line z) = h.back e in
+      record { confirmed = f.confirmed; received = f.received; carried = f.carried; named = f.named };
+  first = λ n. heard-joined z h frame rest first n;
+  second = λ n. up-first z h up n;
 }
 
 -- what goes out is the first message that wasn't sent
@@ -179,4 +285,6 @@ line-sent z window s small e serving h =
             carried = f.carried;
             named = λ u. name-message s.number s.message z.far.queue.confirmed z.near.queue.received z.to_far f.confirmed (f.named u);
           };
+      first = λ m. serving-joined z h serving m;
+      second = λ m. up-first z h (h.near.serving serving) m;
     }

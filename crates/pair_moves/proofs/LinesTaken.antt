@@ -2,13 +2,13 @@
 use Rattle.std.proofs.Common.{◌≡◌, ◌⊎◌, inl, inr, ℕ, Bool, true, false, ◌+◌, List, ◌∷◌, slice_get, ap, sym, ◌∙◌, subst, arith, Some, Ok}
 use Rattle.signalling_types.specs.Message.{Message}
 use Rattle.signalling_types.specs.declared.limits.TheConstants.Limits.{WINDOW}
-use Rattle.link.specs.Queue.{Queue, IsQueue, accept_answer, after_answer}
+use Rattle.link.specs.Queue.{Queue, IsQueue, first_queue, accept_answer, after_answer}
 use Rattle.link.proofs.Sound.{sound-accepted}
 use Rattle.pair_moves.specs.Ends.{Frame, StatusFrame, EmptyFrame, MessageFrame, Line, turned_line}
 use Rattle.pair_moves.specs.Carrying.{with_frames_left, with_accepted}
-use Rattle.pair_moves.specs.Flowing.{Carry, Name, Flows}
-use Rattle.pair_moves.proofs.Frames.{carry-below, name-more, count-confirmed}
-use Rattle.pair_moves.proofs.Lines.{IsLine, both, or-first, or-third}
+use Rattle.pair_moves.specs.Flowing.{Carry, Name, Flows, OpenedAlone}
+use Rattle.pair_moves.proofs.Frames.{carry-below, name-more, carry-rest, name-rest, count-confirmed}
+use Rattle.pair_moves.proofs.Lines.{IsLine, both, up-first, heard-joined, hearing-there, hearing-back}
 
 pub line-left : (z : Line) (frame : Frame) (rest : List Frame) → z.to_near ≡ frame ∷ rest → (z.near.up ≡ false) ⊎ (frame ≡ StatusFrame) →
     IsLine z → IsLine (with_frames_left z rest)
@@ -19,6 +19,20 @@ line-left z frame rest first (inl down) h = record {
       record { confirmed = f.confirmed; received = f.received; carried = f.carried; named = λ u. both u down };
   back = λ e. let f : Flows (turned_line z) = h.back e in
       record { confirmed = f.confirmed; received = f.received; carried = λ u. both u down; named = f.named };
+  first = λ n. heard-joined z h frame rest first n;
+  second = λ n. let o : OpenedAlone (turned_line z) = h.second n in
+      record {
+        alone = o.alone;
+        far_may = o.far_may;
+        unserved = o.unserved;
+        complete = o.complete;
+        unawaited = o.unawaited;
+        unheard = o.unheard;
+        queue = o.queue;
+        silent = o.silent;
+        carried = carry-rest frame rest (subst (Carry first_queue 0) first o.carried);
+        named = name-rest frame rest (subst (Name 0 0) first o.named);
+      };
 }
 line-left z frame rest first (inr silent) h =
     let is : z.to_near ≡ StatusFrame ∷ rest = first ∙ ap (λ x. x ∷ rest) silent in
@@ -39,6 +53,20 @@ line-left z frame rest first (inr silent) h =
             named = f.named;
             carried = λ u. subst (Carry z.far.queue z.near.queue.received) is (f.carried u);
           };
+      first = λ n. heard-joined z h frame rest first n;
+      second = λ n. let o : OpenedAlone (turned_line z) = h.second n in
+          record {
+            alone = o.alone;
+            far_may = o.far_may;
+            unserved = o.unserved;
+            complete = o.complete;
+            unawaited = o.unawaited;
+            unheard = o.unheard;
+            queue = o.queue;
+            silent = o.silent;
+            carried = carry-rest frame rest (subst (Carry first_queue 0) first o.carried);
+            named = name-rest frame rest (subst (Name 0 0) first o.named);
+          };
     }
 
 queue-accepted : (q : Queue) (fsn bsn : ℕ) (carries : Bool) (count : ℕ) → accept_answer q fsn bsn carries ≡ Ok count → IsQueue WINDOW q →
@@ -48,8 +76,8 @@ queue-accepted q fsn bsn carries count e h = subst (λ r. IsQueue WINDOW (after_
 pub line-taken_empty : (z : Line) (fsn bsn : ℕ) (rest : List Frame) (count : ℕ) → z.to_near ≡ EmptyFrame fsn bsn ∷ rest → z.near.up ≡ true →
     accept_answer z.near.queue fsn bsn false ≡ Ok count → IsLine z → IsLine (with_accepted z rest false count)
 line-taken_empty z fsn bsn rest count first up e h =
-    let f : Flows z = h.there (or-first z.near.up z.near.incomplete z.far.up up) in
-    let b : Flows (turned_line z) = h.back (or-third z.far.up z.far.incomplete z.near.up up) in
+    let f : Flows z = hearing-there z h (EmptyFrame fsn bsn) rest first up in
+    let b : Flows (turned_line z) = hearing-back z h (EmptyFrame fsn bsn) rest first up in
     let n : Name z.near.queue.confirmed z.far.queue.received (EmptyFrame fsn bsn ∷ rest) = subst (Name z.near.queue.confirmed z.far.queue.received) first (f.named up) in
     let c : Carry z.far.queue z.near.queue.received (EmptyFrame fsn bsn ∷ rest) = subst (Carry z.far.queue z.near.queue.received) first (b.carried up) in
     let is : z.near.queue.confirmed + count ≡ n.0 = count-confirmed z.near.queue fsn n.0 false count h.near.queue h.near.base n.1 (omega (arith, n.2, f.received))
@@ -64,13 +92,15 @@ line-taken_empty z fsn bsn rest count first up e h =
         named = λ u. subst (λ from. Name from z.far.queue.received rest) (sym is) n.4;
       };
       back = λ t. record { confirmed = b.confirmed; received = b.received; carried = λ u. c.1; named = b.named };
+      first = λ n'. heard-joined z h (EmptyFrame fsn bsn) rest first n';
+      second = λ n'. up-first z h up n';
     }
 
 pub line-taken_message : (z : Line) (fsn bsn : ℕ) (m : Message) (rest : List Frame) (count : ℕ) → z.to_near ≡ MessageFrame fsn bsn m ∷ rest →
     z.near.up ≡ true → accept_answer z.near.queue fsn bsn true ≡ Ok count → IsLine z → IsLine (with_accepted z rest true count)
 line-taken_message z fsn bsn m rest count first up e h =
-    let f : Flows z = h.there (or-first z.near.up z.near.incomplete z.far.up up) in
-    let b : Flows (turned_line z) = h.back (or-third z.far.up z.far.incomplete z.near.up up) in
+    let f : Flows z = hearing-there z h (MessageFrame fsn bsn m) rest first up in
+    let b : Flows (turned_line z) = hearing-back z h (MessageFrame fsn bsn m) rest first up in
     let n : Name z.near.queue.confirmed z.far.queue.received (MessageFrame fsn bsn m ∷ rest) = subst (Name z.near.queue.confirmed z.far.queue.received) first (f.named up) in
     let c : Carry z.far.queue z.near.queue.received (MessageFrame fsn bsn m ∷ rest) = subst (Carry z.far.queue z.near.queue.received) first (b.carried up) in
     let is : z.near.queue.confirmed + count ≡ n.0 = count-confirmed z.near.queue fsn n.0 true count h.near.queue h.near.base n.1 (omega (arith, n.2, f.received))
@@ -90,12 +120,14 @@ line-taken_message z fsn bsn m rest count first up e h =
         carried = λ u. c.2;
         named = λ u. name-more z.far.queue.confirmed z.near.queue.received z.to_far (b.named u);
       };
+      first = λ n'. heard-joined z h (MessageFrame fsn bsn m) rest first n';
+      second = λ n'. up-first z h up n';
     }
 
 -- the message is the first that the near end lacked
 pub taken_message-is : (z : Line) (fsn bsn : ℕ) (m : Message) (rest : List Frame) → z.to_near ≡ MessageFrame fsn bsn m ∷ rest →
     z.near.up ≡ true → IsLine z → slice_get z.far.queue.all z.near.queue.received ≡ Some m
 taken_message-is z fsn bsn m rest first up h =
-    let b : Flows (turned_line z) = h.back (or-third z.far.up z.far.incomplete z.near.up up) in
+    let b : Flows (turned_line z) = hearing-back z h (MessageFrame fsn bsn m) rest first up in
     let c : Carry z.far.queue z.near.queue.received (MessageFrame fsn bsn m ∷ rest) = subst (Carry z.far.queue z.near.queue.received) first (b.carried up) in
     c.1

@@ -6,7 +6,7 @@ use Rattle.signalling_types.specs.declared.point.Flow.{Flow}
 use Rattle.pair_moves.specs.Sayings.{Saying}
 use Rattle.pair_moves.specs.Ends.{StatusFrame, Line, Pair, turned, turned_line, unreceived}
 use Rattle.pair_moves.specs.Passing.{BecomeAt, Accepts, TakesOut, Keeps, HandsOver}
-use Rattle.pair_moves.specs.Carrying.{with_frame, with_sent, with_frames_left, with_accepted, SendsStatus, SendsMessage, SendsEmpty, Drops, TakesEmpty, TakesMessage}
+use Rattle.pair_moves.specs.Carrying.{with_frame, with_sent, with_heard, with_frames_left, with_accepted, SendsStatus, SendsMessage, SendsEmpty, HearsFrame, Drops, TakesEmpty, TakesMessage}
 use Rattle.pair_moves.specs.Order.{of_flow, IsInOrder}
 use Rattle.pair_moves.proofs.Joins.{flow-append}
 use Rattle.pair_moves.proofs.OrderSame.{moved-over, there-side, there-quiet, there-line-same, back-side, back-line}
@@ -97,6 +97,13 @@ module _ (read : Message → Saying) (flow : Flow) (p q : Pair) where
 
   pub back-sends_empty : SendsEmpty read p q → IsInOrder read flow (turned p) → IsInOrder read flow (turned q)
   back-sends_empty m h = subst (λ (x : Pair). IsInOrder read flow (turned x)) (sym m.after) (back-frames m.link _ m.lines m.set refl refl h)
+
+  pub order-hears_frame : HearsFrame read p q → IsInOrder read flow p → IsInOrder read flow q
+  order-hears_frame m h = subst (IsInOrder read flow) (sym m.after) (there-frames m.link (with_heard (p.line m.link)) m.lines m.set refl refl h)
+
+  pub back-hears_frame : HearsFrame read p q → IsInOrder read flow (turned p) → IsInOrder read flow (turned q)
+  back-hears_frame m h =
+      subst (λ (x : Pair). IsInOrder read flow (turned x)) (sym m.after) (back-frames m.link (with_heard (p.line m.link)) m.lines m.set refl refl h)
 
   pub order-drops : Drops read p q → IsInOrder read flow p → IsInOrder read flow q
   order-drops m h = subst (IsInOrder read flow) (sym m.after) (there-frames m.link (with_frames_left (p.line m.link) m.rest) m.lines m.set refl refl h)

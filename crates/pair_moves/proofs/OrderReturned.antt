@@ -4,10 +4,11 @@ use Rattle.std.proofs.Math.Logic.{⊎_elim}
 use Rattle.std.proofs.lemmas.Bool.{cases_eq}
 use Rattle.signalling_types.specs.Message.{Message}
 use Rattle.signalling_types.specs.declared.point.Flow.{Flow}
+use Rattle.link.specs.Queue.{Queue}
 use Rattle.pair_moves.specs.Sayings.{Saying, Declaration, Confirmation, is_of_flow, is_declaration, is_confirmation}
 use Rattle.pair_moves.specs.Ends.{Line, Changeover, Code, Time, Side, Pair, turned, unreceived}
 use Rattle.pair_moves.specs.Passing.{with_message}
-use Rattle.pair_moves.specs.Returning.{opened_line, with_service, StaysOrIsHeld, Opens, Enters, Declares, WaitsForTime, Confirms, EndsHold, IgnoresConfirmation}
+use Rattle.pair_moves.specs.Returning.{opened_first, opened_second, with_service, StaysOrIsHeld, OpensFirst, OpensSecond, Enters, Declares, WaitsForTime, Confirms, EndsHold, IgnoresConfirmation}
 use Rattle.pair_moves.specs.Moves.{RunsLate}
 use Rattle.pair_moves.specs.Laws.{one_if, saying}
 use Rattle.pair_moves.specs.Order.{IsGuarded, by_route, by_changeover, by_time, by_code, IsInOrder}
@@ -45,21 +46,41 @@ counts-there test ms ahead m behind e t =
     omega (arith, c, o, count-append test ahead (m ∷ behind), count-cons test m behind)
 
 module _ (read : Message → Saying) (flow : Flow) (p q : Pair) where
-  pub order-opens : Opens read p q → Sound read p → IsInOrder read flow p → IsInOrder read flow q
-  order-opens m s h =
+  pub order-opens_first : OpensFirst read p q → Sound read p → IsInOrder read flow p → IsInOrder read flow q
+  order-opens_first m s h =
       let z : Line = p.line m.link in
+      let none : z.near.queue.all ≡ [] = nothing-stands z.near m.near_may (s.lines m.link).near in
       subst (IsInOrder read flow) (sym m.after)
-      (there-line-same read flow p m.link opened_line m.lines m.set
-      (sym (drop-none z.near.queue.all z.far.queue.received (nothing-stands z.near m.near_may (s.lines m.link).near)))
+      (there-line-same read flow p m.link (opened_first z) m.lines m.set
+      (drop-none [] z.far.queue.received refl ∙ sym (drop-none z.near.queue.all z.far.queue.received none))
       (sym m.near_may.complete) p.near refl refl refl refl h)
 
-  pub back-opens : Opens read p q → Sound read p → IsInOrder read flow (turned p) → IsInOrder read flow (turned q)
-  back-opens m s h =
+  pub back-opens_first : OpensFirst read p q → Sound read p → IsInOrder read flow (turned p) → IsInOrder read flow (turned q)
+  back-opens_first m s h =
       let z : Line = p.line m.link in
+      let none : z.far.queue.all ≡ [] = nothing-stands z.far m.far_may (s.lines m.link).far in
       subst (λ (x : Pair). IsInOrder read flow (turned x)) (sym m.after)
-      (back-line read flow p m.link opened_line m.lines m.set
-      (sym (drop-none z.far.queue.all z.near.queue.received (nothing-stands z.far m.far_may (s.lines m.link).far)))
-      (sym m.far_may.complete) p.near refl h)
+      (back-line read flow p m.link (opened_first z) m.lines m.set
+      (none ∙ sym (drop-none z.far.queue.all z.near.queue.received none))
+      refl p.near refl h)
+
+  pub order-opens_second : OpensSecond read p q → Sound read p → IsInOrder read flow p → IsInOrder read flow q
+  order-opens_second m s h =
+      let z : Line = p.line m.link in
+      let none : z.near.queue.all ≡ [] = nothing-stands z.near m.near_may (s.lines m.link).near in
+      subst (IsInOrder read flow) (sym m.after)
+      (there-line-same read flow p m.link (opened_second z) m.lines m.set
+      (drop-none [] z.far.queue.received refl ∙ sym (drop-none z.near.queue.all z.far.queue.received none))
+      (sym m.near_may.complete) p.near refl refl refl refl h)
+
+  pub back-opens_second : OpensSecond read p q → Sound read p → IsInOrder read flow (turned p) → IsInOrder read flow (turned q)
+  back-opens_second m s h =
+      let z : Line = p.line m.link in
+      let none : z.far.queue.all ≡ [] = ap (λ (x : Queue). x.all) ((s.lines m.link).second m.follows).queue in
+      subst (λ (x : Pair). IsInOrder read flow (turned x)) (sym m.after)
+      (back-line read flow p m.link (opened_second z) m.lines m.set
+      (none ∙ sym (drop-none z.far.queue.all z.near.queue.received none))
+      refl p.near refl h)
 
   pub order-enters : Enters read p q → IsInOrder read flow p → IsInOrder read flow q
   order-enters m h =

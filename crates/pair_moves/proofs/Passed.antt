@@ -7,15 +7,14 @@ use Rattle.link.specs.Queue.{last_accepted}
 use Rattle.pair_moves.specs.Sayings.{Saying, UserMessage, is_order, is_answer, is_untrue, is_declaration, is_confirmation}
 use Rattle.pair_moves.specs.Ends.{StatusFrame, Line, Side, Pair, turned_line, unreceived}
 use Rattle.pair_moves.specs.Passing.{BecomeAt, with_message, Accepts, TakesOut, Keeps, Places, HandsOver}
-use Rattle.pair_moves.specs.Carrying.{with_frame, with_sent, with_frames_left, with_accepted, SendsStatus, SendsMessage, SendsEmpty, Drops, TakesEmpty, TakesMessage}
+use Rattle.pair_moves.specs.Carrying.{with_frame, with_sent, with_heard, with_frames_left, with_accepted, SendsStatus, SendsMessage, SendsEmpty, HearsFrame, Drops, TakesEmpty, TakesMessage}
 use Rattle.pair_moves.specs.Flowing.{Flows}
 use Rattle.pair_moves.specs.Once.{user}
 use Rattle.pair_moves.proofs.Counts.{count-append, count-one, count-first}
 use Rattle.pair_moves.proofs.Words.{only-user, said}
-use Rattle.pair_moves.proofs.Lines.{IsLine, line-message, line-status, line-empty, line-sent}
+use Rattle.pair_moves.proofs.Lines.{IsLine, serving-flows, line-message, line-status, line-empty, line-sent, line-heard}
 use Rattle.pair_moves.proofs.Sound.{Sound, kept-sound, books-side}
 use Rattle.pair_moves.proofs.Quiet.{SameFlags, quiet-side, quiet-line, still-true}
-use Rattle.pair_moves.proofs.LinesChanged.{serving-flows}
 use Rattle.pair_moves.proofs.LinesTaken.{line-left, line-taken_empty, line-taken_message, taken_message-is}
 
 -- ---- lists
@@ -37,7 +36,7 @@ drop-appended ms n m l = drop-append-le n ms (m ∷ []) l
 -- a message that goes behind those of a queue stands behind those that aren't received
 pub unreceived-appended : (z : Line) (m : Message) → z.near.serving ≡ true → IsLine z → unreceived (with_message z m) ≡ unreceived z ++ m ∷ []
 unreceived-appended z m serving h =
-    let f : Flows z = serving-flows z serving h in
+    let f : Flows z = serving-flows z h serving in
     drop-appended z.near.queue.all z.far.queue.received m (omega (arith, f.received, h.near.queue.sent))
 
 module _ (read : Message → Saying) (p q : Pair) where
@@ -121,7 +120,7 @@ module _ (read : Message → Saying) (p q : Pair) where
   pub sound-sends_status : SendsStatus read p q → Sound read p → Sound read q
   sound-sends_status m h =
       subst (Sound read) (sym m.after)
-      (frames-change m.link (with_frame (p.line m.link) StatusFrame) m.lines m.set (line-status (p.line m.link) (h.lines m.link))
+      (frames-change m.link (with_frame (p.line m.link) StatusFrame) m.lines m.set (line-status (p.line m.link) m.up (h.lines m.link))
       (record { awaited = omega arith; far_awaited = omega arith; truth = h.there.words m.link; far_truth = h.back.words m.link }) refl refl h)
 
   pub sound-sends_message : SendsMessage read p q → Sound read p → Sound read q
@@ -134,7 +133,13 @@ module _ (read : Message → Saying) (p q : Pair) where
   pub sound-sends_empty : SendsEmpty read p q → Sound read p → Sound read q
   sound-sends_empty m h =
       subst (Sound read) (sym m.after)
-      (frames-change m.link _ m.lines m.set (line-empty (p.line m.link) (h.lines m.link))
+      (frames-change m.link _ m.lines m.set (line-empty (p.line m.link) m.up (h.lines m.link))
+      (record { awaited = omega arith; far_awaited = omega arith; truth = h.there.words m.link; far_truth = h.back.words m.link }) refl refl h)
+
+  pub sound-hears_frame : HearsFrame read p q → Sound read p → Sound read q
+  sound-hears_frame m h =
+      subst (Sound read) (sym m.after)
+      (frames-change m.link (with_heard (p.line m.link)) m.lines m.set (line-heard (p.line m.link) m.frame m.rest m.first m.up (h.lines m.link))
       (record { awaited = omega arith; far_awaited = omega arith; truth = h.there.words m.link; far_truth = h.back.words m.link }) refl refl h)
 
   pub sound-drops : Drops read p q → Sound read p → Sound read q

@@ -3,13 +3,13 @@ use Rattle.std.proofs.Common.{◌≡◌, ◌≢◌, inr, ℕ, Bool, true, ◌+�
 use Rattle.std.proofs.Math.Logic.{⊎_elim}
 use Rattle.std.proofs.lemmas.Bool.{cases_eq}
 use Rattle.signalling_types.specs.Message.{Message}
-use Rattle.link.specs.Queue.{last_accepted}
+use Rattle.link.specs.Queue.{Queue, last_accepted}
 use Rattle.pair_moves.specs.Sayings.{Saying, Declaration, Confirmation, is_order, is_answer, is_untrue, is_declaration, is_confirmation}
-use Rattle.pair_moves.specs.Ends.{LinkEnd, Line, Side, Pair, turned, unreceived}
+use Rattle.pair_moves.specs.Ends.{LinkEnd, Line, Side, Pair, turned, turned_line, unreceived}
 use Rattle.pair_moves.specs.Passing.{with_message}
-use Rattle.pair_moves.specs.Returning.{opened_end, opened_line, MayOpen, with_service, Opens, Enters, Declares, WaitsForTime, Confirms, EndsHold, IgnoresConfirmation}
+use Rattle.pair_moves.specs.Returning.{opened_end, opened_first, opened_second, MayOpen, with_service, OpensFirst, OpensSecond, Enters, Declares, WaitsForTime, Confirms, EndsHold, IgnoresConfirmation}
 use Rattle.pair_moves.specs.Moves.{RunsLate}
-use Rattle.pair_moves.specs.Flowing.{IsEnd}
+use Rattle.pair_moves.specs.Flowing.{IsEnd, OpenedAlone}
 use Rattle.pair_moves.specs.Laws.{under_way, one_if, saying}
 use Rattle.pair_moves.proofs.Counts.{count-append, count-one, count-first, way-within}
 use Rattle.pair_moves.proofs.Words.{said, said-no_user, same-link, other-link, untrue-any, small}
@@ -19,7 +19,7 @@ use Rattle.pair_moves.proofs.Sound.{Sound, kept-sound, books-side, books-line}
 use Rattle.pair_moves.proofs.Quiet.{quiet-side, quiet-line, still-true}
 use Rattle.pair_moves.proofs.Passed.{unreceived-appended}
 use Rattle.pair_moves.proofs.Failed.{sound-ignores}
-use Rattle.pair_moves.proofs.LinesChanged.{line-opened, line-service, nothing-idle}
+use Rattle.pair_moves.proofs.LinesChanged.{line-opened_first, line-opened_second, line-service, nothing-idle}
 use Rattle.pair_moves.proofs.Tells.{one-said, none-said, count-beyond}
 
 -- nothing stands on an end that may open
@@ -30,40 +30,57 @@ none-unreceived : (test : Message → Bool) (ms : List Message) (n : ℕ) → ms
 none-unreceived test ms n e = ap (λ (xs : List Message). count_by test (drop n xs)) e ∙ count-beyond test n
 
 module _ (read : Message → Saying) (p q : Pair) where
-  pub sound-opens : Opens read p q → Sound read p → Sound read q
-  sound-opens m h =
+  -- nothing is said about a link that may open, nor has an end of it anything that stands there
+  unsaid : (link : ℕ) → MayOpen (p.line link).near → one_if (p.line link).far.awaited ≡ 0 → Sound read p → under_way (untrue_of read link opened_end) p ≡ 0
+  unsaid link may far_free h =
+      let near_free : one_if (p.line link).near.awaited ≡ 0 = none-said (p.line link).near.awaited may.unawaited in
+      omega (
+        arith,
+        near_free,
+        far_free,
+        h.there.orders link,
+        h.back.orders link,
+        way-within (untrue_of read link opened_end) (saying read (is_order link)) (saying read (is_answer link)) p
+            (λ m. untrue-any link true (last_accepted opened_end.queue) (read m)),
+      )
+
+  pub sound-opens_first : OpensFirst read p q → Sound read p → Sound read q
+  sound-opens_first m h =
       let z : Line = p.line m.link in
       let near_none : z.near.queue.all ≡ [] = nothing-stands z.near m.near_may (h.lines m.link).near in
       let far_none : z.far.queue.all ≡ [] = nothing-stands z.far m.far_may (h.lines m.link).far in
       let near_free : one_if z.near.awaited ≡ 0 = none-said z.near.awaited m.near_may.unawaited in
-      let far_free : one_if z.far.awaited ≡ 0 = none-said z.far.awaited m.far_may.unawaited in
-      let any : (m' : Message) → one_if (untrue_of read m.link opened_end m') ≤ one_if (saying read (is_order m.link) m') + one_if (saying read (is_answer m.link) m') =
-      λ m'. untrue-any m.link true (last_accepted opened_end.queue) (read m') in
       subst (Sound read) (sym m.after)
-      (quiet-line read p m.link opened_line m.lines m.set p.near (record { accepted = refl; received = refl; outstanding = refl })
+      (quiet-line read p m.link (opened_first z) m.lines m.set p.near (record { accepted = refl; received = refl; outstanding = refl })
       (record {
         awaited = omega (arith, near_free);
-        far_awaited = omega (arith, far_free);
-        truth = omega (
-          arith,
-          near_free,
-          far_free,
-          h.there.orders m.link,
-          h.back.orders m.link,
-          way-within (untrue_of read m.link opened_end) (saying read (is_order m.link)) (saying read (is_answer m.link)) p any,
-        );
-        far_truth = omega (
-          arith,
-          near_free,
-          far_free,
-          h.there.orders m.link,
-          h.back.orders m.link,
-          way-within (untrue_of read m.link opened_end) (saying read (is_order m.link)) (saying read (is_answer m.link)) (turned p) any,
-        );
+        far_awaited = omega arith;
+        truth = unsaid m.link m.near_may (none-said z.far.awaited m.far_may.unawaited) h;
+        far_truth = h.back.words m.link;
       })
-      line-opened
-      (λ test. omega (arith, none-unreceived test z.near.queue.all z.far.queue.received near_none))
-      (λ test. omega (arith, none-unreceived test z.far.queue.all z.near.queue.received far_none))
+      (line-opened_first z m.far_may (h.lines m.link))
+      (λ test. omega (arith, none-unreceived test z.near.queue.all z.far.queue.received near_none, count-beyond test z.far.queue.received))
+      (λ test. omega (arith, none-unreceived test z.far.queue.all z.near.queue.received far_none, none-unreceived test z.far.queue.all 0 far_none))
+      h)
+
+  pub sound-opens_second : OpensSecond read p q → Sound read p → Sound read q
+  sound-opens_second m h =
+      let z : Line = p.line m.link in
+      let o : OpenedAlone (turned_line z) = (h.lines m.link).second m.follows in
+      let near_none : z.near.queue.all ≡ [] = nothing-stands z.near m.near_may (h.lines m.link).near in
+      let far_none : z.far.queue.all ≡ [] = ap (λ (x : Queue). x.all) o.queue in
+      let near_free : one_if z.near.awaited ≡ 0 = none-said z.near.awaited m.near_may.unawaited in
+      subst (Sound read) (sym m.after)
+      (quiet-line read p m.link (opened_second z) m.lines m.set p.near (record { accepted = refl; received = refl; outstanding = refl })
+      (record {
+        awaited = omega (arith, near_free);
+        far_awaited = omega arith;
+        truth = unsaid m.link m.near_may (none-said z.far.awaited o.unawaited) h;
+        far_truth = h.back.words m.link;
+      })
+      (line-opened_second z m.follows (h.lines m.link))
+      (λ test. omega (arith, none-unreceived test z.near.queue.all z.far.queue.received near_none, count-beyond test z.far.queue.received))
+      (λ test. omega (arith, none-unreceived test z.far.queue.all z.near.queue.received far_none, none-unreceived test z.far.queue.all 0 far_none))
       h)
 
   pub sound-enters : Enters read p q → Sound read p → Sound read q
@@ -77,7 +94,7 @@ module _ (read : Message → Saying) (p q : Pair) where
         truth = still-true read p m.link (with_service z).near (λ u. m.up) (inr refl) h;
         far_truth = h.back.words m.link;
       })
-      (line-service z m.up (h.lines m.link))
+      (line-service z m.up m.heard (h.lines m.link))
       (λ test. omega arith) (λ test. omega arith) h)
 
   pub sound-waits : WaitsForTime read p q → Sound read p → Sound read q

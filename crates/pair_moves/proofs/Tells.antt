@@ -1,14 +1,14 @@
 -- What an order or an answer that just arrived tells, since it is true.
-use Rattle.std.proofs.Common.{◌≡◌, ℕ, zero, suc, Bool, true, false, ◌+◌, List, [], ◌∷◌, drop, count_by, refl, ap, sym, ◌∙◌, arith, Some}
+use Rattle.std.proofs.Common.{◌≡◌, ℕ, zero, suc, Bool, true, false, ◌||◌, ◌+◌, List, [], ◌∷◌, drop, count_by, refl, ap, sym, ◌∙◌, arith, Some}
 use Rattle.signalling_types.specs.Message.{Message}
 use Rattle.link.specs.Queue.{last_accepted, named_count}
 use Rattle.pair_moves.specs.Sayings.{Saying, Order, Answer, is_user_message, is_untrue}
-use Rattle.pair_moves.specs.Ends.{LinkEnd, Pair, unreceived}
+use Rattle.pair_moves.specs.Ends.{LinkEnd, Line, Pair, unreceived}
 use Rattle.pair_moves.specs.Failing.{users_of, managements_of}
 use Rattle.pair_moves.specs.Laws.{one_if}
 use Rattle.pair_moves.proofs.Counts.{count-split}
 use Rattle.pair_moves.proofs.Words.{true-order, true-answer, arrived-not}
-use Rattle.pair_moves.proofs.Lines.{or-second}
+use Rattle.pair_moves.proofs.Lines.{or-second, used-by, unless-true, incomplete-joined, incomplete-first}
 use Rattle.pair_moves.proofs.Books.{untrue_of}
 use Rattle.pair_moves.proofs.Sound.{Sound}
 use Rattle.pair_moves.proofs.LinesChanged.{line-names}
@@ -50,9 +50,12 @@ module _ (read : Message → Saying) (p : Pair) where
   pub names-received : (link number count : ℕ) → Tells p link number → (p.line link).near.incomplete ≡ true →
       named_count (p.line link).near.queue number ≡ Some count → Sound read p → count ≡ (p.line link).far.queue.received
   names-received link number count t incomplete named h =
-      count-same count (p.line link).far.queue.received
-      (sym named ∙ ap (named_count (p.line link).near.queue) t.right ∙ line-names (p.line link) (h.lines link)
-      (or-second (p.line link).near.up (p.line link).near.incomplete (p.line link).far.up incomplete))
+      let z : Line = p.line link in
+      count-same count z.far.queue.received
+      (sym named ∙ ap (named_count z.near.queue) t.right ∙ line-names z (h.lines link)
+      (used-by z.near_may_follow z.far_may_follow (z.near.up || z.near.incomplete || z.far.up)
+      (unless-true z.near_may_follow (incomplete-first z (h.lines link) incomplete)) (unless-true z.far_may_follow (incomplete-joined z (h.lines link) incomplete))
+      (or-second z.near.up z.near.incomplete z.far.up incomplete)))
 
   -- the user messages that move and the others that are queued anew are those that weren't received
   pub moved-counts : (link count : ℕ) → count ≡ (p.line link).far.queue.received → (test : Message → Bool) →

@@ -4,15 +4,16 @@ use Rattle.std.proofs.lemmas.Bool.{ne_eqb}
 use Rattle.pair_moves.specs.Ends.{Procedure, Changeover, Code, Time, turned}
 use Rattle.pair_moves.specs.Passing.{with_message}
 use Rattle.pair_moves.specs.Carrying.{with_sent, with_accepted}
-use Rattle.pair_moves.specs.Returning.{opened_line, with_service}
+use Rattle.pair_moves.specs.Failing.{with_failure}
+use Rattle.pair_moves.specs.Returning.{with_service}
 use Rattle.pair_moves.specs.Moves as moves
-use Rattle.pair_moves.specs.Moves.{Move}
+use Rattle.pair_moves.specs.Moves.{Move, Moves}
 use Rattle.pair_moves.specs.Crossing as crossing
 use Rattle.pair_moves.specs.Crossing.{read_plainly, lines_with}
 use Rattle.pair_moves.specs.GoingBack as back
 use Rattle.pair_moves.specs.GoingBack.{second_message, the_declaration, the_confirmation, held_by_code, Returns}
 use Rattle.pair_moves.proofs.Lines.{false_is_true}
-use Rattle.pair_moves.proofs.CrossingBegun.{set}
+use Rattle.pair_moves.proofs.CrossingBegun.{Joins, joining, opens, set}
 
 -- flows are held by a code alone
 held-alone : (code : ℕ) (procedure : Procedure) → procedure ≢ Code code → held_by_code code procedure ≡ false
@@ -22,20 +23,51 @@ held-alone code (Time returned) d = refl
 
 -- ---- the moves, in order
 
-reopens : Move read_plainly crossing.handed_over back.reopened
-reopens = moves.near (moves.opens (record {
+opens-alone : Move read_plainly crossing.handed_over back.opened_alone
+opens-alone =
+    opens crossing.handed_over 0 (omega arith) (record { down = refl; complete = refl; unawaited = refl }) (record { down = refl; complete = refl; unawaited = refl })
+
+falls-alone : Move read_plainly back.opened_alone back.fallen_alone
+falls-alone = moves.near (moves.falls (record {
   link = 0;
-  near_may = record { down = refl; complete = refl; unawaited = refl };
-  far_may = record { down = refl; complete = refl; unawaited = refl };
-  lines = lines_with crossing.handed_over 0 opened_line;
-  set = set crossing.handed_over 0 opened_line (omega arith);
+  up = refl;
+  route = λ flow. Some 1;
+  holds = λ procedure flow. false;
+  suspends = record {
+    others = λ flow other d e. e;
+    kept = λ procedure flow e. e;
+    same = λ procedure flow d. refl;
+    held = λ flow serving e. false_is_true serving;
+  };
+  lines = lines_with back.opened_alone 0 (with_failure ((back.opened_alone).line 0) false);
+  set = set back.opened_alone 0 (with_failure ((back.opened_alone).line 0) false) (omega arith);
   after = refl;
 }))
+
+opens-again : Move read_plainly back.fallen_alone back.opened_again
+opens-again =
+    opens back.fallen_alone 0 (omega arith) (record { down = refl; complete = refl; unawaited = refl }) (record { down = refl; complete = refl; unawaited = refl })
+
+joins-again : Joins back.opened_again 0
+joins-again = record {
+  inside = omega arith;
+  follows = refl;
+  far_may = record { down = refl; complete = refl; unawaited = refl };
+  up = refl;
+  far_up = refl;
+  still_up = refl;
+  told = refl;
+  told_still = refl;
+  far_still_up = refl;
+  far_told = refl;
+  far_told_still = refl;
+}
 
 serves : Move read_plainly back.reopened back.serves_again
 serves = moves.near (moves.enters (record {
   link = 0;
   up = refl;
+  heard = refl;
   route = λ flow. Some 1;
   kept = λ flow other e. e;
   lines = lines_with back.reopened 0 (with_service ((back.reopened).line 0));
@@ -47,6 +79,7 @@ serves-there : Move read_plainly back.serves_again back.serves_again_there
 serves-there = moves.far (moves.enters (record {
   link = 0;
   up = refl;
+  heard = refl;
   route = λ flow. None;
   kept = λ flow other e. e;
   lines = lines_with (turned back.serves_again) 0 (with_service (((turned back.serves_again)).line 0));
@@ -234,9 +267,13 @@ hands-over = moves.far (moves.hands_over (record {
   after = refl;
 }))
 
+declaring : Moves read_plainly back.reopened back.declaring_run
+declaring =
+    (serves, (serves-there, (declares, (accepts, (keeps, (sends-declaration, (takes-declaration, (confirms, (places-confirmation, (sends-confirmation, (takes-confirmation, (ends-hold, (takes-out, (places-back, (sends-back, (takes-back, (hands-over, tt)))))))))))))))))
+
 pub returns-run : Returns
 returns-run = record {
-  moves = (reopens, (serves, (serves-there, (declares, (accepts, (keeps, (sends-declaration, (takes-declaration, (confirms, (places-confirmation, (sends-confirmation, (takes-confirmation, (ends-hold, (takes-out, (places-back, (sends-back, (takes-back, (hands-over, tt))))))))))))))))));
+  moves = (opens-alone, (falls-alone, (opens-again, joining back.opened_again 0 back.declaring_run joins-again declaring)));
   returned = record {
     accepted = refl;
     received = refl;

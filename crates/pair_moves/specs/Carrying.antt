@@ -28,6 +28,10 @@ with_sent z sending = record z {
 abbrev pub with_frames_left : Line → List Frame → Line
 with_frames_left z rest = record z { to_near = rest }
 
+-- a line whose near end heard the far one
+abbrev pub with_heard : Line → Line
+with_heard z = record z { near = record z.near { heard = true } }
+
 -- a line after the near end accepted the numbers of a frame, of which count are newly confirmed
 abbrev pub with_accepted : Line → List Frame → (carries : Bool) → (count : ℕ) → Line
 with_accepted z rest carries count = record z {
@@ -36,9 +40,10 @@ with_accepted z rest carries count = record z {
 }
 
 module _ (read : Message → Saying) (p q : Pair) where
-  -- a link status goes out
+  -- a link status goes out, from an end that is up
   pub record SendsStatus : Type 0 where
     pub link : ℕ
+    pub up : (p.line link).near.up ≡ true
     pub lines : ℕ → Line
     pub set : BecomeAt p link (with_frame (p.line link) StatusFrame) lines
     pub after : q ≡ record p { line = lines }
@@ -55,11 +60,23 @@ module _ (read : Message → Saying) (p q : Pair) where
     pub set : BecomeAt p link (with_sent (p.line link) sending) lines
     pub after : q ≡ record p { line = lines }
 
-  -- an acknowledgement goes out
+  -- an acknowledgement goes out, from an end that is up
   pub record SendsEmpty : Type 0 where
     pub link : ℕ
+    pub up : (p.line link).near.up ≡ true
     pub lines : ℕ → Line
     pub set : BecomeAt p link (with_frame (p.line link) (acknowledgement (p.line link).near.queue)) lines
+    pub after : q ≡ record p { line = lines }
+
+  -- an end that is up hears the first frame in flight to it: so its alignment goes on
+  pub record HearsFrame : Type 0 where
+    pub link : ℕ
+    pub up : (p.line link).near.up ≡ true
+    pub frame : Frame
+    pub rest : List Frame
+    pub first : (p.line link).to_near ≡ frame ∷ rest
+    pub lines : ℕ → Line
+    pub set : BecomeAt p link (with_heard (p.line link)) lines
     pub after : q ≡ record p { line = lines }
 
   -- a frame comes that says nothing: a link status, or any to an end that is down

@@ -1,15 +1,15 @@
 -- A run of the moves: the only message stands on a link that fails under it, and comes to the far
 -- node by another.
-use Rattle.std.specs.Prelude.{◌≡◌, ℕ, Bool, true, false, List, [], ◌∷◌, drop, slice_index, nat_eq}
+use Rattle.std.specs.Prelude.{◌≡◌, ℕ, Bool, true, false, List, [], ◌∷◌, ◌++◌, drop, slice_index, nat_eq}
 use Rattle.std.specs.Prelude.{Option, Some, None, if◌then◌else◌}
 use Rattle.signalling_types.specs.Message.{Message, is_management}
 use Rattle.signalling_types.specs.Numbers.{number_of}
 use Rattle.pair_moves.specs.Sayings.{Saying, UserMessage, Order, Answer, Declaration, Confirmation}
-use Rattle.pair_moves.specs.Ends.{Line, Procedure, Changeover, Code, Time, Side, Pair, turned, first_pair}
+use Rattle.pair_moves.specs.Ends.{StatusFrame, Line, Procedure, Changeover, Code, Time, Side, Pair, turned, first_pair}
 use Rattle.pair_moves.specs.Passing.{with_message}
-use Rattle.pair_moves.specs.Carrying.{with_sent, with_frames_left, with_accepted}
+use Rattle.pair_moves.specs.Carrying.{with_frame, with_sent, with_heard, with_frames_left, with_accepted}
 use Rattle.pair_moves.specs.Failing.{with_failure, with_completion}
-use Rattle.pair_moves.specs.Returning.{opened_line, with_service}
+use Rattle.pair_moves.specs.Returning.{opened_first, opened_second, with_service}
 use Rattle.pair_moves.specs.Moves.{Moves, last_of}
 
 -- how messages are read here: a management message has a heading, a link or a code, and three
@@ -72,13 +72,60 @@ abbrev pub after_taking_one : Pair → ℕ → ℕ → Message → Pair
 after_taking_one p link count m =
     with_near (with_line p link (with_accepted (p.line link) [] true count)) (record p.near { arrived = m ∷ [] })
 
+-- ---- a link opens: at the near end first, then at the far one, and each hears the other's status
+
+abbrev pub opens : Pair → ℕ → Pair
+opens p link = with_line p link (opened_first (p.line link))
+
+abbrev pub follows : Pair → ℕ → Pair
+follows p link = with_line p link (opened_second (p.line link))
+
+abbrev pub says_so : Pair → ℕ → Pair
+says_so p link = with_line p link (with_frame (p.line link) StatusFrame)
+
+abbrev pub hears : Pair → ℕ → Pair
+hears p link = with_line p link (with_heard (p.line link))
+
+abbrev pub drops : Pair → ℕ → Pair
+drops p link = with_line p link (with_frames_left (p.line link) [])
+
+-- the far end follows, and then both are told
+abbrev pub followed : Pair → ℕ → Pair
+followed p link = turned (follows (turned p) link)
+
+abbrev pub said : Pair → ℕ → Pair
+said p link = says_so (followed p link) link
+
+abbrev pub said_back : Pair → ℕ → Pair
+said_back p link = turned (says_so (turned (said p link)) link)
+
+abbrev pub heard : Pair → ℕ → Pair
+heard p link = hears (said_back p link) link
+
+abbrev pub dropped : Pair → ℕ → Pair
+dropped p link = drops (heard p link) link
+
+abbrev pub heard_there : Pair → ℕ → Pair
+heard_there p link = turned (hears (turned (dropped p link)) link)
+
+abbrev pub joined : Pair → ℕ → Pair
+joined p link = turned (drops (turned (heard_there p link)) link)
+
+abbrev pub joining : Pair → ℕ → List Pair
+joining p link =
+    followed p link ∷ said p link ∷ said_back p link ∷ heard p link ∷ dropped p link ∷ heard_there p link
+    ∷ joined p link ∷ []
+
 -- ---- the run: both links open and enter service at both ends
 
-abbrev pub opened_first : Pair
-opened_first = with_line (first_pair 2) 0 opened_line
+abbrev pub first_opens : Pair
+first_opens = opens (first_pair 2) 0
+
+abbrev pub second_opens : Pair
+second_opens = opens (joined first_opens 0) 1
 
 abbrev pub opened_both : Pair
-opened_both = with_line opened_first 1 opened_line
+opened_both = joined second_opens 1
 
 abbrev pub enters_near : Pair → ℕ → (Option ℕ) → Pair
 enters_near p link route =
@@ -173,12 +220,20 @@ abbrev pub handed_over : Pair
 handed_over =
     turned (with_near (turned message_came) (record message_came.far { arrived = []; received = the_message ∷ [] }))
 
-abbrev pub run : List Pair
-run =
-    opened_first ∷ opened_both ∷ first_serves ∷ second_serves ∷ first_serves_there ∷ second_serves_there
+-- once both links are open
+abbrev pub crossing_run : List Pair
+crossing_run =
+    first_serves ∷ second_serves ∷ first_serves_there ∷ second_serves_there
     ∷ accepted_one ∷ placed_first ∷ sent_first ∷ failed_near ∷ order_placed ∷ order_sent
     ∷ order_came ∷ failed_far ∷ message_dropped ∷ completed_far ∷ answer_placed ∷ answer_sent
     ∷ answer_came ∷ completed_near ∷ taken_out ∷ placed_second ∷ sent_second ∷ message_came ∷ handed_over ∷ []
+
+-- once the first is
+abbrev pub second_run : List Pair
+second_run = second_opens ∷ joining second_opens 1 ++ crossing_run
+
+abbrev pub run : List Pair
+run = first_opens ∷ joining first_opens 0 ++ second_run
 
 -- neither node lost anything, and no timer ended a hold
 pub record RaisesNoFlag (p : Pair) : Type 0 where

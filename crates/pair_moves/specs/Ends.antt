@@ -21,6 +21,8 @@ pub record LinkEnd : Type 0 where
   pub incomplete : Bool
   -- an order about it went out, and its answer hasn't come
   pub awaited : Bool
+  -- since it opened, it heard the other end
+  pub heard : Bool
 
 -- a link: its two ends, and the frames in flight to each, the first that went out first
 pub record Line : Type 0 where
@@ -28,6 +30,9 @@ pub record Line : Type 0 where
   pub far : LinkEnd
   pub to_far : List Frame
   pub to_near : List Frame
+  -- the other end opened, and this one hasn't followed yet
+  pub near_may_follow : Bool
+  pub far_may_follow : Bool
 
 -- what a flow waits for: the changeover of a link, a declaration's confirmation, or the time of a
 -- link that returned
@@ -66,7 +71,14 @@ pub record Pair : Type 0 where
 -- ---- the same, seen from the far node
 
 abbrev pub turned_line : Line → Line
-turned_line z = record { near = z.far; far = z.near; to_far = z.to_near; to_near = z.to_far }
+turned_line z = record {
+  near = z.far;
+  far = z.near;
+  to_far = z.to_near;
+  to_near = z.to_far;
+  near_may_follow = z.far_may_follow;
+  far_may_follow = z.near_may_follow;
+}
 
 abbrev pub turned : Pair → Pair
 turned p = record { links = p.links; line = λ link. turned_line (p.line link); near = p.far; far = p.near }
@@ -80,10 +92,24 @@ unreceived z = drop z.far.queue.received z.near.queue.all
 -- ---- the first pair
 
 abbrev pub closed_end : LinkEnd
-closed_end = record { queue = first_queue; up = false; serving = false; incomplete = false; awaited = false }
+closed_end = record {
+  queue = first_queue;
+  up = false;
+  serving = false;
+  incomplete = false;
+  awaited = false;
+  heard = false;
+}
 
 abbrev pub closed_line : Line
-closed_line = record { near = closed_end; far = closed_end; to_far = []; to_near = [] }
+closed_line = record {
+  near = closed_end;
+  far = closed_end;
+  to_far = [];
+  to_near = [];
+  near_may_follow = false;
+  far_may_follow = false;
+}
 
 abbrev pub first_side : Side
 first_side = record {

@@ -17,6 +17,7 @@ with_failure z awaited = record z {
     serving = false;
     incomplete = z.near.serving || z.near.incomplete;
     awaited = awaited;
+    heard = false;
   };
 }
 

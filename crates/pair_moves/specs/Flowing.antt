@@ -1,11 +1,12 @@
 -- What frames in flight carry from one end of a link to the other, and back.
-use Rattle.std.specs.Prelude.{◌≡◌, ℕ, Bool, true, false, ◌+◌, ◌≤◌, ◌||◌, List, [], ◌∷◌, slice_get, drop}
+use Rattle.std.specs.Prelude.{◌≡◌, ℕ, Bool, true, false, not, ◌+◌, ◌≤◌, ◌||◌, ◌&&◌, List, [], ◌∷◌, slice_get, drop}
 use Rattle.std.specs.Prelude.{Some, unwrap_or}
 use Rattle.signalling_types.specs.Message.{Message}
 use Rattle.signalling_types.specs.declared.limits.TheConstants.Limits.{WINDOW}
 use Rattle.signalling_types.specs.Numbers.{previous_number}
-use Rattle.link.specs.Queue.{Queue, IsQueue, forward_number, named_count, last_accepted}
+use Rattle.link.specs.Queue.{Queue, IsQueue, first_queue, forward_number, named_count, last_accepted}
 use Rattle.pair_moves.specs.Ends.{Frame, StatusFrame, EmptyFrame, MessageFrame, LinkEnd, Line, unreceived}
+use Rattle.pair_moves.specs.Returning.{MayOpen}
 
 -- frames carry the messages of a queue from one count on, in order, up to the last that was sent
 abbrev pub Carry : Queue → ℕ → List Frame → Type 0
@@ -33,13 +34,33 @@ pub record Flows (z : Line) : Type 0 where
   pub carried : z.far.up ≡ true → Carry z.near.queue z.far.queue.received z.to_far
   pub named : z.near.up ≡ true → Name z.near.queue.confirmed z.far.queue.received z.to_near
 
--- either end is up, or the near end's changeover isn't complete
+-- no end may follow; and either end is up, or the near end's changeover isn't complete
 abbrev pub is_in_use : Line → Bool
-is_in_use z = z.near.up || z.near.incomplete || z.far.up
+is_in_use z = not (z.near_may_follow || z.far_may_follow) && (z.near.up || z.near.incomplete || z.far.up)
 
--- law (i): so it is while either end is up, and until the near end's changeover is complete
+-- law (i): so it is, unless an end may follow, while either end is up, and until the near end's
+-- changeover is complete
 abbrev pub IsFlowing : Line → Type 0
 IsFlowing z = is_in_use z ≡ true → Flows z
+
+-- in place of it, while the far end may follow: that end may still open. The near end opened first,
+-- and may have failed since; it isn't in service and has nothing to complete, heard nothing, and its
+-- queue is as it began. Nothing is in flight to it, and what is in flight to the far end carries no
+-- message and confirms none
+pub record OpenedAlone (z : Line) : Type 0 where
+  pub alone : z.near_may_follow ≡ false
+  pub far_may : MayOpen z.far
+  pub unserved : z.near.serving ≡ false
+  pub complete : z.near.incomplete ≡ false
+  pub unawaited : z.near.awaited ≡ false
+  pub unheard : z.near.heard ≡ false
+  pub queue : z.near.queue ≡ first_queue
+  pub silent : z.to_near ≡ []
+  pub carried : Carry first_queue 0 z.to_far
+  pub named : Name 0 0 z.to_far
+
+abbrev pub OpensAlone : Line → Type 0
+OpensAlone z = z.far_may_follow ≡ true → OpenedAlone z
 
 -- how an end of a link is: its queue is one, numbered from 0; in service it is up, and while a
 -- changeover goes on it is down; and a message stands there only in service or until its changeover
@@ -52,7 +73,7 @@ pub record IsEnd (x : LinkEnd) : Type 0 where
   pub awaited : x.awaited ≡ true → x.up ≡ false
   pub idle : (x.serving || x.incomplete) ≡ false → x.queue.all ≡ []
 
--- law (iv): until then, the number of the last message that the far end accepted names the count of
+-- law (iv): as long as that, the number of the last message that the far end accepted names the count of
 -- all that it received. So a completion with that number moves just the messages that it lacks
 abbrev pub NamesReceived : Line → Type 0
 NamesReceived z =

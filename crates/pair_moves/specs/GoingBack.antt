@@ -1,12 +1,13 @@
 -- The run goes on: the link that failed returns, and the flow goes back to it behind a declaration.
 -- A message that is accepted meanwhile waits in Held, and comes behind the first.
-use Rattle.std.specs.Prelude.{◌≡◌, ℕ, Bool, true, false, List, [], ◌∷◌, nat_eq, Some, None}
+use Rattle.std.specs.Prelude.{◌≡◌, ℕ, Bool, true, false, List, [], ◌∷◌, ◌++◌, nat_eq, Some, None}
 use Rattle.signalling_types.specs.Message.{Message}
 use Rattle.pair_moves.specs.Ends.{Procedure, Changeover, Code, Time, Pair, turned}
 use Rattle.pair_moves.specs.Passing.{with_message}
-use Rattle.pair_moves.specs.Returning.{opened_line}
+use Rattle.pair_moves.specs.Failing.{with_failure}
 use Rattle.pair_moves.specs.Moves.{Moves, last_of}
-use Rattle.pair_moves.specs.Crossing.{read_plainly, the_message, with_line, with_near, enters_near, after_placing}
+use Rattle.pair_moves.specs.Crossing.{read_plainly, the_message, with_line, with_near, opens, joining, joined}
+use Rattle.pair_moves.specs.Crossing.{enters_near, after_placing}
 use Rattle.pair_moves.specs.Crossing.{after_sending_one, after_taking_one, handed_over, RaisesNoFlag}
 
 abbrev pub second_message : Message
@@ -25,10 +26,21 @@ held_by_code code (Changeover link) = false
 held_by_code code (Code other) = nat_eq other code
 held_by_code code (Time returned) = false
 
--- ---- link 0 opens and enters service at both ends; the near node declares that its flows go back
+-- ---- link 0 opens at the near end, and falls there before the far one follows; it opens there
+-- again, and now the far end does follow. It enters service at both ends, and the near node declares
+-- that its flows go back
+
+abbrev pub opened_alone : Pair
+opened_alone = opens handed_over 0
+
+abbrev pub fallen_alone : Pair
+fallen_alone = with_line opened_alone 0 (with_failure (opened_alone.line 0) false)
+
+abbrev pub opened_again : Pair
+opened_again = opens fallen_alone 0
 
 abbrev pub reopened : Pair
-reopened = with_line handed_over 0 opened_line
+reopened = joined opened_again 0
 
 abbrev pub serves_again : Pair
 serves_again = enters_near reopened 0 (Some 1)
@@ -102,11 +114,15 @@ second_handed_over =
     (with_near (turned second_came)
     (record second_came.far { arrived = []; received = the_message ∷ second_message ∷ [] }))
 
-abbrev pub return_run : List Pair
-return_run =
-    reopened ∷ serves_again ∷ serves_again_there ∷ declared ∷ accepted_second ∷ kept_second
+-- once link 0 is open again
+abbrev pub declaring_run : List Pair
+declaring_run =
+    serves_again ∷ serves_again_there ∷ declared ∷ accepted_second ∷ kept_second
     ∷ declaration_sent ∷ declaration_came ∷ confirmed ∷ confirmation_placed ∷ confirmation_sent ∷ confirmation_came
     ∷ hold_ended ∷ let_out ∷ placed_back ∷ sent_back ∷ second_came ∷ second_handed_over ∷ []
+
+abbrev pub return_run : List Pair
+return_run = opened_alone ∷ fallen_alone ∷ opened_again ∷ joining opened_again 0 ++ declaring_run
 
 -- both messages were accepted and received in the same order, the second by the link that returned,
 -- and no flag was raised

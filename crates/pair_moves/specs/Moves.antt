@@ -5,10 +5,12 @@ use Rattle.signalling_types.specs.declared.point.Flow.{Flow}
 use Rattle.pair_moves.specs.Sayings.{Saying}
 use Rattle.pair_moves.specs.Ends.{Procedure, Pair, turned}
 use Rattle.pair_moves.specs.Passing.{Accepts, TakesOut, Keeps, Places, HandsOver}
-use Rattle.pair_moves.specs.Carrying.{SendsStatus, SendsMessage, SendsEmpty, Drops, TakesEmpty, TakesMessage}
+use Rattle.pair_moves.specs.Carrying.{SendsStatus, SendsMessage, SendsEmpty, HearsFrame, Drops}
+use Rattle.pair_moves.specs.Carrying.{TakesEmpty, TakesMessage}
 use Rattle.pair_moves.specs.Failing.{Falls, FallsWithOrder, CompletesByOrder, AnswersOrder}
 use Rattle.pair_moves.specs.Failing.{CompletesByAnswer, EndsWait, IgnoresAnswer}
-use Rattle.pair_moves.specs.Returning.{Opens, Enters, Declares, WaitsForTime, Confirms, EndsHold, IgnoresConfirmation}
+use Rattle.pair_moves.specs.Returning.{OpensFirst, OpensSecond, Enters, Declares, WaitsForTime}
+use Rattle.pair_moves.specs.Returning.{Confirms, EndsHold, IgnoresConfirmation}
 
 -- a timer ends holds: from then on nothing is said of order
 pub record RunsLate (p q : Pair) : Type 0 where
@@ -30,6 +32,7 @@ module _ (read : Message → Saying) where
     sends_status : SendsStatus read p q → NearMove p q
     sends_message : SendsMessage read p q → NearMove p q
     sends_empty : SendsEmpty read p q → NearMove p q
+    hears_frame : HearsFrame read p q → NearMove p q
     drops : Drops read p q → NearMove p q
     takes_empty : TakesEmpty read p q → NearMove p q
     takes_message : TakesMessage read p q → NearMove p q
@@ -40,7 +43,8 @@ module _ (read : Message → Saying) where
     completes_by_answer : CompletesByAnswer read p q → NearMove p q
     ends_wait : EndsWait read p q → NearMove p q
     ignores_answer : IgnoresAnswer read p q → NearMove p q
-    opens : Opens read p q → NearMove p q
+    opens_first : OpensFirst read p q → NearMove p q
+    opens_second : OpensSecond read p q → NearMove p q
     enters : Enters read p q → NearMove p q
     declares : Declares read p q → NearMove p q
     waits_for_time : WaitsForTime read p q → NearMove p q

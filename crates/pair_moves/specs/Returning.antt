@@ -7,12 +7,24 @@ use Rattle.pair_moves.specs.Ends.{LinkEnd, Line, Procedure, Code, Time, Pair, cl
 use Rattle.pair_moves.specs.Passing.{BecomeAt, Hears, with_message}
 use Rattle.pair_moves.specs.Failing.{ChangesOnly}
 
--- an end in a new epoch, and a line with two of them and nothing in flight
+-- an end in a new epoch
 abbrev pub opened_end : LinkEnd
 opened_end = record closed_end { up = true }
 
-abbrev pub opened_line : Line
-opened_line = record { near = opened_end; far = opened_end; to_far = []; to_near = [] }
+-- a line whose near end opens first: nothing is in flight, and the far end may follow
+abbrev pub opened_first : Line → Line
+opened_first z = record {
+  near = opened_end;
+  far = z.far;
+  to_far = [];
+  to_near = [];
+  near_may_follow = false;
+  far_may_follow = true;
+}
+
+-- a line whose near end follows the far one
+abbrev pub opened_second : Line → Line
+opened_second z = record z { near = opened_end; near_may_follow = false }
 
 -- an end may open again: it is down, its changeover is complete, and no answer is awaited for it
 pub record MayOpen (x : LinkEnd) : Type 0 where
@@ -36,19 +48,30 @@ pub record AddsOnly (before : Procedure → Flow → Bool) (adding : Procedure)
   pub same : ChangesOnly before adding holds
 
 module _ (read : Message → Saying) (p q : Pair) where
-  -- a link opens at both ends
-  pub record Opens : Type 0 where
+  -- a link opens at the near end, where it may open at the far one too, which then may follow
+  pub record OpensFirst : Type 0 where
     pub link : ℕ
     pub near_may : MayOpen (p.line link).near
     pub far_may : MayOpen (p.line link).far
     pub lines : ℕ → Line
-    pub set : BecomeAt p link opened_line lines
+    pub set : BecomeAt p link (opened_first (p.line link)) lines
     pub after : q ≡ record p { line = lines }
 
-  -- a link enters service; flows without a link may take it, and the others keep theirs for now
+  -- the near end follows the far one, which may be down again by then
+  pub record OpensSecond : Type 0 where
+    pub link : ℕ
+    pub follows : (p.line link).near_may_follow ≡ true
+    pub near_may : MayOpen (p.line link).near
+    pub lines : ℕ → Line
+    pub set : BecomeAt p link (opened_second (p.line link)) lines
+    pub after : q ≡ record p { line = lines }
+
+  -- a link enters service at an end that heard the other; flows without a link may take it, and the
+  -- others keep theirs for now
   pub record Enters : Type 0 where
     pub link : ℕ
     pub up : (p.line link).near.up ≡ true
+    pub heard : (p.line link).near.heard ≡ true
     pub route : Flow → Option ℕ
     pub kept : (flow : Flow) (other : ℕ) → p.near.route flow ≡ Some other → route flow ≡ Some other
     pub lines : ℕ → Line

@@ -1,5 +1,5 @@
 -- What holds after every list of moves, while neither node lost anything.
-use Rattle.std.specs.Prelude.{◌≡◌, ℕ, false, ◌+◌, List, drop, slice_get, Some}
+use Rattle.std.specs.Prelude.{◌≡◌, ℕ, true, false, ◌+◌, List, drop, slice_get, Some}
 use Rattle.signalling_types.specs.Message.{Message}
 use Rattle.signalling_types.specs.declared.point.Flow.{Flow}
 use Rattle.pair_moves.specs.Sayings.{Saying, is_order, is_answer}
@@ -8,7 +8,7 @@ use Rattle.pair_moves.specs.Carrying.{TakesMessage}
 use Rattle.pair_moves.specs.Failing.{CompletesByOrder, CompletesByAnswer}
 use Rattle.pair_moves.specs.Returning.{MayOpen}
 use Rattle.pair_moves.specs.Moves.{Moves, last_of}
-use Rattle.pair_moves.specs.Flowing.{IsFlowing, IsEnd, NamesReceived, WaitsRightly}
+use Rattle.pair_moves.specs.Flowing.{IsFlowing, OpensAlone, IsEnd, NamesReceived, WaitsRightly}
 use Rattle.pair_moves.specs.Laws.{OrdersAreAwaited, WordsAreTrue, CodesAreOutstanding, under_way, saying}
 use Rattle.pair_moves.specs.Once.{EachOnce}
 use Rattle.pair_moves.specs.Order.{IsInOrder}
@@ -27,9 +27,12 @@ Always Statement =
     (last_of (first_pair links) pairs).far.lost ≡ false →
     BothWays (Statement read) (last_of (first_pair links) pairs)
 
--- law (i); how the ends of a link are; and a message that comes is the first that its end lacked
+-- law (i), and what holds in place of it; how the ends of a link are; and a message that comes is the first that its end lacked
 abbrev pub lines_flow : Type 0
 lines_flow = Always (λ read p. (link : ℕ) → IsFlowing (p.line link))
+
+abbrev pub first_ends_are_alone : Type 0
+first_ends_are_alone = Always (λ read p. (link : ℕ) → OpensAlone (p.line link))
 
 abbrev pub ends_are_sound : Type 0
 ends_are_sound = Always (λ read p. (link : ℕ) → IsEnd (p.line link).near)
@@ -40,7 +43,8 @@ messages_come_in_order =
     (q : Pair) (m : TakesMessage read p q) →
     slice_get (p.line m.link).far.queue.all (p.line m.link).near.queue.received ≡ Some m.message)
 
--- law (ii); and so nothing about a link is under way when it may open
+-- law (ii); and so nothing about a link is under way when it may open at both ends, or where one may
+-- follow the other
 abbrev pub orders_are_awaited : Type 0
 orders_are_awaited = Always OrdersAreAwaited
 
@@ -48,6 +52,12 @@ abbrev pub opens_with_nothing_under_way : Type 0
 opens_with_nothing_under_way =
     Always (λ read p.
     (link : ℕ) → MayOpen (p.line link).near → MayOpen (p.line link).far →
+    under_way (saying read (is_order link)) p + under_way (saying read (is_answer link)) p ≡ 0)
+
+abbrev pub follows_with_nothing_under_way : Type 0
+follows_with_nothing_under_way =
+    Always (λ read p.
+    (link : ℕ) → (p.line link).near_may_follow ≡ true → MayOpen (p.line link).near →
     under_way (saying read (is_order link)) p + under_way (saying read (is_answer link)) p ≡ 0)
 
 -- law (iii)

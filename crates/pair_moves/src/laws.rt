@@ -3,8 +3,10 @@
 //! `specs/Carrying.antt` (RFC 4165 §2), `specs/Failing.antt` (Q.704 §5) and `specs/Returning.antt`
 //! (Q.704 §6).
 
-ghost use Rattle.pair_moves.specs.Theorems.{lines_flow, ends_are_sound, messages_come_in_order};
+ghost use Rattle.pair_moves.specs.Theorems.{lines_flow, first_ends_are_alone, ends_are_sound};
+ghost use Rattle.pair_moves.specs.Theorems.{messages_come_in_order};
 ghost use Rattle.pair_moves.specs.Theorems.{orders_are_awaited, opens_with_nothing_under_way};
+ghost use Rattle.pair_moves.specs.Theorems.{follows_with_nothing_under_way};
 ghost use Rattle.pair_moves.specs.Theorems.{words_are_true, numbers_name_what_was_received, what_waits_is_lacked};
 ghost use Rattle.pair_moves.specs.Theorems.{orders_move_what_is_lacked, answers_move_what_is_lacked};
 ghost use Rattle.pair_moves.specs.Crossing.{Crosses};
@@ -12,24 +14,28 @@ ghost use Rattle.pair_moves.specs.GoingBack.{Returns};
 ghost use Rattle.pair_moves.specs.Theorems.{codes_are_outstanding, each_message_once, each_flow_in_order};
 
 /// Law (i), of one link and one direction. While either end is up, and until the near end's
-/// changeover is complete, the far end accepted the first messages of the near end's queue, as many
-/// as it counts (RFC 4165 §2.2). While the far end is up, the frames in flight carry those from
+/// changeover is complete, unless an end may follow the other, the far end accepted the first messages
+/// of the near end's queue, as many as it counts (RFC 4165 §2.2). While the far end is up, the frames in flight carry those from
 /// there to the last that was sent, in order. While the near end is up, the backward numbers that
 /// come to it name counts that the far end accepted, never falling. So a message that comes is the
-/// first that its end lacked. A message stands at an end only while the end is in service or its
+/// first that its end lacked. While an end may follow, the one that opened first has an empty queue
+/// and isn't in service; nothing is in flight to it, and no message to the other, which is down and
+/// may open. A message stands at an end only while the end is in service or its
 /// changeover isn't complete.
 pub fn frames_carry_what_was_not_received()
     ensures carried { lines_flow }
+    ensures opening { first_ends_are_alone }
     ensures ends { ends_are_sound }
     ensures taken { messages_come_in_order }
 {}
 
 /// Law (ii). Of a node's changeover orders about a link and the peer's answers about it, one
 /// message at most is under way, and only while the node awaits that answer (Q.704 §5.4). So none
-/// is when the link may open.
+/// is when the link may open at both ends, nor where an end may follow the other.
 pub fn orders_and_answers_are_awaited()
     ensures awaited { orders_are_awaited }
     ensures opening { opens_with_nothing_under_way }
+    ensures following { follows_with_nothing_under_way }
 {}
 
 /// Law (iii). An order or an answer about a link is under way only while the link is down at the

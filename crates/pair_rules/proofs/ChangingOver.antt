@@ -133,6 +133,7 @@ module _ (c z : Configuration) (j : IsJoined c z) where
       fits = g.fits;
       alone = g.alone;
       unawaited = g.unawaited;
+      silent = g.silent;
       queued = g.queued;
       held = g.held;
       loose = (between, tt);
@@ -236,6 +237,7 @@ module _ (c z : Configuration) (j : IsJoined c z) where
                 (ap (λ (x : Standing). x.awaited) (standing-here c z n.parts link (acknowledged (changeover_of n.parts link)) (subst (λ (k : ℕ). link < k) (sym g.fits.places.parts.changeovers) l))))
                 (λ (d : other ≢ link). ap (λ (x : Standing). x.awaited) (standing-other c z n.parts link other (acknowledged (changeover_of n.parts link)) d) ∙ g.unawaited other up)
                 (cases_eq other link);
+            silent = g.silent;
             queued = g.queued;
             held = g.held;
             loose = tt;
@@ -253,6 +255,7 @@ module _ (c z : Configuration) (j : IsJoined c z) where
         fits = g.fits;
         alone = g.alone;
         unawaited = g.unawaited;
+        silent = g.silent;
         queued = g.queued;
         held = g.held;
         loose = tt;

@@ -35,7 +35,7 @@ use Rattle.pair_moves.specs.Failing.{ChangesOnly, with_completion}
 use Rattle.pair_moves.specs.Failing as coarse
 use Rattle.pair_moves.specs.Moves as moves
 use Rattle.pair_rules.proofs.World.{World, says_of, shown, route_of, holds_of, line_of, end_of}
-use Rattle.pair_rules.proofs.Good.{Each, each-behind, IsBetween, IsJoined, Good, Passes, passes-none, passes-both, at}
+use Rattle.pair_rules.proofs.Good.{IsSilent, Each, each-behind, IsBetween, IsJoined, Good, Passes, passes-none, passes-both, at}
 use Rattle.pair_rules.proofs.Going.{goes-one, goes-lost}
 use Rattle.pair_rules.proofs.Lines.{becomes, end-by, end_by, queue-here, queue-other, standing-here, standing-other}
 use Rattle.pair_rules.proofs.Messages.{send_anew-passes}
@@ -109,6 +109,7 @@ module _ (c z : Configuration) (j : IsJoined c z) where
       fits = stay.stay g.fits;
       alone = record { routes = g.alone.routes; adjacents = g.alone.adjacents };
       unawaited = done-awaits g.fits awaits l g.unawaited;
+      silent = g.silent;
       queued = done-queued g.queued;
       held = done-held (g.queued link) g.held;
       loose = m;
@@ -250,6 +251,7 @@ module _ (c z : Configuration) (j : IsJoined c z) where
           unawaited = λ other up.
               ap (λ (xs : List Standing). (standing_at xs other).awaited) noted.changeovers
               ∙ done-awaits w n link q.sent s t g.fits awaits l g.unawaited other (ap (λ (xs : List Link). is_down (link_in xs other).alignment) (sym noted.links) ∙ up);
+          silent = subst (λ (xs : List Link). (other : ℕ) → IsSilent (link_in xs other)) (sym noted.links) g.silent;
           queued = done-queued w n link q.sent s t g.queued;
           held = done-held w n link q.sent s t (g.queued link) g.held;
           loose = m g;

@@ -78,6 +78,7 @@ module _ (c z : Configuration) (j : IsJoined c z) where
         fits = (given-fit c z j link p first i None other n a e).stay g.fits;
         alone = record { routes = g.alone.routes; adjacents = g.alone.adjacents };
         unawaited = g.unawaited;
+        silent = g.silent;
         queued = g.queued;
         held = g.held;
         loose = g.loose;
@@ -166,6 +167,7 @@ module _ (c z : Configuration) (j : IsJoined c z) where
         fits = (given-fit c z j link p first i (Some code) other n a e).stay g.fits;
         alone = record { routes = g.alone.routes; adjacents = g.alone.adjacents };
         unawaited = g.unawaited;
+        silent = g.silent;
         queued = declared-still n other code g.queued (between code (few-codes n other code g.fits u));
         held = g.held;
         loose = g.loose;

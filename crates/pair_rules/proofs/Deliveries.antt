@@ -39,6 +39,7 @@ use Rattle.pair_rules.proofs.Going.{goes-one}
 use Rattle.pair_rules.proofs.Lines.{link-here}
 use Rattle.pair_rules.proofs.Relinked.{relinked-passes}
 use Rattle.pair_rules.proofs.Failures.{fail-passes}
+use Rattle.pair_rules.proofs.Entries.{data-heard}
 use Rattle.pair_rules.proofs.Returns.{advance-passes}
 use Rattle.pair_rules.proofs.Frames.{Pops, popped, receiving, none-received, deliver-passes, dropping-frame, accepted-set, accepted-good}
 
@@ -135,7 +136,7 @@ module _ (c z : Configuration) (j : IsJoined c z) where
     empty-acted act.Fail n e up = failing-frame w link (EmptyFrame bsn fsn) f p n reasons.Sequence up
     empty-acted (act.Go step) n e up =
         let next : Node WholeQueues = advance whole c link step n in
-        passes-both c z _ _ _ (advance-passes c z j w n [] link UserData step e)
+        passes-both c z _ _ _ (advance-passes c z j w n [] link UserData step e (inl (data-heard (link_at n.parts link).alignment step e)))
         (empty-handled (numbers whole c link (empty_data bsn fsn) next) next (advance-serves c link UserData step n e ∙ data-serves (link_at n.parts link).alignment step e) refl)
 
   -- ---- User Data with a message
@@ -175,16 +176,17 @@ module _ (c z : Configuration) (j : IsJoined c z) where
       good = λ g. accepted-good c z j w link (MessageFrame bsn fsn sio sif) f p n d confirmed serves accepts (came ∷ []) (λ h. (between h.coming, tt)) g;
     }
 
-    message-owed : (n : Node WholeQueues) → Passes c z (at c z (popped c z j w f) n (came ∷ []) []) (at c z (popped c z j w f) (with_parts n (owing link (Some came) n.parts)) (came ∷ []) [])
-    message-owed n =
+    message-owed : (n : Node WholeQueues) → down n.parts link ≡ false → Passes c z (at c z (popped c z j w f) n (came ∷ []) []) (at c z (popped c z j w f) (with_parts n (owing link (Some came) n.parts)) (came ∷ []) [])
+    message-owed n up =
         relinked-passes c z (popped c z j w f) n (came ∷ []) [] link (record (link_at n.parts link) { acknowledgement_owed = true }) n.parts.timers refl
+        (λ h gone. (let no : true ≡ false = sym gone ∙ up in absurd cc))
         (owing-steps (fit-steps c) link (Some came) n)
 
     message-handled : (r : Result ℕ SeqFault) (n : Node WholeQueues) → in_service n.parts link ≡ true → numbers whole c link d n ≡ r → ((other : ℕ) → Each (IsFlying z c) (w.to_near other))
         → Passes c z (at c z w n [] []) (at c z (receiving c z j (popped c z j w f) (for_users (option_to_list (new_by r d)))) (handle_by whole c r link d n).left [] [])
     message-handled (Ok confirmed) n serves e each =
         passes-both c z _ _ _ (message-taken n confirmed serves e)
-        (passes-both c z _ _ _ (message-owed (confirming c link d confirmed n))
+        (passes-both c z _ _ _ (message-owed (confirming c link d confirmed n) (serving-up (link_at n.parts link).alignment serves))
         (deliver-passes c z j (popped c z j w f) (accept whole c link d confirmed n) link came (between each)))
     message-handled (Err fault) n serves e each = failing-frame w link (MessageFrame bsn fsn sio sif) f p n reasons.Sequence (serving-up (link_at n.parts link).alignment serves)
 
@@ -194,5 +196,5 @@ module _ (c z : Configuration) (j : IsJoined c z) where
     message-acted act.Fail n e up each = failing-frame w link (MessageFrame bsn fsn sio sif) f p n reasons.Sequence up
     message-acted (act.Go step) n e up each =
         let next : Node WholeQueues = advance whole c link step n in
-        passes-both c z _ _ _ (advance-passes c z j w n [] link UserData step e)
+        passes-both c z _ _ _ (advance-passes c z j w n [] link UserData step e (inl (data-heard (link_at n.parts link).alignment step e)))
         (message-handled (numbers whole c link d next) next (advance-serves c link UserData step n e ∙ data-serves (link_at n.parts link).alignment step e) refl each)

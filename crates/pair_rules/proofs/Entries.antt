@@ -14,15 +14,19 @@ use Rattle.link.specs.declared.alignment.Alignment.TheVariants.{Down, NotAligned
 use Rattle.link.specs.declared.action.Action.{Action}
 use Rattle.link.specs.declared.action.Action.TheVariants.{Ignored, Fail, Go}
 use Rattle.link.specs.declared.action.Input.{Input}
+use Rattle.link.specs.declared.action.Input.TheVariants.{Status, UserData, Expiry}
+use Rattle.link.specs.declared.action.LinkTimer.{LinkTimer}
+use Rattle.link.specs.declared.action.LinkTimer.TheVariants as its
+use Rattle.m2pa_codec.specs.declared.status.LinkStatus.TheVariants as says
 use Rattle.link.specs.declared.action.Transition.{Transition}
 use Rattle.link.specs.Table.{Effect, Fails, Remembers, Enters, EntersServing, Serves, Cell, table, state_number, is_same_input, effect_in, action_of, action_at}
-use Rattle.node_links.specs.LinkState.{is_down}
+use Rattle.node_links.specs.LinkState.{is_down, is_in_service}
 use Rattle.routes.specs.Facts.{with_link}
 use Rattle.routes.specs.Chosen.{chosen_link}
 use Rattle.exchange_rules.specs.State.{Parts}
 use Rattle.exchange_rules.specs.Routing.{facts, link_of}
 use Rattle.routes.proofs.Leaving.{goes_or_stays, had_has}
-use Rattle.pair_rules.proofs.World.{route_of}
+use Rattle.pair_rules.proofs.World.{is_heard, route_of}
 use Rattle.pair_rules.proofs.Good.{IsJoined}
 use Rattle.pair_rules.proofs.Routes.{IsRouted}
 
@@ -53,6 +57,27 @@ found-up (x ∷ cells) a input effect all e =
     by true f more = (let same : x.effect ≡ effect = cc in ap leads_up (sym same) ∙ both.0)
     by false f more = more f
 
+-- the same of a test of the states that it enters
+abbrev enters_heard : Effect → Bool
+enters_heard (Enters state sent started) = is_heard state
+enters_heard Fails = true
+enters_heard Remembers = true
+enters_heard EntersServing = true
+enters_heard Serves = true
+
+found-heard : (cells : List Cell) (a : Alignment) (input : Input) (effect : Effect) → list_all (λ (x : Cell). enters_heard x.effect) cells ≡ true → effect_in cells a input ≡ Some effect
+    → enters_heard effect ≡ true
+found-heard [] a input effect all e = absurd cc
+found-heard (x ∷ cells) a input effect all e =
+    by ((state_number x.state == state_number a) && is_same_input x.input input) e (found-heard cells a input effect both.1)
+  where
+    both : (enters_heard x.effect ≡ true) × (list_all (λ (y : Cell). enters_heard y.effect) cells ≡ true)
+    both = and_parts (enters_heard x.effect) (list_all (λ (y : Cell). enters_heard y.effect) cells) all
+
+    by : (b : Bool) → (if b then Some x.effect else effect_in cells a input) ≡ Some effect → (effect_in cells a input ≡ Some effect → enters_heard effect ≡ true) → enters_heard effect ≡ true
+    by true f more = (let same : x.effect ≡ effect = cc in ap enters_heard (sym same) ∙ both.0)
+    by false f more = more f
+
 pub not-so : (b : Bool) → not b ≡ true → b ≡ false
 not-so true e = sym e
 not-so false e = refl
@@ -76,6 +101,76 @@ leads-by (Some Serves) a input step up f e = sym (ap (λ (x : Action). is_down (
 
 pub leads-up : (a : Alignment) (input : Input) (step : Transition) → action_at a input ≡ Go step → is_down step.state ≡ false
 leads-up a input step e = leads-by (effect_in table a input) a input step (starts-up a input step e) refl e
+
+-- ---- and a link that takes one has heard the other end then, and before, unless a status came
+
+heard-by : (effect : Option Effect) (a : Alignment) (input : Input) (step : Transition) → is_heard a ≡ true → effect_in table a input ≡ effect → action_of a effect ≡ Go step → is_heard step.state ≡ true
+heard-by None a input step up f e = absurd cc
+heard-by (Some Fails) a input step up f e = absurd cc
+heard-by (Some Remembers) a input step up f e = sym (ap (λ (x : Action). is_heard (state_in x)) e)
+heard-by (Some (Enters state sent started)) a input step up f e =
+    sym (ap (λ (x : Action). is_heard (state_in x)) e) ∙ found-heard table a input (Enters state sent started) refl f
+heard-by (Some EntersServing) a input step up f e = sym (ap (λ (x : Action). is_heard (state_in x)) e)
+heard-by (Some Serves) a input step up f e = sym (ap (λ (x : Action). is_heard (state_in x)) e) ∙ up
+
+-- where it begins to align, only a status leads on
+pub begins-by : (input : Input) (step : Transition) → action_at NotAligned input ≡ Go step → (is_heard step.state ≡ true) × (is_in_service step.state ≡ false)
+begins-by UserData step e = absurd cc
+begins-by (Expiry its.L1) step e = absurd cc
+begins-by (Expiry its.L2) step e = absurd cc
+begins-by (Expiry its.L3) step e = absurd cc
+begins-by (Expiry its.L4) step e = absurd cc
+begins-by (Expiry its.L6) step e = absurd cc
+begins-by (Expiry its.L7) step e = absurd cc
+begins-by (Status says.Alignment) step e = (sym (ap (λ (x : Action). is_heard (state_in x)) e), sym (ap (λ (x : Action). is_in_service (state_in x)) e))
+begins-by (Status says.ProvingNormal) step e = (sym (ap (λ (x : Action). is_heard (state_in x)) e), sym (ap (λ (x : Action). is_in_service (state_in x)) e))
+begins-by (Status says.ProvingEmergency) step e = (sym (ap (λ (x : Action). is_heard (state_in x)) e), sym (ap (λ (x : Action). is_in_service (state_in x)) e))
+begins-by (Status says.Ready) step e = absurd cc
+begins-by (Status says.ProcessorOutage) step e = absurd cc
+begins-by (Status says.ProcessorRecovered) step e = absurd cc
+begins-by (Status says.Busy) step e = absurd cc
+begins-by (Status says.BusyEnded) step e = absurd cc
+begins-by (Status says.OutOfService) step e = absurd cc
+
+pub leads-heard : (a : Alignment) (input : Input) (step : Transition) → action_at a input ≡ Go step → is_heard step.state ≡ true
+leads-heard Down input step e = (let no : Ignored ≡ Go step = e in absurd cc)
+leads-heard NotAligned input step e = (begins-by input step e).0
+leads-heard Aligned input step e = heard-by (effect_in table Aligned input) Aligned input step refl refl e
+leads-heard (Proving ready) input step e = heard-by (effect_in table (Proving ready) input) (Proving ready) input step refl refl e
+leads-heard AlignedReady input step e = heard-by (effect_in table AlignedReady input) AlignedReady input step refl refl e
+leads-heard InService input step e = heard-by (effect_in table InService input) InService input step refl refl e
+
+pub enters-heard : (a : Alignment) (input : Input) (step : Transition) → action_at a input ≡ Go step → is_in_service step.state ≡ true → is_heard a ≡ true
+enters-heard Down input step e s = (let no : Ignored ≡ Go step = e in absurd cc)
+enters-heard NotAligned input step e s = (let no : true ≡ false = sym s ∙ (begins-by input step e).1 in absurd cc)
+enters-heard Aligned input step e s = refl
+enters-heard (Proving ready) input step e s = refl
+enters-heard AlignedReady input step e s = refl
+enters-heard InService input step e s = refl
+
+pub data-heard : (a : Alignment) (step : Transition) → action_at a UserData ≡ Go step → is_heard a ≡ true
+data-heard Down step e = (let no : Ignored ≡ Go step = e in absurd cc)
+data-heard NotAligned step e = absurd cc
+data-heard Aligned step e = refl
+data-heard (Proving ready) step e = refl
+data-heard AlignedReady step e = refl
+data-heard InService step e = refl
+
+expiry-no : {A : Type 0} (t : LinkTimer) (step : Transition) → action_at NotAligned (Expiry t) ≡ Go step → A
+expiry-no its.L1 step e = absurd cc
+expiry-no its.L2 step e = absurd cc
+expiry-no its.L3 step e = absurd cc
+expiry-no its.L4 step e = absurd cc
+expiry-no its.L6 step e = absurd cc
+expiry-no its.L7 step e = absurd cc
+
+pub expiry-heard : (a : Alignment) (t : LinkTimer) (step : Transition) → action_at a (Expiry t) ≡ Go step → is_heard a ≡ true
+expiry-heard Down t step e = (let no : Ignored ≡ Go step = e in absurd cc)
+expiry-heard NotAligned t step e = expiry-no t step e
+expiry-heard Aligned t step e = refl
+expiry-heard (Proving ready) t step e = refl
+expiry-heard AlignedReady t step e = refl
+expiry-heard InService t step e = refl
 
 -- ---- a flow has the link that it had, or the one that entered
 

@@ -115,6 +115,7 @@ module _ (c z : Configuration) (j : IsJoined c z) where
       fits = g.fits;
       alone = g.alone;
       unawaited = g.unawaited;
+      silent = g.silent;
       queued = g.queued;
       held = g.held;
       loose = (between, tt);

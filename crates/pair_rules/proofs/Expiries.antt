@@ -81,6 +81,7 @@ module _ (c z : Configuration) (j : IsJoined c z) where
           (standing-here c z n.parts link (acknowledged (changeover_of n.parts link)) (subst (λ (k : ℕ). link < k) (sym g.fits.places.parts.changeovers) (listed n link g.fits there)))))
           (λ (d : other ≢ link). ap (λ (x : Standing). x.awaited) (standing-other c z n.parts link other (acknowledged (changeover_of n.parts link)) d) ∙ g.unawaited other up)
           (cases_eq other link);
+      silent = g.silent;
       queued = g.queued;
       held = g.held;
       loose = tt;
@@ -97,6 +98,7 @@ module _ (c z : Configuration) (j : IsJoined c z) where
       fits = ((fit-steps c).both _ _ _ ((fit-steps c).lost n) ((fit-steps c).noted (notices.Expired timer.T2 link) (with_parts n (flagged n.parts)) (record { lost = λ f. refl; late = λ f. absurd cc }))).stay g.fits;
       alone = record { routes = g.alone.routes; adjacents = g.alone.adjacents };
       unawaited = g.unawaited;
+      silent = g.silent;
       queued = g.queued;
       held = g.held;
       loose = tt;

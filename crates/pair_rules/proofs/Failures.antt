@@ -12,7 +12,8 @@ use Rattle.settings_rows.specs.Configuration.{Configuration}
 use Rattle.mtp3_codec.specs.declared.management.Management.TheVariants.{ExtendedChangeoverOrder}
 use Rattle.changeover.specs.Standing.{failed, begun_by_peer}
 use Rattle.node_links.specs.Link.{Link}
-use Rattle.node_links.specs.LinkState.{after_failure}
+use Rattle.node_links.specs.LinkState.{after_failure, down_link}
+use Rattle.exchange_rules.proofs.Lists.{each-set}
 use Rattle.exchange_rules.specs.State.{Node, Parts, with_parts}
 use Rattle.exchange_rules.specs.Links.{down, in_service, link_at}
 use Rattle.exchange_rules.specs.Queues.{WholeQueues, queue_at, whole}
@@ -26,7 +27,7 @@ use Rattle.exchange_rules.proofs.SteppingFailures.{failing_by_peer-steps, fell-s
 use Rattle.pair_moves.specs.Failing.{with_failure}
 use Rattle.pair_moves.specs.Moves as moves
 use Rattle.pair_rules.proofs.World.{World, says_of, route_of, holds_of, line_of, end_of}
-use Rattle.pair_rules.proofs.Good.{IsJoined, Passes, passes-both, at}
+use Rattle.pair_rules.proofs.Good.{IsSilent, IsJoined, Passes, passes-both, at}
 use Rattle.pair_rules.proofs.Going.{goes-one}
 use Rattle.pair_rules.proofs.Lines.{up-listed, becomes}
 use Rattle.pair_rules.proofs.Messages.{send_routed-passes}
@@ -94,6 +95,7 @@ module _ (c z : Configuration) (j : IsJoined c z) where
       fits = ((fit-steps c).dropped link why n e).stay g.fits;
       alone = record { routes = g.alone.routes; adjacents = g.alone.adjacents };
       unawaited = λ other u. awaits other u (g.unawaited) (up-listed c z n link g.fits up) g.fits;
+      silent = λ other. each-set (λ (x : Link). IsSilent x) n.parts.links link other (after_failure (link_at n.parts link)) down_link g.silent (λ d. (refl, refl));
       queued = g.queued;
       held = g.held;
       loose = tt;

@@ -22,7 +22,8 @@ use Rattle.flow_hold.proofs.Flows.{flows_add, flows_leave}
 use Rattle.flow_hold.specs.declared.procedure.Procedure.TheVariants as held_by
 use Rattle.changeover.specs.Standing.{Standing, no_changeover, with_standing}
 use Rattle.node_links.specs.Link.{Link}
-use Rattle.node_links.specs.LinkState.{after_failure}
+use Rattle.node_links.specs.LinkState.{after_failure, down_link}
+use Rattle.exchange_rules.proofs.Lists.{each-set}
 use Rattle.routes.specs.Chosen.{chosen_link}
 use Rattle.exchange_rules.specs.State.{Node, Parts, with_parts}
 use Rattle.exchange_rules.specs.Links.{down, in_service, link_at}
@@ -38,7 +39,7 @@ use Rattle.pair_moves.specs.Ends as ends
 use Rattle.pair_moves.specs.Failing.{Suspends, with_failure}
 use Rattle.pair_moves.specs.Moves as moves
 use Rattle.pair_rules.proofs.World.{World, says_of, shown, route_of, holds_of, procedure_of, line_of, end_of}
-use Rattle.pair_rules.proofs.Good.{Each, IsBetween, IsJoined, IsWord, IsWritable, Good, Passes, passes-none, passes-both, at, previous-fits}
+use Rattle.pair_rules.proofs.Good.{Each, IsBetween, IsSilent, IsJoined, IsWord, IsWritable, Good, Passes, passes-none, passes-both, at, previous-fits}
 use Rattle.pair_rules.proofs.Good as good
 use Rattle.pair_rules.proofs.Going.{goes-one}
 use Rattle.pair_rules.proofs.Lines.{up-listed, becomes}
@@ -155,6 +156,7 @@ module _ (c z : Configuration) (j : IsJoined c z) where
           ap (λ (x : Standing). x.awaited) (standing-other c z n.parts link other s d)
           ∙ g.unawaited other (ap (λ (x : Link). is_down x.alignment) (sym (link-other c z n.parts link other (after_failure (link_at n.parts link)) d)) ∙ up))
           (cases_eq other link);
+      silent = λ other. each-set (λ (x : Link). IsSilent x) n.parts.links link other (after_failure (link_at n.parts link)) down_link g.silent (λ d. (refl, refl));
       queued = g.queued;
       held = g.held;
       loose = m;

@@ -1,6 +1,6 @@
 -- The first world: two nodes as they are booted, and nothing between them.
 use Rattle.std.proofs.Common.{◌≡◌, ◌<◌, ◌≤◌, ℕ, Bool, true, false, not, ◌&&◌, zero, suc, List, [], ◌∷◌, Option, Some, None, length, map, get_or, nat_eq, nat_lt, refl, ap, ◌∙◌, arith}
-use Rattle.std.specs.Prelude.{if◌then◌else◌, find, All}
+use Rattle.std.specs.Prelude.{if◌then◌else◌, find, replicate, slice_index_or, All}
 use Rattle.std.specs.Option.{option_and_then, option_map}
 use Rattle.std.specs.List.{IsDistinct, list_any}
 use Rattle.std.specs.FinSet.{contains-empty}
@@ -34,8 +34,8 @@ use Rattle.exchange_rules.proofs.Fitting.{Fits}
 use Rattle.exchange_rules.proofs.FacingNodes.{sets-one, destinations-one, adjacent-sole, destination-found}
 use Rattle.pair_moves.specs.Ends.{LinkEnd, Procedure, closed_end, first_side, first_pair}
 use Rattle.pair_rules.proofs.Alone.{IsAlone, only_routes}
-use Rattle.pair_rules.proofs.World.{Mid, World, end_of, side_by, shown, holds_of, route_of, procedure_of}
-use Rattle.pair_rules.proofs.Good.{Each, IsBetween, Good}
+use Rattle.pair_rules.proofs.World.{Mid, World, is_heard, end_of, side_by, shown, holds_of, route_of, procedure_of}
+use Rattle.pair_rules.proofs.Good.{Each, IsBetween, IsSilent, Good}
 
 -- ---- the first world
 
@@ -43,7 +43,14 @@ abbrev pub first_mid : Configuration → Mid
 first_mid c = record { node = (first_state c).node; arrived = []; loose = []; accepted = []; received = [] }
 
 abbrev pub first_world : (near far : Configuration) → World
-first_world near far = record { near = first_mid near; far = first_mid far; to_near = λ link. []; to_far = λ link. [] }
+first_world near far = record {
+  near = first_mid near;
+  far = first_mid far;
+  to_near = λ link. [];
+  to_far = λ link. [];
+  near_may = λ link. slice_index_or (replicate (length near.links) false) link false;
+  far_may = λ link. slice_index_or (replicate (length far.links) false) link false;
+}
 
 -- ---- lists of one element
 
@@ -103,6 +110,7 @@ first-good near far near_well far_well f = record {
   fits = fits-first near near_well;
   alone = alone-first near far.own f.near_leads near_well;
   unawaited = λ link e. each-replicate (λ (s : Standing). s.awaited ≡ false) (length near.links) link no_changeover refl;
+  silent = λ link. each-replicate (λ (l : Link). IsSilent l) (length near.links) link down_link (λ e. (refl, refl));
   queued = λ link. each-replicate (λ (q : Queue). Each (IsBetween near far) q.all) (length near.links) link first_queue tt;
   held = tt;
   loose = tt;
@@ -173,7 +181,7 @@ module _ (c : Configuration) where
   }
 
   abbrev end_by : Queue → Link → Standing → LinkEnd
-  end_by q l s = record { queue = q; up = not (is_down l.alignment); serving = state.is_in_service l.alignment; incomplete = s.incomplete; awaited = s.awaited }
+  end_by q l s = record { queue = q; up = not (is_down l.alignment); serving = state.is_in_service l.alignment; incomplete = s.incomplete; awaited = s.awaited; heard = is_heard l.alignment }
 
   end-first : (link : ℕ) → end_of (first_state c).node link ≡ closed_end
   end-first link = λ i.
@@ -184,7 +192,14 @@ module _ (c : Configuration) where
 pub first-shown : (near far : Configuration) → shown near far (first_world near far) ≡ first_pair (length near.links)
 first-shown near far = λ i. record {
   links = length near.links;
-  line = λ link. record { near = end-first near link i; far = end-first far link i; to_far = []; to_near = [] };
+  line = λ link. record {
+    near = end-first near link i;
+    far = end-first far link i;
+    to_far = [];
+    to_near = [];
+    near_may_follow = each-replicate (λ (b : Bool). b ≡ false) (length near.links) link false refl i;
+    far_may_follow = each-replicate (λ (b : Bool). b ≡ false) (length far.links) link false refl i;
+  };
   near = side-first near far.own i;
   far = side-first far near.own i;
 }

@@ -1,5 +1,5 @@
 -- The four laws, of two exchanges.
-use Rattle.std.proofs.Common.{◌≡◌, ◌≢◌, ◌<◌, ◌≤◌, ◌+◌, ◌-◌, ℕ, Bool, true, false, not, List, [], length, Option, Some, refl, ap, sym, subst, ◌∙◌, arith, nat_eq}
+use Rattle.std.proofs.Common.{◌≡◌, ◌≢◌, ◌⊎◌, inl, inr, ◌<◌, ◌≤◌, ◌+◌, ◌-◌, ◌||◌, ◌&&◌, ℕ, Bool, true, false, not, List, [], ◌∷◌, length, map, Option, Some, refl, ap, sym, subst, ◌∙◌, arith, nat_eq}
 use Rattle.std.specs.Prelude.{Contains, count_by, slice_get}
 use Rattle.std.proofs.Math.Logic.{⊎_elim}
 use Rattle.std.proofs.lemmas.Bool.{cases_lt}
@@ -7,7 +7,7 @@ use Rattle.std.proofs.lemmas.List.{get_or_past}
 use Rattle.std.proofs.lemmas.List.Elements.{Contains-append_left}
 use Rattle.signalling_types.specs.Message.{Message}
 use Rattle.settings_rows.specs.Configuration.{Configuration}
-use Rattle.link.specs.Queue.{last_accepted, named_count}
+use Rattle.link.specs.Queue.{first_queue, last_accepted, named_count}
 use Rattle.changeover.specs.Completion.{behind}
 use Rattle.exchange_rules.specs.declared.wants.Wants.TheVariants.{Open}
 use Rattle.exchange_rules.specs.Links.{down}
@@ -18,20 +18,23 @@ use Rattle.pair_moves.specs.Sayings.{Saying, Order, Answer, is_answer, is_order,
 use Rattle.pair_moves.specs.Ends.{Pair}
 use Rattle.pair_moves.specs.Ends as ends
 use Rattle.pair_moves.specs.Returning.{MayOpen}
-use Rattle.pair_moves.specs.Flowing.{Flows, IsFlowing, NamesReceived}
+use Rattle.pair_moves.specs.Flowing.{Flows, IsFlowing, NamesReceived, OpensAlone}
+use Rattle.pair_moves.specs.Flowing as moves
 use Rattle.pair_moves.specs.Laws.{WordsAreTrue, saying, sum_to, under_way}
 use Rattle.pair_moves.specs.Order.{join_to}
-use Rattle.pair_moves.proofs.Concluded.{lines_flow-always, numbers_name-always, opens_with_nothing-always, words_are_true-always}
+use Rattle.pair_moves.proofs.Concluded.{first_ends_are_alone-always, follows_with_nothing-always, lines_flow-always, numbers_name-always, opens_with_nothing-always, words_are_true-always}
 use Rattle.pair_moves.proofs.Counts.{count-append}
-use Rattle.pair_moves.proofs.Lines.{or-third}
+use Rattle.pair_moves.proofs.Lines.{or-third, unless-true, used-by}
 use Rattle.pair_moves.proofs.Words.{same-link, true-answer, true-order}
-use Rattle.pair_rules.specs.Pairs.{PairState, after_steps, first_pair, in_flight, turned}
+use Rattle.pair_rules.specs.Pairs.{PairState, after_steps, first_pair, in_flight, may_follow, may_open_at, turned}
 use Rattle.pair_rules.specs.Promises.{LostNothing, queue_of}
-use Rattle.pair_rules.specs.Laws.{AreFinal, FramesCarry, IsCarried, IsFinal, IsInFlight, IsUnderWay, MovesLacked, NextIsFirst, NoneIsLeft, WhileNothingIsLost, Word, is_down_at, is_in_use, is_incomplete_at, messages_in, unreceived, unreceived_on, word_of}
+use Rattle.pair_rules.specs.Laws.{AreFinal, FramesCarry, IsCarried, IsFinal, IsInFlight, IsUnderWay, MovesLacked, NextIsFirst, NoneIsLeft, OpenedAlone, WhileNothingIsLost, Word, is_down_at, is_in_use, is_incomplete_at, messages_in, unreceived, unreceived_on, word_of}
 use Rattle.pair_rules.specs.Laws.{frames_carry, moves_are_lacked, none_is_left, words_are_final}
-use Rattle.pair_rules.proofs.World.{World, says_of, shown, line_of}
+use Rattle.m2pa_codec.specs.Frames.{FrameValue, spelled}
+use Rattle.exchange_rules.specs.Failing.{changeover_of}
+use Rattle.pair_rules.proofs.World.{World, frame_of, says_of, shown, line_of}
 use Rattle.pair_rules.proofs.Good.{Each, IsBetween, each-behind}
-use Rattle.pair_rules.proofs.Opening.{may_open-end, wants-open}
+use Rattle.pair_rules.proofs.Opening.{may_open-at, may_open-end, wants-open}
 use Rattle.pair_rules.proofs.Flights.{first-flies, first-frame}
 use Rattle.pair_rules.proofs.Standing.{Stands, world_of}
 use Rattle.pair_rules.proofs.AllSteps.{AreFacing, facing-back, stands-turned}
@@ -42,6 +45,24 @@ use Rattle.pair_rules.proofs.SaidWords.{Says, between-says, contained-behind, co
 up-false : (b : Bool) → not b ≡ false → b ≡ true
 up-false true e = refl
 up-false false e = absurd cc
+
+-- an end may open, by what is shown of it
+may-so : (gone incomplete awaited : Bool) → not gone ≡ false → incomplete ≡ false → awaited ≡ false → (gone && (not incomplete && not awaited)) ≡ true
+may-so true false false d i a = refl
+may-so true false true d i a = sym a
+may-so true true awaited d i a = sym i
+may-so false incomplete awaited d i a = sym d
+
+none-shown : (fs : List FrameValue) → map frame_of fs ≡ [] → fs ≡ []
+none-shown [] e = refl
+none-shown (f ∷ fs) e = absurd cc
+
+nothing-first : (texts : List (List ℕ)) (text : List ℕ) → slice_get texts 0 ≡ Some text → texts ≡ [] → false ≡ true
+nothing-first [] text e none = absurd cc
+nothing-first (t ∷ texts) text e none = absurd cc
+
+no-message : (m : Message) → Contains (messages_in []) m → false ≡ true
+no-message m h = absurd (omega (arith, h.1))
 
 module _ (c z : Configuration) (a : AreFacing c z) (p : PairState) (s : Stands c z p) (kept : LostNothing p) where
   abbrev w : World
@@ -69,16 +90,46 @@ module _ (c z : Configuration) (a : AreFacing c z) (p : PairState) (s : Stands c
       messages_of : List (List ℕ) → List Message
       messages_of texts = messages_in texts
 
+  -- ---- one end opened first
+
+  alone : (link : ℕ) → OpensAlone (line_of w link)
+  alone = (of-shown c z a p s kept (λ read q. (link : ℕ) → OpensAlone (q.line link)) first_ends_are_alone-always).there
+
+  alone-back : (link : ℕ) → OpensAlone (ends.turned_line (line_of w link))
+  alone-back = (of-shown c z a p s kept (λ read q. (link : ℕ) → OpensAlone (q.line link)) first_ends_are_alone-always).back
+
+  -- no end may follow where something comes to an end that isn't down
+  heard-used : (link : ℕ) → not (is_down_at p.far link) ≡ true → (in_flight p.far.incoming link ≡ [] → false ≡ true) → is_in_use p link ≡ true
+  heard-used link up coming =
+      used-by (may_follow p.near link) (may_follow p.far link) (not (is_down_at p.near link) || is_incomplete_at p.near link || not (is_down_at p.far link))
+      (unless-true (may_follow p.near link)
+      (λ follows. coming (s.far_texts.each link ∙ ap (λ (fs : List FrameValue). map spelled fs) (none-shown (s.to_far link) (alone-back link follows).silent))))
+      (unless-true (may_follow p.far link) (λ follows. sym (alone link follows).far_may.down ∙ up))
+      (or-third (not (is_down_at p.near link)) (is_incomplete_at p.near link) (not (is_down_at p.far link)) up)
+
+  pub alone-there : (link : ℕ) → may_follow p.far link ≡ true → OpenedAlone p link
+  alone-there link follows =
+      let o : moves.OpenedAlone (line_of w link) = alone link follows in
+      record {
+        alone = o.alone;
+        far_may = may-so (is_down_at p.far link) (is_incomplete_at p.far link) (changeover_of p.far.exchange.node.parts link).awaited o.far_may.down o.far_may.complete o.far_may.unawaited;
+        unserved = o.unserved;
+        queue = o.queue;
+        silent = s.near_texts.each link ∙ ap (λ (fs : List FrameValue). map spelled fs) (none-shown (s.to_near link) o.silent);
+        empty = ap (λ (texts : List (List ℕ)). messages_in texts) (s.far_texts.each link) ∙ texts-carry c z first_queue 0 (s.to_far link) (s.far_good.coming link) o.carried;
+      }
+
   next-there : (link : ℕ) → NextIsFirst p link
   next-there link text message e n =
       let up : not (down p.far.exchange.node.parts link) ≡ true = new-up link text p.far.exchange message n in
-      let f : Flows (line_of w link) = flows link (or-third (line_of w link).near.up (line_of w link).near.incomplete (line_of w link).far.up up) in
+      let coming : in_flight p.far.incoming link ≡ [] → false ≡ true = λ none. nothing-first (in_flight p.far.incoming link) text e none in
+      let f : Flows (line_of w link) = flows link (heard-used link up coming) in
       first-text c z (queue_of p.near link) (queue_of p.far link).received (s.to_far link) (in_flight p.far.incoming link) text message
       (first-frame (s.to_far link) (in_flight p.far.incoming link) text (s.far_texts.each link) e) (s.far_good.coming link) (f.carried up)
       (new-carried link text p.far.exchange message n)
 
   pub carried-there : IsCarried p
-  carried-there = record { frames = frames-there; next = next-there }
+  carried-there = record { frames = frames-there; opening = alone-there; next = next-there }
 
   -- ---- what is under way
 
@@ -113,7 +164,7 @@ module _ (c z : Configuration) (a : AreFacing c z) (p : PairState) (s : Stands c
       up = ap not f.up
 
       carry : FramesCarry p f.link
-      carry = frames-there f.link (or-third (not (is_down_at p.near f.link)) (is_incomplete_at p.near f.link) (not (is_down_at p.far f.link)) up)
+      carry = frames-there f.link (heard-used f.link up (λ none. no-message f.message (subst (λ (texts : List (List ℕ)). Contains (messages_in texts) f.message) none f.carried)))
 
       sent : Contains (unreceived_on p f.link) f.message
       sent =
@@ -145,13 +196,21 @@ module _ (c z : Configuration) (a : AreFacing c z) (p : PairState) (s : Stands c
   second-none : (m n : ℕ) → m + n ≡ 0 → n ≡ 0
   second-none m n e = omega (arith, e)
 
-  none-left-there : (link : ℕ) → wants_of p.near.exchange link ≡ Open → wants_of p.far.exchange link ≡ Open → (word : Word) → IsUnderWay p word → word.link ≢ link
-  none-left-there link near far word u same =
-      let none : under_way (saying read (is_order link)) (shown c z w) + under_way (saying read (is_answer link)) (shown c z w) ≡ 0 =
+  none-said-there : (link : ℕ) → wants_of p.near.exchange link ≡ Open → (may_open_at p.far link ≡ true) ⊎ (may_follow p.near link ≡ true)
+      → under_way (saying read (is_order link)) (shown c z w) + under_way (saying read (is_answer link)) (shown c z w) ≡ 0
+  none-said-there link near (inl far) =
       (of-shown c z a p s kept (λ read q. (link : ℕ) → MayOpen (q.line link).near → MayOpen (q.line link).far
       → under_way (saying read (is_order link)) q + under_way (saying read (is_answer link)) q ≡ 0) opens_with_nothing-always).there link
       (may_open-end c z p.near.exchange.node link (wants-open p.near.exchange.node.parts link near))
-      (may_open-end z c p.far.exchange.node link (wants-open p.far.exchange.node.parts link far)) in
+      (may_open-at p.far.exchange.node link far)
+  none-said-there link near (inr follows) =
+      (of-shown c z a p s kept (λ read q. (link : ℕ) → (q.line link).near_may_follow ≡ true → MayOpen (q.line link).near
+      → under_way (saying read (is_order link)) q + under_way (saying read (is_answer link)) q ≡ 0) follows_with_nothing-always).there link
+      follows (may_open-end c z p.near.exchange.node link (wants-open p.near.exchange.node.parts link near))
+
+  none-left-there : (link : ℕ) → wants_of p.near.exchange link ≡ Open → (may_open_at p.far link ≡ true) ⊎ (may_follow p.near link ≡ true) → (word : Word) → IsUnderWay p word → word.link ≢ link
+  none-left-there link near next word u same =
+      let none : under_way (saying read (is_order link)) (shown c z w) + under_way (saying read (is_answer link)) (shown c z w) ≡ 0 = none-said-there link near next in
       let no : true ≡ false =
       ⊎_elim
       (λ (e : read u.message ≡ Order word.link word.number).
@@ -165,8 +224,8 @@ module _ (c z : Configuration) (a : AreFacing c z) (p : PairState) (s : Stands c
       is-here = ap (λ (k : ℕ). nat_eq word.link k) (sym same) ∙ same-link word.link
 
   pub left-there : NoneIsLeft p
-  left-there link near far word u =
-      none-left-there link near far word (⊎_elim (λ (h : IsUnderWay p word). h) (λ (h : IsInFlight p word). flying-stands word h) u)
+  left-there link near next word u =
+      none-left-there link near next word (⊎_elim (λ (h : IsUnderWay p word). h) (λ (h : IsInFlight p word). flying-stands word h) u)
 
   -- ---- (iii)
 

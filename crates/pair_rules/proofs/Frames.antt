@@ -81,6 +81,7 @@ module _ (c z : Configuration) (j : IsJoined c z) where
       fits = g.fits;
       alone = g.alone;
       unawaited = g.unawaited;
+      silent = g.silent;
       queued = g.queued;
       held = g.held;
       loose = tt;
@@ -213,6 +214,7 @@ module _ (c z : Configuration) (j : IsJoined c z) where
         fits = g.fits;
         alone = g.alone;
         unawaited = g.unawaited;
+        silent = g.silent;
         queued = g.queued;
         held = g.held;
         loose = g.loose;
@@ -252,6 +254,7 @@ module _ (c z : Configuration) (j : IsJoined c z) where
         fits = ((fit-steps c).accepted link d confirmed n tt serves accepts).stay g.fits;
         alone = record { routes = g.alone.routes; adjacents = g.alone.adjacents };
         unawaited = g.unawaited;
+        silent = g.silent;
         queued = λ other. each-set (λ (q : Queue). Each (IsBetween c z) q.all) n.queues.links link other (queue.accepted (queue_at n.queues link) d.fsn d.bsn (carries d)) first_queue g.queued
             (accepted-all (accept_answer (queue_at n.queues link) d.fsn d.bsn (carries d)) (g.queued link));
         held = g.held;

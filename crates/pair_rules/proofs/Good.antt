@@ -13,7 +13,9 @@ use Rattle.mtp3_codec.specs.declared.management.Management.{Management}
 use Rattle.mtp3_codec.specs.declared.management.Management.TheVariants.{ExtendedChangeoverOrder, ExtendedChangeoverAcknowledgement, ChangebackDeclaration, ChangebackAcknowledgement}
 use Rattle.signalling_types.specs.Numbers.{previous_number}
 use Rattle.exchange_rules.specs.State.{Node}
-use Rattle.exchange_rules.specs.Links.{down}
+use Rattle.node_links.specs.Link.{Link}
+use Rattle.node_links.specs.LinkState.{is_down}
+use Rattle.exchange_rules.specs.Links.{down, link_at}
 use Rattle.exchange_rules.specs.Queues.{WholeQueues, queue_at}
 use Rattle.exchange_rules.specs.Failing.{changeover_of}
 use Rattle.exchange_rules.specs.Points.{entry_of, set_of, peer_of}
@@ -99,6 +101,10 @@ pub record IsJoined (c z : Configuration) : Type 0 where
   pub many : length z.links ≡ length c.links
   pub adjacent : set_place c z.own ≡ Some 0
 
+-- where a link is down, nothing waits to go out
+abbrev pub IsSilent : Link → Type 0
+IsSilent l = is_down l.alignment ≡ true → (l.waiting ≡ []) × (l.acknowledgement_owed ≡ false)
+
 module _ (c z : Configuration) where
   -- ---- a node at work
 
@@ -107,6 +113,7 @@ module _ (c z : Configuration) where
     pub alone : IsAlone w.near.node
     -- no answer is awaited about a link that isn't down
     pub unawaited : (link : ℕ) → down w.near.node.parts link ≡ false → (changeover_of w.near.node.parts link).awaited ≡ false
+    pub silent : (link : ℕ) → IsSilent (link_at w.near.node.parts link)
     -- what it accepted or made
     pub queued : (link : ℕ) → Each (IsBetween c z) (queue_at w.near.node.queues link).all
     pub held : Each (IsBetween c z) w.near.node.queues.held

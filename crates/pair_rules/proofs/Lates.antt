@@ -102,6 +102,7 @@ module _ (c z : Configuration) (j : IsJoined c z) where
       fits = g.fits;
       alone = g.alone;
       unawaited = g.unawaited;
+      silent = g.silent;
       queued = g.queued;
       held = g.held;
       loose = (j.made (ChangebackAcknowledgement slc code) (good.confirms slc code) (good.confirmation_fits slc code few small), tt);
@@ -137,6 +138,7 @@ module _ (c z : Configuration) (j : IsJoined c z) where
       fits = (freed-steps (fit-steps c) 0 code n).stay g.fits;
       alone = record { routes = g.alone.routes; adjacents = g.alone.adjacents };
       unawaited = g.unawaited;
+      silent = g.silent;
       queued = g.queued;
       held = g.held;
       loose = g.loose;
@@ -160,6 +162,7 @@ module _ (c z : Configuration) (j : IsJoined c z) where
       fits = g.fits;
       alone = g.alone;
       unawaited = g.unawaited;
+      silent = g.silent;
       queued = g.queued;
       held = g.held;
       loose = g.loose;
@@ -191,6 +194,7 @@ module _ (c z : Configuration) (j : IsJoined c z) where
       fits = stay.stay g.fits;
       alone = record { routes = g.alone.routes; adjacents = g.alone.adjacents };
       unawaited = g.unawaited;
+      silent = g.silent;
       queued = g.queued;
       held = g.held;
       loose = g.loose;
@@ -223,6 +227,7 @@ module _ (c z : Configuration) (j : IsJoined c z) where
       fits = (run_timer-steps (fit-steps c) (name.T6 destination) n (λ of its e. tt)).stay g.fits;
       alone = record { routes = g.alone.routes; adjacents = g.alone.adjacents };
       unawaited = g.unawaited;
+      silent = g.silent;
       queued = g.queued;
       held = g.held;
       loose = g.loose;

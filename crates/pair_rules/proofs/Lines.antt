@@ -19,7 +19,7 @@ use Rattle.exchange_rules.proofs.Fitting.{Fits}
 use Rattle.exchange_rules.proofs.Moves.{serving-there}
 use Rattle.pair_moves.specs.Ends.{LinkEnd}
 use Rattle.pair_moves.specs.Passing.{BecomeAt}
-use Rattle.pair_rules.proofs.World.{World, end_of, line_of, shown_by}
+use Rattle.pair_rules.proofs.World.{World, is_heard, end_of, line_of, shown_by}
 use Rattle.pair_rules.proofs.Good.{at}
 
 module _ (c z : Configuration) where
@@ -66,6 +66,7 @@ module _ (c z : Configuration) where
     serving = is_in_service l.alignment;
     incomplete = s.incomplete;
     awaited = s.awaited;
+    heard = is_heard l.alignment;
   }
 
   -- that of one link, where another link changed

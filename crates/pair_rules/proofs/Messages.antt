@@ -40,7 +40,7 @@ use Rattle.pair_moves.specs.Sayings.{Saying, UserMessage, Order, Answer, is_user
 use Rattle.pair_moves.specs.Passing.{MayGo}
 use Rattle.pair_moves.specs.Moves as moves
 use Rattle.pair_rules.proofs.World.{World, says_of, read_says, management_says, said_by, unsaid, link_of_code, shown, route_of, line_of, end_of}
-use Rattle.pair_rules.proofs.Good.{Each, each-behind, IsBetween, IsJoined, Good, Passes, passes-none, passes-both, at}
+use Rattle.pair_rules.proofs.Good.{IsSilent, Each, each-behind, IsBetween, IsJoined, Good, Passes, passes-none, passes-both, at}
 use Rattle.pair_rules.proofs.Going.{goes-one, goes-lost}
 use Rattle.pair_rules.proofs.Lines.{served-listed, queue-here, queue-other, becomes}
 
@@ -177,6 +177,7 @@ module _ (c z : Configuration) (j : IsJoined c z) where
       fits = stay.stay g.fits;
       alone = record { routes = g.alone.routes; adjacents = g.alone.adjacents };
       unawaited = g.unawaited;
+      silent = g.silent;
       queued = queued-still n link m g.queued g.loose.0;
       held = g.held;
       loose = g.loose.1;
@@ -198,6 +199,7 @@ module _ (c z : Configuration) (j : IsJoined c z) where
       fits = ((fit-steps c).held m n e).stay g.fits;
       alone = record { routes = g.alone.routes; adjacents = g.alone.adjacents };
       unawaited = g.unawaited;
+      silent = g.silent;
       queued = g.queued;
       held = each-behind (IsBetween c z) n.queues.held (m ∷ []) g.held (g.loose.0, tt);
       loose = g.loose.1;
@@ -218,6 +220,7 @@ module _ (c z : Configuration) (j : IsJoined c z) where
       unawaited = λ link up.
           ap (λ (xs : List Standing). (standing_at xs link).awaited) changeovers
           ∙ g.unawaited link (ap (λ (xs : List Link). is_down (link_in xs link).alignment) (sym links) ∙ up);
+      silent = subst (λ (xs : List Link). (link : ℕ) → IsSilent (link_in xs link)) (sym links) g.silent;
       queued = subst (λ (qs : WholeQueues). (link : ℕ) → Each (IsBetween c z) (queue_at qs link).all) (sym queues) g.queued;
       held = subst (λ (qs : WholeQueues). Each (IsBetween c z) qs.held) (sym queues) g.held;
       loose = g.loose.1;
@@ -255,6 +258,7 @@ module _ (c z : Configuration) (j : IsJoined c z) where
       fits = ((fit-steps c).taken_out n).stay g.fits;
       alone = record { routes = g.alone.routes; adjacents = g.alone.adjacents };
       unawaited = g.unawaited;
+      silent = g.silent;
       queued = g.queued;
       held = tt;
       loose = each-behind (IsBetween c z) n.queues.held [] g.held tt;

@@ -1,8 +1,8 @@
--- A link opens at both ends: by one move.
+-- A link opens at one end: by one move.
 use Rattle.std.proofs.Common.{◌≡◌, ◌≢◌, ◌<◌, ◌&&◌, ℕ, Bool, true, false, not, List, [], length, map, Option, refl, ap, sym, subst, ◌∙◌, nat_lt, arith}
 use Rattle.std.specs.Prelude.{if◌then◌else◌}
 use Rattle.std.proofs.Math.Logic.{⊎_elim}
-use Rattle.std.proofs.lemmas.Bool.{cases_eq}
+use Rattle.std.proofs.lemmas.Bool.{and_parts, cases_eq}
 use Rattle.std.proofs.lemmas.Bool.Decides.{nat_tests}
 use Rattle.signalling_types.specs.declared.point.Flow.{Flow}
 use Rattle.signalling_types.specs.declared.outcome.Outcome.TheVariants.{Handled}
@@ -27,10 +27,10 @@ use Rattle.exchange_rules.proofs.Fitting.{Fits, fit-steps}
 use Rattle.exchange_rules.proofs.Lists.{each-set}
 use Rattle.pair_moves.specs.Ends.{LinkEnd, Line, Pair}
 use Rattle.pair_moves.specs.Passing.{BecomeAt}
-use Rattle.pair_moves.specs.Returning.{MayOpen, opened_end, opened_line}
+use Rattle.pair_moves.specs.Returning.{MayOpen, opened_end}
 use Rattle.pair_moves.specs.Moves as moves
-use Rattle.pair_rules.proofs.World.{Mid, World, says_of, shown, route_of, line_of, end_of, frame_of, turned_world}
-use Rattle.pair_rules.proofs.Good.{Each, IsBetween, IsFlying, Good}
+use Rattle.pair_rules.proofs.World.{Mid, World, says_of, shown, shown_by, route_of, line_of, end_of, frame_of}
+use Rattle.pair_rules.proofs.Good.{Each, IsBetween, IsFlying, IsSilent, Good}
 use Rattle.pair_rules.proofs.Going.{Goes, goes-one}
 use Rattle.pair_rules.proofs.Lines.{end-by, end_by, link-here, link-other, queue-here, queue-other}
 use Rattle.pair_rules.proofs.Relinked.{route_by}
@@ -131,11 +131,41 @@ module _ (c z : Configuration) (n : Node WholeQueues) (link : ℕ) (m : MayComeU
     unawaited = restarts-unawaited (changeover_of n.parts link) m.restarts;
   }
 
-module _ (c z : Configuration) (w : World) (link : ℕ) (m : MayComeUp w.near.node.parts link) where
+-- and of the far end it is enough that it may
+pub may_open-at : (n : Node WholeQueues) (link : ℕ) → (down n.parts link && may_restart (changeover_of n.parts link)) ≡ true → MayOpen (end_of n link)
+may_open-at n link e =
+    let both : (down n.parts link ≡ true) × (may_restart (changeover_of n.parts link) ≡ true) = and_parts (down n.parts link) (may_restart (changeover_of n.parts link)) e in
+    record {
+      down = ap not both.0;
+      complete = restarts-complete (changeover_of n.parts link) both.1;
+      unawaited = restarts-unawaited (changeover_of n.parts link) both.1;
+    }
+
+pub may-open : (n : Node WholeQueues) (link : ℕ) → MayComeUp n.parts link → (down n.parts link && may_restart (changeover_of n.parts link)) ≡ true
+may-open n link m = by (down n.parts link) (may_restart (changeover_of n.parts link)) m.down m.restarts
+  where
+    by : (a b : Bool) → a ≡ true → b ≡ true → (a && b) ≡ true
+    by true b e f = f
+    by false b e f = e
+
+-- the world after a link opened at the near end
+abbrev pub opened_near : Configuration → World → (link : ℕ) → (near_may far_may : ℕ → Bool) → (to_near to_far : ℕ → List FrameValue) → World
+opened_near c w link near_may far_may to_near to_far = record {
+  near = record w.near { node = open_link whole c link w.near.node };
+  far = w.far;
+  to_near = to_near;
+  to_far = to_far;
+  near_may = near_may;
+  far_may = far_may;
+}
+
+module _ (c z : Configuration) (w : World) (link : ℕ) (m : MayComeUp w.near.node.parts link) (near_may far_may : ℕ → Bool) (g f : ℕ → List FrameValue) where
+  abbrev after_opening : World
+  after_opening = opened_near c w link near_may far_may g f
+
   -- the node is good in any world
-  pub opened-good : (far : Mid) (g f : ℕ → List FrameValue) → ((other : ℕ) → Each (IsFlying z c) (g other)) → Good c z w
-      → Good c z (record { near = record w.near { node = open_link whole c link w.near.node }; far = far; to_near = g; to_far = f })
-  opened-good far g f coming h = record {
+  pub opened-good : ((other : ℕ) → Each (IsFlying z c) (g other)) → Good c z w → Good c z after_opening
+  opened-good coming h = record {
     fits = ((fit-steps c).opened link w.near.node tt m.there m.opens (restarts-complete (changeover_of w.near.node.parts link) m.restarts)).stay h.fits;
     alone = record { routes = h.alone.routes; adjacents = h.alone.adjacents };
     unawaited = λ other up.
@@ -144,6 +174,8 @@ module _ (c z : Configuration) (w : World) (link : ℕ) (m : MayComeUp w.near.no
         (λ (d : other ≢ link).
         h.unawaited other (ap (λ (x : Link). is_down x.alignment) (sym (link-other c z w.near.node.parts link other (opened (link_at w.near.node.parts link)) d)) ∙ up))
         (cases_eq other link);
+    silent = λ other. each-set (λ (x : Link). IsSilent x) w.near.node.parts.links link other (opened (link_at w.near.node.parts link)) down_link h.silent
+        (λ gone. (let no : true ≡ false = sym gone in absurd cc));
     queued = λ other. each-set (λ (q : Queue). Each (IsBetween c z) q.all) w.near.node.queues.links link other first_queue first_queue h.queued tt;
     held = h.held;
     loose = h.loose;
@@ -151,53 +183,78 @@ module _ (c z : Configuration) (w : World) (link : ℕ) (m : MayComeUp w.near.no
     coming = coming;
   }
 
--- ---- both ends
+  abbrev line_with : LinkEnd → LinkEnd → List FrameValue → List FrameValue → Bool → Bool → Line
+  line_with x y to_far to_near near far = record {
+    near = x;
+    far = y;
+    to_far = map frame_of to_far;
+    to_near = map frame_of to_near;
+    near_may_follow = near;
+    far_may_follow = far;
+  }
 
-module _ (c z : Configuration) (w : World) (link : ℕ) (near : MayComeUp w.near.node.parts link) (far : MayComeUp w.far.node.parts link) (g f : ℕ → List FrameValue) where
-  -- nothing is in flight on the link then
-  pub record Empties : Type 0 where
+  five : {x a y : LinkEnd} {s i t k : List FrameValue} {n o v b : Bool} → x ≡ a → s ≡ i → t ≡ k → n ≡ o → v ≡ b → line_with x y s t n v ≡ line_with a y i k o b
+  five {x} {a} {y} {s} {i} {t} {k} {n} {o} {v} {b} p r u q e =
+      ap (λ (l : LinkEnd). line_with l y s t n v) p ∙ ap (λ (l : List FrameValue). line_with a y l t n v) r ∙ ap (λ (l : List FrameValue). line_with a y i l n v) u
+      ∙ ap (λ (l : Bool). line_with a y i k l v) q ∙ ap (λ (l : Bool). line_with a y i k o l) e
+
+  routed : shown c z after_opening ≡ record (shown c z w) { line = line_of after_opening }
+  routed = ap (λ (route : Flow → Option ℕ). shown_by c z route after_opening) (opened-route c z w.near.node link m)
+
+  -- ---- it is the first to open: nothing is in flight then
+
+  pub record IsFirst : Type 0 where
     pub near_here : g link ≡ []
-    pub near_others : (other : ℕ) → other ≢ link → g other ≡ w.to_near other
     pub far_here : f link ≡ []
-    pub far_others : (other : ℕ) → other ≢ link → f other ≡ w.to_far other
+    pub near_follows : near_may link ≡ false
+    pub far_follows : far_may link ≡ true
 
-  abbrev pub opened_world : World
-  opened_world = record {
-    near = record w.near { node = open_link whole c link w.near.node };
-    far = record w.far { node = open_link whole z link w.far.node };
-    to_near = g;
-    to_far = f;
-  }
+  pub record IsElsewhere : Type 0 where
+    pub to_near : (other : ℕ) → other ≢ link → g other ≡ w.to_near other
+    pub to_far : (other : ℕ) → other ≢ link → f other ≡ w.to_far other
+    pub near_follows : (other : ℕ) → other ≢ link → near_may other ≡ w.near_may other
+    pub far_follows : (other : ℕ) → other ≢ link → far_may other ≡ w.far_may other
 
-  abbrev line_with : LinkEnd → LinkEnd → List FrameValue → List FrameValue → Line
-  line_with x y to_far to_near = record { near = x; far = y; to_far = map frame_of to_far; to_near = map frame_of to_near }
+  elsewhere : IsElsewhere → (other : ℕ) → other ≢ link → line_of after_opening other ≡ line_of w other
+  elsewhere e other d = five (opened-other c z w.near.node link m other d) (e.to_far other d) (e.to_near other d) (e.near_follows other d) (e.far_follows other d)
 
-  opens-set : Empties → Fits c w.near.node → Fits z w.far.node → length z.links ≡ length c.links → BecomeAt (shown c z w) link opened_line (line_of opened_world)
-  opens-set e fits there many = record {
-    inside = listed c z w.near.node link near fits;
-    here = four (opened-here c z w.near.node link near fits) (opened-here z c w.far.node link far there) e.far_here e.near_here;
-    others = λ other d. four (opened-other c z w.near.node link near other d) (opened-other z c w.far.node link far other d) (e.far_others other d) (e.near_others other d);
-  }
-    where
-      four : {x a y b : LinkEnd} {s i t k : List FrameValue} → x ≡ a → y ≡ b → s ≡ i → t ≡ k → line_with x y s t ≡ line_with a b i k
-      four {x} {a} {y} {b} {s} {i} {t} {k} p q r u =
-          ap (λ (v : LinkEnd). line_with v y s t) p ∙ ap (λ (v : LinkEnd). line_with a v s t) q ∙ ap (λ (v : List FrameValue). line_with a b v t) r ∙ ap (λ (v : List FrameValue). line_with a b i v) u
-
-  abbrev with_routes : (Flow → Option ℕ) → (Flow → Option ℕ) → Pair
-  with_routes near_route far_route = record (shown c z opened_world) {
-    near = record (shown c z opened_world).near { route = near_route };
-    far = record (shown c z opened_world).far { route = far_route };
-  }
-
-  pub opens-goes : Empties → Good c z w → Good z c (turned_world w) → length z.links ≡ length c.links → Goes (says_of c.links) (shown c z w) (shown c z opened_world)
-  opens-goes e h k many =
-      goes-one (says_of c.links) (shown c z w) (shown c z opened_world)
-      (moves.opens (record {
+  pub first-goes : IsFirst → IsElsewhere → MayOpen (end_of w.far.node link) → Good c z w → Goes (says_of c.links) (shown c z w) (shown c z after_opening)
+  first-goes i e far h =
+      goes-one (says_of c.links) (shown c z w) (shown c z after_opening)
+      (moves.opens_first (record {
         link = link;
-        near_may = may_open-end c z w.near.node link near;
-        far_may = may_open-end z c w.far.node link far;
-        lines = line_of opened_world;
-        set = opens-set e h.fits k.fits many;
-        after = ap (λ (route : Flow → Option ℕ). with_routes route (route_of z opened_world.far.node.parts)) (opened-route c z w.near.node link near)
-            ∙ ap (λ (route : Flow → Option ℕ). with_routes (route_of c w.near.node.parts) route) (opened-route z c w.far.node link far);
+        near_may = may_open-end c z w.near.node link m;
+        far_may = far;
+        lines = line_of after_opening;
+        set = record {
+          inside = listed c z w.near.node link m h.fits;
+          here = five (opened-here c z w.near.node link m h.fits) i.far_here i.near_here i.near_follows i.far_follows;
+          others = elsewhere e;
+        };
+        after = routed;
+      }))
+
+  -- ---- it follows the other
+
+  pub record IsSecond : Type 0 where
+    pub followed : w.near_may link ≡ true
+    pub near_here : g link ≡ w.to_near link
+    pub far_here : f link ≡ w.to_far link
+    pub near_follows : near_may link ≡ false
+    pub far_follows : far_may link ≡ w.far_may link
+
+  pub second-goes : IsSecond → IsElsewhere → Good c z w → Goes (says_of c.links) (shown c z w) (shown c z after_opening)
+  second-goes i e h =
+      goes-one (says_of c.links) (shown c z w) (shown c z after_opening)
+      (moves.opens_second (record {
+        link = link;
+        follows = i.followed;
+        near_may = may_open-end c z w.near.node link m;
+        lines = line_of after_opening;
+        set = record {
+          inside = listed c z w.near.node link m h.fits;
+          here = five (opened-here c z w.near.node link m h.fits) i.far_here i.near_here i.near_follows i.far_follows;
+          others = elsewhere e;
+        };
+        after = routed;
       }))

@@ -25,10 +25,10 @@ use Rattle.exchange_rules.specs.Failing.{changeover_of}
 use Rattle.exchange_rules.specs.Noting.{note_outcome}
 use Rattle.exchange_rules.specs.Routing.{facts, sets_in}
 use Rattle.exchange_rules.proofs.Fitting.{StaysFit, fit-steps}
-use Rattle.exchange_rules.proofs.Lists.{alike-at}
+use Rattle.exchange_rules.proofs.Lists.{alike-at, each-set}
 use Rattle.pair_moves.specs.Ends.{LinkEnd, Line, Pair}
-use Rattle.pair_rules.proofs.World.{World, says_of, shown, route_of, line_of, end_of}
-use Rattle.pair_rules.proofs.Good.{Passes, passes-none, at}
+use Rattle.pair_rules.proofs.World.{World, is_heard, says_of, shown, route_of, line_of, end_of}
+use Rattle.pair_rules.proofs.Good.{IsSilent, Passes, passes-none, at}
 use Rattle.pair_rules.proofs.Going.{goes-same, goes-none}
 
 module _ (c z : Configuration) where
@@ -63,6 +63,7 @@ module _ (c z : Configuration) where
           serving = is_in_service a;
           incomplete = (changeover_of n.parts other).incomplete;
           awaited = (changeover_of n.parts other).awaited;
+          heard = is_heard a;
         }) (alignment-same other)
 
     known-same : facts c relinked.parts ≡ facts c n.parts
@@ -70,8 +71,8 @@ module _ (c z : Configuration) where
         ap (λ (serving : List Bool). record { sets = sets_in c; in_service = serving; routes = n.parts.routes })
         (serving_alike n.parts.links link down_link x (ap (λ (a : Alignment). is_in_service a) same))
 
-    pub relinked-passes : StaysFit c n relinked → Passes c z (at c z w n arrived loose) (at c z w relinked arrived loose)
-    relinked-passes stay = record {
+    pub relinked-passes : (IsSilent (link_at n.parts link) → IsSilent x) → StaysFit c n relinked → Passes c z (at c z w n arrived loose) (at c z w relinked arrived loose)
+    relinked-passes quiet stay = record {
       goes = λ g.
           goes-same (says_of c.links) _ _
           (sym (same-shown w n relinked arrived loose
@@ -81,6 +82,7 @@ module _ (c z : Configuration) where
         fits = stay.stay g.fits;
         alone = record { routes = g.alone.routes; adjacents = g.alone.adjacents };
         unawaited = λ other up. g.unawaited other (ap (λ (a : Alignment). is_down a) (sym (alignment-same other)) ∙ up);
+        silent = λ other. each-set (λ (l : Link). IsSilent l) n.parts.links link other x down_link g.silent (quiet (g.silent link));
         queued = g.queued;
         held = g.held;
         loose = g.loose;
@@ -99,6 +101,7 @@ module _ (c z : Configuration) where
       fits = stay.stay g.fits;
       alone = record { routes = g.alone.routes; adjacents = g.alone.adjacents };
       unawaited = g.unawaited;
+      silent = g.silent;
       queued = g.queued;
       held = g.held;
       loose = g.loose;
@@ -115,6 +118,7 @@ module _ (c z : Configuration) where
       fits = stay.stay g.fits;
       alone = record { routes = g.alone.routes; adjacents = g.alone.adjacents };
       unawaited = g.unawaited;
+      silent = g.silent;
       queued = g.queued;
       held = g.held;
       loose = g.loose;

@@ -1,5 +1,5 @@
 -- A link takes a step of its alignment, and where it enters service it takes its flows back from one link after another: by moves.
-use Rattle.std.proofs.Common.{◌≡◌, ◌≢◌, ◌<◌, ◌&&◌, ℕ, zero, suc, Bool, true, false, not, List, [], length, Option, refl, ap, sym, subst, ◌∙◌}
+use Rattle.std.proofs.Common.{◌≡◌, ◌≢◌, ◌⊎◌, inl, inr, ◌<◌, ◌&&◌, ℕ, zero, suc, Bool, true, false, not, List, [], ◌∷◌, length, map, Option, refl, ap, sym, subst, ◌∙◌}
 use Rattle.std.proofs.Math.Logic.{⊎_elim}
 use Rattle.std.proofs.Math.Path.{fun_ext}
 use Rattle.std.proofs.lemmas.Bool.{and_parts, cases_eq}
@@ -12,7 +12,9 @@ use Rattle.link.specs.declared.action.Transition.{Transition}
 use Rattle.link.specs.Table.{action_at}
 use Rattle.timers.specs.Timers.{Running}
 use Rattle.node_links.specs.Link.{Link}
-use Rattle.node_links.specs.LinkState.{is_down, is_in_service, stepped}
+use Rattle.node_links.specs.LinkState.{down_link, is_down, is_in_service, stepped}
+use Rattle.m2pa_codec.specs.Frames.{FrameValue}
+use Rattle.exchange_rules.proofs.Lists.{each-set}
 use Rattle.node_links.proofs.Serving.{facts_alike}
 use Rattle.route_management.specs.Told.{ToldTable}
 use Rattle.routes.specs.declared.route.Route.{Route}
@@ -32,11 +34,11 @@ use Rattle.exchange_rules.proofs.TakenPairs.{IsAlike, take_back_each-alike}
 use Rattle.pair_moves.specs.Ends.{LinkEnd}
 use Rattle.pair_moves.specs.Moves as moves
 use Rattle.pair_rules.proofs.Alone.{StaysAlone, alone-steps}
-use Rattle.pair_rules.proofs.World.{World, says_of, shown, shown_by, route_of, line_of, end_of}
-use Rattle.pair_rules.proofs.Good.{IsJoined, Good, Passes, at}
+use Rattle.pair_rules.proofs.World.{World, heard, is_heard, says_of, shown, shown_by, route_of, line_of, end_of, frame_of}
+use Rattle.pair_rules.proofs.Good.{IsSilent, IsJoined, Good, Passes, at}
 use Rattle.pair_rules.proofs.Going.{Goes, goes-both, goes-none, goes-one, goes-same}
 use Rattle.pair_rules.proofs.Lines.{becomes}
-use Rattle.pair_rules.proofs.Entries.{leads-up, not-so, starts-up}
+use Rattle.pair_rules.proofs.Entries.{enters-heard, leads-heard, leads-up, not-so, starts-up}
 use Rattle.pair_rules.proofs.Turns.{IsEntry, PassesBy, by-both, first-route, last-route, route_at, route_by}
 use Rattle.pair_rules.proofs.Declaring.{take-turn}
 
@@ -45,11 +47,18 @@ abbrev moved_parts : Parts → List Link → List (List Route) → ToldTable →
 moved_parts p links routes told timers = record p { links = links; routes = routes; told = told; timers = timers }
 
 -- a link's end where it changes
-abbrev end_with : Node WholeQueues → (link : ℕ) → (gone serves : Bool) → LinkEnd
-end_with n link gone serves = record (end_of n link) { up = not gone; serving = serves }
+abbrev end_with : Node WholeQueues → (link : ℕ) → (gone serves heard : Bool) → LinkEnd
+end_with n link gone serves heard = record (end_of n link) { up = not gone; serving = serves; heard = heard }
 
-both-ways : (n : Node WholeQueues) (link : ℕ) (a b d e : Bool) → a ≡ b → d ≡ e → end_with n link a d ≡ end_with n link b e
-both-ways n link a b d e f g = ap (λ (x : Bool). end_with n link x d) f ∙ ap (λ (x : Bool). end_with n link b x) g
+all-ways : (n : Node WholeQueues) (link : ℕ) (a b d e s t : Bool) → a ≡ b → d ≡ e → s ≡ t → end_with n link a d s ≡ end_with n link b e t
+all-ways n link a b d e s t f g h =
+    ap (λ (x : Bool). end_with n link x d s) f ∙ ap (λ (x : Bool). end_with n link b x s) g ∙ ap (λ (x : Bool). end_with n link b e x) h
+
+-- a frame is in flight to the near end on a link
+pub record IsComing (w : World) (link : ℕ) : Type 0 where
+  pub frame : FrameValue
+  pub rest : List FrameValue
+  pub first : w.to_near link ≡ frame ∷ rest
 
 same-service : (a b : Bool) → (a && not b) ≡ false → (b ≡ true → a ≡ true) → a ≡ b
 same-service true true e f = refl
@@ -122,12 +131,13 @@ module _ (c z : Configuration) (j : IsJoined c z) where
         (moves.enters (record {
           link = link;
           up = ap not i.up;
+          heard = i.before;
           route = route_at c z j n.parts moved.parts 0;
           kept = λ flow former e. first-route c z j n.parts moved.parts flow former e;
           lines = line_of (at c z w moved arrived []);
           set = becomes c z (at c z w n arrived []) moved arrived [] (route_of c n.parts) link (record (end_of n link) { up = true; serving = true }) i.there
-              (both-ways n link (down moved.parts link) false (in_service moved.parts link) true i.still_up i.serves)
-              (λ other d. ap (λ (l : Link). end_with n other (is_down l.alignment) (is_in_service l.alignment)) (i.others other d));
+              (all-ways n link (down moved.parts link) false (in_service moved.parts link) true (heard moved.parts link) (heard n.parts link) i.still_up i.serves (i.still ∙ sym i.before))
+              (λ other d. ap (λ (l : Link). end_with n other (is_down l.alignment) (is_in_service l.alignment) (is_heard l.alignment)) (i.others other d));
           after = refl;
         }))
 
@@ -139,6 +149,11 @@ module _ (c z : Configuration) (j : IsJoined c z) where
           ⊎_elim
           (λ (same : other ≡ link). g.unawaited other (subst (λ (k : ℕ). down n.parts k ≡ false) (sym same) i.up))
           (λ (d : other ≢ link). g.unawaited other (ap (λ (l : Link). is_down l.alignment) (sym (i.others other d)) ∙ up))
+          (cases_eq other link);
+      silent = λ other.
+          ⊎_elim
+          (λ (same : other ≡ link). subst (λ (k : ℕ). IsSilent (link_at moved.parts k)) (sym same) (λ gone. (let no : true ≡ false = sym gone ∙ i.still_up in absurd cc)))
+          (λ (d : other ≢ link). subst (λ (l : Link). IsSilent l) (sym (i.others other d)) (g.silent other))
           (cases_eq other link);
       queued = g.queued;
       held = g.held;
@@ -164,6 +179,9 @@ module _ (c z : Configuration) (j : IsJoined c z) where
     inside : link < length n.parts.links
     inside = stepping-there n.parts link input step e
 
+    heard-then : heard once link ≡ true
+    heard-then = ap (λ (l : Link). is_heard l.alignment) (stepped-at c link step n.parts inside) ∙ leads-heard (link_at n.parts link).alignment input step e
+
     step-down : (other : ℕ) → down once other ≡ down n.parts other
     step-down other =
         ⊎_elim
@@ -184,20 +202,54 @@ module _ (c z : Configuration) (j : IsJoined c z) where
           (λ (d : other ≢ link). ap (λ (l : Link). is_in_service l.alignment) (stepped-other c link other step n.parts d))
           (cases_eq other link)
 
-      same-shown : shown c z (at c z w (with_parts n once) arrived []) ≡ shown c z (at c z w n arrived [])
-      same-shown =
-          let same : (λ (other : ℕ). end_with n other (down once other) (in_service once other)) ≡ end_of n =
-          fun_ext (λ (other : ℕ). both-ways n other (down once other) (down n.parts other) (in_service once other) (in_service n.parts other) (step-down other) (step-service other)) in
+      -- and where it had heard the other end
+      step-heard : heard n.parts link ≡ true → (other : ℕ) → heard once other ≡ heard n.parts other
+      step-heard before other =
+          ⊎_elim
+          (λ (same : other ≡ link).
+          subst (λ (k : ℕ). heard once k ≡ heard n.parts k) (sym same) (heard-then ∙ sym before))
+          (λ (d : other ≢ link). ap (λ (l : Link). is_heard l.alignment) (stepped-other c link other step n.parts d))
+          (cases_eq other link)
+
+      same-shown : heard n.parts link ≡ true → shown c z (at c z w (with_parts n once) arrived []) ≡ shown c z (at c z w n arrived [])
+      same-shown before =
+          let same : (λ (other : ℕ). end_with n other (down once other) (in_service once other) (heard once other)) ≡ end_of n =
+          fun_ext (λ (other : ℕ). all-ways n other (down once other) (down n.parts other) (in_service once other) (in_service n.parts other) (heard once other) (heard n.parts other)
+          (step-down other) (step-service other) (step-heard before other)) in
           ap (λ (f : Facts). shown_by c z (route_by c f) (at c z w (with_parts n once) arrived [])) (facts_alike (network_of c n.parts) link (stepped step (link_at n.parts link)) stays)
           ∙ ap (λ (ends : ℕ → LinkEnd). record (shown c z (at c z w n arrived [])) { line = λ other. record (line_of w other) { near = ends other } }) same
 
-      staying-passes : Passes c z (at c z w n arrived []) (at c z w (with_parts n once) arrived [])
-      staying-passes = record {
-        goes = λ g. goes-same (says_of c.links) _ _ (sym same-shown);
+      -- a frame that comes is heard
+      hearing-goes : IsComing w link → link < length c.links → Goes (says_of c.links) (shown c z (at c z w n arrived [])) (shown c z (at c z w (with_parts n once) arrived []))
+      hearing-goes coming there =
+          goes-one (says_of c.links) _ _
+          (moves.hears_frame (record {
+            link = link;
+            up = ap not (starts-up (link_at n.parts link).alignment input step e);
+            frame = frame_of coming.frame;
+            rest = map frame_of coming.rest;
+            first = ap (λ (fs : List FrameValue). map frame_of fs) coming.first;
+            lines = line_of (at c z w (with_parts n once) arrived []);
+            set = becomes c z (at c z w n arrived []) (with_parts n once) arrived [] (route_of c n.parts) link (record (end_of n link) { heard = true }) there
+                (all-ways n link (down once link) (down n.parts link) (in_service once link) (in_service n.parts link) (heard once link) true (step-down link) (step-service link) heard-then)
+                (λ other d. ap (λ (l : Link). end_with n other (is_down l.alignment) (is_in_service l.alignment) (is_heard l.alignment)) (stepped-other c link other step n.parts d));
+            after = ap (λ (f : Facts). shown_by c z (route_by c f) (at c z w (with_parts n once) arrived [])) (facts_alike (network_of c n.parts) link (stepped step (link_at n.parts link)) stays);
+          }))
+
+      staying-goes : (heard n.parts link ≡ true) ⊎ IsComing w link → link < length c.links
+          → Goes (says_of c.links) (shown c z (at c z w n arrived [])) (shown c z (at c z w (with_parts n once) arrived []))
+      staying-goes (inl before) there = goes-same (says_of c.links) _ _ (sym (same-shown before))
+      staying-goes (inr coming) there = hearing-goes coming there
+
+      staying-passes : (heard n.parts link ≡ true) ⊎ IsComing w link → Passes c z (at c z w n arrived []) (at c z w (with_parts n once) arrived [])
+      staying-passes came = record {
+        goes = λ g. staying-goes came (subst (λ (k : ℕ). link < k) g.fits.places.parts.links inside);
         good = λ g. record {
           fits = ((fit-steps c).stepped link input step n tt e).stay g.fits;
           alone = record { routes = g.alone.routes; adjacents = g.alone.adjacents };
           unawaited = λ other up. g.unawaited other (sym (step-down other) ∙ up);
+          silent = λ other. each-set (λ (l : Link). IsSilent l) n.parts.links link other (stepped step (link_at n.parts link)) down_link g.silent
+              (λ gone. (let no : true ≡ false = sym gone ∙ leads-up (link_at n.parts link).alignment input step e in absurd cc));
           queued = g.queued;
           held = g.held;
           loose = g.loose;
@@ -223,6 +275,8 @@ module _ (c z : Configuration) (j : IsJoined c z) where
         unserved = unserved;
         serves = ap (λ (l : Link). is_in_service l.alignment) (anew-link again c link link once ∙ stepped-at c link step n.parts inside)
             ∙ (and_parts (is_in_service step.state) (not (in_service n.parts link)) entered).0;
+        before = enters-heard (link_at n.parts link).alignment input step e (and_parts (is_in_service step.state) (not (in_service n.parts link)) entered).0;
+        still = ap (λ (l : Link). is_heard l.alignment) (anew-link again c link link once) ∙ heard-then;
         others = λ other d. anew-link again c link other once ∙ stepped-other c link other step n.parts d;
       }
 
@@ -246,13 +300,13 @@ module _ (c z : Configuration) (j : IsJoined c z) where
         good = λ g. (entered-by again alone (subst (λ (k : ℕ). link < k) g.fits.places.parts.links inside)).good g;
       }
 
-    advance-by : (b : Bool) → enters link step n.parts ≡ b
+    advance-by : (b : Bool) → enters link step n.parts ≡ b → (heard n.parts link ≡ true) ⊎ IsComing w link
         → Passes c z (at c z w n arrived [])
         (at c z w (return_if whole c b link (facts c n.parts) (with_parts n (begun_anew_if (b && not (has_other c link n.parts)) c link once))) arrived [])
-    advance-by true f = returning-passes f (not (has_other c link n.parts)) (λ h. not-so (has_other c link n.parts) h)
-    advance-by false f =
-        staying-passes (same-service (is_in_service step.state) (in_service n.parts link) f (each-step (link_at n.parts link).alignment input step e).stays)
+    advance-by true f came = returning-passes f (not (has_other c link n.parts)) (λ h. not-so (has_other c link n.parts) h)
+    advance-by false f came =
+        staying-passes (same-service (is_in_service step.state) (in_service n.parts link) f (each-step (link_at n.parts link).alignment input step e).stays) came
 
   pub advance-passes : (w : World) (n : Node WholeQueues) (arrived : List Message) (link : ℕ) (input : Input) (step : Transition) → action_at (link_at n.parts link).alignment input ≡ Go step
-      → Passes c z (at c z w n arrived []) (at c z w (advance whole c link step n) arrived [])
-  advance-passes w n arrived link input step e = advance-by w n arrived link input step e (enters link step n.parts) refl
+      → (heard n.parts link ≡ true) ⊎ IsComing w link → Passes c z (at c z w n arrived []) (at c z w (advance whole c link step n) arrived [])
+  advance-passes w n arrived link input step e came = advance-by w n arrived link input step e (enters link step n.parts) refl came

@@ -1,5 +1,5 @@
 -- Two exchanges after some steps, as the machine of moves shows them; and what each step at the near end does to that.
-use Rattle.std.proofs.Common.{◌≡◌, ℕ, true, List, [], length, map, refl}
+use Rattle.std.proofs.Common.{◌≡◌, ℕ, Bool, true, List, [], length, map, refl}
 use Rattle.signalling_types.specs.Message.{Message}
 use Rattle.settings_rows.specs.Configuration.{Configuration}
 use Rattle.m2pa_codec.specs.Frames.{FrameValue, spelled}
@@ -11,7 +11,7 @@ use Rattle.exchange_rules.specs.Exchange.{apply, handle_event}
 use Rattle.exchange_rules.proofs.Sound.{done-waits}
 use Rattle.pair_moves.specs.Ends.{Pair}
 use Rattle.pair_moves.specs.Ends as ends
-use Rattle.pair_rules.specs.Pairs.{End, PairState, happens, in_flight}
+use Rattle.pair_rules.specs.Pairs.{End, PairState, happens, in_flight, may_follow}
 use Rattle.pair_rules.proofs.World.{Mid, World, says_of, shown, turned_world}
 use Rattle.pair_rules.proofs.Good.{IsJoined, Good, Passes, at}
 use Rattle.pair_rules.proofs.Going.{Goes, goes-both}
@@ -19,10 +19,11 @@ use Rattle.pair_rules.proofs.Events.{event-passes}
 
 -- ---- an end, and two of them, with the frames in flight
 
-abbrev pub end_with : Configuration → Node WholeQueues → (incoming : List (List (List ℕ))) → (accepted received : List Message) → End
-end_with c n incoming accepted received = record {
+abbrev pub end_with : Configuration → Node WholeQueues → (incoming : List (List (List ℕ))) → (following : List Bool) → (accepted received : List Message) → End
+end_with c n incoming following accepted received = record {
   exchange = record { settings = c; node = n };
   incoming = incoming;
+  following = following;
   accepted = accepted;
   received = received;
 }
@@ -32,7 +33,14 @@ abbrev pub rests : End → Mid
 rests e = record { node = e.exchange.node; arrived = []; loose = []; accepted = e.accepted; received = e.received }
 
 abbrev pub world_of : PairState → (to_near to_far : ℕ → List FrameValue) → World
-world_of p to_near to_far = record { near = rests p.near; far = rests p.far; to_near = to_near; to_far = to_far }
+world_of p to_near to_far = record {
+  near = rests p.near;
+  far = rests p.far;
+  to_near = to_near;
+  to_far = to_far;
+  near_may = λ link. may_follow p.near link;
+  far_may = λ link. may_follow p.far link;
+}
 
 -- the texts in flight are those of these frames
 pub record AreTexts (c : Configuration) (texts : List (List (List ℕ))) (frames : ℕ → List FrameValue) : Type 0 where
@@ -54,17 +62,20 @@ module _ (c z : Configuration) where
     pub to_far : ℕ → List FrameValue
     pub near_texts : AreTexts c p.near.incoming to_near
     pub far_texts : AreTexts z p.far.incoming to_far
+    pub near_flags : length p.near.following ≡ length c.links
+    pub far_flags : length p.far.following ≡ length z.links
     pub near_good : Good c z (world_of p to_near to_far)
     pub far_good : Good z c (turned_world (world_of p to_near to_far))
     pub goes : Goes (says_of c.links) (ends.first_pair (length c.links)) (shown c z (world_of p to_near to_far))
 
   -- good is what the node and what comes to it are
-  pub regood : (x y other : Mid) (f g h : ℕ → List FrameValue) → Good c z (record { near = x; far = y; to_near = f; to_far = g })
-      → Good c z (record { near = x; far = other; to_near = f; to_far = h })
-  regood x y other f g h a = record {
+  pub regood : (x y other : Mid) (f g h : ℕ → List FrameValue) (m n s t : ℕ → Bool) → Good c z (record { near = x; far = y; to_near = f; to_far = g; near_may = m; far_may = n })
+      → Good c z (record { near = x; far = other; to_near = f; to_far = h; near_may = s; far_may = t })
+  regood x y other f g h m n s t a = record {
     fits = a.fits;
     alone = a.alone;
     unawaited = a.unawaited;
+    silent = a.silent;
     queued = a.queued;
     held = a.held;
     loose = a.loose;
@@ -76,12 +87,12 @@ module _ (c z : Configuration) where
 
 module _ (c z : Configuration) (j : IsJoined c z) where
   -- nothing comes, is handed over or is received
-  pub happens-stands : (what : Happening) (n m : Node WholeQueues) (ni fi : List (List (List ℕ))) (na nr fa fr : List Message)
+  pub happens-stands : (what : Happening) (n m : Node WholeQueues) (ni fi : List (List (List ℕ))) (nv fv : List Bool) (na nr fa fr : List Message)
       → ((w : World) → Passes c z (at c z w n [] []) (at c z w (handle_event whole c what n).left [] []))
-      → Stands c z (record { near = end_with c n ni na nr; far = end_with z m fi fa fr })
-      → Stands c z (happens what (record { near = end_with c n ni na nr; far = end_with z m fi fa fr })).left
-  happens-stands what n m ni fi na nr fa fr passes s =
-      let p : PairState = record { near = end_with c n ni na nr; far = end_with z m fi fa fr } in
+      → Stands c z (record { near = end_with c n ni nv na nr; far = end_with z m fi fv fa fr })
+      → Stands c z (happens what (record { near = end_with c n ni nv na nr; far = end_with z m fi fv fa fr })).left
+  happens-stands what n m ni fi nv fv na nr fa fr passes s =
+      let p : PairState = record { near = end_with c n ni nv na nr; far = end_with z m fi fv fa fr } in
       let w : World = world_of p s.to_near s.to_far in
       let e : Passes c z w (at c z w (apply whole c what n).left [] []) = event-passes c z j what w w n (passes w) in
       record {
@@ -93,7 +104,9 @@ module _ (c z : Configuration) (j : IsJoined c z) where
         to_far = s.to_far;
         near_texts = s.near_texts;
         far_texts = s.far_texts;
+        near_flags = s.near_flags;
+        far_flags = s.far_flags;
         near_good = e.good s.near_good;
-        far_good = regood z c (rests p.far) (rests p.near) (rests (end_with c (apply whole c what n).left ni na nr)) s.to_far s.to_near s.to_near s.far_good;
+        far_good = regood z c (rests p.far) (rests p.near) (rests (end_with c (apply whole c what n).left ni nv na nr)) s.to_far s.to_near s.to_near _ _ _ _ s.far_good;
         goes = goes-both (says_of c.links) _ _ _ s.goes (e.goes s.near_good);
       }

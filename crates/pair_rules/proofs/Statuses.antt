@@ -1,5 +1,5 @@
 -- Link statuses that come, timers that run out, and what the operator and the association do to a link: by moves.
-use Rattle.std.proofs.Common.{inr, ◌≡◌, ◌&&◌, ℕ, Bool, true, false, List, [], length, zero, suc, Option, Some, None, refl, ap, sym, subst, ◌∙◌, nat_eq, nat_lt}
+use Rattle.std.proofs.Common.{inl, inr, ◌≡◌, ◌&&◌, ℕ, Bool, true, false, List, [], length, zero, suc, Option, Some, None, refl, ap, sym, subst, ◌∙◌, nat_eq, nat_lt}
 use Rattle.std.specs.Prelude.{if◌then◌else◌, find, slice_index_or}
 use Rattle.std.specs.Option.{option_map}
 use Rattle.signalling_types.specs.Message.{Message}
@@ -49,7 +49,8 @@ use Rattle.pair_rules.proofs.Failures.{fail-passes}
 use Rattle.pair_rules.proofs.Frames.{Pops, popped, receiving, none-received, dropping-frame}
 use Rattle.pair_rules.proofs.Deliveries.{fails-up}
 use Rattle.pair_rules.proofs.Expiries.{changeover_timer-passes}
-use Rattle.pair_rules.proofs.Returns.{advance-passes}
+use Rattle.pair_rules.proofs.Entries.{expiry-heard}
+use Rattle.pair_rules.proofs.Returns.{IsComing, advance-passes}
 use Rattle.pair_rules.proofs.Lates.{late_time-passes, late_code-passes, rerouting_ended-passes}
 
 module _ (c z : Configuration) (j : IsJoined c z) where
@@ -69,12 +70,12 @@ module _ (c z : Configuration) (j : IsJoined c z) where
       → Passes c z (at c z w n [] []) (at c z w (with_parts n (if b then n.parts else with_busy c link n.parts)) [] [])
   begun-busy true w n link serves e = passes-none c z (at c z w n [] [])
   begun-busy false w n link serves e =
-      relinked-passes c z w n [] [] link (record (link_at n.parts link) { peer_busy = true }) (timed_busy c link n.parts.timers) refl ((fit-steps c).busied link n tt serves e)
+      relinked-passes c z w n [] [] link (record (link_at n.parts link) { peer_busy = true }) (timed_busy c link n.parts.timers) refl (λ h. h) ((fit-steps c).busied link n tt serves e)
 
   ended-busy : (b : Bool) (w : World) (n : Node WholeQueues) (link : ℕ) → in_service n.parts link ≡ true → (link_at n.parts link).peer_busy ≡ b
       → Passes c z (at c z w n [] []) (at c z w (with_parts n (if b then without_busy c link (whole.outstanding n.queues link) n.parts else n.parts)) [] [])
   ended-busy true w n link serves e =
-      relinked-passes c z w n [] [] link (record (link_at n.parts link) { peer_busy = false }) (timed_busy_ended c link (whole.outstanding n.queues link) n.parts.timers) refl
+      relinked-passes c z w n [] [] link (record (link_at n.parts link) { peer_busy = false }) (timed_busy_ended c link (whole.outstanding n.queues link) n.parts.timers) refl (λ h. h)
       ((fit-steps c).resumed link n tt serves e)
   ended-busy false w n link serves e = passes-none c z (at c z w n [] [])
 
@@ -95,12 +96,12 @@ module _ (c z : Configuration) (j : IsJoined c z) where
   serving-acted true w n link status e = serving-passes w n link status (e refl)
   serving-acted false w n link status e = passes-none c z (at c z w n [] [])
 
-  pub status-acted : (a : Action) (w : World) (n : Node WholeQueues) (link : ℕ) (status : LinkStatus) → action_at (link_at n.parts link).alignment (Status status) ≡ a
+  pub status-acted : (a : Action) (w : World) (n : Node WholeQueues) (link : ℕ) (status : LinkStatus) → action_at (link_at n.parts link).alignment (Status status) ≡ a → IsComing w link
       → Passes c z (at c z w n [] []) (at c z w (act_by_status whole c a link status n).left [] [])
-  status-acted act.Ignored w n link status e = passes-none c z (at c z w n [] [])
-  status-acted act.Fail w n link status e = fail-passes c z j w n [] link reasons.Status (fails-up (link_at n.parts link).alignment (Status status) e)
-  status-acted (act.Go step) w n link status e =
-      passes-both c z _ _ _ (advance-passes c z j w n [] link (Status status) step e)
+  status-acted act.Ignored w n link status e coming = passes-none c z (at c z w n [] [])
+  status-acted act.Fail w n link status e coming = fail-passes c z j w n [] link reasons.Status (fails-up (link_at n.parts link).alignment (Status status) e)
+  status-acted (act.Go step) w n link status e coming =
+      passes-both c z _ _ _ (advance-passes c z j w n [] link (Status status) step e (inr coming))
       (serving-acted step.serve w (advance whole c link step n) link status
       (λ h. advance-serves c link (Status status) step n e ∙ serves-in (link_at n.parts link).alignment (Status status) step e h))
 
@@ -110,7 +111,7 @@ module _ (c z : Configuration) (j : IsJoined c z) where
       → Passes c z (at c z w n [] []) (at c z w (act_by_timer whole c a link n) [] [])
   timer-acted act.Ignored w n link t e = passes-none c z (at c z w n [] [])
   timer-acted act.Fail w n link t e = fail-passes c z j w n [] link reasons.Timer (fails-up (link_at n.parts link).alignment (Expiry t) e)
-  timer-acted (act.Go step) w n link t e = advance-passes c z j w n [] link (Expiry t) step e
+  timer-acted (act.Go step) w n link t e = advance-passes c z j w n [] link (Expiry t) step e (inl (expiry-heard (link_at n.parts link).alignment t step e))
 
   pub run_out-passes : (w : World) (n : Node WholeQueues) (link : ℕ) (t : LinkTimer) → Passes c z (at c z w n [] []) (at c z w (run_out whole c link t n) [] [])
   run_out-passes w n link t = timer-acted (action_at (link_at n.parts link).alignment (Expiry t)) w n link t refl
@@ -122,7 +123,7 @@ module _ (c z : Configuration) (j : IsJoined c z) where
   status-passes w n link bsn fsn status f p =
       let acted : Node WholeQueues = (on_link_status whole c link status n).left in
       none-received c z j (at c z w n [] []) (popped c z j w f) acted [] []
-      (passes-both c z _ _ _ (status-acted (action_at (link_at n.parts link).alignment (Status status)) w n link status refl)
+      (passes-both c z _ _ _ (status-acted (action_at (link_at n.parts link).alignment (Status status)) w n link status refl (record { frame = StatusFrame bsn fsn status; rest = p.rest; first = p.first }))
       (dropping-frame c z j w link (StatusFrame bsn fsn status) f p acted (inr refl)))
 
   -- ---- a route set test of our own is never due
@@ -201,10 +202,10 @@ module _ (c z : Configuration) (j : IsJoined c z) where
 
   set_active-passes : (active : Bool) (w : World) (n : Node WholeQueues) (link : ℕ) → Passes c z (at c z w n [] []) (at c z w (set_active whole c active link n) [] [])
   set_active-passes active w n link =
-      relinked-passes c z w n [] [] link (record (link_at n.parts link) { active = active }) n.parts.timers refl (set_active-steps (fit-steps c) active link n)
+      relinked-passes c z w n [] [] link (record (link_at n.parts link) { active = active }) n.parts.timers refl (λ h. h) (set_active-steps (fit-steps c) active link n)
 
   end_association-passes : (w : World) (n : Node WholeQueues) (link : ℕ) → StaysFit c n (end_association whole c link n) → Passes c z (at c z w n [] []) (at c z w (end_association whole c link n) [] [])
-  end_association-passes w n link stay = relinked-passes c z w n [] [] link (record (link_at n.parts link) { association = false }) n.parts.timers refl stay
+  end_association-passes w n link stay = relinked-passes c z w n [] [] link (record (link_at n.parts link) { association = false }) n.parts.timers refl (λ h. h) stay
 
   pub association_down-passes : (w : World) (n : Node WholeQueues) (link : ℕ) → Passes c z (at c z w n [] []) (at c z w (association_down whole c link n).left [] [])
   association_down-passes w n link =

@@ -30,7 +30,7 @@ use Rattle.signalling_types.specs.declared.outcome.Outcome.TheVariants.{Refused}
 use Rattle.exchange_rules.proofs.Sound.{done-waits}
 use Rattle.exchange_rules.proofs.Settling.{take-waits}
 use Rattle.exchange_rules.proofs.MadeManagement.{comes-here}
-use Rattle.pair_rules.specs.Pairs.{Doing, Submits, Takes, Delivers, Loses, Ticks, Activates, Deactivates, End, PairState, Turn, accepted_by, deliver_frame, did, happens, in_flight, for_users, is_for_far, take_frame}
+use Rattle.pair_rules.specs.Pairs.{Doing, Submits, Takes, Delivers, Loses, Ticks, Activates, Deactivates, End, PairState, Turn, accepted_by, deliver_frame, did, happens, in_flight, for_users, is_for_far, may_follow, take_frame}
 use Rattle.pair_rules.specs.Pairs as pairs
 use Rattle.pair_rules.proofs.World.{World, says_of, turned_world}
 use Rattle.pair_rules.proofs.Good.{Each, each-behind, IsBetween, IsFlying, IsJoined, Good, Passes, at}
@@ -106,9 +106,9 @@ module _ (c z : Configuration) (j : IsJoined c z) (apart : c.own ≢ z.own) (net
   user-message : (si : ℕ) → nat_le 4 si ≡ true → nat_lt si 2 ≡ false
   user-message si e = grind (arith, nat_tests, e)
 
-  module _ (n m : Node WholeQueues) (ni fi : List (List (List ℕ))) (na nr fa fr : List Message) where
+  module _ (n m : Node WholeQueues) (ni fi : List (List (List ℕ))) (nv fv : List Bool) (na nr fa fr : List Message) where
     abbrev p : PairState
-    p = record { near = end_with c n ni na nr; far = end_with z m fi fa fr }
+    p = record { near = end_with c n ni nv na nr; far = end_with z m fi fv fa fr }
 
     abbrev submitted_pair : Message → Turn
     submitted_pair message = record {
@@ -143,9 +143,11 @@ module _ (c z : Configuration) (j : IsJoined c z) (apart : c.own ≢ z.own) (net
           to_near = s.to_near;
           to_far = s.to_far;
           near_texts = s.near_texts;
+          near_flags = s.near_flags;
+          far_flags = s.far_flags;
           far_texts = s.far_texts;
           near_good = x.good s.near_good;
-          far_good = regood z c (rests p.far) (rests p.near) _ s.to_far s.to_near s.to_near s.far_good;
+          far_good = regood z c (rests p.far) (rests p.near) _ s.to_far s.to_near s.to_near _ _ _ _ s.far_good;
           goes = goes-both (says_of c.links) _ _ _ s.goes (x.goes s.near_good);
         }
 
@@ -182,6 +184,8 @@ module _ (c z : Configuration) (j : IsJoined c z) (apart : c.own ≢ z.own) (net
               to_near = s.to_near;
               to_far = f;
               near_texts = s.near_texts;
+              near_flags = s.near_flags;
+              far_flags = s.far_flags;
               far_texts = texts-changed z fi s.to_far link (in_flight fi link ++ spelled frame ∷ []) frames s.far_texts (subst (λ (k : ℕ). link < k) (sym j.many) l)
                   (ap (λ (ts : List (List ℕ)). ts ++ spelled frame ∷ []) (s.far_texts.each link) ∙ map-behind (s.to_far link) frame);
               near_good = x.passes.good s.near_good;
@@ -191,11 +195,12 @@ module _ (c z : Configuration) (j : IsJoined c z) (apart : c.own ≢ z.own) (net
           where
             far-good : (link : ℕ) (frame : FrameValue) (f : ℕ → List FrameValue) → Good z c (turned_world (world_of p s.to_near s.to_far)) → f link ≡ s.to_far link ++ frame ∷ []
                 → ((other : ℕ) → other ≢ link → f other ≡ s.to_far other) → IsFlying c z frame
-                → Good z c (record { near = rests p.far; far = rests (end_with c (after_take whole c link n) ni na nr); to_near = f; to_far = s.to_near })
+                → Good z c (record { near = rests p.far; far = rests (end_with c (after_take whole c link n) ni nv na nr); to_near = f; to_far = s.to_near; near_may = λ other. may_follow p.far other; far_may = λ other. may_follow p.near other })
             far-good link frame f a here others flies = record {
               fits = a.fits;
               alone = a.alone;
               unawaited = a.unawaited;
+              silent = a.silent;
               queued = a.queued;
               held = a.held;
               loose = a.loose;
@@ -239,8 +244,10 @@ module _ (c z : Configuration) (j : IsJoined c z) (apart : c.own ≢ z.own) (net
               to_near = f;
               to_far = s.to_far;
               near_texts = texts-changed c ni s.to_near link (drop 1 (in_flight ni link)) first.rest s.near_texts l first.left;
+              near_flags = s.near_flags;
+              far_flags = s.far_flags;
               far_texts = s.far_texts;
               near_good = x.good s.near_good;
-              far_good = regood z c (rests p.far) (rests p.near) _ s.to_far s.to_near f s.far_good;
+              far_good = regood z c (rests p.far) (rests p.near) _ s.to_far s.to_near f _ _ _ _ s.far_good;
               goes = goes-both (says_of c.links) _ _ _ s.goes (x.goes s.near_good);
             }

@@ -9,7 +9,7 @@ use Rattle.m2pa_codec.specs.declared.status.LinkStatus.{LinkStatus}
 use Rattle.link.specs.Queue.{Queue, Sending, to_send, forward_number, numbered, sent_one, last_accepted, last_sent}
 use Rattle.link.specs.Queue as queue
 use Rattle.exchange_rules.specs.State.{Node}
-use Rattle.exchange_rules.specs.Links.{in_service, link_at}
+use Rattle.exchange_rules.specs.Links.{down, in_service, link_at}
 use Rattle.exchange_rules.specs.Queues.{WholeQueues, queue_at, whole}
 use Rattle.exchange_rules.specs.Sending.{Outgoing, SendsStatus, SendsMessage, Acknowledges, SendsNothing, after_sending, after_take, carried, frame_from, goes_out, may_send, next_message, without_owed}
 use Rattle.exchange_rules.proofs.Fitting.{Fits, StaysFit, fit-steps}
@@ -68,6 +68,7 @@ module _ (c z : Configuration) (j : IsJoined c z) (w : World) (link : ℕ) where
       fits = g.fits;
       alone = g.alone;
       unawaited = g.unawaited;
+      silent = g.silent;
       queued = g.queued;
       held = g.held;
       loose = g.loose;
@@ -75,20 +76,20 @@ module _ (c z : Configuration) (j : IsJoined c z) (w : World) (link : ℕ) where
       coming = g.coming;
     }
 
-  status-sent : (bsn fsn : ℕ) (status : LinkStatus) (f : ℕ → List FrameValue) → Adds (StatusFrame bsn fsn status) f → (n : Node WholeQueues) → Passes c z (at c z w n [] []) (at c z (launched f) n [] [])
-  status-sent bsn fsn status f a n = record {
+  status-sent : (bsn fsn : ℕ) (status : LinkStatus) (f : ℕ → List FrameValue) → Adds (StatusFrame bsn fsn status) f → (n : Node WholeQueues) → down n.parts link ≡ false → Passes c z (at c z w n [] []) (at c z (launched f) n [] [])
+  status-sent bsn fsn status f a n up = record {
     goes = λ g.
         goes-one (says_of c.links) _ _
-        (moves.sends_status (record { link = link; lines = line_of (at c z (launched f) n [] []); set = flies-set (StatusFrame bsn fsn status) f a n; after = refl }));
+        (moves.sends_status (record { link = link; up = ap not up; lines = line_of (at c z (launched f) n [] []); set = flies-set (StatusFrame bsn fsn status) f a n; after = refl }));
     good = still-good (StatusFrame bsn fsn status) f a n;
   }
 
-  empty-sent : (f : ℕ → List FrameValue) (n : Node WholeQueues) → Adds (EmptyFrame (last_accepted (queue_at n.queues link)) (last_sent (queue_at n.queues link))) f
+  empty-sent : (f : ℕ → List FrameValue) (n : Node WholeQueues) → down n.parts link ≡ false → Adds (EmptyFrame (last_accepted (queue_at n.queues link)) (last_sent (queue_at n.queues link))) f
       → Passes c z (at c z w n [] []) (at c z (launched f) n [] [])
-  empty-sent f n a = record {
+  empty-sent f n up a = record {
     goes = λ g.
         goes-one (says_of c.links) _ _
-        (moves.sends_empty (record { link = link; lines = line_of (at c z (launched f) n [] []); set = flies-set (EmptyFrame (last_accepted (queue_at n.queues link)) (last_sent (queue_at n.queues link))) f a n; after = refl }));
+        (moves.sends_empty (record { link = link; up = ap not up; lines = line_of (at c z (launched f) n [] []); set = flies-set (EmptyFrame (last_accepted (queue_at n.queues link)) (last_sent (queue_at n.queues link))) f a n; after = refl }));
     good = still-good (EmptyFrame (last_accepted (queue_at n.queues link)) (last_sent (queue_at n.queues link))) f a n;
   }
 
@@ -185,6 +186,7 @@ module _ (c z : Configuration) (j : IsJoined c z) (w : World) (link : ℕ) where
         fits = stay.stay g.fits;
         alone = record { routes = g.alone.routes; adjacents = g.alone.adjacents };
         unawaited = g.unawaited;
+        silent = g.silent;
         queued = λ other. each-set (λ (x : Queue). Each (IsBetween c z) x.all) n.queues.links link other (sent_one q c.window) first_queue g.queued (sent-all (to_send q c.window) (g.queued link));
         held = g.held;
         loose = tt;
@@ -235,16 +237,47 @@ module _ (c z : Configuration) (j : IsJoined c z) (w : World) (link : ℕ) where
     pub flies : Good c z (at c z w n [] []) → IsFlying c z frame
 
   module _ (f : ℕ → List FrameValue) (n : Node WholeQueues) where
+    -- a link that is down has nothing to send
+    by-up : (b : Bool) → (b ≡ true → false ≡ true) → b ≡ false
+    by-up true h = sym (h refl)
+    by-up false h = refl
+
+    status-out : (o : Option LinkStatus) (m : Option Sending) (owed : Bool) (status : LinkStatus) → o ≡ None → status_first o (message_first m owed) ≡ SendsStatus status → false ≡ true
+    status-out (Some s) m owed status none e = absurd cc
+    status-out None (Some next) owed status none e = absurd cc
+    status-out None None true status none e = absurd cc
+    status-out None None false status none e = absurd cc
+
+    owed-out : (o : Option LinkStatus) (m : Option Sending) (owed : Bool) → owed ≡ false → status_first o (message_first m owed) ≡ Acknowledges → false ≡ true
+    owed-out (Some s) m owed none e = absurd cc
+    owed-out None (Some next) owed none e = absurd cc
+    owed-out None None true none e = sym none
+    owed-out None None false none e = absurd cc
+
+    status-up : (status : LinkStatus) → goes_out whole c link n ≡ SendsStatus status → Good c z (at c z w n [] []) → down n.parts link ≡ false
+    status-up status e g =
+        by-up (down n.parts link)
+        (λ gone. status-out (slice_get (link_at n.parts link).waiting 0) (next_message whole c link n) (link_at n.parts link).acknowledgement_owed status
+        (ap (λ (xs : List LinkStatus). slice_get xs 0) (g.silent link gone).0) e)
+
+    owed-up : goes_out whole c link n ≡ Acknowledges → Good c z (at c z w n [] []) → down n.parts link ≡ false
+    owed-up e g =
+        by-up (down n.parts link)
+        (λ gone. owed-out (slice_get (link_at n.parts link).waiting 0) (next_message whole c link n) (link_at n.parts link).acknowledgement_owed (g.silent link gone).1 e)
+
     fetched : (out : Outgoing) (frame : FrameValue) → goes_out whole c link n ≡ out → frame_from (last_accepted (queue_at n.queues link)) (last_sent (queue_at n.queues link)) out ≡ Some frame → Adds frame f
         → StaysFit c n (after_sending whole c link n out) → Fetches f frame n (after_sending whole c link n out)
     fetched (SendsStatus status) frame e is a stay =
         let s : FrameValue = StatusFrame (last_accepted (queue_at n.queues link)) (last_sent (queue_at n.queues link)) status in
         let same : s ≡ frame = cc in
+        let passes : down n.parts link ≡ false → Passes c z (at c z w n [] []) (at c z (launched f) (after_sending whole c link n (SendsStatus status)) [] []) =
+        λ up.
+        passes-both c z _ _ _
+        (status-sent (last_accepted (queue_at n.queues link)) (last_sent (queue_at n.queues link)) status f (subst (λ (x : FrameValue). Adds x f) (sym same) a) n up)
+        (relinked-passes c z (launched f) n [] [] link (record (link_at n.parts link) { waiting = drop 1 (link_at n.parts link).waiting }) n.parts.timers refl
+        (λ h gone. (ap (drop 1) (h gone).0, (h gone).1)) stay) in
         record {
-          passes =
-              passes-both c z _ _ _
-              (relinked-passes c z w n [] [] link (record (link_at n.parts link) { waiting = drop 1 (link_at n.parts link).waiting }) n.parts.timers refl stay)
-              (status-sent (last_accepted (queue_at n.queues link)) (last_sent (queue_at n.queues link)) status f (subst (λ (x : FrameValue). Adds x f) (sym same) a) (after_sending whole c link n (SendsStatus status)));
+          passes = record { goes = λ g. (passes (status-up status e g)).goes g; good = λ g. (passes (status-up status e g)).good g };
           flies = λ g. subst (IsFlying c z) same
               (status-flies (last_accepted (queue_at n.queues link)) (last_sent (queue_at n.queues link)) status (previous-fits (queue_at n.queues link).received) (previous-fits ((queue_at n.queues link).base + (queue_at n.queues link).sent)));
         }
@@ -282,15 +315,17 @@ module _ (c z : Configuration) (j : IsJoined c z) (w : World) (link : ℕ) where
           where
             settles : (sent : Node WholeQueues) → (Fits c sent → Fits c (record { queues = sent.queues; parts = carried c link sent.parts }))
                 → Passes c z (at c z (launched f) sent [] []) (at c z (launched f) (record { queues = sent.queues; parts = carried c link sent.parts }) [] [])
-            settles sent fits = relinked-passes c z (launched f) sent [] [] link (without_owed (link_at sent.parts link)) (timed_sending c link sent.parts.timers) refl (record { stay = fits })
+            settles sent fits = relinked-passes c z (launched f) sent [] [] link (without_owed (link_at sent.parts link)) (timed_sending c link sent.parts.timers) refl (λ h gone. ((h gone).0, refl)) (record { stay = fits })
     fetched Acknowledges frame e is a stay =
         let s : FrameValue = EmptyFrame (last_accepted (queue_at n.queues link)) (last_sent (queue_at n.queues link)) in
         let same : s ≡ frame = cc in
+        let passes : down n.parts link ≡ false → Passes c z (at c z w n [] []) (at c z (launched f) (after_sending whole c link n Acknowledges) [] []) =
+        λ up.
+        passes-both c z _ _ _
+        (empty-sent f n up (subst (λ (x : FrameValue). Adds x f) (sym same) a))
+        (relinked-passes c z (launched f) n [] [] link (without_owed (link_at n.parts link)) n.parts.timers refl (λ h gone. ((h gone).0, refl)) stay) in
         record {
-          passes =
-              passes-both c z _ _ _
-              (relinked-passes c z w n [] [] link (without_owed (link_at n.parts link)) n.parts.timers refl stay)
-              (empty-sent f (after_sending whole c link n Acknowledges) (subst (λ (x : FrameValue). Adds x f) (sym same) a));
+          passes = record { goes = λ g. (passes (owed-up e g)).goes g; good = λ g. (passes (owed-up e g)).good g };
           flies = λ g. subst (IsFlying c z) same
               (empty-flies (last_accepted (queue_at n.queues link)) (last_sent (queue_at n.queues link)) (previous-fits (queue_at n.queues link).received) (previous-fits ((queue_at n.queues link).base + (queue_at n.queues link).sent)));
         }

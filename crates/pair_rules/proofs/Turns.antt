@@ -32,7 +32,7 @@ use Rattle.exchange_rules.proofs.TakenBack.{taken-so}
 use Rattle.exchange_rules.proofs.TakenPairs.{IsAlike}
 use Rattle.pair_moves.specs.Ends as ends
 use Rattle.pair_moves.specs.Returning.{AddsOnly, StaysOrIsHeld}
-use Rattle.pair_rules.proofs.World.{World, says_of, shown_by, route_of, procedure_of}
+use Rattle.pair_rules.proofs.World.{heard, World, says_of, shown_by, route_of, procedure_of}
 use Rattle.pair_rules.proofs.Good.{IsJoined, Good}
 use Rattle.pair_rules.proofs.Going.{Goes, goes-both}
 use Rattle.pair_rules.proofs.Routes.{IsRouted, is-routed}
@@ -135,6 +135,8 @@ module _ (c z : Configuration) (j : IsJoined c z) where
     pub still_up : down q link ≡ false
     pub unserved : in_service p link ≡ false
     pub serves : in_service q link ≡ true
+    pub before : heard p link ≡ true
+    pub still : heard q link ≡ true
     pub others : (other : ℕ) → other ≢ link → link_at q other ≡ link_at p other
 
   -- one goes by moves to another, as flows change their links, and stays good

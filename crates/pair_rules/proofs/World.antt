@@ -1,5 +1,5 @@
 -- Two nodes in the midst of an event at the near one, and the machine of moves as it shows them.
-use Rattle.std.proofs.Common.{ℕ, Bool, not, nat_eq, nat_lt, List, Option, Some, None, length, Ok, Err, Result, ◌&&◌}
+use Rattle.std.proofs.Common.{ℕ, Bool, true, false, not, nat_eq, nat_lt, List, Option, Some, None, length, Ok, Err, Result, ◌&&◌}
 use Rattle.std.specs.Prelude.{if◌then◌else◌, position, map}
 use Rattle.signalling_types.specs.declared.limits.TheConstants.Limits.{SELECTIONS}
 use Rattle.signalling_types.specs.Message.{Message, is_management}
@@ -15,7 +15,9 @@ use Rattle.flow_hold.specs.declared.procedure.Procedure.{Procedure}
 use Rattle.flow_hold.specs.declared.procedure.Procedure.TheVariants as held_by
 use Rattle.changeback.specs.Codes.{is_outstanding}
 use Rattle.exchange_rules.specs.State.{Node, Parts}
-use Rattle.exchange_rules.specs.Links.{down, in_service}
+use Rattle.link.specs.declared.alignment.Alignment.{Alignment}
+use Rattle.link.specs.declared.alignment.Alignment.TheVariants.{Down, NotAligned, Aligned, Proving, AlignedReady, InService}
+use Rattle.exchange_rules.specs.Links.{down, in_service, link_at}
 use Rattle.exchange_rules.specs.Queues.{WholeQueues, queue_at}
 use Rattle.exchange_rules.specs.Failing.{changeover_of}
 use Rattle.exchange_rules.specs.Routing.{link_of}
@@ -38,9 +40,12 @@ pub record World : Type 0 where
   pub far : Mid
   pub to_near : ℕ → List FrameValue
   pub to_far : ℕ → List FrameValue
+  -- an end may follow the other
+  pub near_may : ℕ → Bool
+  pub far_may : ℕ → Bool
 
 abbrev pub turned_world : World → World
-turned_world w = record { near = w.far; far = w.near; to_near = w.to_far; to_far = w.to_near }
+turned_world w = record { near = w.far; far = w.near; to_near = w.to_far; to_far = w.to_near; near_may = w.far_may; far_may = w.near_may }
 
 -- ---- what messages say
 
@@ -73,6 +78,18 @@ says_of links m = if is_management m then read_says links (read_management m.sif
 
 -- ---- what is shown of a node
 
+-- whether a link heard the other end since it opened
+abbrev pub is_heard : Alignment → Bool
+is_heard Down = false
+is_heard NotAligned = false
+is_heard Aligned = true
+is_heard (Proving ready) = true
+is_heard AlignedReady = true
+is_heard InService = true
+
+abbrev pub heard : Parts → (link : ℕ) → Bool
+heard p link = is_heard (link_at p link).alignment
+
 abbrev pub end_of : Node WholeQueues → (link : ℕ) → LinkEnd
 end_of n link = record {
   queue = queue_at n.queues link;
@@ -80,6 +97,7 @@ end_of n link = record {
   serving = in_service n.parts link;
   incomplete = (changeover_of n.parts link).incomplete;
   awaited = (changeover_of n.parts link).awaited;
+  heard = heard n.parts link;
 }
 
 abbrev pub procedure_of : ends.Procedure → Procedure
@@ -119,6 +137,8 @@ line_of w link = record {
   far = end_of w.far.node link;
   to_far = map frame_of (w.to_far link);
   to_near = map frame_of (w.to_near link);
+  near_may_follow = w.near_may link;
+  far_may_follow = w.far_may link;
 }
 
 -- a pair, where the near node's flows take these links

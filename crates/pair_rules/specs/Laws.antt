@@ -1,6 +1,7 @@
 -- Four laws of two exchanges, link by link, from which "Exactly once" comes. Each is said of one direction: of what the
 -- near end has for the far end.
-use Rattle.std.specs.Prelude.{◌≡◌, ◌≢◌, ◌≤◌, ◌<◌, ◌-◌, ◌^◌, ◌⊎◌, ◌||◌, ℕ, Bool, true, false, not, List, ◌++◌, drop}
+use Rattle.std.specs.Prelude.{◌≡◌, ◌≢◌, ◌≤◌, ◌<◌, ◌-◌, ◌^◌, ◌⊎◌, ◌||◌, ◌&&◌, ℕ, Bool, true, false, not, List, [], ◌++◌}
+use Rattle.std.specs.Prelude.{drop}
 use Rattle.std.specs.Prelude.{take, Contains, filter_map, length, slice_get, Option, Some, None, Result, Ok, Err}
 use Rattle.std.specs.Prelude.{if◌then◌else◌}
 use Rattle.std.specs.Option.{option_map}
@@ -12,10 +13,10 @@ use Rattle.mtp3_codec.specs.declared.fault.MgmtFault.{MgmtFault}
 use Rattle.mtp3_codec.specs.declared.management.Management.{Management}
 use Rattle.mtp3_codec.specs.declared.management.Management.TheVariants.{ExtendedChangeoverOrder}
 use Rattle.mtp3_codec.specs.declared.management.Management.TheVariants.{ExtendedChangeoverAcknowledgement}
-use Rattle.link.specs.Queue.{named_count, last_accepted}
+use Rattle.link.specs.Queue.{first_queue, named_count, last_accepted}
 use Rattle.changeover.specs.Completion.{accepted_count, behind}
 use Rattle.exchange_rules.specs.declared.wants.Wants.TheVariants.{Open}
-use Rattle.exchange_rules.specs.Links.{down}
+use Rattle.exchange_rules.specs.Links.{down, in_service}
 use Rattle.exchange_rules.specs.Failing.{changeover_of, changeover_order}
 use Rattle.exchange_rules.specs.ChangingOver.{changeover_acknowledgement}
 use Rattle.exchange_rules.specs.Local.{link_with_code}
@@ -23,7 +24,7 @@ use Rattle.exchange_rules.specs.Exchange.{wants_of}
 use Rattle.exchange_rules.specs.Laws.{carried_message}
 use Rattle.exchange_rules.specs.Receiving.{new_message}
 use Rattle.pair_moves.specs.Order.{join_to}
-use Rattle.pair_rules.specs.Pairs.{End, PairState, in_flight, turned}
+use Rattle.pair_rules.specs.Pairs.{End, PairState, in_flight, may_follow, may_open_at, turned}
 use Rattle.pair_rules.specs.Promises.{Always, AreJoined, BothWays, LostNothing, queue_of}
 
 -- after every list of steps from two exchanges on that were just booted, in both directions, while neither end may have
@@ -41,10 +42,12 @@ is_down_at e link = down e.exchange.node.parts link
 abbrev pub is_incomplete_at : End → (link : ℕ) → Bool
 is_incomplete_at e link = (changeover_of e.exchange.node.parts link).incomplete
 
--- a link is in use from the near end to the far end until it is down at both ends, and the near end's changeover of it
--- is complete
+-- a link is in use from the near end to the far end, unless an end may follow the other, until it is down at both ends,
+-- and the near end's changeover of it is complete
 abbrev pub is_in_use : PairState → (link : ℕ) → Bool
-is_in_use p link = not (is_down_at p.near link) || is_incomplete_at p.near link || not (is_down_at p.far link)
+is_in_use p link =
+    not (may_follow p.near link || may_follow p.far link)
+    && (not (is_down_at p.near link) || is_incomplete_at p.near link || not (is_down_at p.far link))
 
 -- the messages that frames carry, in order
 abbrev pub messages_in : List (List ℕ) → List Message
@@ -72,8 +75,19 @@ NextIsFirst p link =
     slice_get (in_flight p.far.incoming link) 0 ≡ Some text → new_message link text p.far.exchange ≡ Some message →
     slice_get (queue_of p.near link).all (queue_of p.far link).received ≡ Some message
 
+-- while the far end may follow, the near one, which opened first, isn't in service and has the queue with which it
+-- began; nothing is in flight to it, and no message to the far end, where the link may open
+pub record OpenedAlone (p : PairState) (link : ℕ) : Type 0 where
+  pub alone : may_follow p.near link ≡ false
+  pub far_may : may_open_at p.far link ≡ true
+  pub unserved : in_service p.near.exchange.node.parts link ≡ false
+  pub queue : queue_of p.near link ≡ first_queue
+  pub silent : in_flight p.near.incoming link ≡ []
+  pub empty : messages_in (in_flight p.far.incoming link) ≡ []
+
 pub record IsCarried (p : PairState) : Type 0 where
   pub frames : (link : ℕ) → is_in_use p link ≡ true → FramesCarry p link
+  pub opening : (link : ℕ) → may_follow p.far link ≡ true → OpenedAlone p link
   pub next : (link : ℕ) → NextIsFirst p link
 
 abbrev pub frames_carry : Type 0
@@ -133,10 +147,12 @@ pub record IsInFlight (p : PairState) (word : Word) : Type 0 where
   pub carried : Contains (messages_in (in_flight p.far.incoming link)) message
   pub says : word_of p.far.exchange.settings message ≡ Some word
 
--- where both ends want a link to open, no word about it is under way or in flight
+-- where the near end wants a link to open, and it may open at the far end too, or the near end may follow that, no word
+-- about it is under way or in flight
 abbrev pub NoneIsLeft : PairState → Type 0
 NoneIsLeft p =
-    (link : ℕ) → wants_of p.near.exchange link ≡ Open → wants_of p.far.exchange link ≡ Open →
+    (link : ℕ) → wants_of p.near.exchange link ≡ Open →
+    (may_open_at p.far link ≡ true) ⊎ (may_follow p.near link ≡ true) →
     (word : Word) → IsUnderWay p word ⊎ IsInFlight p word → word.link ≢ link
 
 abbrev pub none_is_left : Type 0
@@ -159,8 +175,7 @@ words_are_final = WhileNothingIsLost AreFinal
 -- ---- (iv) completions move what the peer lacks
 
 pub record MovesLacked (p : PairState) : Type 0 where
-  -- until the near end's changeover is complete, the number of the last message that the far end accepted names the
-  -- count of those that it received
+  -- while a link is in use, the number of the last message that the far end accepted names the count of those that it received
   pub named : (link : ℕ) → is_in_use p link ≡ true →
       named_count (queue_of p.near link) (last_accepted (queue_of p.far link)) ≡ Some (queue_of p.far link).received
   -- a word that the next frame of any link brings is one that was under way

@@ -1,5 +1,5 @@
 -- Two exchanges that face each other, and the frames in flight between them.
-use Rattle.std.specs.Prelude.{◌&&◌, ℕ, Bool, nat_eq, nat_le, List, [], ◌∷◌, ◌++◌, drop, length, replicate}
+use Rattle.std.specs.Prelude.{◌&&◌, ℕ, Bool, true, false, nat_eq, nat_le, List, [], ◌∷◌, ◌++◌, drop, length, replicate}
 use Rattle.std.specs.Prelude.{Option, Some, None, filter, slice_get, slice_index_or, slice_set, option_to_list}
 use Rattle.std.specs.Prelude.{if◌then◌else◌}
 use Rattle.signalling_types.specs.Message.{Message, dpc_of, service_indicator}
@@ -8,21 +8,26 @@ use Rattle.signalling_types.specs.declared.outcome.Outcome.{Outcome}
 use Rattle.signalling_types.specs.declared.outcome.Outcome.TheVariants.{Handled, Held, Ignored, Local, Queued, Refused}
 use Rattle.settings_rows.specs.Configuration.{Configuration}
 use Rattle.m2pa_codec.specs.Frames.{FrameValue, spelled}
+use Rattle.changeover.specs.Standing.{may_restart}
 use Rattle.exchange_rules.specs.declared.wants.Wants.{Wants}
 use Rattle.exchange_rules.specs.declared.wants.Wants.TheVariants.{Open}
 use Rattle.exchange_rules.specs.Happening.{Happening, CameUp, WentDown, FrameCame, Ticked, Submitted}
 use Rattle.exchange_rules.specs.Happening.{Activated, Deactivated}
+use Rattle.exchange_rules.specs.Links.{down}
+use Rattle.exchange_rules.specs.Failing.{changeover_of}
 use Rattle.exchange_rules.specs.Sound.{Abstract}
 use Rattle.exchange_rules.specs.First.{first_state}
 use Rattle.exchange_rules.specs.Queues.{whole}
 use Rattle.exchange_rules.specs.Exchange.{outcome_of, after, frame_to_take, taken, wants_of}
 use Rattle.exchange_rules.specs.Receiving.{new_message}
 
--- an end: its exchange; of each link the frames in flight to it, the first that went out first; all user messages that
--- it accepted from its user parts, and all that came to it from the other end
+-- an end: its exchange; of each link the frames in flight to it, the first that went out first, and whether it may
+-- follow the other end, which opened first; all user messages that it accepted from its user parts, and all that came
+-- to it from the other end
 pub record End : Type 0 where
   pub exchange : Abstract
   pub incoming : List (List (List ℕ))
+  pub following : List Bool
   pub accepted : List Message
   pub received : List Message
 
@@ -49,12 +54,13 @@ pub data Doing : Type 0 where
   -- the operator lets a link open, or keeps it from it
   Activates : (link : ℕ) → Doing
   Deactivates : (link : ℕ) → Doing
+  -- a link opens at this end, which is the first of the two; or this end follows the other
+  OpensFirst : (link : ℕ) → Doing
+  OpensSecond : (link : ℕ) → Doing
 
 pub data Step : Type 0 where
   AtNear : (what : Doing) → Step
   AtFar : (what : Doing) → Step
-  -- a link opens at both ends
-  Opens : (link : ℕ) → Step
 
 -- what became of a step, and what it left
 pub record Turn : Type 0 where
@@ -66,6 +72,14 @@ pub record Turn : Type 0 where
 -- the frames in flight on one link
 abbrev pub in_flight : List (List (List ℕ)) → (link : ℕ) → List (List ℕ)
 in_flight frames link = slice_index_or frames link []
+
+-- whether an end may follow the other on one link
+abbrev pub may_follow : End → (link : ℕ) → Bool
+may_follow e link = slice_index_or e.following link false
+
+-- whether a link may open at an end: it is down, its changeover is complete, and no answer is awaited
+abbrev pub may_open_at : End → (link : ℕ) → Bool
+may_open_at e link = down e.exchange.node.parts link && may_restart (changeover_of e.exchange.node.parts link)
 
 -- a step that did nothing
 abbrev pub ignored : PairState → Turn
@@ -140,6 +154,38 @@ deliver_frame (Some text) link p = record {
   };
 }
 
+-- a link opens at the near end, where that wants it to, and where it may open at the far one too: then nothing is in
+-- flight, and the far end may follow
+abbrev pub opens_first : Wants → (far_may : Bool) → (link : ℕ) → PairState → Turn
+opens_first Open true link p = record {
+  outcome = Handled;
+  left = record {
+    near = record p.near {
+      exchange = after whole (CameUp link) p.near.exchange;
+      incoming = slice_set p.near.incoming link [];
+      following = slice_set p.near.following link false;
+    };
+    far = record p.far {
+      incoming = slice_set p.far.incoming link [];
+      following = slice_set p.far.following link true;
+    };
+  };
+}
+opens_first wants far_may link p = ignored p
+
+-- the near end follows the far one, where it may and wants to
+abbrev pub opens_second : Wants → (follows : Bool) → (link : ℕ) → PairState → Turn
+opens_second Open true link p = record {
+  outcome = Handled;
+  left = record p {
+    near = record p.near {
+      exchange = after whole (CameUp link) p.near.exchange;
+      following = slice_set p.near.following link false;
+    };
+  };
+}
+opens_second wants follows link p = ignored p
+
 -- what is done at the near end
 abbrev pub did : Doing → PairState → Turn
 did (Submits m) p = submit m p
@@ -149,23 +195,8 @@ did (Loses link) p = happens (WentDown link) p
 did Ticks p = happens Ticked p
 did (Activates link) p = happens (Activated link) p
 did (Deactivates link) p = happens (Deactivated link) p
-
--- a link opens where both ends want it to, and nothing is in flight on it then
-abbrev pub opens_by : (near far : Wants) → (link : ℕ) → PairState → Turn
-opens_by Open Open link p = record {
-  outcome = Handled;
-  left = record {
-    near = record p.near {
-      exchange = after whole (CameUp link) p.near.exchange;
-      incoming = slice_set p.near.incoming link [];
-    };
-    far = record p.far {
-      exchange = after whole (CameUp link) p.far.exchange;
-      incoming = slice_set p.far.incoming link [];
-    };
-  };
-}
-opens_by near far link p = ignored p
+did (OpensFirst link) p = opens_first (wants_of p.near.exchange link) (may_open_at p.far link) link p
+did (OpensSecond link) p = opens_second (wants_of p.near.exchange link) (may_follow p.near link) link p
 
 -- what becomes of a step
 abbrev pub turn : Step → PairState → Turn
@@ -174,7 +205,6 @@ turn (AtFar what) p = record {
   outcome = (did what (turned p)).outcome;
   left = turned (did what (turned p)).left;
 }
-turn (Opens link) p = opens_by (wants_of p.near.exchange link) (wants_of p.far.exchange link) link p
 
 -- ---- from the first on
 
@@ -182,11 +212,12 @@ abbrev pub first_end : Configuration → End
 first_end c = record {
   exchange = first_state c;
   incoming = replicate (length c.links) [];
+  following = replicate (length c.links) false;
   accepted = [];
   received = [];
 }
 
--- both exchanges are as they are booted, and nothing is in flight
+-- both exchanges are as they are booted, nothing is in flight, and neither end may follow
 abbrev pub first_pair : (near far : Configuration) → PairState
 first_pair near far = record { near = first_end near; far = first_end far }
 

@@ -52,6 +52,9 @@ module _ (end : End) (k : KeptPair) (p : PairState) (s : StandsFor k p) where
   pub accepted-same : (kept_at end k).accepted ≡ (seen_from end p).near.accepted
   accepted-same = ap (λ (e : KeptEnd). e.accepted) (at-same end k p s)
 
+  pub following-same : (kept_at end k).following ≡ (seen_from end p).near.following
+  following-same = ap (λ (e : KeptEnd). e.following) (at-same end k p s)
+
   pub received-same : (kept_at end k).received ≡ (seen_from end p).near.received
   received-same = ap (λ (e : KeptEnd). e.received) (at-same end k p s)
 

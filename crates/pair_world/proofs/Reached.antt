@@ -2,11 +2,15 @@
 use Rattle.std.proofs.Common.{◌≡◌, List, [], ◌∷◌, ◌++◌, length, refl, ap, sym, subst, ◌∙◌}
 use Rattle.settings_rows.specs.Configuration.{Configuration}
 use Rattle.exchange_rules.specs.Lasting.{HasAllPlaces}
-use Rattle.pair_rules.specs.Pairs.{PairState, Step, after_steps, first_pair, turn, turned}
+use Rattle.exchange_rules.specs.declared.wants.Wants.{Wants}
+use Rattle.exchange_rules.specs.declared.wants.Wants.TheVariants.{Nothing, Open, Close}
+use Rattle.exchange_rules.specs.Exchange.{wants_of}
+use Rattle.pair_rules.specs.Pairs.{PairState, Step, AtNear, AtFar, Submits, Takes, Delivers, Loses, Ticks, Activates, Deactivates, OpensFirst, OpensSecond, Turn, after_steps, did, first_pair, turn, turned}
 use Rattle.pair_rules.specs.Promises.{AreJoined}
 use Rattle.pair_rules.proofs.Standing.{Stands}
 use Rattle.pair_rules.proofs.AllSteps.{AreFacing, facing-back, stands-turned}
 use Rattle.pair_rules.proofs.Promised.{all-stand, are-facing}
+use Rattle.pair_world.specs.Told.{if_wanted, turn_told}
 use Rattle.pair_world.specs.Stands.{IsReached}
 
 -- the near end has all its places, and the far end a list of frames for each of its links
@@ -41,7 +45,7 @@ steps-more : (steps : List Step) (step : Step) (p : PairState) → after_steps (
 steps-more [] step p = refl
 steps-more (first ∷ steps) step p = steps-more steps step (turn first p).left
 
-pub reached-more : (step : Step) (p : PairState) → IsReached p → IsReached (turn step p).left
+reached-more : (step : Step) (p : PairState) → IsReached p → IsReached (turn step p).left
 reached-more step p r = record {
   near = r.near;
   far = r.far;
@@ -49,6 +53,39 @@ reached-more step p r = record {
   steps = r.steps ++ step ∷ [];
   by = ap (λ (q : PairState). (turn step q).left) r.by ∙ sym (steps-more r.steps step (first_pair r.near r.far));
 }
+
+-- and where a link doesn't open, no step was made
+reached-wanted : (v : Wants) (t : Turn) (p : PairState) → IsReached p → IsReached t.left → IsReached (if_wanted v t p).left
+reached-wanted Open t p r more = more
+reached-wanted Nothing t p r more = r
+reached-wanted Close t p r more = r
+
+back-wanted : (v : Wants) (t : Turn) (p : PairState) → IsReached p → IsReached (turned t.left) → IsReached (turned (if_wanted v t (turned p)).left)
+back-wanted Open t p r more = more
+back-wanted Nothing t p r more = r
+back-wanted Close t p r more = r
+
+pub reached-told : (step : Step) (p : PairState) → IsReached p → IsReached (turn_told step p).left
+reached-told (AtNear (OpensFirst link)) p r =
+    reached-wanted (wants_of p.far.exchange link) (did (OpensFirst link) p) p r (reached-more (AtNear (OpensFirst link)) p r)
+reached-told (AtFar (OpensFirst link)) p r =
+    back-wanted (wants_of p.near.exchange link) (did (OpensFirst link) (turned p)) p r (reached-more (AtFar (OpensFirst link)) p r)
+reached-told (AtNear (Submits message)) p r = reached-more (AtNear (Submits message)) p r
+reached-told (AtNear (Takes link)) p r = reached-more (AtNear (Takes link)) p r
+reached-told (AtNear (Delivers link)) p r = reached-more (AtNear (Delivers link)) p r
+reached-told (AtNear (Loses link)) p r = reached-more (AtNear (Loses link)) p r
+reached-told (AtNear Ticks) p r = reached-more (AtNear Ticks) p r
+reached-told (AtNear (Activates link)) p r = reached-more (AtNear (Activates link)) p r
+reached-told (AtNear (Deactivates link)) p r = reached-more (AtNear (Deactivates link)) p r
+reached-told (AtNear (OpensSecond link)) p r = reached-more (AtNear (OpensSecond link)) p r
+reached-told (AtFar (Submits message)) p r = reached-more (AtFar (Submits message)) p r
+reached-told (AtFar (Takes link)) p r = reached-more (AtFar (Takes link)) p r
+reached-told (AtFar (Delivers link)) p r = reached-more (AtFar (Delivers link)) p r
+reached-told (AtFar (Loses link)) p r = reached-more (AtFar (Loses link)) p r
+reached-told (AtFar Ticks) p r = reached-more (AtFar Ticks) p r
+reached-told (AtFar (Activates link)) p r = reached-more (AtFar (Activates link)) p r
+reached-told (AtFar (Deactivates link)) p r = reached-more (AtFar (Deactivates link)) p r
+reached-told (AtFar (OpensSecond link)) p r = reached-more (AtFar (OpensSecond link)) p r
 
 pub reached-first : (near far : Configuration) → AreJoined near far → IsReached (first_pair near far)
 reached-first near far j = record { near = near; far = far; joined = j; steps = []; by = refl }

@@ -15,15 +15,17 @@ use Rattle.exchange_rules.specs.State.{Node}
 use Rattle.exchange_rules.specs.Queues.{WholeQueues, whole}
 use Rattle.exchange_rules.specs.Happening.{Happening, CameUp, WentDown, FrameCame, Ticked, Submitted, Activated, Deactivated}
 use Rattle.exchange_rules.specs.Sending.{Outgoing, SendsStatus, SendsMessage, Acknowledges, SendsNothing, frame_from, after_sending, goes_out}
-use Rattle.exchange_rules.specs.Exchange.{after, outcome_of, frame_to_take, taken}
+use Rattle.exchange_rules.specs.Exchange.{after, outcome_of, frame_to_take, taken, wants_of}
 use Rattle.exchange_rules.specs.Sound.{Abstract, IsSound}
 use Rattle.exchange.specs.KeptQueues.{kept}
 use Rattle.exchange.specs.Stands.{StandsFor, kept_of}
 use Rattle.exchange.proofs.Standing.{stands-after, stands-outcome, stands-frame, stands-taken}
-use Rattle.pair_rules.specs.Pairs.{PairState, Turn, Doing, Submits, Takes, Delivers, Loses, Ticks, Activates, Deactivates, accepted_by, deliver_frame, did, happens, ignored, in_flight, is_for, opens_by, submit, take_frame}
+use Rattle.pair_rules.specs.Pairs.{PairState, Turn, Doing, Submits, Takes, Delivers, Loses, Ticks, Activates, Deactivates, OpensFirst, OpensSecond, accepted_by, deliver_frame, happens, in_flight, is_for, may_follow, may_open_at, opens_first, opens_second, take_frame}
+use Rattle.pair_rules.proofs.Opening.{may-open, wants-open}
 use Rattle.pair_rules.proofs.Steps.{taken-there}
-use Rattle.pair_world.specs.KeptEnds.{end_happens, end_submits, end_hears, end_delivers, kept_end_of}
-use Rattle.pair_world.specs.KeptPairs.{KeptTurn, alone, kept_did, kept_fetched, kept_ignored, kept_opens, kept_pair_of, kept_takes, kept_turn_of}
+use Rattle.pair_world.specs.Told.{did_here, if_wanted}
+use Rattle.pair_world.specs.KeptEnds.{end_follows, end_happens, end_submits, end_hears, end_delivers, kept_end_of}
+use Rattle.pair_world.specs.KeptPairs.{KeptTurn, alone, kept_did, kept_fetched, kept_ignored, kept_opens_first, kept_pair_of, kept_takes, kept_turn_of}
 use Rattle.pair_world.proofs.Newly.{newly-same, stands-itself}
 use Rattle.pair_world.proofs.Reached.{IsReady}
 
@@ -66,7 +68,7 @@ module _ (p : PairState) (near : IsSound p.near.exchange) (far : IsSound p.far.e
         turn = λ i. record {
           outcome = o i;
           left = record {
-            near = record { exchange = s.kept i; incoming = p.near.incoming; accepted = p.near.accepted; received = p.near.received };
+            near = record { exchange = s.kept i; incoming = p.near.incoming; following = p.near.following; accepted = p.near.accepted; received = p.near.received };
             far = kept_end_of p.far;
           };
         };
@@ -108,6 +110,7 @@ module _ (p : PairState) (near : IsSound p.near.exchange) (far : IsSound p.far.e
             near = record {
               exchange = s.kept i;
               incoming = p.near.incoming;
+              following = p.near.following;
               accepted = p.near.accepted ++ accepted_by (o i) m;
               received = p.near.received;
             };
@@ -130,8 +133,8 @@ module _ (p : PairState) (near : IsSound p.near.exchange) (far : IsSound p.far.e
         turn = λ i. record {
           outcome = Ignored;
           left = record {
-            near = record { exchange = x i; incoming = p.near.incoming; accepted = p.near.accepted; received = p.near.received };
-            far = record { exchange = kept_of p.far.exchange; incoming = y i; accepted = p.far.accepted; received = p.far.received };
+            near = record { exchange = x i; incoming = p.near.incoming; following = p.near.following; accepted = p.near.accepted; received = p.near.received };
+            far = record { exchange = kept_of p.far.exchange; incoming = y i; following = p.far.following; accepted = p.far.accepted; received = p.far.received };
           };
         };
         near = near;
@@ -144,10 +147,11 @@ module _ (p : PairState) (near : IsSound p.near.exchange) (far : IsSound p.far.e
         turn = λ i. record {
           outcome = Handled;
           left = record {
-            near = record { exchange = s.kept i; incoming = p.near.incoming; accepted = p.near.accepted; received = p.near.received };
+            near = record { exchange = s.kept i; incoming = p.near.incoming; following = p.near.following; accepted = p.near.accepted; received = p.near.received };
             far = record {
               exchange = kept_of p.far.exchange;
               incoming = slice_set p.far.incoming link (in_flight p.far.incoming link ++ spelled frame ∷ []);
+              following = p.far.following;
               accepted = p.far.accepted;
               received = p.far.received;
             };
@@ -184,6 +188,7 @@ module _ (p : PairState) (near : IsSound p.near.exchange) (far : IsSound p.far.e
             near = record {
               exchange = s.kept i;
               incoming = slice_set p.near.incoming link (drop 1 (in_flight p.near.incoming link));
+              following = p.near.following;
               accepted = p.near.accepted;
               received = p.near.received ++ r i;
             };
@@ -196,29 +201,78 @@ module _ (p : PairState) (near : IsSound p.near.exchange) (far : IsSound p.far.e
 
   -- ---- a link opens
 
-  pub opens-same : (v w : Wants) (link : ℕ) → IsSame (kept_opens v w link (kept_pair_of p)) (opens_by v w link p)
-  opens-same wants.Open wants.Open link =
+  abbrev opened-first : (link : ℕ) → Turn
+  opened-first link = opens_first wants.Open true link p
+
+  first-same : (link : ℕ) → IsSame (kept_opens_first wants.Open wants.Open link (kept_pair_of p)) (opened-first link)
+  first-same link =
       let s = stands-after (CameUp link) (kept_of a) a k in
-      let t = stands-after (CameUp link) (kept_of p.far.exchange) p.far.exchange (stands-itself p.far.exchange far) in
       record {
         turn = λ i. record {
           outcome = Handled;
           left = record {
-            near = record { exchange = s.kept i; incoming = slice_set p.near.incoming link []; accepted = p.near.accepted; received = p.near.received };
-            far = record { exchange = t.kept i; incoming = slice_set p.far.incoming link []; accepted = p.far.accepted; received = p.far.received };
+            near = record {
+              exchange = s.kept i;
+              incoming = slice_set p.near.incoming link [];
+              following = slice_set p.near.following link false;
+              accepted = p.near.accepted;
+              received = p.near.received;
+            };
+            far = record {
+              exchange = kept_of p.far.exchange;
+              incoming = slice_set p.far.incoming link [];
+              following = slice_set p.far.following link true;
+              accepted = p.far.accepted;
+              received = p.far.received;
+            };
           };
         };
         near = s.sound;
-        far = t.sound;
+        far = far;
       }
-  opens-same wants.Open wants.Nothing link = record { turn = refl; near = near; far = far }
-  opens-same wants.Open wants.Close link = record { turn = refl; near = near; far = far }
-  opens-same wants.Nothing w link = record { turn = refl; near = near; far = far }
-  opens-same wants.Close w link = record { turn = refl; near = near; far = far }
+
+  -- where both ends want it to, it may open at the far one
+  opens_first-same : (v w : Wants) (link : ℕ) → wants_of p.far.exchange link ≡ w
+      → IsSame (kept_opens_first v w link (kept_pair_of p)) (if_wanted w (opens_first v (may_open_at p.far link) link p) p)
+  opens_first-same wants.Open wants.Open link e =
+      subst (λ (b : Bool). IsSame (kept_opens_first wants.Open wants.Open link (kept_pair_of p)) (opens_first wants.Open b link p))
+      (sym (may-open p.far.exchange.node link (wants-open p.far.exchange.node.parts link e))) (first-same link)
+  opens_first-same wants.Open wants.Nothing link e = record { turn = refl; near = near; far = far }
+  opens_first-same wants.Open wants.Close link e = record { turn = refl; near = near; far = far }
+  opens_first-same wants.Nothing wants.Open link e = record { turn = refl; near = near; far = far }
+  opens_first-same wants.Nothing wants.Nothing link e = record { turn = refl; near = near; far = far }
+  opens_first-same wants.Nothing wants.Close link e = record { turn = refl; near = near; far = far }
+  opens_first-same wants.Close wants.Open link e = record { turn = refl; near = near; far = far }
+  opens_first-same wants.Close wants.Nothing link e = record { turn = refl; near = near; far = far }
+  opens_first-same wants.Close wants.Close link e = record { turn = refl; near = near; far = far }
+
+  opens_second-same : (v : Wants) (b : Bool) (link : ℕ) → IsSame (alone (end_follows v b link (kept_end_of p.near)) (kept_end_of p.far)) (opens_second v b link p)
+  opens_second-same wants.Open true link =
+      let s = stands-after (CameUp link) (kept_of a) a k in
+      record {
+        turn = λ i. record {
+          outcome = Handled;
+          left = record {
+            near = record {
+              exchange = s.kept i;
+              incoming = p.near.incoming;
+              following = slice_set p.near.following link false;
+              accepted = p.near.accepted;
+              received = p.near.received;
+            };
+            far = kept_end_of p.far;
+          };
+        };
+        near = s.sound;
+        far = far;
+      }
+  opens_second-same wants.Open false link = record { turn = refl; near = near; far = far }
+  opens_second-same wants.Nothing b link = record { turn = refl; near = near; far = far }
+  opens_second-same wants.Close b link = record { turn = refl; near = near; far = far }
 
   -- ---- all that is done at one end
 
-  pub did-same : (what : Doing) → IsReady p → IsSame (kept_did what (kept_pair_of p)) (did what p)
+  pub did-same : (what : Doing) → IsReady p → IsSame (kept_did what (kept_pair_of p)) (did_here what p)
   did-same (Submits m) ready = submit-by (is_for p.far.exchange.settings.own m) m
   did-same (Takes link) ready = take-same link ready
   did-same (Delivers link) ready = hear-by link ready (slice_get (in_flight p.near.incoming link) 0)
@@ -226,3 +280,5 @@ module _ (p : PairState) (near : IsSound p.near.exchange) (far : IsSound p.far.e
   did-same Ticks ready = happens-same Ticked
   did-same (Activates link) ready = happens-same (Activated link)
   did-same (Deactivates link) ready = happens-same (Deactivated link)
+  did-same (OpensFirst link) ready = opens_first-same (wants_of p.near.exchange link) (wants_of p.far.exchange link) link refl
+  did-same (OpensSecond link) ready = opens_second-same (wants_of p.near.exchange link) (may_follow p.near link) link

@@ -1,7 +1,7 @@
 -- One end of a pair as the code keeps it, and what becomes of it: the rules of an end of two abstract exchanges, on
 -- what is kept.
-use Rattle.std.specs.Prelude.{ℕ, nat_eq, List, [], ◌∷◌, ◌++◌, drop, slice_get, slice_set, Option, Some, None}
-use Rattle.std.specs.Prelude.{option_to_list, if◌then◌else◌}
+use Rattle.std.specs.Prelude.{ℕ, Bool, true, false, nat_eq, List, [], ◌∷◌, ◌++◌, drop, slice_get, slice_set, Option, Some, None}
+use Rattle.std.specs.Prelude.{option_to_list, slice_index_or, if◌then◌else◌}
 use Rattle.std.specs.Option.{option_map}
 use Rattle.signalling_types.specs.Message.{Message}
 use Rattle.signalling_types.specs.declared.cause.Cause.TheVariants.{NotInProfile}
@@ -10,7 +10,9 @@ use Rattle.signalling_types.specs.declared.outcome.Outcome.TheVariants.{Handled,
 use Rattle.m2pa_codec.specs.Frames.{spelled}
 use Rattle.m2pa_codec.specs.Reading.{read_frame}
 use Rattle.exchange_rules.specs.Happening.{Happening, CameUp, FrameCame, Submitted}
-use Rattle.exchange_rules.specs.Exchange.{outcome_of, after, frame_to_take}
+use Rattle.exchange_rules.specs.declared.wants.Wants.{Wants}
+use Rattle.exchange_rules.specs.declared.wants.Wants.TheVariants.{Open}
+use Rattle.exchange_rules.specs.Exchange.{outcome_of, after, frame_to_take, wants_of}
 use Rattle.exchange_rules.specs.Laws.{carried_message}
 use Rattle.exchange.specs.declared.view.LinkView.{LinkView}
 use Rattle.exchange.specs.KeptQueues.{kept}
@@ -18,10 +20,12 @@ use Rattle.exchange.specs.Stands.{Kept, kept_of}
 use Rattle.exchange.specs.Views.{link_view}
 use Rattle.pair_rules.specs.Pairs.{End, accepted_by, for_users, in_flight, is_for}
 
--- an end: what is kept of its exchange, the frames in flight to it, and what it accepted and received
+-- an end: what is kept of its exchange, the frames in flight to it, on which links it may follow the other, and what it
+-- accepted and received
 pub record KeptEnd : Type 0 where
   pub exchange : Kept
   pub incoming : List (List (List ℕ))
+  pub following : List Bool
   pub accepted : List Message
   pub received : List Message
 
@@ -30,6 +34,7 @@ abbrev pub kept_end_of : End → KeptEnd
 kept_end_of e = record {
   exchange = kept_of e.exchange;
   incoming = e.incoming;
+  following = e.following;
   accepted = e.accepted;
   received = e.received;
 }
@@ -96,6 +101,7 @@ end_hears (Some text) link e = record {
   left = record {
     exchange = after kept (FrameCame link text) e.exchange;
     incoming = without_first (Some text) link e.incoming;
+    following = e.following;
     accepted = e.accepted;
     received = e.received ++ newly_received link text e.exchange;
   };
@@ -108,11 +114,33 @@ end_delivers link e = end_hears (slice_get (in_flight e.incoming link) 0) link e
 
 -- ---- a link opens
 
-abbrev pub end_opens : (link : ℕ) → KeptEnd → KeptEnd
-end_opens link e = record e {
+-- at this end first, and at the other one, which may follow
+abbrev pub end_opens_first : (link : ℕ) → KeptEnd → KeptEnd
+end_opens_first link e = record e {
   exchange = after kept (CameUp link) e.exchange;
   incoming = slice_set e.incoming link [];
+  following = slice_set e.following link false;
 }
+
+abbrev pub end_may_follow : (link : ℕ) → KeptEnd → KeptEnd
+end_may_follow link e = record e {
+  incoming = slice_set e.incoming link [];
+  following = slice_set e.following link true;
+}
+
+-- this end follows the other
+abbrev pub end_follows : Wants → (follows : Bool) → (link : ℕ) → KeptEnd → EndTurn
+end_follows Open true link e = record {
+  outcome = Handled;
+  left = record e {
+    exchange = after kept (CameUp link) e.exchange;
+    following = slice_set e.following link false;
+  };
+}
+end_follows wants follows link e = record { outcome = Ignored; left = e }
+
+abbrev pub end_opens_second : (link : ℕ) → KeptEnd → EndTurn
+end_opens_second link e = end_follows (wants_of e.exchange link) (slice_index_or e.following link false) link e
 
 -- ---- a frame is fetched
 

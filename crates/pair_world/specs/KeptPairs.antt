@@ -8,8 +8,9 @@ use Rattle.exchange_rules.specs.Happening.{WentDown, Ticked, Activated, Deactiva
 use Rattle.exchange_rules.specs.Exchange.{taken, wants_of}
 use Rattle.exchange.specs.KeptQueues.{kept}
 use Rattle.pair_rules.specs.Pairs.{PairState, Doing, Submits, Takes, Delivers, Loses, Ticks, Activates, Deactivates}
-use Rattle.pair_rules.specs.Pairs.{Step, AtNear, AtFar, Opens, Turn, in_flight}
-use Rattle.pair_world.specs.KeptEnds.{KeptEnd, EndTurn, kept_end_of, end_happens, end_submits, end_delivers, end_opens}
+use Rattle.pair_rules.specs.Pairs.{OpensFirst, OpensSecond, Step, AtNear, AtFar, Turn, in_flight}
+use Rattle.pair_world.specs.KeptEnds.{KeptEnd, EndTurn, kept_end_of, end_happens, end_submits, end_delivers}
+use Rattle.pair_world.specs.KeptEnds.{end_opens_first, end_may_follow, end_opens_second}
 use Rattle.pair_world.specs.KeptEnds.{text_to_take, behind, take_outcome}
 
 pub record KeptPair : Type 0 where
@@ -60,6 +61,14 @@ kept_takes link p =
     then kept_fetched (text_to_take p.near.exchange link) link p
     else kept_ignored p
 
+-- a link opens at the near end first, where both ends want it to
+abbrev pub kept_opens_first : (near far : Wants) → (link : ℕ) → KeptPair → KeptTurn
+kept_opens_first Open Open link p = record {
+  outcome = Handled;
+  left = both (end_opens_first link p.near) (end_may_follow link p.far);
+}
+kept_opens_first near far link p = kept_ignored p
+
 -- what is done at the near end
 abbrev pub kept_did : Doing → KeptPair → KeptTurn
 kept_did (Submits m) p = alone (end_submits p.far.exchange.settings.own m p.near) p.far
@@ -69,14 +78,9 @@ kept_did (Loses link) p = alone (end_happens (WentDown link) p.near) p.far
 kept_did Ticks p = alone (end_happens Ticked p.near) p.far
 kept_did (Activates link) p = alone (end_happens (Activated link) p.near) p.far
 kept_did (Deactivates link) p = alone (end_happens (Deactivated link) p.near) p.far
-
--- a link opens where both ends want it to
-abbrev pub kept_opens : (near far : Wants) → (link : ℕ) → KeptPair → KeptTurn
-kept_opens Open Open link p = record {
-  outcome = Handled;
-  left = both (end_opens link p.near) (end_opens link p.far);
-}
-kept_opens near far link p = kept_ignored p
+kept_did (OpensFirst link) p =
+    kept_opens_first (wants_of p.near.exchange link) (wants_of p.far.exchange link) link p
+kept_did (OpensSecond link) p = alone (end_opens_second link p.near) p.far
 
 -- the same step, seen from the far end
 abbrev pub turned_back : KeptTurn → KeptTurn
@@ -86,4 +90,3 @@ turned_back t = record { outcome = t.outcome; left = turned_kept t.left }
 abbrev pub kept_turn : Step → KeptPair → KeptTurn
 kept_turn (AtNear what) p = kept_did what p
 kept_turn (AtFar what) p = turned_back (kept_did what (turned_kept p))
-kept_turn (Opens link) p = kept_opens (wants_of p.near.exchange link) (wants_of p.far.exchange link) link p

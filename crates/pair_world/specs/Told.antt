@@ -6,7 +6,10 @@ use Rattle.pair_world.specs.declared.step.Step.TheVariants as step
 use Rattle.pair_world.specs.declared.step.Doing.{Doing}
 use Rattle.pair_world.specs.declared.step.Doing.TheVariants as doing
 use Rattle.pair_rules.specs.Pairs as pairs
-use Rattle.pair_rules.specs.Pairs.{PairState, turned}
+use Rattle.pair_rules.specs.Pairs.{PairState, Turn, did, ignored, turned}
+use Rattle.exchange_rules.specs.declared.wants.Wants.{Wants}
+use Rattle.exchange_rules.specs.declared.wants.Wants.TheVariants.{Open}
+use Rattle.exchange_rules.specs.Exchange.{wants_of}
 use Rattle.pair_world.specs.KeptEnds.{KeptEnd}
 use Rattle.pair_world.specs.KeptPairs.{KeptPair}
 
@@ -34,6 +37,8 @@ told (doing.Lose link) = pairs.Loses link
 told doing.Tick = pairs.Ticks
 told (doing.Activate link) = pairs.Activates link
 told (doing.Deactivate link) = pairs.Deactivates link
+told (doing.OpenFirst link) = pairs.OpensFirst link
+told (doing.OpenSecond link) = pairs.OpensSecond link
 
 -- where it is done
 abbrev pub done_at : End → pairs.Doing → pairs.Step
@@ -49,4 +54,22 @@ step_told (step.Lose its link) = done_at its (pairs.Loses link)
 step_told (step.Tick its) = done_at its pairs.Ticks
 step_told (step.Activate its link) = done_at its (pairs.Activates link)
 step_told (step.Deactivate its link) = done_at its (pairs.Deactivates link)
-step_told (step.Open link) = pairs.Opens link
+step_told (step.OpenFirst its link) = done_at its (pairs.OpensFirst link)
+step_told (step.OpenSecond its link) = done_at its (pairs.OpensSecond link)
+
+-- what becomes of a step. A link opens at one end first only where the other end wants it to: that it may, which is
+-- enough for an abstract pair, an exchange doesn't show
+abbrev pub if_wanted : Wants → Turn → PairState → Turn
+if_wanted Open turn p = turn
+if_wanted wants turn p = ignored p
+
+abbrev pub did_here : pairs.Doing → PairState → Turn
+did_here (pairs.OpensFirst link) p = if_wanted (wants_of p.far.exchange link) (did (pairs.OpensFirst link) p) p
+did_here what p = did what p
+
+abbrev pub turn_told : pairs.Step → PairState → Turn
+turn_told (pairs.AtNear what) p = did_here what p
+turn_told (pairs.AtFar what) p = record {
+  outcome = (did_here what (turned p)).outcome;
+  left = turned (did_here what (turned p)).left;
+}

@@ -2,11 +2,12 @@
 
 ghost use Rattle.std.specs.Prelude.{◌≡◌, IfOk, OnOk, OnErr};
 ghost use Rattle.pair_world.specs.Told.{told};
+ghost use Rattle.pair_rules.specs.Pairs as pairs;
 ghost use Rattle.pair_world.specs.KeptPairs.{both, kept_did, kept_takes};
 
 use crate::side::Side;
 use crate::step::Doing;
-use exchange::{Event, NoMemory, Order};
+use exchange::{Event, NoMemory, Order, Wants};
 use settings::{LinkId, Outcome};
 
 /// Does what is done at the near end. After NoMemory nothing has changed.
@@ -25,6 +26,24 @@ pub(crate) fn act(near: &mut Side, far: &mut Side, what: Doing) -> Result<Outcom
         Doing::Tick => Ok(near.happen(&Event::Tick)),
         Doing::Activate(link) => Ok(near.happen(&Event::Order(Order::Activate(link)))),
         Doing::Deactivate(link) => Ok(near.happen(&Event::Order(Order::Deactivate(link)))),
+        Doing::OpenFirst(link) => Ok(open_first(near, far, link)),
+        Doing::OpenSecond(link) => Ok(near.open_second(link)),
+    }
+}
+
+/// A link opens at the near end, where both ends want it to, and the far end may follow.
+fn open_first(near: &mut Side, far: &mut Side, link: LinkId) -> Outcome
+    ensures outcome { result ≡ (kept_did (pairs.OpensFirst link) (both near.old far.old)).outcome }
+    ensures near { near.new ≡ (kept_did (pairs.OpensFirst link) (both near.old far.old)).left.near }
+    ensures far { far.new ≡ (kept_did (pairs.OpensFirst link) (both near.old far.old)).left.far }
+{
+    match (near.wants(link), far.wants(link)) {
+        (Wants::Open, Wants::Open) => {
+            near.open_first(link);
+            far.let_follow(link);
+            Outcome::Handled
+        }
+        _ => Outcome::Ignored,
     }
 }
 

@@ -1,6 +1,7 @@
 //! The frames in flight on one link, in one direction.
 
-ghost use Rattle.std.specs.Prelude.{◌≡◌, ℕ, List, [], drop, slice_get, slice_set, IfOk, OnOk, OnErr};
+ghost use Rattle.std.specs.Prelude.{◌≡◌, ℕ, List, [], false, drop, slice_get, slice_index_or, slice_set};
+ghost use Rattle.std.specs.Prelude.{IfOk, OnOk, OnErr};
 ghost use Rattle.exchange.specs.KeptQueues.{kept};
 ghost use Rattle.exchange_rules.specs.Exchange.{taken};
 ghost use Rattle.pair_rules.specs.Pairs.{in_flight};
@@ -100,5 +101,21 @@ pub(crate) fn clear_flight(incoming: &mut Vec<Flight>, link: LinkId)
 {
     if link.index() < incoming.len() {
         incoming[link.index()].clear();
+    }
+}
+
+/// Whether an end may follow the other on a link, by what is noted of each link.
+pub(crate) fn is_noted(following: &Vec<bool>, link: LinkId) -> bool
+    ensures { result ≡ slice_index_or following.now.items link false }
+{
+    link.index() < following.len() && following[link.index()]
+}
+
+/// Notes whether an end may follow on a link.
+pub(crate) fn note(following: &mut Vec<bool>, link: LinkId, follows: bool)
+    ensures { following.new.items ≡ slice_set following.old.items link follows }
+{
+    if link.index() < following.len() {
+        following[link.index()] = follows;
     }
 }

@@ -5,8 +5,8 @@ ghost use Rattle.settings.specs.Facing.{IsFacing};
 ghost use Rattle.exchange.specs.Stands as exchanges;
 ghost use Rattle.pair_rules.specs.Pairs as pairs;
 ghost use Rattle.pair_rules.specs.Pairs.{PairState, first_pair};
-ghost use Rattle.pair_world.specs.Told.{seen_from, other, told, done_at, step_told, kept_at};
-ghost use Rattle.pair_world.specs.KeptPairs.{kept_pair_of, kept_turn, kept_opens};
+ghost use Rattle.pair_world.specs.Told.{seen_from, other, told, done_at, step_told, turn_told, kept_at};
+ghost use Rattle.pair_world.specs.KeptPairs.{kept_pair_of, kept_turn};
 ghost use Rattle.pair_world.specs.Stands.{StandsFor};
 ghost use Rattle.pair_world.specs.Promised.{ComeOnce, ComeInOrder};
 
@@ -14,7 +14,7 @@ use crate::act::act;
 use crate::fault::PairFault;
 use crate::side::Side;
 use crate::step::{Doing, End, Step};
-use exchange::{Exchange, NoMemory, Wants};
+use exchange::{Exchange, NoMemory};
 use settings::{LinkId, Msu, Outcome, Settings};
 use std::alloc::Global;
 use std::marker::Model;
@@ -88,10 +88,10 @@ impl Pair {
     pub fn turn(&mut self, step: Step) -> Result<Outcome, NoMemory>
         // For every abstract pair that it stood for, the outcome is that of the abstract step,
         ensures outcome { (p : PairState) → StandsFor self.old p →
-            IfOk result (λ outcome. outcome ≡ (pairs.turn (step_told step) p).outcome) }
+            IfOk result (λ outcome. outcome ≡ (turn_told (step_told step) p).outcome) }
         // and the pair stands for the one after it.
         ensures state { (p : PairState) → StandsFor self.old p →
-            OnOk result (StandsFor self.new (pairs.turn (step_told step) p).left) }
+            OnOk result (StandsFor self.new (turn_told (step_told step) p).left) }
         ensures unchanged { OnErr result (self.new ≡ self.old) }
     {
         self.apply(step)
@@ -121,6 +121,13 @@ impl Pair {
             ComeInOrder (seen_from (other end) p) (seen_from (other end) p).near.accepted result.now }
     {
         self.side(end).received()
+    }
+
+    /// Whether an end may follow the other on a link, which opened there first.
+    pub fn may_follow(&self, end: End, link: LinkId) -> bool
+        ensures { (p : PairState) → StandsFor self.now p → result ≡ pairs.may_follow (seen_from end p).near link }
+    {
+        self.side(end).may_follow(link)
     }
 
     /// The exchange of an end.
@@ -157,7 +164,8 @@ impl Pair {
             Step::Tick(end) => self.act_at(end, Doing::Tick),
             Step::Activate(end, link) => self.act_at(end, Doing::Activate(link)),
             Step::Deactivate(end, link) => self.act_at(end, Doing::Deactivate(link)),
-            Step::Open(link) => Ok(self.open(link)),
+            Step::OpenFirst(end, link) => self.act_at(end, Doing::OpenFirst(link)),
+            Step::OpenSecond(end, link) => self.act_at(end, Doing::OpenSecond(link)),
         }
     }
 
@@ -171,21 +179,6 @@ impl Pair {
         match end {
             End::One => act(&mut self.near, &mut self.far, what),
             End::Two => act(&mut self.far, &mut self.near, what),
-        }
-    }
-
-    /// A link opens, where both ends want it to.
-    fn open(&mut self, link: LinkId) -> Outcome
-        ensures outcome { result ≡ (kept_turn (pairs.Opens link) self.old).outcome }
-        ensures state { self.new ≡ (kept_turn (pairs.Opens link) self.old).left }
-    {
-        match (self.near.wants(link), self.far.wants(link)) {
-            (Wants::Open, Wants::Open) => {
-                self.near.open(link);
-                self.far.open(link);
-                Outcome::Handled
-            }
-            _ => Outcome::Ignored,
         }
     }
 }

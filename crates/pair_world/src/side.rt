@@ -1,6 +1,6 @@
 //! One end of a pair.
 
-ghost use Rattle.std.specs.Prelude.{◌≡◌, ◌<◌, [], nat_lt, length, replicate, slice_set, option_to_list};
+ghost use Rattle.std.specs.Prelude.{◌≡◌, ◌<◌, [], false, nat_lt, slice_index_or, length, replicate, slice_set, option_to_list};
 ghost use Rattle.std.specs.Prelude.{IfOk, OnOk, OnErr};
 ghost use Rattle.exchange_rules.specs.Exchange.{taken, wants_of};
 ghost use Rattle.exchange_rules.specs.First.{first_state};
@@ -8,10 +8,11 @@ ghost use Rattle.exchange.specs.Calls.{happened};
 ghost use Rattle.exchange.specs.KeptQueues.{kept};
 ghost use Rattle.exchange.specs.Stands.{kept_of};
 ghost use Rattle.pair_rules.specs.Pairs.{in_flight, is_for, accepted_by, first_end};
-ghost use Rattle.pair_world.specs.KeptEnds.{kept_end_of, end_happens, end_submits, end_delivers, end_opens};
+ghost use Rattle.pair_world.specs.KeptEnds.{kept_end_of, end_happens, end_submits, end_delivers};
+ghost use Rattle.pair_world.specs.KeptEnds.{end_opens_first, end_may_follow, end_opens_second};
 ghost use Rattle.pair_world.specs.KeptEnds.{text_to_take, behind, take_outcome};
 
-use crate::flight::{Flight, clear_flight, next_in_flight};
+use crate::flight::{Flight, clear_flight, is_noted, next_in_flight, note};
 use crate::hearing::{FIRST_USER_PART, add, hand_in};
 use exchange::{Event, Exchange, NoMemory, Wants};
 use mtp3_codec::Label;
@@ -19,12 +20,13 @@ use settings::{Cause, LinkId, Msu, Outcome, PointCode, Settings};
 use std::alloc::{AllocError, Global};
 use std::marker::Model;
 
-/// One end: its exchange, the frames in flight to it on each link, and what it accepted and received since it was
-/// booted.
+/// One end: its exchange, the frames in flight to it on each link, and whether it may follow the other end there, and
+/// what it accepted and received since it was booted.
 #[derive(Drop)]
 pub(crate) struct Side {
     exchange: Exchange,
     incoming: Vec<Flight>,
+    following: Vec<bool>,
     accepted: Vec<Msu>,
     received: Vec<Msu>,
 }
@@ -43,6 +45,7 @@ impl Model for Side {
     ghost view = { λ side. record {
       exchange = side.exchange;
       incoming = side.incoming.items;
+      following = side.following.items;
       accepted = side.accepted.items;
       received = side.received.items;
     } };
@@ -53,16 +56,19 @@ impl Side {
     pub(crate) fn boot(alloc: Global, settings: Settings) -> Result<Side, NoMemory>
         ensures { IfOk result (λ side. side ≡ kept_end_of (first_end settings)) }
     {
-        let incoming = nothing_in_flight(alloc, settings.link_count())?;
+        let links = settings.link_count();
+        let incoming = nothing_in_flight(alloc, links)?;
+        let following = none_follows(alloc, links)?;
         let exchange = Exchange::boot(alloc, settings)?;
-        Ok(Side::with(alloc, exchange, incoming))
+        Ok(Side::with(alloc, exchange, incoming, following))
     }
 
     /// An end with this exchange and these frames in flight, which accepted and received nothing yet.
-    fn with(alloc: Global, exchange: Exchange, incoming: Vec<Flight>) -> Side
+    fn with(alloc: Global, exchange: Exchange, incoming: Vec<Flight>, following: Vec<bool>) -> Side
         ensures { result ≡ record {
           exchange = exchange;
           incoming = incoming.items;
+          following = following.items;
           accepted = [];
           received = [];
         } }
@@ -70,6 +76,7 @@ impl Side {
         Side {
             exchange,
             incoming,
+            following,
             accepted: Vec::new(alloc),
             received: Vec::new(alloc),
         }
@@ -101,6 +108,13 @@ impl Side {
         ensures { result ≡ self.now.exchange.settings.own }
     {
         self.exchange.settings().own()
+    }
+
+    /// Whether it may follow the other end on a link.
+    pub(crate) fn may_follow(&self, link: LinkId) -> bool
+        ensures { result ≡ slice_index_or self.now.following link false }
+    {
+        is_noted(&self.following, link)
     }
 
     /// What a link wants.
@@ -170,12 +184,36 @@ impl Side {
         link.index() < self.incoming.len()
     }
 
-    /// A link opens, and nothing is in flight on it.
-    pub(crate) fn open(&mut self, link: LinkId)
-        ensures { self.new ≡ end_opens link self.old }
+    /// A link opens before it does at the other end, and nothing is in flight to it.
+    pub(crate) fn open_first(&mut self, link: LinkId)
+        ensures { self.new ≡ end_opens_first link self.old }
     {
         self.exchange.step(&Event::AssociationUp(link));
         clear_flight(&mut self.incoming, link);
+        note(&mut self.following, link, false);
+    }
+
+    /// A link opened at the other end, and nothing is in flight to this one, which may follow.
+    pub(crate) fn let_follow(&mut self, link: LinkId)
+        ensures { self.new ≡ end_may_follow link self.old }
+    {
+        clear_flight(&mut self.incoming, link);
+        note(&mut self.following, link, true);
+    }
+
+    /// A link opens as it did at the other end, where it may follow and wants to.
+    pub(crate) fn open_second(&mut self, link: LinkId) -> Outcome
+        ensures outcome { result ≡ (end_opens_second link self.old).outcome }
+        ensures state { self.new ≡ (end_opens_second link self.old).left }
+    {
+        match (self.wants(link), self.may_follow(link)) {
+            (Wants::Open, true) => {
+                self.exchange.step(&Event::AssociationUp(link));
+                note(&mut self.following, link, false);
+                Outcome::Handled
+            }
+            _ => Outcome::Ignored,
+        }
     }
 }
 
@@ -188,6 +226,17 @@ fn nothing_in_flight(alloc: Global, links: usize) -> Result<Vec<Flight>, AllocEr
         incoming.push(Flight::new(alloc))?;
     }
     Ok(incoming)
+}
+
+/// No end follows on so many links.
+fn none_follows(alloc: Global, links: usize) -> Result<Vec<bool>, AllocError>
+    ensures { IfOk result (λ following. following.items ≡ replicate links false) }
+{
+    let mut following = Vec::with_capacity(alloc, links)?;
+    for _ in 0..links {
+        following.push(false)?;
+    }
+    Ok(following)
 }
 
 /// Whether a message is of the user parts 4 to 15, and has a label that leads to this point.

@@ -30,8 +30,12 @@ pub enum Step {
     Activate(End, LinkId),
     /// The operator of an end keeps a link from opening; it fails there if it isn't down.
     Deactivate(End, LinkId),
-    /// A link opens at both ends, and nothing is in flight on it then. Ignored unless both ends want it to open.
-    Open(LinkId),
+    /// A link opens at an end, before it opens at the other: nothing is in flight on it then, and from now on the other
+    /// end may follow. Ignored unless both ends want it to open.
+    OpenFirst(End, LinkId),
+    /// A link opens at an end that may follow the other. The other may have failed since it opened; but if it opened
+    /// first again, this is about that. Ignored unless the end may follow, and wants the link to open.
+    OpenSecond(End, LinkId),
 }
 
 /// What is done at one end.
@@ -51,4 +55,8 @@ pub(crate) enum Doing {
     Activate(LinkId),
     /// The operator keeps a link from opening.
     Deactivate(LinkId),
+    /// A link opens, and the other end may follow.
+    OpenFirst(LinkId),
+    /// A link opens as it did at the other end.
+    OpenSecond(LinkId),
 }

@@ -17,7 +17,15 @@ const ABSENT: [u8; 3] = [1, 64, 255];
 const NO_LINK: Outcome = Outcome::Refused(Cause::NoSuchName);
 
 /// Steps of two nodes, which ignore the first three about such a link, and refuse the others.
-const STEPS: [&str; 6] = ["take", "deliver", "open", "lose", "activate", "deactivate"];
+const STEPS: [&str; 7] = [
+    "take",
+    "deliver",
+    "first",
+    "second",
+    "lose",
+    "activate",
+    "deactivate",
+];
 
 #[test]
 fn absent_links_of_a_node(rt: HostRuntime) -> Result<(), Fail> {
@@ -78,7 +86,7 @@ fn expect_no_turns<R: Abort>(
     link: LinkId,
 ) -> Result<(), Fail> {
     for (place, word) in STEPS.iter().enumerate() {
-        let wanted = if place < 3 { Outcome::Ignored } else { NO_LINK };
+        let wanted = if place < 4 { Outcome::Ignored } else { NO_LINK };
         let outcome = nodes.turn(step(word, end, link))?;
         assert_eq!(rt; outcome, wanted, "{word} {end:?} {link:?}");
     }
@@ -90,7 +98,8 @@ fn step(word: &str, end: End, link: LinkId) -> Step {
     match word {
         "take" => Step::Take(end, link),
         "deliver" => Step::Deliver(end, link),
-        "open" => Step::Open(link),
+        "first" => Step::OpenFirst(end, link),
+        "second" => Step::OpenSecond(end, link),
         "lose" => Step::Lose(end, link),
         "activate" => Step::Activate(end, link),
         _ => Step::Deactivate(end, link),

@@ -11,18 +11,18 @@ use test_nodes::{settings_of, settings_to};
 const MESSAGE: [u8; 5] = [0x02, 0x40, 0x00, 0x10, 0xaa];
 
 /// The near end submits the message, and sends it on e1, which it loses. The order to change over and its answer are
-/// carried by e0, and then the message. E1 opens again once both ends have lost it. In a step: what is done, at which
+/// carried by e0, and then the message. E1 opens again, at one end first, once both ends have lost it. In a step: what is done, at which
 /// end, on which link, and the outcome.
 const LOST_BEFORE: &str =
     "submit 1 1 queued; take 1 1 handled; lose 1 1 handled; take 1 0 handled; \
     deliver 2 0 handled; take 2 0 handled; deliver 1 0 handled; take 1 0 handled; deliver 2 0 local; \
-    open 1 1 ignored; lose 2 1 handled; open 1 1 handled";
+    first 1 1 ignored; lose 2 1 handled; first 2 1 handled; second 1 1 handled";
 
 /// The same, but the message is there before the loss: an acknowledgement is carried in its place, and nothing else.
 const LOST_BEHIND: &str =
     "submit 1 1 queued; take 1 1 handled; deliver 2 1 local; lose 1 1 handled; \
     take 1 0 handled; deliver 2 0 handled; take 2 0 handled; deliver 1 0 handled; take 1 0 handled; \
-    deliver 2 0 handled; take 1 0 ignored; open 1 1 ignored; lose 2 1 handled; open 1 1 handled";
+    deliver 2 0 handled; take 1 0 ignored; first 1 1 ignored; lose 2 1 handled; first 2 1 handled; second 1 1 handled";
 
 #[test]
 fn a_message_crosses_once(rt: HostRuntime) -> Result<(), Fail> {
@@ -69,7 +69,8 @@ fn turn(pair: &mut Pair, step: Step) -> Result<Outcome, Fail> {
 /// changeback is answered.
 fn bring_up(pair: &mut Pair) -> Result<(), Fail> {
     for link in 0..3u8 {
-        turn(pair, Step::Open(LinkId::new(link)))?;
+        turn(pair, Step::OpenFirst(End::One, LinkId::new(link)))?;
+        turn(pair, Step::OpenSecond(End::Two, LinkId::new(link)))?;
     }
     for _ in 0..8 {
         turn(pair, Step::Tick(End::One))?;
@@ -106,7 +107,8 @@ fn step(row: &str) -> Result<Step, Fail> {
         "take" => Step::Take(end, link),
         "deliver" => Step::Deliver(end, link),
         "lose" => Step::Lose(end, link),
-        _ => Step::Open(link),
+        "first" => Step::OpenFirst(end, link),
+        _ => Step::OpenSecond(end, link),
     })
 }
 

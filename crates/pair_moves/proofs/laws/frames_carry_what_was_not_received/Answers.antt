@@ -1,8 +1,11 @@
-use Rattle.pair_moves.proofs.Concluded.{lines_flow-always, ends_are_sound-always, messages_come-always}
+use Rattle.pair_moves.proofs.Concluded.{lines_flow-always, first_ends_are_alone-always, ends_are_sound-always, messages_come-always}
 use Rattle.pair_moves.proofs.laws.frames_carry_what_was_not_received.Goals as goal
 
 pub returns-clause-carried : goal.returns-clause-carried
 returns-clause-carried c = lines_flow-always
+
+pub returns-clause-opening : goal.returns-clause-opening
+returns-clause-opening c = first_ends_are_alone-always
 
 pub returns-clause-ends : goal.returns-clause-ends
 returns-clause-ends c = ends_are_sound-always
