@@ -52,12 +52,22 @@ fn pass(timers: &mut Timers, ticks: usize) -> bool {
     true
 }
 
-/// Whether a timer can't be set or started, and stopping it does nothing.
-fn is_absent(timers: &mut Timers, name: TimerName) -> bool {
-    timers.set(name, 1);
-    timers.start_unless_running(name, 1);
-    let runs = timers.is_running(name);
-    timers.clear(name);
+/// Whether the timer that a call names can't be set or started, and stopping it does nothing. A name is used up where it
+/// is handed over, so it is read each time.
+fn is_absent(timers: &mut Timers, call: &str) -> bool {
+    if let Some(name) = named(call) {
+        timers.set(name, 1);
+    }
+    if let Some(name) = named(call) {
+        timers.start_unless_running(name, 1);
+    }
+    let runs = match named(call) {
+        Some(name) => timers.is_running(name),
+        None => true,
+    };
+    if let Some(name) = named(call) {
+        timers.clear(name);
+    }
     !runs
 }
 
@@ -70,7 +80,7 @@ impl Part for Timers {
             ("set", Some(name)) => self.set(name, ticks),
             ("start", Some(name)) => self.start_unless_running(name, ticks),
             ("clear", Some(name)) => self.clear(name),
-            (_, Some(name)) => return is_absent(self, name),
+            (_, Some(_)) => return is_absent(self, call),
             _ => return false,
         }
         true
