@@ -14,14 +14,14 @@ ghost use Rattle.pair_moves.specs.GoingBack.{Returns};
 ghost use Rattle.pair_moves.specs.Theorems.{codes_are_outstanding, each_message_once, each_flow_in_order};
 
 /// Law (i), of one link and one direction. While either end is up, and until the near end's
-/// changeover is complete, unless an end may follow the other, the far end accepted the first messages
-/// of the near end's queue, as many as it counts (RFC 4165 §2.2). While the far end is up, the frames in flight carry those from
-/// there to the last that was sent, in order. While the near end is up, the backward numbers that
-/// come to it name counts that the far end accepted, never falling. So a message that comes is the
-/// first that its end lacked. While an end may follow, the one that opened first has an empty queue
-/// and isn't in service; nothing is in flight to it, and no message to the other, which is down and
-/// may open. A message stands at an end only while the end is in service or its
-/// changeover isn't complete.
+/// changeover is complete, unless an end may follow the other, the far end accepted the first
+/// messages of the near end's queue, as many as it counts (RFC 4165 §2.2). While the far end is up,
+/// the frames in flight carry those from there to the last that was sent, in order. While the near
+/// end is up, the backward numbers that come to it name counts that the far end accepted, never
+/// falling. So a message that comes is the first that its end lacked. While an end may follow, the
+/// one that opened first has an empty queue and isn't in service; nothing is in flight to it, and
+/// no message to the other, which is down and may open. A message stands at an end only while the
+/// end is in service or its changeover isn't complete.
 pub fn frames_carry_what_was_not_received()
     ensures carried { lines_flow }
     ensures opening { first_ends_are_alone }

@@ -1,5 +1,5 @@
 -- The texts in flight carry what the far end hasn't received.
-use Rattle.std.proofs.Common.{◌≡◌, ◌≤◌, ◌-◌, ◌+◌, ◌&&◌, ℕ, zero, suc, Bool, true, false, not, List, [], ◌∷◌, map, Option, Some, None, Ok, refl, ap, sym, subst, ◌∙◌, arith}
+use Rattle.std.proofs.Common.{Contains, ◌≡◌, ◌≤◌, ◌-◌, ◌+◌, ◌&&◌, ℕ, zero, suc, Bool, true, false, not, List, [], ◌∷◌, map, Option, Some, None, Ok, refl, ap, sym, subst, ◌∙◌, arith}
 use Rattle.std.specs.Prelude.{drop, take, slice_get, if◌then◌else◌}
 use Rattle.std.specs.List.{cons_option}
 use Rattle.signalling_types.specs.Message.{Message}
@@ -83,3 +83,27 @@ new-up link text a m e =
     by : (b : Bool) (o : Option Message) → (if b then o else None) ≡ Some m → b ≡ true
     by true o f = refl
     by false o f = absurd cc
+
+-- ---- what is shown of an end, and of frames
+
+pub up-false : (b : Bool) → not b ≡ false → b ≡ true
+up-false true e = refl
+up-false false e = absurd cc
+
+-- an end may open, by what is shown of it
+pub may-so : (gone incomplete awaited : Bool) → not gone ≡ false → incomplete ≡ false → awaited ≡ false → (gone && (not incomplete && not awaited)) ≡ true
+may-so true false false d i a = refl
+may-so true false true d i a = sym a
+may-so true true awaited d i a = sym i
+may-so false incomplete awaited d i a = sym d
+
+pub none-shown : (fs : List FrameValue) → map frame_of fs ≡ [] → fs ≡ []
+none-shown [] e = refl
+none-shown (f ∷ fs) e = absurd cc
+
+pub nothing-first : (texts : List (List ℕ)) (text : List ℕ) → slice_get texts 0 ≡ Some text → texts ≡ [] → false ≡ true
+nothing-first [] text e none = absurd cc
+nothing-first (t ∷ texts) text e none = absurd cc
+
+pub no-message : (m : Message) → Contains (messages_in []) m → false ≡ true
+no-message m h = absurd (omega (arith, h.1))

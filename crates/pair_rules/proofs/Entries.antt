@@ -26,7 +26,11 @@ use Rattle.routes.specs.Chosen.{chosen_link}
 use Rattle.exchange_rules.specs.State.{Parts}
 use Rattle.exchange_rules.specs.Routing.{facts, link_of}
 use Rattle.routes.proofs.Leaving.{goes_or_stays, had_has}
-use Rattle.pair_rules.proofs.World.{is_heard, route_of}
+use Rattle.m2pa_codec.specs.Frames.{FrameValue}
+use Rattle.exchange_rules.specs.State.{Node}
+use Rattle.exchange_rules.specs.Queues.{WholeQueues}
+use Rattle.pair_moves.specs.Ends.{LinkEnd}
+use Rattle.pair_rules.proofs.World.{World, end_of, is_heard, route_of}
 use Rattle.pair_rules.proofs.Good.{IsJoined}
 use Rattle.pair_rules.proofs.Routes.{IsRouted}
 
@@ -171,6 +175,22 @@ expiry-heard Aligned t step e = refl
 expiry-heard (Proving ready) t step e = refl
 expiry-heard AlignedReady t step e = refl
 expiry-heard InService t step e = refl
+
+-- ---- what is shown of it
+
+-- a link's end where it changes
+abbrev pub end_with : Node WholeQueues → (link : ℕ) → (gone serves heard : Bool) → LinkEnd
+end_with n link gone serves heard = record (end_of n link) { up = not gone; serving = serves; heard = heard }
+
+pub all-ways : (n : Node WholeQueues) (link : ℕ) (a b d e s t : Bool) → a ≡ b → d ≡ e → s ≡ t → end_with n link a d s ≡ end_with n link b e t
+all-ways n link a b d e s t f g h =
+    ap (λ (x : Bool). end_with n link x d s) f ∙ ap (λ (x : Bool). end_with n link b x s) g ∙ ap (λ (x : Bool). end_with n link b e x) h
+
+-- a frame is in flight to the near end on a link
+pub record IsComing (w : World) (link : ℕ) : Type 0 where
+  pub frame : FrameValue
+  pub rest : List FrameValue
+  pub first : w.to_near link ≡ frame ∷ rest
 
 -- ---- a flow has the link that it had, or the one that entered
 

@@ -39,30 +39,8 @@ use Rattle.pair_rules.proofs.Flights.{first-flies, first-frame}
 use Rattle.pair_rules.proofs.Standing.{Stands, world_of}
 use Rattle.pair_rules.proofs.AllSteps.{AreFacing, facing-back, stands-turned}
 use Rattle.pair_rules.proofs.Promised.{all-stand, are-facing, count-join, of-shown, same-links}
-use Rattle.pair_rules.proofs.CarriedTexts.{first-text, new-up, texts-carry}
+use Rattle.pair_rules.proofs.CarriedTexts.{first-text, may-so, new-up, no-message, none-shown, nothing-first, texts-carry, up-false}
 use Rattle.pair_rules.proofs.SaidWords.{Says, between-says, contained-behind, contained-join, contained-take, each-contained, each-drop, each-join, none-contained}
-
-up-false : (b : Bool) → not b ≡ false → b ≡ true
-up-false true e = refl
-up-false false e = absurd cc
-
--- an end may open, by what is shown of it
-may-so : (gone incomplete awaited : Bool) → not gone ≡ false → incomplete ≡ false → awaited ≡ false → (gone && (not incomplete && not awaited)) ≡ true
-may-so true false false d i a = refl
-may-so true false true d i a = sym a
-may-so true true awaited d i a = sym i
-may-so false incomplete awaited d i a = sym d
-
-none-shown : (fs : List FrameValue) → map frame_of fs ≡ [] → fs ≡ []
-none-shown [] e = refl
-none-shown (f ∷ fs) e = absurd cc
-
-nothing-first : (texts : List (List ℕ)) (text : List ℕ) → slice_get texts 0 ≡ Some text → texts ≡ [] → false ≡ true
-nothing-first [] text e none = absurd cc
-nothing-first (t ∷ texts) text e none = absurd cc
-
-no-message : (m : Message) → Contains (messages_in []) m → false ≡ true
-no-message m h = absurd (omega (arith, h.1))
 
 module _ (c z : Configuration) (a : AreFacing c z) (p : PairState) (s : Stands c z p) (kept : LostNothing p) where
   abbrev w : World

@@ -56,7 +56,7 @@ says-word links m word e f =
     ap (λ (b : Bool). if b then read_says links (read_management m.sif) else UserMessage) e ∙ ap (read_says links) f
 
 -- the tests that distribute a message
-user-local : (si : ℕ) → nat_le 4 si ≡ true → nat_eq si 3 ≡ false
+pub user-local : (si : ℕ) → nat_le 4 si ≡ true → nat_eq si 3 ≡ false
 user-local si e = grind (arith, nat_tests, e)
 
 word-no-test : (si : ℕ) → si ≡ 0 → nat_eq si 1 ≡ false
@@ -120,7 +120,7 @@ module _ (c z : Configuration) (j : IsJoined c z) where
   -- ---- a message that came, once its numbers were accepted
 
   -- what management from the far point comes to
-  word-left : (link : ℕ) (m : Message) (n : Node WholeQueues) (word : Management) → is_management m ≡ true → service_indicator m ≡ 0 → opc_of m ≡ z.own → read_management m.sif ≡ Ok word
+  pub word-left : (link : ℕ) (m : Message) (n : Node WholeQueues) (word : Management) → is_management m ≡ true → service_indicator m ≡ 0 → opc_of m ≡ z.own → read_management m.sif ≡ Ok word
       → distribute whole c link m n ≡ on_management whole c word z.own n
   word-left link m n word e si from f =
       ap (λ (b : Bool). if b then manage whole c link m n else local whole c m n) e

@@ -21,6 +21,7 @@ pub mod Frames
 pub mod Deliveries
 pub mod Statuses
 pub mod Events
+pub mod Silences
 pub mod Taking
 pub mod Opening
 pub mod Reading
@@ -36,3 +37,4 @@ pub mod CarriedTexts
 pub mod SaidWords
 pub mod MadeWords
 pub mod FourLaws
+pub mod Outcomes

@@ -38,27 +38,13 @@ use Rattle.pair_rules.proofs.World.{World, heard, is_heard, says_of, shown, show
 use Rattle.pair_rules.proofs.Good.{IsSilent, IsJoined, Good, Passes, at}
 use Rattle.pair_rules.proofs.Going.{Goes, goes-both, goes-none, goes-one, goes-same}
 use Rattle.pair_rules.proofs.Lines.{becomes}
-use Rattle.pair_rules.proofs.Entries.{enters-heard, leads-heard, leads-up, not-so, starts-up}
+use Rattle.pair_rules.proofs.Entries.{IsComing, all-ways, end_with, enters-heard, leads-heard, leads-up, not-so, starts-up}
 use Rattle.pair_rules.proofs.Turns.{IsEntry, PassesBy, by-both, first-route, last-route, route_at, route_by}
 use Rattle.pair_rules.proofs.Declaring.{take-turn}
 
 -- another state of the links, and of what is known of routes
 abbrev moved_parts : Parts → List Link → List (List Route) → ToldTable → Running → Parts
 moved_parts p links routes told timers = record p { links = links; routes = routes; told = told; timers = timers }
-
--- a link's end where it changes
-abbrev end_with : Node WholeQueues → (link : ℕ) → (gone serves heard : Bool) → LinkEnd
-end_with n link gone serves heard = record (end_of n link) { up = not gone; serving = serves; heard = heard }
-
-all-ways : (n : Node WholeQueues) (link : ℕ) (a b d e s t : Bool) → a ≡ b → d ≡ e → s ≡ t → end_with n link a d s ≡ end_with n link b e t
-all-ways n link a b d e s t f g h =
-    ap (λ (x : Bool). end_with n link x d s) f ∙ ap (λ (x : Bool). end_with n link b x s) g ∙ ap (λ (x : Bool). end_with n link b e x) h
-
--- a frame is in flight to the near end on a link
-pub record IsComing (w : World) (link : ℕ) : Type 0 where
-  pub frame : FrameValue
-  pub rest : List FrameValue
-  pub first : w.to_near link ≡ frame ∷ rest
 
 same-service : (a b : Bool) → (a && not b) ≡ false → (b ≡ true → a ≡ true) → a ≡ b
 same-service true true e f = refl

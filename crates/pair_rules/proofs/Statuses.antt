@@ -49,8 +49,8 @@ use Rattle.pair_rules.proofs.Failures.{fail-passes}
 use Rattle.pair_rules.proofs.Frames.{Pops, popped, receiving, none-received, dropping-frame}
 use Rattle.pair_rules.proofs.Deliveries.{fails-up}
 use Rattle.pair_rules.proofs.Expiries.{changeover_timer-passes}
-use Rattle.pair_rules.proofs.Entries.{expiry-heard}
-use Rattle.pair_rules.proofs.Returns.{IsComing, advance-passes}
+use Rattle.pair_rules.proofs.Entries.{IsComing, expiry-heard}
+use Rattle.pair_rules.proofs.Returns.{advance-passes}
 use Rattle.pair_rules.proofs.Lates.{late_time-passes, late_code-passes, rerouting_ended-passes}
 
 module _ (c z : Configuration) (j : IsJoined c z) where

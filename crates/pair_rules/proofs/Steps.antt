@@ -57,7 +57,7 @@ taken-there c link n frame e =
 
 -- ---- what becomes of an event is what its rule says
 
-outcome-same : (c : Configuration) (what : Happening) (n : Node WholeQueues) → outcome_of whole what (record { settings = c; node = n }) ≡ (handle_event whole c what n).outcome
+pub outcome-same : (c : Configuration) (what : Happening) (n : Node WholeQueues) → outcome_of whole what (record { settings = c; node = n }) ≡ (handle_event whole c what n).outcome
 unfolding apply
 outcome-same c what n = refl
 

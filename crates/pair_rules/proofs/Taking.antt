@@ -21,6 +21,7 @@ use Rattle.pair_rules.proofs.Good as good
 use Rattle.pair_rules.proofs.Going.{goes-one}
 use Rattle.pair_rules.proofs.Lines.{queue-here, queue-other}
 use Rattle.pair_rules.proofs.Relinked.{relinked-passes}
+use Rattle.pair_rules.proofs.Silences.{IsNext, by-up, is-next, message-is-next, next-sends, next-serves, owed-out, status-out}
 use Rattle.signalling_types.specs.declared.cause.Cause.TheVariants as causes
 use Rattle.mtp3_codec.specs.Discrimination.{discrimination}
 use Rattle.mtp3_codec.specs.declared.discrimination.Discrimination.TheVariants as whither
@@ -116,25 +117,6 @@ module _ (c z : Configuration) (j : IsJoined c z) (w : World) (link : ℕ) where
   number-fits : (q : Queue) (k : ℕ) → forward_number q k < 2 ^ 24
   number-fits q k = omega arith
 
-  -- what is sent next stands in the queue
-  record IsNext (q : Queue) (window : ℕ) (next : Sending) : Type 0 where
-    number : next.number ≡ forward_number q q.sent
-    stands : slice_get q.all q.sent ≡ Some next.message
-
-  next-numbered : (q : Queue) (window : ℕ) (next : Sending) (o : Option Message) → slice_get q.all q.sent ≡ o → numbered (forward_number q q.sent) o ≡ Some next → IsNext q window next
-  next-numbered q window next (Some m) e f =
-      let number : forward_number q q.sent ≡ next.number = cc in
-      let message : m ≡ next.message = cc in
-      record { number = sym number; stands = e ∙ ap Some message }
-  next-numbered q window next None e f = absurd cc
-
-  next-by : (q : Queue) (window : ℕ) (next : Sending) (b : Bool) → (if b then numbered (forward_number q q.sent) (slice_get q.all q.sent) else None) ≡ Some next → IsNext q window next
-  next-by q window next true e = next-numbered q window next (slice_get q.all q.sent) refl e
-  next-by q window next false e = absurd cc
-
-  is-next : (q : Queue) (window : ℕ) (next : Sending) → to_send q window ≡ Some next → IsNext q window next
-  is-next q window next e = next-by q window next (nat_lt (q.sent - q.confirmed) window) e
-
   sent-queue : (q : Queue) (window : ℕ) (next : Sending) → to_send q window ≡ Some next → sent_one q window ≡ queue.after_sending q (Some next)
   sent-queue q window next e = ap (queue.after_sending q) e
 
@@ -215,45 +197,12 @@ module _ (c z : Configuration) (j : IsJoined c z) (w : World) (link : ℕ) where
   empty-flies : (bsn fsn : ℕ) → bsn < 2 ^ 24 → fsn < 2 ^ 24 → IsFlying c z (EmptyFrame bsn fsn)
   empty-flies bsn fsn e f = good.empty bsn fsn (record { bsn_fits = e; fsn_fits = f; length_fits = omega arith })
 
-  -- a message goes out only where it is the next
-  message-is-next : (status : Option LinkStatus) (o : Option Sending) (owed : Bool) (next : Sending) → status_first status (message_first o owed) ≡ SendsMessage next → o ≡ Some next
-  message-is-next (Some status) o owed next e = absurd cc
-  message-is-next None (Some its) owed next e = (let same : its ≡ next = cc in ap Some same)
-  message-is-next None None true next e = absurd cc
-  message-is-next None None false next e = absurd cc
-
-  -- and the link is in service then
-  next-serves : (b d : Bool) (o : Option Sending) (next : Sending) → (if b && not d then o else None) ≡ Some next → b ≡ true
-  next-serves true d o next e = refl
-  next-serves false d o next e = absurd cc
-
-  next-sends : (b : Bool) (o : Option Sending) (next : Sending) → (if b then o else None) ≡ Some next → o ≡ Some next
-  next-sends true o next e = e
-  next-sends false o next e = absurd cc
-
   -- a frame is fetched, and the node is left as it is after that; the frame is one that flies
   pub record Fetches (f : ℕ → List FrameValue) (frame : FrameValue) (n o : Node WholeQueues) : Type 0 where
     pub passes : Passes c z (at c z w n [] []) (at c z (launched f) o [] [])
     pub flies : Good c z (at c z w n [] []) → IsFlying c z frame
 
   module _ (f : ℕ → List FrameValue) (n : Node WholeQueues) where
-    -- a link that is down has nothing to send
-    by-up : (b : Bool) → (b ≡ true → false ≡ true) → b ≡ false
-    by-up true h = sym (h refl)
-    by-up false h = refl
-
-    status-out : (o : Option LinkStatus) (m : Option Sending) (owed : Bool) (status : LinkStatus) → o ≡ None → status_first o (message_first m owed) ≡ SendsStatus status → false ≡ true
-    status-out (Some s) m owed status none e = absurd cc
-    status-out None (Some next) owed status none e = absurd cc
-    status-out None None true status none e = absurd cc
-    status-out None None false status none e = absurd cc
-
-    owed-out : (o : Option LinkStatus) (m : Option Sending) (owed : Bool) → owed ≡ false → status_first o (message_first m owed) ≡ Acknowledges → false ≡ true
-    owed-out (Some s) m owed none e = absurd cc
-    owed-out None (Some next) owed none e = absurd cc
-    owed-out None None true none e = sym none
-    owed-out None None false none e = absurd cc
-
     status-up : (status : LinkStatus) → goes_out whole c link n ≡ SendsStatus status → Good c z (at c z w n [] []) → down n.parts link ≡ false
     status-up status e g =
         by-up (down n.parts link)

@@ -1,3 +1,4 @@
 pub mod Pairs
 pub mod Promises
 pub mod Laws
+pub mod Deliveries

@@ -8,9 +8,11 @@
 ghost use Rattle.pair_rules.specs.Promises.{each_message_once, each_flow_in_order};
 ghost use Rattle.pair_rules.specs.Laws.{frames_carry, words_are_read, none_is_left, words_are_final};
 ghost use Rattle.pair_rules.specs.Laws.{moves_are_lacked};
+ghost use Rattle.pair_rules.specs.Deliveries.{deliveries_tell};
 
 /// "Exactly once", in both directions. While neither exchange may have lost a message, as many user
-/// messages of any kind were accepted at one end as the other end received and as wait between them.
+/// messages of any kind were accepted at one end as the other end received and as wait between
+/// them.
 pub fn each_message_comes_once()
     ensures { each_message_once }
 {}
@@ -23,26 +25,27 @@ pub fn each_flow_keeps_its_order()
 {}
 
 /// Law (i), of a link and either direction. While the link is up at either end, and until the near
-/// end's changeover of it is complete, unless an end may follow the other, the far end received no fewer messages than are confirmed, and
-/// no more than were sent; and while the link isn't down there, the frames in flight carry those
-/// between, in order (RFC 4165 §2.2). While the far end may follow, the near one isn't in service and
-/// has an empty queue; nothing is in flight to it, and no message to the far end. A message that a
-/// frame newly carries is the first that the far end lacked.
+/// end's changeover of it is complete, unless an end may follow the other, the far end received no
+/// fewer messages than are confirmed, and no more than were sent; and while the link isn't down
+/// there, the frames in flight carry those between, in order (RFC 4165 §2.2). While the far end may
+/// follow, the near one isn't in service and has an empty queue; nothing is in flight to it, and no
+/// message to the far end. A message that a frame newly carries is the first that the far end
+/// lacked.
 pub fn frames_carry_what_was_not_received()
     ensures { frames_carry }
 {}
 
-/// A word, of which laws (ii) to (iv) speak, is what an order to change over or its answer says to the
-/// node that it comes to: which link it is about, and a number. What a node makes of either kind says
-/// the link and the number that it was made with to the node that it faces (Q.704 §15.4).
+/// A word, of which laws (ii) to (iv) speak, is what an order to change over or its answer says to
+/// the node that it comes to: which link it is about, and a number. What a node makes of either
+/// kind says the link and the number that it was made with to the node that it faces (Q.704 §15.4).
 pub fn orders_and_answers_say_their_word()
     ensures { words_are_read }
 {}
 
-/// Law (ii). Where an end wants a link to open, and it may open at the other too or the end may follow
-/// the other, no order to change over and no answer about it
-/// stands in Held or unreceived in a queue of either end, and none is in flight to an end on a link
-/// that isn't down there (Q.704 §5.4).
+/// Law (ii). Where an end wants a link to open, and it may open at the other too or the end may
+/// follow the other, no order to change over and no answer about it stands in Held or unreceived in
+/// a queue of either end, and none is in flight to an end on a link that isn't down there (Q.704
+/// §5.4).
 pub fn links_open_with_no_word_left()
     ensures { none_is_left }
 {}
@@ -54,10 +57,19 @@ pub fn words_carry_the_final_number()
     ensures { words_are_final }
 {}
 
-/// Law (iv). While a link is up at either end, and until an end's changeover of it is complete, unless
-/// an end may follow the other, the number of the last message that the peer accepted there names the count of all that it received.
-/// So an order or an answer of the peer that completes the changeover, as one that the next frame
-/// brings, moves the messages that the peer lacks, and no other (Q.704 §5.4, §5.5).
+/// Law (iv). While a link is up at either end, and until an end's changeover of it is complete,
+/// unless an end may follow the other, the number of the last message that the peer accepted there
+/// names the count of all that it received. So an order or an answer of the peer that completes the
+/// changeover, as one that the next frame brings, moves the messages that the peer lacks, and no
+/// other (Q.704 §5.4, §5.5).
 pub fn completions_move_what_the_peer_lacks()
     ensures { moves_are_lacked }
+{}
+
+/// Received means delivered, at either end. A frame that is handed in comes to Local exactly if
+/// what the end received grew by a message of a user part that its settings list, and to NoUserPart
+/// exactly if it grew by one of another part (Q.704 §2.4). This holds whether or not a message may
+/// be lost.
+pub fn deliveries_tell_what_came()
+    ensures { deliveries_tell }
 {}

@@ -1,6 +1,7 @@
 //! One end of a pair.
 
-ghost use Rattle.std.specs.Prelude.{◌≡◌, ◌<◌, [], false, nat_lt, slice_index_or, length, replicate, slice_set, option_to_list};
+ghost use Rattle.std.specs.Prelude.{◌≡◌, ◌<◌, [], false, nat_lt, length, replicate};
+ghost use Rattle.std.specs.Prelude.{slice_index_or, slice_set, option_to_list};
 ghost use Rattle.std.specs.Prelude.{IfOk, OnOk, OnErr};
 ghost use Rattle.exchange_rules.specs.Exchange.{taken, wants_of};
 ghost use Rattle.exchange_rules.specs.First.{first_state};
