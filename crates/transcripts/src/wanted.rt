@@ -49,11 +49,20 @@ impl Wanted {
         let to = self.lines.len();
         for _ in 1..times {
             for place in from..to {
-                let text = Vec::from_slice(self.alloc, self.lines[place].text.as_slice())?;
-                let number = self.lines[place].number;
-                self.lines.push(WantedLine { text, number })?;
+                self.push_again(place)?;
             }
         }
+        Ok(())
+    }
+
+    /// The line at this place once more, if there is one.
+    fn push_again(&mut self, place: usize) -> Result<(), AllocError> {
+        let Some(line) = self.lines.get(place) else {
+            return Ok(());
+        };
+        let text = Vec::from_slice(self.alloc, line.text.as_slice())?;
+        let number = line.number;
+        self.lines.push(WantedLine { text, number })?;
         Ok(())
     }
 
