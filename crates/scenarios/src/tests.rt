@@ -1,14 +1,5 @@
 //! What the tests share.
 
-mod absent_links;
-mod calls;
-mod drafts;
-mod endless;
-mod labs;
-mod lost;
-mod octets;
-mod pair;
-mod points;
 mod streams;
 
 use lab::MemoryJoiner;
