@@ -2,3 +2,4 @@ pub mod Numbers
 pub mod Ends
 pub mod Moves
 pub mod Theorems
+pub mod Example

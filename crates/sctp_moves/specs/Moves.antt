@@ -29,6 +29,18 @@ MayOpen Established cookie = ⊥
 abbrev pub answer_to : (generation : ℕ) (own far : Name) → Answer
 answer_to generation own far = record { to = far.tag; own = own; cookie = record { generation = generation; own = own; far = far } }
 
+-- DATA with the message in this place of an epoch
+abbrev pub chunk_of : Epoch → (place : ℕ) → Message → Chunk
+chunk_of epoch place message = record { to = epoch.far.tag; number = number_of epoch.own.first place; message = message; place = place }
+
+-- the acknowledgement of all that was received in an epoch
+abbrev pub ack_of : Epoch → Acknowledgement
+ack_of epoch = record {
+  to = epoch.far.tag;
+  number = cumulative epoch.far.first (length epoch.received);
+  count = length epoch.received;
+}
+
 module _ (other p q : End) where
   -- ---- a try, and the answers of the other end (RFC 9260 §5)
 
@@ -137,9 +149,7 @@ module _ (other p q : End) where
     pub place : ℕ
     pub message : Message
     pub taken : slice_get epoch.sent place ≡ Some message
-    pub after : q ≡ record p {
-      chunks = record { to = epoch.far.tag; number = number_of epoch.own.first place; message = message; place = place } ∷ p.chunks;
-    }
+    pub after : q ≡ record p { chunks = chunk_of epoch place message ∷ p.chunks }
 
   -- DATA comes with the end's own tag, less than a window ahead of the next message. It isn't older
   -- than all numbers but those of a window
@@ -175,9 +185,7 @@ module _ (other p q : End) where
     pub epoch : Epoch
     pub past : List Epoch
     pub now : p.epochs ≡ epoch ∷ past
-    pub after : q ≡ record p {
-      acks = record { to = epoch.far.tag; number = cumulative epoch.far.first (length epoch.received); count = length epoch.received } ∷ p.acks;
-    }
+    pub after : q ≡ record p { acks = ack_of epoch ∷ p.acks }
 
   -- an acknowledgement comes with the end's own tag, of no more than was sent. It isn't older than all
   -- numbers but those of a window

@@ -1,10 +1,53 @@
-//! What holds after every list of moves of two new ends (`specs/Moves.antt`), whatever the network
-//! does with the datagrams that they put out.
+//! What holds after every list of moves of two new ends, whatever the network does with the datagrams
+//! that they put out. The moves are those of `specs/Moves.antt` (RFC 9260 §5, §6), and the statements
+//! those of `specs/Theorems.antt`.
 
 ghost use Rattle.sctp_moves.specs.Theorems.{each_association_carries_a_prefix};
+ghost use Rattle.sctp_moves.specs.Theorems.{what_is_received_was_sent, what_is_confirmed_was_received};
+ghost use Rattle.sctp_moves.specs.Theorems.{own_tags_differ, far_tags_differ};
+ghost use Rattle.sctp_moves.specs.Theorems.{first_finds_other_waiting, second_enters_latest};
+ghost use Rattle.sctp_moves.specs.Theorems.{associations_come_in_order};
+ghost use Rattle.sctp_moves.specs.Example.{Happens};
 
-/// In each association what one end received is the beginning of what the other sent: each message
-/// once, in order, whole.
+/// "Prefix" and "confirmed": where both ends had an association, what one received in it is the
+/// beginning of what the other sent, each message once, in order, whole; and no more was confirmed
+/// than had come. An end that received something, or saw something confirmed, did so in an association
+/// that the other end had too.
 pub fn messages_come_in_order()
     ensures carried { each_association_carries_a_prefix }
+    ensures sent { what_is_received_was_sent }
+    ensures confirmed { what_is_confirmed_was_received }
+{}
+
+/// "One": no two associations of an end have the same own tag, nor the same far tag. So two epochs
+/// with the same two tags are those of one association.
+pub fn tags_name_one_association()
+    ensures own { own_tags_differ }
+    ensures far { far_tags_differ }
+{}
+
+/// "First": where an end opens an association that the other end hasn't opened, the other isn't
+/// established. Its user wants the association and it waits for COOKIE ACK of it, or it waited for
+/// that and gave up since.
+pub fn first_end_finds_other_waiting()
+    ensures { first_finds_other_waiting }
+{}
+
+/// "Second": where an end opens an association that the other end opened before, it is the latest that
+/// the other had.
+pub fn second_end_enters_latest()
+    ensures { second_enters_latest }
+{}
+
+/// "Order": the associations that both ends had come in the same order at both.
+pub fn both_ends_have_the_same_order()
+    ensures { associations_come_in_order }
+{}
+
+/// These laws aren't empty: in a run of 31 moves an association opens at one end and then at the
+/// other, and messages go round the end of the numbers, of which one overtakes another, one comes
+/// twice and one is lost. It falls at one end, where its old cookie opens nothing, and a new one opens
+/// at both.
+pub fn associations_open_and_fall()
+    ensures { Happens }
 {}

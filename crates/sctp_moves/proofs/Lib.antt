@@ -1,0 +1,9 @@
+pub mod Members
+pub mod Sides
+pub mod Trying
+pub mod Echoed
+pub mod Opened
+pub mod Carried
+pub mod Keeping
+pub mod Concluded
+pub mod Happening
