@@ -1,9 +1,7 @@
 -- Messages: what epochs of both ends that are one association say of one another, and that each move
 -- keeps it.
-use Rattle.std.proofs.Common.{◌≡◌, ◌≢◌, ◌⊎◌, inl, inr, ℕ, zero, suc, ◌+◌, ◌-◌, ◌%◌, ◌^◌, ◌<◌, ◌≤◌, List, [], ◌∷◌, ◌++◌, length, take, map, slice_get, refl, ap, sym, ◌∙◌, subst, arith, Some}
-use Rattle.std.proofs.Math.Logic.{⊎_elim}
+use Rattle.std.proofs.Common.{◌≡◌, ◌≢◌, inl, inr, ℕ, zero, suc, ◌+◌, ◌<◌, ◌≤◌, List, [], ◌∷◌, ◌++◌, length, take, map, slice_get, refl, ap, sym, ◌∙◌, subst, arith, Some}
 use Rattle.std.proofs.lemmas.Grind.{common_steps}
-use Rattle.std.proofs.lemmas.Bool.{cases_lt}
 use Rattle.std.proofs.lemmas.Option.{slice_get_within, get_or_from_slice_get}
 use Rattle.std.proofs.lemmas.List.{take_more, take-append-le, length_push}
 use Rattle.sctp_moves.specs.Numbers.{modulus, window, number_of, cumulative, steps_between}
@@ -11,7 +9,7 @@ use Rattle.sctp_moves.specs.Ends.{Message, Name, Chunk, Acknowledgement, Piece, 
 use Rattle.sctp_moves.specs.Moves.{chunk_of, ack_of}
 use Rattle.sctp_moves.specs.Theorems.{AreOne}
 use Rattle.sctp_moves.proofs.Members.{In, in-map}
-use Rattle.sctp_moves.proofs.Sides.{Tie, tying, back, tie, Side, side_of, AreSides, one-far, one-own, same-far}
+use Rattle.sctp_moves.proofs.Sides.{Tie, back, tie, side_of, AreSides, one-own, same-far}
 
 -- an association with this far tag is there
 abbrev pub HasFar : List Tie → ℕ → Type 0

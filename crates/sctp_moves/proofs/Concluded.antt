@@ -1,18 +1,18 @@
 -- The theorems, of what every list of moves keeps.
-use Rattle.std.proofs.Common.{◌≡◌, ◌≢◌, ◌⊎◌, inl, inr, ℕ, zero, suc, true, ◌<◌, ◌≤◌, List, [], ◌∷◌, length, map, slice_get, refl, ap, sym, ◌∙◌, subst, arith, Some}
+use Rattle.std.proofs.Common.{◌≡◌, ◌≢◌, ◌⊎◌, inl, inr, ℕ, true, ◌<◌, List, [], ◌∷◌, length, map, slice_get, refl, ap, sym, ◌∙◌, subst, Some}
 use Rattle.std.specs.List.{Contains}
 use Rattle.std.proofs.Math.Logic.{⊎_elim}
 use Rattle.std.proofs.lemmas.Bool.{cases_eq}
 use Rattle.sctp_moves.specs.Ends.{Name, Cookie, Epoch, new_epoch, Phase, Closed, CookieWait, CookieEchoed, Established, End, Ends, new_ends, turned}
 use Rattle.sctp_moves.specs.Moves as moves
 use Rattle.sctp_moves.specs.Moves.{IsTrying, MayOpen, EndMove, Moves, last_of}
-use Rattle.sctp_moves.specs.Theorems.{BothWays, Always, AreOne, Carries, CarriesOver, HasOther, OwnTagsDiffer, FarTagsDiffer, Opens, Awaits, AreInOrder}
+use Rattle.sctp_moves.specs.Theorems.{Always, AreOne, CarriesOver, HasOther, OwnTagsDiffer, FarTagsDiffer, Opens, Awaits, AreInOrder}
 use Rattle.sctp_moves.specs.Theorems.{each_association_carries_a_prefix, what_is_received_was_sent, what_is_confirmed_was_received, own_tags_differ, far_tags_differ, first_finds_other_waiting, second_enters_latest, associations_come_in_order}
 use Rattle.sctp_moves.proofs.Members.{In, in-from, contains-from, in-map, in-unmap, in-place, place-map}
-use Rattle.sctp_moves.proofs.Sides.{Tie, tying, back, tie, tie_of, Side, side_of, IsUp, IsDown, IsWaiting, IsEchoed, IsBond, IsSide, AreApart, IsLatest, IsShut, AreSides}
-use Rattle.sctp_moves.proofs.Sides.{tag_of, one-far, one-own, same-far, one-place, wanted-trying, trying-cases, echoed-trying}
+use Rattle.sctp_moves.proofs.Sides.{Tie, tying, back, tie, tie_of, Side, side_of, IsDown, IsWaiting, IsEchoed, IsSide, AreApart, IsLatest, IsShut, AreSides}
+use Rattle.sctp_moves.proofs.Sides.{tag_of, one-own, same-far, one-place, wanted-trying, trying-cases, echoed-trying}
 use Rattle.sctp_moves.proofs.Opened.{IsOpening, opening-cookie, opening-ack, tie-there}
-use Rattle.sctp_moves.proofs.Carried.{IsEpoch, IsFlow, HasFar}
+use Rattle.sctp_moves.proofs.Carried.{IsFlow, HasFar}
 use Rattle.sctp_moves.proofs.Keeping.{IsSound, turned-sound, sound-always}
 
 always : (Statement : Ends → Type 0) → ((p : Ends) → IsSound p.near p.far → Statement p) → Always Statement

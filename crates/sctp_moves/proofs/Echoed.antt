@@ -1,12 +1,11 @@
 -- A cookie is echoed: that keeps what holds of both sides.
-use Rattle.std.proofs.Common.{◌≡◌, ◌≢◌, ◌⊎◌, inl, inr, ℕ, ◌<◌, ◌≤◌, List, [], ◌∷◌, refl, ap, sym, ◌∙◌, subst, arith}
+use Rattle.std.proofs.Common.{◌≡◌, ◌≢◌, ◌⊎◌, inl, inr, ◌<◌, ◌≤◌, ◌∷◌, refl, ap, sym, ◌∙◌, subst, arith}
 use Rattle.std.proofs.Math.Logic.{⊎_elim}
 use Rattle.std.proofs.lemmas.Bool.{cases_eq, cases_lt}
-use Rattle.sctp_moves.specs.Ends.{Name, Cookie, Answer, Phase, Closed, CookieWait, CookieEchoed, Established}
-use Rattle.sctp_moves.specs.Moves.{IsTrying, MayOpen}
+use Rattle.sctp_moves.specs.Ends.{Name, Cookie, Answer, CookieWait, CookieEchoed}
 use Rattle.sctp_moves.proofs.Members.{In}
-use Rattle.sctp_moves.proofs.Sides.{Tie, tying, back, tie_of, Side, IsWaiting, IsEchoed, IsUp, IsDown, trying-cases}
-use Rattle.sctp_moves.proofs.Sides.{IsBond, IsLive, IsAnswer, IsSide, IsLatest, IsShut, Follows, Awaited, AreSides, tag_of, IsMade, made, IsMore, other-side}
+use Rattle.sctp_moves.proofs.Sides.{Tie, tying, tie_of, Side, IsWaiting, IsEchoed, trying-cases}
+use Rattle.sctp_moves.proofs.Sides.{IsBond, IsLive, IsAnswer, IsLatest, IsShut, Follows, Awaited, AreSides, tag_of, other-side}
 
 -- the side that echoes, while it waits for INIT ACK
 abbrev pub waiting : Side → Name → Side

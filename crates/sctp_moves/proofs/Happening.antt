@@ -1,5 +1,5 @@
 -- The run of the example: each pair of ends comes from the one before by a move.
-use Rattle.std.proofs.Common.{◌≡◌, ◌≢◌, inl, inr, ℕ, true, false, List, [], ◌∷◌, refl, ap, sym, ◌∙◌, arith}
+use Rattle.std.proofs.Common.{◌≡◌, ◌≢◌, inl, inr, ℕ, true, false, [], ◌∷◌, refl, ap, sym, ◌∙◌, arith}
 use Rattle.std.specs.List.{Contains}
 use Rattle.sctp_moves.specs.Ends.{Name, Cookie, Chunk, Acknowledgement, Epoch, new_epoch, Closed, CookieWait, CookieEchoed, Established, End, Ends, new_ends}
 use Rattle.sctp_moves.specs.Moves as moves

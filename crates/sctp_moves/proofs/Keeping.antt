@@ -1,11 +1,11 @@
 -- Every list of moves keeps what holds of two ends.
-use Rattle.std.proofs.Common.{◌≡◌, ◌≢◌, ◌⊎◌, inl, inr, ℕ, zero, suc, true, ◌<◌, ◌≤◌, List, [], ◌∷◌, length, map, slice_get, refl, ap, sym, ◌∙◌, subst, arith, Some}
+use Rattle.std.proofs.Common.{◌≡◌, ◌≢◌, inl, inr, ℕ, List, [], ◌∷◌, slice_get, refl, ap, sym, ◌∙◌, subst, arith, Some}
 use Rattle.std.proofs.lemmas.Grind.{common_steps}
-use Rattle.sctp_moves.specs.Ends.{Name, Cookie, Answer, Chunk, Acknowledgement, Piece, Epoch, new_epoch, Phase, Closed, CookieWait, CookieEchoed, Established, End, new_end, Ends, new_ends, turned}
+use Rattle.sctp_moves.specs.Ends.{Name, Cookie, Epoch, Phase, CookieWait, CookieEchoed, End, new_end, Ends, new_ends}
 use Rattle.sctp_moves.specs.Moves as moves
 use Rattle.sctp_moves.specs.Moves.{IsTrying, MayOpen, IsFresh, answer_to, chunk_of, ack_of, EndMove, Move, Moves, last_of}
 use Rattle.sctp_moves.proofs.Members.{In, in-from, contains-from, in-map}
-use Rattle.sctp_moves.proofs.Sides.{Tie, tying, back, tie, tie_of, Side, side_of, IsDown, IsBond, IsSide, AreSides, turned-sides, tag_of, wanted-trying, trying-down, made, same-far}
+use Rattle.sctp_moves.proofs.Sides.{Tie, tying, tie, Side, side_of, IsDown, IsBond, IsSide, AreSides, turned-sides, wanted-trying, trying-down, made, same-far}
 use Rattle.sctp_moves.proofs.Trying.{names-fresh, keeps-wants, keeps-cookie_ack, keeps-answer, keeps-try, keeps-finish}
 use Rattle.sctp_moves.proofs.Echoed.{keeps-echo}
 use Rattle.sctp_moves.proofs.Opened.{IsOpening, opened, keeps-opening, opening-cookie, opening-ack}

@@ -1,11 +1,10 @@
 -- An association opens: that keeps what holds of both sides.
-use Rattle.std.proofs.Common.{◌≡◌, ◌≢◌, ◌⊎◌, inl, inr, ℕ, zero, suc, true, ◌<◌, ◌≤◌, List, [], ◌∷◌, slice_get, refl, ap, sym, ◌∙◌, subst, arith, Some}
-use Rattle.std.proofs.lemmas.Grind.{common_steps}
-use Rattle.sctp_moves.specs.Ends.{Name, Cookie, Answer, Phase, Closed, CookieWait, CookieEchoed, Established}
+use Rattle.std.proofs.Common.{◌≡◌, ◌≢◌, ◌⊎◌, inl, inr, ℕ, zero, suc, true, ◌<◌, List, [], ◌∷◌, slice_get, refl, ap, sym, ◌∙◌, subst, arith, Some}
+use Rattle.sctp_moves.specs.Ends.{Name, Cookie, CookieEchoed, Established}
 use Rattle.sctp_moves.specs.Moves.{IsTrying, MayOpen}
 use Rattle.sctp_moves.proofs.Members.{In, in-place, some-same}
 use Rattle.sctp_moves.proofs.Sides.{Tie, tying, back, tie_of, Side, IsWaiting, IsEchoed, IsUp, IsDown, up-down, trying-cases, echoed-trying, may-down, may-echoed}
-use Rattle.sctp_moves.proofs.Sides.{IsBond, AreApart, IsLive, IsAnswer, IsSide, IsLatest, IsShut, Follows, Awaited, Ordered, AreSides, tag_of, IsMade, made, IsMore, other-side, one-place}
+use Rattle.sctp_moves.proofs.Sides.{IsBond, AreApart, IsLive, IsAnswer, IsLatest, IsShut, Follows, Awaited, Ordered, AreSides, IsMade, made, other-side, one-place}
 
 -- what is known where a side opens an association with these names
 pub record IsOpening (x y : Side) (t : Tie) : Type 0 where

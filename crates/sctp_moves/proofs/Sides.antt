@@ -1,6 +1,6 @@
 -- What an end knows of tags: its side of the handshake, without messages. What holds of both sides, and
 -- what follows of it.
-use Rattle.std.proofs.Common.{◌≡◌, ◌≢◌, ◌⊎◌, inl, inr, ℕ, zero, suc, Bool, true, false, ◌<◌, ◌≤◌, List, [], ◌∷◌, map, slice_get, refl, ap, sym, ◌∙◌, subst, arith, Some}
+use Rattle.std.proofs.Common.{◌≡◌, ◌≢◌, ◌⊎◌, inl, inr, ℕ, zero, suc, Bool, true, ◌<◌, ◌≤◌, List, [], ◌∷◌, map, slice_get, refl, ap, sym, ◌∙◌, subst, arith, Some}
 use Rattle.std.proofs.lemmas.Grind.{common_steps}
 use Rattle.sctp_moves.specs.Ends.{Name, Cookie, Answer, Epoch, Phase, Closed, CookieWait, CookieEchoed, Established, End}
 use Rattle.sctp_moves.specs.Moves.{IsTrying, MayOpen}

@@ -1,10 +1,10 @@
 -- Moves by which no association opens and no cookie is echoed keep what holds of both sides.
-use Rattle.std.proofs.Common.{◌≡◌, ◌≢◌, ◌⊎◌, inl, inr, ℕ, Bool, true, false, ◌<◌, ◌≤◌, List, [], ◌∷◌, refl, ap, sym, ◌∙◌, subst, arith}
-use Rattle.sctp_moves.specs.Ends.{Name, Cookie, Answer, Phase, Closed, CookieWait, CookieEchoed, Established}
-use Rattle.sctp_moves.specs.Moves.{IsTrying, MayOpen}
+use Rattle.std.proofs.Common.{◌≡◌, ◌≢◌, ◌⊎◌, inl, inr, ℕ, true, false, ◌<◌, ◌≤◌, List, ◌∷◌, refl, ap, sym, ◌∙◌, subst, arith}
+use Rattle.sctp_moves.specs.Ends.{Name, Cookie, Answer, Closed, CookieWait}
+use Rattle.sctp_moves.specs.Moves.{IsTrying}
 use Rattle.sctp_moves.proofs.Members.{In, in-more}
-use Rattle.sctp_moves.proofs.Sides.{Tie, tying, back, tie_of, Side, IsWaiting, IsEchoed, IsUp, IsDown, IsWanted, wanted-true, up-down, echoed-trying}
-use Rattle.sctp_moves.proofs.Sides.{IsBond, IsLive, IsAnswer, IsSide, IsLatest, IsShut, Follows, Awaited, AreSides, tag_of, IsMade, made, IsMore, other-side}
+use Rattle.sctp_moves.proofs.Sides.{Tie, tying, tie_of, Side, IsEchoed, IsUp, IsDown, wanted-true, up-down, echoed-trying}
+use Rattle.sctp_moves.proofs.Sides.{IsLive, IsAnswer, IsLatest, IsShut, Follows, Awaited, AreSides, tag_of, made, IsMore, other-side}
 
 pub names-fresh : (drawn : List Name) (own : Name) → ((n : Name) → In n drawn → n.tag ≢ own.tag) →
     ((n m : Name) → In n drawn → In m drawn → n.tag ≡ m.tag → n ≡ m) →

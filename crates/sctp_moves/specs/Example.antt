@@ -2,7 +2,7 @@
 -- COOKIE ACK. The far end sends two messages, whose numbers go round: the second overtakes the first,
 -- the first comes twice, and both are confirmed. What the near end sends is lost. The near end falls.
 -- Its old cookie comes again and opens nothing; then a new association opens at both ends.
-use Rattle.std.specs.Prelude.{◌≡◌, ℕ, true, ◌+◌, ◌-◌, ◌^◌, List, [], ◌∷◌}
+use Rattle.std.specs.Prelude.{◌≡◌, true, ◌-◌, ◌^◌, List, [], ◌∷◌}
 use Rattle.std.specs.List.{Contains}
 use Rattle.sctp_moves.specs.Ends.{Message, Name, Cookie, Chunk, Epoch, Closed, CookieEchoed, Established, End, Ends, new_ends}
 use Rattle.sctp_moves.specs.Moves.{OpensByCookie, Moves, last_of}

@@ -1,9 +1,9 @@
 -- The moves of one end, given what the other put out; and lists of moves of both. A datagram that says
 -- none of this changes nothing here, and neither does one that is put out again.
-use Rattle.std.specs.Prelude.{◌≡◌, ◌≢◌, ℕ, Bool, true, false, ◌+◌, ◌<◌, ◌≤◌, List, [], ◌∷◌, ◌++◌, length, slice_get, Some}
+use Rattle.std.specs.Prelude.{◌≡◌, ◌≢◌, ℕ, true, false, ◌+◌, ◌<◌, ◌≤◌, List, [], ◌∷◌, ◌++◌, length, slice_get, Some}
 use Rattle.std.specs.List.{Contains}
 use Rattle.sctp_moves.specs.Numbers.{modulus, window, number_of, cumulative, steps_between}
-use Rattle.sctp_moves.specs.Ends.{Message, Name, Cookie, Answer, Chunk, Acknowledgement, Piece, Epoch, new_epoch}
+use Rattle.sctp_moves.specs.Ends.{Message, Name, Cookie, Answer, Chunk, Acknowledgement, Epoch, new_epoch}
 use Rattle.sctp_moves.specs.Ends.{Phase, Closed, CookieWait, CookieEchoed, Established, End, Ends}
 
 -- no name with this tag was drawn before

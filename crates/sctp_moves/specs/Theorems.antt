@@ -1,7 +1,7 @@
 -- What holds after every list of moves of two new ends.
 use Rattle.std.specs.Prelude.{◌≡◌, ◌≢◌, ◌⊎◌, ℕ, true, ◌<◌, ◌≤◌, List, ◌∷◌, length, take, slice_get, Some}
 use Rattle.std.specs.List.{Contains}
-use Rattle.sctp_moves.specs.Ends.{Name, Cookie, Epoch, Phase, Closed, CookieWait, CookieEchoed, Established, End, Ends, new_ends, turned}
+use Rattle.sctp_moves.specs.Ends.{Name, Cookie, Epoch, CookieEchoed, Established, End, Ends, new_ends, turned}
 use Rattle.sctp_moves.specs.Moves.{IsTrying, EndMove, Moves, last_of}
 
 -- a statement about the near end holds of both
