@@ -7,3 +7,4 @@ pub mod Carried
 pub mod Keeping
 pub mod Concluded
 pub mod Happening
+pub mod Joining

@@ -237,3 +237,12 @@ Moves p (q ∷ rest) = Move p q × Moves q rest
 abbrev pub last_of : Ends → List Ends → Ends
 last_of p [] = p
 last_of p (q ∷ rest) = last_of q rest
+
+-- moves of one end, while the other stands still
+abbrev pub EndMoves : (other p : End) → List End → Type 0
+EndMoves other p [] = Unit {0}
+EndMoves other p (q ∷ rest) = EndMove other p q × EndMoves other q rest
+
+abbrev pub last_end : End → List End → End
+last_end p [] = p
+last_end p (q ∷ rest) = last_end q rest

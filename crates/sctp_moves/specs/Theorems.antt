@@ -1,8 +1,8 @@
 -- What holds after every list of moves of two new ends.
-use Rattle.std.specs.Prelude.{◌≡◌, ◌≢◌, ◌⊎◌, ℕ, true, ◌<◌, ◌≤◌, List, ◌∷◌, length, take, slice_get, Some}
+use Rattle.std.specs.Prelude.{◌≡◌, ◌≢◌, ◌⊎◌, ℕ, true, ◌<◌, ◌≤◌, List, ◌∷◌, ◌++◌, length, take, map, slice_get, Some}
 use Rattle.std.specs.List.{Contains}
 use Rattle.sctp_moves.specs.Ends.{Name, Cookie, Epoch, CookieEchoed, Established, End, Ends, new_ends, turned}
-use Rattle.sctp_moves.specs.Moves.{IsTrying, EndMove, Moves, last_of}
+use Rattle.sctp_moves.specs.Moves.{IsTrying, EndMove, EndMoves, last_end, Moves, last_of}
 
 -- a statement about the near end holds of both
 pub record BothWays (Statement : Ends → Type 0) (p : Ends) : Type 0 where
@@ -102,3 +102,28 @@ AreInOrder p =
 
 abbrev pub associations_come_in_order : Type 0
 associations_come_in_order = Always AreInOrder
+
+-- ---- lists of moves
+
+abbrev pub both : (near far : End) → Ends
+both near far = record { near = near; far = far }
+
+-- moves of one end are moves of both, which end where those end
+pub record AreMoves (p : Ends) (list : List Ends) (q : Ends) : Type 0 where
+  pub moves : Moves p list
+  pub last : last_of p list ≡ q
+
+abbrev pub near_moves_are_moves : Type 0
+near_moves_are_moves =
+    (near far : End) (list : List End) → EndMoves far near list →
+    AreMoves (both near far) (map (λ e. both e far) list) (both (last_end near list) far)
+
+abbrev pub far_moves_are_moves : Type 0
+far_moves_are_moves =
+    (near far : End) (list : List End) → EndMoves near far list →
+    AreMoves (both near far) (map (λ e. both near e) list) (both near (last_end far list))
+
+-- and so are moves behind moves
+abbrev pub moves_join : Type 0
+moves_join =
+    (p q r : Ends) (list more : List Ends) → AreMoves p list q → AreMoves q more r → AreMoves p (list ++ more) r

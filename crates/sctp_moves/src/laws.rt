@@ -7,6 +7,7 @@ ghost use Rattle.sctp_moves.specs.Theorems.{what_is_received_was_sent, what_is_c
 ghost use Rattle.sctp_moves.specs.Theorems.{own_tags_differ, far_tags_differ};
 ghost use Rattle.sctp_moves.specs.Theorems.{first_finds_other_waiting, second_enters_latest};
 ghost use Rattle.sctp_moves.specs.Theorems.{associations_come_in_order};
+ghost use Rattle.sctp_moves.specs.Theorems.{near_moves_are_moves, far_moves_are_moves, moves_join};
 ghost use Rattle.sctp_moves.specs.Example.{Happens};
 
 /// "Prefix" and "confirmed": where both ends had an association, what one received in it is the
@@ -42,6 +43,14 @@ pub fn second_end_enters_latest()
 /// "Order": the associations that both ends had come in the same order at both.
 pub fn both_ends_have_the_same_order()
     ensures { associations_come_in_order }
+{}
+
+/// Moves of one end, while the other stands still, are moves of both; and moves behind moves are
+/// moves. So whoever shows that each call of an endpoint is a list of moves has the laws above.
+pub fn moves_of_ends_join()
+    ensures near { near_moves_are_moves }
+    ensures far { far_moves_are_moves }
+    ensures behind { moves_join }
 {}
 
 /// These laws aren't empty: in a run of 31 moves an association opens at one end and then at the
