@@ -1,6 +1,11 @@
--- Two ends of SCTP (RFC 9260), and all that they ever put out. No octets, clocks, timers or windows in
--- octets: when and why something goes out is left free. Nor are there fragments: an end sends a message
--- in one chunk.
+-- Two ends of SCTP (RFC 9260), and all that they ever put out.
+--
+-- An end draws names, tries to open associations, and opens them; in each it sends messages and
+-- receives some. The network between them may lose, double, reorder and delay what they put out, and
+-- invents nothing: so it is no more than the lists of what was put out, from which anything may come
+-- at any time. There are no octets, clocks, timers or windows in octets here: when and why something
+-- goes out is left free. Nor are there fragments: an end sends a message in one chunk. What an end has
+-- made and not sent yet counts as put out.
 use Rattle.std.specs.Prelude.{ℕ, Bool, false, List, []}
 
 -- a message of the user: its stream, its payload protocol identifier, its octets

@@ -4,7 +4,8 @@
 -- Its old cookie comes again and opens nothing; then a new association opens at both ends.
 use Rattle.std.specs.Prelude.{◌≡◌, true, ◌-◌, ◌^◌, List, [], ◌∷◌}
 use Rattle.std.specs.List.{Contains}
-use Rattle.sctp_moves.specs.Ends.{Message, Name, Cookie, Chunk, Epoch, Closed, CookieEchoed, Established, End, Ends, new_ends}
+use Rattle.sctp_moves.specs.Ends.{Message, Name, Cookie, Chunk, Epoch}
+use Rattle.sctp_moves.specs.Ends.{Closed, CookieEchoed, Established, End, Ends, new_ends}
 use Rattle.sctp_moves.specs.Moves.{OpensByCookie, Moves, last_of}
 
 abbrev pub near_name : Name

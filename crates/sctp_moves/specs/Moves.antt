@@ -1,5 +1,21 @@
--- The moves of one end, given what the other put out; and lists of moves of both. A datagram that says
--- none of this changes nothing here, and neither does one that is put out again.
+-- The moves of one end, given what the other put out; and lists of moves.
+--
+-- A move is a record: what has to hold before it (`p`), what the network brings, and what the end
+-- becomes (`after`, of `q`). Of the other end it reads nothing but what that put out. It never says
+-- why or when: a timer, a call of the user, or nothing at all. An association opens in five moves:
+--
+--     near end                                    far end
+--                                                 Begins: INIT, with the far name
+--     AnswersAnew: INIT ACK, with the near name
+--     and a cookie that holds both names
+--                                                 Echoes: COOKIE ECHO
+--     OpensByCookie, if the cookie is of its
+--     present generation; SendsCookieAck
+--                                                 OpensByAck
+--
+-- Either end may give up between any two of them, and begin anew by another name. Both may begin at
+-- once: then each answers with the name of its try. A datagram that says none of this changes nothing
+-- here, and neither does one that is put out again.
 use Rattle.std.specs.Prelude.{◌≡◌, ◌≢◌, ℕ, true, false, ◌+◌, ◌<◌, ◌≤◌, List, [], ◌∷◌, ◌++◌, length, slice_get, Some}
 use Rattle.std.specs.List.{Contains}
 use Rattle.sctp_moves.specs.Numbers.{modulus, window, number_of, cumulative, steps_between}
@@ -27,11 +43,20 @@ MayOpen Established cookie = ⊥
 
 -- INIT ACK to the end that sent INIT with a name
 abbrev pub answer_to : (generation : ℕ) (own far : Name) → Answer
-answer_to generation own far = record { to = far.tag; own = own; cookie = record { generation = generation; own = own; far = far } }
+answer_to generation own far = record {
+  to = far.tag;
+  own = own;
+  cookie = record { generation = generation; own = own; far = far };
+}
 
 -- DATA with the message in this place of an epoch
 abbrev pub chunk_of : Epoch → (place : ℕ) → Message → Chunk
-chunk_of epoch place message = record { to = epoch.far.tag; number = number_of epoch.own.first place; message = message; place = place }
+chunk_of epoch place message = record {
+  to = epoch.far.tag;
+  number = number_of epoch.own.first place;
+  message = message;
+  place = place;
+}
 
 -- the acknowledgement of all that was received in an epoch
 abbrev pub ack_of : Epoch → Acknowledgement
@@ -56,7 +81,12 @@ module _ (other p q : End) where
     pub fresh : IsFresh p own.tag
     pub generation : ℕ
     pub later : p.generation ≤ generation
-    pub after : q ≡ record p { generation = generation; drawn = own ∷ p.drawn; phase = CookieWait own; inits = own ∷ p.inits }
+    pub after : q ≡ record p {
+      generation = generation;
+      drawn = own ∷ p.drawn;
+      phase = CookieWait own;
+      inits = own ∷ p.inits;
+    }
 
   -- a try begins anew: INIT with another fresh tag
   pub record Renews : Type 0 where
@@ -66,7 +96,12 @@ module _ (other p q : End) where
     pub fresh : IsFresh p own.tag
     pub generation : ℕ
     pub later : p.generation < generation
-    pub after : q ≡ record p { generation = generation; drawn = own ∷ p.drawn; phase = CookieWait own; inits = own ∷ p.inits }
+    pub after : q ≡ record p {
+      generation = generation;
+      drawn = own ∷ p.drawn;
+      phase = CookieWait own;
+      inits = own ∷ p.inits;
+    }
 
   -- INIT is answered with a fresh tag, and nothing is kept
   pub record AnswersAnew : Type 0 where
@@ -102,7 +137,11 @@ module _ (other p q : End) where
     pub may : MayOpen p.phase cookie
     pub generation : ℕ
     pub later : p.generation < generation
-    pub after : q ≡ record p { generation = generation; phase = Established; epochs = new_epoch cookie.own cookie.far ∷ p.epochs }
+    pub after : q ≡ record p {
+      generation = generation;
+      phase = Established;
+      epochs = new_epoch cookie.own cookie.far ∷ p.epochs;
+    }
 
   -- an association opens by COOKIE ACK
   pub record OpensByAck : Type 0 where
@@ -166,7 +205,9 @@ module _ (other p q : End) where
     pub distance : ahead ≡ steps_between (number_of epoch.far.first (length epoch.received)) chunk.number
     pub within : ahead < window
     pub after : q ≡ record p {
-      epochs = record epoch { heard = record { place = length epoch.received + ahead; message = chunk.message } ∷ epoch.heard } ∷ past;
+      epochs = record epoch {
+        heard = record { place = length epoch.received + ahead; message = chunk.message } ∷ epoch.heard;
+      } ∷ past;
     }
 
   -- the next message is told to the user, if it was heard

@@ -1,4 +1,10 @@
 -- What holds after every list of moves of two new ends.
+--
+-- An association is two epochs, one of each end, with the same two tags. One end may have its epoch
+-- and the other not yet, or never. Of each: what one received is the beginning of what the other sent
+-- (prefix), no more is confirmed than came (confirmed), tags name it (one), the end that opens it
+-- first finds the other waiting (first), the end that opens it second enters the other's latest one
+-- (second), and associations follow one another in the same order at both ends (order).
 use Rattle.std.specs.Prelude.{◌≡◌, ◌≢◌, ◌⊎◌, ℕ, true, ◌<◌, ◌≤◌, List, ◌∷◌, ◌++◌, length, take, map, slice_get, Some}
 use Rattle.std.specs.List.{Contains}
 use Rattle.sctp_moves.specs.Ends.{Name, Cookie, Epoch, CookieEchoed, Established, End, Ends, new_ends, turned}
@@ -40,20 +46,24 @@ pub record HasOther (epochs : List Epoch) (e : Epoch) : Type 0 where
   pub one : AreOne e other
 
 abbrev pub what_is_received_was_sent : Type 0
-what_is_received_was_sent = Always (λ p. (e : Epoch) → Contains p.near.epochs e → 0 < length e.received → HasOther p.far.epochs e)
+what_is_received_was_sent =
+    Always (λ p. (e : Epoch) → Contains p.near.epochs e → 0 < length e.received → HasOther p.far.epochs e)
 
 abbrev pub what_is_confirmed_was_received : Type 0
-what_is_confirmed_was_received = Always (λ p. (e : Epoch) → Contains p.near.epochs e → 0 < e.acked → HasOther p.far.epochs e)
+what_is_confirmed_was_received =
+    Always (λ p. (e : Epoch) → Contains p.near.epochs e → 0 < e.acked → HasOther p.far.epochs e)
 
 -- ---- one: no two epochs of an end share the own tag, nor the far tag
 
 abbrev pub OwnTagsDiffer : Ends → Type 0
 OwnTagsDiffer p =
-    (i j : ℕ) (e f : Epoch) → slice_get p.near.epochs i ≡ Some e → slice_get p.near.epochs j ≡ Some f → e.own.tag ≡ f.own.tag → i ≡ j
+    (i j : ℕ) (e f : Epoch) → slice_get p.near.epochs i ≡ Some e → slice_get p.near.epochs j ≡ Some f →
+    e.own.tag ≡ f.own.tag → i ≡ j
 
 abbrev pub FarTagsDiffer : Ends → Type 0
 FarTagsDiffer p =
-    (i j : ℕ) (e f : Epoch) → slice_get p.near.epochs i ≡ Some e → slice_get p.near.epochs j ≡ Some f → e.far.tag ≡ f.far.tag → i ≡ j
+    (i j : ℕ) (e f : Epoch) → slice_get p.near.epochs i ≡ Some e → slice_get p.near.epochs j ≡ Some f →
+    e.far.tag ≡ f.far.tag → i ≡ j
 
 abbrev pub own_tags_differ : Type 0
 own_tags_differ = Always OwnTagsDiffer
@@ -79,17 +89,22 @@ pub record Awaits (x : End) (e : Epoch) : Type 0 where
   pub echoed : Contains x.echoes cookie
   pub own : cookie.own ≡ e.own
   pub far : cookie.far ≡ e.far
-  pub waits : ((x.phase ≡ CookieEchoed e.far e.own) × (x.wanted ≡ true)) ⊎ ((name : Name) → IsTrying x.phase name → name.tag ≢ e.far.tag)
+  pub waits : ((x.phase ≡ CookieEchoed e.far e.own) × (x.wanted ≡ true))
+      ⊎ ((name : Name) → IsTrying x.phase name → name.tag ≢ e.far.tag)
 
 -- the other end isn't established where an end opens an association first, and waits for it or gave up
 abbrev pub first_finds_other_waiting : Type 0
 first_finds_other_waiting =
-    Always (λ p. (q : End) (e : Epoch) → Opens p q e → ((f : Epoch) → Contains p.far.epochs f → AreOne e f → ⊥) → Awaits p.far e)
+    Always (λ p.
+    (q : End) (e : Epoch) → Opens p q e → ((f : Epoch) → Contains p.far.epochs f → AreOne e f → ⊥) →
+    Awaits p.far e)
 
 -- an end that opens an association second enters the latest one of the other
 abbrev pub second_enters_latest : Type 0
 second_enters_latest =
-    Always (λ p. (q : End) (e f : Epoch) → Opens p q e → Contains p.far.epochs f → AreOne e f → slice_get p.far.epochs 0 ≡ Some f)
+    Always (λ p.
+    (q : End) (e f : Epoch) → Opens p q e → Contains p.far.epochs f → AreOne e f →
+    slice_get p.far.epochs 0 ≡ Some f)
 
 -- ---- order: of two associations that both ends had, the same one is the later at both
 
