@@ -1,0 +1,4 @@
+pub mod Permuting
+pub mod Drawing
+pub mod Sameness
+pub mod CookieTexts

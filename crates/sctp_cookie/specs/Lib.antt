@@ -1,0 +1,5 @@
+pub mod Permutation
+pub mod Tags
+pub mod Inside
+pub mod Hmac
+pub mod Cookies

@@ -1,0 +1,13 @@
+//! The tags of an SCTP endpoint, and its state cookie with the code that authenticates it.
+#![tactic(auto)]
+
+pub mod cookie;
+pub mod hmac;
+pub mod laws;
+mod layout;
+mod permutation;
+pub mod signing;
+pub mod tags;
+
+pub use cookie::{COOKIE_OCTETS, Cookie};
+pub use tags::Tags;
