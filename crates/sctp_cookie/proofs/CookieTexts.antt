@@ -1,12 +1,11 @@
 -- The octets of a cookie say its fields.
-use Rattle.std.proofs.Common.{◌≡◌, ℕ, ◌+◌, List, [], ◌++◌, length, take, drop, refl, sym, ap, ◌∙◌, length-append, arith}
-use Rattle.std.specs.Int.{w16, w32, w64, to_be_bytes, from_be_bytes}
+use Rattle.std.proofs.Common.{◌≡◌, ℕ, ◌+◌, List, ◌++◌, length, take, drop, refl, sym, ap, ◌∙◌, length-append, arith}
 use Rattle.std.proofs.lemmas.Nat.{from_be_bytes-to_be_bytes_2, from_be_bytes-to_be_bytes_4, from_be_bytes-to_be_bytes_8}
 use Rattle.std.proofs.lemmas.List.{drop_at, drop-drop}
 use Rattle.sha2.proofs.Facts256.{length-sha256}
 use Rattle.sctp_cookie.specs.declared.cookie.Cookie.{Cookie}
-use Rattle.sctp_cookie.specs.Hmac.{hmac, masked, padded, inner_octet, outer_octet}
-use Rattle.sctp_cookie.specs.Cookies.{Fits, body_of, signed, IsSigned, number64, number32, number16, cookie_in}
+use Rattle.sctp_cookie.specs.Hmac.{hmac}
+use Rattle.sctp_cookie.specs.Cookies.{Fits, body_of, signed, IsSigned, cookie_in}
 
 pub length-hmac : (key text : List ℕ) → length (hmac key text) ≡ 32
 unfolding hmac

@@ -1,12 +1,11 @@
 -- The tags of the numbers below one, under any permutation.
-use Rattle.std.proofs.Common.{◌≡◌, ◌≢◌, ℕ, zero, suc, Bool, true, false, cond, eqb, ltb, ◌+◌, ◌-◌, ◌^◌, ◌<◌, ◌≤◌, List, [], ◌∷◌, ◌++◌, length, get_or, Option, Some, None, refl, sym, ap, subst, ◌∙◌, ◌⊎◌, inl, inr, add-one, length-append, arith}
+use Rattle.std.proofs.Common.{◌≡◌, ◌≢◌, ℕ, zero, suc, ◌+◌, ◌-◌, ◌^◌, ◌<◌, ◌≤◌, List, [], ◌∷◌, ◌++◌, length, refl, sym, ap, subst, ◌∙◌, inl, inr, add-one, length-append, arith}
 use Rattle.std.proofs.lemmas.Bool.{cases_lt, cases_eq, eq-eqb, ne_eqb, lt-ltb, le-ltb}
-use Rattle.std.proofs.lemmas.Bool.Decides.{nat_tests}
 use Rattle.std.specs.Prelude.{All, IfSome, IfNone}
 use Rattle.std.specs.List.{AllPairs}
-use Rattle.std.proofs.lemmas.List.Elements.{All-nil, All-push, All-weaker}
+use Rattle.std.proofs.lemmas.List.Elements.{All-nil, All-push}
 use Rattle.std.proofs.lemmas.List.Quantifiers.{all_pairs_push}
-use Rattle.sctp_cookie.specs.Tags.{Drawing, half_given, permutation, tags_below, drawn, numbers, next_given, after_one, is_passed, next_tag, after_draw}
+use Rattle.sctp_cookie.specs.Tags.{Drawing, half_given, permutation, tags_below, drawn, numbers, next_tag, after_draw}
 use Rattle.sctp_cookie.proofs.Permuting.{permuted-fits, permuted_back-fits, permuted-permuted_back, permuted-apart}
 use Rattle.sctp_cookie.specs.Permutation.{permuted_back}
 

@@ -6,7 +6,7 @@ pub mod hmac;
 pub mod laws;
 mod layout;
 mod permutation;
-pub mod signing;
+mod signing;
 pub mod tags;
 
 pub use cookie::{COOKIE_OCTETS, Cookie};

@@ -12,27 +12,29 @@ use crate::layout::{
     TIE_OWN_TAG_AT, TIE_PEER_TAG_AT,
 };
 
-/// The octets of a cookie under a key: the code that authenticates its body, and the body (RFC 9260 §5.1.3).
-pub fn sign(cookie: Cookie, key: &[u8; COOKIE_KEY_OCTETS]) -> [u8; COOKIE_OCTETS]
-    ensures signed { IsSigned key.now result cookie }
-{
-    signed(cookie, key)
-}
+impl Cookie {
+    /// The octets of the cookie under a key: the code that authenticates its body, and the body (RFC 9260 §5.1.3).
+    pub fn sign(self, key: &[u8; COOKIE_KEY_OCTETS]) -> [u8; COOKIE_OCTETS]
+        ensures signed { IsSigned key.now result self }
+    {
+        signed(self, key)
+    }
 
-/// The cookie of which these are the octets under this key. None where there is no such cookie: there are more or
-/// fewer octets than 88, or the code isn't that of the body, or the body doesn't end in two zeros.
-pub fn open(octets: &[u8], key: &[u8; COOKIE_KEY_OCTETS]) -> Option<Cookie>
-    // What opens was signed.
-    ensures signed { IfSome result (λ cookie. IsSigned key.now octets.now cookie) }
-    // What was signed opens.
-    ensures only { (cookie : Cookie) → IsSigned key.now octets.now cookie → result ≡ Some cookie }
-{
-    let octets = octets.as_array::<COOKIE_OCTETS>()?;
-    let cookie = read(octets);
-    if is_same(octets, &signed(cookie, key)) {
-        Some(cookie)
-    } else {
-        None
+    /// The cookie of which these are the octets under this key. None where there is no such cookie: there are more
+    /// or fewer octets than 88, or the code isn't that of the body, or the body doesn't end in two zeros.
+    pub fn open(octets: &[u8], key: &[u8; COOKIE_KEY_OCTETS]) -> Option<Cookie>
+        // What opens was signed.
+        ensures signed { IfSome result (λ cookie. IsSigned key.now octets.now cookie) }
+        // What was signed opens.
+        ensures only { (cookie : Cookie) → IsSigned key.now octets.now cookie → result ≡ Some cookie }
+    {
+        let octets = octets.as_array::<COOKIE_OCTETS>()?;
+        let cookie = read(octets);
+        if is_same(octets, &signed(cookie, key)) {
+            Some(cookie)
+        } else {
+            None
+        }
     }
 }
 

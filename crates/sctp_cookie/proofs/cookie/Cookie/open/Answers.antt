@@ -1,8 +1,8 @@
-use Rattle.std.proofs.Common.{◌≡◌, sym, ap, ◌∙◌, length, Some}
+use Rattle.std.proofs.Common.{sym, ap, ◌∙◌, length, Some}
 use Rattle.std.proofs.lemmas.Bool.{false≢true}
 use Rattle.sctp_cookie.specs.Cookies.{signed}
 use Rattle.sctp_cookie.proofs.CookieTexts.{length-signed, only_read}
-use Rattle.sctp_cookie.proofs.signing.open.Goals as goal
+use Rattle.sctp_cookie.proofs.cookie.Cookie.open.Goals as goal
 
 pub returns-in_err-octets-clause-only : goal.returns-in_err-octets-clause-only
 returns-in_err-octets-clause-only c = λ cookie h.
