@@ -1,0 +1,12 @@
+pub mod RoundTrips
+pub mod Timing
+pub mod Congestion
+pub mod Credit
+pub mod Outgoing
+pub mod InPlace
+pub mod Cells
+pub mod Ring
+pub mod Outbox
+pub mod Tallies
+pub mod Tallied
+pub mod Sending
