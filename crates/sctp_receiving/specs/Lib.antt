@@ -1,0 +1,5 @@
+pub mod Tsn
+pub mod Pieces
+pub mod Consuming
+pub mod Receiver
+pub mod Sack
