@@ -1,0 +1,3 @@
+pub mod Courses
+pub mod Blocks
+pub mod Holding

@@ -62,15 +62,19 @@ of_no_stream p = record {
   told = if p.ends then NoStream p.stream else Violates (FragmentOfNoStream p.stream);
 }
 
--- the first fragment of a message comes between two messages, and any other behind one that has begun
-abbrev pub consume : (streams : ℕ) → Piece → Option Partial → Consumed
-consume streams p None =
-    if p.begins
-    then (if nat_lt p.stream streams then carried_on None p.ends (begun p) else of_no_stream p)
-    else record { left = None; told = Violates Misplaced }
-consume streams p (Some m) =
-    if p.begins
-    then record { left = Some m; told = Violates Misplaced }
-    else (if belongs m p
+-- the first fragment of a message comes between two messages
+abbrev pub begin : (streams : ℕ) → Piece → Option Partial → Consumed
+begin streams p None =
+    if nat_lt p.stream streams then carried_on None p.ends (begun p) else of_no_stream p
+begin streams p (Some m) = record { left = Some m; told = Violates Misplaced }
+
+-- any other comes behind one that has begun
+abbrev pub go_on : Piece → Option Partial → Consumed
+go_on p None = record { left = None; told = Violates Misplaced }
+go_on p (Some m) =
+    if belongs m p
     then carried_on (Some m) p.ends (extended m p)
-    else record { left = Some m; told = Violates Differs })
+    else record { left = Some m; told = Violates Differs }
+
+abbrev pub consume : (streams : ℕ) → Piece → Option Partial → Consumed
+consume streams p partial = if p.begins then begin streams p partial else go_on p partial

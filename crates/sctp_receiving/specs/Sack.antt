@@ -1,5 +1,5 @@
 -- The SACK that goes out: what was consumed, what is held behind it, and what came again (RFC 9260 §3.3.4).
-use Rattle.std.specs.Prelude.{ℕ, zero, suc, Bool, true, false, not, ◌+◌, ◌-◌, ◌%◌, ◌&&◌, List, [], ◌∷◌, take, is_some}
+use Rattle.std.specs.Prelude.{ℕ, zero, suc, Bool, false, not, ◌+◌, ◌-◌, ◌%◌, ◌&&◌, List, [], ◌∷◌, ◌++◌, take, is_some}
 use Rattle.std.specs.Prelude.{if◌then◌else◌}
 use Rattle.sctp_receiving.specs.Tsn.{modulus}
 use Rattle.sctp_receiving.specs.Receiver.{Receiver, piece_at}
@@ -23,9 +23,8 @@ block_from r distance many = record { start = distance; end = distance + run_fro
 unfoldable pub blocks_from : Receiver → (is_before_held : Bool) → (distance many : ℕ) → List Block
 blocks_from r is_before_held distance zero = []
 blocks_from r is_before_held distance (suc many) =
-    if is_held_ahead r distance && not is_before_held
-    then block_from r distance many ∷ blocks_from r true (distance + 1) many
-    else blocks_from r (is_held_ahead r distance) (distance + 1) many
+    (if is_held_ahead r distance && not is_before_held then block_from r distance many ∷ [] else [])
+    ++ blocks_from r (is_held_ahead r distance) (distance + 1) many
 
 -- the chunk behind the cumulative TSN isn't held: the first block begins at a distance of 2, or later
 abbrev pub blocks : Receiver → List Block

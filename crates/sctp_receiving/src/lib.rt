@@ -2,13 +2,20 @@
 //! it come, fragments put together, and what a SACK says.
 #![tactic(auto)]
 
+pub(crate) mod assembly;
 pub mod block;
+pub mod laws;
 pub mod limits;
 pub mod piece;
+pub(crate) mod place;
+pub mod receiver;
 pub mod standing;
+pub mod told;
 pub mod violation;
 
 pub use block::Block;
 pub use piece::Piece;
+pub use receiver::Receiver;
 pub use standing::Standing;
+pub use told::Told;
 pub use violation::Violation;

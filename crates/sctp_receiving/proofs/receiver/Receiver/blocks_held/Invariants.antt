@@ -1,0 +1,7 @@
+use Rattle.std.proofs.Common.{◌≡◌, ◌≤◌, ◌-◌, ◌++◌, take}
+use Rattle.sctp_receiving.specs.Sack.{blocks, blocks_from}
+use Rattle.sctp_receiving.proofs.receiver.Receiver.blocks_held.Given as goal
+
+abbrev pub invariant-loop-ahead : goal.invariant-loop-ahead
+invariant-loop-ahead l =
+    take 100 (l.blocks.items ++ blocks_from l.self l.is_before_held l.ahead (257 - l.ahead)) ≡ blocks l.self

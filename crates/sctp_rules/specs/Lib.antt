@@ -1,0 +1,13 @@
+pub mod Settings
+pub mod Timing
+pub mod Sender
+pub mod Sacks
+pub mod State
+pub mod Ending
+pub mod Opening
+pub mod Shutdown
+pub mod Data
+pub mod Packets
+pub mod Timers
+pub mod Sending
+pub mod Endpoint

@@ -1,0 +1,410 @@
+-- How an association begins: the handshake of four ways (RFC 9260 §5).
+use Rattle.std.specs.Prelude.{ℕ, Bool, true, false, not, ◌+◌, ◌-◌, ◌*◌, ◌^◌, ◌&&◌, ◌||◌, List, [], ◌∷◌, ◌++◌, Option}
+use Rattle.std.specs.Prelude.{Some, None, map, min, nat_eq, nat_lt, nat_le, if◌then◌else◌}
+use Rattle.sctp_receiving.specs.Receiver.{first_receiver}
+use Rattle.sctp_codec.specs.Items.{ItemValue}
+use Rattle.sctp_codec.specs.Packets.{ChunkValue, InitValue, InitChunk, InitAckChunk, ErrorChunk, CookieEchoChunk}
+use Rattle.sctp_codec.specs.Packets.{CookieAckChunk, ShutdownAckChunk}
+use Rattle.sctp_codec.specs.Parameters.{CauseValue, StaleCookie, UnresolvableAddress, InvalidParameter}
+use Rattle.sctp_codec.specs.Parameters.{CookieInShutdown}
+use Rattle.sctp_codec.specs.Parameters.{UnrecognizedParameters, cause_item, cookie_in, has_host_name, reported_in}
+use Rattle.sctp_codec.specs.Parameters.{fitting, reporting, state_cookie, has_stale_cookie}
+use Rattle.sctp_rules.specs.declared.limits.TheConstants.{STREAMS, WINDOW}
+use Rattle.sctp_rules.specs.declared.phase.Phase.{Phase}
+use Rattle.sctp_rules.specs.declared.phase.Phase.TheVariants.{Closed, CookieWait, CookieEchoed, Established}
+use Rattle.sctp_rules.specs.declared.phase.Phase.TheVariants.{ShutdownPending, ShutdownSent, ShutdownReceived}
+use Rattle.sctp_rules.specs.declared.phase.Phase.TheVariants.{ShutdownAckSent}
+use Rattle.sctp_rules.specs.declared.loss.Loss.TheVariants.{NoAnswer, Restart, BadInitAck, NoTag}
+use Rattle.sctp_rules.specs.declared.loss.Loss.TheVariants.{StaleCookie as StaleTooOften}
+use Rattle.sctp_rules.specs.Settings.{Settings, Address, Cookie, Beginning, Secrets}
+use Rattle.sctp_rules.specs.Timing.{first_timing, backed_off}
+use Rattle.sctp_rules.specs.Sender.{first_sender}
+use Rattle.sctp_rules.specs.State.{Peer, Try, Association, State, Told, Up, Done, silent, followed_by, no_association}
+use Rattle.sctp_rules.specs.State.{with_association, put}
+use Rattle.sctp_rules.specs.Ending.{with_answer_first, answered, ended, abort_for}
+
+-- ---- the states before there is an association
+
+abbrev pub is_closed : Phase → Bool
+is_closed Closed = true
+is_closed CookieWait = false
+is_closed CookieEchoed = false
+is_closed Established = false
+is_closed ShutdownPending = false
+is_closed ShutdownSent = false
+is_closed ShutdownReceived = false
+is_closed ShutdownAckSent = false
+
+abbrev pub is_waiting : Phase → Bool
+is_waiting Closed = false
+is_waiting CookieWait = true
+is_waiting CookieEchoed = false
+is_waiting Established = false
+is_waiting ShutdownPending = false
+is_waiting ShutdownSent = false
+is_waiting ShutdownReceived = false
+is_waiting ShutdownAckSent = false
+
+abbrev pub is_echoed : Phase → Bool
+is_echoed Closed = false
+is_echoed CookieWait = false
+is_echoed CookieEchoed = true
+is_echoed Established = false
+is_echoed ShutdownPending = false
+is_echoed ShutdownSent = false
+is_echoed ShutdownReceived = false
+is_echoed ShutdownAckSent = false
+
+-- ---- what an end says of itself
+
+-- the room for what an INIT had and isn't known, in its INIT ACK
+abbrev pub report_octets : ℕ
+report_octets = 512
+
+abbrev pub init_of : Beginning → List ItemValue → InitValue
+init_of b parameters = record {
+  tag = b.tag;
+  window = WINDOW;
+  outgoing = STREAMS;
+  incoming = STREAMS;
+  first_tsn = b.first;
+  parameters = parameters;
+}
+
+abbrev pub peer_of : InitValue → Peer
+peer_of init = record { first = init.first_tsn; window = init.window }
+
+-- it wants, or takes, fewer streams than there are to be
+abbrev pub has_few_streams : InitValue → Bool
+has_few_streams init = nat_lt (min init.outgoing init.incoming) STREAMS
+
+-- ---- a try (§5.1)
+
+-- INIT or COOKIE ECHO goes out, and T1 is started; INIT has the tag 0 (§8.5.1)
+abbrev pub tag_of_try : Association → ℕ
+tag_of_try a = if nat_eq a.far_tag 0 then 0 else a.far_tag
+
+abbrev pub trying_with : Settings → (now failures : ℕ) → List ChunkValue → State → Done
+trying_with c now failures chunks s =
+    let a = s.association in
+    put c a.address (tag_of_try a) chunks
+    (with_association s (record a {
+      trying = Some (record { chunks = chunks; failures = failures; t1 = now + a.sender.timing.rto });
+    }))
+
+-- a try begins, with a tag and a first TSN of its own: INIT, and COOKIE-WAIT (§5.1 A)
+abbrev pub begun_with : Settings → (now failures : ℕ) → Address → Option Beginning → State → Done
+begun_with c now failures address None s = ended c NoTag s
+begun_with c now failures address (Some b) s =
+    trying_with c now failures (InitChunk (init_of b []) ∷ [])
+    (record s {
+      is_wanted = true;
+      beginnings = s.beginnings + 1;
+      association = record (no_association c) {
+        phase = CookieWait;
+        own_tag = b.tag;
+        own_first = b.first;
+        address = address;
+      };
+    })
+
+abbrev pub begun : Settings → Secrets → (now failures : ℕ) → Address → State → Done
+begun c k now failures address s = begun_with c now failures address (k.beginning s.beginnings) s
+
+-- a try begins anew: the generation grows
+abbrev pub begun_anew : Settings → Secrets → (now failures : ℕ) → Address → State → Done
+begun_anew c k now failures address s =
+    begun c k now failures address (record s { generation = s.generation + 1 })
+
+-- the user wants an association from now on, and this end tries to open one, or waits for its peer to do so. That is
+-- refused where there is one, or a try of one; an end that waits may begin to try
+abbrev pub may_open : (is_active : Bool) → State → Bool
+may_open is_active s = is_closed s.association.phase && (is_active || not s.is_wanted)
+
+abbrev pub open : Settings → Secrets → (now : ℕ) → (is_active : Bool) → State → Done
+open c k now is_active s =
+    if may_open is_active s
+    then (if is_active then begun c k now 0 c.address s else silent (record s { is_wanted = true }))
+    else silent s
+
+-- T1-init or T1-cookie runs out: the same goes out again, RTO doubled, up to Max.Init.Retransmits times (§5.1.6)
+abbrev pub tried_again : Settings → (now : ℕ) → Try → State → Done
+tried_again c now t s =
+    if nat_lt c.init_retransmissions (t.failures + 1)
+    then ended c NoAnswer s
+    else (let a = s.association in
+    trying_with c now (t.failures + 1) t.chunks
+    (with_association s (record a { sender = record a.sender { timing = backed_off c a.sender.timing } })))
+
+-- ---- INIT comes (§5.1, §5.2.1, §5.2.2)
+
+-- the cookie that an INIT is answered with: it says all that this end needs to open (§5.1.3)
+abbrev pub cookie_for : Settings → (now : ℕ) → State → Beginning → InitValue → Cookie
+cookie_for c now s b init = record {
+  made = now;
+  generation = s.generation;
+  life = c.cookie_life;
+  own_tag = b.tag;
+  far_tag = init.tag;
+  own_first = b.first;
+  far_first = init.first_tsn;
+  window = init.window;
+  outgoing = init.outgoing;
+  incoming = init.incoming;
+  own_tie = s.association.own_tag;
+  far_tie = s.association.far_tag;
+  port = c.far_port;
+}
+
+-- the cookie, and what INIT had that isn't known
+abbrev pub answer_parameters : Secrets → Cookie → InitValue → List ItemValue
+answer_parameters k cookie init =
+    record { kind = state_cookie; value = k.signed cookie }
+    ∷ fitting report_octets (map reporting (reported_in init.parameters))
+
+-- INIT ACK, with this tag and first TSN
+abbrev pub answered_with : Settings → Secrets → (now : ℕ) → Address → InitValue → Beginning → State → Done
+answered_with c k now source init b s =
+    put c source init.tag
+    (InitAckChunk (init_of b (answer_parameters k (cookie_for c now s b init) init)) ∷ []) s
+
+-- the same with a new tag and first TSN; nothing else is kept. Where no tag is left there is no answer
+abbrev pub answered_anew_with : Settings → Secrets → (now : ℕ) → Address → InitValue → Option Beginning → State → Done
+answered_anew_with c k now source init None s = silent s
+answered_anew_with c k now source init (Some b) s =
+    answered_with c k now source init b (record s { beginnings = s.beginnings + 1 })
+
+abbrev pub answered_anew : Settings → Secrets → (now : ℕ) → Address → InitValue → State → Done
+answered_anew c k now source init s = answered_anew_with c k now source init (k.beginning s.beginnings) s
+
+-- both ends began: the tag and the first TSN of the own INIT (§5.2.1)
+abbrev pub own_beginning : Association → Beginning
+own_beginning a = record { tag = a.own_tag; first = a.own_first }
+
+abbrev pub answered_alike : Settings → Secrets → (now : ℕ) → Address → InitValue → State → Done
+answered_alike c k now source init s = answered_with c k now source init (own_beginning s.association) s
+
+abbrev pub answered_if_trying : Settings → Secrets → (now : ℕ) → Address → InitValue → State → Done
+answered_if_trying c k now source init s =
+    if is_waiting s.association.phase then answered_alike c k now source init s else silent s
+
+-- an INIT of the peer that this end has echoed the cookie of; or of one that has begun anew since, and may have had an
+-- association with this end's tag: then this end begins anew, too
+abbrev pub answered_echoed : Settings → Secrets → (now : ℕ) → Address → InitValue → State → Done
+answered_echoed c k now source init s =
+    if nat_eq init.tag s.association.far_tag
+    then answered_alike c k now source init s
+    else followed_by (begun_anew c k now 0 s.association.address s) (answered_if_trying c k now source init)
+
+-- by the state
+abbrev pub init_in : Phase → Settings → Secrets → (now : ℕ) → Address → InitValue → State → Done
+init_in Closed c k now source init s = if s.is_wanted then answered_anew c k now source init s else silent s
+init_in CookieWait c k now source init s = answered_alike c k now source init s
+init_in CookieEchoed c k now source init s = answered_echoed c k now source init s
+init_in Established c k now source init s = answered_anew c k now source init s
+init_in ShutdownPending c k now source init s = answered_anew c k now source init s
+init_in ShutdownSent c k now source init s = answered_anew c k now source init s
+init_in ShutdownReceived c k now source init s = answered_anew c k now source init s
+init_in ShutdownAckSent c k now source init s =
+    put c s.association.address s.association.far_tag (ShutdownAckChunk ∷ []) s
+
+-- an INIT without a tag is dropped (§3.3.2); one with a host name, or with too few streams, is refused
+abbrev pub heard_init : Settings → Secrets → (now : ℕ) → Address → InitValue → State → Done
+heard_init c k now source init s =
+    if nat_eq init.tag 0
+    then silent s
+    else (if has_host_name init.parameters
+    then put c source init.tag (abort_for (UnresolvableAddress []) ∷ []) s
+    else (if has_few_streams init
+    then put c source init.tag (abort_for InvalidParameter ∷ []) s
+    else init_in s.association.phase c k now source init s))
+
+-- ---- INIT ACK comes (§5.1 C)
+
+-- COOKIE ECHO, with an ERROR behind it where INIT ACK had what isn't known
+abbrev pub echo_of : List ℕ → List ItemValue → List ChunkValue
+echo_of cookie [] = CookieEchoChunk cookie ∷ []
+echo_of cookie (item ∷ items) =
+    CookieEchoChunk cookie ∷ ErrorChunk (cause_item (UnrecognizedParameters (item ∷ items)) ∷ []) ∷ []
+
+-- COOKIE-ECHOED; T1-cookie counts on
+abbrev pub echoed : Settings → (now failures : ℕ) → InitValue → List ℕ → State → Done
+echoed c now failures init cookie s =
+    let a = s.association in
+    trying_with c now failures (echo_of cookie (fitting report_octets (reported_in init.parameters)))
+    (with_association s (record a {
+      phase = CookieEchoed;
+      far_tag = init.tag;
+      peer = peer_of init;
+      sender = record a.sender { timing = first_timing c };
+    }))
+
+-- one that can't be used: the try ends, and the peer is told
+abbrev pub refused : Settings → InitValue → State → Done
+refused c init s =
+    if nat_eq init.tag 0
+    then ended c BadInitAck s
+    else followed_by (put c s.association.address init.tag (abort_for InvalidParameter ∷ []) s)
+        (λ left. ended c BadInitAck left)
+
+abbrev pub is_usable : InitValue → Bool
+is_usable init = not (nat_eq init.tag 0) && not (has_few_streams init) && not (has_host_name init.parameters)
+
+abbrev pub echoed_if : Settings → (now : ℕ) → InitValue → Option Try → Option (List ℕ) → State → Done
+echoed_if c now init (Some t) (Some cookie) s =
+    if is_usable init then echoed c now t.failures init cookie s else refused c init s
+echoed_if c now init None cookie s = silent s
+echoed_if c now init (Some t) None s = refused c init s
+
+-- only in COOKIE-WAIT: else it is dropped (§5.2.3)
+abbrev pub heard_init_ack : Settings → (now : ℕ) → InitValue → State → Done
+heard_init_ack c now init s =
+    if is_waiting s.association.phase
+    then echoed_if c now init s.association.trying (cookie_in init.parameters) s
+    else silent s
+
+-- ---- the association is there
+
+-- everything but the tags begins anew; heartbeats begin; Up is told
+abbrev pub opened : Settings → (now : ℕ) → (own_tag far_tag own_first : ℕ) → Peer → Address → State → Done
+opened c now own_tag far_tag own_first peer address s = record {
+  sent = [];
+  told = Up ∷ [];
+  left = record s {
+    generation = s.generation + 1;
+    association = record (no_association c) {
+      phase = Established;
+      is_up = true;
+      own_tag = own_tag;
+      far_tag = far_tag;
+      own_first = own_first;
+      peer = peer;
+      address = address;
+      sender = first_sender c own_first peer.window;
+      receiver = first_receiver STREAMS peer.first;
+      beat_due = Some (now + c.heartbeat + c.first_rto);
+    };
+  };
+}
+
+-- COOKIE ACK comes (§5.1 E)
+abbrev pub heard_cookie_ack : Settings → (now : ℕ) → State → Done
+heard_cookie_ack c now s =
+    let a = s.association in
+    if is_echoed a.phase
+    then opened c now a.own_tag a.far_tag a.own_first a.peer a.address s
+    else silent s
+
+-- ---- COOKIE ECHO comes (§5.1 D, §5.1.5, §5.2.4)
+
+abbrev pub is_own : Cookie → Association → Bool
+is_own cookie a = nat_eq cookie.own_tag a.own_tag
+
+abbrev pub is_far : Cookie → Association → Bool
+is_far cookie a = nat_eq cookie.far_tag a.far_tag
+
+abbrev pub is_tied : Cookie → Association → Bool
+is_tied cookie a = nat_eq cookie.own_tie a.own_tag && nat_eq cookie.far_tie a.far_tag
+
+-- what becomes of a packet that begins with COOKIE ECHO: what the cookie does, and whether the chunks behind it belong
+-- to the association
+pub record Echo : Type 0 where
+  pub does : Done
+  pub goes_on : Bool
+
+abbrev pub stops : Done → Echo
+stops d = record { does = d; goes_on = false }
+
+-- it opens: COOKIE ACK, and Up
+abbrev pub opened_by : Settings → (now : ℕ) → Address → Cookie → State → Echo
+opened_by c now source cookie s = record {
+  does = followed_by
+      (opened c now cookie.own_tag cookie.far_tag cookie.own_first
+      (record { first = cookie.far_first; window = cookie.window }) source s)
+      (λ left. silent (answered CookieAckChunk left));
+  goes_on = true;
+}
+
+-- both tags are those of the association: the COOKIE ACK was lost (case D)
+abbrev pub acknowledged_again : State → Echo
+acknowledged_again s = record {
+  does = silent (with_association s (with_answer_first CookieAckChunk s.association));
+  goes_on = true;
+}
+
+-- ERROR: the cookie opens nothing any more, and the peer is to send a new INIT (§5.2.6)
+abbrev pub stale : Settings → Address → (microseconds : ℕ) → Cookie → State → Done
+stale c source microseconds cookie s =
+    put c source cookie.far_tag (ErrorChunk (cause_item (StaleCookie microseconds) ∷ []) ∷ []) s
+
+-- the peer has begun anew: the association is lost, and the user must want the next one first (case A)
+abbrev pub restarted : Phase → Settings → Address → Cookie → State → Done
+restarted ShutdownAckSent c source cookie s =
+    put c source cookie.far_tag (ShutdownAckChunk ∷ ErrorChunk (cause_item CookieInShutdown ∷ []) ∷ []) s
+restarted phase c source cookie s = followed_by (ended c Restart s) (stale c source 1 cookie)
+
+-- where there is an association
+abbrev pub echo_in_association : Phase → Settings → Address → Cookie → State → Echo
+echo_in_association phase c source cookie s =
+    if not (is_own cookie s.association) && not (is_far cookie s.association) && is_tied cookie s.association
+    then stops (restarted phase c source cookie s)
+    else stops (silent s)
+
+-- a good cookie, by the state (§5.2.4). In COOKIE-WAIT its own tag has to be that of the try, and in COOKIE-ECHOED the
+-- peer's, too: another one is of a try that the peer gave up
+abbrev pub good_echo_in : Phase → Settings → (now : ℕ) → Address → Cookie → State → Echo
+good_echo_in Closed c now source cookie s =
+    if s.is_wanted then opened_by c now source cookie s else stops (silent s)
+good_echo_in CookieWait c now source cookie s =
+    if is_own cookie s.association then opened_by c now source cookie s else stops (silent s)
+good_echo_in CookieEchoed c now source cookie s =
+    if is_own cookie s.association && is_far cookie s.association
+    then opened_by c now source cookie s
+    else stops (silent s)
+good_echo_in phase c now source cookie s = echo_in_association phase c source cookie s
+
+abbrev pub is_there : Phase → Bool
+is_there phase = not (is_closed phase || is_waiting phase || is_echoed phase)
+
+-- how long a cookie was too old, in microseconds, as far as there is a number for it
+abbrev pub staleness : (now : ℕ) → Cookie → ℕ
+staleness now cookie = min (1000 * (now - cookie.made - cookie.life)) (2 ^ 32 - 1)
+
+-- a cookie is good within its life, and in its generation: it opens one association at most
+abbrev pub heard_cookie : Settings → (now : ℕ) → Address → Cookie → State → Echo
+heard_cookie c now source cookie s =
+    if is_there s.association.phase && is_own cookie s.association && is_far cookie s.association
+    then acknowledged_again s
+    else (if nat_lt cookie.life (now - cookie.made)
+    then stops (stale c source (staleness now cookie) cookie s)
+    else (if nat_eq cookie.generation s.generation
+    then good_echo_in s.association.phase c now source cookie s
+    else stops (stale c source 1 cookie s)))
+
+-- its signature has to be right, and its own tag and port have to be the packet's
+abbrev pub heard_echo_of : Option Cookie → Settings → (now tag : ℕ) → Address → State → Echo
+heard_echo_of None c now tag source s = stops (silent s)
+heard_echo_of (Some cookie) c now tag source s =
+    if nat_eq cookie.own_tag tag && nat_eq cookie.port c.far_port
+    then heard_cookie c now source cookie s
+    else stops (silent s)
+
+abbrev pub heard_cookie_echo : Settings → Secrets → (now tag : ℕ) → Address → List ℕ → State → Echo
+heard_cookie_echo c k now tag source cookie s = heard_echo_of (k.cookie_in cookie) c now tag source s
+
+-- ---- ERROR comes (§5.2.6, §8.4)
+
+abbrev pub begun_after_stale : Settings → Secrets → (now : ℕ) → Option Try → State → Done
+begun_after_stale c k now None s = silent s
+begun_after_stale c k now (Some t) s =
+    if nat_lt c.init_retransmissions (t.failures + 1)
+    then ended c StaleTooOften s
+    else begun_anew c k now (t.failures + 1) c.address s
+
+-- in COOKIE-ECHOED, that the cookie was stale: the try begins anew, and its failures count on. Other causes say nothing
+-- here
+abbrev pub heard_error : Settings → Secrets → (now : ℕ) → List ItemValue → State → Done
+heard_error c k now causes s =
+    if is_echoed s.association.phase && has_stale_cookie causes
+    then begun_after_stale c k now s.association.trying s
+    else silent s
