@@ -32,11 +32,11 @@ same-place : (cum : ℕ) → ((cum + 1) % 2 ^ 32 + 256) % 256 ≡ (cum + 1) % 2 
 same-place cum = omega arith
 
 -- within the window each place has one TSN
-one-tsn : (cum d tsn : ℕ) → cum < 2 ^ 32 → tsn < 2 ^ 32 → 1 ≤ d → d ≤ 256 →
+pub one-tsn : (cum d tsn : ℕ) → cum < 2 ^ 32 → tsn < 2 ^ 32 → 1 ≤ d → d ≤ 256 →
     1 ≤ steps_between cum tsn → steps_between cum tsn ≤ 256 → (cum + d) % 256 ≡ tsn % 256 → tsn ≡ (cum + d) % 2 ^ 32
 one-tsn cum d tsn c t l h i j e = omega arith
 
-next-named : (cum tsn : ℕ) → cum < 2 ^ 32 → tsn < 2 ^ 32 → steps_between cum tsn ≡ 1 → tsn ≡ (cum + 1) % 2 ^ 32
+pub next-named : (cum tsn : ℕ) → cum < 2 ^ 32 → tsn < 2 ^ 32 → steps_between cum tsn ≡ 1 → tsn ≡ (cum + 1) % 2 ^ 32
 next-named cum tsn c t e = omega arith
 
 counted-on : (first n : ℕ) → ((first + 2 ^ 32 - 1 + n) % 2 ^ 32 + 1) % 2 ^ 32 ≡ (first + 2 ^ 32 - 1 + (n + 1)) % 2 ^ 32
@@ -95,13 +95,18 @@ stands-next r tsn p h =
 pub record IsEarly (r : Receiver) (tsn : ℕ) : Type 0 where
   pub above : 1 ≤ ahead r tsn
   pub within : ahead r tsn ≤ 256
+  pub free : piece_at r tsn ≡ None
 
 pub stands-early : (r : Receiver) (tsn : ℕ) (p : Piece) → standing r tsn p ≡ Early → IsEarly r tsn
 stands-early r tsn p h =
     let parts = early-only (nat_eq (ahead r tsn) 0 || nat_le (2 ^ 31) (ahead r tsn) || is_held r tsn) (nat_eq (ahead r tsn) 1) (nat_le (ahead r tsn) 256 && fits r p) h in
     let none = neither (nat_eq (ahead r tsn) 0) (nat_le (2 ^ 31) (ahead r tsn)) (is_held r tsn) parts.0 in
     let near = both (nat_le (ahead r tsn) 256) (fits r p) parts.2 in
-    record { above = grind (arith, nat_tests, none.0); within = grind (arith, nat_tests, near.0) }
+    record {
+      above = grind (arith, nat_tests, none.0);
+      within = grind (arith, nat_tests, near.0);
+      free = nothing-there (piece_at r tsn) (and-no (nat_le (ahead r tsn) 256) (is_some (piece_at r tsn)) none.2 near.0);
+    }
 
 -- ---- chunks that are put together
 
@@ -120,13 +125,13 @@ partial-more streams partial (x ∷ xs) chunk = partial-more streams (consume st
 -- ---- lists
 
 -- two places are the same, or they aren't
-apart : (m n : ℕ) → (m ≡ n) ⊎ (m ≢ n)
+pub apart : (m n : ℕ) → (m ≡ n) ⊎ (m ≢ n)
 apart m n = elim (cases_lt m n) [
-    inl below ↦ inr (λ e. omega (arith, below, e))
+  | inl below ↦ inr (λ e. omega (arith, below, e))
   | inr above ↦ elim (cases_lt n m) [ inl over ↦ inr (λ e. omega (arith, over, e)) | inr under ↦ inl (omega (arith, above, under)) ]
-  ]
+]
 
-abbrev chunk_of : ℕ → Piece → Chunk
+abbrev pub chunk_of : ℕ → Piece → Chunk
 chunk_of tsn p = record { tsn = tsn; piece = p }
 
 single : (x : Chunk) → Contains (x ∷ []) x
@@ -136,7 +141,7 @@ only : (P : Chunk → Type 0) (x : Chunk) → P x → All P (x ∷ [])
 only P x h zero d l = h
 only P x h (suc k) d l = absurd (omega (arith, l))
 
-last_of : (came : List Chunk) (x : Chunk) → Contains (came ++ x ∷ []) x
+pub last_of : (came : List Chunk) (x : Chunk) → Contains (came ++ x ∷ []) x
 last_of came x = Contains-append_right came (x ∷ []) x (single x)
 
 -- ---- what holds of every course
@@ -199,7 +204,7 @@ kept : (held : List (Option Piece)) (cum tsn : ℕ) (p : Piece) (came : List Chu
 kept held cum tsn p came long c t low high h = record {
   came_so = λ d q l m e.
       elim (apart ((cum + d) % 256) (tsn % 256)) [
-        inl same ↦
+        | inl same ↦
             let here : get_or (set held (tsn % 256) (Some p)) ((cum + d) % 256) None ≡ Some p =
             get_or-set_at held (tsn % 256) ((cum + d) % 256) (Some p) None same (omega (arith, long)) in
             let alike : Some p ≡ Some q = sym here ∙ e in
@@ -208,7 +213,7 @@ kept held cum tsn p came long c t low high h = record {
             let chunk : chunk_of tsn p ≡ chunk_of ((cum + d) % 2 ^ 32) q =
             ap (λ (n : ℕ). chunk_of n p) number ∙ ap (λ (x : Piece). chunk_of ((cum + d) % 2 ^ 32) x) piece in
             subst (λ (x : Chunk). Contains (came ++ chunk_of tsn p ∷ []) x) chunk (last_of came (chunk_of tsn p))
-      | inr other ↦
+        | inr other ↦
             let there : get_or held ((cum + d) % 256) None ≡ Some q =
             sym (get_or-set_other held (tsn % 256) ((cum + d) % 256) (Some p) None other) ∙ e in
             Contains-append_left came (chunk_of tsn p ∷ []) (chunk_of ((cum + d) % 2 ^ 32) q) (h.came_so d q l m there)
@@ -221,12 +226,12 @@ cleared : (held : List (Option Piece)) (cum place : ℕ) (came : List Chunk) →
 cleared held cum place came long l h = record {
   came_so = λ d q low high e.
       elim (apart ((cum + d) % 256) place) [
-        inl same ↦
+        | inl same ↦
             let here : get_or (set held place None) ((cum + d) % 256) None ≡ None =
             get_or-set_at held place ((cum + d) % 256) None None same (omega (arith, long)) in
             let gone : None ≡ Some q = sym here ∙ e in
             absurd (cc)
-      | inr other ↦
+        | inr other ↦
             h.came_so d q low high (sym (get_or-set_other held place ((cum + d) % 256) None None other) ∙ e)
       ];
 }
@@ -253,7 +258,7 @@ arrived-so streams first c chunk s = record {
   holds = more-came c.receiver.held c.receiver.cumulative c.came chunk s.holds;
 }
 
-cum-fits : (streams first : ℕ) (c : Course) → IsCourse streams first c → c.receiver.cumulative < 2 ^ 32
+pub cum-fits : (streams first : ℕ) (c : Course) → IsCourse streams first c → c.receiver.cumulative < 2 ^ 32
 cum-fits streams first c s = omega (arith, s.cumulative_so)
 
 -- a TSN that came again is noted: nothing else changes
@@ -313,7 +318,7 @@ takes-so (Some p) streams first c e s =
     (length-set c.receiver.held ((cum + 1) % 2 ^ 32 % 256) None ∙ s.places)
     (nearer left cum c.came (cleared c.receiver.held cum ((cum + 1) % 2 ^ 32 % 256) c.came s.places (omega arith) s.holds) free)
 
-call-so : (call : Call) (streams first : ℕ) (c : Course) → IsCall call → IsCourse streams first c →
+pub call-so : (call : Call) (streams first : ℕ) (c : Course) → IsCall call → IsCourse streams first c →
     IsCourse streams first (after_call call c)
 call-so (Hears chunk) streams first c t s =
     hears-so (standing c.receiver chunk.tsn chunk.piece) streams first c chunk t refl s

@@ -1,3 +1,4 @@
 pub mod Courses
 pub mod Blocks
 pub mod Holding
+pub mod Kept

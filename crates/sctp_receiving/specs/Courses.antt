@@ -1,11 +1,12 @@
 -- A receiver under any list of calls, of any peer whatever.
-use Rattle.std.specs.Prelude.{◌≡◌, ℕ, zero, suc, ◌+◌, ◌%◌, ◌<◌, Bool, true, List, [], ◌∷◌, ◌++◌, Option, Some, None}
-use Rattle.std.specs.Prelude.{◌⊎◌, All, length, map}
+use Rattle.std.specs.Prelude.{◌≡◌, ℕ, zero, suc, ◌+◌, ◌%◌, ◌<◌, ◌≤◌, List, [], ◌∷◌, ◌++◌, Option, Some, None}
+use Rattle.std.specs.Prelude.{All, length, map}
 use Rattle.std.specs.List.{Contains}
 use Rattle.sctp_receiving.specs.Tsn.{modulus, next_tsn}
+use Rattle.sctp_receiving.specs.declared.limits.TheConstants.{CHUNKS}
 use Rattle.sctp_receiving.specs.Pieces.{Piece, Partial}
 use Rattle.sctp_receiving.specs.Consuming.{Told, consume}
-use Rattle.sctp_receiving.specs.Receiver.{Receiver, Step, first_receiver, piece_at, ahead, is_held, standing, heard_as}
+use Rattle.sctp_receiving.specs.Receiver.{Receiver, Step, first_receiver, piece_at, ahead, standing, heard_as}
 use Rattle.sctp_receiving.specs.Receiver.{next_held, taken_next}
 use Rattle.sctp_receiving.specs.declared.standing.Standing.{Standing}
 use Rattle.sctp_receiving.specs.declared.standing.Standing.TheVariants.{Next, Early, Again, Beyond}
@@ -114,11 +115,15 @@ consumed_in_order =
 
 -- ---- what is held
 
+-- a chunk is held: its TSN is ahead, within the window, and it is in its place
+pub record IsHeld (r : Receiver) (chunk : Chunk) : Type 0 where
+  pub above : 1 ≤ ahead r chunk.tsn
+  pub within : ahead r chunk.tsn ≤ CHUNKS
+  pub there : piece_at r chunk.tsn ≡ Some chunk.piece
+
 -- a chunk that is held stays so until it is consumed
 pub data IsKept (c : Course) (chunk : Chunk) : Type 0 where
-  held :
-      0 < ahead c.receiver chunk.tsn → is_held c.receiver chunk.tsn ≡ true →
-      piece_at c.receiver chunk.tsn ≡ Some chunk.piece → IsKept c chunk
+  held : IsHeld c.receiver chunk → IsKept c chunk
   consumed : Contains c.consumed chunk → IsKept c chunk
 
 abbrev pub nothing_held_is_dropped : Type 0

@@ -19,9 +19,9 @@ use Rattle.sctp_rules.specs.declared.phase.Phase.TheVariants.{ShutdownPending, S
 use Rattle.sctp_rules.specs.declared.phase.Phase.TheVariants.{ShutdownAckSent}
 use Rattle.sctp_rules.specs.declared.loss.Loss.TheVariants.{Protocol}
 use Rattle.sctp_rules.specs.Settings.{Settings}
-use Rattle.sctp_rules.specs.Timing.{measured}
-use Rattle.sctp_rules.specs.Sender.{Sender}
-use Rattle.sctp_rules.specs.Sacks.{is_old, is_beyond, heard_sack, confirms_some}
+use Rattle.sctp_sending.specs.RoundTrips.{after_measured}
+use Rattle.sctp_sending.specs.Sending.{Sending, confirmation}
+use Rattle.sctp_rules.specs.Confirming.{confirms_beyond, is_old, with_sack, confirms_some}
 use Rattle.sctp_rules.specs.State.{Beat, Association, State, Heard, Done, silent, followed_by, with_association}
 use Rattle.sctp_rules.specs.Ending.{answered, aborted, violation}
 use Rattle.sctp_rules.specs.Opening.{is_there}
@@ -117,25 +117,25 @@ takes_sack ShutdownReceived = true
 takes_sack ShutdownAckSent = false
 
 -- a SACK that confirms something counts as an answer, and so does one of a peer whose window is shut
-abbrev pub answers : Settings → (now : ℕ) → SackValue → Sender → Bool
-answers c now sack s = confirms_some c now sack s || nat_lt sack.window SHUT_WINDOW
+abbrev pub answers : (now : ℕ) → SackValue → Sending → Bool
+answers now sack s = confirms_some now sack s || nat_lt sack.window SHUT_WINDOW
 
-abbrev pub with_sack : Settings → (now : ℕ) → SackValue → State → State
-with_sack c now sack s =
+abbrev pub after_sack : (now : ℕ) → SackValue → State → State
+after_sack now sack s =
     let a = s.association in
     with_association s (record a {
-      sender = heard_sack c now sack a.sender;
-      failures = if answers c now sack a.sender then 0 else a.failures;
+      sender = with_sack now sack a.sender;
+      failures = if answers now sack a.sender then 0 else a.failures;
     })
 
 -- an old one is dropped; one that confirms what wasn't sent is a violation
 abbrev pub heard_sack_of : Settings → (now : ℕ) → SackValue → State → Done
 heard_sack_of c now sack s =
-    if is_old s.association.sender sack.cumulative
+    if is_old (confirmation s.association.sender sack.cumulative)
     then silent s
-    else (if is_beyond s.association.sender sack.cumulative
+    else (if confirms_beyond s.association.sender sack.cumulative
     then aborted c Protocol violation s
-    else silent (going_on c now (with_sack c now sack s)))
+    else silent (going_on c now (after_sack now sack s)))
 
 abbrev pub heard_sack_chunk : Settings → (now : ℕ) → SackValue → State → Done
 heard_sack_chunk c now sack s =
@@ -151,12 +151,12 @@ heard_heartbeat information s =
 abbrev pub beat_answered : Settings → (now : ℕ) → Beat → State → State
 beat_answered c now beat s =
     let a = s.association in
-    let timing = measured c (now - beat.sent) a.sender.timing in
+    let trips = after_measured a.sender.round_trips (now - beat.sent) in
     with_association s (record a {
-      sender = record a.sender { timing = timing };
+      sender = record a.sender { round_trips = trips };
       failures = 0;
       beat = None;
-      beat_due = Some (now + c.heartbeat + timing.rto);
+      beat_due = Some (now + c.heartbeat + trips.timeout);
     })
 
 abbrev pub heard_answer_to : Option Beat → Settings → (now : ℕ) → List ℕ → State → Done

@@ -1,11 +1,11 @@
 -- The endpoint: what becomes of all that can happen to it.
 use Rattle.std.specs.Prelude.{ℕ, Bool, List, [], ◌∷◌}
-use Rattle.sctp_receiving.specs.Pieces.{Message}
+use Rattle.sctp_sending.specs.Outgoing.{Message}
 use Rattle.sctp_codec.specs.Packets.{PacketValue}
 use Rattle.sctp_rules.specs.Settings.{Settings, Secrets, Address}
 use Rattle.sctp_rules.specs.State.{State, Done, silent, followed_by}
 use Rattle.sctp_rules.specs.Ending.{abort}
-use Rattle.sctp_rules.specs.Opening.{open}
+use Rattle.sctp_rules.specs.Opening.{opening}
 use Rattle.sctp_rules.specs.Shutdown.{shutdown}
 use Rattle.sctp_rules.specs.Packets.{heard}
 use Rattle.sctp_rules.specs.Timers.{ticked}
@@ -28,7 +28,7 @@ pub data Happening : Type 0 where
   Flushes : (now : ℕ) → Happening
 
 unfoldable pub after : Settings → Secrets → Happening → State → Done
-after c k (Opens now is_active) s = open c k now is_active s
+after c k (Opens now is_active) s = opening c k now is_active s
 after c k (Came now source packet) s = heard c k now source packet s
 after c k (Ticked now) s = ticked c k now s
 after c k (Sends message) s = silent (send message s)

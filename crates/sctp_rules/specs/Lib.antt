@@ -1,7 +1,5 @@
 pub mod Settings
-pub mod Timing
-pub mod Sender
-pub mod Sacks
+pub mod Confirming
 pub mod State
 pub mod Ending
 pub mod Opening
@@ -11,3 +9,5 @@ pub mod Packets
 pub mod Timers
 pub mod Sending
 pub mod Endpoint
+pub mod Rows
+pub mod Telling

@@ -16,9 +16,10 @@ use Rattle.sctp_rules.specs.declared.phase.Phase.TheVariants.{ShutdownPending, S
 use Rattle.sctp_rules.specs.declared.phase.Phase.TheVariants.{ShutdownAckSent}
 use Rattle.sctp_rules.specs.declared.loss.Loss.TheVariants.{NoAnswer, Restart, BadInitAck, NoTag}
 use Rattle.sctp_rules.specs.declared.loss.Loss.TheVariants.{StaleCookie as StaleTooOften}
-use Rattle.sctp_rules.specs.Settings.{Settings, Address, Cookie, Beginning, Secrets}
-use Rattle.sctp_rules.specs.Timing.{first_timing, backed_off}
-use Rattle.sctp_rules.specs.Sender.{first_sender}
+use Rattle.sctp_cookie.specs.declared.cookie.Cookie.{Cookie}
+use Rattle.sctp_rules.specs.Settings.{Settings, Address, Beginning, Secrets}
+use Rattle.sctp_sending.specs.RoundTrips.{first_round_trips, backed_off}
+use Rattle.sctp_sending.specs.Sending.{first_sending}
 use Rattle.sctp_rules.specs.State.{Peer, Try, Association, State, Told, Up, Done, silent, followed_by, no_association}
 use Rattle.sctp_rules.specs.State.{with_association, put}
 use Rattle.sctp_rules.specs.Ending.{with_answer_first, answered, ended, abort_for}
@@ -89,7 +90,7 @@ trying_with c now failures chunks s =
     let a = s.association in
     put c a.address (tag_of_try a) chunks
     (with_association s (record a {
-      trying = Some (record { chunks = chunks; failures = failures; t1 = now + a.sender.timing.rto });
+      trying = Some (record { chunks = chunks; failures = failures; t1 = now + a.sender.round_trips.timeout });
     }))
 
 -- a try begins, with a tag and a first TSN of its own: INIT, and COOKIE-WAIT (§5.1 A)
@@ -121,8 +122,8 @@ begun_anew c k now failures address s =
 abbrev pub may_open : (is_active : Bool) → State → Bool
 may_open is_active s = is_closed s.association.phase && (is_active || not s.is_wanted)
 
-abbrev pub open : Settings → Secrets → (now : ℕ) → (is_active : Bool) → State → Done
-open c k now is_active s =
+abbrev pub opening : Settings → Secrets → (now : ℕ) → (is_active : Bool) → State → Done
+opening c k now is_active s =
     if may_open is_active s
     then (if is_active then begun c k now 0 c.address s else silent (record s { is_wanted = true }))
     else silent s
@@ -134,7 +135,7 @@ tried_again c now t s =
     then ended c NoAnswer s
     else (let a = s.association in
     trying_with c now (t.failures + 1) t.chunks
-    (with_association s (record a { sender = record a.sender { timing = backed_off c a.sender.timing } })))
+    (with_association s (record a { sender = record a.sender { round_trips = backed_off a.sender.round_trips } })))
 
 -- ---- INIT comes (§5.1, §5.2.1, §5.2.2)
 
@@ -145,15 +146,15 @@ cookie_for c now s b init = record {
   generation = s.generation;
   life = c.cookie_life;
   own_tag = b.tag;
-  far_tag = init.tag;
-  own_first = b.first;
-  far_first = init.first_tsn;
-  window = init.window;
-  outgoing = init.outgoing;
-  incoming = init.incoming;
-  own_tie = s.association.own_tag;
-  far_tie = s.association.far_tag;
-  port = c.far_port;
+  peer_tag = init.tag;
+  own_first_tsn = b.first;
+  peer_first_tsn = init.first_tsn;
+  peer_window = init.window;
+  peer_outgoing_streams = init.outgoing;
+  peer_incoming_streams = init.incoming;
+  tie_own_tag = s.association.own_tag;
+  tie_peer_tag = s.association.far_tag;
+  peer_port = c.far_port;
 }
 
 -- the cookie, and what INIT had that isn't known
@@ -236,7 +237,7 @@ echoed c now failures init cookie s =
       phase = CookieEchoed;
       far_tag = init.tag;
       peer = peer_of init;
-      sender = record a.sender { timing = first_timing c };
+      sender = record a.sender { round_trips = first_round_trips c.bounds };
     }))
 
 -- one that can't be used: the try ends, and the peer is told
@@ -245,7 +246,7 @@ refused c init s =
     if nat_eq init.tag 0
     then ended c BadInitAck s
     else followed_by (put c s.association.address init.tag (abort_for InvalidParameter ∷ []) s)
-        (λ left. ended c BadInitAck left)
+    (λ left. ended c BadInitAck left)
 
 abbrev pub is_usable : InitValue → Bool
 is_usable init = not (nat_eq init.tag 0) && not (has_few_streams init) && not (has_host_name init.parameters)
@@ -280,9 +281,9 @@ opened c now own_tag far_tag own_first peer address s = record {
       own_first = own_first;
       peer = peer;
       address = address;
-      sender = first_sender c own_first peer.window;
+      sender = first_sending c.bounds own_first peer.window;
       receiver = first_receiver STREAMS peer.first;
-      beat_due = Some (now + c.heartbeat + c.first_rto);
+      beat_due = Some (now + c.heartbeat + c.bounds.initial);
     };
   };
 }
@@ -301,10 +302,10 @@ abbrev pub is_own : Cookie → Association → Bool
 is_own cookie a = nat_eq cookie.own_tag a.own_tag
 
 abbrev pub is_far : Cookie → Association → Bool
-is_far cookie a = nat_eq cookie.far_tag a.far_tag
+is_far cookie a = nat_eq cookie.peer_tag a.far_tag
 
 abbrev pub is_tied : Cookie → Association → Bool
-is_tied cookie a = nat_eq cookie.own_tie a.own_tag && nat_eq cookie.far_tie a.far_tag
+is_tied cookie a = nat_eq cookie.tie_own_tag a.own_tag && nat_eq cookie.tie_peer_tag a.far_tag
 
 -- what becomes of a packet that begins with COOKIE ECHO: what the cookie does, and whether the chunks behind it belong
 -- to the association
@@ -319,8 +320,8 @@ stops d = record { does = d; goes_on = false }
 abbrev pub opened_by : Settings → (now : ℕ) → Address → Cookie → State → Echo
 opened_by c now source cookie s = record {
   does = followed_by
-      (opened c now cookie.own_tag cookie.far_tag cookie.own_first
-      (record { first = cookie.far_first; window = cookie.window }) source s)
+      (opened c now cookie.own_tag cookie.peer_tag cookie.own_first_tsn
+      (record { first = cookie.peer_first_tsn; window = cookie.peer_window }) source s)
       (λ left. silent (answered CookieAckChunk left));
   goes_on = true;
 }
@@ -335,12 +336,12 @@ acknowledged_again s = record {
 -- ERROR: the cookie opens nothing any more, and the peer is to send a new INIT (§5.2.6)
 abbrev pub stale : Settings → Address → (microseconds : ℕ) → Cookie → State → Done
 stale c source microseconds cookie s =
-    put c source cookie.far_tag (ErrorChunk (cause_item (StaleCookie microseconds) ∷ []) ∷ []) s
+    put c source cookie.peer_tag (ErrorChunk (cause_item (StaleCookie microseconds) ∷ []) ∷ []) s
 
 -- the peer has begun anew: the association is lost, and the user must want the next one first (case A)
 abbrev pub restarted : Phase → Settings → Address → Cookie → State → Done
 restarted ShutdownAckSent c source cookie s =
-    put c source cookie.far_tag (ShutdownAckChunk ∷ ErrorChunk (cause_item CookieInShutdown ∷ []) ∷ []) s
+    put c source cookie.peer_tag (ShutdownAckChunk ∷ ErrorChunk (cause_item CookieInShutdown ∷ []) ∷ []) s
 restarted phase c source cookie s = followed_by (ended c Restart s) (stale c source 1 cookie)
 
 -- where there is an association
@@ -385,7 +386,7 @@ heard_cookie c now source cookie s =
 abbrev pub heard_echo_of : Option Cookie → Settings → (now tag : ℕ) → Address → State → Echo
 heard_echo_of None c now tag source s = stops (silent s)
 heard_echo_of (Some cookie) c now tag source s =
-    if nat_eq cookie.own_tag tag && nat_eq cookie.port c.far_port
+    if nat_eq cookie.own_tag tag && nat_eq cookie.peer_port c.far_port
     then heard_cookie c now source cookie s
     else stops (silent s)
 

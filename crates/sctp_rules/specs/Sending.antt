@@ -1,6 +1,8 @@
 -- Messages that are taken, and packets that go out (RFC 9260 §6.1, §6.10).
 use Rattle.std.specs.Prelude.{ℕ, Bool, true, false, ◌+◌, ◌&&◌, ◌||◌, List, [], ◌∷◌, ◌++◌, map, nat_lt, if◌then◌else◌}
-use Rattle.sctp_receiving.specs.Pieces.{Message}
+use Rattle.sctp_sending.specs.Outgoing.{Message}
+use Rattle.sctp_sending.specs.Sending.{given}
+use Rattle.sctp_sending.specs.Sending as half
 use Rattle.sctp_codec.specs.Packets.{ChunkValue, DataChunk}
 use Rattle.sctp_rules.specs.declared.limits.TheConstants.{PACKET_OCTETS, HEADER_OCTETS}
 use Rattle.sctp_rules.specs.declared.phase.Phase.{Phase}
@@ -8,8 +10,7 @@ use Rattle.sctp_rules.specs.declared.phase.Phase.TheVariants.{Closed, CookieWait
 use Rattle.sctp_rules.specs.declared.phase.Phase.TheVariants.{ShutdownPending, ShutdownSent, ShutdownReceived}
 use Rattle.sctp_rules.specs.declared.phase.Phase.TheVariants.{ShutdownAckSent}
 use Rattle.sctp_rules.specs.Settings.{Settings}
-use Rattle.sctp_rules.specs.Sender.{can_take, with_message, to_send, sent}
-use Rattle.sctp_rules.specs.Sender as sending
+use Rattle.sctp_rules.specs.Confirming.{can_take, all_gone}
 use Rattle.sctp_rules.specs.State.{Association, State, Datagram, Done, silent, with_association, datagram_to}
 use Rattle.sctp_rules.specs.Ending.{chunk_size}
 use Rattle.sctp_rules.specs.Data.{takes_data, takes_sack, sack_of, sacked}
@@ -29,7 +30,7 @@ is_established ShutdownAckSent = false
 
 -- a message that is sent now goes out now
 abbrev pub has_room : State → Bool
-has_room s = is_established s.association.phase && sending.has_room s.association.sender
+has_room s = is_established s.association.phase && half.has_room s.association.sender
 
 -- a message is taken where there is an association, and a place
 abbrev pub may_send : Message → State → Bool
@@ -38,17 +39,17 @@ may_send m s = is_established s.association.phase && can_take s.association.send
 abbrev pub send : Message → State → State
 send m s =
     if may_send m s
-    then with_association s (record s.association { sender = with_message s.association.sender m })
+    then with_association s (record s.association { sender = given s.association.sender m })
     else s
 
 -- ---- what goes out
 
 -- DATA goes out in the states in which SACK counts
-abbrev pub data_of : Association → List ChunkValue
-data_of a = if takes_sack a.phase then map DataChunk (to_send a.sender) else []
+abbrev pub data_of : (now : ℕ) → Association → List ChunkValue
+data_of now a = if takes_sack a.phase then map DataChunk (all_gone now a.sender).chunks else []
 
 abbrev pub with_data_sent : (now : ℕ) → Association → Association
-with_data_sent now a = if takes_sack a.phase then record a { sender = sent now a.sender } else a
+with_data_sent now a = if takes_sack a.phase then record a { sender = (all_gone now a.sender).left } else a
 
 -- SACK, where DATA came; in SHUTDOWN-SENT behind a SHUTDOWN (§9.2)
 abbrev pub is_acknowledging : Association → Bool
@@ -65,8 +66,8 @@ abbrev pub with_acknowledged : Association → Association
 with_acknowledged a = if is_acknowledging a then sacked a else a
 
 -- answers stand in front of SACK, and SACK in front of DATA (§6.1)
-abbrev pub due_chunks : Association → List ChunkValue
-due_chunks a = a.control ++ acknowledgement a ++ data_of a
+abbrev pub due_chunks : (now : ℕ) → Association → List ChunkValue
+due_chunks now a = a.control ++ acknowledgement a ++ data_of now a
 
 -- chunks are bundled: as many as fit into a packet (§6.10). `waiting` are those of the packet that isn't full
 abbrev pub closed : List ChunkValue → List (List ChunkValue)
@@ -88,15 +89,16 @@ abbrev pub packets_of : List ChunkValue → List (List ChunkValue)
 packets_of chunks = bundled [] HEADER_OCTETS chunks
 
 -- all that is due goes out
-abbrev pub datagrams : Settings → Association → List Datagram
-datagrams c a = map (λ chunks. datagram_to c a.address a.far_tag chunks) (packets_of (due_chunks a))
+abbrev pub datagrams : Settings → (now : ℕ) → Association → List Datagram
+datagrams c now a =
+    map (λ chunks. datagram_to c a.address a.far_tag chunks) (packets_of (due_chunks now a))
 
 abbrev pub flushed : (now : ℕ) → Association → Association
 flushed now a = record (with_data_sent now (with_acknowledged a)) { control = [] }
 
 abbrev pub flush : Settings → (now : ℕ) → State → Done
 flush c now s = record {
-  sent = datagrams c s.association;
+  sent = datagrams c now s.association;
   told = [];
   left = with_association s (flushed now s.association);
 }

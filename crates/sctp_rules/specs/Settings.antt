@@ -1,5 +1,7 @@
 -- The settings of an endpoint, and what it draws and signs.
 use Rattle.std.specs.Prelude.{ℕ, List, Option}
+use Rattle.sctp_cookie.specs.declared.cookie.Cookie.{Cookie}
+use Rattle.sctp_sending.specs.declared.bounds.Bounds.{Bounds}
 
 -- where datagrams go, and come from
 pub record Address : Type 0 where
@@ -14,36 +16,13 @@ pub record Settings : Type 0 where
   -- where the peer is, until a packet of it comes
   pub address : Address
   -- RTO.Initial, RTO.Min, RTO.Max
-  pub first_rto : ℕ
-  pub least_rto : ℕ
-  pub most_rto : ℕ
+  pub bounds : Bounds
   -- Max.Init.Retransmits, Association.Max.Retrans
   pub init_retransmissions : ℕ
   pub retransmissions : ℕ
   -- HB.interval, Valid.Cookie.Life
   pub heartbeat : ℕ
   pub cookie_life : ℕ
-
--- the state cookie of an association that may come to be (RFC 9260 §5.1.3)
-pub record Cookie : Type 0 where
-  -- when it was made, in which generation of the endpoint, and how long it is good
-  pub made : ℕ
-  pub generation : ℕ
-  pub life : ℕ
-  -- both tags, and the TSN that each end begins with
-  pub own_tag : ℕ
-  pub far_tag : ℕ
-  pub own_first : ℕ
-  pub far_first : ℕ
-  -- what the peer's INIT said: its window, and its streams
-  pub window : ℕ
-  pub outgoing : ℕ
-  pub incoming : ℕ
-  -- the tags of the association that there was when it was made: the tie-tags
-  pub own_tie : ℕ
-  pub far_tie : ℕ
-  -- the peer's SCTP port
-  pub port : ℕ
 
 -- what this end begins an association with
 pub record Beginning : Type 0 where

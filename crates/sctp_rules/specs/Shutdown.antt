@@ -8,7 +8,8 @@ use Rattle.sctp_rules.specs.declared.phase.Phase.TheVariants.{ShutdownPending, S
 use Rattle.sctp_rules.specs.declared.phase.Phase.TheVariants.{ShutdownAckSent}
 use Rattle.sctp_rules.specs.declared.loss.Loss.TheVariants.{Shutdown, Protocol}
 use Rattle.sctp_rules.specs.Settings.{Settings}
-use Rattle.sctp_rules.specs.Sacks.{is_old, is_beyond, confirmed, only_gone}
+use Rattle.sctp_sending.specs.Sending.{confirmation, after_cumulative}
+use Rattle.sctp_rules.specs.Confirming.{confirms_beyond, only_gone}
 use Rattle.sctp_rules.specs.State.{Association, State, Down, Done, silent, with_association}
 use Rattle.sctp_rules.specs.Ending.{with_answer, ended_with, aborted, abort, violation}
 
@@ -20,13 +21,13 @@ shutdown_of a = ShutdownChunk a.receiver.cumulative
 abbrev pub awaiting : (now : ℕ) → Phase → ChunkValue → State → State
 awaiting now phase chunk s =
     let a = s.association in
-    with_association s (with_answer chunk (record a { phase = phase; t2 = Some (now + a.sender.timing.rto) }))
+    with_association s (with_answer chunk (record a { phase = phase; t2 = Some (now + a.sender.round_trips.timeout) }))
 
 -- SHUTDOWN goes out, and T5-shutdown-guard is started
 abbrev pub shutdown_sent : Settings → (now : ℕ) → State → State
 shutdown_sent c now s =
     awaiting now ShutdownSent (shutdown_of s.association)
-    (with_association s (record s.association { t5 = Some (now + 5 * c.most_rto) }))
+    (with_association s (record s.association { t5 = Some (now + 5 * c.bounds.most) }))
 
 abbrev pub shutdown_answered : (now : ℕ) → State → State
 shutdown_answered now s = awaiting now ShutdownAckSent ShutdownAckChunk s
@@ -56,11 +57,12 @@ shutdown c now s = shutdown_in s.association.phase c now s
 -- ---- SHUTDOWN comes
 
 -- what it confirms leaves; an old one confirms nothing
-abbrev pub with_confirmed : Settings → (now cumulative : ℕ) → State → State
-with_confirmed c now cumulative s =
-    if is_old s.association.sender cumulative
-    then s
-    else with_association s (record s.association { sender = confirmed c now cumulative s.association.sender })
+abbrev pub with_confirmed : (now cumulative : ℕ) → State → State
+with_confirmed now cumulative s =
+    let sender = s.association.sender in
+    with_association s (record s.association {
+      sender = after_cumulative sender now (confirmation sender cumulative);
+    })
 
 -- what didn't go out is dropped: to the user the association is over
 abbrev pub shutdown_received : State → Done
@@ -82,10 +84,10 @@ then_going_on c now d = record d { left = going_on c now d.left }
 
 abbrev pub heard_shutdown_in : Phase → Settings → (now cumulative : ℕ) → State → Done
 heard_shutdown_in Established c now cumulative s =
-    then_going_on c now (shutdown_received (with_confirmed c now cumulative s))
+    then_going_on c now (shutdown_received (with_confirmed now cumulative s))
 heard_shutdown_in ShutdownPending c now cumulative s =
-    then_going_on c now (shutdown_received (with_confirmed c now cumulative s))
-heard_shutdown_in ShutdownReceived c now cumulative s = silent (going_on c now (with_confirmed c now cumulative s))
+    then_going_on c now (shutdown_received (with_confirmed now cumulative s))
+heard_shutdown_in ShutdownReceived c now cumulative s = silent (going_on c now (with_confirmed now cumulative s))
 heard_shutdown_in ShutdownSent c now cumulative s = silent (shutdown_answered now s)
 heard_shutdown_in phase c now cumulative s = silent s
 
@@ -101,7 +103,7 @@ confirms ShutdownAckSent = false
 
 abbrev pub heard_shutdown : Settings → (now cumulative : ℕ) → State → Done
 heard_shutdown c now cumulative s =
-    if confirms s.association.phase && is_beyond s.association.sender cumulative
+    if confirms s.association.phase && confirms_beyond s.association.sender cumulative
     then aborted c Protocol violation s
     else heard_shutdown_in s.association.phase c now cumulative s
 

@@ -7,7 +7,7 @@ use Rattle.sctp_rules.specs.declared.phase.Phase.{Phase}
 use Rattle.sctp_rules.specs.declared.phase.Phase.TheVariants.{Closed}
 use Rattle.sctp_rules.specs.declared.loss.Loss.{Loss}
 use Rattle.sctp_rules.specs.Settings.{Settings, Address}
-use Rattle.sctp_rules.specs.Sender.{Sender, first_sender}
+use Rattle.sctp_sending.specs.Sending.{Sending, first_sending}
 
 -- what is said of the peer in its INIT or INIT ACK, or in a cookie
 pub record Peer : Type 0 where
@@ -41,7 +41,7 @@ pub record Association : Type 0 where
   pub address : Address
   -- answers that wait for the next packet
   pub control : List ChunkValue
-  pub sender : Sender
+  pub sender : Sending
   pub receiver : Receiver
   pub is_sack_due : Bool
   pub trying : Option Try
@@ -110,7 +110,7 @@ no_association c = record {
   peer = record { first = 0; window = 0 };
   address = c.address;
   control = [];
-  sender = first_sender c 0 0;
+  sender = first_sending c.bounds 0 0;
   receiver = first_receiver no_streams 0;
   is_sack_due = false;
   trying = None;

@@ -9,8 +9,8 @@ use Rattle.sctp_rules.specs.declared.phase.Phase.TheVariants.{ShutdownPending, S
 use Rattle.sctp_rules.specs.declared.phase.Phase.TheVariants.{ShutdownAckSent}
 use Rattle.sctp_rules.specs.declared.loss.Loss.TheVariants.{NoAnswer}
 use Rattle.sctp_rules.specs.Settings.{Settings, Secrets}
-use Rattle.sctp_rules.specs.Timing.{backed_off}
-use Rattle.sctp_rules.specs.Sacks.{timed_out}
+use Rattle.sctp_sending.specs.RoundTrips.{backed_off}
+use Rattle.sctp_sending.specs.Sending.{after_t3}
 use Rattle.sctp_rules.specs.State.{Try, Beat, Association, State, Done, silent, followed_by, with_association}
 use Rattle.sctp_rules.specs.Ending.{with_answer, answered, aborted, violation}
 use Rattle.sctp_rules.specs.Opening.{tried_again}
@@ -28,8 +28,8 @@ unanswered c rule s =
     then aborted c NoAnswer violation s
     else rule (with_association s (record s.association { failures = s.association.failures + 1 }))
 
-abbrev pub with_timing_backed_off : Settings → Association → Association
-with_timing_backed_off c a = record a { sender = record a.sender { timing = backed_off c a.sender.timing } }
+abbrev pub with_back_off : Association → Association
+with_back_off a = record a { sender = record a.sender { round_trips = backed_off a.sender.round_trips } }
 
 -- T1-init and T1-cookie
 abbrev pub t1_of : Option Try → Option ℕ
@@ -55,7 +55,7 @@ shutdown_again phase a = ShutdownAckChunk
 abbrev pub t2_out : Settings → (now : ℕ) → State → Done
 t2_out c now s =
     let a = s.association in
-    silent (awaiting now a.phase (shutdown_again a.phase a) (with_association s (with_timing_backed_off c a)))
+    silent (awaiting now a.phase (shutdown_again a.phase a) (with_association s (with_back_off a)))
 
 abbrev pub tick_t2 : Settings → (now : ℕ) → State → Done
 tick_t2 c now s =
@@ -64,7 +64,7 @@ tick_t2 c now s =
 -- T3-rtx
 abbrev pub t3_out : Settings → (now : ℕ) → State → Done
 t3_out c now s =
-    silent (with_association s (record s.association { sender = timed_out c now s.association.sender }))
+    silent (with_association s (record s.association { sender = after_t3 s.association.sender now }))
 
 abbrev pub tick_t3 : Settings → (now : ℕ) → State → Done
 tick_t3 c now s =
@@ -79,7 +79,7 @@ beating k now s =
       nonces = s.nonces + 1;
       association = record a {
         beat = Some (record { nonce = k.nonce s.nonces; sent = now });
-        beat_due = Some (now + a.sender.timing.rto);
+        beat_due = Some (now + a.sender.round_trips.timeout);
       };
     })
 
@@ -87,7 +87,7 @@ abbrev pub beat_again : Option Beat → Settings → Secrets → (now : ℕ) →
 beat_again None c k now s = silent (beating k now s)
 beat_again (Some beat) c k now s =
     unanswered c
-    (λ left. silent (beating k now (with_association left (with_timing_backed_off c left.association)))) s
+    (λ left. silent (beating k now (with_association left (with_back_off left.association)))) s
 
 -- only in ESTABLISHED
 abbrev pub beat_in : Phase → Settings → Secrets → (now : ℕ) → State → Done

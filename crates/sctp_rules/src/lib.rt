@@ -2,6 +2,7 @@
 //! its laws.
 #![tactic(auto)]
 
+pub mod laws;
 pub mod limits;
 pub mod loss;
 pub mod phase;

@@ -1,0 +1,149 @@
+-- Rows of the state table, by computation.
+use Rattle.std.proofs.Common.{◌≡◌, refl}
+use Rattle.sctp_rules.specs.Endpoint.{after}
+use Rattle.sctp_rules.specs.Confirming.{going}
+use Rattle.sctp_sending.specs.Outgoing.{lost_from}
+use Rattle.sctp_sending.specs.Sending.{named_below, passed_below}
+use Rattle.sctp_receiving.specs.Receiver.{drained}
+use Rattle.sctp_receiving.specs.Sack.{run_from, blocks_from}
+use Rattle.sctp_rules.specs.Rows as rows
+
+pub try_begins : rows.try_begins
+unfolding after going drained run_from blocks_from lost_from named_below passed_below
+try_begins = record { phase_is = refl; sent_is = refl; told_is = refl }
+
+pub init_is_answered : rows.init_is_answered
+unfolding after going drained run_from blocks_from lost_from named_below passed_below
+init_is_answered = record { phase_is = refl; sent_is = refl; told_is = refl }
+
+pub cookie_is_echoed : rows.cookie_is_echoed
+unfolding after going drained run_from blocks_from lost_from named_below passed_below
+cookie_is_echoed = record { phase_is = refl; sent_is = refl; told_is = refl }
+
+pub cookie_opens : rows.cookie_opens
+unfolding after going drained run_from blocks_from lost_from named_below passed_below
+cookie_opens = record { phase_is = refl; sent_is = refl; told_is = refl }
+
+pub cookie_is_acknowledged : rows.cookie_is_acknowledged
+unfolding after going drained run_from blocks_from lost_from named_below passed_below
+cookie_is_acknowledged = record { phase_is = refl; sent_is = refl; told_is = refl }
+
+pub acknowledgement_opens : rows.acknowledgement_opens
+unfolding after going drained run_from blocks_from lost_from named_below passed_below
+acknowledgement_opens = record { phase_is = refl; sent_is = refl; told_is = refl }
+
+pub unwanted_init_is_dropped : rows.unwanted_init_is_dropped
+unfolding after going drained run_from blocks_from lost_from named_below passed_below
+unwanted_init_is_dropped = record { phase_is = refl; sent_is = refl; told_is = refl }
+
+pub unwanted_cookie_is_dropped : rows.unwanted_cookie_is_dropped
+unfolding after going drained run_from blocks_from lost_from named_below passed_below
+unwanted_cookie_is_dropped = record { phase_is = refl; sent_is = refl; told_is = refl }
+
+pub heartbeat_out_of_the_blue : rows.heartbeat_out_of_the_blue
+unfolding after going drained run_from blocks_from lost_from named_below passed_below
+heartbeat_out_of_the_blue = record { phase_is = refl; sent_is = refl; told_is = refl }
+
+pub cookie_ack_out_of_the_blue : rows.cookie_ack_out_of_the_blue
+unfolding after going drained run_from blocks_from lost_from named_below passed_below
+cookie_ack_out_of_the_blue = record { phase_is = refl; sent_is = refl; told_is = refl }
+
+pub shutdown_ack_out_of_the_blue : rows.shutdown_ack_out_of_the_blue
+unfolding after going drained run_from blocks_from lost_from named_below passed_below
+shutdown_ack_out_of_the_blue = record { phase_is = refl; sent_is = refl; told_is = refl }
+
+pub init_goes_out_again : rows.init_goes_out_again
+unfolding after going drained run_from blocks_from lost_from named_below passed_below
+init_goes_out_again = record { phase_is = refl; sent_is = refl; told_is = refl }
+
+pub try_fails : rows.try_fails
+unfolding after going drained run_from blocks_from lost_from named_below passed_below
+try_fails = record { phase_is = refl; sent_is = refl; told_is = refl }
+
+pub try_is_refused : rows.try_is_refused
+unfolding after going drained run_from blocks_from lost_from named_below passed_below
+try_is_refused = record { phase_is = refl; sent_is = refl; told_is = refl }
+
+pub another_init_begins_anew : rows.another_init_begins_anew
+unfolding after going drained run_from blocks_from lost_from named_below passed_below
+another_init_begins_anew = record { phase_is = refl; sent_is = refl; told_is = refl }
+
+pub with_another_tag : rows.with_another_tag
+unfolding after going drained run_from blocks_from lost_from named_below passed_below
+with_another_tag = refl
+
+pub cookie_is_acknowledged_again : rows.cookie_is_acknowledged_again
+unfolding after going drained run_from blocks_from lost_from named_below passed_below
+cookie_is_acknowledged_again = record { phase_is = refl; sent_is = refl; told_is = refl }
+
+pub cookie_opens_once : rows.cookie_opens_once
+unfolding after going drained run_from blocks_from lost_from named_below passed_below
+cookie_opens_once = record { phase_is = refl; sent_is = refl; told_is = refl }
+
+pub restart_is_a_loss : rows.restart_is_a_loss
+unfolding after going drained run_from blocks_from lost_from named_below passed_below
+restart_is_a_loss = record { phase_is = refl; sent_is = refl; told_is = refl }
+
+pub data_goes_out : rows.data_goes_out
+unfolding after going drained run_from blocks_from lost_from named_below passed_below
+data_goes_out = record { phase_is = refl; sent_is = refl; told_is = refl }
+
+pub data_is_told : rows.data_is_told
+unfolding after going drained run_from blocks_from lost_from named_below passed_below
+data_is_told = record { phase_is = refl; sent_is = refl; told_is = refl }
+
+pub data_is_confirmed : rows.data_is_confirmed
+unfolding after going drained run_from blocks_from lost_from named_below passed_below
+data_is_confirmed = record { phase_is = refl; sent_is = refl; told_is = refl }
+
+pub confirmation_frees : rows.confirmation_frees
+unfolding after going drained run_from blocks_from lost_from named_below passed_below
+confirmation_frees = refl
+
+pub data_is_told_once : rows.data_is_told_once
+unfolding after going drained run_from blocks_from lost_from named_below passed_below
+data_is_told_once = record { phase_is = refl; sent_is = refl; told_is = refl }
+
+pub repeated_data_is_confirmed : rows.repeated_data_is_confirmed
+unfolding after going drained run_from blocks_from lost_from named_below passed_below
+repeated_data_is_confirmed = record { phase_is = refl; sent_is = refl; told_is = refl }
+
+pub data_goes_out_again : rows.data_goes_out_again
+unfolding after going drained run_from blocks_from lost_from named_below passed_below
+data_goes_out_again = record { phase_is = refl; sent_is = refl; told_is = refl }
+
+pub confirming_too_much_is_a_violation : rows.confirming_too_much_is_a_violation
+unfolding after going drained run_from blocks_from lost_from named_below passed_below
+confirming_too_much_is_a_violation = record { phase_is = refl; sent_is = refl; told_is = refl }
+
+pub wrong_tag_is_dropped : rows.wrong_tag_is_dropped
+unfolding after going drained run_from blocks_from lost_from named_below passed_below
+wrong_tag_is_dropped = record { phase_is = refl; sent_is = refl; told_is = refl }
+
+pub abort_is_sent : rows.abort_is_sent
+unfolding after going drained run_from blocks_from lost_from named_below passed_below
+abort_is_sent = record { phase_is = refl; sent_is = refl; told_is = refl }
+
+pub abort_is_a_loss : rows.abort_is_a_loss
+unfolding after going drained run_from blocks_from lost_from named_below passed_below
+abort_is_a_loss = record { phase_is = refl; sent_is = refl; told_is = refl }
+
+pub shutdown_is_sent : rows.shutdown_is_sent
+unfolding after going drained run_from blocks_from lost_from named_below passed_below
+shutdown_is_sent = record { phase_is = refl; sent_is = refl; told_is = refl }
+
+pub shutdown_is_a_loss : rows.shutdown_is_a_loss
+unfolding after going drained run_from blocks_from lost_from named_below passed_below
+shutdown_is_a_loss = record { phase_is = refl; sent_is = refl; told_is = refl }
+
+pub shutdown_is_answered : rows.shutdown_is_answered
+unfolding after going drained run_from blocks_from lost_from named_below passed_below
+shutdown_is_answered = record { phase_is = refl; sent_is = refl; told_is = refl }
+
+pub shutdown_is_complete : rows.shutdown_is_complete
+unfolding after going drained run_from blocks_from lost_from named_below passed_below
+shutdown_is_complete = record { phase_is = refl; sent_is = refl; told_is = refl }
+
+pub completion_ends : rows.completion_ends
+unfolding after going drained run_from blocks_from lost_from named_below passed_below
+completion_ends = record { phase_is = refl; sent_is = refl; told_is = refl }

@@ -1,0 +1,328 @@
+-- Rows of the state table, at two endpoints that face each other.
+use Rattle.std.specs.Prelude.{◌≡◌, ℕ, zero, suc, Bool, true, false, ◌+◌, List, [], ◌∷◌, Option, Some, None, map, length}
+use Rattle.sctp_receiving.specs.Pieces as pieces
+use Rattle.sctp_sending.specs.Outgoing.{Message}
+use Rattle.sctp_cookie.specs.declared.cookie.Cookie.{Cookie}
+use Rattle.sctp_codec.specs.Packets.{ChunkValue, PacketValue, kind_of, SackChunk, HeartbeatChunk, CookieAckChunk}
+use Rattle.sctp_codec.specs.Packets.{AbortChunk, ShutdownAckChunk, InitChunk}
+use Rattle.sctp_rules.specs.declared.phase.Phase.TheVariants.{Closed, CookieWait, CookieEchoed, Established}
+use Rattle.sctp_rules.specs.declared.phase.Phase.TheVariants.{ShutdownSent, ShutdownAckSent}
+use Rattle.sctp_rules.specs.declared.phase.Phase.{Phase}
+use Rattle.sctp_rules.specs.declared.loss.Loss.TheVariants.{Local, Aborted, Shutdown, Restart, NoAnswer, Refused, Protocol}
+use Rattle.sctp_rules.specs.Settings.{Settings, Secrets, Address, Beginning}
+use Rattle.sctp_rules.specs.State.{State, Datagram, Told, Up, Heard, Down, Failed, Done, first_state}
+use Rattle.sctp_rules.specs.Opening.{init_of}
+use Rattle.sctp_rules.specs.Endpoint.{Happening, Opens, Came, Ticked, Sends, Aborts, ShutsDown, Flushes, after}
+
+-- ---- two endpoints
+
+abbrev pub address : Address
+address = record { host = 1 ∷ []; port = 9899 }
+
+abbrev pub settings : Settings
+settings = record {
+  own_port = 3565;
+  far_port = 3565;
+  address = address;
+  bounds = record { initial = 300; least = 100; most = 1000 };
+  init_retransmissions = 1;
+  retransmissions = 2;
+  heartbeat = 5000;
+  cookie_life = 60000;
+}
+
+-- cookies are their fields: nobody signs
+abbrev pub fields : Cookie → List ℕ
+fields c =
+    c.made ∷ c.generation ∷ c.own_tag ∷ c.peer_tag ∷ c.own_first_tsn ∷ c.peer_first_tsn ∷ c.peer_window
+    ∷ c.peer_outgoing_streams ∷ c.peer_incoming_streams ∷ c.tie_own_tag ∷ c.tie_peer_tag ∷ c.life ∷ c.peer_port ∷ []
+
+abbrev pub cookie_of : List ℕ → Option Cookie
+cookie_of (a ∷ b ∷ c ∷ d ∷ e ∷ f ∷ g ∷ h ∷ i ∷ j ∷ k ∷ l ∷ m ∷ []) = Some (record {
+  made = a;
+  generation = b;
+  own_tag = c;
+  peer_tag = d;
+  own_first_tsn = e;
+  peer_first_tsn = f;
+  peer_window = g;
+  peer_outgoing_streams = h;
+  peer_incoming_streams = i;
+  tie_own_tag = j;
+  tie_peer_tag = k;
+  life = l;
+  peer_port = m;
+})
+cookie_of octets = None
+
+-- tags from a number on
+abbrev pub secrets_from : ℕ → Secrets
+secrets_from number = record {
+  beginning = λ n. Some (record { tag = number + n; first = 100 });
+  nonce = λ n. n;
+  signed = fields;
+  cookie_in = cookie_of;
+}
+
+abbrev pub near : Happening → State → Done
+near what s = after settings (secrets_from 10) what s
+
+abbrev pub far : Happening → State → Done
+far what s = after settings (secrets_from 20) what s
+
+abbrev pub new : State
+new = first_state settings
+
+-- ---- what to look at
+
+abbrev pub phase_of : Done → Phase
+phase_of d = d.left.association.phase
+
+abbrev pub kinds_of : Datagram → List ℕ
+kinds_of d = map kind_of d.packet.chunks
+
+-- the types of the chunks of each packet that goes out
+abbrev pub kinds : Done → List (List ℕ)
+kinds d = map kinds_of d.sent
+
+abbrev pub none : PacketValue
+none = record { source = 0; destination = 0; tag = 0; chunks = [] }
+
+abbrev pub first_of : List Datagram → PacketValue
+first_of [] = none
+first_of (d ∷ ds) = d.packet
+
+-- the first packet that goes out
+abbrev pub packet : Done → PacketValue
+packet d = first_of d.sent
+
+-- a packet comes
+abbrev pub comes : ℕ → PacketValue → Happening
+comes now p = Came now address p
+
+-- a packet with one chunk
+abbrev pub of_chunk : ℕ → ChunkValue → PacketValue
+of_chunk tag chunk = record { source = 3565; destination = 3565; tag = tag; chunks = chunk ∷ [] }
+
+-- ---- the handshake (RFC 9260 §5.1)
+
+abbrev pub waits : Done
+waits = far (Opens 0 false) new
+
+abbrev pub tries : Done
+tries = near (Opens 0 true) new
+
+abbrev pub answers : Done
+answers = far (comes 1 (packet tries)) waits.left
+
+abbrev pub echoes : Done
+echoes = near (comes 2 (packet answers)) tries.left
+
+abbrev pub opens_first : Done
+opens_first = far (comes 3 (packet echoes)) answers.left
+
+abbrev pub acknowledges : Done
+acknowledges = far (Flushes 3) opens_first.left
+
+abbrev pub opens_second : Done
+opens_second = near (comes 4 (packet acknowledges)) echoes.left
+
+-- what a step does: the state that it leaves, what goes out, and what is told
+pub record Does (d : Done) (phase : Phase) (sent : List (List ℕ)) (told : List Told) : Type 0 where
+  pub phase_is : phase_of d ≡ phase
+  pub sent_is : kinds d ≡ sent
+  pub told_is : d.told ≡ told
+
+abbrev pub try_begins : Type 0
+try_begins = Does tries CookieWait ((1 ∷ []) ∷ []) []
+
+abbrev pub init_is_answered : Type 0
+init_is_answered = Does answers Closed ((2 ∷ []) ∷ []) []
+
+abbrev pub cookie_is_echoed : Type 0
+cookie_is_echoed = Does echoes CookieEchoed ((10 ∷ []) ∷ []) []
+
+abbrev pub cookie_opens : Type 0
+cookie_opens = Does opens_first Established [] (Up ∷ [])
+
+abbrev pub cookie_is_acknowledged : Type 0
+cookie_is_acknowledged = Does acknowledges Established ((11 ∷ []) ∷ []) []
+
+abbrev pub acknowledgement_opens : Type 0
+acknowledgement_opens = Does opens_second Established [] (Up ∷ [])
+
+-- ---- no association is wanted, or there is none (§8.4)
+
+abbrev pub unwanted_init_is_dropped : Type 0
+unwanted_init_is_dropped = Does (far (comes 1 (packet tries)) new) Closed [] []
+
+abbrev pub unwanted_cookie_is_dropped : Type 0
+unwanted_cookie_is_dropped = Does (far (comes 3 (packet echoes)) new) Closed [] []
+
+abbrev pub heartbeat_out_of_the_blue : Type 0
+heartbeat_out_of_the_blue = Does (near (comes 0 (of_chunk 7 (HeartbeatChunk []))) new) Closed ((6 ∷ []) ∷ []) []
+
+abbrev pub cookie_ack_out_of_the_blue : Type 0
+cookie_ack_out_of_the_blue = Does (near (comes 0 (of_chunk 7 CookieAckChunk)) new) Closed [] []
+
+abbrev pub shutdown_ack_out_of_the_blue : Type 0
+shutdown_ack_out_of_the_blue = Does (near (comes 0 (of_chunk 7 ShutdownAckChunk)) new) Closed ((14 ∷ []) ∷ []) []
+
+-- ---- T1 (§5.1.6)
+
+abbrev pub tries_again : Done
+tries_again = near (Ticked 300) tries.left
+
+abbrev pub init_goes_out_again : Type 0
+init_goes_out_again = Does tries_again CookieWait ((1 ∷ []) ∷ []) []
+
+abbrev pub try_fails : Type 0
+try_fails = Does (near (Ticked 900) tries_again.left) Closed [] (Failed NoAnswer ∷ [])
+
+abbrev pub try_is_refused : Type 0
+try_is_refused = Does (near (comes 1 (of_chunk 10 (AbortChunk false []))) tries.left) Closed [] (Failed Refused ∷ [])
+
+-- ---- INIT and COOKIE ECHO that come again (§5.2)
+
+-- of a peer that began anew: in COOKIE-ECHOED this end begins anew, too
+abbrev pub init_of_another_try : PacketValue
+init_of_another_try = of_chunk 0 (InitChunk (init_of (record { tag = 77; first = 5 }) []))
+
+abbrev pub begins_anew : Done
+begins_anew = near (comes 3 init_of_another_try) echoes.left
+
+abbrev pub another_init_begins_anew : Type 0
+another_init_begins_anew = Does begins_anew CookieWait ((1 ∷ []) ∷ (2 ∷ []) ∷ []) []
+
+abbrev pub with_another_tag : Type 0
+with_another_tag = begins_anew.left.association.own_tag ≡ 11
+
+-- the COOKIE ACK was lost
+abbrev pub cookie_is_acknowledged_again : Type 0
+cookie_is_acknowledged_again =
+    Does (far (Flushes 5) (far (comes 5 (packet echoes)) acknowledges.left).left) Established ((11 ∷ []) ∷ []) []
+
+-- a cookie opens once: its generation is over, and the peer is told that it is stale
+abbrev pub wants_again : Done
+wants_again = far (Opens 6 false) (far Aborts acknowledges.left).left
+
+abbrev pub cookie_opens_once : Type 0
+cookie_opens_once = Does (far (comes 7 (packet echoes)) wants_again.left) Closed ((9 ∷ []) ∷ []) []
+
+-- the peer has begun anew: the association is lost, and the cookie refused
+abbrev pub other : Happening → State → Done
+other what s = after settings (secrets_from 30) what s
+
+abbrev pub other_tries : Done
+other_tries = other (Opens 5 true) new
+
+abbrev pub answers_other : Done
+answers_other = far (comes 5 (packet other_tries)) acknowledges.left
+
+abbrev pub other_echoes : Done
+other_echoes = other (comes 5 (packet answers_other)) other_tries.left
+
+abbrev pub restart_is_a_loss : Type 0
+restart_is_a_loss =
+    Does (far (comes 6 (packet other_echoes)) answers_other.left) Closed ((9 ∷ []) ∷ []) (Down Restart ∷ [])
+
+-- ---- DATA and SACK (§6)
+
+abbrev pub given : Message
+given = record { stream = 1; protocol = 5; octets = 1 ∷ 2 ∷ 3 ∷ [] }
+
+abbrev pub message : pieces.Message
+message = record { stream = 1; protocol = 5; octets = 1 ∷ 2 ∷ 3 ∷ [] }
+
+abbrev pub sends : Done
+sends = near (Flushes 5) (near (Sends given) opens_second.left).left
+
+abbrev pub data_goes_out : Type 0
+data_goes_out = Does sends Established ((0 ∷ []) ∷ []) []
+
+abbrev pub hears : Done
+hears = far (comes 6 (packet sends)) acknowledges.left
+
+abbrev pub data_is_told : Type 0
+data_is_told = Does hears Established [] (Heard message ∷ [])
+
+abbrev pub reports : Done
+reports = far (Flushes 6) hears.left
+
+abbrev pub data_is_confirmed : Type 0
+data_is_confirmed = Does reports Established ((3 ∷ []) ∷ []) []
+
+abbrev pub confirmed : Done
+confirmed = near (comes 7 (packet reports)) sends.left
+
+abbrev pub confirmation_frees : Type 0
+confirmation_frees = length confirmed.left.association.sender.out ≡ 0
+
+-- the same DATA again tells nothing, and is confirmed again
+abbrev pub hears_again : Done
+hears_again = far (comes 8 (packet sends)) reports.left
+
+abbrev pub data_is_told_once : Type 0
+data_is_told_once = Does hears_again Established [] []
+
+abbrev pub repeated_data_is_confirmed : Type 0
+repeated_data_is_confirmed = Does (far (Flushes 8) hears_again.left) Established ((3 ∷ []) ∷ []) []
+
+-- T3: what isn't confirmed goes out again
+abbrev pub data_goes_out_again : Type 0
+data_goes_out_again =
+    Does (near (Flushes 400) (near (Ticked 400) sends.left).left) Established ((0 ∷ []) ∷ []) []
+
+-- a SACK of what wasn't sent is a violation
+abbrev pub too_much : ChunkValue
+too_much = SackChunk (record { cumulative = 100; window = 1000; blocks = []; duplicates = [] })
+
+abbrev pub confirming_too_much_is_a_violation : Type 0
+confirming_too_much_is_a_violation =
+    Does (near (comes 8 (of_chunk 10 too_much)) opens_second.left) Closed ((6 ∷ []) ∷ []) (Down Protocol ∷ [])
+
+-- a wrong tag
+abbrev pub wrong_tag_is_dropped : Type 0
+wrong_tag_is_dropped =
+    Does (near (comes 8 (of_chunk 11 too_much)) opens_second.left) Established [] []
+
+-- ---- the end (§9)
+
+abbrev pub aborts : Done
+aborts = near Aborts opens_second.left
+
+abbrev pub abort_is_sent : Type 0
+abort_is_sent = Does aborts Closed ((6 ∷ []) ∷ []) (Down Local ∷ [])
+
+abbrev pub abort_is_a_loss : Type 0
+abort_is_a_loss = Does (far (comes 9 (packet aborts)) acknowledges.left) Closed [] (Down Aborted ∷ [])
+
+abbrev pub shuts_down : Done
+shuts_down = near (ShutsDown 10) opens_second.left
+
+abbrev pub shutdown_goes_out : Done
+shutdown_goes_out = near (Flushes 10) shuts_down.left
+
+abbrev pub shutdown_is_sent : Type 0
+shutdown_is_sent = Does shutdown_goes_out ShutdownSent ((7 ∷ []) ∷ []) []
+
+abbrev pub is_shut_down : Done
+is_shut_down = far (comes 11 (packet shutdown_goes_out)) acknowledges.left
+
+abbrev pub shutdown_is_a_loss : Type 0
+shutdown_is_a_loss = Does is_shut_down ShutdownAckSent [] (Down Shutdown ∷ [])
+
+abbrev pub shutdown_answered : Done
+shutdown_answered = far (Flushes 11) is_shut_down.left
+
+abbrev pub shutdown_is_answered : Type 0
+shutdown_is_answered = Does shutdown_answered ShutdownAckSent ((8 ∷ []) ∷ []) []
+
+abbrev pub shutdown_completes : Done
+shutdown_completes = near (comes 12 (packet shutdown_answered)) shutdown_goes_out.left
+
+abbrev pub shutdown_is_complete : Type 0
+shutdown_is_complete = Does shutdown_completes Closed ((14 ∷ []) ∷ []) (Down Shutdown ∷ [])
+
+abbrev pub completion_ends : Type 0
+completion_ends = Does (far (comes 13 (packet shutdown_completes)) shutdown_answered.left) Closed [] []
