@@ -82,6 +82,15 @@ fn empty_places(alloc: Global) -> Result<Vec<Place>, AllocError>
     Ok(places)
 }
 
+/// Places without chunks, as many as there were.
+fn clear_all(places: &mut Vec<Place>)
+    ensures { places.new.items ≡ replicate (length places.old.items) None }
+{
+    for i in 0..places.len() {
+        places[i].clear();
+    }
+}
+
 impl Receiver {
     /// A receiver of so many streams, whose peer begins with this TSN. It makes all its room here.
     pub fn new(alloc: Global, streams: u16, first: u32) -> Result<Receiver, AllocError>
@@ -96,6 +105,19 @@ impl Receiver {
             cumulative: first.wrapping_sub(1),
             streams,
         })
+    }
+
+    /// Begins anew: nothing came of a peer that begins with this TSN.
+    pub fn begin(&mut self, streams: u16, first: u32)
+        ensures { self.new ≡ first_receiver streams first }
+    {
+        clear_all(&mut self.held);
+        self.assembly.empty();
+        self.duplicates.clear();
+        self.count = 0;
+        self.octets = 0;
+        self.cumulative = first.wrapping_sub(1);
+        self.streams = streams;
     }
 
     /// The cumulative TSN: that of the last chunk that was consumed.

@@ -10,12 +10,11 @@ use Rattle.sctp_receiving.specs.declared.violation.Violation.TheVariants as viol
 use Rattle.sctp_receiving.specs.Receiver.{received, drained}
 use Rattle.sctp_receiving.specs.Receiver as receiving
 use Rattle.sctp_receiving.specs.Pieces.{Piece}
-use Rattle.sctp_codec.specs.Items.{ItemValue, item_octets}
-use Rattle.sctp_codec.specs.Writing.{chunk_item}
+use Rattle.sctp_codec.specs.Items.{ItemValue}
 use Rattle.sctp_codec.specs.Packets as packets
 use Rattle.sctp_codec.specs.Packets.{ChunkValue, InitValue, SackValue, DataValue, PacketValue}
 use Rattle.sctp_codec.specs.Parameters.{CauseValue, UnresolvableAddress, InvalidParameter, EndedByUser, NoUserData}
-use Rattle.sctp_codec.specs.Parameters.{UnrecognizedChunk, cause_item, cookie_in, has_host_name, has_stale_cookie}
+use Rattle.sctp_codec.specs.Parameters.{UnrecognizedChunk, cause_item, cookie_in, host_name_in, has_stale_cookie}
 use Rattle.sctp_codec.specs.Parameters.{information_of}
 use Rattle.sctp_sending.specs.Outgoing.{Message}
 use Rattle.sctp_sending.specs.Sending.{confirmation, given}
@@ -244,19 +243,22 @@ putting : (c : Settings) (source : Address) (tag : ℕ) (chunks : List ChunkValu
     Tells s (state.put c source tag chunks s)
 putting c source tag chunks s r = record { turn = refl; left = r }
 
+judged-init : (name : Option (List ℕ)) (c : Settings) (k : Secrets) (now : ℕ) (source : Address) (init : InitValue) (s : State) →
+    Right s → Tells s (opening.judged_init name c k now source init s)
+judged-init (Some name) c k now source init s r =
+    putting c source init.tag (ending.abort_for (UnresolvableAddress name) ∷ []) s r
+judged-init None c k now source init s r =
+    let invalid : Done = state.put c source init.tag (ending.abort_for InvalidParameter ∷ []) s in
+    let taken : Done = opening.init_in s.association.phase c k now source init s in
+    either (opening.has_few_streams init) s invalid taken
+    (putting c source init.tag (ending.abort_for InvalidParameter ∷ []) s r)
+    (init-in s.association.phase c k now source init s refl r)
+
 heard-init : (c : Settings) (k : Secrets) (now : ℕ) (source : Address) (init : InitValue) (s : State) → Right s →
     Tells s (opening.heard_init c k now source init s)
 heard-init c k now source init s r =
-    let unresolvable : Done = state.put c source init.tag (ending.abort_for (UnresolvableAddress []) ∷ []) s in
-    let invalid : Done = state.put c source init.tag (ending.abort_for InvalidParameter ∷ []) s in
-    let taken : Done = opening.init_in s.association.phase c k now source init s in
-    let few : Bool = opening.has_few_streams init in
-    either (nat_eq init.tag 0) s (silent s) (if has_host_name init.parameters then unresolvable else (if few then invalid else taken))
-    (stays s [] r)
-    (either (has_host_name init.parameters) s unresolvable (if few then invalid else taken)
-    (putting c source init.tag (ending.abort_for (UnresolvableAddress []) ∷ []) s r)
-    (either few s invalid taken (putting c source init.tag (ending.abort_for InvalidParameter ∷ []) s r)
-    (init-in s.association.phase c k now source init s refl r)))
+    either (nat_eq init.tag 0) s (silent s) (opening.judged_init (host_name_in init.parameters) c k now source init s)
+    (stays s [] r) (judged-init (host_name_in init.parameters) c k now source init s r)
 
 refused : (c : Settings) (init : InitValue) (s : State) → Right s → Tells s (opening.refused c init s)
 refused c init s r =
@@ -693,9 +695,9 @@ heard-answer (Some beat) c now information s r =
 
 -- ---- packets
 
-heard-unknown : (kind : ℕ) (chunk : ChunkValue) (s : State) → Right s → Tells s (arriving.heard_unknown kind chunk s).does
-heard-unknown kind chunk s r =
-    let report : ChunkValue = packets.ErrorChunk (cause_item (UnrecognizedChunk (item_octets (chunk_item chunk))) ∷ []) in
+heard-unknown : (kind flags : ℕ) (value : List ℕ) (s : State) → Right s → Tells s (arriving.heard_unknown kind flags value s).does
+heard-unknown kind flags value s r =
+    let report : ChunkValue = packets.ErrorChunk (cause_item (UnrecognizedChunk kind flags value) ∷ []) in
     either (arriving.is_reported kind) s (silent (ending.answered report s)) (silent s) (answered report s r) (stays s [] r)
 
 heard-abort : (c : Settings) (tag : ℕ) (chunk : ChunkValue) (s : State) → Right s → Tells s (arriving.heard_abort c tag chunk s).does
@@ -726,7 +728,7 @@ heard-chunk c k now tag (packets.ShutdownCompleteChunk is_reflected) s r =
     handled-either (arriving.has_tag s.association tag (packets.ShutdownCompleteChunk is_reflected)) s
     (arriving.while_there (shutdown.heard_shutdown_complete c s)) (arriving.while_there (silent s))
     (shutdown-complete-in s.association.phase c s r) (stays s [] r)
-heard-chunk c k now tag (packets.UnknownChunk kind flags value) s r = heard-unknown kind (packets.UnknownChunk kind flags value) s r
+heard-chunk c k now tag (packets.UnknownChunk kind flags value) s r = heard-unknown kind flags value s r
 heard-chunk c k now tag (packets.MalformedChunk kind) s r = stays s [] r
 
 heard-chunks : (c : Settings) (k : Secrets) (now tag : ℕ) (chunks : List ChunkValue) (s : State) → Right s →

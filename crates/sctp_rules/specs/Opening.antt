@@ -1,14 +1,14 @@
 -- How an association begins: the handshake of four ways (RFC 9260 §5).
 use Rattle.std.specs.Prelude.{ℕ, Bool, true, false, not, ◌+◌, ◌-◌, ◌*◌, ◌^◌, ◌&&◌, ◌||◌, List, [], ◌∷◌, ◌++◌, Option}
-use Rattle.std.specs.Prelude.{Some, None, map, min, nat_eq, nat_lt, nat_le, if◌then◌else◌}
+use Rattle.std.specs.Prelude.{Some, None, is_none, min, nat_eq, nat_lt, nat_le, if◌then◌else◌}
 use Rattle.sctp_receiving.specs.Receiver.{first_receiver}
 use Rattle.sctp_codec.specs.Items.{ItemValue}
 use Rattle.sctp_codec.specs.Packets.{ChunkValue, InitValue, InitChunk, InitAckChunk, ErrorChunk, CookieEchoChunk}
 use Rattle.sctp_codec.specs.Packets.{CookieAckChunk, ShutdownAckChunk}
 use Rattle.sctp_codec.specs.Parameters.{CauseValue, StaleCookie, UnresolvableAddress, InvalidParameter}
 use Rattle.sctp_codec.specs.Parameters.{CookieInShutdown}
-use Rattle.sctp_codec.specs.Parameters.{UnrecognizedParameters, cause_item, cookie_in, has_host_name, reported_in}
-use Rattle.sctp_codec.specs.Parameters.{fitting, reporting, state_cookie, has_stale_cookie}
+use Rattle.sctp_codec.specs.Parameters.{cause_item, unrecognized_parameters, cookie_in, host_name_in, has_stale_cookie}
+use Rattle.sctp_codec.specs.Parameters.{answering, complained_of}
 use Rattle.sctp_rules.specs.declared.limits.TheConstants.{STREAMS, WINDOW}
 use Rattle.sctp_rules.specs.declared.phase.Phase.{Phase}
 use Rattle.sctp_rules.specs.declared.phase.Phase.TheVariants.{Closed, CookieWait, CookieEchoed, Established}
@@ -57,10 +57,6 @@ is_echoed ShutdownReceived = false
 is_echoed ShutdownAckSent = false
 
 -- ---- what an end says of itself
-
--- the room for what an INIT had and isn't known, in its INIT ACK
-abbrev pub report_octets : ℕ
-report_octets = 512
 
 abbrev pub init_of : Beginning → List ItemValue → InitValue
 init_of b parameters = record {
@@ -157,17 +153,11 @@ cookie_for c now s b init = record {
   peer_port = c.far_port;
 }
 
--- the cookie, and what INIT had that isn't known
-abbrev pub answer_parameters : Secrets → Cookie → InitValue → List ItemValue
-answer_parameters k cookie init =
-    record { kind = state_cookie; value = k.signed cookie }
-    ∷ fitting report_octets (map reporting (reported_in init.parameters))
-
--- INIT ACK, with this tag and first TSN
+-- INIT ACK, with this tag and first TSN: the cookie, and what INIT had that isn't known
 abbrev pub answered_with : Settings → Secrets → (now : ℕ) → Address → InitValue → Beginning → State → Done
 answered_with c k now source init b s =
     put c source init.tag
-    (InitAckChunk (init_of b (answer_parameters k (cookie_for c now s b init) init)) ∷ []) s
+    (InitAckChunk (init_of b (answering (k.signed (cookie_for c now s b init)) init.parameters)) ∷ []) s
 
 -- the same with a new tag and first TSN; nothing else is kept. Where no tag is left there is no answer
 abbrev pub answered_anew_with : Settings → Secrets → (now : ℕ) → Address → InitValue → Option Beginning → State → Done
@@ -209,16 +199,20 @@ init_in ShutdownReceived c k now source init s = answered_anew c k now source in
 init_in ShutdownAckSent c k now source init s =
     put c s.association.address s.association.far_tag (ShutdownAckChunk ∷ []) s
 
--- an INIT without a tag is dropped (§3.3.2); one with a host name, or with too few streams, is refused
+-- one with a host name, or with too few streams, is refused
+abbrev pub judged_init : Option (List ℕ) → Settings → Secrets → (now : ℕ) → Address → InitValue → State → Done
+judged_init (Some name) c k now source init s = put c source init.tag (abort_for (UnresolvableAddress name) ∷ []) s
+judged_init None c k now source init s =
+    if has_few_streams init
+    then put c source init.tag (abort_for InvalidParameter ∷ []) s
+    else init_in s.association.phase c k now source init s
+
+-- an INIT without a tag is dropped (§3.3.2)
 abbrev pub heard_init : Settings → Secrets → (now : ℕ) → Address → InitValue → State → Done
 heard_init c k now source init s =
     if nat_eq init.tag 0
     then silent s
-    else (if has_host_name init.parameters
-    then put c source init.tag (abort_for (UnresolvableAddress []) ∷ []) s
-    else (if has_few_streams init
-    then put c source init.tag (abort_for InvalidParameter ∷ []) s
-    else init_in s.association.phase c k now source init s))
+    else judged_init (host_name_in init.parameters) c k now source init s
 
 -- ---- INIT ACK comes (§5.1 C)
 
@@ -226,13 +220,13 @@ heard_init c k now source init s =
 abbrev pub echo_of : List ℕ → List ItemValue → List ChunkValue
 echo_of cookie [] = CookieEchoChunk cookie ∷ []
 echo_of cookie (item ∷ items) =
-    CookieEchoChunk cookie ∷ ErrorChunk (cause_item (UnrecognizedParameters (item ∷ items)) ∷ []) ∷ []
+    CookieEchoChunk cookie ∷ ErrorChunk (unrecognized_parameters (item ∷ items) ∷ []) ∷ []
 
 -- COOKIE-ECHOED; T1-cookie counts on
 abbrev pub echoed : Settings → (now failures : ℕ) → InitValue → List ℕ → State → Done
 echoed c now failures init cookie s =
     let a = s.association in
-    trying_with c now failures (echo_of cookie (fitting report_octets (reported_in init.parameters)))
+    trying_with c now failures (echo_of cookie (complained_of init.parameters))
     (with_association s (record a {
       phase = CookieEchoed;
       far_tag = init.tag;
@@ -249,7 +243,7 @@ refused c init s =
     (λ left. ended c BadInitAck left)
 
 abbrev pub is_usable : InitValue → Bool
-is_usable init = not (nat_eq init.tag 0) && not (has_few_streams init) && not (has_host_name init.parameters)
+is_usable init = not (nat_eq init.tag 0) && not (has_few_streams init) && is_none (host_name_in init.parameters)
 
 abbrev pub echoed_if : Settings → (now : ℕ) → InitValue → Option Try → Option (List ℕ) → State → Done
 echoed_if c now init (Some t) (Some cookie) s =

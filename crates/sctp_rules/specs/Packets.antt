@@ -2,13 +2,11 @@
 use Rattle.std.specs.Prelude.{ℕ, Bool, true, false, not, ◌*◌, ◌/◌, ◌%◌, ◌^◌, ◌&&◌, ◌||◌, List, [], ◌∷◌}
 use Rattle.std.specs.Prelude.{nat_eq, if◌then◌else◌}
 use Rattle.std.specs.List.{list_any}
-use Rattle.sctp_codec.specs.Items.{item_octets}
 use Rattle.sctp_codec.specs.Packets.{ChunkValue, PacketValue, DataChunk, InitChunk, InitAckChunk, SackChunk}
 use Rattle.sctp_codec.specs.Packets.{HeartbeatChunk, HeartbeatAckChunk, AbortChunk, ShutdownChunk, ShutdownAckChunk, ErrorChunk}
 use Rattle.sctp_codec.specs.Packets.{CookieEchoChunk, CookieAckChunk, ShutdownCompleteChunk, UnknownChunk}
 use Rattle.sctp_codec.specs.Packets.{MalformedChunk}
 use Rattle.sctp_codec.specs.Parameters.{UnrecognizedChunk, cause_item}
-use Rattle.sctp_codec.specs.Writing.{chunk_item}
 use Rattle.sctp_rules.specs.declared.phase.Phase.{Phase}
 use Rattle.sctp_rules.specs.declared.phase.Phase.TheVariants.{Closed, CookieWait, CookieEchoed, Established}
 use Rattle.sctp_rules.specs.declared.phase.Phase.TheVariants.{ShutdownPending, ShutdownSent, ShutdownReceived}
@@ -26,14 +24,14 @@ use Rattle.sctp_rules.specs.Shutdown.{heard_shutdown, heard_shutdown_ack, heard_
 -- ---- tags (§8.5, §8.5.1)
 
 -- ABORT and SHUTDOWN COMPLETE whose tag is reflected have the tag that the peer takes packets by
-abbrev pub is_reflected : ChunkValue → Bool
-is_reflected (AbortChunk is_reflected causes) = is_reflected
-is_reflected (ShutdownCompleteChunk is_reflected) = is_reflected
-is_reflected chunk = false
+abbrev pub has_peer_tag : ChunkValue → Bool
+has_peer_tag (AbortChunk is_reflected causes) = is_reflected
+has_peer_tag (ShutdownCompleteChunk is_reflected) = is_reflected
+has_peer_tag chunk = false
 
 abbrev pub has_tag : Association → (tag : ℕ) → ChunkValue → Bool
 has_tag a tag chunk =
-    if is_reflected chunk
+    if has_peer_tag chunk
     then not (nat_eq a.far_tag 0) && nat_eq tag a.far_tag
     else nat_eq tag a.own_tag
 
@@ -65,10 +63,10 @@ is_reported kind = nat_eq (kind / 2 ^ 6 % 2) 1
 abbrev pub is_skipped : ℕ → Bool
 is_skipped kind = nat_eq (kind / 2 ^ 7 % 2) 1
 
-abbrev pub heard_unknown : (kind : ℕ) → ChunkValue → State → Handled
-heard_unknown kind chunk s = record {
+abbrev pub heard_unknown : (kind flags : ℕ) → List ℕ → State → Handled
+heard_unknown kind flags value s = record {
   does = if is_reported kind
-      then silent (answered (ErrorChunk (cause_item (UnrecognizedChunk (item_octets (chunk_item chunk))) ∷ [])) s)
+      then silent (answered (ErrorChunk (cause_item (UnrecognizedChunk kind flags value) ∷ [])) s)
       else silent s;
   goes_on = is_skipped kind;
 }
@@ -91,7 +89,7 @@ heard_chunk c k now tag (ShutdownCompleteChunk is_reflected) s =
     if has_tag s.association tag (ShutdownCompleteChunk is_reflected)
     then while_there (heard_shutdown_complete c s)
     else while_there (silent s)
-heard_chunk c k now tag (UnknownChunk kind flags value) s = heard_unknown kind (UnknownChunk kind flags value) s
+heard_chunk c k now tag (UnknownChunk kind flags value) s = heard_unknown kind flags value s
 heard_chunk c k now tag (MalformedChunk kind) s = while_there (silent s)
 
 -- one after another
