@@ -1,13 +1,17 @@
 -- Gap blocks, found one after another.
 use Rattle.std.proofs.Common.{◌≡◌, ℕ, zero, suc, ◌+◌, ◌-◌, ◌≤◌, ◌<◌, Bool, true, false, List, [], ◌∷◌, ◌++◌, length, take}
-use Rattle.std.proofs.Common.{refl, ap, sym, ◌∙◌, arith, add-one, append_assoc, Option, Some, None, ◌%◌, ◌^◌}
+use Rattle.std.proofs.Common.{refl, ap, sym, ◌∙◌, arith, add-one, append_assoc, length-append, min, Option, Some, None, ◌%◌, ◌^◌}
 use Rattle.std.specs.Prelude.{◌&&◌, not, if◌then◌else◌, slice_index_or, is_some, sum_by}
-use Rattle.std.proofs.lemmas.List.{take_all, append-nil}
+use Rattle.std.proofs.lemmas.List.{take_all, take-append-le, append-nil, length-take}
+use Rattle.std.proofs.lemmas.List.Sums.{sum_by-cons}
 use Rattle.sctp_receiving.specs.declared.block.Block.{Block}
 use Rattle.sctp_receiving.specs.Pieces.{Piece}
 use Rattle.sctp_receiving.specs.Receiver.{Receiver}
 use Rattle.sctp_receiving.specs.Sack.{is_held_ahead, run_from, block_from, blocks_from, blocks}
 use Rattle.sctp_receiving.specs.Room.{held_count}
+
+abbrev block : (start end : ℕ) → Block
+block start end = record { start = start; end = end }
 
 -- ---- the end of a block
 
@@ -44,6 +48,12 @@ run_is_full r end l m =
     let left : 256 - end ≡ 0 = omega arith in
     rw (left, no_run r (end + 1)) (omega arith)
 
+-- so the block is found
+pub block_is : (r : Receiver) (start end : ℕ) →
+    end + run_from r (end + 1) (256 - end) ≡ start + run_from r (start + 1) (256 - start) →
+    end + run_from r (end + 1) (256 - end) ≡ end → record { start = start; end = end } ≡ block_from r start (256 - start)
+block_is r start end e f = ap (λ (n : ℕ). block start n) (sym f ∙ e)
+
 -- ---- the blocks
 
 blocks_on : (r : Receiver) (before : Bool) (distance many : ℕ) →
@@ -61,6 +71,27 @@ take_again : {A : Type 0} → (n : ℕ) (xs ys : List A) → take n (take n xs +
 take_again zero xs ys = refl
 take_again (suc n) [] ys = refl
 take_again {A} (suc n) (x ∷ xs) ys = ap (λ (more : List A). x ∷ more) (take_again n xs ys)
+
+-- a block more, where there is a place
+pub not_added : (b : Bool) (old more : List Block) → b ≡ false → length old ≤ 100 →
+    old ≡ take 100 (old ++ (if b then more else []))
+not_added true old more e l = absurd (cc)
+not_added false old more e l = sym (ap (λ (bs : List Block). take 100 bs) (append-nil old) ∙ take_all 100 old l)
+
+pub no_place : (old more : List Block) → length old ≤ 100 → 100 ≤ length old → old ≡ take 100 (old ++ more)
+no_place old more l m = sym (take-append-le 100 old more m ∙ take_all 100 old l)
+
+pub added : (b : Bool) (old : List Block) (one : Block) → b ≡ true → length old < 100 →
+    old ++ one ∷ [] ≡ take 100 (old ++ (if b then one ∷ [] else []))
+added true old one e l =
+    let few : length (old ++ one ∷ []) ≤ 100 = omega (arith, l, length-append old (one ∷ [])) in
+    sym (take_all 100 (old ++ one ∷ []) few)
+added false old one e l = absurd (cc)
+
+pub few_taken : (new all : List Block) → new ≡ take 100 all → length new ≤ 100
+few_taken new all e =
+    let long : length new ≡ min 100 (length all) = ap (λ (bs : List Block). length bs) e ∙ length-take 100 all in
+    omega (arith, long)
 
 -- a step of the walk
 pub one_more : (r : Receiver) (before : Bool) (ahead : ℕ) (old new : List Block) → ahead ≤ 256 →
@@ -99,8 +130,8 @@ walked r before ahead found l m e =
 empty-at : (places : List (Option Piece)) (i : ℕ) → sum_by held_count places ≡ 0 → is_some (slice_index_or places i None) ≡ false
 empty-at [] i e = refl
 empty-at (None ∷ places) zero e = refl
-empty-at (None ∷ places) (suc i) e = empty-at places i (omega (arith, e))
-empty-at (Some p ∷ places) i e = absurd (omega (arith, e))
+empty-at (None ∷ places) (suc i) e = empty-at places i (omega (arith, e, sum_by-cons held_count None places))
+empty-at (Some p ∷ places) i e = absurd (omega (arith, e, sum_by-cons held_count (Some p) places))
 
 none_held : (r : Receiver) (before : Bool) (distance many : ℕ) →
     ((ahead : ℕ) → is_held_ahead r ahead ≡ false) → blocks_from r before distance many ≡ []

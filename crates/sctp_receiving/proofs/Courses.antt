@@ -4,7 +4,8 @@ use Rattle.std.proofs.Common.{Option, Some, None, length, map, refl, ap, sym, �
 use Rattle.std.proofs.Common.{replicate, inl, inr, ◌⊎◌, ◌≢◌, nat_eq, nat_le, nat_lt, length-append}
 use Rattle.std.specs.Prelude.{◌&&◌, ◌||◌, is_some, if◌then◌else◌, All}
 use Rattle.std.specs.List.{Contains}
-use Rattle.std.proofs.lemmas.Bool.{nat_tests, cases_lt}
+use Rattle.std.proofs.lemmas.Bool.{cases_lt}
+use Rattle.std.proofs.lemmas.Bool.Decides.{nat_tests}
 use Rattle.std.proofs.lemmas.Grind.{common_steps, get_or-set_at}
 use Rattle.std.proofs.lemmas.List.{map-append, length-set, get_or-set_same, get_or-set_other, get_or-replicate}
 use Rattle.std.proofs.lemmas.List.{length-replicate}
@@ -14,7 +15,7 @@ use Rattle.sctp_receiving.specs.Pieces.{Piece, Partial}
 use Rattle.sctp_receiving.specs.Consuming.{Told, consume}
 use Rattle.sctp_receiving.specs.Receiver.{Receiver, Step, first_receiver, piece_at, ahead, is_held, standing, heard_as}
 use Rattle.sctp_receiving.specs.Receiver.{next_held, take_next, taken, fits}
-use Rattle.sctp_receiving.specs.Courses.{Chunk, Call, Hears, TakesNext, IsCall, AreCalls, Course, first_course, consuming}
+use Rattle.sctp_receiving.specs.Courses.{Chunk, Call, Hears, TakesNext, Reports, IsCall, AreCalls, Course, first_course, consuming}
 use Rattle.sctp_receiving.specs.Courses.{arrived, after_hearing, after_taking, after_call, after_calls, tsns_from, tsn_of}
 use Rattle.sctp_receiving.specs.Courses.{told_of, partial_of, IsInOrder, consumed_in_order, next_is_taken}
 use Rattle.sctp_receiving.specs.declared.standing.Standing.{Standing}
@@ -323,6 +324,7 @@ pub call-so : (call : Call) (streams first : ℕ) (c : Course) → IsCall call �
 call-so (Hears chunk) streams first c t s =
     hears-so (standing c.receiver chunk.tsn chunk.piece) streams first c chunk t refl s
 call-so TakesNext streams first c t s = takes-so (next_held c.receiver) streams first c refl s
+call-so Reports streams first c t s = noted-so true streams first c [] s
 
 pub calls-so : (calls : List Call) (streams first : ℕ) (c : Course) → AreCalls calls → IsCourse streams first c →
     IsCourse streams first (after_calls calls c)
@@ -334,13 +336,13 @@ pub first-so : (streams first : ℕ) → IsCourse streams first (first_course st
 first-so streams first = record {
   streams_so = refl;
   cumulative_so = omega arith;
-  places = length-replicate 256 None;
+  places = length-replicate {A = Option Piece} 256 None;
   order = record { numbered = refl; came = All-nil (λ (x : Chunk). Contains [] x); told = refl };
   partial_so = refl;
   holds = record {
     came_so = λ d p l m e.
-        let none : get_or (replicate 256 None) ((previous_tsn first + d) % 256) None ≡ None =
-        get_or-replicate 256 ((previous_tsn first + d) % 256) None None (omega arith) in
+        let none : get_or {A = Option Piece} (replicate 256 None) ((previous_tsn first + d) % 256) None ≡ None =
+        get_or-replicate {A = Option Piece} 256 ((previous_tsn first + d) % 256) None None (omega arith) in
         let gone : None ≡ Some p = sym none ∙ e in
         absurd (cc);
   };

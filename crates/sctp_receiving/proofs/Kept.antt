@@ -8,7 +8,7 @@ use Rattle.std.proofs.lemmas.List.Elements.{Contains-append_left}
 use Rattle.sctp_receiving.specs.Tsn.{next_tsn, steps_between}
 use Rattle.sctp_receiving.specs.Pieces.{Piece, Partial}
 use Rattle.sctp_receiving.specs.Receiver.{Receiver, standing, next_held}
-use Rattle.sctp_receiving.specs.Courses.{Chunk, Call, Hears, TakesNext, IsCall, AreCalls, Course, first_course, after_hearing}
+use Rattle.sctp_receiving.specs.Courses.{Chunk, Call, Hears, TakesNext, Reports, IsCall, AreCalls, Course, first_course, after_hearing}
 use Rattle.sctp_receiving.specs.Courses.{after_taking, after_call, after_calls, IsHeld, IsKept, held, consumed}
 use Rattle.sctp_receiving.specs.Courses.{nothing_held_is_dropped}
 use Rattle.sctp_receiving.specs.declared.standing.Standing.{Standing}
@@ -113,6 +113,8 @@ kept-call (Hears x) streams first c chunk t u s (consumed h) =
     consumed (still-hearing (standing c.receiver x.tsn x.piece) c x chunk h)
 kept-call TakesNext streams first c chunk t u s (held h) = kept-taking (next_held c.receiver) streams first c chunk u refl s h
 kept-call TakesNext streams first c chunk t u s (consumed h) = consumed (still-taking (next_held c.receiver) c chunk h)
+kept-call Reports streams first c chunk t u s (held h) = held (noted true c.receiver [] chunk h)
+kept-call Reports streams first c chunk t u s (consumed h) = consumed h
 
 kept-calls : (calls : List Call) (streams first : ℕ) (c : Course) (chunk : Chunk) → AreCalls calls → chunk.tsn < 2 ^ 32 →
     IsCourse streams first c → IsKept c chunk → IsKept (after_calls calls c) chunk

@@ -8,6 +8,7 @@ use Rattle.sctp_receiving.specs.Pieces.{Piece, Partial}
 use Rattle.sctp_receiving.specs.Consuming.{Told, consume}
 use Rattle.sctp_receiving.specs.Receiver.{Receiver, Step, first_receiver, piece_at, ahead, standing, heard_as}
 use Rattle.sctp_receiving.specs.Receiver.{next_held, taken_next}
+use Rattle.sctp_receiving.specs.Sack.{reported}
 use Rattle.sctp_receiving.specs.declared.standing.Standing.{Standing}
 use Rattle.sctp_receiving.specs.declared.standing.Standing.TheVariants.{Next, Early, Again, Beyond}
 
@@ -21,11 +22,14 @@ pub data Call : Type 0 where
   Hears : (chunk : Chunk) → Call
   -- the next one is consumed, where it is held
   TakesNext : Call
+  -- what came again is reported
+  Reports : Call
 
 -- a TSN has 32 bits
 abbrev pub IsCall : Call → Type 0
 IsCall (Hears chunk) = chunk.tsn < modulus
 IsCall TakesNext = Unit {0}
+IsCall Reports = Unit {0}
 
 abbrev pub AreCalls : List Call → Type 0
 AreCalls [] = Unit {0}
@@ -75,6 +79,7 @@ after_taking (Some p) c =
 abbrev pub after_call : Call → Course → Course
 after_call (Hears chunk) c = after_hearing (standing c.receiver chunk.tsn chunk.piece) chunk c
 after_call TakesNext c = after_taking (next_held c.receiver) c
+after_call Reports c = record c { receiver = reported c.receiver }
 
 abbrev pub after_calls : List Call → Course → Course
 after_calls [] c = c
@@ -101,8 +106,8 @@ abbrev pub partial_of : (streams : ℕ) → Option Partial → List Chunk → Op
 partial_of streams partial [] = partial
 partial_of streams partial (chunk ∷ chunks) = partial_of streams (consume streams chunk.piece partial).left chunks
 
--- they have TSNs one after another from the peer's first TSN on, each once; each of them came; and what is told is those
--- chunks put together
+-- they have TSNs one after another from the peer's first TSN on, each once; each of them came; and what is told is
+-- those chunks put together
 pub record IsInOrder (streams first : ℕ) (c : Course) : Type 0 where
   pub numbered : map tsn_of c.consumed ≡ tsns_from first (length c.consumed)
   pub came : All (λ chunk. Contains c.came chunk) c.consumed

@@ -175,9 +175,22 @@ impl Receiver {
             then block_from self.now ahead (CHUNKS - ahead) ∷ []
             else [])) }
     {
-        if self.is_held_ahead(ahead) && !is_before_held && !blocks.is_full() {
-            blocks.push(self.block_from(ahead));
+        let is_full = blocks.is_full();
+        if !self.begins_at(ahead, is_before_held) {
+            return;
         }
+        if is_full {
+            return;
+        }
+        blocks.push(self.block_from(ahead));
+    }
+
+    // Whether a block begins so far ahead.
+    fn begins_at(&self, ahead: usize, is_before_held: bool) -> bool
+        requires { ahead ≤ CHUNKS }
+        ensures { result ≡ (is_held_ahead self.now ahead && not is_before_held) }
+    {
+        self.is_held_ahead(ahead) && !is_before_held
     }
 
     // The block that begins so far ahead.

@@ -1,2 +1,5 @@
 pub mod Rows
 pub mod Telling
+pub mod GivenMessages
+pub mod Passing
+pub mod ReceivedMessages

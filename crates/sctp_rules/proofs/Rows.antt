@@ -147,3 +147,91 @@ shutdown_is_complete = record { phase_is = refl; sent_is = refl; told_is = refl 
 pub completion_ends : rows.completion_ends
 unfolding after going drained run_from blocks_from lost_from named_below passed_below
 completion_ends = record { phase_is = refl; sent_is = refl; told_is = refl }
+
+pub both_begin : rows.both_begin
+unfolding after going drained run_from blocks_from lost_from named_below passed_below
+both_begin = record { phase_is = refl; sent_is = refl; told_is = refl }
+
+pub cookie_opens_a_try : rows.cookie_opens_a_try
+unfolding after going drained run_from blocks_from lost_from named_below passed_below
+cookie_opens_a_try = record { phase_is = refl; sent_is = refl; told_is = refl }
+
+pub cookie_goes_out_again : rows.cookie_goes_out_again
+unfolding after going drained run_from blocks_from lost_from named_below passed_below
+cookie_goes_out_again = record { phase_is = refl; sent_is = refl; told_is = refl }
+
+pub cookie_is_too_old : rows.cookie_is_too_old
+unfolding after going drained run_from blocks_from lost_from named_below passed_below
+cookie_is_too_old = record { phase_is = refl; sent_is = refl; told_is = refl }
+
+pub stale_cookie_begins_anew : rows.stale_cookie_begins_anew
+unfolding after going drained run_from blocks_from lost_from named_below passed_below
+stale_cookie_begins_anew = record { phase_is = refl; sent_is = refl; told_is = refl }
+
+pub unusable_init_ack_ends_the_try : rows.unusable_init_ack_ends_the_try
+unfolding after going drained run_from blocks_from lost_from named_below passed_below
+unusable_init_ack_ends_the_try = record { phase_is = refl; sent_is = refl; told_is = refl }
+
+pub giving_up_is_told : rows.giving_up_is_told
+unfolding after going drained run_from blocks_from lost_from named_below passed_below
+giving_up_is_told = record { phase_is = refl; sent_is = refl; told_is = refl }
+
+pub init_is_answered_anew : rows.init_is_answered_anew
+unfolding after going drained run_from blocks_from lost_from named_below passed_below
+init_is_answered_anew = record { phase_is = refl; sent_is = refl; told_is = refl }
+
+pub heartbeat_is_answered : rows.heartbeat_is_answered
+unfolding after going drained run_from blocks_from lost_from named_below passed_below
+heartbeat_is_answered = record { phase_is = refl; sent_is = refl; told_is = refl }
+
+pub heartbeat_goes_out : rows.heartbeat_goes_out
+unfolding after going drained run_from blocks_from lost_from named_below passed_below
+heartbeat_goes_out = record { phase_is = refl; sent_is = refl; told_is = refl }
+
+pub silence_is_a_loss : rows.silence_is_a_loss
+unfolding after going drained run_from blocks_from lost_from named_below passed_below
+silence_is_a_loss = record { phase_is = refl; sent_is = refl; told_is = refl }
+
+pub answer_ends_the_beat : rows.answer_ends_the_beat
+unfolding after going drained run_from blocks_from lost_from named_below passed_below
+answer_ends_the_beat = refl
+
+pub unknown_chunk_is_reported : rows.unknown_chunk_is_reported
+unfolding after going drained run_from blocks_from lost_from named_below passed_below
+unknown_chunk_is_reported = record { phase_is = refl; sent_is = refl; told_is = refl }
+
+pub unknown_chunk_is_passed_over : rows.unknown_chunk_is_passed_over
+unfolding after going drained run_from blocks_from lost_from named_below passed_below
+unknown_chunk_is_passed_over = record { phase_is = refl; sent_is = refl; told_is = refl }
+
+pub data_without_data_is_a_violation : rows.data_without_data_is_a_violation
+unfolding after going drained run_from blocks_from lost_from named_below passed_below
+data_without_data_is_a_violation = record { phase_is = refl; sent_is = refl; told_is = refl }
+
+pub shutdown_is_pending : rows.shutdown_is_pending
+unfolding after going drained run_from blocks_from lost_from named_below passed_below
+shutdown_is_pending = record { phase_is = refl; sent_is = refl; told_is = refl }
+
+pub shutdown_follows_confirmation : rows.shutdown_follows_confirmation
+unfolding after going drained run_from blocks_from lost_from named_below passed_below
+shutdown_follows_confirmation = record { phase_is = refl; sent_is = refl; told_is = refl }
+
+pub shutdown_goes_out_again : rows.shutdown_goes_out_again
+unfolding after going drained run_from blocks_from lost_from named_below passed_below
+shutdown_goes_out_again = record { phase_is = refl; sent_is = refl; told_is = refl }
+
+pub shutdown_guard_ends_it : rows.shutdown_guard_ends_it
+unfolding after going drained run_from blocks_from lost_from named_below passed_below
+shutdown_guard_ends_it = record { phase_is = refl; sent_is = refl; told_is = refl }
+
+pub init_is_answered_by_shutdown_ack : rows.init_is_answered_by_shutdown_ack
+unfolding after going drained run_from blocks_from lost_from named_below passed_below
+init_is_answered_by_shutdown_ack = record { phase_is = refl; sent_is = refl; told_is = refl }
+
+pub shutdown_meets_shutdown : rows.shutdown_meets_shutdown
+unfolding after going drained run_from blocks_from lost_from named_below passed_below
+shutdown_meets_shutdown = record { phase_is = refl; sent_is = refl; told_is = refl }
+
+pub data_with_the_peers_tag_is_dropped : rows.data_with_the_peers_tag_is_dropped
+unfolding after going drained run_from blocks_from lost_from named_below passed_below
+data_with_the_peers_tag_is_dropped = record { phase_is = refl; sent_is = refl; told_is = refl }

@@ -165,13 +165,15 @@ begun : (c : Settings) (now failures : ℕ) (address : Address) (b : Option Begi
 begun c now failures address None s d = ended c losses.NoTag [] s
 begun c now failures address (Some b) s d = record { turn = ap (λ (up : Bool). Some up) d; left = record { right = waiting } }
 
+begun-anew-with : (b : Option Beginning) (c : Settings) (now failures : ℕ) (address : Address) (s : State) →
+    s.association.is_up ≡ false → Tells s (opening.begun_anew_with c now failures address b s)
+begun-anew-with None c now failures address s d = ended c losses.NoTag [] s
+begun-anew-with (Some b) c now failures address s d =
+    record { turn = ap (λ (up : Bool). Some up) d; left = record { right = waiting } }
+
 begun-anew : (c : Settings) (k : Secrets) (now failures : ℕ) (address : Address) (s : State) →
     s.association.is_up ≡ false → Tells s (opening.begun_anew c k now failures address s)
-begun-anew c k now failures address s d =
-    let anew : State = record s { generation = s.generation + 1 } in
-    let t : Tells anew (opening.begun_anew c k now failures address s) =
-    begun c now failures address (k.beginning s.beginnings) anew d in
-    record { turn = t.turn; left = t.left }
+begun-anew c k now failures address s d = begun-anew-with (k.beginning s.beginnings) c now failures address s d
 
 wanting : (s : State) → Right s → Tells s (silent (record s { is_wanted = true }))
 wanting s r = record { turn = refl; left = record { right = r.right } }
@@ -577,7 +579,7 @@ violated c violations.Differs s r = aborted c losses.Protocol ending.violation s
 violated c violations.TooLong s r = aborted c losses.Protocol ending.violation s
 
 -- a violation is the last thing that a receiver tells
-abbrev OnlyLast : List consuming.Told → Type 0
+abbrev pub OnlyLast : List consuming.Told → Type 0
 OnlyLast [] = Unit {0}
 OnlyLast (told ∷ []) = Unit {0}
 OnlyLast (told ∷ next ∷ more) = (receiving.is_violation told ≡ false) × OnlyLast (next ∷ more)
@@ -606,12 +608,12 @@ drained-last (suc many) r =
     (then-last (receiving.is_violation step.told) step.told step.left (drained many step.left) refl (drained-last many step.left))
     tt
 
-received-last : (r : receiving.Receiver) (tsn : ℕ) (p : Piece) → OnlyLast (received r tsn p).told
+pub received-last : (r : receiving.Receiver) (tsn : ℕ) (p : Piece) → OnlyLast (received r tsn p).told
 received-last r tsn p =
     let step : receiving.Step = receiving.hear r tsn p in
     then-last (receiving.is_violation step.told) step.told step.left (drained 256 step.left) refl (drained-last 256 step.left)
 
-rest-last : (told : consuming.Told) (more : List consuming.Told) → OnlyLast (told ∷ more) → OnlyLast more
+pub rest-last : (told : consuming.Told) (more : List consuming.Told) → OnlyLast (told ∷ more) → OnlyLast more
 rest-last told [] h = tt
 rest-last told (next ∷ more) h = h.1
 
@@ -766,14 +768,14 @@ otherwise : (c : Settings) (k : Secrets) (now : ℕ) (source : Address) (tag : �
     Right s → Tells s (arriving.heard_otherwise c k now source tag first more s)
 otherwise c k now source tag first more s r =
     let complete : List ChunkValue = packets.ShutdownCompleteChunk true ∷ [] in
-    let taken : Done = arriving.heard_by_tag c k now source tag (first ∷ more) s in
+    let taken : Done = arriving.heard_by_tag c k now source tag (arriving.looked_at first more) s in
     let late : Bool = arriving.is_late_shutdown s.association.phase first in
     let right-tag : Bool = arriving.has_tag s.association tag first in
     either (opening.is_closed s.association.phase) s (arriving.out_of_the_blue c source tag first more s)
     (if late then state.put c source tag complete s else (if right-tag then taken else silent s))
     (blue c source tag first more s r)
     (either late s (state.put c source tag complete s) (if right-tag then taken else silent s) (putting c source tag complete s r)
-    (either right-tag s taken (silent s) (by-tag c k now source tag (first ∷ more) s r) (stays s [] r)))
+    (either right-tag s taken (silent s) (by-tag c k now source tag (arriving.looked_at first more) s r) (stays s [] r)))
 
 after-echo : (c : Settings) (k : Secrets) (now : ℕ) (source : Address) (tag : ℕ) (more : List ChunkValue) (s : State) (echo : opening.Echo) →
     Tells s echo.does → Tells s (arriving.after_echo c k now source tag more echo)

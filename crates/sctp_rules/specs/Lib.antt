@@ -11,3 +11,5 @@ pub mod Sending
 pub mod Endpoint
 pub mod Rows
 pub mod Telling
+pub mod GivenMessages
+pub mod ReceivedMessages

@@ -109,9 +109,13 @@ abbrev pub begun : Settings → Secrets → (now failures : ℕ) → Address →
 begun c k now failures address s = begun_with c now failures address (k.beginning s.beginnings) s
 
 -- a try begins anew: the generation grows
+abbrev pub begun_anew_with : Settings → (now failures : ℕ) → Address → Option Beginning → State → Done
+begun_anew_with c now failures address None s = ended c NoTag s
+begun_anew_with c now failures address (Some b) s =
+    begun_with c now failures address (Some b) (record s { generation = s.generation + 1 })
+
 abbrev pub begun_anew : Settings → Secrets → (now failures : ℕ) → Address → State → Done
-begun_anew c k now failures address s =
-    begun c k now failures address (record s { generation = s.generation + 1 })
+begun_anew c k now failures address s = begun_anew_with c now failures address (k.beginning s.beginnings) s
 
 -- the user wants an association from now on, and this end tries to open one, or waits for its peer to do so. That is
 -- refused where there is one, or a try of one; an end that waits may begin to try

@@ -154,6 +154,10 @@ abbrev pub is_late_shutdown : Phase → ChunkValue → Bool
 is_late_shutdown phase ShutdownAckChunk = is_waiting phase || is_echoed phase
 is_late_shutdown phase chunk = false
 
+-- behind a chunk with the peer's tag none is looked at: the packet isn't one with this end's tag
+abbrev pub looked_at : ChunkValue → List ChunkValue → List ChunkValue
+looked_at first more = first ∷ (if has_peer_tag first then [] else more)
+
 abbrev pub heard_otherwise :
     Settings → Secrets → (now : ℕ) → Address → (tag : ℕ) → ChunkValue → List ChunkValue → State → Done
 heard_otherwise c k now source tag first more s =
@@ -162,7 +166,7 @@ heard_otherwise c k now source tag first more s =
     else (if is_late_shutdown s.association.phase first
     then put c source tag (ShutdownCompleteChunk true ∷ []) s
     else (if has_tag s.association tag first
-    then heard_by_tag c k now source tag (first ∷ more) s
+    then heard_by_tag c k now source tag (looked_at first more) s
     else silent s))
 
 -- by the first chunk; INIT stands alone, and an INIT that is too short is dropped

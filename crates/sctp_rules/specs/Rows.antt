@@ -4,11 +4,14 @@ use Rattle.sctp_receiving.specs.Pieces as pieces
 use Rattle.sctp_sending.specs.Outgoing.{Message}
 use Rattle.sctp_cookie.specs.declared.cookie.Cookie.{Cookie}
 use Rattle.sctp_codec.specs.Packets.{ChunkValue, PacketValue, kind_of, SackChunk, HeartbeatChunk, CookieAckChunk}
-use Rattle.sctp_codec.specs.Packets.{AbortChunk, ShutdownAckChunk, InitChunk}
+use Rattle.sctp_codec.specs.Packets.{AbortChunk, ShutdownAckChunk, InitChunk, InitAckChunk, HeartbeatAckChunk, InitValue}
+use Rattle.sctp_codec.specs.Packets.{UnknownChunk, DataChunk, ShutdownCompleteChunk}
+use Rattle.sctp_codec.specs.Parameters.{information_of}
 use Rattle.sctp_rules.specs.declared.phase.Phase.TheVariants.{Closed, CookieWait, CookieEchoed, Established}
-use Rattle.sctp_rules.specs.declared.phase.Phase.TheVariants.{ShutdownSent, ShutdownAckSent}
+use Rattle.sctp_rules.specs.declared.phase.Phase.TheVariants.{ShutdownPending, ShutdownSent, ShutdownAckSent}
 use Rattle.sctp_rules.specs.declared.phase.Phase.{Phase}
 use Rattle.sctp_rules.specs.declared.loss.Loss.TheVariants.{Local, Aborted, Shutdown, Restart, NoAnswer, Refused, Protocol}
+use Rattle.sctp_rules.specs.declared.loss.Loss.TheVariants.{BadInitAck}
 use Rattle.sctp_rules.specs.Settings.{Settings, Secrets, Address, Beginning}
 use Rattle.sctp_rules.specs.State.{State, Datagram, Told, Up, Heard, Down, Failed, Done, first_state}
 use Rattle.sctp_rules.specs.Opening.{init_of}
@@ -286,6 +289,13 @@ abbrev pub wrong_tag_is_dropped : Type 0
 wrong_tag_is_dropped =
     Does (near (comes 8 (of_chunk 11 too_much)) opens_second.left) Established [] []
 
+-- behind a SHUTDOWN COMPLETE with the peer's tag, DATA isn't looked at
+abbrev pub data_with_the_peers_tag : PacketValue
+data_with_the_peers_tag = record (packet sends) { tag = 10; chunks = ShutdownCompleteChunk true ∷ (packet sends).chunks }
+
+abbrev pub data_with_the_peers_tag_is_dropped : Type 0
+data_with_the_peers_tag_is_dropped = Does (far (comes 6 data_with_the_peers_tag) acknowledges.left) Established [] []
+
 -- ---- the end (§9)
 
 abbrev pub aborts : Done
@@ -326,3 +336,146 @@ shutdown_is_complete = Does shutdown_completes Closed ((14 ∷ []) ∷ []) (Down
 
 abbrev pub completion_ends : Type 0
 completion_ends = Does (far (comes 13 (packet shutdown_completes)) shutdown_answered.left) Closed [] []
+
+-- ---- both ends begin at once (§5.2.1)
+
+abbrev pub far_tries : Done
+far_tries = far (Opens 0 true) new
+
+abbrev pub answers_alike : Done
+answers_alike = far (comes 1 (packet tries)) far_tries.left
+
+-- the INIT ACK has the tag of the own INIT
+abbrev pub both_begin : Type 0
+both_begin = Does answers_alike CookieWait ((2 ∷ []) ∷ []) []
+
+abbrev pub near_echoes : Done
+near_echoes = near (comes 2 (packet answers_alike)) tries.left
+
+abbrev pub cookie_opens_a_try : Type 0
+cookie_opens_a_try = Does (far (comes 3 (packet near_echoes)) answers_alike.left) Established [] (Up ∷ [])
+
+-- ---- T1 in COOKIE-ECHOED, and a stale cookie (§5.2.6)
+
+abbrev pub cookie_goes_out_again : Type 0
+cookie_goes_out_again = Does (near (Ticked 302) echoes.left) CookieEchoed ((10 ∷ []) ∷ []) []
+
+abbrev pub cookie_is_too_old : Type 0
+cookie_is_too_old = Does (far (comes 60002 (packet echoes)) answers.left) Closed ((9 ∷ []) ∷ []) []
+
+abbrev pub refuses_old_cookie : Done
+refuses_old_cookie = far (comes 60002 (packet echoes)) answers.left
+
+abbrev pub stale_cookie_begins_anew : Type 0
+stale_cookie_begins_anew = Does (near (comes 60003 (packet refuses_old_cookie)) echoes.left) CookieWait ((1 ∷ []) ∷ []) []
+
+abbrev pub too_few_streams : InitValue
+too_few_streams = record (init_of (record { tag = 20; first = 5 }) []) { incoming = 1 }
+
+abbrev pub unusable_init_ack_ends_the_try : Type 0
+unusable_init_ack_ends_the_try =
+    Does (near (comes 1 (of_chunk 10 (InitAckChunk too_few_streams))) tries.left) Closed ((6 ∷ []) ∷ [])
+    (Failed BadInitAck ∷ [])
+
+abbrev pub giving_up_is_told : Type 0
+giving_up_is_told = Does (far Aborts waits.left) Closed [] (Failed Local ∷ [])
+
+-- ---- in an association
+
+-- an INIT is answered with a new tag, and changes nothing else
+abbrev pub init_is_answered_anew : Type 0
+init_is_answered_anew = Does answers_other Established ((2 ∷ []) ∷ []) []
+
+abbrev pub heartbeat_is_answered : Type 0
+heartbeat_is_answered =
+    Does (near (Flushes 5) (near (comes 5 (of_chunk 10 (HeartbeatChunk (1 ∷ [])))) opens_second.left).left) Established
+    ((5 ∷ []) ∷ []) []
+
+abbrev pub beats : Done
+beats = near (Ticked 5304) opens_second.left
+
+abbrev pub heartbeat_goes_out : Type 0
+heartbeat_goes_out = Does (near (Flushes 5304) beats.left) Established ((4 ∷ []) ∷ []) []
+
+abbrev pub beats_again : Done
+beats_again = near (Ticked 5604) beats.left
+
+abbrev pub beats_thrice : Done
+beats_thrice = near (Ticked 6204) beats_again.left
+
+-- without an answer for one time too many, the association ends
+abbrev pub silence_is_a_loss : Type 0
+silence_is_a_loss =
+    Does (near (Ticked 8000) beats_thrice.left) Closed ((4 ∷ 4 ∷ 4 ∷ 6 ∷ []) ∷ []) (Down NoAnswer ∷ [])
+
+-- an answer to the heartbeat begins the count anew
+abbrev pub heartbeat_of_near : ChunkValue
+heartbeat_of_near = HeartbeatAckChunk (information_of 0)
+
+abbrev pub answer_ends_the_beat : Type 0
+answer_ends_the_beat =
+    (near (comes 5350 (of_chunk 10 heartbeat_of_near)) beats.left).left.association.beat_due ≡ Some 10488
+
+abbrev pub unknown_chunk_is_reported : Type 0
+unknown_chunk_is_reported =
+    Does (near (Flushes 5) (near (comes 5 (of_chunk 10 (UnknownChunk 192 0 []))) opens_second.left).left) Established
+    ((9 ∷ []) ∷ []) []
+
+abbrev pub unknown_chunk_is_passed_over : Type 0
+unknown_chunk_is_passed_over =
+    Does (near (Flushes 5) (near (comes 5 (of_chunk 10 (UnknownChunk 128 0 []))) opens_second.left).left) Established
+    [] []
+
+-- DATA without data
+abbrev pub empty_data : ChunkValue
+empty_data = DataChunk (record {
+  immediate = false;
+  unordered = false;
+  begins = true;
+  ends = true;
+  tsn = 100;
+  stream = 0;
+  sequence = 0;
+  protocol = 5;
+  octets = [];
+})
+
+abbrev pub data_without_data_is_a_violation : Type 0
+data_without_data_is_a_violation =
+    Does (near (comes 5 (of_chunk 10 empty_data)) opens_second.left) Closed ((6 ∷ []) ∷ []) (Down Protocol ∷ [])
+
+-- ---- shutting down
+
+-- SHUTDOWN waits until all that was sent is confirmed
+abbrev pub shutdown_waits : Done
+shutdown_waits = near (ShutsDown 6) sends.left
+
+abbrev pub shutdown_is_pending : Type 0
+shutdown_is_pending = Does shutdown_waits ShutdownPending [] []
+
+abbrev pub shutdown_follows_confirmation : Type 0
+shutdown_follows_confirmation =
+    Does (near (Flushes 7) (near (comes 7 (packet reports)) shutdown_waits.left).left) ShutdownSent ((7 ∷ []) ∷ []) []
+
+-- T2
+abbrev pub shutdown_goes_out_again : Type 0
+shutdown_goes_out_again =
+    Does (near (Flushes 310) (near (Ticked 310) shutdown_goes_out.left).left) ShutdownSent ((7 ∷ []) ∷ []) []
+
+-- T5
+abbrev pub shutdown_guard_ends_it : Type 0
+shutdown_guard_ends_it = Does (near (Ticked 5010) shutdown_goes_out.left) Closed ((6 ∷ []) ∷ []) (Down NoAnswer ∷ [])
+
+-- in SHUTDOWN-ACK-SENT an INIT is answered by SHUTDOWN ACK
+abbrev pub init_is_answered_by_shutdown_ack : Type 0
+init_is_answered_by_shutdown_ack =
+    Does (far (comes 12 (packet other_tries)) shutdown_answered.left) ShutdownAckSent ((8 ∷ []) ∷ []) []
+
+-- both ends shut down at once
+abbrev pub far_shuts_down : Done
+far_shuts_down = far (Flushes 10) (far (ShutsDown 10) acknowledges.left).left
+
+abbrev pub shutdown_meets_shutdown : Type 0
+shutdown_meets_shutdown =
+    Does (near (Flushes 11) (near (comes 11 (packet far_shuts_down)) shutdown_goes_out.left).left) ShutdownAckSent
+    ((8 ∷ []) ∷ []) []

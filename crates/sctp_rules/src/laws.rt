@@ -1,8 +1,22 @@
 //! Laws of the abstract endpoint, of any peer whatever.
 
+ghost use Rattle.sctp_rules.specs.GivenMessages.{given_messages_go_out};
+ghost use Rattle.sctp_rules.specs.ReceivedMessages.{messages_are_received};
 ghost use Rattle.sctp_rules.specs.Telling.{told_in_turn};
 
 /// Whatever happens, the user is told in turn: Up, then messages, then Down; and Failed only while none is up.
 pub fn users_are_told_in_turn()
     ensures { told_in_turn }
+{}
+
+/// Whatever happens, the receiver of an association is one to which chunks of packets came, from the peer's first TSN
+/// on; and the messages that were told since Up are those that it told.
+pub fn what_is_told_was_received()
+    ensures { messages_are_received }
+{}
+
+/// Whatever comes, each chunk that goes out of a sending half is a message that was given, under the first TSN and its
+/// place; and what is confirmed leaves from the front.
+pub fn what_goes_out_was_given()
+    ensures { given_messages_go_out }
 {}
