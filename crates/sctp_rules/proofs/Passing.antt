@@ -1,5 +1,5 @@
 -- One pass over all rules, for laws that hold of every list of happenings.
-use Rattle.std.proofs.Common.{◌≡◌, ℕ, ◌+◌, ◌-◌, ◌*◌, Bool, true, false, List, [], ◌∷◌, ◌++◌, Option, Some, None, refl, ap, sym, ◌∙◌, subst}
+use Rattle.std.proofs.Common.{◌≡◌, ◌≤◌, ℕ, ◌+◌, ◌-◌, ◌*◌, arith, Bool, true, false, List, [], ◌∷◌, ◌++◌, Option, Some, None, refl, ap, sym, ◌∙◌, subst}
 use Rattle.std.proofs.Common.{nat_eq, nat_lt, nat_le, length}
 use Rattle.std.specs.Prelude.{◌&&◌, ◌||◌, not, if◌then◌else◌}
 use Rattle.std.specs.Str.{bytes_eq}
@@ -252,10 +252,10 @@ abbrev pub Comes : (DataValue → Type 0) → Happening → Type 0
 Comes IsCome (Came now source packet) = HaveCome IsCome packet.chunks
 Comes IsCome what = Unit {0}
 
-looked-at : {IsCome : DataValue → Type 0} → (b : Bool) (first : ChunkValue) (more : List ChunkValue) → HaveCome IsCome (first ∷ more) →
+looked-at : (IsCome : DataValue → Type 0) (b : Bool) (first : ChunkValue) (more : List ChunkValue) → HaveCome IsCome (first ∷ more) →
     HaveCome IsCome (first ∷ (if b then [] else more))
-looked-at true first more h = (h.0, tt)
-looked-at false first more h = h
+looked-at IsCome true first more h = (h.0, tt)
+looked-at IsCome false first more h = h
 
 told-right : (c : Settings) (tolds : List consuming.Told) (s : State) → Right s → Right (data_rules.told_each c tolds s).left
 told-right c [] s r = r
@@ -842,7 +842,7 @@ module _ {IsCome : DataValue → Type 0} {R : State → Done → Type 0} (steps 
       (if late then state.put c source tag complete s else (if right-tag then taken else silent s))
       (blue c source tag first more s r)
       (either late s (state.put c source tag complete s) (if right-tag then taken else silent s) (putting c source tag complete s r)
-      (either right-tag s taken (silent s) (by-tag c k now source tag (arriving.looked_at first more) s (looked-at (arriving.has_peer_tag first) first more h) r) (stays s [] r)))
+      (either right-tag s taken (silent s) (by-tag c k now source tag (arriving.looked_at first more) s (looked-at IsCome (arriving.has_peer_tag first) first more h) r) (stays s [] r)))
 
   after-echo : (c : Settings) (k : Secrets) (now : ℕ) (source : Address) (tag : ℕ) (more : List ChunkValue) (s : State) (echo : opening.Echo) →
       HaveCome IsCome more → Passes R s echo.does → Passes R s (arriving.after_echo c k now source tag more echo)

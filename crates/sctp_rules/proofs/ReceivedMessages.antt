@@ -375,7 +375,7 @@ chunks-come : (came : List Chunk) (chunks : List ChunkValue) → All Fits (chunk
 chunks-come came [] f h = tt
 chunks-come came (packets.DataChunk d ∷ chunks) f h = (
   record { fits = f 0 (chunk_of d) (omega arith); there = h (chunk_of d) (0, omega arith, refl) },
-  chunks-come came chunks (λ k x l. f (k + 1) x (omega (arith, l))) (λ x i. h x (i.0 + 1, omega (arith, i.1), i.2)),
+  chunks-come came chunks (λ i x l. f (suc i) x (omega (arith, l))) (λ x i. h x (suc i.0, omega (arith, i.1), i.2)),
 )
 chunks-come came (packets.InitChunk init ∷ chunks) f h = (tt, chunks-come came chunks f h)
 chunks-come came (packets.InitAckChunk init ∷ chunks) f h = (tt, chunks-come came chunks f h)
