@@ -1,6 +1,6 @@
 -- Gap blocks, found one after another.
 use Rattle.std.proofs.Common.{◌≡◌, ℕ, zero, suc, ◌+◌, ◌-◌, ◌≤◌, ◌<◌, Bool, true, false, List, [], ◌∷◌, ◌++◌, length, take}
-use Rattle.std.proofs.Common.{refl, ap, sym, ◌∙◌, arith, add-one, append_assoc, length-append, min, Option, Some, None, ◌%◌, ◌^◌}
+use Rattle.std.proofs.Common.{refl, ap, sym, ◌∙◌, arith, append_assoc, length-append, min, Option, Some, None, ◌%◌, ◌^◌}
 use Rattle.std.specs.Prelude.{◌&&◌, not, if◌then◌else◌, slice_index_or, is_some, sum_by}
 use Rattle.std.proofs.lemmas.List.{take_all, take-append-le, append-nil, length-take}
 use Rattle.std.proofs.lemmas.List.Sums.{sum_by-cons}

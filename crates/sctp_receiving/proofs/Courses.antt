@@ -1,23 +1,23 @@
 -- A receiver under any list of calls.
 use Rattle.std.proofs.Common.{◌≡◌, ℕ, zero, suc, ◌+◌, ◌-◌, ◌%◌, ◌^◌, ◌<◌, ◌≤◌, Bool, true, false, List, [], ◌∷◌, ◌++◌}
-use Rattle.std.proofs.Common.{Option, Some, None, length, map, refl, ap, sym, ◌∙◌, subst, arith, add-one, set, get_or}
+use Rattle.std.proofs.Common.{Option, Some, None, length, refl, ap, sym, ◌∙◌, subst, arith, add-one, set, get_or}
 use Rattle.std.proofs.Common.{replicate, inl, inr, ◌⊎◌, ◌≢◌, nat_eq, nat_le, nat_lt, length-append}
 use Rattle.std.specs.Prelude.{◌&&◌, ◌||◌, is_some, if◌then◌else◌, All}
 use Rattle.std.specs.List.{Contains}
 use Rattle.std.proofs.lemmas.Bool.{cases_lt}
 use Rattle.std.proofs.lemmas.Bool.Decides.{nat_tests}
-use Rattle.std.proofs.lemmas.Grind.{common_steps, get_or-set_at}
+use Rattle.std.proofs.lemmas.Grind.{get_or-set_at}
 use Rattle.std.proofs.lemmas.List.{map-append, length-set, get_or-set_same, get_or-set_other, get_or-replicate}
 use Rattle.std.proofs.lemmas.List.{length-replicate}
 use Rattle.std.proofs.lemmas.List.Elements.{All-append, All-weaker, All-nil, Contains-append_left, Contains-append_right}
-use Rattle.sctp_receiving.specs.Tsn.{modulus, next_tsn, previous_tsn, steps_between}
+use Rattle.sctp_receiving.specs.Tsn.{next_tsn, previous_tsn, steps_between}
 use Rattle.sctp_receiving.specs.Pieces.{Piece, Partial}
 use Rattle.sctp_receiving.specs.Consuming.{Told, consume}
-use Rattle.sctp_receiving.specs.Receiver.{Receiver, Step, first_receiver, piece_at, ahead, is_held, standing, heard_as}
-use Rattle.sctp_receiving.specs.Receiver.{next_held, take_next, taken, fits}
+use Rattle.sctp_receiving.specs.Receiver.{Receiver, piece_at, ahead, is_held, standing}
+use Rattle.sctp_receiving.specs.Receiver.{next_held, taken, fits}
 use Rattle.sctp_receiving.specs.Courses.{Chunk, Call, Hears, TakesNext, Reports, IsCall, AreCalls, Course, first_course, consuming}
-use Rattle.sctp_receiving.specs.Courses.{arrived, after_hearing, after_taking, after_call, after_calls, tsns_from, tsn_of}
-use Rattle.sctp_receiving.specs.Courses.{told_of, partial_of, IsInOrder, consumed_in_order, next_is_taken}
+use Rattle.sctp_receiving.specs.Courses.{arrived, after_hearing, after_taking, after_call, after_calls, tsn_of}
+use Rattle.sctp_receiving.specs.Courses.{told_of, partial_of, IsInOrder, consumed_in_order}
 use Rattle.sctp_receiving.specs.declared.standing.Standing.{Standing}
 use Rattle.sctp_receiving.specs.declared.standing.Standing.TheVariants.{Next, Early, Again, Beyond}
 

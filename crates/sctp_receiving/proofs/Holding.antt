@@ -1,5 +1,5 @@
 -- How many chunks are held.
-use Rattle.std.proofs.Common.{◌≤◌, ◌+◌, List, [], ◌∷◌, Option, Some, None, length, arith}
+use Rattle.std.proofs.Common.{◌≤◌, List, [], ◌∷◌, Option, Some, None, length, arith}
 use Rattle.std.specs.Prelude.{sum_by}
 use Rattle.std.proofs.lemmas.List.Sums.{sum_by-cons}
 use Rattle.sctp_receiving.specs.Pieces.{Piece}

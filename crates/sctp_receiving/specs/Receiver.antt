@@ -1,5 +1,5 @@
 -- The receiving half of an association: which chunks came, and what becomes of the next one (RFC 9260 §6.2, §6.7).
-use Rattle.std.specs.Prelude.{ℕ, zero, suc, Bool, true, false, ◌+◌, ◌-◌, ◌%◌, ◌≤◌, ◌&&◌, ◌||◌, List, [], ◌∷◌, ◌++◌}
+use Rattle.std.specs.Prelude.{ℕ, zero, suc, Bool, true, false, ◌-◌, ◌%◌, ◌&&◌, ◌||◌, List, [], ◌∷◌, ◌++◌}
 use Rattle.std.specs.Prelude.{Option, Some, None}
 use Rattle.std.specs.Prelude.{length, replicate, is_some, nat_eq, nat_lt, nat_le, slice_index_or, slice_set}
 use Rattle.std.specs.Prelude.{sum_by, if◌then◌else◌}

@@ -1,5 +1,5 @@
-use Rattle.std.proofs.Common.{◌≡◌, ◌≤◌, ◌+◌, ◌-◌, replicate, length, None}
-use Rattle.std.specs.Prelude.{vec_capacity, vec_len}
+use Rattle.std.proofs.Common.{◌≡◌, replicate, None}
+use Rattle.std.specs.Prelude.{vec_capacity}
 use Rattle.sctp_receiving.proofs.receiver.empty_places.Given as goal
 
 abbrev pub invariant-loop : goal.invariant-loop

@@ -1,4 +1,4 @@
-use Rattle.std.proofs.Common.{◌≡◌, Bool, ap, ◌∙◌, ◌+◌, ◌-◌, ◌++◌, take, arith}
+use Rattle.std.proofs.Common.{Bool, ap, ◌∙◌, ◌+◌, ◌-◌, ◌++◌, take, arith}
 use Rattle.sctp_receiving.specs.Sack.{blocks_from}
 use Rattle.sctp_receiving.proofs.Blocks.{one_more, walked, few_taken}
 use Rattle.sctp_receiving.proofs.receiver.Receiver.blocks_held.Goals as goal
