@@ -1,7 +1,8 @@
 //! The receiving half of an association.
 
 ghost use Rattle.std.specs.Prelude.{◌≡◌, ℕ, ◌+◌, ◌-◌, ◌%◌, ◌<◌, ◌≤◌, ◌^◌, ◌++◌, ◌∷◌, [], length, IsTrue, IfOk};
-ghost use Rattle.std.specs.Prelude.{Some, None, ◌&&◌, not, take, is_some, if◌then◌else◌, replicate, slice_index_or, slice_set, sum_by};
+ghost use Rattle.std.specs.Prelude.{Some, None, ◌&&◌, not, take, is_some, if◌then◌else◌, replicate, slice_index_or};
+ghost use Rattle.std.specs.Prelude.{slice_set, sum_by};
 ghost use Rattle.std.specs.Option.{option_map};
 ghost use Rattle.sctp_receiving.specs.Tsn.{next_tsn, steps_between};
 ghost use Rattle.sctp_receiving.specs.Pieces as pieces;

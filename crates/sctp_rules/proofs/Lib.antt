@@ -3,3 +3,4 @@ pub mod Telling
 pub mod GivenMessages
 pub mod Passing
 pub mod ReceivedMessages
+pub mod Openings

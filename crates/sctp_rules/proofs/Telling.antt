@@ -1,59 +1,26 @@
--- What the user is told, rule by rule.
-use Rattle.std.proofs.Common.{◌≡◌, ℕ, ◌+◌, ◌-◌, ◌*◌, Bool, true, false, List, [], ◌∷◌, ◌++◌, Option, Some, None, refl, ap, sym, ◌∙◌, subst}
-use Rattle.std.proofs.Common.{nat_eq, nat_lt, nat_le, length}
-use Rattle.std.specs.Prelude.{zero, suc, is_some, ◌&&◌, ◌||◌, not, if◌then◌else◌}
-use Rattle.std.specs.Str.{bytes_eq}
-use Rattle.std.specs.List.{list_any}
+-- What the user is told, by the pass over all rules.
+use Rattle.std.proofs.Common.{◌≡◌, ℕ, ◌+◌, Bool, true, false, List, [], ◌∷◌, ◌++◌, Option, Some, None, refl, ap, sym, ◌∙◌}
+use Rattle.std.specs.Prelude.{zero, suc, is_some, if◌then◌else◌}
+use Rattle.sctp_receiving.specs.Pieces.{Piece}
 use Rattle.sctp_receiving.specs.Consuming as consuming
-use Rattle.sctp_receiving.specs.declared.violation.Violation.{Violation}
-use Rattle.sctp_receiving.specs.declared.violation.Violation.TheVariants as violations
 use Rattle.sctp_receiving.specs.Receiver.{received, drained}
 use Rattle.sctp_receiving.specs.Receiver as receiving
-use Rattle.sctp_receiving.specs.Pieces.{Piece}
-use Rattle.sctp_codec.specs.Items.{ItemValue}
+use Rattle.sctp_receiving.specs.declared.violation.Violation.{Violation}
+use Rattle.sctp_receiving.specs.declared.violation.Violation.TheVariants as violations
 use Rattle.sctp_codec.specs.Packets as packets
-use Rattle.sctp_codec.specs.Packets.{ChunkValue, InitValue, SackValue, DataValue, PacketValue}
-use Rattle.sctp_codec.specs.Parameters.{CauseValue, UnresolvableAddress, InvalidParameter, EndedByUser, NoUserData}
-use Rattle.sctp_codec.specs.Parameters.{UnrecognizedChunk, cause_item, cookie_in, host_name_in, has_stale_cookie}
-use Rattle.sctp_codec.specs.Parameters.{information_of}
-use Rattle.sctp_sending.specs.Outgoing.{Message}
-use Rattle.sctp_sending.specs.Sending.{confirmation, given}
-use Rattle.sctp_sending.specs.RoundTrips.{backed_off}
-use Rattle.sctp_rules.specs.declared.phase.Phase.{Phase}
-use Rattle.sctp_rules.specs.declared.phase.Phase.TheVariants.{Closed, CookieWait, CookieEchoed, Established}
-use Rattle.sctp_rules.specs.declared.phase.Phase.TheVariants.{ShutdownPending, ShutdownSent, ShutdownReceived}
-use Rattle.sctp_rules.specs.declared.phase.Phase.TheVariants.{ShutdownAckSent}
+use Rattle.sctp_codec.specs.Packets.{ChunkValue, DataValue}
 use Rattle.sctp_rules.specs.declared.loss.Loss.{Loss}
 use Rattle.sctp_rules.specs.declared.loss.Loss.TheVariants as losses
-use Rattle.sctp_cookie.specs.declared.cookie.Cookie.{Cookie}
-use Rattle.sctp_rules.specs.Settings.{Settings, Secrets, Beginning, Address}
+use Rattle.sctp_rules.specs.Settings.{Settings, Secrets}
 use Rattle.sctp_rules.specs.State as state
-use Rattle.sctp_rules.specs.State.{Association, State, Told, Up, Heard, Down, Failed, Done, Try, Beat, silent, followed_by}
-use Rattle.sctp_rules.specs.State.{no_association, first_state, Datagram}
+use Rattle.sctp_rules.specs.State.{State, Told, Up, Heard, Down, Failed, Done, silent, followed_by, first_state}
 use Rattle.sctp_rules.specs.Ending as ending
-use Rattle.sctp_rules.specs.Opening as opening
-use Rattle.sctp_rules.specs.Confirming as confirming
-use Rattle.sctp_rules.specs.Shutdown as shutdown
 use Rattle.sctp_rules.specs.Data as data_rules
-use Rattle.sctp_rules.specs.Packets as arriving
-use Rattle.sctp_rules.specs.Timers as timers
-use Rattle.sctp_rules.specs.Sending as sending
 use Rattle.sctp_rules.specs.Endpoint.{Happening, Opens, Came, Ticked, Sends, Aborts, ShutsDown, Flushes, after, after_all}
 use Rattle.sctp_rules.specs.Telling.{turned, turned_by, and_then, told_in_turn}
+use Rattle.sctp_rules.proofs.Passing.{AreSteps, Passes, Right, HaveCome, Comes, happens, off, answer-alike}
 
--- ---- what joins rules
-
--- while DATA counts the association is up, and before there is one none is
-pub record IsRight (phase : Phase) (is_up : Bool) : Type 0 where
-  pub up : data_rules.takes_data phase ≡ true → is_up ≡ true
-  pub down : opening.is_there phase ≡ false → is_up ≡ false
-
-pub record Right (s : State) : Type 0 where
-  pub right : IsRight s.association.phase s.association.is_up
-
-pub record Tells (s : State) (d : Done) : Type 0 where
-  pub turn : turned_by d.told s.association.is_up ≡ Some d.left.association.is_up
-  pub left : Right d.left
+-- ---- lists of what is told
 
 from-there : (o : Option Bool) (ts second : List Told) →
     ((up : Bool) → turned_by (ts ++ second) up ≡ and_then (λ v. turned_by second v) (turned_by ts up)) →
@@ -66,34 +33,16 @@ turned-on : (first second : List Told) (up : Bool) →
 turned-on [] second up = refl
 turned-on (t ∷ ts) second up = from-there (turned up t) ts second (λ v. turned-on ts second v)
 
--- a rule, and then another
-next : (s : State) (d : Done) (rule : State → Done) → Tells s d → ((left : State) → Right left → Tells left (rule left)) →
-    Tells s (followed_by d rule)
-next s d rule t h =
-    let after-that : Tells d.left (rule d.left) = h d.left t.left in
-    record {
-      turn = turned-on d.told (rule d.left).told s.association.is_up
-          ∙ ap (λ (o : Option Bool). and_then (λ v. turned_by (rule d.left).told v) o) t.turn
-          ∙ after-that.turn;
-      left = after-that.left;
-    }
+-- what a rule tells is told in turn
+pub record Turns (s : State) (d : Done) : Type 0 where
+  pub turn : turned_by d.told s.association.is_up ≡ Some d.left.association.is_up
 
--- a test
-either : (b : Bool) (s : State) (d e : Done) → Tells s d → Tells s e → Tells s (if b then d else e)
-either true s d e t u = t
-either false s d e t u = u
-
--- nothing is told, and nothing that is told of changes
-quiet : (s left : State) (sent : List Datagram) → Right left → s.association.is_up ≡ left.association.is_up →
-    Tells s (record { sent = sent; told = []; left = left })
-quiet s left sent r e = record { turn = ap (λ (b : Bool). Some b) e; left = r }
-
-stays : (s : State) (sent : List Datagram) → Right s → Tells s (record { sent = sent; told = []; left = s })
-stays s sent r = record { turn = refl; left = r }
-
--- none is up
-off : IsRight Closed false
-off = record { up = λ e. absurd (cc); down = λ e. refl }
+also-turns : (s : State) (d : Done) (rule : State → Done) → Turns s d → Turns d.left (rule d.left) → Turns s (followed_by d rule)
+also-turns s d rule t u = record {
+  turn = turned-on d.told (rule d.left).told s.association.is_up
+      ∙ ap (λ (o : Option Bool). and_then (λ v. turned_by (rule d.left).told v) o) t.turn
+      ∙ u.turn;
+}
 
 ended-turn : (is_up is_wanted : Bool) (why : Loss) →
     turned_by (if is_up then Down why ∷ [] else (if is_wanted then Failed why ∷ [] else [])) is_up ≡ Some false
@@ -101,484 +50,15 @@ ended-turn true is_wanted why = refl
 ended-turn false true why = refl
 ended-turn false false why = refl
 
-ended : (c : Settings) (why : Loss) (chunks : List ChunkValue) (s : State) → Tells s (ending.ended_with c why chunks s)
-ended c why chunks s = record {
-  turn = ended-turn s.association.is_up s.is_wanted why;
-  left = record { right = off };
-}
-
--- a test that decides
-either-so : (b : Bool) (s : State) (d e : Done) → (b ≡ true → Tells s d) → (b ≡ false → Tells s e) →
-    Tells s (if b then d else e)
-either-so true s d e t u = t refl
-either-so false s d e t u = u refl
-
--- ---- the states before there is an association
-
-closed-down : (phase : Phase) → opening.is_closed phase ≡ true → opening.is_there phase ≡ false
-closed-down Closed e = refl
-closed-down CookieWait e = refl
-closed-down CookieEchoed e = refl
-closed-down Established e = absurd (cc)
-closed-down ShutdownPending e = absurd (cc)
-closed-down ShutdownSent e = absurd (cc)
-closed-down ShutdownReceived e = absurd (cc)
-closed-down ShutdownAckSent e = absurd (cc)
-
-echoed-down : (phase : Phase) → opening.is_echoed phase ≡ true → opening.is_there phase ≡ false
-echoed-down Closed e = refl
-echoed-down CookieWait e = refl
-echoed-down CookieEchoed e = refl
-echoed-down Established e = absurd (cc)
-echoed-down ShutdownPending e = absurd (cc)
-echoed-down ShutdownSent e = absurd (cc)
-echoed-down ShutdownReceived e = absurd (cc)
-echoed-down ShutdownAckSent e = absurd (cc)
-
-waiting-down : (phase : Phase) → opening.is_waiting phase ≡ true → opening.is_there phase ≡ false
-waiting-down Closed e = refl
-waiting-down CookieWait e = refl
-waiting-down CookieEchoed e = refl
-waiting-down Established e = absurd (cc)
-waiting-down ShutdownPending e = absurd (cc)
-waiting-down ShutdownSent e = absurd (cc)
-waiting-down ShutdownReceived e = absurd (cc)
-waiting-down ShutdownAckSent e = absurd (cc)
-
-waiting : IsRight CookieWait false
-waiting = record { up = λ e. absurd (cc); down = λ e. refl }
-
-echoing : IsRight CookieEchoed false
-echoing = record { up = λ e. absurd (cc); down = λ e. refl }
-
-there : IsRight Established true
-there = record { up = λ e. refl; down = λ e. absurd (cc) }
-
-both-true : (x y : Bool) → (x && y) ≡ true → x ≡ true
-both-true true y e = refl
-both-true false y e = absurd (cc)
-
--- ---- opening
-
-begun : (c : Settings) (now failures : ℕ) (address : Address) (b : Option Beginning) (s : State) →
-    s.association.is_up ≡ false → Tells s (opening.begun_with c now failures address b s)
-begun c now failures address None s d = ended c losses.NoTag [] s
-begun c now failures address (Some b) s d = record { turn = ap (λ (up : Bool). Some up) d; left = record { right = waiting } }
-
-begun-anew-with : (b : Option Beginning) (c : Settings) (now failures : ℕ) (address : Address) (s : State) →
-    s.association.is_up ≡ false → Tells s (opening.begun_anew_with c now failures address b s)
-begun-anew-with None c now failures address s d = ended c losses.NoTag [] s
-begun-anew-with (Some b) c now failures address s d =
-    record { turn = ap (λ (up : Bool). Some up) d; left = record { right = waiting } }
-
-begun-anew : (c : Settings) (k : Secrets) (now failures : ℕ) (address : Address) (s : State) →
-    s.association.is_up ≡ false → Tells s (opening.begun_anew c k now failures address s)
-begun-anew c k now failures address s d = begun-anew-with (k.beginning s.beginnings) c now failures address s d
-
-wanting : (s : State) → Right s → Tells s (silent (record s { is_wanted = true }))
-wanting s r = record { turn = refl; left = record { right = r.right } }
-
-opened-by-user : (c : Settings) (k : Secrets) (now : ℕ) (is_active : Bool) (s : State) → Right s →
-    Tells s (opening.opening c k now is_active s)
-opened-by-user c k now is_active s r =
-    let try : Done = opening.begun c k now 0 c.address s in
-    let wait : Done = silent (record s { is_wanted = true }) in
-    either-so (opening.may_open is_active s) s (if is_active then try else wait) (silent s)
-    (λ e.
-    let closed : opening.is_closed s.association.phase ≡ true = both-true (opening.is_closed s.association.phase) (is_active || not s.is_wanted) e in
-    either is_active s try wait
-    (begun c now 0 c.address (k.beginning s.beginnings) s (r.right.down (closed-down s.association.phase closed)))
-    (wanting s r))
-    (λ e. stays s [] r)
-
-trying : (c : Settings) (now failures : ℕ) (chunks : List ChunkValue) (s : State) → Right s →
-    Tells s (opening.trying_with c now failures chunks s)
-trying c now failures chunks s r = record { turn = refl; left = record { right = r.right } }
-
-tried : (c : Settings) (now : ℕ) (t : Try) (s : State) → Right s → Tells s (opening.tried_again c now t s)
-tried c now t s r =
-    let waited : State = state.with_association s (record s.association {
-      sender = record s.association.sender { round_trips = backed_off s.association.sender.round_trips };
-    }) in
-    let again : Done = opening.trying_with c now (t.failures + 1) t.chunks waited in
-    either (nat_lt c.init_retransmissions (t.failures + 1)) s (ending.ended c losses.NoAnswer s) again
-    (ended c losses.NoAnswer [] s) (record { turn = refl; left = record { right = r.right } })
-
-answered-with : (c : Settings) (k : Secrets) (now : ℕ) (source : Address) (init : InitValue) (b : Beginning) (s : State) →
-    Right s → Tells s (opening.answered_with c k now source init b s)
-answered-with c k now source init b s r = record { turn = refl; left = r }
-
-answered-anew : (c : Settings) (k : Secrets) (now : ℕ) (source : Address) (init : InitValue) (b : Option Beginning) (s : State) →
-    Right s → Tells s (opening.answered_anew_with c k now source init b s)
-answered-anew c k now source init None s r = stays s [] r
-answered-anew c k now source init (Some b) s r = record { turn = refl; left = record { right = r.right } }
-
-answered-if-trying : (c : Settings) (k : Secrets) (now : ℕ) (source : Address) (init : InitValue) (s : State) → Right s →
-    Tells s (opening.answered_if_trying c k now source init s)
-answered-if-trying c k now source init s r =
-    either (opening.is_waiting s.association.phase) s (opening.answered_alike c k now source init s) (silent s)
-    (answered-with c k now source init (opening.own_beginning s.association) s r) (stays s [] r)
-
-answered-echoed : (c : Settings) (k : Secrets) (now : ℕ) (source : Address) (init : InitValue) (s : State) →
-    s.association.is_up ≡ false → Right s → Tells s (opening.answered_echoed c k now source init s)
-answered-echoed c k now source init s d r =
-    let anew : Done = opening.begun_anew c k now 0 s.association.address s in
-    let rule : State → Done = λ left. opening.answered_if_trying c k now source init left in
-    either (nat_eq init.tag s.association.far_tag) s (opening.answered_alike c k now source init s) (followed_by anew rule)
-    (answered-with c k now source init (opening.own_beginning s.association) s r)
-    (next s anew rule (begun-anew c k now 0 s.association.address s d) (λ left q. answered-if-trying c k now source init left q))
-
-init-in : (phase : Phase) (c : Settings) (k : Secrets) (now : ℕ) (source : Address) (init : InitValue) (s : State) →
-    s.association.phase ≡ phase → Right s → Tells s (opening.init_in phase c k now source init s)
-init-in Closed c k now source init s e r =
-    either s.is_wanted s (opening.answered_anew c k now source init s) (silent s)
-    (answered-anew c k now source init (k.beginning s.beginnings) s r) (stays s [] r)
-init-in CookieWait c k now source init s e r = answered-with c k now source init (opening.own_beginning s.association) s r
-init-in CookieEchoed c k now source init s e r = answered-echoed c k now source init s (r.right.down (ap opening.is_there e)) r
-init-in Established c k now source init s e r = answered-anew c k now source init (k.beginning s.beginnings) s r
-init-in ShutdownPending c k now source init s e r = answered-anew c k now source init (k.beginning s.beginnings) s r
-init-in ShutdownSent c k now source init s e r = answered-anew c k now source init (k.beginning s.beginnings) s r
-init-in ShutdownReceived c k now source init s e r = answered-anew c k now source init (k.beginning s.beginnings) s r
-init-in ShutdownAckSent c k now source init s e r = record { turn = refl; left = r }
-
-putting : (c : Settings) (source : Address) (tag : ℕ) (chunks : List ChunkValue) (s : State) → Right s →
-    Tells s (state.put c source tag chunks s)
-putting c source tag chunks s r = record { turn = refl; left = r }
-
-judged-init : (name : Option (List ℕ)) (c : Settings) (k : Secrets) (now : ℕ) (source : Address) (init : InitValue) (s : State) →
-    Right s → Tells s (opening.judged_init name c k now source init s)
-judged-init (Some name) c k now source init s r =
-    putting c source init.tag (ending.abort_for (UnresolvableAddress name) ∷ []) s r
-judged-init None c k now source init s r =
-    let invalid : Done = state.put c source init.tag (ending.abort_for InvalidParameter ∷ []) s in
-    let taken : Done = opening.init_in s.association.phase c k now source init s in
-    either (opening.has_few_streams init) s invalid taken
-    (putting c source init.tag (ending.abort_for InvalidParameter ∷ []) s r)
-    (init-in s.association.phase c k now source init s refl r)
-
-heard-init : (c : Settings) (k : Secrets) (now : ℕ) (source : Address) (init : InitValue) (s : State) → Right s →
-    Tells s (opening.heard_init c k now source init s)
-heard-init c k now source init s r =
-    either (nat_eq init.tag 0) s (silent s) (opening.judged_init (host_name_in init.parameters) c k now source init s)
-    (stays s [] r) (judged-init (host_name_in init.parameters) c k now source init s r)
-
-refused : (c : Settings) (init : InitValue) (s : State) → Right s → Tells s (opening.refused c init s)
-refused c init s r =
-    let told : Done = state.put c s.association.address init.tag (ending.abort_for InvalidParameter ∷ []) s in
-    let rule : State → Done = λ left. ending.ended c losses.BadInitAck left in
-    either (nat_eq init.tag 0) s (ending.ended c losses.BadInitAck s) (followed_by told rule) (ended c losses.BadInitAck [] s)
-    (next s told rule (putting c s.association.address init.tag (ending.abort_for InvalidParameter ∷ []) s r)
-    (λ left q. ended c losses.BadInitAck [] left))
-
-echoed-if : (c : Settings) (now : ℕ) (init : InitValue) (t : Option Try) (cookie : Option (List ℕ)) (s : State) →
-    s.association.is_up ≡ false → Right s → Tells s (opening.echoed_if c now init t cookie s)
-echoed-if c now init (Some t) (Some cookie) s d r =
-    either (opening.is_usable init) s (opening.echoed c now t.failures init cookie s) (opening.refused c init s)
-    (record { turn = refl; left = record { right = subst (λ (up : Bool). IsRight CookieEchoed up) (sym d) echoing } })
-    (refused c init s r)
-echoed-if c now init None (Some cookie) s d r = stays s [] r
-echoed-if c now init None None s d r = stays s [] r
-echoed-if c now init (Some t) None s d r = refused c init s r
-
-heard-init-ack : (c : Settings) (now : ℕ) (init : InitValue) (s : State) → Right s → Tells s (opening.heard_init_ack c now init s)
-heard-init-ack c now init s r =
-    let echo : Done = opening.echoed_if c now init s.association.trying (cookie_in init.parameters) s in
-    either-so (opening.is_waiting s.association.phase) s echo (silent s)
-    (λ e. echoed-if c now init s.association.trying (cookie_in init.parameters) s (r.right.down (waiting-down s.association.phase e)) r)
-    (λ e. stays s [] r)
-
-opened : (c : Settings) (now own_tag far_tag own_first : ℕ) (peer : state.Peer) (address : Address) (s : State) →
-    s.association.is_up ≡ false → Tells s (opening.opened c now own_tag far_tag own_first peer address s)
-opened c now own_tag far_tag own_first peer address s d = record {
-  turn = ap (λ (up : Bool). turned_by (Up ∷ []) up) d;
-  left = record { right = there };
-}
-
-heard-cookie-ack : (c : Settings) (now : ℕ) (s : State) → Right s → Tells s (opening.heard_cookie_ack c now s)
-heard-cookie-ack c now s r =
-    let a : Association = s.association in
-    let up : Done = opening.opened c now a.own_tag a.far_tag a.own_first a.peer a.address s in
-    either-so (opening.is_echoed a.phase) s up (silent s)
-    (λ e. opened c now a.own_tag a.far_tag a.own_first a.peer a.address s (r.right.down (echoed-down a.phase e)))
-    (λ e. stays s [] r)
-
--- ---- answers
-
--- a state that is as up as another
-pub record Follows (s left : State) : Type 0 where
-  pub up : s.association.is_up ≡ left.association.is_up
-  pub right : Right left
-
-then-silent : (s left : State) → Follows s left → Tells s (silent left)
-then-silent s left f = quiet s left [] f.right f.up
-
-choice : (b : Bool) (s : State) (a : Association) (control : List ChunkValue) → IsRight a.phase a.is_up →
-    s.association.is_up ≡ a.is_up →
-    Follows s (state.with_association s (if b then record a { control = control } else a))
-choice true s a control r u = record { up = u; right = record { right = r } }
-choice false s a control r u = record { up = u; right = record { right = r } }
-
-with-answer : (chunk : ChunkValue) (s : State) (a : Association) → IsRight a.phase a.is_up → s.association.is_up ≡ a.is_up →
-    Follows s (state.with_association s (ending.with_answer chunk a))
-with-answer chunk s a r u = choice (ending.has_place a.control chunk) s a (a.control ++ chunk ∷ []) r u
-
-answer-follows : (chunk : ChunkValue) (s : State) → Right s → Follows s (ending.answered chunk s)
-answer-follows chunk s r = with-answer chunk s s.association r.right refl
-
-answered : (chunk : ChunkValue) (s : State) → Right s → Tells s (silent (ending.answered chunk s))
-answered chunk s r = then-silent s (ending.answered chunk s) (answer-follows chunk s r)
-
-opened-by : (c : Settings) (now : ℕ) (source : Address) (cookie : Cookie) (s : State) → s.association.is_up ≡ false →
-    Tells s (opening.opened_by c now source cookie s).does
-opened-by c now source cookie s d =
-    let peer : state.Peer = record { first = cookie.peer_first_tsn; window = cookie.peer_window } in
-    let up : Done = opening.opened c now cookie.own_tag cookie.peer_tag cookie.own_first_tsn peer source s in
-    let rule : State → Done = λ left. silent (ending.answered packets.CookieAckChunk left) in
-    next s up rule (opened c now cookie.own_tag cookie.peer_tag cookie.own_first_tsn peer source s d)
-    (λ left q. answered packets.CookieAckChunk left q)
-
-acknowledged-again : (s : State) → Right s → Tells s (opening.acknowledged_again s).does
-acknowledged-again s r =
-    let a : Association = s.association in
-    then-silent s (state.with_association s (ending.with_answer_first packets.CookieAckChunk a))
-    (choice (ending.has_place a.control packets.CookieAckChunk) s a (packets.CookieAckChunk ∷ a.control) r.right refl)
-
-restart : (c : Settings) (source : Address) (cookie : Cookie) (s : State) →
-    Tells s (followed_by (ending.ended c losses.Restart s) (λ left. opening.stale c source 1 cookie left))
-restart c source cookie s =
-    next s (ending.ended c losses.Restart s) (λ left. opening.stale c source 1 cookie left) (ended c losses.Restart [] s)
-    (λ left q. record { turn = refl; left = q })
-
-restarted : (phase : Phase) (c : Settings) (source : Address) (cookie : Cookie) (s : State) → Right s →
-    Tells s (opening.restarted phase c source cookie s)
-restarted ShutdownAckSent c source cookie s r = record { turn = refl; left = r }
-restarted Closed c source cookie s r = restart c source cookie s
-restarted CookieWait c source cookie s r = restart c source cookie s
-restarted CookieEchoed c source cookie s r = restart c source cookie s
-restarted Established c source cookie s r = restart c source cookie s
-restarted ShutdownPending c source cookie s r = restart c source cookie s
-restarted ShutdownSent c source cookie s r = restart c source cookie s
-restarted ShutdownReceived c source cookie s r = restart c source cookie s
-
-echo-either : (b : Bool) (s : State) (x y : opening.Echo) → Tells s x.does → Tells s y.does → Tells s (if b then x else y).does
-echo-either true s x y t u = t
-echo-either false s x y t u = u
-
--- nothing becomes of a packet
-abbrev nothing : State → opening.Echo
-nothing s = opening.stops (silent s)
-
-echo-in : (phase : Phase) (c : Settings) (source : Address) (cookie : Cookie) (s : State) → Right s →
-    Tells s (opening.echo_in_association phase c source cookie s).does
-echo-in phase c source cookie s r =
-    let a : Association = s.association in
-    echo-either (not (opening.is_own cookie a) && not (opening.is_far cookie a) && opening.is_tied cookie a) s
-    (opening.stops (opening.restarted phase c source cookie s)) (nothing s) (restarted phase c source cookie s r) (stays s [] r)
-
-good-echo : (phase : Phase) (c : Settings) (now : ℕ) (source : Address) (cookie : Cookie) (s : State) →
-    s.association.phase ≡ phase → Right s → Tells s (opening.good_echo_in phase c now source cookie s).does
-good-echo Closed c now source cookie s e r =
-    echo-either s.is_wanted s (opening.opened_by c now source cookie s) (nothing s)
-    (opened-by c now source cookie s (r.right.down (ap opening.is_there e))) (stays s [] r)
-good-echo CookieWait c now source cookie s e r =
-    echo-either (opening.is_own cookie s.association) s (opening.opened_by c now source cookie s) (nothing s)
-    (opened-by c now source cookie s (r.right.down (ap opening.is_there e))) (stays s [] r)
-good-echo CookieEchoed c now source cookie s e r =
-    echo-either (opening.is_own cookie s.association && opening.is_far cookie s.association) s
-    (opening.opened_by c now source cookie s) (nothing s)
-    (opened-by c now source cookie s (r.right.down (ap opening.is_there e))) (stays s [] r)
-good-echo Established c now source cookie s e r = echo-in Established c source cookie s r
-good-echo ShutdownPending c now source cookie s e r = echo-in ShutdownPending c source cookie s r
-good-echo ShutdownSent c now source cookie s e r = echo-in ShutdownSent c source cookie s r
-good-echo ShutdownReceived c now source cookie s e r = echo-in ShutdownReceived c source cookie s r
-good-echo ShutdownAckSent c now source cookie s e r = echo-in ShutdownAckSent c source cookie s r
-
-heard-cookie : (c : Settings) (now : ℕ) (source : Address) (cookie : Cookie) (s : State) → Right s →
-    Tells s (opening.heard_cookie c now source cookie s).does
-heard-cookie c now source cookie s r =
-    let a : Association = s.association in
-    let good : opening.Echo = opening.good_echo_in a.phase c now source cookie s in
-    let old : opening.Echo = opening.stops (opening.stale c source 1 cookie s) in
-    let late : opening.Echo = opening.stops (opening.stale c source (opening.staleness now cookie) cookie s) in
-    let fresh : opening.Echo = if nat_eq cookie.generation s.generation then good else old in
-    echo-either (opening.is_there a.phase && opening.is_own cookie a && opening.is_far cookie a) s
-    (opening.acknowledged_again s) (if nat_lt cookie.life (now - cookie.made) then late else fresh) (acknowledged-again s r)
-    (echo-either (nat_lt cookie.life (now - cookie.made)) s late fresh (record { turn = refl; left = r })
-    (echo-either (nat_eq cookie.generation s.generation) s good old
-    (good-echo a.phase c now source cookie s refl r) (record { turn = refl; left = r })))
-
-heard-echo : (cookie : Option Cookie) (c : Settings) (now tag : ℕ) (source : Address) (s : State) → Right s →
-    Tells s (opening.heard_echo_of cookie c now tag source s).does
-heard-echo None c now tag source s r = stays s [] r
-heard-echo (Some cookie) c now tag source s r =
-    echo-either (nat_eq cookie.own_tag tag && nat_eq cookie.peer_port c.far_port) s
-    (opening.heard_cookie c now source cookie s) (nothing s) (heard-cookie c now source cookie s r) (stays s [] r)
-
-begun-after-stale : (c : Settings) (k : Secrets) (now : ℕ) (t : Option Try) (s : State) → s.association.is_up ≡ false → Right s →
-    Tells s (opening.begun_after_stale c k now t s)
-begun-after-stale c k now None s d r = stays s [] r
-begun-after-stale c k now (Some t) s d r =
-    either (nat_lt c.init_retransmissions (t.failures + 1)) s (ending.ended c losses.StaleCookie s)
-    (opening.begun_anew c k now (t.failures + 1) c.address s)
-    (ended c losses.StaleCookie [] s) (begun-anew c k now (t.failures + 1) c.address s d)
-
-heard-error : (c : Settings) (k : Secrets) (now : ℕ) (causes : List ItemValue) (s : State) → Right s →
-    Tells s (opening.heard_error c k now causes s)
-heard-error c k now causes s r =
-    let anew : Done = opening.begun_after_stale c k now s.association.trying s in
-    either-so (opening.is_echoed s.association.phase && has_stale_cookie causes) s anew (silent s)
-    (λ e.
-    let echoed : opening.is_echoed s.association.phase ≡ true = both-true (opening.is_echoed s.association.phase) (has_stale_cookie causes) e in
-    begun-after-stale c k now s.association.trying s (r.right.down (echoed-down s.association.phase echoed)) r)
-    (λ e. stays s [] r)
-
--- ---- shutting down
-
-pending-up : (up : Bool) → IsRight ShutdownPending up → IsRight ShutdownSent up
-pending-up up r = record { up = λ e. r.up refl; down = λ e. absurd (cc) }
-
-settled : (up : Bool) → IsRight ShutdownAckSent up
-settled up = record { up = λ e. absurd (cc); down = λ e. absurd (cc) }
-
-going-on-in : (phase : Phase) (c : Settings) (now : ℕ) (s : State) → s.association.phase ≡ phase → Right s →
-    Follows s (shutdown.going_on_in phase c now s)
-going-on-in ShutdownPending c now s e r =
-    let a : Association = s.association in
-    let right : IsRight ShutdownPending a.is_up = subst (λ (phase : Phase). IsRight phase a.is_up) e r.right in
-    with-answer (shutdown.shutdown_of a) s
-    (record a { t5 = Some (now + 5 * c.bounds.most); phase = ShutdownSent; t2 = Some (now + a.sender.round_trips.timeout) })
-    (pending-up a.is_up right) refl
-going-on-in ShutdownReceived c now s e r =
-    let a : Association = s.association in
-    with-answer packets.ShutdownAckChunk s
-    (record a { phase = ShutdownAckSent; t2 = Some (now + a.sender.round_trips.timeout) }) (settled a.is_up) refl
-going-on-in Closed c now s e r = record { up = refl; right = r }
-going-on-in CookieWait c now s e r = record { up = refl; right = r }
-going-on-in CookieEchoed c now s e r = record { up = refl; right = r }
-going-on-in Established c now s e r = record { up = refl; right = r }
-going-on-in ShutdownSent c now s e r = record { up = refl; right = r }
-going-on-in ShutdownAckSent c now s e r = record { up = refl; right = r }
-
-follows-either : (b : Bool) (s x y : State) → Follows s x → Follows s y → Follows s (if b then x else y)
-follows-either true s x y f g = f
-follows-either false s x y f g = g
-
-going-on : (c : Settings) (now : ℕ) (s : State) → Right s → Follows s (shutdown.going_on c now s)
-going-on c now s r =
-    follows-either (nat_eq (length s.association.sender.out) 0) s (shutdown.going_on_in s.association.phase c now s) s
-    (going-on-in s.association.phase c now s refl r) (record { up = refl; right = r })
-
-abort-tells : (c : Settings) (s : State) → Tells s (ending.abort c s)
-abort-tells c s = ended c losses.Local (ending.abort_for EndedByUser ∷ []) s
-
-aborted : (c : Settings) (why : Loss) (cause : CauseValue) (s : State) → Tells s (ending.aborted c why cause s)
-aborted c why cause s = ended c why (ending.abort_for cause ∷ []) s
-
-shutdown-in : (phase : Phase) (c : Settings) (now : ℕ) (s : State) → s.association.phase ≡ phase → Right s →
-    Tells s (shutdown.shutdown_in phase c now s)
-shutdown-in Closed c now s e r = abort-tells c s
-shutdown-in CookieWait c now s e r = abort-tells c s
-shutdown-in CookieEchoed c now s e r = abort-tells c s
-shutdown-in Established c now s e r =
-    let pending : State = state.with_association s (record s.association { phase = ShutdownPending }) in
-    let up : s.association.is_up ≡ true = r.right.up (ap data_rules.takes_data e) in
-    let right : Right pending = record { right = record { up = λ f. up; down = λ f. absurd (cc) } } in
-    let on : Follows pending (shutdown.going_on c now pending) = going-on c now pending right in
-    then-silent s (shutdown.going_on c now pending) (record { up = on.up; right = on.right })
-shutdown-in ShutdownPending c now s e r = stays s [] r
-shutdown-in ShutdownSent c now s e r = stays s [] r
-shutdown-in ShutdownReceived c now s e r = stays s [] r
-shutdown-in ShutdownAckSent c now s e r = stays s [] r
-
--- the peer shuts down: Down, where it was up
 shut-turn : (up : Bool) (why : Loss) → turned_by (if up then Down why ∷ [] else []) up ≡ Some false
 shut-turn true why = refl
 shut-turn false why = refl
 
-received-right : IsRight ShutdownReceived false
-received-right = record { up = λ e. absurd (cc); down = λ e. absurd (cc) }
+ended-turns : (c : Settings) (why : Loss) (chunks : List ChunkValue) (s : State) → Turns s (ending.ended_with c why chunks s)
+ended-turns c why chunks s = record { turn = ended-turn s.association.is_up s.is_wanted why }
 
-shutdown-received : (c : Settings) (now : ℕ) (s : State) →
-    Tells s (shutdown.then_going_on c now (shutdown.shutdown_received s))
-shutdown-received c now s =
-    let received : Done = shutdown.shutdown_received s in
-    let on : Follows received.left (shutdown.going_on c now received.left) =
-    going-on c now received.left (record { right = received-right }) in
-    record { turn = shut-turn s.association.is_up losses.Shutdown ∙ ap (λ (b : Bool). Some b) on.up; left = on.right }
+-- ---- what a receiver tells: a violation is the last
 
-heard-shutdown-in : (phase : Phase) (c : Settings) (now cumulative : ℕ) (s : State) → Right s →
-    Tells s (shutdown.heard_shutdown_in phase c now cumulative s)
-heard-shutdown-in Established c now cumulative s r =
-    let t : Tells (shutdown.with_confirmed now cumulative s) (shutdown.heard_shutdown_in Established c now cumulative s) =
-    shutdown-received c now (shutdown.with_confirmed now cumulative s) in
-    record { turn = t.turn; left = t.left }
-heard-shutdown-in ShutdownPending c now cumulative s r =
-    let t : Tells (shutdown.with_confirmed now cumulative s) (shutdown.heard_shutdown_in ShutdownPending c now cumulative s) =
-    shutdown-received c now (shutdown.with_confirmed now cumulative s) in
-    record { turn = t.turn; left = t.left }
-heard-shutdown-in ShutdownReceived c now cumulative s r =
-    let confirmed : State = shutdown.with_confirmed now cumulative s in
-    let on : Follows confirmed (shutdown.going_on c now confirmed) = going-on c now confirmed (record { right = r.right }) in
-    then-silent s (shutdown.going_on c now confirmed) (record { up = on.up; right = on.right })
-heard-shutdown-in ShutdownSent c now cumulative s r =
-    let a : Association = s.association in
-    then-silent s (shutdown.shutdown_answered now s)
-    (with-answer packets.ShutdownAckChunk s
-    (record a { phase = ShutdownAckSent; t2 = Some (now + a.sender.round_trips.timeout) }) (settled a.is_up) refl)
-heard-shutdown-in Closed c now cumulative s r = stays s [] r
-heard-shutdown-in CookieWait c now cumulative s r = stays s [] r
-heard-shutdown-in CookieEchoed c now cumulative s r = stays s [] r
-heard-shutdown-in ShutdownAckSent c now cumulative s r = stays s [] r
-
-heard-shutdown : (c : Settings) (now cumulative : ℕ) (s : State) → Right s → Tells s (shutdown.heard_shutdown c now cumulative s)
-heard-shutdown c now cumulative s r =
-    either (shutdown.confirms s.association.phase && confirming.confirms_beyond s.association.sender cumulative) s
-    (ending.aborted c losses.Protocol ending.violation s)
-    (shutdown.heard_shutdown_in s.association.phase c now cumulative s)
-    (aborted c losses.Protocol ending.violation s) (heard-shutdown-in s.association.phase c now cumulative s r)
-
-completed : (c : Settings) (s : State) → Tells s (ending.ended_with c losses.Shutdown (packets.ShutdownCompleteChunk false ∷ []) s)
-completed c s = ended c losses.Shutdown (packets.ShutdownCompleteChunk false ∷ []) s
-
-shutdown-ack-in : (phase : Phase) (c : Settings) (s : State) → Right s → Tells s (shutdown.heard_shutdown_ack_in phase c s)
-shutdown-ack-in ShutdownSent c s r = completed c s
-shutdown-ack-in ShutdownAckSent c s r = completed c s
-shutdown-ack-in Closed c s r = stays s [] r
-shutdown-ack-in CookieWait c s r = stays s [] r
-shutdown-ack-in CookieEchoed c s r = stays s [] r
-shutdown-ack-in Established c s r = stays s [] r
-shutdown-ack-in ShutdownPending c s r = stays s [] r
-shutdown-ack-in ShutdownReceived c s r = stays s [] r
-
-shutdown-complete-in : (phase : Phase) (c : Settings) (s : State) → Right s →
-    Tells s (shutdown.heard_shutdown_complete_in phase c s)
-shutdown-complete-in ShutdownAckSent c s r = ended c losses.Shutdown [] s
-shutdown-complete-in Closed c s r = stays s [] r
-shutdown-complete-in CookieWait c s r = stays s [] r
-shutdown-complete-in CookieEchoed c s r = stays s [] r
-shutdown-complete-in Established c s r = stays s [] r
-shutdown-complete-in ShutdownPending c s r = stays s [] r
-shutdown-complete-in ShutdownSent c s r = stays s [] r
-shutdown-complete-in ShutdownReceived c s r = stays s [] r
-
--- ---- DATA, SACK and HEARTBEAT
-
--- the association ends behind an answer
-ended-behind : (c : Settings) (why : Loss) (cause : CauseValue) (s later : State) →
-    s.association.is_up ≡ later.association.is_up → Tells s (ending.aborted c why cause later)
-ended-behind c why cause s later e =
-    let t : Tells later (ending.aborted c why cause later) = aborted c why cause later in
-    record { turn = ap (λ (up : Bool). turned_by (ending.aborted c why cause later).told up) e ∙ t.turn; left = t.left }
-
-violated : (c : Settings) (v : Violation) (s : State) → Right s → Tells s (data_rules.violated c v s)
-violated c (violations.FragmentOfNoStream stream) s r =
-    ended-behind c losses.Protocol ending.violation s (ending.answered (data_rules.no_stream stream) s)
-    (answer-follows (data_rules.no_stream stream) s r).up
-violated c violations.Misplaced s r = aborted c losses.Protocol ending.violation s
-violated c violations.Differs s r = aborted c losses.Protocol ending.violation s
-violated c violations.TooLong s r = aborted c losses.Protocol ending.violation s
-
--- a violation is the last thing that a receiver tells
 abbrev pub OnlyLast : List consuming.Told → Type 0
 OnlyLast [] = Unit {0}
 OnlyLast (told ∷ []) = Unit {0}
@@ -617,342 +97,95 @@ pub rest-last : (told : consuming.Told) (more : List consuming.Told) → OnlyLas
 rest-last told [] h = tt
 rest-last told (next ∷ more) h = h.1
 
--- a rule, and then another at what it left
-next-there : (s : State) (d : Done) (rule : State → Done) → Tells s d → Tells d.left (rule d.left) → Tells s (followed_by d rule)
-next-there s d rule t u = record {
-  turn = turned-on d.told (rule d.left).told s.association.is_up
-      ∙ ap (λ (o : Option Bool). and_then (λ v. turned_by (rule d.left).told v) o) t.turn
-      ∙ u.turn;
-  left = u.left;
+violated-turns : (c : Settings) (v : Violation) (s : State) → Turns s (data_rules.violated c v s)
+violated-turns c (violations.FragmentOfNoStream stream) s =
+    let later : State = ending.answered (data_rules.no_stream stream) s in
+    let d : Done = data_rules.violated c (violations.FragmentOfNoStream stream) s in
+    record {
+      turn = ap (λ (up : Bool). turned_by d.told up) (answer-alike (data_rules.no_stream stream) s).up
+          ∙ ended-turn later.association.is_up later.is_wanted losses.Protocol;
+    }
+violated-turns c violations.Misplaced s = ended-turns c losses.Protocol (ending.abort_for ending.violation ∷ []) s
+violated-turns c violations.Differs s = ended-turns c losses.Protocol (ending.abort_for ending.violation ∷ []) s
+violated-turns c violations.TooLong s = ended-turns c losses.Protocol (ending.abort_for ending.violation ∷ []) s
+
+each-turns : (c : Settings) (tolds : List consuming.Told) (s : State) → OnlyLast tolds → s.association.is_up ≡ true →
+    Turns s (data_rules.told_each c tolds s)
+each-turns c [] s h u = record { turn = refl }
+each-turns c (consuming.Nothing ∷ more) s h u =
+    record { turn = (each-turns c more s (rest-last consuming.Nothing more h) u).turn }
+each-turns c (consuming.Tells m ∷ more) s h u =
+    let rest : Done = data_rules.told_each c more s in
+    record {
+      turn = ap (λ (up : Bool). turned_by (Heard m ∷ rest.told) up) u
+          ∙ ap (λ (up : Bool). turned_by rest.told up) (sym u)
+          ∙ (each-turns c more s (rest-last (consuming.Tells m) more h) u).turn;
+    }
+each-turns c (consuming.NoStream stream ∷ more) s h u =
+    let later : State = ending.answered (data_rules.no_stream stream) s in
+    let same = (answer-alike (data_rules.no_stream stream) s).up in
+    let rest : Done = data_rules.told_each c more later in
+    record {
+      turn = ap (λ (up : Bool). turned_by rest.told up) same
+          ∙ (each-turns c more later (rest-last (consuming.NoStream stream) more h) (sym same ∙ u)).turn;
+    }
+each-turns c (consuming.Violates v ∷ []) s h u =
+    let d : Done = data_rules.violated c v s in
+    also-turns s d (λ left. data_rules.told_each c [] left) (violated-turns c v s) (record { turn = refl })
+each-turns c (consuming.Violates v ∷ one ∷ more) s h u = let e : true ≡ false = h.0 in absurd (cc)
+
+-- ---- the pass
+
+abbrev pub AnyData : DataValue → Type 0
+AnyData d = Unit {0}
+
+turn-steps : AreSteps AnyData Turns
+turn-steps = record {
+  alike = λ s left sent a. record { turn = ap (λ (up : Bool). Some up) a.up };
+  ended = ended-turns;
+  tries = λ s left sent i. record { turn = ap (λ (up : Bool). Some up) (i.was_down ∙ sym i.is_down) };
+  opens = λ c now own far first peer address s d. record { turn = ap (λ (up : Bool). turned_by (Up ∷ []) up) d };
+  shuts = λ s left sent g d e. record { turn = shut-turn s.association.is_up losses.Shutdown ∙ ap (λ (up : Bool). Some up) (sym d) };
+  takes = λ c d s come up now-takes.
+      let steps : receiving.Steps = received s.association.receiver d.tsn (data_rules.piece_of d) in
+      let taken : State = state.with_association s (record s.association { receiver = steps.left; is_sack_due = true }) in
+      record { turn = (each-turns c steps.told taken (received-last s.association.receiver d.tsn (data_rules.piece_of d)) up).turn };
+  reports = λ s. record { turn = refl };
+  also = also-turns;
 }
 
-told-each : (c : Settings) (tolds : List consuming.Told) (s : State) → OnlyLast tolds → s.association.is_up ≡ true → Right s →
-    Tells s (data_rules.told_each c tolds s)
-told-each c [] s h u r = stays s [] r
-told-each c (consuming.Nothing ∷ more) s h u r =
-    next-there s (silent s) (λ left. data_rules.told_each c more left) (stays s [] r)
-    (told-each c more s (rest-last consuming.Nothing more h) u r)
-told-each c (consuming.Tells message ∷ more) s h u r =
-    next-there s (record { sent = []; told = Heard message ∷ []; left = s }) (λ left. data_rules.told_each c more left)
-    (record { turn = ap (λ (up : Bool). turned_by (Heard message ∷ []) up) u ∙ ap (λ (up : Bool). Some up) (sym u); left = r })
-    (told-each c more s (rest-last (consuming.Tells message) more h) u r)
-told-each c (consuming.NoStream stream ∷ more) s h u r =
-    let chunk : ChunkValue = data_rules.no_stream stream in
-    let later : State = ending.answered chunk s in
-    let f : Follows s later = answer-follows chunk s r in
-    next-there s (silent later) (λ left. data_rules.told_each c more left) (then-silent s later f)
-    (told-each c more later (rest-last (consuming.NoStream stream) more h) (sym f.up ∙ u) f.right)
-told-each c (consuming.Violates v ∷ []) s h u r =
-    let d : Done = data_rules.violated c v s in
-    let t : Tells s d = violated c v s r in
-    next-there s d (λ left. data_rules.told_each c [] left) t (stays d.left [] t.left)
-told-each c (consuming.Violates v ∷ one ∷ more) s h u r = let e : true ≡ false = h.0 in absurd (cc)
+any-data : (chunks : List ChunkValue) → HaveCome AnyData chunks
+any-data [] = tt
+any-data (packets.DataChunk d ∷ chunks) = (tt, any-data chunks)
+any-data (packets.InitChunk init ∷ chunks) = (tt, any-data chunks)
+any-data (packets.InitAckChunk init ∷ chunks) = (tt, any-data chunks)
+any-data (packets.SackChunk sack ∷ chunks) = (tt, any-data chunks)
+any-data (packets.HeartbeatChunk information ∷ chunks) = (tt, any-data chunks)
+any-data (packets.HeartbeatAckChunk information ∷ chunks) = (tt, any-data chunks)
+any-data (packets.AbortChunk is_reflected causes ∷ chunks) = (tt, any-data chunks)
+any-data (packets.ShutdownChunk cumulative ∷ chunks) = (tt, any-data chunks)
+any-data (packets.ShutdownAckChunk ∷ chunks) = (tt, any-data chunks)
+any-data (packets.ErrorChunk causes ∷ chunks) = (tt, any-data chunks)
+any-data (packets.CookieEchoChunk cookie ∷ chunks) = (tt, any-data chunks)
+any-data (packets.CookieAckChunk ∷ chunks) = (tt, any-data chunks)
+any-data (packets.ShutdownCompleteChunk is_reflected ∷ chunks) = (tt, any-data chunks)
+any-data (packets.UnknownChunk kind flags value ∷ chunks) = (tt, any-data chunks)
+any-data (packets.MalformedChunk kind ∷ chunks) = (tt, any-data chunks)
 
-heard-data : (c : Settings) (d : DataValue) (s : State) → Right s → Tells s (data_rules.heard_data c d s)
-heard-data c d s r =
-    let steps : receiving.Steps = received s.association.receiver d.tsn (data_rules.piece_of d) in
-    let taken : State = state.with_association s (record s.association { receiver = steps.left; is_sack_due = true }) in
-    let empty : Done = ending.aborted c losses.Protocol (NoUserData d.tsn) s in
-    let tells : Done = data_rules.told_each c steps.told taken in
-    either-so (data_rules.takes_data s.association.phase) s (if nat_eq (length d.octets) 0 then empty else tells) (silent s)
-    (λ e.
-    let up : s.association.is_up ≡ true = r.right.up e in
-    let t : Tells taken tells =
-    told-each c steps.told taken (received-last s.association.receiver d.tsn (data_rules.piece_of d)) up (record { right = r.right }) in
-    either (nat_eq (length d.octets) 0) s empty tells (aborted c losses.Protocol (NoUserData d.tsn) s)
-    (record { turn = t.turn; left = t.left }))
-    (λ e. stays s [] r)
+pub any-happening : (what : Happening) → Comes AnyData what
+any-happening (Came now source packet) = any-data packet.chunks
+any-happening (Opens now is_active) = tt
+any-happening (Ticked now) = tt
+any-happening (Sends message) = tt
+any-happening Aborts = tt
+any-happening (ShutsDown now) = tt
+any-happening (Flushes now) = tt
 
-heard-sack-of : (c : Settings) (now : ℕ) (sack : SackValue) (s : State) → Right s → Tells s (data_rules.heard_sack_of c now sack s)
-heard-sack-of c now sack s r =
-    let later : State = data_rules.after_sack now sack s in
-    let on : Follows later (shutdown.going_on c now later) = going-on c now later (record { right = r.right }) in
-    let bad : Done = ending.aborted c losses.Protocol ending.violation s in
-    let good : Done = silent (shutdown.going_on c now later) in
-    let beyond : Bool = confirming.confirms_beyond s.association.sender sack.cumulative in
-    either (confirming.is_old (confirmation s.association.sender sack.cumulative)) s (silent s) (if beyond then bad else good)
-    (stays s [] r)
-    (either beyond s bad good (aborted c losses.Protocol ending.violation s)
-    (then-silent s (shutdown.going_on c now later) (record { up = on.up; right = on.right })))
-
-heard-sack : (c : Settings) (now : ℕ) (sack : SackValue) (s : State) → Right s → Tells s (data_rules.heard_sack_chunk c now sack s)
-heard-sack c now sack s r =
-    either (data_rules.takes_sack s.association.phase) s (data_rules.heard_sack_of c now sack s) (silent s)
-    (heard-sack-of c now sack s r) (stays s [] r)
-
-heard-heartbeat : (information : List ℕ) (s : State) → Right s → Tells s (data_rules.heard_heartbeat information s)
-heard-heartbeat information s r =
-    let chunk : ChunkValue = packets.HeartbeatAckChunk information in
-    either (opening.is_there s.association.phase) s (silent (ending.answered chunk s)) (silent s) (answered chunk s r) (stays s [] r)
-
-beat-answered : (c : Settings) (now : ℕ) (beat : Beat) (s : State) → Right s → Tells s (silent (data_rules.beat_answered c now beat s))
-beat-answered c now beat s r = record { turn = refl; left = record { right = r.right } }
-
-heard-answer : (beat : Option Beat) (c : Settings) (now : ℕ) (information : List ℕ) (s : State) → Right s →
-    Tells s (data_rules.heard_answer_to beat c now information s)
-heard-answer None c now information s r = stays s [] r
-heard-answer (Some beat) c now information s r =
-    either (bytes_eq information (information_of beat.nonce)) s (silent (data_rules.beat_answered c now beat s)) (silent s)
-    (beat-answered c now beat s r) (stays s [] r)
-
--- ---- packets
-
-heard-unknown : (kind flags : ℕ) (value : List ℕ) (s : State) → Right s → Tells s (arriving.heard_unknown kind flags value s).does
-heard-unknown kind flags value s r =
-    let report : ChunkValue = packets.ErrorChunk (cause_item (UnrecognizedChunk kind flags value) ∷ []) in
-    either (arriving.is_reported kind) s (silent (ending.answered report s)) (silent s) (answered report s r) (stays s [] r)
-
-heard-abort : (c : Settings) (tag : ℕ) (chunk : ChunkValue) (s : State) → Right s → Tells s (arriving.heard_abort c tag chunk s).does
-heard-abort c tag chunk s r =
-    let why : Loss = arriving.loss_by_abort s.association.phase in
-    either (arriving.has_tag s.association tag chunk) s (ending.ended c why s) (silent s) (ended c why [] s) (stays s [] r)
-
-handled-either : (b : Bool) (s : State) (x y : arriving.Handled) → Tells s x.does → Tells s y.does →
-    Tells s (if b then x else y).does
-handled-either true s x y t u = t
-handled-either false s x y t u = u
-
-heard-chunk : (c : Settings) (k : Secrets) (now tag : ℕ) (chunk : ChunkValue) (s : State) → Right s →
-    Tells s (arriving.heard_chunk c k now tag chunk s).does
-heard-chunk c k now tag (packets.DataChunk carried) s r = heard-data c carried s r
-heard-chunk c k now tag (packets.InitChunk init) s r = stays s [] r
-heard-chunk c k now tag (packets.InitAckChunk init) s r = heard-init-ack c now init s r
-heard-chunk c k now tag (packets.SackChunk sack) s r = heard-sack c now sack s r
-heard-chunk c k now tag (packets.HeartbeatChunk information) s r = heard-heartbeat information s r
-heard-chunk c k now tag (packets.HeartbeatAckChunk information) s r = heard-answer s.association.beat c now information s r
-heard-chunk c k now tag (packets.AbortChunk is_reflected causes) s r = heard-abort c tag (packets.AbortChunk is_reflected causes) s r
-heard-chunk c k now tag (packets.ShutdownChunk cumulative) s r = heard-shutdown c now cumulative s r
-heard-chunk c k now tag packets.ShutdownAckChunk s r = shutdown-ack-in s.association.phase c s r
-heard-chunk c k now tag (packets.ErrorChunk causes) s r = heard-error c k now causes s r
-heard-chunk c k now tag (packets.CookieEchoChunk cookie) s r = stays s [] r
-heard-chunk c k now tag packets.CookieAckChunk s r = heard-cookie-ack c now s r
-heard-chunk c k now tag (packets.ShutdownCompleteChunk is_reflected) s r =
-    handled-either (arriving.has_tag s.association tag (packets.ShutdownCompleteChunk is_reflected)) s
-    (arriving.while_there (shutdown.heard_shutdown_complete c s)) (arriving.while_there (silent s))
-    (shutdown-complete-in s.association.phase c s r) (stays s [] r)
-heard-chunk c k now tag (packets.UnknownChunk kind flags value) s r = heard-unknown kind flags value s r
-heard-chunk c k now tag (packets.MalformedChunk kind) s r = stays s [] r
-
-heard-chunks : (c : Settings) (k : Secrets) (now tag : ℕ) (chunks : List ChunkValue) (s : State) → Right s →
-    Tells s (arriving.heard_chunks c k now tag chunks s)
-heard-chunks c k now tag [] s r = stays s [] r
-heard-chunks c k now tag (chunk ∷ chunks) s r =
-    let handled : arriving.Handled = arriving.heard_chunk c k now tag chunk s in
-    let t : Tells s handled.does = heard-chunk c k now tag chunk s r in
-    let rule : State → Done = λ left. arriving.heard_chunks c k now tag chunks left in
-    either handled.goes_on s (followed_by handled.does rule) handled.does
-    (next-there s handled.does rule t (heard-chunks c k now tag chunks handled.does.left t.left)) t
-
-from-source : (b : Bool) (s : State) (source : Address) → Right s →
-    Follows s (if b then s else state.with_association s (record s.association { address = source }))
-from-source true s source r = record { up = refl; right = r }
-from-source false s source r = record { up = refl; right = record { right = r.right } }
-
-by-tag : (c : Settings) (k : Secrets) (now : ℕ) (source : Address) (tag : ℕ) (chunks : List ChunkValue) (s : State) → Right s →
-    Tells s (arriving.heard_by_tag c k now source tag chunks s)
-by-tag c k now source tag chunks s r =
-    let there-now : State = arriving.from_source source s in
-    let d : Done = arriving.heard_by_tag c k now source tag chunks s in
-    let f : Follows s there-now = from-source (opening.is_waiting s.association.phase) s source r in
-    let t : Tells there-now d = heard-chunks c k now tag chunks there-now f.right in
-    record { turn = ap (λ (up : Bool). turned_by d.told up) f.up ∙ t.turn; left = t.left }
-
-blue : (c : Settings) (source : Address) (tag : ℕ) (first : ChunkValue) (more : List ChunkValue) (s : State) → Right s →
-    Tells s (arriving.out_of_the_blue c source tag first more s)
-blue c source tag first more s r =
-    either (arriving.is_quiet_first first || list_any arriving.is_quiet (first ∷ more)) s (silent s)
-    (state.put c source tag (arriving.answer_to first ∷ []) s) (stays s [] r)
-    (putting c source tag (arriving.answer_to first ∷ []) s r)
-
-otherwise : (c : Settings) (k : Secrets) (now : ℕ) (source : Address) (tag : ℕ) (first : ChunkValue) (more : List ChunkValue) (s : State) →
-    Right s → Tells s (arriving.heard_otherwise c k now source tag first more s)
-otherwise c k now source tag first more s r =
-    let complete : List ChunkValue = packets.ShutdownCompleteChunk true ∷ [] in
-    let taken : Done = arriving.heard_by_tag c k now source tag (arriving.looked_at first more) s in
-    let late : Bool = arriving.is_late_shutdown s.association.phase first in
-    let right-tag : Bool = arriving.has_tag s.association tag first in
-    either (opening.is_closed s.association.phase) s (arriving.out_of_the_blue c source tag first more s)
-    (if late then state.put c source tag complete s else (if right-tag then taken else silent s))
-    (blue c source tag first more s r)
-    (either late s (state.put c source tag complete s) (if right-tag then taken else silent s) (putting c source tag complete s r)
-    (either right-tag s taken (silent s) (by-tag c k now source tag (arriving.looked_at first more) s r) (stays s [] r)))
-
-after-echo : (c : Settings) (k : Secrets) (now : ℕ) (source : Address) (tag : ℕ) (more : List ChunkValue) (s : State) (echo : opening.Echo) →
-    Tells s echo.does → Tells s (arriving.after_echo c k now source tag more echo)
-after-echo c k now source tag more s echo t =
-    let rule : State → Done = λ left. arriving.heard_by_tag c k now source tag more left in
-    either echo.goes_on s (followed_by echo.does rule) echo.does
-    (next s echo.does rule t (λ left q. by-tag c k now source tag more left q)) t
-
-heard-first : (c : Settings) (k : Secrets) (now : ℕ) (source : Address) (tag : ℕ) (first : ChunkValue) (more : List ChunkValue) (s : State) →
-    Right s → Tells s (arriving.heard_first c k now source tag first more s)
-heard-first c k now source tag (packets.InitChunk init) more s r = heard-init c k now source init s r
-heard-first c k now source tag (packets.CookieEchoChunk cookie) more s r =
-    after-echo c k now source tag more s (opening.heard_cookie_echo c k now tag source cookie s)
-    (heard-echo (k.cookie_in cookie) c now tag source s r)
-heard-first c k now source tag (packets.MalformedChunk kind) more s r =
-    either (nat_eq kind 1) s (silent s) (arriving.heard_otherwise c k now source tag (packets.MalformedChunk kind) more s)
-    (stays s [] r) (otherwise c k now source tag (packets.MalformedChunk kind) more s r)
-heard-first c k now source tag first more s r = otherwise c k now source tag first more s r
-
-heard-all : (c : Settings) (k : Secrets) (now : ℕ) (source : Address) (tag : ℕ) (chunks : List ChunkValue) (s : State) → Right s →
-    Tells s (arriving.heard_all c k now source tag chunks s)
-heard-all c k now source tag [] s r = stays s [] r
-heard-all c k now source tag (first ∷ more) s r = heard-first c k now source tag first more s r
-
-heard : (c : Settings) (k : Secrets) (now : ℕ) (source : Address) (p : PacketValue) (s : State) → Right s →
-    Tells s (arriving.heard c k now source p s)
-heard c k now source p s r =
-    either (nat_eq p.destination c.own_port && nat_eq p.source c.far_port) s
-    (arriving.heard_all c k now source p.tag p.chunks s) (silent s)
-    (heard-all c k now source p.tag p.chunks s r) (stays s [] r)
-
--- ---- timers
-
-unanswered : (c : Settings) (rule : State → Done) (s : State) → Right s → ((left : State) → Right left → Tells left (rule left)) →
-    Tells s (timers.unanswered c rule s)
-unanswered c rule s r h =
-    let failed : State = state.with_association s (record s.association { failures = s.association.failures + 1 }) in
-    let t : Tells failed (rule failed) = h failed (record { right = r.right }) in
-    either (nat_lt c.retransmissions (s.association.failures + 1)) s (ending.aborted c losses.NoAnswer ending.violation s) (rule failed)
-    (aborted c losses.NoAnswer ending.violation s) (record { turn = t.turn; left = t.left })
-
-retry : (t : Option Try) (c : Settings) (now : ℕ) (s : State) → Right s → Tells s (timers.retry t c now s)
-retry None c now s r = stays s [] r
-retry (Some t) c now s r =
-    either (nat_le t.t1 now) s (opening.tried_again c now t s) (silent s) (tried c now t s r) (stays s [] r)
-
-tick-t5 : (c : Settings) (now : ℕ) (s : State) → Right s → Tells s (timers.tick_t5 c now s)
-tick-t5 c now s r =
-    either (timers.is_due now s.association.t5) s (ending.aborted c losses.NoAnswer EndedByUser s) (silent s)
-    (aborted c losses.NoAnswer EndedByUser s) (stays s [] r)
-
-t2-out : (c : Settings) (now : ℕ) (s : State) → Right s → Tells s (timers.t2_out c now s)
-t2-out c now s r =
-    let waited : Association = timers.with_back_off s.association in
-    then-silent s
-    (shutdown.awaiting now s.association.phase (timers.shutdown_again s.association.phase s.association) (state.with_association s waited))
-    (with-answer (timers.shutdown_again s.association.phase s.association) s
-    (record waited { phase = s.association.phase; t2 = Some (now + waited.sender.round_trips.timeout) }) r.right refl)
-
-tick-t2 : (c : Settings) (now : ℕ) (s : State) → Right s → Tells s (timers.tick_t2 c now s)
-tick-t2 c now s r =
-    let rule : State → Done = λ left. timers.t2_out c now left in
-    either (timers.is_due now s.association.t2) s (timers.unanswered c rule s) (silent s)
-    (unanswered c rule s r (λ left q. t2-out c now left q)) (stays s [] r)
-
-t3-out : (c : Settings) (now : ℕ) (s : State) → Right s → Tells s (timers.t3_out c now s)
-t3-out c now s r = record { turn = refl; left = record { right = r.right } }
-
-tick-t3 : (c : Settings) (now : ℕ) (s : State) → Right s → Tells s (timers.tick_t3 c now s)
-tick-t3 c now s r =
-    let rule : State → Done = λ left. timers.t3_out c now left in
-    either (timers.is_due now s.association.sender.t3) s (timers.unanswered c rule s) (silent s)
-    (unanswered c rule s r (λ left q. t3-out c now left q)) (stays s [] r)
-
-beating : (k : Secrets) (now : ℕ) (s : State) → Right s → Follows s (timers.beating k now s)
-beating k now s r =
-    let counted : State = record s {
-      nonces = s.nonces + 1;
-      association = record s.association {
-        beat = Some (record { nonce = k.nonce s.nonces; sent = now });
-        beat_due = Some (now + s.association.sender.round_trips.timeout);
-      };
-    } in
-    let f : Follows counted (timers.beating k now s) =
-    answer-follows (packets.HeartbeatChunk (information_of (k.nonce s.nonces))) counted (record { right = r.right }) in
-    record { up = f.up; right = f.right }
-
-beat-again : (beat : Option Beat) (c : Settings) (k : Secrets) (now : ℕ) (s : State) → Right s →
-    Tells s (timers.beat_again beat c k now s)
-beat-again None c k now s r = then-silent s (timers.beating k now s) (beating k now s r)
-beat-again (Some beat) c k now s r =
-    unanswered c
-    (λ left. silent (timers.beating k now (state.with_association left (timers.with_back_off left.association)))) s r
-    (λ left q.
-    let waited : State = state.with_association left (timers.with_back_off left.association) in
-    let f : Follows waited (timers.beating k now waited) = beating k now waited (record { right = q.right }) in
-    then-silent left (timers.beating k now waited) (record { up = f.up; right = f.right }))
-
-not-due : (s : State) → Right s → Tells s (silent (state.with_association s (record s.association { beat_due = None })))
-not-due s r = record { turn = refl; left = record { right = r.right } }
-
-beat-in : (phase : Phase) (c : Settings) (k : Secrets) (now : ℕ) (s : State) → Right s → Tells s (timers.beat_in phase c k now s)
-beat-in Established c k now s r = beat-again s.association.beat c k now s r
-beat-in Closed c k now s r = not-due s r
-beat-in CookieWait c k now s r = not-due s r
-beat-in CookieEchoed c k now s r = not-due s r
-beat-in ShutdownPending c k now s r = not-due s r
-beat-in ShutdownSent c k now s r = not-due s r
-beat-in ShutdownReceived c k now s r = not-due s r
-beat-in ShutdownAckSent c k now s r = not-due s r
-
-tick-beat : (c : Settings) (k : Secrets) (now : ℕ) (s : State) → Right s → Tells s (timers.tick_beat c k now s)
-tick-beat c k now s r =
-    either (timers.is_due now s.association.beat_due) s (timers.beat_in s.association.phase c k now s) (silent s)
-    (beat-in s.association.phase c k now s r) (stays s [] r)
-
-ticked : (c : Settings) (k : Secrets) (now : ℕ) (s : State) → Right s → Tells s (timers.ticked c k now s)
-ticked c k now s r =
-    let first : Done = timers.tick_t1 c now s in
-    let second : Done = followed_by first (λ left. timers.tick_t5 c now left) in
-    let third : Done = followed_by second (λ left. timers.tick_t2 c now left) in
-    let fourth : Done = followed_by third (λ left. timers.tick_t3 c now left) in
-    next s fourth (λ left. timers.tick_beat c k now left)
-    (next s third (λ left. timers.tick_t3 c now left)
-    (next s second (λ left. timers.tick_t2 c now left)
-    (next s first (λ left. timers.tick_t5 c now left) (retry s.association.trying c now s r) (λ left q. tick-t5 c now left q))
-    (λ left q. tick-t2 c now left q))
-    (λ left q. tick-t3 c now left q))
-    (λ left q. tick-beat c k now left q)
-
--- ---- sending
-
-sends : (m : Message) (s : State) → Right s → Tells s (silent (sending.send m s))
-sends m s r =
-    let taken : State = state.with_association s (record s.association { sender = given s.association.sender m }) in
-    then-silent s (sending.send m s)
-    (follows-either (sending.may_send m s) s taken s (record { up = refl; right = record { right = r.right } })
-    (record { up = refl; right = r }))
-
-same-phase : (b : Bool) (one other : Association) → one.phase ≡ other.phase → (if b then one else other).phase ≡ other.phase
-same-phase true one other e = e
-same-phase false one other e = refl
-
-same-up : (b : Bool) (one other : Association) → one.is_up ≡ other.is_up → (if b then one else other).is_up ≡ other.is_up
-same-up true one other e = e
-same-up false one other e = refl
-
-flushed : (c : Settings) (now : ℕ) (s : State) → Right s → Tells s (sending.flush c now s)
-flushed c now s r =
-    let a : Association = s.association in
-    let acked : Association = data_rules.sacked a in
-    let b : Association = sending.with_acknowledged a in
-    let gone : Association = record b { sender = (confirming.all_gone now b.sender).left } in
-    let d : Association = sending.with_data_sent now b in
-    let phase : d.phase ≡ a.phase =
-    same-phase (data_rules.takes_sack b.phase) gone b refl ∙ same-phase (sending.is_acknowledging a) acked a refl in
-    let up : d.is_up ≡ a.is_up = same-up (data_rules.takes_sack b.phase) gone b refl ∙ same-up (sending.is_acknowledging a) acked a refl in
-    let right : IsRight d.phase d.is_up =
-    subst (λ (p : Phase). IsRight p d.is_up) (sym phase) (subst (λ (u : Bool). IsRight a.phase u) (sym up) r.right) in
-    record { turn = ap (λ (u : Bool). Some u) (sym up); left = record { right = right } }
-
--- ---- all that can happen
-
-happens : (c : Settings) (k : Secrets) (what : Happening) (s : State) → Right s → Tells s (after c k what s)
-unfolding after
-happens c k (Opens now is_active) s r = opened-by-user c k now is_active s r
-happens c k (Came now source packet) s r = heard c k now source packet s r
-happens c k (Ticked now) s r = ticked c k now s r
-happens c k (Sends message) s r = sends message s r
-happens c k Aborts s r = abort-tells c s
-happens c k (ShutsDown now) s r = shutdown-in s.association.phase c now s refl r
-happens c k (Flushes now) s r = flushed c now s r
-
-all-happen : (c : Settings) (k : Secrets) (whats : List Happening) (s : State) → Right s → Tells s (after_all c k whats s)
-all-happen c k [] s r = stays s [] r
-all-happen c k (what ∷ more) s r =
-    next s (after c k what s) (λ left. after_all c k more left) (happens c k what s r) (λ left q. all-happen c k more left q)
+all-turn : (c : Settings) (k : Secrets) (whats : List Happening) (s : State) → Right s → Turns s (after_all c k whats s)
+all-turn c k [] s r = record { turn = refl }
+all-turn c k (what ∷ more) s r =
+    let t : Passes Turns s (after c k what s) = happens turn-steps c k what s (any-happening what) r in
+    also-turns s (after c k what s) (λ left. after_all c k more left) t.kept (all-turn c k more (after c k what s).left t.left)
 
 pub in-turn : told_in_turn
-in-turn c k happenings = (all-happen c k happenings (first_state c) (record { right = off })).turn
+in-turn c k happenings = (all-turn c k happenings (first_state c) (record { right = off })).turn

@@ -3,7 +3,8 @@ use Rattle.std.specs.Prelude.{ℕ, zero, suc, Bool, true, false, ◌+◌, ◌&&�
 use Rattle.std.specs.Prelude.{length, take, nat_lt, nat_le, if◌then◌else◌}
 use Rattle.std.specs.List.{list_any}
 use Rattle.sctp_sending.specs.Outgoing.{Message, Outgoing, outgoing_at, tsn_at}
-use Rattle.sctp_sending.specs.Sending.{Sending, most_messages, most_octets, next_place, gone_next, confirmation, confirmed}
+use Rattle.sctp_sending.specs.Sending.{Sending, most_messages, most_octets, next_place, gone_next, confirmation}
+use Rattle.sctp_sending.specs.Sending.{confirmed}
 use Rattle.sctp_sending.specs.Sending.{naming_of, after_sack}
 use Rattle.sctp_sending.specs.declared.confirmation.Confirmation.{Confirmation}
 use Rattle.sctp_sending.specs.declared.confirmation.Confirmation.TheVariants.{Old, Beyond, Of}

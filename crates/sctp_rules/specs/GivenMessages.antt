@@ -1,11 +1,13 @@
 -- The sending half under any list of calls, of any peer whatever: what goes out was given, and in order.
-use Rattle.std.specs.Prelude.{◌≡◌, ℕ, ◌+◌, ◌%◌, ◌<◌, ◌^◌, Bool, All, List, [], ◌∷◌, ◌++◌, Option, Some, None, drop, length}
+use Rattle.std.specs.Prelude.{◌≡◌, ℕ, ◌+◌, ◌%◌, ◌<◌, ◌^◌, Bool, All, List, [], ◌∷◌, ◌++◌, Option, Some, None, drop}
+use Rattle.std.specs.Prelude.{length}
 use Rattle.std.specs.Prelude.{map, slice_index_or}
 use Rattle.sctp_sending.specs.declared.bounds.Bounds.{Bounds}
 use Rattle.sctp_sending.specs.declared.confirmation.Confirmation.{Confirmation}
 use Rattle.sctp_sending.specs.declared.confirmation.Confirmation.TheVariants.{Old, Beyond, Of}
 use Rattle.sctp_sending.specs.Outgoing.{Message, Outgoing, no_message}
-use Rattle.sctp_sending.specs.Sending.{Sending, first_sending, given, next_place, gone_next, confirmation, after_cumulative}
+use Rattle.sctp_sending.specs.Sending.{Sending, first_sending, given, next_place, gone_next, confirmation}
+use Rattle.sctp_sending.specs.Sending.{after_cumulative}
 use Rattle.sctp_sending.specs.Sending.{after_sack, after_t3}
 use Rattle.sctp_codec.specs.Packets.{DataValue}
 use Rattle.sctp_rules.specs.Confirming.{data_at}

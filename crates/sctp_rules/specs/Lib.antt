@@ -13,3 +13,4 @@ pub mod Rows
 pub mod Telling
 pub mod GivenMessages
 pub mod ReceivedMessages
+pub mod Openings

@@ -9,7 +9,8 @@ use Rattle.sctp_codec.specs.Parameters.{CauseValue, StaleCookie, UnresolvableAdd
 use Rattle.sctp_codec.specs.Parameters.{CookieInShutdown}
 use Rattle.sctp_codec.specs.Parameters.{cause_item, unrecognized_parameters, cookie_in, host_name_in, has_stale_cookie}
 use Rattle.sctp_codec.specs.Parameters.{answering, complained_of}
-use Rattle.sctp_rules.specs.declared.limits.TheConstants.{STREAMS, WINDOW}
+use Rattle.sctp_rules.specs.declared.limits.TheConstants.{STREAMS}
+use Rattle.sctp_receiving.specs.declared.limits.TheConstants.{WINDOW}
 use Rattle.sctp_rules.specs.declared.phase.Phase.{Phase}
 use Rattle.sctp_rules.specs.declared.phase.Phase.TheVariants.{Closed, CookieWait, CookieEchoed, Established}
 use Rattle.sctp_rules.specs.declared.phase.Phase.TheVariants.{ShutdownPending, ShutdownSent, ShutdownReceived}

@@ -3,7 +3,8 @@ use Rattle.std.specs.Prelude.{ℕ, Bool, true, false, not, ◌*◌, ◌/◌, ◌
 use Rattle.std.specs.Prelude.{nat_eq, if◌then◌else◌}
 use Rattle.std.specs.List.{list_any}
 use Rattle.sctp_codec.specs.Packets.{ChunkValue, PacketValue, DataChunk, InitChunk, InitAckChunk, SackChunk}
-use Rattle.sctp_codec.specs.Packets.{HeartbeatChunk, HeartbeatAckChunk, AbortChunk, ShutdownChunk, ShutdownAckChunk, ErrorChunk}
+use Rattle.sctp_codec.specs.Packets.{HeartbeatChunk, HeartbeatAckChunk, AbortChunk, ShutdownChunk, ShutdownAckChunk}
+use Rattle.sctp_codec.specs.Packets.{ErrorChunk}
 use Rattle.sctp_codec.specs.Packets.{CookieEchoChunk, CookieAckChunk, ShutdownCompleteChunk, UnknownChunk}
 use Rattle.sctp_codec.specs.Packets.{MalformedChunk}
 use Rattle.sctp_codec.specs.Parameters.{UnrecognizedChunk, cause_item}

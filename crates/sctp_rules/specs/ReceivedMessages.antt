@@ -51,8 +51,8 @@ messages_in (consuming.Violates violation ∷ more) = messages_in more
 
 -- ---- the law
 
--- a receiver is one to which chunks of packets came, from the peer's first TSN on: all that such a receiver does holds of
--- it. And the messages told since Up are those that it told
+-- a receiver is one to which chunks of packets came, from the peer's first TSN on: all that such a receiver does holds
+-- of it. And the messages told since Up are those that it told
 pub record IsReceived (came : List Chunk) (told : List Told) (r : Receiver) (first : ℕ) : Type 0 where
   pub calls : List Call
   pub are : AreCalls calls

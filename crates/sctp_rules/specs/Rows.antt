@@ -4,13 +4,15 @@ use Rattle.sctp_receiving.specs.Pieces as pieces
 use Rattle.sctp_sending.specs.Outgoing.{Message}
 use Rattle.sctp_cookie.specs.declared.cookie.Cookie.{Cookie}
 use Rattle.sctp_codec.specs.Packets.{ChunkValue, PacketValue, kind_of, SackChunk, HeartbeatChunk, CookieAckChunk}
-use Rattle.sctp_codec.specs.Packets.{AbortChunk, ShutdownAckChunk, InitChunk, InitAckChunk, HeartbeatAckChunk, InitValue}
+use Rattle.sctp_codec.specs.Packets.{AbortChunk, ShutdownAckChunk, InitChunk, InitAckChunk, HeartbeatAckChunk}
+use Rattle.sctp_codec.specs.Packets.{InitValue}
 use Rattle.sctp_codec.specs.Packets.{UnknownChunk, DataChunk, ShutdownCompleteChunk}
 use Rattle.sctp_codec.specs.Parameters.{information_of}
 use Rattle.sctp_rules.specs.declared.phase.Phase.TheVariants.{Closed, CookieWait, CookieEchoed, Established}
 use Rattle.sctp_rules.specs.declared.phase.Phase.TheVariants.{ShutdownPending, ShutdownSent, ShutdownAckSent}
 use Rattle.sctp_rules.specs.declared.phase.Phase.{Phase}
-use Rattle.sctp_rules.specs.declared.loss.Loss.TheVariants.{Local, Aborted, Shutdown, Restart, NoAnswer, Refused, Protocol}
+use Rattle.sctp_rules.specs.declared.loss.Loss.TheVariants.{Local, Aborted, Shutdown, Restart, NoAnswer, Refused}
+use Rattle.sctp_rules.specs.declared.loss.Loss.TheVariants.{Protocol}
 use Rattle.sctp_rules.specs.declared.loss.Loss.TheVariants.{BadInitAck}
 use Rattle.sctp_rules.specs.Settings.{Settings, Secrets, Address, Beginning}
 use Rattle.sctp_rules.specs.State.{State, Datagram, Told, Up, Heard, Down, Failed, Done, first_state}
@@ -291,7 +293,8 @@ wrong_tag_is_dropped =
 
 -- behind a SHUTDOWN COMPLETE with the peer's tag, DATA isn't looked at
 abbrev pub data_with_the_peers_tag : PacketValue
-data_with_the_peers_tag = record (packet sends) { tag = 10; chunks = ShutdownCompleteChunk true ∷ (packet sends).chunks }
+data_with_the_peers_tag =
+    record (packet sends) { tag = 10; chunks = ShutdownCompleteChunk true ∷ (packet sends).chunks }
 
 abbrev pub data_with_the_peers_tag_is_dropped : Type 0
 data_with_the_peers_tag_is_dropped = Does (far (comes 6 data_with_the_peers_tag) acknowledges.left) Established [] []
@@ -367,7 +370,8 @@ abbrev pub refuses_old_cookie : Done
 refuses_old_cookie = far (comes 60002 (packet echoes)) answers.left
 
 abbrev pub stale_cookie_begins_anew : Type 0
-stale_cookie_begins_anew = Does (near (comes 60003 (packet refuses_old_cookie)) echoes.left) CookieWait ((1 ∷ []) ∷ []) []
+stale_cookie_begins_anew =
+    Does (near (comes 60003 (packet refuses_old_cookie)) echoes.left) CookieWait ((1 ∷ []) ∷ []) []
 
 abbrev pub too_few_streams : InitValue
 too_few_streams = record (init_of (record { tag = 20; first = 5 }) []) { incoming = 1 }

@@ -1,6 +1,7 @@
 //! Laws of the abstract endpoint, of any peer whatever.
 
 ghost use Rattle.sctp_rules.specs.GivenMessages.{given_messages_go_out};
+ghost use Rattle.sctp_rules.specs.Openings.{generations_grow, cookies_open_in_their_generation, other_tags_are_dropped};
 ghost use Rattle.sctp_rules.specs.ReceivedMessages.{messages_are_received};
 ghost use Rattle.sctp_rules.specs.Telling.{told_in_turn};
 
@@ -19,4 +20,17 @@ pub fn what_is_told_was_received()
 /// place; and what is confirmed leaves from the front.
 pub fn what_goes_out_was_given()
     ensures { given_messages_go_out }
+{}
+
+/// The generation grows with each association that opens, and never falls; and a cookie opens in its own generation
+/// alone. So a cookie opens one association at most.
+pub fn a_cookie_opens_once()
+    ensures generations { generations_grow }
+    ensures cookies { cookies_open_in_their_generation }
+{}
+
+/// While there is an association, a packet with another tag changes nothing, where it is no INIT, no COOKIE ECHO and no
+/// ABORT or SHUTDOWN COMPLETE with the peer's tag.
+pub fn packets_with_other_tags_are_dropped()
+    ensures { other_tags_are_dropped }
 {}

@@ -14,6 +14,3 @@ pub const STREAMS: u16 = 2;
 
 /// A peer that tells a smaller window than this has shut it, in octets.
 pub const SHUT_WINDOW: usize = 300;
-
-/// The window that a peer is told at first, in octets.
-pub const WINDOW: u32 = 65_536;

@@ -1,0 +1,46 @@
+-- How often associations open, of any peer whatever; and packets with another tag.
+use Rattle.std.specs.Prelude.{◌≡◌, ◌≢◌, ◌≤◌, ℕ, ◌+◌, Bool, true, false, List, [], ◌∷◌}
+use Rattle.sctp_cookie.specs.declared.cookie.Cookie.{Cookie}
+use Rattle.sctp_codec.specs.Packets.{ChunkValue, PacketValue, InitChunk, CookieEchoChunk, MalformedChunk}
+use Rattle.sctp_codec.specs.Packets.{ShutdownAckChunk}
+use Rattle.sctp_rules.specs.Settings.{Settings, Secrets, Address}
+use Rattle.sctp_rules.specs.State.{State, Told, Up, Heard, Down, Failed, Done, silent, first_state}
+use Rattle.sctp_rules.specs.Opening.{is_there, heard_cookie}
+use Rattle.sctp_rules.specs.Packets.{heard, has_peer_tag}
+use Rattle.sctp_rules.specs.Endpoint.{Happening, after_all}
+
+-- how often Up was told
+abbrev pub openings : List Told → ℕ
+openings [] = 0
+openings (Up ∷ more) = openings more + 1
+openings (Heard message ∷ more) = openings more
+openings (Down why ∷ more) = openings more
+openings (Failed why ∷ more) = openings more
+
+-- the generation grows with each association that opens, and never falls
+abbrev pub generations_grow : Type 0
+generations_grow =
+    (c : Settings) (k : Secrets) (happenings : List Happening) →
+    openings (after_all c k happenings (first_state c)).told
+    ≤ (after_all c k happenings (first_state c)).left.generation
+
+-- and a cookie opens in its own generation alone
+abbrev pub cookies_open_in_their_generation : Type 0
+cookies_open_in_their_generation =
+    (c : Settings) (now : ℕ) (source : Address) (cookie : Cookie) (s : State) → cookie.generation ≢ s.generation →
+    openings (heard_cookie c now source cookie s).does.told ≡ 0
+
+-- INIT and COOKIE ECHO, which have tags of their own
+abbrev pub has_own_rule : ChunkValue → Bool
+has_own_rule (InitChunk init) = true
+has_own_rule (CookieEchoChunk cookie) = true
+has_own_rule chunk = false
+
+-- any other packet with another tag than this end's changes nothing while there is an association, unless its first
+-- chunk says that the tag is the peer's
+abbrev pub other_tags_are_dropped : Type 0
+other_tags_are_dropped =
+    (c : Settings) (k : Secrets) (now : ℕ) (source : Address) (p : PacketValue) (first : ChunkValue)
+    (more : List ChunkValue) (s : State) →
+    p.chunks ≡ first ∷ more → has_own_rule first ≡ false → has_peer_tag first ≡ false →
+    is_there s.association.phase ≡ true → p.tag ≢ s.association.own_tag → heard c k now source p s ≡ silent s
