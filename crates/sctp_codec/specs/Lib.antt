@@ -1,0 +1,6 @@
+pub mod Items
+pub mod Packets
+pub mod Reading
+pub mod Parameters
+pub mod Writing
+pub mod Values
