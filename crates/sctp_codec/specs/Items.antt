@@ -1,6 +1,6 @@
 -- Items: a number of 16 bits, a length of 16 bits, and a value behind them. Chunks, parameters and error causes have this
 -- form (RFC 9260 §3.2, §3.2.1).
-use Rattle.std.specs.Prelude.{◌≡◌, ℕ, zero, suc, ◌+◌, ◌-◌, ◌*◌, ◌%◌, ◌^◌, ◌<◌, Bool, ◌&&◌, if◌then◌else◌, nat_le, List, []}
+use Rattle.std.specs.Prelude.{◌≡◌, ℕ, zero, suc, ◌+◌, ◌-◌, ◌*◌, ◌%◌, ◌^◌, ◌<◌, ◌≤◌, ◌⊎◌, Bool, ◌&&◌, if◌then◌else◌, nat_le, List, []}
 use Rattle.std.specs.Prelude.{◌∷◌, ◌++◌, length, take, drop, replicate, slice_index, slice_range, Option, Some, None}
 use Rattle.std.specs.Int.{w16, w32, from_be_bytes, to_be_bytes}
 
@@ -83,3 +83,26 @@ joined_items (item ∷ next ∷ items) = padded_item item ++ joined_items (next 
 pub record IsItem (item : ItemValue) : Type 0 where
   pub kind : item.kind < 2 ^ 16
   pub fits : 4 + length item.value < 2 ^ 16
+
+-- ---- the grammar
+
+-- what stands behind an item of so many octets: its padding, or less of it at the end of all
+pub record IsPadding (padding rest : List ℕ) (count : ℕ) : Type 0 where
+  pub most : length padding ≤ padding_behind count
+  pub all : (length padding ≡ padding_behind count) ⊎ (rest ≡ [])
+
+-- the octets are this item, and then the rest
+pub record BeginWith (octets : List ℕ) (item : ItemValue) (rest : List ℕ) : Type 0 where
+  pub padding : List ℕ
+  pub says : octets ≡ item_octets item ++ (padding ++ rest)
+  pub item_fits : IsItem item
+  pub padding_fits : IsPadding padding rest (length item.value)
+
+-- the octets are these items, one after another
+abbrev pub AreItems : List ℕ → List ItemValue → Type 0
+AreItems octets [] = octets ≡ []
+AreItems octets (item ∷ items) = (rest : List ℕ) × BeginWith octets item rest × AreItems rest items
+
+-- each number of the list is that of an octet
+abbrev pub AreOctets : List ℕ → Type 0
+AreOctets octets = (i : ℕ) → slice_index octets i < 2 ^ 8

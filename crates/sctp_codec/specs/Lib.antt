@@ -4,3 +4,5 @@ pub mod Reading
 pub mod Parameters
 pub mod Writing
 pub mod Values
+pub mod Causes
+pub mod Reports

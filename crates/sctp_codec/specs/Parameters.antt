@@ -1,9 +1,9 @@
 -- The parameters of INIT and INIT ACK, and what is done about each; the causes of ABORT and ERROR
 -- (RFC 9260 §3.2.1, §3.3.2, §3.3.3, §3.3.10).
-use Rattle.std.specs.Prelude.{ℕ, ◌+◌, ◌-◌, ◌/◌, ◌%◌, ◌^◌, Bool, true, false, ◌==◌, ◌||◌, ◌&&◌, not, if◌then◌else◌, nat_le, List, []}
-use Rattle.std.specs.Prelude.{◌∷◌, ◌++◌, length, map, Option, Some, None}
+use Rattle.std.specs.Prelude.{ℕ, ◌+◌, ◌-◌, ◌*◌, ◌/◌, ◌%◌, ◌^◌, Bool, true, false, ◌==◌, ◌||◌, ◌&&◌, not, if◌then◌else◌, nat_le, List, []}
+use Rattle.std.specs.Prelude.{◌∷◌, ◌++◌, length, map, replicate, Option, Some, None}
 use Rattle.std.specs.Int.{w16, w32, w64, to_be_bytes}
-use Rattle.sctp_codec.specs.Items.{ItemValue, item_octets, padded_item, joined_items}
+use Rattle.sctp_codec.specs.Items.{ItemValue, padding_behind, item_octets, padded_item, joined_items}
 
 -- ---- parameters
 
@@ -58,9 +58,9 @@ reported_of (item ∷ items) = if is_reported item.kind then item ∷ reported_o
 abbrev pub cookie_in : List ItemValue → Option (List ℕ)
 cookie_in parameters = first_of_kind state_cookie (counting parameters)
 
--- whether there is a host name, which no address is made of here
-abbrev pub has_host_name : List ItemValue → Bool
-has_host_name parameters = has_kind host_name_address (counting parameters)
+-- the host name, which no address is made of here
+abbrev pub host_name_in : List ItemValue → Option (List ℕ)
+host_name_in parameters = first_of_kind host_name_address (counting parameters)
 
 -- the parameters that are to be reported
 abbrev pub reported_in : List ItemValue → List ItemValue
@@ -75,6 +75,30 @@ fitting room (item ∷ items) =
 -- a parameter that is reported in INIT ACK: the whole of it is the value
 abbrev pub reporting : ItemValue → ItemValue
 reporting item = record { kind = unrecognized_parameter; value = item_octets item }
+
+-- how many octets of reported parameters are sent at most
+abbrev pub report_octets : ℕ
+report_octets = 512
+
+-- a parameter as it is reported: in INIT ACK, or in an ERROR
+abbrev pub report_of : Bool → ItemValue → ItemValue
+report_of true item = reporting item
+report_of false item = item
+
+-- items, each behind the padding of the one before it
+abbrev pub following : ℕ → List ItemValue → List ℕ
+following padding [] = []
+following padding (item ∷ items) =
+    replicate padding 0 ++ item_octets item ++ following (padding_behind (length item.value)) items
+
+-- the parameters of INIT ACK: the cookie, and those of INIT that are reported, as many as there is room for
+abbrev pub answering : (cookie : List ℕ) → List ItemValue → List ItemValue
+answering cookie parameters =
+    record { kind = state_cookie; value = cookie } ∷ fitting report_octets (map reporting (reported_in parameters))
+
+-- the parameters of INIT ACK that are reported in an ERROR, as many as there is room for
+abbrev pub complained_of : List ItemValue → List ItemValue
+complained_of parameters = fitting report_octets (reported_in parameters)
 
 -- the heartbeat information that this end sends, which has a number of its own (RFC 9260 §3.3.5)
 abbrev pub information_of : ℕ → List ℕ
@@ -92,14 +116,12 @@ pub data CauseValue : Type 0 where
   NoStream : (stream : ℕ) → CauseValue
   -- stale cookie: by how many microseconds
   StaleCookie : (microseconds : ℕ) → CauseValue
-  -- unresolvable address: the parameter
-  UnresolvableAddress : (address : List ℕ) → CauseValue
+  -- unresolvable address: a host name
+  UnresolvableAddress : (name : List ℕ) → CauseValue
   -- unrecognized chunk type: the chunk
-  UnrecognizedChunk : (octets : List ℕ) → CauseValue
+  UnrecognizedChunk : (kind flags : ℕ) (value : List ℕ) → CauseValue
   -- invalid mandatory parameter
   InvalidParameter : CauseValue
-  -- unrecognized parameters: these
-  UnrecognizedParameters : (parameters : List ItemValue) → CauseValue
   -- no user data: the number of the DATA chunk
   NoUserData : (tsn : ℕ) → CauseValue
   -- cookie received while shutting down
@@ -113,14 +135,19 @@ pub data CauseValue : Type 0 where
 abbrev pub cause_item : CauseValue → ItemValue
 cause_item (NoStream stream) = record { kind = 1; value = to_be_bytes w16 stream ++ (0 ∷ 0 ∷ []) }
 cause_item (StaleCookie microseconds) = record { kind = stale_cookie; value = to_be_bytes w32 microseconds }
-cause_item (UnresolvableAddress address) = record { kind = 5; value = address }
-cause_item (UnrecognizedChunk octets) = record { kind = 6; value = octets }
+cause_item (UnresolvableAddress name) =
+    record { kind = 5; value = item_octets (record { kind = host_name_address; value = name }) }
+cause_item (UnrecognizedChunk kind flags value) =
+    record { kind = 6; value = item_octets (record { kind = kind * 2 ^ 8 + flags; value = value }) }
 cause_item InvalidParameter = record { kind = 7; value = [] }
-cause_item (UnrecognizedParameters parameters) = record { kind = 8; value = joined_items parameters }
 cause_item (NoUserData tsn) = record { kind = 9; value = to_be_bytes w32 tsn }
 cause_item CookieInShutdown = record { kind = 10; value = [] }
 cause_item EndedByUser = record { kind = 12; value = [] }
 cause_item (ProtocolViolation words) = record { kind = 13; value = words }
+
+-- unrecognized parameters, in an ERROR: these
+abbrev pub unrecognized_parameters : List ItemValue → ItemValue
+unrecognized_parameters parameters = record { kind = 8; value = joined_items parameters }
 
 -- whether one of the causes is that the cookie was stale
 abbrev pub has_stale_cookie : List ItemValue → Bool

@@ -4,6 +4,7 @@ use Rattle.sctp_codec.specs.declared.item.Item.{Item}
 use Rattle.sctp_codec.specs.declared.items.Items.{Items}
 use Rattle.sctp_codec.specs.declared.chunk.Data.{Data as DataOfChunk}
 use Rattle.sctp_codec.specs.declared.chunk.Init.{Init as InitOfChunk}
+use Rattle.sctp_codec.specs.declared.chunk.Offer.{Offer}
 use Rattle.sctp_codec.specs.declared.chunk.Sack.{Sack as SackOfChunk}
 use Rattle.sctp_codec.specs.declared.chunk.Block.{Block}
 use Rattle.sctp_codec.specs.declared.chunk.Blocks.{Blocks}
@@ -44,15 +45,19 @@ data_of d = record {
   octets = d.octets.now;
 }
 
-abbrev pub init_of : InitOfChunk → InitValue
-init_of i = record {
-  tag = i.tag;
-  window = i.window;
-  outgoing = i.outgoing;
-  incoming = i.incoming;
-  first_tsn = i.first_tsn;
-  parameters = items_of i.parameters;
+-- what is offered, with these parameters
+abbrev pub offer_with : Offer → List ItemValue → InitValue
+offer_with o parameters = record {
+  tag = o.tag;
+  window = o.window;
+  outgoing = o.outgoing;
+  incoming = o.incoming;
+  first_tsn = o.first_tsn;
+  parameters = parameters;
 }
+
+abbrev pub init_of : InitOfChunk → InitValue
+init_of i = offer_with i.offer (items_of i.parameters)
 
 abbrev pub block_of : Block → BlockValue
 block_of b = record { start = b.start; end = b.end }
