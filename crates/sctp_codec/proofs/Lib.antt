@@ -1,0 +1,9 @@
+pub mod ItemTexts
+pub mod SackTexts
+pub mod Finishing
+pub mod ChunkTexts
+pub mod ReportTexts
+pub mod Joined
+pub mod Checksums
+pub mod Grammar
+pub mod WrittenTexts

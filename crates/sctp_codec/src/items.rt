@@ -1,0 +1,58 @@
+//! Items, one after another.
+
+ghost use Rattle.std.specs.Prelude.{◌≡◌, [], IsSome};
+ghost use Rattle.sctp_codec.specs.Items.{read_items};
+
+use crate::item::{Item, first};
+
+/// Whole items, one after another.
+#[derive(Clone, Copy)]
+pub struct Items<'a> {
+    octets: &'a [u8],
+    ghost whole: { IsSome (read_items octets.now) },
+}
+
+impl<'a> Items<'a> {
+    ghost use Rattle.sctp_codec.specs.Values.{items_of, Gives};
+
+    /// No items.
+    pub(crate) fn none() -> Items<'a>
+        ensures { items_of result ≡ [] }
+    {
+        Items { octets: &[] }
+    }
+
+    /// The items that the octets are. None where they aren't whole items to their end; the padding behind the last
+    /// may be missing.
+    pub fn read(octets: &'a [u8]) -> Option<Items<'a>>
+        ensures { Gives items_of result (read_items octets.now) }
+    {
+        let mut rest = octets;
+        'each_item: while !rest.is_empty() {
+            let Some((_, behind)) = first(rest) else {
+                return None;
+            };
+            rest = behind;
+        }
+        Some(Items { octets })
+    }
+}
+
+impl<'a> Iterator for Items<'a> {
+    type Item = Item<'a>;
+
+    ghost use Rattle.std.specs.Iterator.{YieldsFirstBy, item_count};
+    ghost use Rattle.sctp_codec.specs.Values.{item_of, items_of};
+
+    ghost next_gives = { YieldsFirstBy item_of items_of };
+
+    ghost remaining = { item_count items_of };
+
+    fn next(&mut self) -> Option<Item<'a>> {
+        let Some((item, behind)) = first(self.octets) else {
+            return None;
+        };
+        self.octets = behind;
+        Some(item)
+    }
+}
