@@ -60,7 +60,7 @@ either-stands false k t a c s r = r
 pub filled-stands : (old new : Connection) (k : Kept) (a : Abstract) → new ≡ record old { outgoing = filled old.outgoing (text_to_take kept k old.link) } → StandsFor k a
     → new ≡ record old { outgoing = filled old.outgoing (text_to_take whole a old.link) }
 filled-stands old new k a e s =
-    e ∙ (λ i. record { link = old.link; held = old.held; outgoing = filled old.outgoing (stands-text old.link k a s i) })
+    e ∙ (λ i. record { link = old.link; is_up = old.is_up; held = old.held; outgoing = filled old.outgoing (stands-text old.link k a s i) })
 
 pub fill-stands : (o : Outgoing) (link : ℕ) (k t : Kept) (a : Abstract) → t ≡ after_fill kept o link k → StandsFor k a → StandsFor t (after_fill whole o link a)
 fill-stands o link k t a e s =

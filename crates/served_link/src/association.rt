@@ -1,11 +1,14 @@
 //! One connection of a link.
 
-ghost use Rattle.std.specs.Prelude.{◌≡◌, ◌≤◌, length};
+ghost use Rattle.std.specs.Prelude.{◌≡◌, ◌≤◌, ◌<◌, false, true, length};
 ghost use Rattle.exchange.specs.KeptQueues.{kept};
 ghost use Rattle.exchange.specs.Stands.{StandsFor};
 ghost use Rattle.exchange_rules.specs.Queues.{whole};
 ghost use Rattle.exchange_rules.specs.Sound.{Abstract};
-ghost use Rattle.served_link.specs.Connections.{opened, text_to_take, is_pending, filled, after_fill};
+ghost use Rattle.exchange_rules.specs.Exchange.{outcome_of, after};
+ghost use Rattle.exchange_rules.specs.Happening.{CameUp};
+ghost use Rattle.served_link.specs.Connections.{silent, is_handled, risen, after_rise, after_fall};
+ghost use Rattle.served_link.specs.Connections.{text_to_take, is_pending, filled, after_fill};
 ghost use Rattle.served_link.specs.Connections.{after_write, sights_of_write};
 ghost use Rattle.served_link.specs.Watching.{SeesEach};
 ghost use Rattle.served_link.specs.Reading.{Reads};
@@ -13,21 +16,27 @@ ghost use Rattle.served_link.specs.Reading.{Reads};
 use crate::outgoing::Outgoing;
 use crate::reading::read_all;
 use crate::watch::Watch;
-use exchange::{Exchange, Framer};
-use settings::LinkId;
+use exchange::{Event, Exchange, Framer};
+use settings::{LinkId, Outcome};
 use std::marker::Model;
 
 /// The octets that came begin, where a frame is due, with a length field that no frame has: under 8, or above 4,096.
 #[derive(Clone, Copy, Debug, PartialEq, Eq)]
 pub struct Broken;
 
-/// One connection of a link: the octets that came and aren't a whole frame yet, and the frame that is being written.
+/// One connection of a link: whether the link's association is up over it, the octets that came and aren't a whole
+/// frame yet, and the frame that is being written.
 ///
-/// It begins when the connection opens, and ends with it: octets that are held then, and the rest of a frame that isn't
-/// written whole, are gone. It allocates no memory.
+/// It begins when the connection is there, and ends with it: octets that are held then, and the rest of a frame that
+/// isn't written whole, are gone. It allocates no memory.
+///
+/// The association comes up at one end first. The end that accepted the connection is the first. The system tells the
+/// other end that it is connected before that, or though its connection is then refused. So there the association comes
+/// up only when the first octets come: the other end sent them, so its own is up.
 #[derive(Drop)]
 pub struct Association {
     link: LinkId,
+    is_up: bool,
     framer: Framer,
     outgoing: Outgoing,
 }
@@ -37,19 +46,81 @@ impl Model for Association {
 
     ghost Value = { Connection };
 
-    ghost view = { λ a. record { link = a.link; held = a.framer; outgoing = a.outgoing } };
+    ghost view = { λ a. record { link = a.link; is_up = a.is_up; held = a.framer; outgoing = a.outgoing } };
 }
 
 impl Association {
-    /// A new connection of the link: nothing has come, and nothing is going out.
-    pub fn new(link: LinkId) -> Association
-        ensures { result ≡ opened link }
+    /// A connection that this end made: nothing has come, nothing is going out, and the association isn't up.
+    pub fn connected(link: LinkId) -> Association
+        ensures { result ≡ silent link }
     {
         Association {
             link,
+            is_up: false,
             framer: Framer::new(),
             outgoing: Outgoing::new(),
         }
+    }
+
+    /// A connection that this end accepted: the association comes up at once, where the link wants that. If it isn't up
+    /// then, close the connection.
+    pub fn accepted(link: LinkId, exchange: &mut Exchange) -> Association
+        ensures up { (a : Abstract) → StandsFor exchange.old a → result ≡ risen whole (silent link) a }
+        ensures state { (a : Abstract) → StandsFor exchange.old a →
+            StandsFor exchange.new (after_rise whole (silent link) a) }
+
+        // The same on what is kept.
+        ensures kept_up { result ≡ risen kept (silent link) exchange.old }
+        ensures kept_state { exchange.new ≡ after_rise kept (silent link) exchange.old }
+    {
+        let is_up = come_up(link, exchange);
+        Association {
+            link,
+            is_up,
+            framer: Framer::new(),
+            outgoing: Outgoing::new(),
+        }
+    }
+
+    /// These octets came: the association comes up, if it isn't up, and if the link wants that. Returns whether it is
+    /// up. If it isn't, close the connection; else go on with `read`.
+    pub fn hear(&mut self, octets: &[u8], exchange: &mut Exchange) -> bool
+        requires some { 0 < length octets.now }
+        ensures up { (a : Abstract) → StandsFor exchange.old a → self.new ≡ risen whole self.old a }
+        ensures state { (a : Abstract) → StandsFor exchange.old a →
+            StandsFor exchange.new (after_rise whole self.old a) }
+
+        // The same on what is kept.
+        ensures kept_up { self.new ≡ risen kept self.old exchange.old }
+        ensures kept_state { exchange.new ≡ after_rise kept self.old exchange.old }
+        ensures answer { result ≡ self.new.is_up }
+    {
+        if !self.is_up {
+            self.is_up = come_up(self.link, exchange);
+        }
+        self.is_up
+    }
+
+    /// The connection ends: the association goes down, if it is up.
+    pub fn fall(&mut self, exchange: &mut Exchange)
+        ensures down { self.new ≡ record self.old { is_up = false } }
+        ensures state { (a : Abstract) → StandsFor exchange.old a →
+            StandsFor exchange.new (after_fall whole self.old a) }
+
+        // The same on what is kept.
+        ensures kept_state { exchange.new ≡ after_fall kept self.old exchange.old }
+    {
+        if self.is_up {
+            exchange.step(&Event::AssociationDown(self.link));
+            self.is_up = false;
+        }
+    }
+
+    /// Whether the association is up.
+    pub fn is_up(&self) -> bool
+        ensures { result ≡ self.now.is_up }
+    {
+        self.is_up
     }
 
     /// The link.
@@ -71,6 +142,8 @@ impl Association {
         octets: &[u8],
         watch: &mut W,
     ) -> Result<(), Broken>
+        requires up { self.old.is_up ≡ true }
+
         // For every abstract state that the exchange stood for, what is read is that of the abstract exchange.
         ensures read { (a : Abstract) → StandsFor exchange.old a → (b : Abstract) × StandsFor exchange.new b
             × Reads W.sees whole self.old.link octets.now result self.old.held self.new.held a b watch.old watch.new }
@@ -86,6 +159,8 @@ impl Association {
     /// Takes the next frame of the link, unless octets of one are left to write: so at most one frame is taken and not
     /// written whole, and the others stay in the node, for a changeover. Returns whether octets are left to write.
     pub fn fill(&mut self, exchange: &mut Exchange) -> bool
+        requires up { self.old.is_up ≡ true }
+
         // For every abstract state that the exchange stood for, the frame is that of the abstract take,
         ensures frame { (a : Abstract) → StandsFor exchange.old a → self.new ≡ record self.old {
           outgoing = filled self.old.outgoing (text_to_take whole a self.old.link);
@@ -139,4 +214,17 @@ impl Association {
             self.outgoing.advance(count);
         }
     }
+}
+
+/// An association of a link comes up. True where the exchange handles that.
+fn come_up(link: LinkId, exchange: &mut Exchange) -> bool
+    ensures up { (a : Abstract) → StandsFor exchange.old a → result ≡ is_handled (outcome_of whole (CameUp link) a) }
+    ensures state { (a : Abstract) → StandsFor exchange.old a → StandsFor exchange.new (after whole (CameUp link) a) }
+
+    // The same on what is kept.
+    ensures kept_up { result ≡ is_handled (outcome_of kept (CameUp link) exchange.old) }
+    ensures kept_state { exchange.new ≡ after kept (CameUp link) exchange.old }
+{
+    let outcome = exchange.step(&Event::AssociationUp(link));
+    matches!(outcome, Outcome::Handled)
 }
