@@ -1,2 +1,3 @@
 pub mod Naming
 pub mod Audience
+pub mod Moving

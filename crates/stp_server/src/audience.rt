@@ -37,15 +37,13 @@ impl Audience {
         settings: &Settings,
         points: PointFormat,
     ) -> Result<Audience, AllocError> {
-        let mut names = Vec::new(alloc);
-        for row in settings.links() {
-            names.push(String::from_str(alloc, row.name())?)?;
-        }
+        let counters = Counters::new(alloc, settings.link_count())?;
+        let callers = Callers::new(alloc)?;
         Ok(Audience {
-            counters: Counters::new(alloc, names.len())?,
-            names,
+            names: names_of(alloc, settings)?,
+            counters,
             capture: None,
-            callers: Callers::new(alloc)?,
+            callers,
             points,
             now: Duration::ZERO,
             refused: 0,
@@ -106,6 +104,15 @@ impl Audience {
             self.callers.tell_line(News::Message, line.as_slice());
         }
     }
+}
+
+/// The names of the links, in the order of the settings.
+fn names_of(alloc: Global, settings: &Settings) -> Result<Vec<String>, AllocError> {
+    let mut names = Vec::new(alloc);
+    for row in settings.links() {
+        names.push(String::from_str(alloc, row.name())?)?;
+    }
+    Ok(names)
 }
 
 /// The line of a message for this point, without its line feed: `local LINK HEX`.

@@ -1,10 +1,10 @@
 //! A caller of the console and its socket.
 
+use crate::socket::{Moved, read_some, write_some};
 use console_session::{Caller, Desk, Ending, News};
 use mio::event::Event;
 use mio::net::TcpStream;
 use std::alloc::Global;
-use std::io::{ErrorKind, Read, Write};
 use std::net::SocketAddr;
 
 /// Octets that one read of a caller asks for.
@@ -134,19 +134,19 @@ impl CallerSocket {
         if !self.can_read {
             return false;
         }
-        match self.stream.read(&mut self.piece) {
-            Ok(0) => {
-                self.can_read = false;
-                self.has_ended = true;
-            }
-            Ok(count) => {
+        match read_some(&mut self.stream, &mut self.piece) {
+            Moved::Octets(count) => {
                 self.start = 0;
                 self.end = count;
                 return true;
             }
-            Err(error) if error.kind() == ErrorKind::WouldBlock => self.can_read = false,
-            Err(error) if error.kind() == ErrorKind::Interrupted => {}
-            Err(_) => self.is_closing = true,
+            Moved::Later => self.can_read = false,
+            Moved::Again => {}
+            Moved::End => {
+                self.can_read = false;
+                self.has_ended = true;
+            }
+            Moved::Failed => self.is_closing = true,
         }
         false
     }
@@ -168,12 +168,11 @@ impl CallerSocket {
 
     /// Makes one write.
     fn write_once(&mut self) {
-        match self.stream.write(self.caller.pending()) {
-            Ok(0) => self.end(),
-            Ok(count) => self.caller.written(count),
-            Err(error) if error.kind() == ErrorKind::WouldBlock => self.can_write = false,
-            Err(error) if error.kind() == ErrorKind::Interrupted => {}
-            Err(_) => self.end(),
+        match write_some(&mut self.stream, self.caller.pending()) {
+            Moved::Octets(count) => self.caller.written(count),
+            Moved::Later => self.can_write = false,
+            Moved::Again => {}
+            Moved::End | Moved::Failed => self.end(),
         }
     }
 

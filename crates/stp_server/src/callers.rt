@@ -23,11 +23,45 @@ const MOST_CALLERS: usize = 16;
 /// Callers that are taken in one round, at most.
 const ACCEPTS: usize = 16;
 
+/// Has the poll tell of a caller's socket, if there is a place for it. The log is told of the caller, and the caller if
+/// there is none. False where it has no place.
+fn is_seated<W: Sink>(
+    free: usize,
+    stream: &mut TcpStream,
+    peer: SocketAddr,
+    registry: &Registry,
+    journal: &mut Journal<'_, W>,
+) -> bool {
+    if free >= MOST_CALLERS {
+        tell_no_place(stream);
+        journal.tell(&format_args!("caller {peer} no place"));
+        return false;
+    }
+    let interests = Interest::READABLE | Interest::WRITABLE;
+    let token = SocketName::Caller(free as u8).token();
+    let is_registered = registry.register(stream, token, interests).is_ok();
+    if is_registered {
+        journal.tell(&format_args!("caller {peer}"));
+    }
+    is_registered
+}
+
 /// Tells a caller that there is no place for it.
 fn tell_no_place(stream: &mut TcpStream) {
     let mut line = ArrayString::<LINE_OCTETS>::new();
     let _fits = writeln!(line, "no place: {MOST_CALLERS} callers are connected");
     let _told = stream.write(line.as_bytes());
+}
+
+/// Writes what waits for a caller. True where its connection is over; the log is told of it.
+fn is_over<W: Sink>(socket: &mut CallerSocket, journal: &mut Journal<'_, W>) -> bool {
+    socket.write();
+    let is_over = socket.is_over();
+    if is_over {
+        let peer = socket.peer();
+        journal.tell(&format_args!("caller {peer} gone"));
+    }
+    is_over
 }
 
 /// The callers of the console, each in a place of its own, and the listener of the console.
@@ -102,21 +136,26 @@ impl Callers {
         registry: &Registry,
         journal: &mut Journal<'_, W>,
     ) {
-        let free = self.places.iter().position(|place| place.is_none());
-        let Some(free) = free else {
-            tell_no_place(&mut stream);
-            journal.tell(&format_args!("caller {peer} no place"));
-            return;
-        };
-        let interests = Interest::READABLE | Interest::WRITABLE;
-        let number = u8::try_from(free).unwrap_or(u8::MAX);
-        let token = SocketName::Caller(number).token();
-        if registry.register(&mut stream, token, interests).is_err() {
-            return;
+        let free = self.free_place();
+        if is_seated(free, &mut stream, peer, registry, journal) {
+            self.put(free, CallerSocket::new(alloc, stream, peer));
         }
-        journal.tell(&format_args!("caller {peer}"));
+    }
+
+    /// The first place that is free; behind the last one where none is.
+    fn free_place(&self) -> usize {
+        for (k, place) in self.places.iter().enumerate() {
+            if place.is_none() {
+                return k;
+            }
+        }
+        MOST_CALLERS
+    }
+
+    /// A caller has this place from now on.
+    fn put(&mut self, free: usize, socket: CallerSocket) {
         if let Some(place) = self.places.get_mut(free) {
-            *place = Some(CallerSocket::new(alloc, stream, peer));
+            *place = Some(socket);
         }
     }
 
@@ -134,29 +173,34 @@ impl Callers {
     /// Writes what waits for the callers, and closes the connections that are over.
     pub(crate) fn write<W: Sink>(&mut self, journal: &mut Journal<'_, W>) {
         for place in self.places.iter_mut() {
-            if let Some(socket) = place {
-                socket.write();
-                if socket.is_over() {
-                    let peer = socket.peer();
-                    journal.tell(&format_args!("caller {peer} gone"));
-                    *place = None;
-                }
+            if let Some(socket) = place
+                && is_over(socket, journal)
+            {
+                *place = None;
             }
         }
     }
 
     /// Whether a caller has something to read or to write now.
     pub(crate) fn is_busy(&self) -> bool {
-        self.can_accept
-            || self
-                .places
-                .iter()
-                .any(|place| place.as_ref().is_some_and(CallerSocket::is_busy))
+        let mut is_busy = self.can_accept;
+        for place in self.places.iter() {
+            if let Some(socket) = place {
+                is_busy = is_busy || socket.is_busy();
+            }
+        }
+        is_busy
     }
 
     /// Whether any caller asked for such news.
     pub(crate) fn any_sees(&self, news: News) -> bool {
-        self.places.iter().any(|place| place.as_ref().is_some_and(|socket| socket.sees(news)))
+        let mut any_sees = false;
+        for place in self.places.iter() {
+            if let Some(socket) = place {
+                any_sees = any_sees || socket.sees(news);
+            }
+        }
+        any_sees
     }
 
     /// Tells the callers that asked for such news a line, which is given without its line feed.

@@ -1,14 +1,17 @@
 //! The connection of a link: what comes on it is handed in, and frames are taken and written.
 
+ghost use Rattle.std.specs.Prelude.{◌≡◌, ◌≤◌, ◌<◌, true, length};
+
 use crate::audience::Watching;
 use crate::journal::Journal;
 use crate::node::Node;
+use crate::socket::{Moved, read_some, write_some};
+use exchange::Exchange;
 use mio::event::Event as Readiness;
 use mio::net::TcpStream;
 use script::Sink;
 use served_link::{Association, Broken, Watch};
 use settings::{FailureReason, LinkId};
-use std::io::{ErrorKind, Read, Write};
 use std::net::SocketAddr;
 
 /// Octets that one read asks for.
@@ -17,18 +20,19 @@ const PIECE_OCTETS: usize = 4096;
 /// Octets that are handed in before the notices are looked at: they are no more frames than notices are kept.
 const LOOK_OCTETS: usize = 512;
 
-/// The connection of a link.
+/// The connection of a link, from the moment it begins to be made.
 #[derive(Drop)]
 pub(crate) struct Connection {
     stream: TcpStream,
     peer: SocketAddr,
     association: Association,
+    is_made: bool,
     can_read: bool,
     can_write: bool,
 }
 
 /// Why a connection ends.
-#[derive(Clone, Copy, PartialEq, Eq)]
+#[derive(Clone, Copy)]
 pub(crate) enum Why {
     /// The peer closed it.
     Peer,
@@ -55,8 +59,8 @@ impl Why {
     }
 }
 
-/// What a call of a socket came to.
-pub(crate) enum Moved {
+/// What a call of a connection came to.
+pub(crate) enum Progress {
     /// Some octets moved, and more may.
     Some,
     /// None can now.
@@ -66,12 +70,32 @@ pub(crate) enum Moved {
 }
 
 impl Connection {
-    /// A connection that was just made.
-    pub(crate) fn new(link: LinkId, stream: TcpStream, peer: SocketAddr) -> Connection {
+    /// A connection that this end begins to make. Its association isn't up until something comes on it.
+    pub(crate) fn begun(link: LinkId, stream: TcpStream, peer: SocketAddr) -> Connection {
+        let _soon = stream.set_nodelay(true);
         Connection {
             stream,
             peer,
-            association: Association::new(link),
+            association: Association::connected(link),
+            is_made: false,
+            can_read: false,
+            can_write: false,
+        }
+    }
+
+    /// A connection that was accepted. Its association is up, where the link wants that.
+    pub(crate) fn accepted(
+        link: LinkId,
+        stream: TcpStream,
+        peer: SocketAddr,
+        exchange: &mut Exchange,
+    ) -> Connection {
+        let _soon = stream.set_nodelay(true);
+        Connection {
+            stream,
+            peer,
+            association: Association::accepted(link, exchange),
+            is_made: true,
             can_read: true,
             can_write: true,
         }
@@ -82,15 +106,45 @@ impl Connection {
         self.peer
     }
 
-    /// Its socket may be ready.
+    /// Whether its association is up.
+    pub(crate) fn is_up(&self) -> bool {
+        self.association.is_up()
+    }
+
+    /// It ends, and its association goes down, if it is up.
+    pub(crate) fn fall(&mut self, exchange: &mut Exchange) {
+        self.association.fall(exchange);
+    }
+
+    /// Its socket may be ready; or, while it is being made, knows how that ended.
     pub(crate) fn mark(&mut self, event: &Readiness) {
         self.can_read = true;
         self.can_write = self.can_write || event.is_writable();
     }
 
-    /// Whether there may be something to read now.
+    /// Whether there may be something to read now, or to learn of how it was made.
     pub(crate) fn is_busy(&self) -> bool {
         self.can_read
+    }
+
+    /// Learns whether it is made, where the socket knows. False where it couldn't be.
+    pub(crate) fn is_possible(&mut self) -> bool {
+        if self.is_made || !self.can_read {
+            return true;
+        }
+        self.is_made = is_connected(&self.stream);
+        self.can_write = self.is_made;
+        self.is_made
+    }
+
+    /// Tells that its association is up.
+    pub(crate) fn tell_open<W: Sink>(&self, node: &mut Node, journal: &mut Journal<'_, W>) {
+        journal.tell_at(
+            "open",
+            node.audience.name(self.association.link()),
+            self.peer,
+        );
+        node.look(FailureReason::Association, journal);
     }
 
     /// Makes one read, and hands in what came.
@@ -99,21 +153,59 @@ impl Connection {
         node: &mut Node,
         journal: &mut Journal<'_, W>,
         user: &mut U,
-    ) -> Moved {
-        if !self.can_read {
-            return Moved::None;
+    ) -> Progress {
+        if !self.is_made || !self.can_read {
+            return Progress::None;
         }
         let mut piece = [0; PIECE_OCTETS];
-        match self.stream.read(&mut piece) {
-            Ok(0) => Moved::Over(Why::Peer),
-            Ok(count) => self.hand_in(&piece[..count], node, journal, user),
-            Err(error) if error.kind() == ErrorKind::WouldBlock => {
+        match read_some(&mut self.stream, &mut piece) {
+            Moved::Octets(count) => self.take_in(&piece[..count], node, journal, user),
+            Moved::Later => {
                 self.can_read = false;
-                Moved::None
+                Progress::None
             }
-            Err(error) if error.kind() == ErrorKind::Interrupted => Moved::Some,
-            Err(_) => Moved::Over(Why::Read),
+            Moved::Again => Progress::None,
+            Moved::End => Progress::Over(Why::Peer),
+            Moved::Failed => Progress::Over(Why::Read),
         }
+    }
+
+    /// Octets came. They are handed in, unless the association comes up only now and the link doesn't want that any
+    /// more.
+    fn take_in<W: Sink, U: Watch>(
+        &mut self,
+        octets: &[u8],
+        node: &mut Node,
+        journal: &mut Journal<'_, W>,
+        user: &mut U,
+    ) -> Progress
+        requires { 0 < length octets.now }
+    {
+        if self.hear(octets, node, journal) {
+            self.hand_in(octets, node, journal, user)
+        } else {
+            Progress::Over(Why::Node)
+        }
+    }
+
+    /// Octets came: the association comes up, if it isn't, and if the link wants that. Returns whether it is up.
+    fn hear<W: Sink>(
+        &mut self,
+        octets: &[u8],
+        node: &mut Node,
+        journal: &mut Journal<'_, W>,
+    ) -> bool
+        requires { 0 < length octets.now }
+        ensures { result ≡ self.new.association.is_up }
+    {
+        if self.association.is_up() {
+            return true;
+        }
+        let is_up = self.association.hear(octets, &mut node.exchange);
+        if is_up {
+            self.tell_open(node, journal);
+        }
+        is_up
     }
 
     /// Hands in octets, and looks at the notices now and then.
@@ -123,15 +215,17 @@ impl Connection {
         node: &mut Node,
         journal: &mut Journal<'_, W>,
         user: &mut U,
-    ) -> Moved {
+    ) -> Progress
+        requires { self.old.association.is_up ≡ true }
+    {
         for part in octets.chunks(LOOK_OCTETS) {
             let read = self.hand_in_part(part, node, user);
             node.look(FailureReason::Changeover, journal);
             if let Err(Broken) = read {
-                return Moved::Over(Why::Framing);
+                return Progress::Over(Why::Framing);
             }
         }
-        Moved::Some
+        Progress::Some
     }
 
     /// Hands in octets.
@@ -140,7 +234,10 @@ impl Connection {
         part: &[u8],
         node: &mut Node,
         user: &mut U,
-    ) -> Result<(), Broken> {
+    ) -> Result<(), Broken>
+        requires { self.old.association.is_up ≡ true }
+        ensures { self.new.association.is_up ≡ true }
+    {
         let mut watching = Watching {
             audience: &mut node.audience,
             user,
@@ -149,27 +246,48 @@ impl Connection {
             .read(&mut node.exchange, part, &mut watching)
     }
 
-    /// Takes a frame where none is unwritten, and makes one write.
-    pub(crate) fn write<U: Watch>(&mut self, node: &mut Node, user: &mut U) -> Moved {
-        if !self.can_write || !self.association.fill(&mut node.exchange) {
-            return Moved::None;
+    /// Takes a frame where none is unwritten, and makes one write. Nothing is taken before the association is up.
+    pub(crate) fn write<U: Watch>(&mut self, node: &mut Node, user: &mut U) -> Progress {
+        if !self.can_write
+            || !self.association.is_up()
+            || !self.association.fill(&mut node.exchange)
+        {
+            return Progress::None;
         }
-        match self.stream.write(self.association.pending()) {
-            Ok(0) => Moved::Over(Why::Write),
-            Ok(count) => {
-                let mut watching = Watching {
-                    audience: &mut node.audience,
-                    user,
-                };
-                self.association.written(count, &mut watching);
-                Moved::Some
+        match write_some(&mut self.stream, self.association.pending()) {
+            Moved::Octets(count) => {
+                self.tell_written(count, node, user);
+                Progress::Some
             }
-            Err(error) if error.kind() == ErrorKind::WouldBlock => {
+            Moved::Later => {
                 self.can_write = false;
-                Moved::None
+                Progress::None
             }
-            Err(error) if error.kind() == ErrorKind::Interrupted => Moved::Some,
-            Err(_) => Moved::Over(Why::Write),
+            Moved::Again => Progress::Some,
+            Moved::End | Moved::Failed => Progress::Over(Why::Write),
         }
     }
+
+    /// So many of the octets of the frame that goes out were written.
+    fn tell_written<U: Watch>(&mut self, count: usize, node: &mut Node, user: &mut U)
+        requires { count ≤ length self.old.association.outgoing.pending }
+    {
+        let mut watching = Watching {
+            audience: &mut node.audience,
+            user,
+        };
+        self.association.written(count, &mut watching);
+    }
+}
+
+/// Whether a socket is connected, and not to itself: if nobody listens at a port of this machine, the system may give a
+/// socket that connects there this very port.
+fn is_connected(stream: &TcpStream) -> bool {
+    let Ok(peer) = stream.peer_addr() else {
+        return false;
+    };
+    let Ok(own) = stream.local_addr() else {
+        return false;
+    };
+    peer != own
 }

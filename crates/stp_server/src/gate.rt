@@ -2,18 +2,18 @@
 
 mod dialling;
 
-use crate::connection::{Connection, Moved, Why};
+use crate::connection::{Connection, Progress, Why};
 use crate::journal::Journal;
 use crate::naming::SocketName;
 use crate::node::Node;
-use exchange::{Event, Wants};
+use exchange::Wants;
 use mio::event::Event as Readiness;
 use mio::net::{TcpListener, TcpStream};
 use mio::{Interest, Registry};
 use script::Sink;
 use serve_settings::Endpoint;
 use served_link::{Retry, Watch};
-use settings::{FailureReason, LinkId, Outcome};
+use settings::{FailureReason, LinkId};
 use std::net::{Net, SocketAddr};
 use std::time::Duration;
 
@@ -28,18 +28,14 @@ const WRITES: usize = 4096;
 const ACCEPTS: usize = 64;
 
 /// How far a link's connection is.
-#[derive(Drop)]
-enum Passage {
+#[derive(Clone, Copy)]
+enum Stage {
     /// There is none.
     Closed,
-    /// It is being made; the socket tells when it knows how that ended. It is given up at a moment.
-    Connecting {
-        stream: TcpStream,
-        is_known: bool,
-        until: Duration,
-    },
+    /// This end makes it, or has made it, and nothing has come on it yet: the association isn't up.
+    Silent,
     /// It is there, and so is the link's association.
-    Open(Connection),
+    Up,
 }
 
 /// What a link's connection is made of, and the connection.
@@ -49,9 +45,10 @@ pub(crate) struct Gate {
     endpoint: Endpoint,
     listener: Option<TcpListener>,
     can_accept: bool,
-    passage: Passage,
+    connection: Option<Connection>,
     retry: Retry,
     next_try: Duration,
+    given_up_at: Duration,
     was_tried: bool,
 }
 
@@ -63,9 +60,10 @@ impl Gate {
             endpoint,
             can_accept: listener.is_some(),
             listener,
-            passage: Passage::Closed,
+            connection: None,
             retry: Retry::new(),
             next_try: Duration::ZERO,
+            given_up_at: Duration::ZERO,
             was_tried: false,
         }
     }
@@ -75,6 +73,15 @@ impl Gate {
         self.link
     }
 
+    /// How far the connection is.
+    fn stage(&self) -> Stage {
+        match &self.connection {
+            None => Stage::Closed,
+            Some(connection) if connection.is_up() => Stage::Up,
+            Some(_) => Stage::Silent,
+        }
+    }
+
     /// A connection may have come.
     pub(crate) fn mark_listener(&mut self) {
         self.can_accept = self.listener.is_some();
@@ -82,28 +89,25 @@ impl Gate {
 
     /// The connection's socket may be ready.
     pub(crate) fn mark(&mut self, event: &Readiness) {
-        match &mut self.passage {
-            Passage::Closed => {}
-            Passage::Connecting { is_known, .. } => *is_known = true,
-            Passage::Open(connection) => connection.mark(event),
+        if let Some(connection) = &mut self.connection {
+            connection.mark(event);
         }
     }
 
     /// Whether there may be something to accept, to read or to write now, or to settle.
     pub(crate) fn is_busy(&self) -> bool {
-        let passage = match &self.passage {
-            Passage::Closed => false,
-            Passage::Connecting { is_known, .. } => *is_known,
-            Passage::Open(connection) => connection.is_busy(),
-        };
-        passage || self.can_accept
+        match &self.connection {
+            None => self.can_accept,
+            Some(connection) => self.can_accept || connection.is_busy(),
+        }
     }
 
-    /// When the connection is to be tried, or given up, where the link is one that connects and isn't connected.
+    /// When the connection is to be tried, or given up, where the link is one that connects and its association isn't
+    /// up.
     pub(crate) fn next_try(&self) -> Option<Duration> {
-        match (&self.endpoint, &self.passage) {
-            (Endpoint::Connect(_), Passage::Closed) => Some(self.next_try),
-            (Endpoint::Connect(_), Passage::Connecting { until, .. }) => Some(*until),
+        match (&self.endpoint, self.stage()) {
+            (Endpoint::Connect(_), Stage::Closed) => Some(self.next_try),
+            (Endpoint::Connect(_), Stage::Silent) => Some(self.given_up_at),
             _ => None,
         }
     }
@@ -140,24 +144,26 @@ impl Gate {
         registry: &Registry,
         journal: &mut Journal<'_, W>,
     ) {
-        if node.exchange.wants(self.link) != Wants::Open
-            || self.register(&mut stream, registry).is_none()
-        {
-            let name = node.audience.name(self.link);
-            journal.tell(&format_args!("refuse {name} {peer}"));
-            return;
+        if self.admits(&mut stream, node, registry) {
+            self.open(stream, peer, node, journal);
+        } else {
+            journal.tell_at("refuse", node.audience.name(self.link), peer);
         }
-        self.open(stream, peer, node, journal);
     }
 
-    /// Has the poll tell of a connection's socket.
-    fn register(&self, stream: &mut TcpStream, registry: &Registry) -> Option<()> {
+    /// Whether the link wants to open, and the poll tells of a connection's socket from now on.
+    fn admits(&self, stream: &mut TcpStream, node: &Node, registry: &Registry) -> bool {
+        node.exchange.wants(self.link) == Wants::Open && self.is_registered(stream, registry)
+    }
+
+    /// Has the poll tell of a connection's socket. False where it doesn't.
+    fn is_registered(&self, stream: &mut TcpStream, registry: &Registry) -> bool {
         let interests = Interest::READABLE | Interest::WRITABLE;
         let token = SocketName::Link(self.link.index() as u8).token();
-        registry.register(stream, token, interests).ok()
+        registry.register(stream, token, interests).is_ok()
     }
 
-    /// The link's association is up, over this connection.
+    /// A connection was accepted: the link's association comes up over it.
     fn open<W: Sink>(
         &mut self,
         stream: TcpStream,
@@ -165,34 +171,47 @@ impl Gate {
         node: &mut Node,
         journal: &mut Journal<'_, W>,
     ) {
-        let _soon = stream.set_nodelay(true);
-        if node.exchange.step(&Event::AssociationUp(self.link)) != Outcome::Handled {
-            self.passage = Passage::Closed;
-            return;
+        self.hold(Connection::accepted(self.link, stream, peer, &mut node.exchange));
+        self.tell_open(node, journal);
+    }
+
+    /// Tells that the link's association is up. The connection ends where it isn't.
+    fn tell_open<W: Sink>(&mut self, node: &mut Node, journal: &mut Journal<'_, W>) {
+        match &self.connection {
+            Some(connection) if connection.is_up() => connection.tell_open(node, journal),
+            _ => self.leave(),
         }
-        self.passage = Passage::Open(Connection::new(self.link, stream, peer));
-        let name = node.audience.name(self.link);
-        journal.tell(&format_args!("open {name} {peer}"));
-        node.look(FailureReason::Association, journal);
+    }
+
+    /// This is the link's connection from now on.
+    fn hold(&mut self, connection: Connection) {
+        self.connection = Some(connection);
+    }
+
+    /// The link has no connection any more.
+    fn leave(&mut self) {
+        self.connection = None;
+    }
+
+    /// A connection is over. Where the association wasn't up, nothing is lost with it, and it couldn't be made.
+    fn end<W: Sink>(&mut self, why: Why, node: &mut Node, journal: &mut Journal<'_, W>) {
+        match (self.stage(), why) {
+            (Stage::Up, _) => self.close(why, node, journal),
+            (_, Why::Node) => self.leave(),
+            _ => self.fail(node, journal),
+        }
     }
 
     /// The link's association is gone: its connection is closed.
-    pub(crate) fn close<W: Sink>(
-        &mut self,
-        why: Why,
-        node: &mut Node,
-        journal: &mut Journal<'_, W>,
-    ) {
-        let Passage::Open(connection) = &self.passage else {
+    fn close<W: Sink>(&mut self, why: Why, node: &mut Node, journal: &mut Journal<'_, W>) {
+        let Some(connection) = &mut self.connection else {
             return;
         };
-        let peer = connection.peer();
-        let name = node.audience.name(self.link);
-        let word = why.word();
+        let (name, peer, word) = (node.audience.name(self.link), connection.peer(), why.word());
         journal.tell(&format_args!("close {name} {peer} {word}"));
-        self.passage = Passage::Closed;
+        connection.fall(&mut node.exchange);
+        self.leave();
         self.wait(journal.now());
-        node.exchange.step(&Event::AssociationDown(self.link));
         node.look(FailureReason::Association, journal);
     }
 
@@ -210,13 +229,13 @@ impl Gate {
         user: &mut U,
     ) {
         for _ in 0..READS {
-            let Passage::Open(connection) = &mut self.passage else {
+            let Some(connection) = &mut self.connection else {
                 return;
             };
             match connection.read(node, journal, user) {
-                Moved::Some => self.retry.start_again(),
-                Moved::None => return,
-                Moved::Over(why) => self.close(why, node, journal),
+                Progress::Some => self.retry.start_again(),
+                Progress::None => return,
+                Progress::Over(why) => self.end(why, node, journal),
             }
         }
     }
@@ -230,14 +249,14 @@ impl Gate {
         user: &mut U,
     ) -> bool {
         for _ in 0..WRITES {
-            let Passage::Open(connection) = &mut self.passage else {
+            let Some(connection) = &mut self.connection else {
                 return false;
             };
             match connection.write(node, user) {
-                Moved::Some => {}
-                Moved::None => return false,
-                Moved::Over(why) => {
-                    self.close(why, node, journal);
+                Progress::Some => {}
+                Progress::None => return false,
+                Progress::Over(why) => {
+                    self.end(why, node, journal);
                     return true;
                 }
             }
@@ -253,16 +272,11 @@ impl Gate {
         registry: &Registry,
         journal: &mut Journal<'_, W>,
     ) {
-        match (node.exchange.wants(self.link), &self.passage) {
-            (Wants::Close, _) => self.close(Why::Node, node, journal),
-            (Wants::Open, Passage::Closed) => self.begin(net, node, registry, journal),
-            (Wants::Open, Passage::Connecting { is_known: true, .. }) => {
-                self.finish(node, journal);
-            }
-            (Wants::Open, Passage::Connecting { until, .. }) if *until <= journal.now() => {
-                self.fail(node, journal);
-            }
-            (Wants::Nothing, Passage::Connecting { .. }) => self.passage = Passage::Closed,
+        match (node.exchange.wants(self.link), self.stage()) {
+            (Wants::Close, Stage::Up) => self.close(Why::Node, node, journal),
+            (Wants::Open, Stage::Closed) => self.begin(net, node, registry, journal),
+            (Wants::Open, Stage::Silent) => self.go_on(node, journal),
+            (Wants::Nothing, Stage::Silent) => self.leave(),
             _ => {}
         }
     }

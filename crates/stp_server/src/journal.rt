@@ -4,6 +4,7 @@ use arrayvec::ArrayString;
 use script::Sink;
 use std::fmt;
 use std::fmt::Write;
+use std::net::SocketAddr;
 use std::time::Duration;
 
 /// Octets of a line of the log with its line feed, at most.
@@ -25,6 +26,11 @@ impl<'a, W: Sink> Journal<'a, W> {
     /// How long after the start it is.
     pub fn now(&self) -> Duration {
         self.now
+    }
+
+    /// Writes a line of what becomes of an address of a link.
+    pub fn tell_at(&mut self, word: &str, link: &str, address: SocketAddr) {
+        self.tell(&format_args!("{word} {link} {address}"));
     }
 
     /// Writes a line, cut to 255 octets. If the write fails, the line is lost, and the node goes on.

@@ -13,6 +13,7 @@ mod node;
 mod noticing;
 mod server;
 mod serving;
+mod socket;
 
 pub use fault::{OpenFault, ServeFailure};
 pub use naming::SocketName;

@@ -9,7 +9,7 @@ use mio::Token;
 const KIND: usize = 256;
 
 /// A socket of a server.
-#[derive(Clone, Copy, Debug, PartialEq, Eq)]
+#[derive(Clone, Copy)]
 pub enum SocketName {
     /// The listener of the link of this number.
     Listener(u8),

@@ -7,7 +7,7 @@ use crate::noticing::Seen;
 use arrayvec::{ArrayString, ArrayVec};
 use console::{LINE_OCTETS, show_notices};
 use console_session::{Desk, News, line_in_parts};
-use exchange::{Event, Exchange};
+use exchange::{Event, Exchange, NoMemory};
 use script::Sink;
 use settings::{FailureReason, LinkId, Notice, Settings};
 use std::alloc::Global;
@@ -28,12 +28,32 @@ impl Node {
         settings: Settings,
         points: PointFormat,
     ) -> Result<Node, OpenFault> {
-        let audience = Audience::new(alloc, &settings, points)?;
-        Ok(Node {
-            seen: Seen::new(alloc)?,
-            audience,
-            exchange: Exchange::boot(alloc, settings)?,
-        })
+        match watchers(alloc, &settings, points) {
+            Ok((audience, seen)) => Node::around(alloc, settings, audience, seen),
+            Err(fault) => Err(fault),
+        }
+    }
+
+    /// The node with these settings, of which these are told.
+    fn around(
+        alloc: Global,
+        settings: Settings,
+        audience: Audience,
+        seen: Seen,
+    ) -> Result<Node, OpenFault> {
+        match Exchange::boot(alloc, settings) {
+            Ok(exchange) => Ok(Node {
+                exchange,
+                audience,
+                seen,
+            }),
+            Err(NoMemory) => Err(OpenFault::NoMemory),
+        }
+    }
+
+    /// Ends it. Only this drops a node alone: its parts are many, and so are the states of a body that drops them.
+    pub(crate) fn close(self) {
+        drop(self);
     }
 
     /// One tick passes. A link that fails in it fails by a timer.
@@ -123,4 +143,14 @@ impl Node {
         let text = str::from_utf8(shown).unwrap_or("");
         journal.tell(&format_args!("notice {text}"));
     }
+}
+
+/// Who is told what happens in a node with these settings, and what was seen of it.
+fn watchers(
+    alloc: Global,
+    settings: &Settings,
+    points: PointFormat,
+) -> Result<(Audience, Seen), OpenFault> {
+    let seen = Seen::new(alloc)?;
+    Ok((Audience::new(alloc, settings, points)?, seen))
 }

@@ -1,6 +1,7 @@
 //! Making the connection of a link that connects.
 
-use super::{Gate, Passage};
+use super::Gate;
+use crate::connection::Connection;
 use crate::journal::Journal;
 use crate::node::Node;
 use mio::Registry;
@@ -8,11 +9,10 @@ use mio::net::TcpStream;
 use script::Sink;
 use serve_settings::Endpoint;
 use served_link::LONGEST_WAIT;
-use std::mem;
 use std::net::{Net, SocketAddr};
 use std::time::Duration;
 
-/// After so many seconds a connection that isn't made is given up.
+/// After so many seconds a connection that isn't made, or on which nothing came, is given up.
 const GIVEN_UP_AFTER_SECONDS: u64 = LONGEST_WAIT;
 
 impl Gate {
@@ -34,15 +34,23 @@ impl Gate {
             node.audience.counters.count_retry(self.link);
         }
         self.was_tried = true;
+        self.connect(net, address, node, registry, journal);
+    }
+
+    /// Begins to connect.
+    fn connect<N: Net, W: Sink>(
+        &mut self,
+        net: &N,
+        address: SocketAddr,
+        node: &Node,
+        registry: &Registry,
+        journal: &mut Journal<'_, W>,
+    ) {
         match self.connecting(net, address, registry) {
             Some(stream) => {
-                self.passage = Passage::Connecting {
-                    stream,
-                    is_known: false,
-                    until: journal
-                        .now()
-                        .saturating_add(Duration::from_secs(GIVEN_UP_AFTER_SECONDS)),
-                };
+                let most = Duration::from_secs(GIVEN_UP_AFTER_SECONDS);
+                self.given_up_at = journal.now().saturating_add(most);
+                self.hold(Connection::begun(self.link, stream, address));
             }
             None => self.fail(node, journal),
         }
@@ -56,41 +64,31 @@ impl Gate {
         registry: &Registry,
     ) -> Option<TcpStream> {
         let mut stream = TcpStream::connect(net, address).ok()?;
-        self.register(&mut stream, registry)?;
-        Some(stream)
+        if self.is_registered(&mut stream, registry) {
+            Some(stream)
+        } else {
+            None
+        }
     }
 
-    /// The connection couldn't be made.
+    /// Goes on with a connection whose association isn't up. It is given up where it couldn't be made, or where it
+    /// takes too long until something comes on it.
+    pub(super) fn go_on<W: Sink>(&mut self, node: &Node, journal: &mut Journal<'_, W>) {
+        let is_possible = match &mut self.connection {
+            Some(connection) => connection.is_possible(),
+            None => true,
+        };
+        if !is_possible || self.given_up_at <= journal.now() {
+            self.fail(node, journal);
+        }
+    }
+
+    /// The connection couldn't be made, or ended before something came on it.
     pub(super) fn fail<W: Sink>(&mut self, node: &Node, journal: &mut Journal<'_, W>) {
-        self.passage = Passage::Closed;
+        self.leave();
         self.wait(journal.now());
-        let name = node.audience.name(self.link);
         if let Endpoint::Connect(address) = self.endpoint {
-            journal.tell(&format_args!("fail {name} {address}"));
+            journal.tell_at("fail", node.audience.name(self.link), address);
         }
     }
-
-    /// The socket knows whether it is connected.
-    pub(super) fn finish<W: Sink>(&mut self, node: &mut Node, journal: &mut Journal<'_, W>) {
-        match mem::replace(&mut self.passage, Passage::Closed) {
-            Passage::Connecting { stream, .. } => match peer_of(&stream) {
-                Some(peer) => self.open(stream, peer, node, journal),
-                None => self.fail(node, journal),
-            },
-            other => self.passage = other,
-        }
-    }
-}
-
-/// The peer of a socket that is connected. None for one that is connected to itself: if nobody listens at a port of
-/// this machine, the system may give a socket that connects there this very port.
-fn peer_of(stream: &TcpStream) -> Option<SocketAddr> {
-    let Ok(None) = stream.take_error() else {
-        return None;
-    };
-    let peer = stream.peer_addr().ok()?;
-    if stream.local_addr().ok()? == peer {
-        return None;
-    }
-    Some(peer)
 }

@@ -55,11 +55,18 @@ impl Server {
         points: PointFormat,
     ) -> Result<Server, OpenFault> {
         let node = Node::boot(alloc, settings, points)?;
-        let events = Events::with_capacity(alloc, EVENTS)?;
-        let Ok(poll) = Poll::new(net) else {
-            return Err(OpenFault::Poll);
-        };
-        Ok(Server {
+        match polled(net, alloc) {
+            Ok((poll, events)) => Ok(Server::around(alloc, node, poll, events)),
+            Err(fault) => {
+                node.close();
+                Err(fault)
+            }
+        }
+    }
+
+    /// A server of a node.
+    fn around(alloc: Global, node: Node, poll: Poll, events: Events) -> Server {
+        Server {
             alloc,
             node,
             gates: Vec::new(alloc),
@@ -67,7 +74,7 @@ impl Server {
             events,
             is_busy: true,
             is_stopping: false,
-        })
+        }
     }
 
     /// Adds the gates of all links.
@@ -97,11 +104,11 @@ impl Server {
             Endpoint::Listen(address) => {
                 let token = SocketName::Listener(link.index() as u8);
                 let (listener, address) = self.listener(net, address, token)?;
-                journal.tell(&format_args!("listen {name} {address}"));
+                journal.tell_at("listen", name, address);
                 Some(listener)
             }
             Endpoint::Connect(address) => {
-                journal.tell(&format_args!("connect {name} {address}"));
+                journal.tell_at("connect", name, address);
                 None
             }
         };
@@ -147,5 +154,14 @@ impl Server {
             Ok(address) => Ok((listener, address)),
             Err(error) => Err(listen_fault(address, &error)),
         }
+    }
+}
+
+/// A poll, and room for what it tells.
+fn polled<N: Net>(net: &N, alloc: Global) -> Result<(Poll, Events), OpenFault> {
+    let events = Events::with_capacity(alloc, EVENTS)?;
+    match Poll::new(net) {
+        Ok(poll) => Ok((poll, events)),
+        Err(_) => Err(OpenFault::Poll),
     }
 }

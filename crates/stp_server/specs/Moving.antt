@@ -1,0 +1,12 @@
+-- What a read or a write of a socket may come to.
+use Rattle.std.specs.Prelude.{ℕ, ◌<◌, ◌≤◌}
+use Rattle.stp_server.specs.declared.socket.Moved.{Moved}
+use Rattle.stp_server.specs.declared.socket.Moved.TheVariants.{Octets, Later, Again, End, Failed}
+
+-- some octets moved, and at most so many, or none
+abbrev pub IsWithin : Moved → (most : ℕ) → Type 0
+IsWithin (Octets count) most = (0 < count) × (count ≤ most)
+IsWithin Later most = Unit {0}
+IsWithin Again most = Unit {0}
+IsWithin End most = Unit {0}
+IsWithin Failed most = Unit {0}

@@ -1,0 +1,55 @@
+//! Reads and writes of a socket.
+
+ghost use Rattle.std.specs.Prelude.{ℕ, length};
+ghost use Rattle.stp_server.specs.Moving.{IsWithin};
+
+use mio::net::TcpStream;
+use std::io::{ErrorKind, Read, Write};
+
+/// What a read or a write of a socket came to.
+#[derive(Clone, Copy)]
+pub(crate) enum Moved {
+    /// So many octets moved, one at least, and more may.
+    Octets(usize),
+    /// None can now: the socket tells when one may.
+    Later,
+    /// The call was interrupted.
+    Again,
+    /// None will: the peer has ended its half of the connection.
+    End,
+    /// The connection is over.
+    Failed,
+}
+
+/// Makes one read, to the front of the buffer.
+pub(crate) fn read_some(stream: &mut TcpStream, buffer: &mut [u8]) -> Moved
+    ensures { IsWithin result (length buffer.new) }
+{
+    match stream.read(buffer) {
+        Ok(0) => Moved::End,
+        Ok(count) => Moved::Octets(count),
+        Err(error) => unmoved(error.kind()),
+    }
+}
+
+/// Makes one write, from the first of the octets on.
+pub(crate) fn write_some(stream: &mut TcpStream, octets: &[u8]) -> Moved
+    ensures { IsWithin result (length octets.now) }
+{
+    match stream.write(octets) {
+        Ok(0) => Moved::Failed,
+        Ok(count) => Moved::Octets(count),
+        Err(error) => unmoved(error.kind()),
+    }
+}
+
+/// What an error of this kind says of a socket.
+fn unmoved(kind: ErrorKind) -> Moved
+    ensures { (most : ℕ) → IsWithin result most }
+{
+    match kind {
+        ErrorKind::WouldBlock => Moved::Later,
+        ErrorKind::Interrupted => Moved::Again,
+        _ => Moved::Failed,
+    }
+}
