@@ -1,4 +1,5 @@
-"""A proxy that stands on the links between two nodes, and cuts connections behind a given octet."""
+"""A proxy that stands on the links between two nodes, and cuts connections behind a given octet, holds up what passes,
+or has the far node meet nobody, or somebody who closes its connection."""
 
 from __future__ import annotations
 
@@ -13,6 +14,9 @@ from typing import Sequence
 from harness import HOST, PATIENCE
 
 PIECE_OCTETS = 4096
+
+# How many seconds the far node may say something on a connection that is then closed.
+SILENCE = 0.3
 
 
 @dataclass(frozen=True)
@@ -41,6 +45,11 @@ class ProxiedLink:
     cut: Cut | None = None
     left: int = 0
     is_cut: threading.Event = field(default_factory=threading.Event)
+    # How many connections of the far node are still to be closed before an octet goes to it.
+    to_close: int = 0
+    # What the far node sent on these.
+    said_unasked: bytes = b""
+    is_held: bool = False
 
 
 class Proxy(threading.Thread):
@@ -57,8 +66,8 @@ class Proxy(threading.Thread):
         self.start()
 
     @staticmethod
-    def _listener() -> socket.socket:
-        listener = socket.create_server((HOST, 0))
+    def _listener(port: int = 0) -> socket.socket:
+        listener = socket.create_server((HOST, port))
         listener.setblocking(False)
         return listener
 
@@ -71,6 +80,43 @@ class Proxy(threading.Thread):
 
     def await_cut(self, number: int) -> None:
         assert self.links[number].is_cut.wait(PATIENCE), f"too few octets passed on link {number} to cut it"
+
+    def close_next(self, number: int, count: int) -> None:
+        """Closes the next connections of the far node on a link, so many, before an octet goes to it."""
+        with self.lock:
+            self.links[number].to_close = count
+
+    def refuse(self, number: int) -> None:
+        """From now on the far node meets nobody on a link."""
+        with self.lock:
+            link = self.links[number]
+            self.selector.unregister(link.listener)
+            link.listener.close()
+
+    def listen(self, number: int) -> None:
+        """The far node meets somebody on the link again."""
+        with self.lock:
+            link = self.links[number]
+            link.listener = self._listener(self.ports[number])
+            self.selector.register(link.listener, selectors.EVENT_READ, link)
+
+    def hold(self, number: int) -> None:
+        """Nothing passes on a link any more, until `release`."""
+        self._hold(number, True)
+
+    def release(self, number: int) -> None:
+        self._hold(number, False)
+
+    def _hold(self, number: int, is_held: bool) -> None:
+        with self.lock:
+            link = self.links[number]
+            link.is_held = is_held
+            for end in (link.near, link.far):
+                assert end is not None
+                if is_held:
+                    self.selector.unregister(end)
+                else:
+                    self.selector.register(end, selectors.EVENT_READ | selectors.EVENT_WRITE, link)
 
     def close(self) -> None:
         self.ends = True
@@ -89,7 +135,7 @@ class Proxy(threading.Thread):
         if ready is link.listener:
             self._join(link)
             return
-        if ready not in (link.near, link.far):
+        if ready not in (link.near, link.far) or link.is_held:
             return
         try:
             if events & selectors.EVENT_WRITE:
@@ -102,6 +148,10 @@ class Proxy(threading.Thread):
     def _join(self, link: ProxiedLink) -> None:
         """The far node connects: so does the proxy to the near one."""
         far, _ = link.listener.accept()
+        if link.to_close > 0:
+            link.to_close -= 1
+            self._turn_away(link, far)
+            return
         try:
             near = socket.create_connection((HOST, link.port), timeout=PATIENCE)
         except ConnectionError:
@@ -114,6 +164,14 @@ class Proxy(threading.Thread):
             end.setsockopt(socket.IPPROTO_TCP, socket.TCP_NODELAY, 1)
             link.waiting[end] = b""
             self.selector.register(end, selectors.EVENT_READ, link)
+
+    @staticmethod
+    def _turn_away(link: ProxiedLink, far: socket.socket) -> None:
+        """Closes a connection of the far node, which has had some time to say something on it."""
+        far.settimeout(SILENCE)
+        with contextlib.suppress(TimeoutError, ConnectionError):
+            link.said_unasked += far.recv(PIECE_OCTETS)
+        far.close()
 
     def _read(self, link: ProxiedLink, source: socket.socket) -> None:
         sink = link.near if source is link.far else link.far
@@ -149,7 +207,9 @@ class Proxy(threading.Thread):
     def _close(self, link: ProxiedLink) -> None:
         for end in (link.near, link.far):
             if end is not None:
-                self.selector.unregister(end)
+                if not link.is_held:
+                    self.selector.unregister(end)
                 end.close()
+        link.is_held = False
         link.near = link.far = None
         link.waiting.clear()
