@@ -2,6 +2,7 @@
 
 use arrayvec::ArrayVec;
 use exchange::{Framer, Limits, Next};
+use std::marker::Model;
 use test_nodes::Dice;
 
 /// The most frames of a stream: of 8,192 octets, 8 each.
@@ -15,14 +16,30 @@ pub(crate) struct Cutter {
     /// How many octets of the stream came as frames,
     given: usize,
     /// and how many each frame has, in order.
-    pub lengths: ArrayVec<usize, MOST_FRAMES>,
+    lengths: ArrayVec<usize, MOST_FRAMES>,
     /// Whether the stream broke after them.
-    pub broken: bool,
+    broken: bool,
     /// Whether a frame wasn't the next octets of the stream, or not all octets were taken.
     torn: bool,
 }
 
+impl Model for Cutter {
+    ghost Value = { Unit {0} };
+
+    ghost view = { λ _. tt };
+}
+
 impl Cutter {
+    /// How many octets each frame has, in order.
+    pub(crate) fn lengths(&self) -> &[usize] {
+        self.lengths.as_slice()
+    }
+
+    /// Whether the stream broke after the frames.
+    pub(crate) fn is_broken(&self) -> bool {
+        self.broken
+    }
+
     /// Cuts a stream into frames, in pieces of random sizes.
     pub(crate) fn of(dice: &mut Dice, octets: &[u8]) -> Cutter {
         let mut cutter = Cutter {

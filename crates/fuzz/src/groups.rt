@@ -11,7 +11,7 @@ use test_nodes::Dice;
 
 /// A random link. It is brought into service, or goes on as it may; and at random a tick passes before.
 fn random_link(world: &mut World, dice: &mut Dice, serving: bool) -> LinkId {
-    let link = LinkId::new(dice.octet() % LINKS as u8);
+    let link = LinkId::new(dice.octet() % LINKS);
     if !serving {
         go_on(world, dice, link);
         return link;
@@ -102,15 +102,25 @@ fn add_stream(world: &World, dice: &mut Dice, serving: bool, link: LinkId, strea
 /// cut alike.
 fn try_stream(world: &mut World, dice: &mut Dice, link: LinkId, octets: &[u8]) -> bool {
     let cutter = Cutter::of(dice, octets);
-    let mut from = 0usize;
-    for length in cutter.lengths.as_slice() {
-        world.try_frame(link, piece_of(octets, from, *length));
-        from = from.saturating_add(*length);
-    }
-    if cutter.broken {
+    try_pieces(world, link, octets, cutter.lengths());
+    if cutter.is_broken() {
         world.lose(link);
     } else {
         world.tend(link);
     }
+    is_cut_so_again(dice, octets, &cutter)
+}
+
+/// Tries the frames of a stream, which have so many octets each, one after another.
+fn try_pieces(world: &mut World, link: LinkId, octets: &[u8], lengths: &[usize]) {
+    let mut from = 0usize;
+    for length in lengths {
+        world.try_frame(link, piece_of(octets, from, *length));
+        from = from.saturating_add(*length);
+    }
+}
+
+/// Whether a stream is cut into the same frames in other pieces.
+fn is_cut_so_again(dice: &mut Dice, octets: &[u8], cutter: &Cutter) -> bool {
     cutter.agrees_with(&Cutter::of(dice, octets))
 }

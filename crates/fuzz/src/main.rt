@@ -47,40 +47,65 @@ const FRAMES: u64 = 12_000;
 /// So many streams are tried on links in service, and as many on links that align.
 const STREAMS: u64 = 2_000;
 
+/// What is handed in.
+#[derive(Clone, Copy)]
+enum Kind {
+    Frames,
+    Streams,
+}
+
 fn main(rt: HostRuntime) -> io::Result<()> {
-    for (seed, serving) in [(1, true), (2, false)] {
-        frames(&rt, serving, seed)?;
-    }
-    for (seed, serving) in [(3, true), (4, false)] {
-        streams(&rt, serving, seed)?;
+    for (seed, kind, serving) in [
+        (1, Kind::Frames, true),
+        (2, Kind::Frames, false),
+        (3, Kind::Streams, true),
+        (4, Kind::Streams, false),
+    ] {
+        try_group(&rt, kind, serving, seed)?;
     }
     Ok(())
 }
 
+/// Tries a group of frames or streams on a node of its own. Only this drops a node: the states of a body that does are
+/// many.
+fn try_group(rt: &HostRuntime, kind: Kind, serving: bool, seed: u64) -> io::Result<()> {
+    match World::new(rt.alloc()) {
+        Some(mut world) => tell_group(rt, &mut world, kind, serving, seed),
+        None => println!(rt; "memory ran out"),
+    }
+}
+
+/// Tries a group, and prints what became of it.
+fn tell_group(
+    rt: &HostRuntime,
+    world: &mut World,
+    kind: Kind,
+    serving: bool,
+    seed: u64,
+) -> io::Result<()> {
+    let mut dice = Dice::new(seed);
+    match kind {
+        Kind::Frames => frames(rt, world, &mut dice, serving)?,
+        Kind::Streams => streams(rt, world, &mut dice, serving)?,
+    }
+    report(rt, world)
+}
+
 /// Tries frames, and prints what became of them.
-fn frames(rt: &HostRuntime, serving: bool, seed: u64) -> io::Result<()> {
-    let Some(mut world) = World::new(rt.alloc()) else {
-        return println!(rt; "memory ran out");
-    };
-    try_frames(&mut world, &mut Dice::new(seed), serving, FRAMES);
+fn frames(rt: &HostRuntime, world: &mut World, dice: &mut Dice, serving: bool) -> io::Result<()> {
+    try_frames(world, dice, serving, FRAMES);
     let (links, returned) = (links_of(serving), world.found().returned);
-    print!(rt; "frames on links {links}: {returned} of {FRAMES} returned")?;
+    let kinds = world.found().kinds.count_ones();
     print!(rt;
-        ", {} kinds of outcome of 6",
-        world.found().kinds.count_ones()
-    )?;
-    report(rt, &mut world)
+        "frames on links {links}: {returned} of {FRAMES} returned, {kinds} kinds of outcome of 6"
+    )
 }
 
 /// Tries streams, and prints what became of them.
-fn streams(rt: &HostRuntime, serving: bool, seed: u64) -> io::Result<()> {
-    let Some(mut world) = World::new(rt.alloc()) else {
-        return println!(rt; "memory ran out");
-    };
-    let alike = try_streams(&mut world, &mut Dice::new(seed), serving, STREAMS);
+fn streams(rt: &HostRuntime, world: &mut World, dice: &mut Dice, serving: bool) -> io::Result<()> {
+    let alike = try_streams(world, dice, serving, STREAMS);
     let links = links_of(serving);
-    print!(rt; "streams on links {links}: {alike} of {STREAMS} the same in other pieces")?;
-    report(rt, &mut world)
+    print!(rt; "streams on links {links}: {alike} of {STREAMS} the same in other pieces")
 }
 
 /// Which links frames come on.

@@ -4,12 +4,12 @@ use exchange::{Exchange, LinkId, LinkView, RouteStatus};
 use signalling_types::Number24;
 
 /// How many links the node has.
-pub(crate) const LINKS: usize = 4;
+pub(crate) const LINKS: u8 = 4;
 
 /// The links, the statuses of the routes, and the flags.
-#[derive(Clone, Copy, PartialEq, Eq)]
+#[derive(Clone, Copy, PartialEq)]
 pub(crate) struct Shown {
-    links: [Option<LinkView>; LINKS],
+    links: [Option<LinkView>; 4],
     routes: [Option<RouteStatus>; 4],
     lost_any: bool,
     late_any: bool,
@@ -18,37 +18,28 @@ pub(crate) struct Shown {
 impl Shown {
     /// What a node shows, with the queues and the numbers of its links or without.
     pub(crate) fn of(node: &Exchange, queues: bool) -> Shown {
-        let mut links = [None; LINKS];
-        for (shown, link) in links.iter_mut().zip(all_links()) {
-            *shown = view(node, link, queues);
-        }
-        let mut routes = [None; 4];
-        for (destination, shown) in routes.iter_mut().enumerate() {
-            *shown = status(node, destination);
-        }
         Shown {
-            links,
-            routes,
+            links: [
+                view(node, 0, queues),
+                view(node, 1, queues),
+                view(node, 2, queues),
+                view(node, 3, queues),
+            ],
+            routes: [
+                status(node, 0),
+                status(node, 1),
+                status(node, 2),
+                status(node, 3),
+            ],
             lost_any: node.lost_any(),
             late_any: node.late_any(),
         }
     }
 }
 
-/// All links of the node.
-pub(crate) fn all_links() -> [LinkId; LINKS] {
-    let [a, b, c, d] = [0, 1, 2, 3];
-    [
-        LinkId::new(a),
-        LinkId::new(b),
-        LinkId::new(c),
-        LinkId::new(d),
-    ]
-}
-
 /// A link as it is shown, with its queue and its numbers or without.
-fn view(node: &Exchange, link: LinkId, queue: bool) -> Option<LinkView> {
-    let view = node.link(link)?;
+fn view(node: &Exchange, link: u8, queue: bool) -> Option<LinkView> {
+    let view = node.link(LinkId::new(link))?;
     if queue {
         return Some(view);
     }

@@ -2,7 +2,7 @@
 
 use crate::good::{FarEnd, add_data, add_empty, add_status};
 use crate::octets::Octets;
-use crate::shown::{Shown, all_links};
+use crate::shown::{LINKS, Shown};
 use exchange::{BUFFER_OCTETS, Event, Frame, LinkId, LinkStanding, Outcome, Wants, decode};
 use signalling_types::Number24;
 use std::alloc::Global;
@@ -105,7 +105,7 @@ impl World {
     /// message changes queues and numbers even then: it is confirmed, and may be answered. And it brings a link into
     /// service that is ready.
     fn hand_in(&mut self, link: LinkId, octets: &[u8]) -> Outcome {
-        let message = matches!(decode(octets), Ok(Frame::Message { .. }));
+        let message = is_message(octets);
         let enters = message && self.standing(link) == LinkStanding::AlignedReady;
         let before = Shown::of(self.node.shown(), !message);
         let outcome = self.node.step(&Event::Frame(link, octets));
@@ -115,6 +115,11 @@ impl World {
         }
         outcome
     }
+}
+
+/// Whether octets are a frame with a message.
+fn is_message(octets: &[u8]) -> bool {
+    matches!(decode(octets), Ok(Frame::Message { .. }))
 }
 
 /// The bit of an outcome's kind.
@@ -143,10 +148,15 @@ impl World {
     /// So many ticks pass, before each of which all that waits is taken and acknowledged.
     pub(crate) fn tend_and_tick(&mut self, ticks: usize) {
         for _ in 0..ticks {
-            for link in all_links() {
-                self.tend(link);
-            }
+            self.tend_all();
             self.tick();
+        }
+    }
+
+    /// Takes all that is to go out on any link, and acknowledges it.
+    fn tend_all(&mut self) {
+        for link in 0..LINKS {
+            self.tend(LinkId::new(link));
         }
     }
 
@@ -223,20 +233,30 @@ impl World {
     /// All links lose their associations and come into service again, and a good message of each of the 16 selections
     /// comes on each. Returns how many of these 64 went out as they came.
     pub(crate) fn count_through(&mut self) -> u64 {
-        for link in all_links() {
-            self.lose(link);
-        }
+        self.lose_all();
         // In eight ticks all timers of a changeover, a changeback and a rerouting run out.
         self.tend_and_tick(8);
-        for link in all_links() {
-            self.restore(link);
-        }
+        self.restore_all();
         self.tend_and_tick(8);
         let mut count = 0u64;
-        for link in all_links() {
-            count = count.wrapping_add(self.count_from(link));
+        for link in 0..LINKS {
+            count = count.wrapping_add(self.count_from(LinkId::new(link)));
         }
         count
+    }
+
+    /// All links lose their associations.
+    fn lose_all(&mut self) {
+        for link in 0..LINKS {
+            self.lose(LinkId::new(link));
+        }
+    }
+
+    /// All links come into service.
+    fn restore_all(&mut self) {
+        for link in 0..LINKS {
+            self.restore(LinkId::new(link));
+        }
     }
 
     /// How many messages of ISUP that come on a link go through: from point 2 to point 300, or from point 3 to point 2.
