@@ -40,7 +40,8 @@ pub(crate) fn node_at<'a>(
     }
 }
 
-/// Joins the ends of the link of a name, where both want it to open.
+/// Joins the ends of the link of a name, where both want it to open. The far end, whose stream was accepted, opens
+/// first, and then the near one (docs/EXACTLY_ONCE.md): the link is down at both, and nothing is in flight on it.
 fn open<J: Joiner>(
     name: &[u8],
     near: &mut Exchange,
@@ -60,8 +61,8 @@ fn open<J: Joiner>(
     match joiner.join() {
         Ok((near_stream, far_stream)) => {
             circuit.open(near_stream, far_stream);
-            near.step(&Event::AssociationUp(link));
             far.step(&Event::AssociationUp(link));
+            near.step(&Event::AssociationUp(link));
             Reply::Became(Outcome::Handled)
         }
         Err(_) => {
