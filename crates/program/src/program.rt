@@ -1,6 +1,7 @@
 //! The program around scripts: what it does for its words, and how it ends.
 
 ghost use Rattle.std.specs.Prelude.{◌≡◌, ◌⊎◌, IfOk, IfErr, Ok, codes};
+ghost use Rattle.settings_rows.specs.Configuration.{Configuration};
 ghost use Rattle.exchange.specs.Stands.{StandsFor};
 ghost use Rattle.exchange_rules.specs.First.{first_state};
 ghost use Rattle.script.specs.BuiltIn.{built_in_settings};
@@ -171,7 +172,10 @@ fn check_octets<W: Sink, E: Sink>(
 {
     warn(alloc, file, octets, errors);
     match settings_in(alloc, octets) {
-        Ok(_) => end_with(Status::Done, b"ok\n", writer),
+        Ok(settings) => {
+            drop(settings);
+            end_with(Status::Done, b"ok\n", writer)
+        }
         Err(fault) => tell_file_fault(alloc, file, octets, fault, writer, errors),
     }
 }
@@ -192,13 +196,30 @@ fn run_on<R: Source, W: Sink, E: Sink>(
 {
     match Exchange::boot(alloc, settings) {
         Ok(mut exchange) => {
-            let mut line = OpenLine::first();
-            let script = run_pieces(&mut line, &mut exchange, reader, writer);
-            explain_end(alloc, script, line.octets(), line.wrong(), errors);
-            status_after(script)
+            let ended = run_in(alloc, &mut exchange, reader, writer, errors);
+            drop(exchange);
+            ended
         }
         Err(NoMemory) => tell_no_memory(writer),
     }
+}
+
+/// Runs the script on a node that was just booted.
+fn run_in<R: Source, W: Sink, E: Sink>(
+    alloc: Global,
+    exchange: &mut Exchange,
+    reader: &mut R,
+    writer: &mut W,
+    errors: &mut E,
+) -> Status
+    ensures { (settings : Configuration) → StandsFor exchange.old (first_state settings) → RunsScript settings
+        (streams (R.input reader.old) (W.output writer.old) (E.output errors.old))
+        (streams (R.input reader.new) (W.output writer.new) (E.output errors.new)) result }
+{
+    let mut line = OpenLine::first();
+    let script = run_pieces(&mut line, exchange, reader, writer);
+    explain_end(alloc, script, line.octets(), line.wrong(), errors);
+    status_after(script)
 }
 
 /// The settings that a node has where it is given none.

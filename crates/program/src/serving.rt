@@ -9,7 +9,8 @@ use crate::explaining::{explain_unread, warn};
 use crate::folder::{FileFault, Folder};
 use crate::program::{Status, settings_in};
 use script::Sink;
-use serve_settings::ServeFault;
+use serve_settings::{ServeFault, ServeSettings};
+use settings::Settings;
 use std::alloc::Global;
 use stp_server::{OpenFault, ServeFailure};
 
@@ -50,7 +51,10 @@ fn serve_octets<W: Sink, E: Sink>(
     let alloc = rt.alloc();
     warn(alloc, file, octets, errors);
     match settings_in(alloc, octets) {
-        Ok(_) => serve_checked(rt, file, octets, writer, errors),
+        Ok(settings) => {
+            drop(settings);
+            serve_checked(rt, file, octets, writer, errors)
+        }
         Err(fault) => tell_file_fault(alloc, file, octets, fault, writer, errors),
     }
 }
@@ -67,13 +71,23 @@ fn serve_checked<W: Sink, E: Sink>(
     let Ok(text) = str::from_utf8(octets) else {
         return Status::Start;
     };
-    let (settings, serve) = match serve_settings::read(alloc, text) {
-        Ok(read) => read,
-        Err(fault) => return tell_serve_fault(alloc, file, octets, fault, writer, errors),
-    };
-    match stp_server::serve(rt, settings, &serve, writer) {
+    match serve_settings::read(alloc, text) {
+        Ok((settings, serve)) => serve_with(rt, settings, &serve, writer, errors),
+        Err(fault) => tell_serve_fault(alloc, file, octets, fault, writer, errors),
+    }
+}
+
+/// Serves a node with these settings.
+fn serve_with<W: Sink, E: Sink>(
+    rt: &HostRuntime,
+    settings: Settings,
+    serve: &ServeSettings,
+    writer: &mut W,
+    errors: &mut E,
+) -> Status {
+    match stp_server::serve(rt, settings, serve, writer) {
         Ok(()) => Status::Done,
-        Err(failure) => tell_failure(alloc, failure, serve.capture(), writer, errors),
+        Err(failure) => tell_failure(rt.alloc(), failure, serve.capture(), writer, errors),
     }
 }
 

@@ -1,13 +1,13 @@
 //! Two nodes that a lab joins, with the settings of two files.
 
-ghost use Rattle.std.specs.Prelude.{◌≡◌, ◌≢◌, ◌⊎◌, IfOk, IfErr, Err};
+ghost use Rattle.std.specs.Prelude.{◌≡◌, ◌≢◌, ◌⊎◌, IfOk, IfErr, Ok, Err, true, false};
 ghost use Rattle.settings_file.specs.Faults.{no_memory};
 ghost use Rattle.settings.specs.Facing.{IsFacing};
 ghost use Rattle.settings.specs.Naming.{link_names};
 ghost use Rattle.program.specs.Explaining.{IsLabEndExplained};
 ghost use Rattle.program.specs.Folders.{FileRead};
 ghost use Rattle.program.specs.Program.{streams, told, status_after, EndsWith, HasNoMemory, HasSettings, EndsAtFile};
-ghost use Rattle.program.specs.Program.{RunsLabScript, RunsNodes, RunsLab};
+ghost use Rattle.program.specs.Program.{AreJoined, RunsLabScript, RunsNodes, RunsLab};
 
 use crate::ending::{end_with, tell_file_fault, tell_no_memory};
 use crate::explaining::{explain_lab_end, explain_strangers, explain_unread, warn};
@@ -61,11 +61,20 @@ fn run_if_facing<J: Joiner, R: Source, W: Sink, E: Sink>(
         (streams (R.input reader.old) (W.output writer.old) (E.output errors.old))
         (streams (R.input reader.new) (W.output writer.new) (E.output errors.new)) result }
 {
-    if near.faces(&far) && near.named_alike(&far) {
+    if can_join(&near, &far) {
         return run_between(alloc, near, far, joiner, reader, writer, errors);
     }
     explain_strangers(alloc, files.0, files.1, errors);
     end_with(Status::Start, b"fault NotFacing\n", writer)
+}
+
+/// Whether nodes with these settings face each other, and name their links alike.
+fn can_join(near: &Settings, far: &Settings) -> bool
+    ensures facing { result ≡ true → IsFacing near.now far.now }
+    ensures alike { result ≡ true → link_names near.now ≡ link_names far.now }
+    ensures strangers { result ≡ false → ¬ (AreJoined near.now far.now) }
+{
+    near.faces(far) && near.named_alike(far)
 }
 
 /// The settings of a file, or how the program ends without them.
@@ -83,15 +92,29 @@ fn settings_of<F: Folder, W: Sink, E: Sink>(
         × EndsAtFile file.now read (W.output writer.old) (W.output writer.new)
         (E.output errors.old) (E.output errors.new) ended) }
 {
-    let octets = match folder.read(alloc, file) {
-        Ok(octets) => octets,
+    match folder.read(alloc, file) {
+        Ok(octets) => settings_read(alloc, file, octets.as_slice(), writer, errors),
         Err(FileFault::Unread(why)) => {
             explain_unread(alloc, file, why, errors);
-            return Err(Status::Stream);
+            Err(Status::Stream)
         }
-        Err(FileFault::NoMemory) => return Err(tell_no_memory(writer)),
-    };
-    let octets = octets.as_slice();
+        Err(FileFault::NoMemory) => Err(tell_no_memory(writer)),
+    }
+}
+
+/// The settings in the octets of a file, or how the program ends without them.
+fn settings_read<W: Sink, E: Sink>(
+    alloc: Global,
+    file: &str,
+    octets: &[u8],
+    writer: &mut W,
+    errors: &mut E,
+) -> Result<Settings, Status>
+    ensures settings { IfOk result (λ settings. HasSettings file.now (Ok octets.now) settings
+        (E.output errors.old) (E.output errors.new) × (W.output writer.new ≡ W.output writer.old)) }
+    ensures ended { IfErr result (EndsAtFile file.now (Ok octets.now) (W.output writer.old) (W.output writer.new)
+        (E.output errors.old) (E.output errors.new)) }
+{
     warn(alloc, file, octets, errors);
     match settings_in(alloc, octets) {
         Ok(settings) => Ok(settings),
@@ -119,9 +142,12 @@ fn run_between<J: Joiner, R: Source, W: Sink, E: Sink>(
         (streams (R.input reader.new) (W.output writer.new) (E.output errors.new)) result }
 {
     let Ok(mut near) = booted(alloc, near) else {
+        drop(far);
         return tell_no_memory(writer);
     };
-    run_beside(alloc, &mut near, far, joiner, reader, writer, errors)
+    let ended = run_beside(alloc, &mut near, far, joiner, reader, writer, errors);
+    drop(near);
+    ended
 }
 
 /// The same, where the near node is booted.
@@ -146,7 +172,9 @@ fn run_beside<J: Joiner, R: Source, W: Sink, E: Sink>(
     let Ok(mut far) = booted(alloc, far) else {
         return tell_no_memory(writer);
     };
-    run_booted(alloc, near, &mut far, joiner, reader, writer, errors)
+    let ended = run_booted(alloc, near, &mut far, joiner, reader, writer, errors);
+    drop(far);
+    ended
 }
 
 /// The same, where both nodes are booted.

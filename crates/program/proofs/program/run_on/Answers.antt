@@ -1,23 +1,5 @@
 use Rattle.std.proofs.Common.{inl}
-use Rattle.exchange_rules.specs.First.{first_state}
-use Rattle.script.proofs.Standing.{runs-stand}
 use Rattle.program.proofs.program.run_on.Goals as goal
 
 pub returns-in-Ok : goal.returns-in-Ok
-returns-in-Ok g c =
-    let ran = runs-stand c.run_pieces-script.result c.in-Ok.exchange c.run_pieces-script.new.exchange (first_state c.args.settings)
-    (g.R.Source.input c.args.reader.now).remaining (g.R.Source.input c.run_pieces-script.new.reader).remaining
-    (g.W.Sink.output c.args.writer.now).written (g.W.Sink.output c.run_pieces-script.new.writer).written
-    c.in-Ok.ensures.first c.run_pieces-script.ensures.run in
-    inl (
-      c.run_pieces-script.result,
-      ran.0,
-      ran.2,
-      record {
-        reads_made = c.run_pieces-script.ensures.bounded;
-        reads_failed = c.run_pieces-script.ensures.reads;
-        writes_failed = c.run_pieces-script.ensures.writes;
-      },
-      c.status_after.ensures,
-      c.explain_end.ensures,
-    )
+returns-in-Ok g c = inl (c.run_in-ended.ensures c.args.settings c.in-Ok.ensures.first)

@@ -1,13 +1,12 @@
 use Rattle.std.proofs.Common.{inl, inr, refl}
 use Rattle.settings_file.specs.Faults.{no_memory}
 use Rattle.program.proofs.serving.serve_octets.Goals as goal
-use Rattle.program.proofs.serving.serve_octets.Goals.{in-Ok, in-Err}
 
-pub returns : goal.returns
-returns g c = elim c.match-settings_in.branch [
-  | in-Ok w ↦ rw (w.writer-is, w.errors-is, w.result-is) (inl (w.in-Ok.field-0, w.in-Ok.ensures.settings))
-  | in-Err w ↦ rw (w.writer-is, w.errors-is, w.result-is) (elim w.tell_file_fault.ensures [
-    | inl told ↦ inr (w.in-Err.fault, w.in-Err.ensures.fault, told.0, g.E.Sink.output c.warn.new.errors, c.warn.ensures, told.1)
-    | inr told ↦ inr (no_memory, inl refl, told.0, g.E.Sink.output c.warn.new.errors, c.warn.ensures, inr told.1)
-  ])
+pub returns-in-Ok : goal.returns-in-Ok
+returns-in-Ok g c = inl (c.in-Ok.settings, c.in-Ok.ensures.settings)
+
+pub returns-in-Err : goal.returns-in-Err
+returns-in-Err g c = elim c.tell_file_fault.ensures [
+  | inl told ↦ inr (c.in-Err.fault, c.in-Err.ensures.fault, told.0, g.E.Sink.output c.warn.new.errors, c.warn.ensures, told.1)
+  | inr told ↦ inr (no_memory, inl refl, told.0, g.E.Sink.output c.warn.new.errors, c.warn.ensures, inr told.1)
 ]

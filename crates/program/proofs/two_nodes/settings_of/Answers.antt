@@ -1,13 +1,8 @@
-use Rattle.std.proofs.Common.{Ok, inl, inr, refl}
-use Rattle.settings_file.specs.Faults.{no_memory}
+use Rattle.std.proofs.Common.{Ok}
+use Rattle.std.proofs.lemmas.Result.{IfErr-weaker}
 use Rattle.program.proofs.two_nodes.settings_of.Goals as goal
 
-pub returns-clause-ended : goal.returns-clause-ended
-returns-clause-ended g c = (
-  Ok c.in-Ok.octets.items,
-  c.in-Ok.ensures,
-  rw (← c.as_slice-octets.ensures.value) (elim c.tell_file_fault.ensures [
-    | inl told ↦ (c.in-Err.fault, c.in-Err.ensures.fault, told.0, g.E.Sink.output c.warn.new.errors, c.warn.ensures, told.1)
-    | inr told ↦ (no_memory, inl refl, told.0, g.E.Sink.output c.warn.new.errors, c.warn.ensures, inr told.1)
-  ]),
-)
+pub returns-in-Ok-clause-ended : goal.returns-in-Ok-clause-ended
+returns-in-Ok-clause-ended g c =
+    IfErr-weaker c.settings_read.result _ _ (λ ended h. (Ok c.in-Ok.octets.items, c.in-Ok.ensures, rw (← c.as_slice.ensures.value) h))
+    c.settings_read.ensures.ended
