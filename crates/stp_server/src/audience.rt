@@ -5,12 +5,13 @@ ghost use Rattle.stp_server.specs.Audience.{counted_sight};
 
 use crate::callers::Callers;
 use crate::server::FileCapture;
-use arrayvec::ArrayVec;
+use arrayvec::ArrayString;
 use console_session::News;
 use exchange::{Frame, decode};
 use served_link::{Counters, Watch};
 use settings::{Limits, LinkId, Outcome, Settings};
 use std::alloc::{AllocError, Global};
+use std::fmt::Write;
 use std::time::Duration;
 use trace::{Direction, PointFormat, frame_words};
 
@@ -98,10 +99,9 @@ impl Audience {
     fn tell_message(&mut self, link: LinkId, frame: &[u8])
         ensures { self.new.counters ≡ self.old.counters }
     {
-        if let Ok(Frame::Message { sio, sif, .. }) = decode(frame)
-            && let Some(line) = message_line(self.name(link), sio, sif)
-        {
-            self.callers.tell_line(News::Message, line.as_slice());
+        if let Ok(Frame::Message { sio, sif, .. }) = decode(frame) {
+            let line = message_line(self.name(link), sio, sif);
+            self.callers.tell_line(News::Message, line.as_bytes());
         }
     }
 }
@@ -116,22 +116,13 @@ fn names_of(alloc: Global, settings: &Settings) -> Result<Vec<String>, AllocErro
 }
 
 /// The line of a message for this point, without its line feed: `local LINK HEX`.
-fn message_line(name: &str, sio: u8, sif: &[u8]) -> Option<ArrayVec<u8, MESSAGE_OCTETS>> {
-    let mut line = ArrayVec::new();
-    line.try_extend_from_slice(b"local ").ok()?;
-    line.try_extend_from_slice(name.as_bytes()).ok()?;
-    line.try_extend_from_slice(b" ").ok()?;
-    push_hex(&mut line, &[sio])?;
-    push_hex(&mut line, sif)?;
-    Some(line)
-}
-
-/// Puts octets behind what is there, in two digits each. None where there is no room.
-fn push_hex(line: &mut ArrayVec<u8, MESSAGE_OCTETS>, octets: &[u8]) -> Option<()> {
-    let mut digits = [0; MESSAGE_OCTETS];
-    let digits = digits.get_mut(..octets.len().checked_mul(2)?)?;
-    hex::encode_to_slice(octets, digits).ok()?;
-    line.try_extend_from_slice(digits).ok()
+fn message_line(name: &str, sio: u8, sif: &[u8]) -> ArrayString<MESSAGE_OCTETS> {
+    let mut line = ArrayString::new();
+    let _fits = write!(line, "local {name} {sio:02x}");
+    for octet in sif {
+        let _fits = write!(line, "{octet:02x}");
+    }
+    line
 }
 
 /// The audience, and what else watches the frames.

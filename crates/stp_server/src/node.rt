@@ -131,13 +131,17 @@ impl Node {
             self.audience.counters.count_failure(*link, *reason);
         }
         let mut line = ArrayString::<LINE_OCTETS>::new();
-        if !show_notices(&self.exchange, k, &mut line) {
-            return;
+        if show_notices(&self.exchange, k, &mut line) {
+            self.tell_notice(line.as_bytes(), journal);
         }
+    }
+
+    /// Tells of a notice by its line.
+    fn tell_notice<W: Sink>(&mut self, line: &[u8], journal: &mut Journal<'_, W>) {
         let mut room = ArrayVec::new();
         let shown = match self.audience.points {
-            PointFormat::Plain => line.as_bytes(),
-            PointFormat::ThreeEightThree => line_in_parts(line.as_bytes(), &mut room),
+            PointFormat::Plain => line,
+            PointFormat::ThreeEightThree => line_in_parts(line, &mut room),
         };
         self.audience.callers.tell_line(News::Notice, shown);
         let text = str::from_utf8(shown).unwrap_or("");

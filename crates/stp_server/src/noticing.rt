@@ -72,17 +72,24 @@ impl Seen {
     /// How many links failed since the last look. Each failure made a notice.
     fn note_failures(&mut self, exchange: &Exchange) -> usize {
         let mut failures = 0usize;
-        let marks = self.up.iter_mut().zip(self.fell.iter_mut());
-        let links = exchange.settings().link_count();
-        for (k, (up, fell)) in marks.enumerate().take(links) {
-            let is_up = is_up(exchange, LinkId::new(k as u8));
-            *fell = *up && !is_up;
-            *up = is_up;
-            if *fell {
+        for k in 0..exchange.settings().link_count() {
+            let link = LinkId::new(u8::try_from(k).unwrap_or(u8::MAX));
+            self.note(link, is_up(exchange, link));
+            if self.fell(link) {
                 failures = failures.saturating_add(1);
             }
         }
         failures
+    }
+
+    /// Keeps whether a link is up, and whether it was until now.
+    fn note(&mut self, link: LinkId, is_up: bool) {
+        if let Some(up) = self.up.get_mut(link.index())
+            && let Some(fell) = self.fell.get_mut(link.index())
+        {
+            *fell = *up && !is_up;
+            *up = is_up;
+        }
     }
 }
 

@@ -93,12 +93,7 @@ fn run<W: Sink>(
     let mut clock = TickClock::new(tick_ms);
     let mut was_behind = false;
     for _ in 0..u64::MAX {
-        let before = now(rt)?.duration_since(started);
-        let rest = Duration::from_millis(clock.until_next(millis(before)));
-        if server.wait(before, rest).is_err() {
-            return Err(ServeFailure::System);
-        }
-        let elapsed = now(rt)?.duration_since(started);
+        let elapsed = wait(rt, server, &clock, started)?;
         server.turn(rt, elapsed, log, &mut Unwatched);
         was_behind = pass_tick(&mut clock, was_behind, server, elapsed, log);
         if server.is_stopping() {
@@ -107,6 +102,21 @@ fn run<W: Sink>(
         }
     }
     Ok(())
+}
+
+/// Waits until a socket is ready, or a tick is due. Returns how long after the start it is then.
+fn wait(
+    rt: &HostRuntime,
+    server: &mut Server,
+    clock: &TickClock,
+    started: Instant,
+) -> Result<Duration, ServeFailure> {
+    let before = now(rt)?.duration_since(started);
+    let rest = Duration::from_millis(clock.until_next(millis(before)));
+    match server.wait(before, rest) {
+        Ok(()) => Ok(now(rt)?.duration_since(started)),
+        Err(_) => Err(ServeFailure::System),
+    }
 }
 
 /// Lets a tick pass where one is due. Returns whether the clock is behind; the log is told where that begins.

@@ -99,21 +99,29 @@ impl Server {
         endpoint: Endpoint,
         journal: &mut Journal<'_, W>,
     ) -> Result<(), OpenFault> {
-        let name = self.node.audience.name(link);
         let listener = match endpoint {
-            Endpoint::Listen(address) => {
-                let token = SocketName::Listener(link.index() as u8);
-                let (listener, address) = self.listener(net, address, token)?;
-                journal.tell_at("listen", name, address);
-                Some(listener)
-            }
+            Endpoint::Listen(address) => Some(self.listen(net, link, address, journal)?),
             Endpoint::Connect(address) => {
-                journal.tell_at("connect", name, address);
+                journal.tell_at("connect", self.node.audience.name(link), address);
                 None
             }
         };
         self.gates.push(Gate::new(link, endpoint, listener))?;
         Ok(())
+    }
+
+    /// The listener of a link.
+    fn listen<N: Net, W: Sink>(
+        &self,
+        net: &N,
+        link: LinkId,
+        address: SocketAddr,
+        journal: &mut Journal<'_, W>,
+    ) -> Result<TcpListener, OpenFault> {
+        let name = SocketName::Listener(link.index() as u8);
+        let (listener, address) = self.listener(net, address, name)?;
+        journal.tell_at("listen", self.node.audience.name(link), address);
+        Ok(listener)
     }
 
     /// Adds the console, where it has an address.
