@@ -22,8 +22,9 @@ enum Played {
 /// The SIO of ISUP in a network of indicator 2.
 const ISUP: u8 = 0x85;
 
-/// Both links prove themselves and enter service; a message for point 300 is forwarded, one for this point delivered;
-/// one association is lost; and a message is submitted for point 300, which lies behind that link.
+/// The first link opens at once, and the other one as its first frame comes. Both prove themselves and enter service; a
+/// message for point 300 is forwarded, one for this point delivered; one association is lost; and a message is submitted
+/// for point 300, which lies behind that link.
 const PLAYED: [Played; 11] = [
     Played::Status(0, 2),
     Played::Status(1, 2),
@@ -43,13 +44,19 @@ const PLAYED: [Played; 11] = [
 pub(crate) struct PlayedNetwork<'a, R> {
     rt: &'a R,
     links: [LinkId; 2],
+    has_begun: bool,
     at: usize,
 }
 
 impl<'a, R: Print> PlayedNetwork<'a, R> {
     /// The network of these links.
     pub(crate) fn new(rt: &'a R, links: [LinkId; 2]) -> PlayedNetwork<'a, R> {
-        PlayedNetwork { rt, links, at: 0 }
+        PlayedNetwork {
+            rt,
+            links,
+            has_begun: false,
+            at: 0,
+        }
     }
 
     /// The link of this place.
@@ -74,10 +81,18 @@ impl<'a, R: Print> PlayedNetwork<'a, R> {
 }
 
 impl<R: Print> Network for PlayedNetwork<'_, R> {
+    // The first link accepts, and the other one connects.
     fn open(&mut self, link: LinkId) -> bool {
         let name = name_of(link);
-        let _printed = println!(self.rt; "{name} opens");
-        true
+        if link == self.link(0) {
+            let _printed = println!(self.rt; "{name} opens");
+            return true;
+        }
+        if !self.has_begun {
+            let _printed = println!(self.rt; "{name} connects");
+        }
+        self.has_begun = true;
+        false
     }
 
     fn close(&mut self, link: LinkId) {

@@ -24,11 +24,12 @@ pub(crate) enum Received {
 
 /// The associations of a node's links, and its clock: sockets and a timer, or fakes in a test.
 pub(crate) trait Network {
-    /// Opens the association of a link; or, on the side that accepts, answers whether the peer has opened it. False
-    /// where it isn't there yet: this is called again.
+    /// Has the association of a link come about. At the end that accepts: true where the peer's was accepted, so it is
+    /// up. At the end that connects: begins to connect, unless it has, and is false, also where the system is connected
+    /// already; the association comes up with the first frame of it. Where this is false it is called again.
     fn open(&mut self, link: LinkId) -> bool;
 
-    /// Closes the association of a link.
+    /// Closes the association of a link. Nothing of it comes after this.
     fn close(&mut self, link: LinkId);
 
     /// Sends a frame on a link, behind those sent before.
@@ -116,7 +117,13 @@ fn send_all<N: Network>(exchange: &mut Exchange, link: LinkId, network: &mut N) 
 }
 
 /// Takes a frame of a link. A message for this point goes to its user parts.
+///
+/// A link that still wants to open is one whose association this end began. The other end opened first, since it sent
+/// the frame (docs/EXACTLY_ONCE.md says why it has to): so this end follows.
 fn receive_frame<U: UserParts>(exchange: &mut Exchange, link: LinkId, frame: &[u8], users: &mut U) {
+    if exchange.wants(link) == Wants::Open {
+        let _up = exchange.step(&Event::AssociationUp(link));
+    }
     if exchange.step(&Event::Frame(link, frame)) != Outcome::Local {
         return;
     }
