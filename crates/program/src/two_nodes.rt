@@ -40,7 +40,10 @@ pub(crate) fn run_files<F: Folder, J: Joiner, R: Source, W: Sink, E: Sink>(
     };
     let far = match settings_of(alloc, folder, files.1, writer, errors) {
         Ok(settings) => settings,
-        Err(status) => return status,
+        Err(status) => {
+            drop(near);
+            return status;
+        }
     };
     run_if_facing(alloc, near, far, files, joiner, reader, writer, errors)
 }
@@ -64,6 +67,8 @@ fn run_if_facing<J: Joiner, R: Source, W: Sink, E: Sink>(
     if can_join(&near, &far) {
         return run_between(alloc, near, far, joiner, reader, writer, errors);
     }
+    drop(near);
+    drop(far);
     explain_strangers(alloc, files.0, files.1, errors);
     end_with(Status::Start, b"fault NotFacing\n", writer)
 }
