@@ -2,7 +2,7 @@
 
 import socket
 
-from harness import MALFORMED, NodeTest
+from harness import MALFORMED, Link, NodeTest, free_port
 from traffic import FAR, Pair
 
 MESSAGES = 64
@@ -11,6 +11,23 @@ LINE_OCTETS = 8300
 QUESTIONS = 6000
 HELP_LINES = 16
 ROUTE = f"route {FAR} to-{FAR} allowed"
+
+# Points and how they are written in three parts, of 3, 8 and 3 bits (Q.708): 4237 is 2 * 2048 + 17 * 8 + 5.
+IN_PARTS = {0: "0-000-0", 9: "0-001-1", 4237: "2-017-5", 16383: "7-255-7"}
+
+# Lines that add no row: no point is written so, or it isn't where a point is read.
+NO_POINTS = (
+    "title add 0 1 4 4917 8-000-0 ssn 6",
+    "title add 0 1 4 4917 2-256-5 ssn 6",
+    "title add 0 1 4 4917 2-017-8 ssn 6",
+    "title add 0 1 4 4917 2-17-5 ssn 6",
+    "title add 2-017-5 1 4 4917 9 ssn 6",
+    "title add 0 1 4 4917",
+    "title add  0 1 4 4917 2-017-5 ssn 6",
+    "title remove 0 1 4 4917 2-017-5",
+    "title add",
+    "route 2-017-5",
+)
 
 
 class Callers(NodeTest):
@@ -31,6 +48,8 @@ class Callers(NodeTest):
         caller = self.near.call()
         caller.write("up e0\n")
         self.assertEqual(caller.read_line(), MALFORMED, "the network isn't a caller's")
+        caller.write("title add 0 1 4 4917 0-000-2 ssn 6\n")
+        self.assertEqual(caller.read_line(), MALFORMED, "points are numbers")
 
     def test_messages_are_told(self) -> None:
         listener, submitter = self.near.call(), self.far.call()
@@ -89,3 +108,31 @@ class Callers(NodeTest):
         for number in range(3):
             self.far.await_log(f"notice failed e{number} association$")
         self.assertEqual([state for state, _ in self.far.links().values()], ["Down"] * 3)
+
+
+class Points(NodeTest):
+    def setUp(self) -> None:
+        """A node that shows points in three parts, with a set to each of these."""
+        super().setUp()
+        links = [Link(f"e{number}", point, 0, free_port(), True) for number, point in enumerate(IN_PARTS)]
+        self.near = self.node(1, links, points="3-8-3")
+        self.near.start()
+
+    def test_points_are_shown(self) -> None:
+        self.assertEqual(self.near.ask("show routes"), [f"route {it} none prohibited" for it in IN_PARTS.values()])
+
+    def test_points_are_read(self) -> None:
+        """A point is read in either form, and a row leads there by title or by subsystem."""
+        for point, shown in IN_PARTS.items():
+            for written in (shown, str(point)):
+                for route in ("ssn 6", "title -"):
+                    self.assertEqual(self.near.ask(f"title add 0 1 4 4917 {written} {route}"), ["handled"])
+                    self.assertEqual(self.near.ask("show titles"), [f"title 0 1 4 4917 {shown} {route}"])
+                    self.assertEqual(self.near.ask("title remove 0 1 4 4917"), ["handled"])
+
+    def test_what_is_no_point(self) -> None:
+        caller = self.near.call()
+        for line in NO_POINTS:
+            caller.write(line + "\n")
+            self.assertEqual(caller.read_line(), MALFORMED, line)
+        self.assertEqual(self.near.ask("show titles"), [])

@@ -60,6 +60,18 @@ class FailingStreams(NodeTest):
         self.assertEqual((ended.returncode, ended.stdout), (4, ""))
         self.assertEqual(ended.stderr, "standard input: a read failed\n")
 
+    def test_faults_that_cannot_be_told(self) -> None:
+        """The one write of a run without a script fails."""
+        (self.folder / "empty").write_text("")
+        for words in ([], ["check", "empty"], ["run", "empty"], ["lab", "empty", "empty"]):
+            for way in self.ways:
+                self.assertEqual(run(*words, folder=self.folder, **way).returncode, 4, words)
+
     def test_a_standard_error_that_fails(self) -> None:
-        ended = run("nonsense", folder=self.folder, preexec_fn=lambda: os.close(2))
-        self.assertEqual((ended.returncode, ended.stdout), (1, "usage\n"))
+        """It changes neither the status nor what is printed."""
+        full = self.ways[0]["stdout"]
+        for way in ({"stderr": full}, {"preexec_fn": lambda: os.close(2)}):
+            ended = run("nonsense", folder=self.folder, **way)
+            self.assertEqual((ended.returncode, ended.stdout), (1, "usage\n"))
+            ended = run("run", folder=self.folder, text="up e0\ntik 3\n", **way)
+            self.assertEqual((ended.returncode, ended.stdout), (3, "handled\nfault 2\n"))

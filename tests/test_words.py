@@ -13,13 +13,34 @@ FAULTS = (
     ("slc = 0", "slc = 16", "fault 4 link[0].slc", 'link[0] "e0": slc is 16, must be 0 to 15'),
 )
 
-# Lines whose octets no transcript holds, and what is printed of them.
+# Scripts whose octets no transcript holds, and what is printed of them. A line feed alone ends a line.
 OCTETS = (
-    ("\0", "fault 1"),
-    ("\xff e0", "fault 1"),
-    ("activate\xff", "fault 1"),
-    ("activate \0", "refused 22 NoSuchName"),
-    ("activate \xff", "refused 22 NoSuchName"),
+    ("\0\n", "fault 1\n"),
+    ("\r\n", "fault 1\n"),
+    ("\xff e0\n", "fault 1\n"),
+    ("activate\xff\n", "fault 1\n"),
+    ("frame e0 00\r\n", "fault 1\n"),
+    ("activate \0\n", "refused 22 NoSuchName\n"),
+    ("activate \xff\n", "refused 22 NoSuchName\n"),
+    ("up e0\r\n", "refused 22 NoSuchName\n"),
+    ("\n\n#\n# up e0\n#\xff\0\r\n", ""),
+    ("up e9\n# \xff\nup\nup e0\n", "refused 22 NoSuchName\nfault 3\n"),
+)
+
+# The start of a line, what follows it how often, and what is printed of the line and of `up e0` after it. Nothing is
+# done after a line that is too long.
+LONG_LINES = (
+    ("# ", "x", 8298, "handled\n"),
+    ("# ", "x", 8299, "fault 1\n"),
+    ("#", "x", 100_000, "fault 1\n"),
+    ("take ", "x", 8295, "refused 22 NoSuchName\nhandled\n"),
+    ("take ", "x", 8296, "fault 1\n"),
+    ("frame e0 ", "a5", 4096, "ignored\nhandled\n"),
+    ("frame e0 ", "a5", 4097, "fault 1\n"),
+    ("submit ", "A5", 4096, "refused 13 TooLong\nhandled\n"),
+    ("submit ", "A5", 4097, "fault 1\n"),
+    ("submit 852c410050", "a5", 268, "refused 4 NoRoute\nhandled\n"),
+    ("submit 852c410050", "a5", 269, "refused 13 TooLong\nhandled\n"),
 )
 
 
@@ -54,11 +75,19 @@ class Words(NodeTest):
             shown = "link e0 Down waiting 0 fsn 16777215 bsn 16777215\n"
             self.assertEqual((ended.returncode, ended.stdout), (status, shown + printed))
 
+    def expect(self, script: str, printed: str) -> None:
+        ended = run("run", folder=self.folder, text=script, encoding="latin-1")
+        self.assertEqual((ended.returncode, ended.stdout), (3 if "fault" in printed else 0, printed))
+
     def test_octets_that_are_no_text(self) -> None:
-        for line, printed in OCTETS:
-            with self.subTest(line):
-                ended = run("run", folder=self.folder, text=line + "\n", encoding="latin-1")
-                self.assertEqual(ended.stdout, printed + "\n")
+        for script, printed in OCTETS:
+            with self.subTest(script):
+                self.expect(script, printed)
+
+    def test_long_lines(self) -> None:
+        for start, text, count, printed in LONG_LINES:
+            with self.subTest(start=start, count=count):
+                self.expect(start + text * count + "\nup e0\n", printed)
 
     def test_hostile_words(self) -> None:
         for name, why in (("a\nb", "there is no such file"), ("a" * 100_000, "a read of it failed")):

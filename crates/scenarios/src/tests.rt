@@ -1,8 +1,13 @@
 //! What the tests share.
 
+mod calls;
+mod drafts;
+mod labs;
+mod lost;
+mod pair;
 mod streams;
 
-use lab::MemoryJoiner;
+use lab::Joiner;
 use program::{FileFault, Folder, Status, Unread, run_program};
 use script::{Sink, Source};
 use std::alloc::{AllocError, Global};
@@ -39,28 +44,20 @@ impl Folder for Files {
     }
 }
 
-/// Runs the program with these words, each behind a comma. The links of its lab are streams in memory.
-fn run<R: Source, W: Sink, E: Sink>(
+/// Runs the program with these words, each behind a comma. The links of its lab are joined so.
+fn run<J: Joiner, R: Source, W: Sink, E: Sink>(
     rt: &HostRuntime,
     words: &str,
+    joiner: &mut J,
     reader: &mut R,
     writer: &mut W,
     errors: &mut E,
 ) -> Result<Status, Fail> {
-    let alloc = rt.alloc();
-    let mut list = Vec::new(alloc);
+    let mut list = Vec::new(rt.alloc());
     for word in words.split(',').skip(1) {
-        list.push(String::from_str(alloc, word)?)?;
+        list.push(String::from_str(rt.alloc(), word)?)?;
     }
-    Ok(run_program(
-        rt,
-        list.as_slice(),
-        &Files,
-        &mut MemoryJoiner::new(alloc)?,
-        reader,
-        writer,
-        errors,
-    ))
+    Ok(run_program(rt, list.as_slice(), &Files, joiner, reader, writer, errors))
 }
 
 /// The first lines of a text.
@@ -70,13 +67,4 @@ fn first_lines(text: &str, count: usize) -> &str {
         end = end.saturating_add(line.len());
     }
     text.get(..end).unwrap_or("")
-}
-
-/// A text, and behind it so many times another.
-fn longer(alloc: Global, start: &str, times: usize, text: &str) -> Result<String, Fail> {
-    let mut line = String::from_str(alloc, start)?;
-    for _ in 0..times {
-        line.push_str(text)?;
-    }
-    Ok(line)
 }

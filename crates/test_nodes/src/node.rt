@@ -1,7 +1,10 @@
 //! A node.
 
 use crate::settings_text::settings_of;
-use exchange::{BUFFER_OCTETS, DraftFault, Event, Exchange, LinkId, Outcome};
+use exchange::{
+    Answer, BUFFER_OCTETS, Call, DraftFault, Event, Exchange, LinkId, NoMemory, Outcome,
+};
+use script::{MemorySink, MemorySource, run_script};
 use settings_file::SettingsFault;
 use std::alloc::Global;
 use std::marker::Model;
@@ -43,13 +46,25 @@ impl Node {
         take(&mut self.exchange, link, buffer)
     }
 
+    /// Makes calls in a row, and returns their answers.
+    pub fn run(&mut self, alloc: Global, calls: &[Call<'_>]) -> Result<Vec<Answer>, NoMemory> {
+        run(&mut self.exchange, alloc, calls)
+    }
+
+    /// Plays a script. Says whether each of its lines is done, and none refused or ignored.
+    pub fn play(&mut self, alloc: Global, script: &str) -> bool {
+        let mut reader = MemorySource::new(script.as_bytes());
+        let mut writer = MemorySink::new(alloc);
+        play(&mut self.exchange, &mut reader, &mut writer) && are_done(writer.written())
+    }
+
     /// What it shows.
     pub fn shown(&self) -> &Exchange {
         &self.exchange
     }
 }
 
-/// Hands in an event. What calls this and the next sees no clause of `Exchange`.
+/// Hands in an event. What calls this and the next ones sees no clause of `Exchange`.
 fn step(exchange: &mut Exchange, event: &Event<'_>) -> Outcome {
     exchange.step(event)
 }
@@ -57,4 +72,26 @@ fn step(exchange: &mut Exchange, event: &Event<'_>) -> Outcome {
 /// Fetches the next frame of a link.
 fn take(exchange: &mut Exchange, link: LinkId, buffer: &mut [u8; BUFFER_OCTETS]) -> Option<usize> {
     exchange.take(link, buffer)
+}
+
+/// Makes calls in a row.
+fn run(
+    exchange: &mut Exchange,
+    alloc: Global,
+    calls: &[Call<'_>],
+) -> Result<Vec<Answer>, NoMemory> {
+    exchange.run(alloc, calls)
+}
+
+/// Plays a script, and says whether it has an end and no fault.
+fn play(exchange: &mut Exchange, reader: &mut MemorySource<'_>, writer: &mut MemorySink) -> bool {
+    run_script(exchange, reader, writer).is_ok()
+}
+
+/// Whether lines that are printed say that no line was refused or ignored.
+fn are_done(printed: &[u8]) -> bool {
+    match str::from_utf8(printed) {
+        Ok(text) => !text.contains("refused") && !text.contains("ignored"),
+        Err(_) => false,
+    }
 }

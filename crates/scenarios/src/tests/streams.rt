@@ -1,8 +1,9 @@
-//! The program where streams give little, or fail. What it does else is in the transcripts.
+//! The program where streams give little, fail, or never end. What it does else is in the transcripts.
 
 use super::{first_lines, run};
+use lab::MemoryJoiner;
 use program::Status;
-use script::{MemorySink, MemorySource, ReaderSource, Sink, Source, WriterSink};
+use script::{MemorySink, MemorySource, ReadFailed, ReaderSource, Sink, Source, WriterSink};
 use std::io;
 use std::test::*;
 
@@ -106,8 +107,9 @@ fn ends<R: Source, W: Sink>(
     writer: &mut W,
     end: End,
 ) -> Result<bool, Fail> {
+    let mut joiner = MemoryJoiner::new(rt.alloc())?;
     let mut errors = MemorySink::new(rt.alloc());
-    let status = run(rt, words, reader, writer, &mut errors)?;
+    let status = run(rt, words, &mut joiner, reader, writer, &mut errors)?;
     Ok(status == end.0 && errors.written() == end.1.as_bytes())
 }
 
@@ -147,35 +149,6 @@ fn each_write_failing_in_turn(rt: HostRuntime) -> Result<(), Fail> {
             assert!(&rt; goes(&rt, case, plan)?, "write {writes} of {}", case.script);
         }
     }
-    Ok(())
-}
-
-/// Nothing is printed where the one write of a run without a script fails.
-#[test]
-fn faults_that_cannot_be_told(rt: HostRuntime) -> Result<(), Fail> {
-    for words in ["", ",check,empty", ",run,empty", ",lab,2,2"] {
-        let mut reader = MemorySource::new(b"");
-        let mut writer = MemorySink::new(rt.alloc()).failing_after(0);
-        let mut errors = MemorySink::new(rt.alloc());
-        let status = run(&rt, words, &mut reader, &mut writer, &mut errors)?;
-        assert_eq!(&rt; status, Status::Stream, "of {words}");
-        assert_eq!(&rt; writer.written().len(), 0, "of {words}");
-    }
-    Ok(())
-}
-
-/// A standard error that takes nothing changes neither the status nor what is printed.
-#[test]
-fn errors_that_fail(rt: HostRuntime) -> Result<(), Fail> {
-    let mut reader = MemorySource::new(b"up e0\ntik 3\n");
-    let mut writer = MemorySink::new(rt.alloc());
-    let mut errors = MemorySink::new(rt.alloc()).failing_after(0);
-    let status = run(&rt, ",run", &mut reader, &mut writer, &mut errors)?;
-    assert_eq!(&rt; status, Status::Line);
-    assert!(&rt;
-        writer.written() == "handled\nfault 2\n".as_bytes(),
-        "tik 3"
-    );
     Ok(())
 }
 
@@ -222,21 +195,46 @@ fn is_filled(rt: &HostRuntime, room: usize) -> Result<bool, Fail> {
     Ok(ends && narrow.taken.as_slice() == printed.as_bytes())
 }
 
-/// A reader that fails.
+/// Empty lines for ever, one octet a read.
 #[derive(Drop)]
-struct Broken;
+struct Endless {
+    reads: u64,
+}
 
-impl io::Read for Broken {
-    fn read(&mut self, _buffer: &mut [u8]) -> io::Result<usize> {
-        Err(io::Error::from(io::ErrorKind::Other))
+impl Source for Endless {
+    ghost use Rattle.std.specs.Prelude.{None};
+
+    ghost input = { λ s. record { remaining = None; reads = s.reads; failures = 0 } };
+
+    fn read(&mut self, buffer: &mut [u8]) -> Result<usize, ReadFailed> {
+        self.reads = self.reads.saturating_add(1);
+        match buffer.first_mut() {
+            Some(octet) => {
+                *octet = b'\n';
+                Ok(1)
+            }
+            None => Ok(0),
+        }
     }
 }
 
+const UNENDED: End = (
+    Status::Stream,
+    "standard input: its end wasn't found in 4194304 reads\n",
+);
+
 #[test]
-fn broken_readers(rt: HostRuntime) -> Result<(), Fail> {
-    let mut reader = ReaderSource::new(Broken);
-    let mut writer = MemorySink::new(rt.alloc());
-    assert!(&rt; ends(&rt, ",run", &mut reader, &mut writer, UNREAD)?);
-    assert_eq!(&rt; writer.written().len(), 0);
+fn too_many_reads(rt: HostRuntime) -> Result<(), Fail> {
+    for words in [OF_A_NODE.words, OF_A_LAB.words] {
+        assert!(&rt; gives_up(&rt, words)?, "{words}");
+    }
     Ok(())
+}
+
+/// Whether the program gives up reading a script that has no end, and says so.
+fn gives_up(rt: &HostRuntime, words: &str) -> Result<bool, Fail> {
+    let mut reader = Endless { reads: 0 };
+    let mut writer = MemorySink::new(rt.alloc());
+    let ends = ends(rt, words, &mut reader, &mut writer, UNENDED)?;
+    Ok(ends && reader.reads == 4_194_304 && writer.written().is_empty())
 }

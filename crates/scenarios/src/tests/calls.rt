@@ -1,0 +1,148 @@
+//! Calls that no script makes: in a row, about numbers that name nothing, and with a frame of no octets.
+
+use exchange::{Answer, BUFFER_OCTETS, Call, Event, Order, Wants};
+use settings::{Cause, FrameFault, LinkId, Msu, Notice, Outcome};
+use std::alloc::Global;
+use std::test::*;
+use test_nodes::Node;
+
+/// A Link Status before any message: the peer proves.
+const PROVING: &[u8] = b"\x01\0\x0b\x02\0\0\0\x14\0\xff\xff\xff\0\xff\xff\xff\0\0\0\x02";
+
+/// The same: the peer is ready.
+const READY: &[u8] = b"\x01\0\x0b\x02\0\0\0\x14\0\xff\xff\xff\0\xff\xff\xff\0\0\0\x04";
+
+/// A frame with a message from point 2 to point 300, the first of its link. It confirms the first that went out.
+const COMES: &[u8] = b"\x01\0\x0b\x01\0\0\0\x18\0\0\0\0\0\0\0\0\0\x85\x2c\x81\0\x50\xaa\xbb";
+
+/// The frame that it leaves by, the second that went out.
+const GOES: &[u8] = b"\x01\0\x0b\x01\0\0\0\x18\0\0\0\0\0\0\0\x01\0\x85\x2c\x81\0\x50\xaa\xbb";
+
+/// A frame of another version.
+const OTHER_VERSION: &[u8] = b"\x02\0\x0b\x02\0\0\0\x08";
+
+/// Calls about link 0, and what is answered to them. The link comes into service, what its adjacent point is told of
+/// point 300 is taken, and a message goes through.
+const CALLS: &str =
+    "up handled; proving handled; ready handled; tick handled; tick handled; tick handled; \
+    take status; take status; take status; take other; comes queued; version ignored; submit local; \
+    take goes; take none; wants nothing";
+
+/// The call of a row.
+fn call<'a>(row: &str, message: &'a Msu) -> Call<'a> {
+    let link = LinkId::new(0);
+    match row.split(' ').next().unwrap_or("") {
+        "up" => Call::Step(Event::AssociationUp(link)),
+        "proving" => Call::Step(Event::Frame(link, PROVING)),
+        "ready" => Call::Step(Event::Frame(link, READY)),
+        "tick" => Call::Step(Event::Tick),
+        "comes" => Call::Step(Event::Frame(link, COMES)),
+        "version" => Call::Step(Event::Frame(link, OTHER_VERSION)),
+        "submit" => Call::Step(Event::Submit(message.lend())),
+        "take" => Call::Take(link),
+        _ => Call::Wants(link),
+    }
+}
+
+/// What a node answers to the calls.
+fn made(alloc: Global, node: &mut Node, message: &Msu) -> Result<Vec<Answer>, Fail> {
+    let mut calls = Vec::new(alloc);
+    for row in CALLS.split("; ") {
+        calls.push(call(row, message))?;
+    }
+    Ok(node.run(alloc, calls.as_slice())?)
+}
+
+/// What an answer is, in a word.
+fn shown(answer: &Answer) -> &'static str {
+    match answer {
+        Answer::Stepped(Outcome::Queued(_)) => "queued",
+        Answer::Stepped(Outcome::Local) => "local",
+        Answer::Stepped(Outcome::Handled) => "handled",
+        Answer::Stepped(Outcome::Ignored) => "ignored",
+        Answer::Taken(Some(text)) if text.octets() == GOES => "goes",
+        Answer::Taken(Some(text)) if text.octets().len() == READY.len() => "status",
+        Answer::Taken(None) => "none",
+        Answer::Wanted(Wants::Nothing) => "nothing",
+        _ => "other",
+    }
+}
+
+/// Whether these are the answers to the calls.
+fn are_wanted(answers: &[Answer]) -> bool {
+    let mut rows = CALLS.split("; ");
+    for answer in answers {
+        if !rows.next().unwrap_or("").ends_with(shown(answer)) {
+            return false;
+        }
+    }
+    rows.next().is_none()
+}
+
+/// Whether a node answers the calls so, and notes the frame of another version.
+fn answers(alloc: Global) -> Result<bool, Fail> {
+    let message = Msu::new(0x85, &[0x01, 0x80, 0x00, 0x50])?;
+    let mut node = Node::new(alloc, "")?;
+    let answers = made(alloc, &mut node, &message)?;
+    let notice = node.shown().notices().front().copied();
+    let noted = notice == Some(Notice::Frame(FrameFault::Version, LinkId::new(0)));
+    Ok(noted && are_wanted(answers.as_slice()))
+}
+
+#[test]
+fn calls_in_a_row(rt: HostRuntime) -> Result<(), Fail> {
+    assert!(&rt; answers(rt.alloc())?);
+    Ok(())
+}
+
+/// Whether a link that is up ignores a frame of no octets.
+fn is_nothing_ignored(alloc: Global) -> Result<bool, Fail> {
+    let mut node = Node::new(alloc, "")?;
+    let link = LinkId::new(0);
+    node.step(&Event::AssociationUp(link));
+    Ok(node.step(&Event::Frame(link, b"")) == Outcome::Ignored)
+}
+
+#[test]
+fn a_frame_of_no_octets(rt: HostRuntime) -> Result<(), Fail> {
+    assert!(&rt; is_nothing_ignored(rt.alloc())?);
+    Ok(())
+}
+
+/// What the node has in place of the built-in destinations: of links and destinations there is one each.
+const ONE_DESTINATION: &str = "destination = [{ point = 2, sets = [\"east\"] }]\n";
+
+/// Whether an event is refused because it names what isn't there.
+fn is_refused(node: &mut Node, event: &Event<'_>) -> bool {
+    node.step(event) == Outcome::Refused(Cause::NoSuchName)
+}
+
+/// Whether a node refuses each event about a link, and has neither it nor a row of its number.
+fn is_absent(alloc: Global, link: LinkId) -> Result<bool, Fail> {
+    let mut node = Node::new(alloc, ONE_DESTINATION)?;
+    let is_refused = is_refused(&mut node, &Event::AssociationUp(link))
+        && is_refused(&mut node, &Event::AssociationDown(link))
+        && is_refused(&mut node, &Event::Frame(link, b""))
+        && is_refused(&mut node, &Event::Order(Order::Activate(link)))
+        && is_refused(&mut node, &Event::Order(Order::Deactivate(link)));
+    let is_taken = node.take(link, &mut [0; BUFFER_OCTETS]).is_some();
+    Ok(is_refused && !is_taken && shows_nothing(&node, link))
+}
+
+/// Whether a node shows nothing of a link, or of a row of its number.
+fn shows_nothing(node: &Node, link: LinkId) -> bool {
+    let row = usize::from(link.index());
+    node.shown().wants(link) == Wants::Nothing
+        && node.shown().link(link).is_none()
+        && node.shown().route(row).is_none()
+        && node.shown().title(row).is_none()
+}
+
+/// Numbers that no link has, and no destination or translation row.
+#[test]
+fn numbers_that_name_nothing(rt: HostRuntime) -> Result<(), Fail> {
+    for number in [1, 64, 255] {
+        assert!(&rt; is_absent(rt.alloc(), LinkId::new(number))?, "{number}");
+    }
+    Ok(())
+}
