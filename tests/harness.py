@@ -91,7 +91,7 @@ class Link:
 def settings(own: int, links: Sequence[Link], *, window: int = 128, pool: int = 1000, tick_ms: int = 50,
              console: int | None = None, capture: str | None = None, points: str | None = None, **timers: int) -> str:
     """The settings of a node with these links. Timers that aren't named are LONG, but for the proving period."""
-    points = list(dict.fromkeys(link.adjacent for link in links))
+    adjacents = list(dict.fromkeys(link.adjacent for link in links))
     ticks = {**dict.fromkeys(TIMERS, LONG), "l4": 1, **timers}
     lines = ["version = 2", f"own = {own}", "network = 2", f"window = {window}", f"pool = {pool}"]
     lines += ["users = [5]", "subsystems = [8]", "[serve]", f"tick_ms = {tick_ms}"]
@@ -99,9 +99,9 @@ def settings(own: int, links: Sequence[Link], *, window: int = 128, pool: int = 
     lines += [f'capture = "{capture}"'] * (capture is not None)
     lines += [f'points = "{points}"'] * (points is not None)
     lines += ["[timers]", *(f"{name} = {count}" for name, count in ticks.items())]
-    lines += [f'[[set]]\nname = "to-{point}"\nadjacent = {point}' for point in points]
+    lines += [f'[[set]]\nname = "to-{point}"\nadjacent = {point}' for point in adjacents]
     lines += [link.text() for link in links]
-    lines += [f'[[destination]]\npoint = {point}\nsets = ["to-{point}"]\njoined = false' for point in points]
+    lines += [f'[[destination]]\npoint = {point}\nsets = ["to-{point}"]\njoined = false' for point in adjacents]
     return "\n".join(lines) + "\n"
 
 
