@@ -25,8 +25,8 @@ const OTHER_VERSION: &[u8] = b"\x02\0\x0b\x02\0\0\0\x08";
 /// point 300 is taken, and a message goes through.
 const CALLS: &str =
     "up handled; proving handled; ready handled; tick handled; tick handled; tick handled; \
-    take status; take status; take status; take other; comes queued; version ignored; submit local; \
-    take goes; take none; wants nothing";
+    take status; take status; take status; take other; comes queued; version ignored; empty ignored; \
+    submit local; take goes; take none; wants nothing";
 
 /// The call of a row.
 fn call<'a>(row: &str, message: &'a Msu) -> Call<'a> {
@@ -38,6 +38,7 @@ fn call<'a>(row: &str, message: &'a Msu) -> Call<'a> {
         "tick" => Call::Step(Event::Tick),
         "comes" => Call::Step(Event::Frame(link, COMES)),
         "version" => Call::Step(Event::Frame(link, OTHER_VERSION)),
+        "empty" => Call::Step(Event::Frame(link, b"")),
         "submit" => Call::Step(Event::Submit(message.lend())),
         "take" => Call::Take(link),
         _ => Call::Wants(link),
@@ -92,20 +93,6 @@ fn answers(alloc: Global) -> Result<bool, Fail> {
 #[test]
 fn calls_in_a_row(rt: HostRuntime) -> Result<(), Fail> {
     assert!(&rt; answers(rt.alloc())?);
-    Ok(())
-}
-
-/// Whether a link that is up ignores a frame of no octets.
-fn is_nothing_ignored(alloc: Global) -> Result<bool, Fail> {
-    let mut node = Node::new(alloc, "")?;
-    let link = LinkId::new(0);
-    node.step(&Event::AssociationUp(link));
-    Ok(node.step(&Event::Frame(link, b"")) == Outcome::Ignored)
-}
-
-#[test]
-fn a_frame_of_no_octets(rt: HostRuntime) -> Result<(), Fail> {
-    assert!(&rt; is_nothing_ignored(rt.alloc())?);
     Ok(())
 }
 

@@ -1,10 +1,10 @@
 //! Two nodes that face each other, and what passes between them.
 
-use pair_world::{End, PairFault, Step};
+use pair_world::{End, Step};
 use settings::{Cause, LinkId, Msu, Outcome};
 use std::alloc::Global;
 use std::test::*;
-use test_nodes::{LinkedNodes, settings_of, settings_to};
+use test_nodes::{LinkedNodes, settings_to};
 
 /// The message, for the near node's peer, on the flow of selection 1.
 const MESSAGE: [u8; 5] = [0x02, 0x40, 0x00, 0x10, 0xaa];
@@ -40,14 +40,6 @@ fn links_that_are_not_there(rt: HostRuntime) -> Result<(), Fail> {
     for number in [1, 64, 255] {
         assert!(&rt; is_absent(rt.alloc(), LinkId::new(number))?, "{number}");
     }
-    Ok(())
-}
-
-/// Nodes face each other whatever they call their links; only a lab wants the same names. No node faces itself.
-#[test]
-fn which_pairs_there_are(rt: HostRuntime) -> Result<(), Fail> {
-    assert!(&rt; are_paired(rt.alloc())?, "other names");
-    assert!(&rt; is_alone(rt.alloc())?, "the same point");
     Ok(())
 }
 
@@ -191,30 +183,5 @@ fn shown(outcome: &Outcome) -> &'static str {
         Outcome::Local => "local",
         Outcome::Refused(Cause::NoSuchName) => "refused",
         _ => "otherwise",
-    }
-}
-
-/// How a node differs from the built-in settings: it is point 2, and its link f7 leads to point 1.
-const OTHER_NAMES: &str = r#"own = 2
-set = [{ name = "west", adjacent = 1 }]
-link = [{ name = "f7", set = "west", slc = 0 }]
-destination = [{ point = 1, sets = ["west"] }]
-"#;
-
-/// Whether two nodes that name their links otherwise are a pair.
-fn are_paired(alloc: Global) -> Result<bool, Fail> {
-    let near = settings_to(alloc, 1, 2, 1)?;
-    let far = settings_of(alloc, OTHER_NAMES)?;
-    let are_named_alike = near.named_alike(&far);
-    Ok(!are_named_alike && LinkedNodes::new(alloc, near, far).is_ok())
-}
-
-/// Whether a node and itself are no pair.
-fn is_alone(alloc: Global) -> Result<bool, Fail> {
-    let near = settings_to(alloc, 1, 2, 1)?;
-    let same = settings_to(alloc, 1, 2, 1)?;
-    match LinkedNodes::new(alloc, near, same) {
-        Err(PairFault::NotFacing) => Ok(true),
-        _ => Ok(false),
     }
 }

@@ -57,20 +57,8 @@ const UNREAD: End = (Status::Stream, "standard input: a read failed\n");
 
 const UNWRITTEN: End = (Status::Stream, "standard output: a write failed\n");
 
-/// How many octets a read gives at most, and how many reads and writes are made before one fails.
-#[derive(Clone, Copy)]
-struct Plan {
-    most: usize,
-    reads: usize,
-    writes: usize,
-}
-
-/// None fails.
-const SMOOTH: Plan = Plan {
-    most: usize::MAX,
-    reads: usize::MAX,
-    writes: usize::MAX,
-};
+/// More reads and writes than a run makes, and more octets than a read gives.
+const NO_LIMIT: usize = usize::MAX;
 
 /// How many lines end in a text.
 fn lines_in(text: &str) -> usize {
@@ -78,24 +66,32 @@ fn lines_in(text: &str) -> usize {
 }
 
 /// How a run is to end. A read of one octet each fails before the script's end is found, or a write of one line each.
-fn end_of(case: Case, plan: Plan) -> End {
-    if plan.writes < lines_in(case.script) {
+fn end_of(case: Case, reads: usize, writes: usize) -> End {
+    if writes < lines_in(case.script) {
         UNWRITTEN
-    } else if plan.reads <= case.script.len() {
+    } else if reads <= case.script.len() {
         UNREAD
     } else {
         GOOD
     }
 }
 
-/// Runs the program on streams of such a plan. Whether it ends so, and prints the lines that were read whole.
-fn goes(rt: &HostRuntime, case: Case, plan: Plan) -> Result<bool, Fail> {
-    let source = MemorySource::new(case.script.as_bytes()).in_pieces_of(plan.most);
-    let mut reader = source.failing_after(plan.reads as u64);
-    let mut writer = MemorySink::new(rt.alloc()).failing_after(plan.writes as u64);
-    let ends = ends(rt, case.words, &mut reader, &mut writer, end_of(case, plan))?;
-    let read = case.script.get(..plan.reads).unwrap_or(case.script);
-    let printed = first_lines(case.printed, lines_in(read).min(plan.writes));
+/// Runs the program on streams that give at most so many octets a read, and fail after so many reads and writes. Whether
+/// it ends so, and prints the lines that were read whole.
+fn goes(
+    rt: &HostRuntime,
+    case: Case,
+    most: usize,
+    reads: usize,
+    writes: usize,
+) -> Result<bool, Fail> {
+    let source = MemorySource::new(case.script.as_bytes()).in_pieces_of(most);
+    let mut reader = source.failing_after(reads as u64);
+    let mut writer = MemorySink::new(rt.alloc()).failing_after(writes as u64);
+    let end = end_of(case, reads, writes);
+    let ends = ends(rt, case.words, &mut reader, &mut writer, end)?;
+    let read = case.script.get(..reads).unwrap_or(case.script);
+    let printed = first_lines(case.printed, lines_in(read).min(writes));
     Ok(ends && writer.written() == printed.as_bytes())
 }
 
@@ -116,8 +112,10 @@ fn ends<R: Source, W: Sink>(
 #[test]
 fn pieces_of_any_size(rt: HostRuntime) -> Result<(), Fail> {
     for most in 0..OF_A_NODE.script.len() {
-        let plan = Plan { most, ..SMOOTH };
-        assert!(&rt; goes(&rt, OF_A_NODE, plan)?, "pieces of {most}");
+        assert!(&rt;
+            goes(&rt, OF_A_NODE, most, NO_LIMIT, NO_LIMIT)?,
+            "pieces of {most}"
+        );
     }
     Ok(())
 }
@@ -127,9 +125,11 @@ fn pieces_of_any_size(rt: HostRuntime) -> Result<(), Fail> {
 fn each_read_failing_in_turn(rt: HostRuntime) -> Result<(), Fail> {
     for case in [OF_A_NODE, OF_A_LAB] {
         for reads in 0..case.script.len() + 2 {
-            let plan = Plan { most: 1, ..SMOOTH };
-            let plan = Plan { reads, ..plan };
-            assert!(&rt; goes(&rt, case, plan)?, "read {reads} of {}", case.words);
+            assert!(&rt;
+                goes(&rt, case, 1, reads, NO_LIMIT)?,
+                "read {reads} of {}",
+                case.words
+            );
         }
     }
     Ok(())
@@ -145,8 +145,10 @@ fn each_write_failing_in_turn(rt: HostRuntime) -> Result<(), Fail> {
     };
     for case in [OF_A_NODE, OF_A_LAB, faulty] {
         for writes in 0..lines_in(case.script) {
-            let plan = Plan { writes, ..SMOOTH };
-            assert!(&rt; goes(&rt, case, plan)?, "write {writes} of {}", case.script);
+            assert!(&rt;
+                goes(&rt, case, NO_LIMIT, NO_LIMIT, writes)?,
+                "write {writes}"
+            );
         }
     }
     Ok(())
