@@ -1,5 +1,5 @@
 -- The run of the example is one: each pair of it comes from the one before by a move.
-use Rattle.std.proofs.Common.{inl, true, false, [], refl, sym, arith, None}
+use Rattle.std.proofs.Common.{true, false, [], refl, sym, arith, None}
 use Rattle.pair_moves.specs.Ends.{MessageFrame, turned}
 use Rattle.pair_moves.specs.Passing.{with_message}
 use Rattle.pair_moves.specs.Carrying.{with_sent, with_frames_left, with_accepted}
@@ -52,7 +52,7 @@ drops = moves.far (moves.drops (record {
   frame = MessageFrame 0 16777215 the_message;
   rest = [];
   first = refl;
-  silent = inl refl;
+  down = refl;
   lines = lines_with (turned run.failed_far) 0 (with_frames_left (((turned run.failed_far)).line 0) []);
   set = set (turned run.failed_far) 0 (with_frames_left (((turned run.failed_far)).line 0) []) (omega arith);
   after = refl;

@@ -1,9 +1,9 @@
 -- The run of the example begins: the link opens, and fails under its message.
-use Rattle.std.proofs.Common.{◌≡◌, ◌≢◌, inr, ℕ, Bool, true, false, ◌<◌, List, [], ◌∷◌, ◌++◌, refl, ap, arith, Some, None, if◌then◌else◌}
+use Rattle.std.proofs.Common.{◌≡◌, ◌≢◌, ℕ, Bool, true, false, ◌<◌, List, [], ◌∷◌, ◌++◌, refl, ap, arith, Some, None, if◌then◌else◌}
 use Rattle.std.proofs.lemmas.Bool.{ne_eqb}
-use Rattle.pair_moves.specs.Ends.{StatusFrame, Line, Procedure, Changeover, Code, Time, Pair, turned, first_pair}
+use Rattle.pair_moves.specs.Ends.{Line, Procedure, Changeover, Code, Time, Pair, turned, first_pair}
 use Rattle.pair_moves.specs.Passing.{BecomeAt, with_message}
-use Rattle.pair_moves.specs.Carrying.{with_frame, with_sent, with_heard, with_frames_left}
+use Rattle.pair_moves.specs.Carrying.{with_status, with_statuses_left, with_sent, with_heard}
 use Rattle.pair_moves.specs.Failing.{with_failure}
 use Rattle.pair_moves.specs.Returning.{MayOpen, opened_first, opened_second, with_service}
 use Rattle.pair_moves.specs.Moves as moves
@@ -60,32 +60,29 @@ module _ (p : Pair) (link : ℕ) (inside : link < p.links) where
   says up = moves.sends_status (record {
     link = link;
     up = up;
-    lines = lines_with p link (with_frame (p.line link) StatusFrame);
-    set = set p link (with_frame (p.line link) StatusFrame) inside;
+    lines = lines_with p link (with_status (p.line link));
+    set = set p link (with_status (p.line link)) inside;
     after = refl;
   })
 
-  hears : (p.line link).near.up ≡ true → (p.line link).to_near ≡ StatusFrame ∷ [] → NearMove read_plainly p (run.hears p link)
-  hears up first = moves.hears_frame (record {
+  hears : (p.line link).near.up ≡ true → (p.line link).told_near ≡ 1 → NearMove read_plainly p (run.hears p link)
+  hears up some = moves.hears_status (record {
     link = link;
     up = up;
-    frame = StatusFrame;
-    rest = [];
-    first = first;
+    rest = 0;
+    some = some;
     lines = lines_with p link (with_heard (p.line link));
     set = set p link (with_heard (p.line link)) inside;
     after = refl;
   })
 
-  drops : (p.line link).to_near ≡ StatusFrame ∷ [] → NearMove read_plainly p (run.drops p link)
-  drops first = moves.drops (record {
+  takes : (p.line link).told_near ≡ 1 → NearMove read_plainly p (run.takes p link)
+  takes some = moves.takes_status (record {
     link = link;
-    frame = StatusFrame;
-    rest = [];
-    first = first;
-    silent = inr refl;
-    lines = lines_with p link (with_frames_left (p.line link) []);
-    set = set p link (with_frames_left (p.line link) []) inside;
+    rest = 0;
+    some = some;
+    lines = lines_with p link (with_statuses_left (p.line link) 0);
+    set = set p link (with_statuses_left (p.line link) 0) inside;
     after = refl;
   })
 
@@ -97,11 +94,11 @@ pub record Joins (p : Pair) (link : ℕ) : Type 0 where
   pub up : ((run.followed p link).line link).near.up ≡ true
   pub far_up : ((turned (run.said p link)).line link).near.up ≡ true
   pub still_up : ((run.said_back p link).line link).near.up ≡ true
-  pub told : ((run.said_back p link).line link).to_near ≡ StatusFrame ∷ []
-  pub told_still : ((run.heard p link).line link).to_near ≡ StatusFrame ∷ []
-  pub far_still_up : ((turned (run.dropped p link)).line link).near.up ≡ true
-  pub far_told : ((turned (run.dropped p link)).line link).to_near ≡ StatusFrame ∷ []
-  pub far_told_still : ((turned (run.heard_there p link)).line link).to_near ≡ StatusFrame ∷ []
+  pub told : ((run.said_back p link).line link).told_near ≡ 1
+  pub told_still : ((run.heard p link).line link).told_near ≡ 1
+  pub far_still_up : ((turned (run.taken p link)).line link).near.up ≡ true
+  pub far_told : ((turned (run.taken p link)).line link).told_near ≡ 1
+  pub far_told_still : ((turned (run.heard_there p link)).line link).told_near ≡ 1
 
 pub joining : (p : Pair) (link : ℕ) (others : List Pair) → Joins p link → Moves read_plainly (run.joined p link) others →
     Moves read_plainly p (run.joining p link ++ others)
@@ -114,11 +111,11 @@ joining p link others j rest = (
       (
         moves.near (hears (run.said_back p link) link j.inside j.still_up j.told),
         (
-          moves.near (drops (run.heard p link) link j.inside j.told_still),
+          moves.near (takes (run.heard p link) link j.inside j.told_still),
           (
-            moves.far (hears (turned (run.dropped p link)) link j.inside j.far_still_up j.far_told),
+            moves.far (hears (turned (run.taken p link)) link j.inside j.far_still_up j.far_told),
             (
-              moves.far (drops (turned (run.heard_there p link)) link j.inside j.far_told_still),
+              moves.far (takes (turned (run.heard_there p link)) link j.inside j.far_told_still),
               rest,
             ),
           ),

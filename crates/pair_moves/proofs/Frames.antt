@@ -7,7 +7,7 @@ use Rattle.signalling_types.specs.Numbers.{previous_number}
 use Rattle.link.specs.declared.fault.SeqFault.{SeqFault}
 use Rattle.link.specs.Queue.{Queue, IsQueue, first_queue, forward_number, named_count, confirmation, expected, accept_answer, appended, last_sent}
 use Rattle.link.proofs.Naming.{finds_named}
-use Rattle.pair_moves.specs.Ends.{Frame, StatusFrame, EmptyFrame, MessageFrame}
+use Rattle.pair_moves.specs.Ends.{Frame, EmptyFrame, MessageFrame}
 use Rattle.pair_moves.specs.Flowing.{Carry, Name}
 
 -- ---- what they carry
@@ -19,56 +19,38 @@ within (y ∷ ms) (suc n) m x e = grind (arith, common_steps, within ms n m x)
 
 pub carry-appended : (q : Queue) (m : Message) (from : ℕ) (frames : List Frame) → Carry q from frames → Carry (appended q m) from frames
 carry-appended q m from [] h = h
-carry-appended q m from (StatusFrame ∷ frames) h = carry-appended q m from frames h
 carry-appended q m from (EmptyFrame fsn bsn ∷ frames) h = (h.0, carry-appended q m from frames h.1)
 carry-appended q m from (MessageFrame fsn bsn x ∷ frames) h = (h.0, within q.all from m x h.1, carry-appended q m (from + 1) frames h.2)
-
-pub carry-status : (q : Queue) (from : ℕ) (frames : List Frame) → Carry q from frames → Carry q from (frames ++ StatusFrame ∷ [])
-carry-status q from [] h = h
-carry-status q from (StatusFrame ∷ frames) h = carry-status q from frames h
-carry-status q from (EmptyFrame fsn bsn ∷ frames) h = (h.0, carry-status q from frames h.1)
-carry-status q from (MessageFrame fsn bsn x ∷ frames) h = (h.0, h.1, carry-status q (from + 1) frames h.2)
 
 pub carry-empty : (q : Queue) (number from : ℕ) (frames : List Frame) → Carry q from frames →
     Carry q from (frames ++ EmptyFrame (last_sent q) number ∷ [])
 carry-empty q number from [] h = (ap (λ (n : ℕ). previous_number (q.base + n)) (sym h), h)
-carry-empty q number from (StatusFrame ∷ frames) h = carry-empty q number from frames h
 carry-empty q number from (EmptyFrame fsn bsn ∷ frames) h = (h.0, carry-empty q number from frames h.1)
 carry-empty q number from (MessageFrame fsn bsn x ∷ frames) h = (h.0, h.1, carry-empty q number (from + 1) frames h.2)
 
 pub carry-message : (q : Queue) (m : Message) (number from : ℕ) (frames : List Frame) → slice_get q.all q.sent ≡ Some m → Carry q from frames →
     Carry (record q { sent = q.sent + 1 }) from (frames ++ MessageFrame (forward_number q q.sent) number m ∷ [])
 carry-message q m number from [] e h = (ap (forward_number q) (sym h), rw h e, ap (λ (n : ℕ). n + 1) h)
-carry-message q m number from (StatusFrame ∷ frames) e h = carry-message q m number from frames e h
 carry-message q m number from (EmptyFrame fsn bsn ∷ frames) e h = (h.0, carry-message q m number from frames e h.1)
 carry-message q m number from (MessageFrame fsn bsn x ∷ frames) e h = (h.0, h.1, carry-message q m number (from + 1) frames e h.2)
 
 -- ---- what they name
 
-pub name-status : (from to : ℕ) (frames : List Frame) → Name from to frames → Name from to (frames ++ StatusFrame ∷ [])
-name-status from to [] h = h
-name-status from to (StatusFrame ∷ frames) h = name-status from to frames h
-name-status from to (EmptyFrame fsn bsn ∷ frames) h = (h.0, h.1, h.2, h.3, name-status h.0 to frames h.4)
-name-status from to (MessageFrame fsn bsn x ∷ frames) h = (h.0, h.1, h.2, h.3, name-status h.0 to frames h.4)
-
 pub name-empty : (number from to : ℕ) (frames : List Frame) → from ≤ to → Name from to frames →
     Name from to (frames ++ EmptyFrame number (previous_number to) ∷ [])
 name-empty number from to [] l h = (to, l, omega arith, refl, tt)
-name-empty number from to (StatusFrame ∷ frames) l h = name-empty number from to frames l h
 name-empty number from to (EmptyFrame fsn bsn ∷ frames) l h = (h.0, h.1, h.2, h.3, name-empty number h.0 to frames h.2 h.4)
 name-empty number from to (MessageFrame fsn bsn x ∷ frames) l h = (h.0, h.1, h.2, h.3, name-empty number h.0 to frames h.2 h.4)
 
 pub name-message : (number : ℕ) (m : Message) (from to : ℕ) (frames : List Frame) → from ≤ to → Name from to frames →
     Name from to (frames ++ MessageFrame number (previous_number to) m ∷ [])
 name-message number m from to [] l h = (to, l, omega arith, refl, tt)
-name-message number m from to (StatusFrame ∷ frames) l h = name-message number m from to frames l h
 name-message number m from to (EmptyFrame fsn bsn ∷ frames) l h = (h.0, h.1, h.2, h.3, name-message number m h.0 to frames h.2 h.4)
 name-message number m from to (MessageFrame fsn bsn x ∷ frames) l h = (h.0, h.1, h.2, h.3, name-message number m h.0 to frames h.2 h.4)
 
 -- one message more was received
 pub name-more : (from to : ℕ) (frames : List Frame) → Name from to frames → Name from (to + 1) frames
 name-more from to [] h = h
-name-more from to (StatusFrame ∷ frames) h = name-more from to frames h
 name-more from to (EmptyFrame fsn bsn ∷ frames) h = (h.0, h.1, omega (arith, h.2), h.3, name-more h.0 to frames h.4)
 name-more from to (MessageFrame fsn bsn x ∷ frames) h = (h.0, h.1, omega (arith, h.2), h.3, name-more h.0 to frames h.4)
 
@@ -76,7 +58,6 @@ name-more from to (MessageFrame fsn bsn x ∷ frames) h = (h.0, h.1, omega (arit
 
 -- the first frame comes, which carries no message
 pub carry-rest : (frame : Frame) (frames : List Frame) → Carry first_queue 0 (frame ∷ frames) → Carry first_queue 0 frames
-carry-rest StatusFrame frames h = h
 carry-rest (EmptyFrame fsn bsn) frames h = h.1
 carry-rest (MessageFrame fsn bsn x) frames h = (let none : slice_get first_queue.all 0 ≡ Some x = h.1 in grind (arith, common_steps, none))
 
@@ -84,7 +65,6 @@ only-none : (n : ℕ) → n ≤ 0 → n ≡ 0
 only-none n l = omega (arith, l)
 
 pub name-rest : (frame : Frame) (frames : List Frame) → Name 0 0 (frame ∷ frames) → Name 0 0 frames
-name-rest StatusFrame frames h = h
 name-rest (EmptyFrame fsn bsn) frames h = subst (λ (n : ℕ). Name n 0 frames) (only-none h.0 h.2) h.4
 name-rest (MessageFrame fsn bsn x) frames h = subst (λ (n : ℕ). Name n 0 frames) (only-none h.0 h.2) h.4
 
@@ -114,6 +94,5 @@ count-confirmed q fsn n carries count h base above below e =
 -- frames carry no more than was sent
 pub carry-below : (q : Queue) (from : ℕ) (frames : List Frame) → Carry q from frames → from ≤ q.sent
 carry-below q from [] h = omega (arith, h)
-carry-below q from (StatusFrame ∷ frames) h = carry-below q from frames h
 carry-below q from (EmptyFrame fsn bsn ∷ frames) h = carry-below q from frames h.1
 carry-below q from (MessageFrame fsn bsn x ∷ frames) h = omega (arith, carry-below q (from + 1) frames h.2)

@@ -10,7 +10,7 @@ use Rattle.pair_moves.specs.Order.{IsInOrder}
 use Rattle.pair_moves.proofs.Lines.{line-turned}
 use Rattle.pair_moves.proofs.Sound.{Sound}
 use Rattle.pair_moves.proofs.First.{sound-first_pair, order-first_pair}
-use Rattle.pair_moves.proofs.Passed.{sound-accepts, sound-takes_out, sound-keeps, sound-places, sound-hands_over, sound-sends_status, sound-sends_message, sound-sends_empty, sound-hears_frame, sound-drops, sound-takes_empty, sound-takes_message}
+use Rattle.pair_moves.proofs.Passed.{sound-accepts, sound-takes_out, sound-keeps, sound-places, sound-hands_over, sound-sends_status, sound-sends_message, sound-sends_empty, sound-hears_status, sound-takes_status, sound-doubles_status, sound-drops, sound-takes_empty, sound-takes_message}
 use Rattle.pair_moves.proofs.Failed.{sound-falls, sound-falls_with_order, sound-completes_by_order, sound-answers_order, sound-completes_by_answer, sound-ends_wait, sound-ignores_answer}
 use Rattle.pair_moves.proofs.Returned.{sound-opens_first, sound-opens_second, sound-enters, sound-declares, sound-waits, sound-confirms, sound-ends_hold, sound-ignores_confirmation, sound-runs_late}
 use Rattle.pair_moves.proofs.OrderPassed as passed
@@ -92,8 +92,12 @@ module _ (read : Message → Saying) where
       step p q _ m.after refl refl refl refl (sound-sends_message read p q m) (λ f s. passed.order-sends_message read f p q m) (λ f s. passed.back-sends_message read f p q m)
   near-kept p q (moves.sends_empty m) =
       step p q _ m.after refl refl refl refl (sound-sends_empty read p q m) (λ f s. passed.order-sends_empty read f p q m) (λ f s. passed.back-sends_empty read f p q m)
-  near-kept p q (moves.hears_frame m) =
-      step p q _ m.after refl refl refl refl (sound-hears_frame read p q m) (λ f s. passed.order-hears_frame read f p q m) (λ f s. passed.back-hears_frame read f p q m)
+  near-kept p q (moves.hears_status m) =
+      step p q _ m.after refl refl refl refl (sound-hears_status read p q m) (λ f s. passed.order-hears_status read f p q m) (λ f s. passed.back-hears_status read f p q m)
+  near-kept p q (moves.takes_status m) =
+      step p q _ m.after refl refl refl refl (sound-takes_status read p q m) (λ f s. passed.order-takes_status read f p q m) (λ f s. passed.back-takes_status read f p q m)
+  near-kept p q (moves.doubles_status m) =
+      step p q _ m.after refl refl refl refl (sound-doubles_status read p q m) (λ f s. passed.order-doubles_status read f p q m) (λ f s. passed.back-doubles_status read f p q m)
   near-kept p q (moves.drops m) =
       step p q _ m.after refl refl refl refl (sound-drops read p q m) (λ f s. passed.order-drops read f p q m) (λ f s. passed.back-drops read f p q m)
   near-kept p q (moves.takes_empty m) =

@@ -1,17 +1,17 @@
 -- A line whose ends and frames agree with law (i), and what the near end's messages and frames keep
 -- of it.
-use Rattle.std.proofs.Common.{◌≡◌, ℕ, Bool, true, false, not, ◌+◌, ◌-◌, ◌≤◌, ◌<◌, ◌||◌, ◌&&◌, List, [], ◌∷◌, ◌++◌, length, slice_get, nat_lt, refl, sym, ◌∙◌, subst, arith, Option, Some, None, if◌then◌else◌}
+use Rattle.std.proofs.Common.{◌≡◌, ℕ, suc, Bool, true, false, not, ◌+◌, ◌-◌, ◌≤◌, ◌<◌, ◌||◌, ◌&&◌, List, [], ◌∷◌, ◌++◌, length, slice_get, nat_lt, refl, sym, ◌∙◌, subst, arith, Option, Some, None, if◌then◌else◌}
 use Rattle.std.proofs.lemmas.Bool.Decides.{nat_tests}
 use Rattle.std.proofs.lemmas.Option.{slice_get_within}
 use Rattle.signalling_types.specs.Message.{Message}
 use Rattle.signalling_types.specs.declared.limits.TheConstants.Limits.{WINDOW}
 use Rattle.link.specs.Queue.{Queue, IsQueue, Sending, first_queue, forward_number, numbered, to_send, after_sending, last_sent, last_accepted}
 use Rattle.link.proofs.Sound.{sound-appended}
-use Rattle.pair_moves.specs.Ends.{Frame, StatusFrame, EmptyFrame, MessageFrame, Line, turned_line}
+use Rattle.pair_moves.specs.Ends.{Frame, EmptyFrame, MessageFrame, Line, turned_line}
 use Rattle.pair_moves.specs.Passing.{with_message}
-use Rattle.pair_moves.specs.Carrying.{with_frame, with_sent, with_heard}
+use Rattle.pair_moves.specs.Carrying.{with_status, with_statuses_left, with_frame, with_sent, with_heard}
 use Rattle.pair_moves.specs.Flowing.{Carry, Name, Flows, IsFlowing, OpenedAlone, OpensAlone, IsEnd}
-use Rattle.pair_moves.proofs.Frames.{carry-appended, carry-status, carry-empty, carry-message, name-status, name-empty, name-message}
+use Rattle.pair_moves.proofs.Frames.{carry-appended, carry-empty, carry-message, name-empty, name-message}
 
 pub record IsLine (z : Line) : Type 0 where
   pub near : IsEnd z.near
@@ -97,6 +97,9 @@ pub unless-true : (b : Bool) → (b ≡ true → false ≡ true) → b ≡ false
 unless-true true f = sym (f refl)
 unless-true false f = refl
 
+no-status : {A : Type 0} (told rest : ℕ) → told ≡ suc rest → told ≡ 0 → A
+no-status told rest e f = (let no : suc rest ≡ 0 = sym e ∙ f in absurd (omega (arith, no)))
+
 no-frame : {A : Type 0} (frames : List Frame) (frame : Frame) (rest : List Frame) → frames ≡ frame ∷ rest → frames ≡ [] → A
 no-frame frames frame rest e f = (let no : frame ∷ rest ≡ [] = sym e ∙ f in absurd cc)
 
@@ -118,6 +121,9 @@ module _ {A : Type 0} (z : Line) (h : IsLine z) where
   -- nothing comes to an end that opened alone
   pub heard-joined : (frame : Frame) (rest : List Frame) → z.to_near ≡ frame ∷ rest → z.far_may_follow ≡ true → A
   heard-joined frame rest e m = no-frame z.to_near frame rest e (h.first m).silent
+
+  pub told-joined : (rest : ℕ) → z.told_near ≡ suc rest → z.far_may_follow ≡ true → A
+  told-joined rest e m = no-status z.told_near rest e (h.first m).untold
 
 module _ (z : Line) (h : IsLine z) where
   pub serving-flows : z.near.serving ≡ true → Flows z
@@ -151,14 +157,14 @@ line-message z m serving h = record {
   second = λ n. up-first z h (h.near.serving serving) n;
 }
 
-pub line-status : (z : Line) → z.near.up ≡ true → IsLine z → IsLine (with_frame z StatusFrame)
+pub line-status : (z : Line) → z.near.up ≡ true → IsLine z → IsLine (with_status z)
 line-status z up h = record {
   near = h.near;
   far = h.far;
   there = λ e. let f : Flows z = h.there e in
-      record { confirmed = f.confirmed; received = f.received; carried = λ u. carry-status z.near.queue z.far.queue.received z.to_far (f.carried u); named = f.named };
+      record { confirmed = f.confirmed; received = f.received; carried = f.carried; named = f.named };
   back = λ e. let f : Flows (turned_line z) = h.back e in
-      record { confirmed = f.confirmed; received = f.received; carried = f.carried; named = λ u. name-status z.far.queue.confirmed z.near.queue.received z.to_far (f.named u) };
+      record { confirmed = f.confirmed; received = f.received; carried = f.carried; named = f.named };
   first = λ n. let o : OpenedAlone z = h.first n in
       record {
         alone = o.alone;
@@ -169,10 +175,37 @@ line-status z up h = record {
         unheard = o.unheard;
         queue = o.queue;
         silent = o.silent;
-        carried = carry-status first_queue 0 z.to_far o.carried;
-        named = name-status 0 0 z.to_far o.named;
+        untold = o.untold;
+        carried = o.carried;
+        named = o.named;
       };
   second = λ n. up-first z h up n;
+}
+
+-- of the statuses in flight to it, so many are left
+pub line-told : (z : Line) (rest count : ℕ) → z.told_near ≡ suc rest → IsLine z → IsLine (with_statuses_left z count)
+line-told z rest count some h = record {
+  near = h.near;
+  far = h.far;
+  there = λ e. let f : Flows z = h.there e in
+      record { confirmed = f.confirmed; received = f.received; carried = f.carried; named = f.named };
+  back = λ e. let f : Flows (turned_line z) = h.back e in
+      record { confirmed = f.confirmed; received = f.received; carried = f.carried; named = f.named };
+  first = λ n. told-joined z h rest some n;
+  second = λ n. let o : OpenedAlone (turned_line z) = h.second n in
+      record {
+        alone = o.alone;
+        far_may = o.far_may;
+        unserved = o.unserved;
+        complete = o.complete;
+        unawaited = o.unawaited;
+        unheard = o.unheard;
+        queue = o.queue;
+        silent = o.silent;
+        untold = o.untold;
+        carried = o.carried;
+        named = o.named;
+      };
 }
 
 pub line-empty : (z : Line) → z.near.up ≡ true → IsLine z → IsLine (with_frame z (EmptyFrame (last_sent z.near.queue) (last_accepted z.near.queue)))
@@ -198,6 +231,7 @@ line-empty z up h = record {
         unheard = o.unheard;
         queue = o.queue;
         silent = o.silent;
+        untold = o.untold;
         carried =
             subst (λ (q : Queue). Carry first_queue 0 (z.to_far ++ EmptyFrame (last_sent q) (last_accepted q) ∷ [])) (sym o.queue)
             (carry-empty first_queue (last_accepted first_queue) 0 z.to_far o.carried);
@@ -209,15 +243,15 @@ line-empty z up h = record {
 }
 
 -- it hears the far end
-pub line-heard : (z : Line) (frame : Frame) (rest : List Frame) → z.to_near ≡ frame ∷ rest → z.near.up ≡ true → IsLine z → IsLine (with_heard z)
-line-heard z frame rest first up h = record {
+pub line-heard : (z : Line) (rest : ℕ) → z.told_near ≡ suc rest → z.near.up ≡ true → IsLine z → IsLine (with_heard z)
+line-heard z rest some up h = record {
   near = record { queue = h.near.queue; base = h.near.base; serving = h.near.serving; incomplete = h.near.incomplete; awaited = h.near.awaited; idle = h.near.idle };
   far = h.far;
   there = λ e. let f : Flows z = h.there e in
       record { confirmed = f.confirmed; received = f.received; carried = f.carried; named = f.named };
   back = λ e. let f : Flows (turned_line z) = h.back e in
       record { confirmed = f.confirmed; received = f.received; carried = f.carried; named = f.named };
-  first = λ n. heard-joined z h frame rest first n;
+  first = λ n. told-joined z h rest some n;
   second = λ n. up-first z h up n;
 }
 

@@ -54,6 +54,7 @@ line-failure z awaited up ordered h =
             unheard = refl;
             queue = o.queue;
             silent = o.silent;
+            untold = o.untold;
             carried = o.carried;
             named = o.named;
           };
@@ -101,6 +102,7 @@ line-unawaited z h = record {
         unheard = o.unheard;
         queue = o.queue;
         silent = o.silent;
+        untold = o.untold;
         carried = o.carried;
         named = o.named;
       };
@@ -114,6 +116,7 @@ line-unawaited z h = record {
         unheard = o.unheard;
         queue = o.queue;
         silent = o.silent;
+        untold = o.untold;
         carried = o.carried;
         named = o.named;
       };
@@ -144,6 +147,7 @@ line-opened_first z far_may h = record {
     unheard = refl;
     queue = refl;
     silent = refl;
+    untold = refl;
     carried = refl;
     named = tt;
   };

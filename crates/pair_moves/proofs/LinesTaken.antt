@@ -1,18 +1,17 @@
 -- A frame that comes to the near end keeps law (i).
-use Rattle.std.proofs.Common.{◌≡◌, ◌⊎◌, inl, inr, ℕ, Bool, true, false, ◌+◌, List, ◌∷◌, slice_get, ap, sym, ◌∙◌, subst, arith, Some, Ok}
+use Rattle.std.proofs.Common.{◌≡◌, ℕ, Bool, true, false, ◌+◌, List, ◌∷◌, slice_get, ap, sym, ◌∙◌, subst, arith, Some, Ok}
 use Rattle.signalling_types.specs.Message.{Message}
 use Rattle.signalling_types.specs.declared.limits.TheConstants.Limits.{WINDOW}
 use Rattle.link.specs.Queue.{Queue, IsQueue, first_queue, accept_answer, after_answer}
 use Rattle.link.proofs.Sound.{sound-accepted}
-use Rattle.pair_moves.specs.Ends.{Frame, StatusFrame, EmptyFrame, MessageFrame, Line, turned_line}
+use Rattle.pair_moves.specs.Ends.{Frame, EmptyFrame, MessageFrame, Line, turned_line}
 use Rattle.pair_moves.specs.Carrying.{with_frames_left, with_accepted}
 use Rattle.pair_moves.specs.Flowing.{Carry, Name, Flows, OpenedAlone}
 use Rattle.pair_moves.proofs.Frames.{carry-below, name-more, carry-rest, name-rest, count-confirmed}
 use Rattle.pair_moves.proofs.Lines.{IsLine, both, up-first, heard-joined, hearing-there, hearing-back}
 
-pub line-left : (z : Line) (frame : Frame) (rest : List Frame) → z.to_near ≡ frame ∷ rest → (z.near.up ≡ false) ⊎ (frame ≡ StatusFrame) →
-    IsLine z → IsLine (with_frames_left z rest)
-line-left z frame rest first (inl down) h = record {
+pub line-left : (z : Line) (frame : Frame) (rest : List Frame) → z.to_near ≡ frame ∷ rest → z.near.up ≡ false → IsLine z → IsLine (with_frames_left z rest)
+line-left z frame rest first down h = record {
   near = h.near;
   far = h.far;
   there = λ e. let f : Flows z = h.there e in
@@ -30,44 +29,11 @@ line-left z frame rest first (inl down) h = record {
         unheard = o.unheard;
         queue = o.queue;
         silent = o.silent;
+        untold = o.untold;
         carried = carry-rest frame rest (subst (Carry first_queue 0) first o.carried);
         named = name-rest frame rest (subst (Name 0 0) first o.named);
       };
 }
-line-left z frame rest first (inr silent) h =
-    let is : z.to_near ≡ StatusFrame ∷ rest = first ∙ ap (λ x. x ∷ rest) silent in
-    record {
-      near = h.near;
-      far = h.far;
-      there = λ e. let f : Flows z = h.there e in
-          record {
-            confirmed = f.confirmed;
-            received = f.received;
-            carried = f.carried;
-            named = λ u. subst (Name z.near.queue.confirmed z.far.queue.received) is (f.named u);
-          };
-      back = λ e. let f : Flows (turned_line z) = h.back e in
-          record {
-            confirmed = f.confirmed;
-            received = f.received;
-            named = f.named;
-            carried = λ u. subst (Carry z.far.queue z.near.queue.received) is (f.carried u);
-          };
-      first = λ n. heard-joined z h frame rest first n;
-      second = λ n. let o : OpenedAlone (turned_line z) = h.second n in
-          record {
-            alone = o.alone;
-            far_may = o.far_may;
-            unserved = o.unserved;
-            complete = o.complete;
-            unawaited = o.unawaited;
-            unheard = o.unheard;
-            queue = o.queue;
-            silent = o.silent;
-            carried = carry-rest frame rest (subst (Carry first_queue 0) first o.carried);
-            named = name-rest frame rest (subst (Name 0 0) first o.named);
-          };
-    }
 
 queue-accepted : (q : Queue) (fsn bsn : ℕ) (carries : Bool) (count : ℕ) → accept_answer q fsn bsn carries ≡ Ok count → IsQueue WINDOW q →
     IsQueue WINDOW (after_answer q carries (Ok count))

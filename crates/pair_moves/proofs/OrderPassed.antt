@@ -1,12 +1,12 @@
 -- Moves of messages and frames keep the order of each flow.
-use Rattle.std.proofs.Common.{◌≡◌, ℕ, true, false, List, [], ◌∷◌, ◌++◌, refl, ap, sym, ◌∙◌, subst}
+use Rattle.std.proofs.Common.{◌≡◌, ℕ, suc, true, false, List, [], ◌∷◌, ◌++◌, refl, ap, sym, ◌∙◌, subst}
 use Rattle.std.proofs.lemmas.List.{append_assoc}
 use Rattle.signalling_types.specs.Message.{Message}
 use Rattle.signalling_types.specs.declared.point.Flow.{Flow}
 use Rattle.pair_moves.specs.Sayings.{Saying}
-use Rattle.pair_moves.specs.Ends.{StatusFrame, Line, Pair, turned, turned_line, unreceived}
+use Rattle.pair_moves.specs.Ends.{Line, Pair, turned, turned_line, unreceived}
 use Rattle.pair_moves.specs.Passing.{BecomeAt, Accepts, TakesOut, Keeps, HandsOver}
-use Rattle.pair_moves.specs.Carrying.{with_frame, with_sent, with_heard, with_frames_left, with_accepted, SendsStatus, SendsMessage, SendsEmpty, HearsFrame, Drops, TakesEmpty, TakesMessage}
+use Rattle.pair_moves.specs.Carrying.{with_status, with_statuses_left, with_sent, with_heard, with_frames_left, with_accepted, SendsStatus, SendsMessage, SendsEmpty, HearsStatus, TakesStatus, DoublesStatus, Drops, TakesEmpty, TakesMessage}
 use Rattle.pair_moves.specs.Order.{of_flow, IsInOrder}
 use Rattle.pair_moves.proofs.Joins.{flow-append}
 use Rattle.pair_moves.proofs.OrderSame.{moved-over, there-side, there-quiet, there-line-same, back-side, back-line}
@@ -79,11 +79,11 @@ module _ (read : Message → Saying) (flow : Flow) (p q : Pair) where
   back-frames link z lines set same incomplete h = back-line read flow p link z lines set same incomplete p.near refl h
 
   pub order-sends_status : SendsStatus read p q → IsInOrder read flow p → IsInOrder read flow q
-  order-sends_status m h = subst (IsInOrder read flow) (sym m.after) (there-frames m.link (with_frame (p.line m.link) StatusFrame) m.lines m.set refl refl h)
+  order-sends_status m h = subst (IsInOrder read flow) (sym m.after) (there-frames m.link (with_status (p.line m.link)) m.lines m.set refl refl h)
 
   pub back-sends_status : SendsStatus read p q → IsInOrder read flow (turned p) → IsInOrder read flow (turned q)
   back-sends_status m h =
-      subst (λ (x : Pair). IsInOrder read flow (turned x)) (sym m.after) (back-frames m.link (with_frame (p.line m.link) StatusFrame) m.lines m.set refl refl h)
+      subst (λ (x : Pair). IsInOrder read flow (turned x)) (sym m.after) (back-frames m.link (with_status (p.line m.link)) m.lines m.set refl refl h)
 
   pub order-sends_message : SendsMessage read p q → IsInOrder read flow p → IsInOrder read flow q
   order-sends_message m h = subst (IsInOrder read flow) (sym m.after) (there-frames m.link (with_sent (p.line m.link) m.sending) m.lines m.set refl refl h)
@@ -98,12 +98,26 @@ module _ (read : Message → Saying) (flow : Flow) (p q : Pair) where
   pub back-sends_empty : SendsEmpty read p q → IsInOrder read flow (turned p) → IsInOrder read flow (turned q)
   back-sends_empty m h = subst (λ (x : Pair). IsInOrder read flow (turned x)) (sym m.after) (back-frames m.link _ m.lines m.set refl refl h)
 
-  pub order-hears_frame : HearsFrame read p q → IsInOrder read flow p → IsInOrder read flow q
-  order-hears_frame m h = subst (IsInOrder read flow) (sym m.after) (there-frames m.link (with_heard (p.line m.link)) m.lines m.set refl refl h)
+  pub order-hears_status : HearsStatus read p q → IsInOrder read flow p → IsInOrder read flow q
+  order-hears_status m h = subst (IsInOrder read flow) (sym m.after) (there-frames m.link (with_heard (p.line m.link)) m.lines m.set refl refl h)
 
-  pub back-hears_frame : HearsFrame read p q → IsInOrder read flow (turned p) → IsInOrder read flow (turned q)
-  back-hears_frame m h =
+  pub back-hears_status : HearsStatus read p q → IsInOrder read flow (turned p) → IsInOrder read flow (turned q)
+  back-hears_status m h =
       subst (λ (x : Pair). IsInOrder read flow (turned x)) (sym m.after) (back-frames m.link (with_heard (p.line m.link)) m.lines m.set refl refl h)
+
+  pub order-takes_status : TakesStatus read p q → IsInOrder read flow p → IsInOrder read flow q
+  order-takes_status m h = subst (IsInOrder read flow) (sym m.after) (there-frames m.link (with_statuses_left (p.line m.link) m.rest) m.lines m.set refl refl h)
+
+  pub back-takes_status : TakesStatus read p q → IsInOrder read flow (turned p) → IsInOrder read flow (turned q)
+  back-takes_status m h =
+      subst (λ (x : Pair). IsInOrder read flow (turned x)) (sym m.after) (back-frames m.link (with_statuses_left (p.line m.link) m.rest) m.lines m.set refl refl h)
+
+  pub order-doubles_status : DoublesStatus read p q → IsInOrder read flow p → IsInOrder read flow q
+  order-doubles_status m h = subst (IsInOrder read flow) (sym m.after) (there-frames m.link (with_statuses_left (p.line m.link) (suc (suc m.rest))) m.lines m.set refl refl h)
+
+  pub back-doubles_status : DoublesStatus read p q → IsInOrder read flow (turned p) → IsInOrder read flow (turned q)
+  back-doubles_status m h =
+      subst (λ (x : Pair). IsInOrder read flow (turned x)) (sym m.after) (back-frames m.link (with_statuses_left (p.line m.link) (suc (suc m.rest))) m.lines m.set refl refl h)
 
   pub order-drops : Drops read p q → IsInOrder read flow p → IsInOrder read flow q
   order-drops m h = subst (IsInOrder read flow) (sym m.after) (there-frames m.link (with_frames_left (p.line m.link) m.rest) m.lines m.set refl refl h)

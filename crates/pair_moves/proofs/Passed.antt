@@ -5,14 +5,14 @@ use Rattle.std.proofs.lemmas.List.{drop-append-le}
 use Rattle.signalling_types.specs.Message.{Message}
 use Rattle.link.specs.Queue.{last_accepted}
 use Rattle.pair_moves.specs.Sayings.{Saying, UserMessage, is_order, is_answer, is_untrue, is_declaration, is_confirmation}
-use Rattle.pair_moves.specs.Ends.{StatusFrame, Line, Side, Pair, turned_line, unreceived}
+use Rattle.pair_moves.specs.Ends.{Line, Side, Pair, turned_line, unreceived}
 use Rattle.pair_moves.specs.Passing.{BecomeAt, with_message, Accepts, TakesOut, Keeps, Places, HandsOver}
-use Rattle.pair_moves.specs.Carrying.{with_frame, with_sent, with_heard, with_frames_left, with_accepted, SendsStatus, SendsMessage, SendsEmpty, HearsFrame, Drops, TakesEmpty, TakesMessage}
+use Rattle.pair_moves.specs.Carrying.{with_status, with_statuses_left, with_sent, with_heard, with_frames_left, with_accepted, SendsStatus, SendsMessage, SendsEmpty, HearsStatus, TakesStatus, DoublesStatus, Drops, TakesEmpty, TakesMessage}
 use Rattle.pair_moves.specs.Flowing.{Flows}
 use Rattle.pair_moves.specs.Once.{user}
 use Rattle.pair_moves.proofs.Counts.{count-append, count-one, count-first}
 use Rattle.pair_moves.proofs.Words.{only-user, said}
-use Rattle.pair_moves.proofs.Lines.{IsLine, serving-flows, line-message, line-status, line-empty, line-sent, line-heard}
+use Rattle.pair_moves.proofs.Lines.{IsLine, serving-flows, line-message, line-status, line-empty, line-sent, line-heard, line-told}
 use Rattle.pair_moves.proofs.Sound.{Sound, kept-sound, books-side}
 use Rattle.pair_moves.proofs.Quiet.{SameFlags, quiet-side, quiet-line, still-true}
 use Rattle.pair_moves.proofs.LinesTaken.{line-left, line-taken_empty, line-taken_message, taken_message-is}
@@ -120,7 +120,7 @@ module _ (read : Message → Saying) (p q : Pair) where
   pub sound-sends_status : SendsStatus read p q → Sound read p → Sound read q
   sound-sends_status m h =
       subst (Sound read) (sym m.after)
-      (frames-change m.link (with_frame (p.line m.link) StatusFrame) m.lines m.set (line-status (p.line m.link) m.up (h.lines m.link))
+      (frames-change m.link (with_status (p.line m.link)) m.lines m.set (line-status (p.line m.link) m.up (h.lines m.link))
       (record { awaited = omega arith; far_awaited = omega arith; truth = h.there.words m.link; far_truth = h.back.words m.link }) refl refl h)
 
   pub sound-sends_message : SendsMessage read p q → Sound read p → Sound read q
@@ -136,17 +136,29 @@ module _ (read : Message → Saying) (p q : Pair) where
       (frames-change m.link _ m.lines m.set (line-empty (p.line m.link) m.up (h.lines m.link))
       (record { awaited = omega arith; far_awaited = omega arith; truth = h.there.words m.link; far_truth = h.back.words m.link }) refl refl h)
 
-  pub sound-hears_frame : HearsFrame read p q → Sound read p → Sound read q
-  sound-hears_frame m h =
+  pub sound-hears_status : HearsStatus read p q → Sound read p → Sound read q
+  sound-hears_status m h =
       subst (Sound read) (sym m.after)
-      (frames-change m.link (with_heard (p.line m.link)) m.lines m.set (line-heard (p.line m.link) m.frame m.rest m.first m.up (h.lines m.link))
+      (frames-change m.link (with_heard (p.line m.link)) m.lines m.set (line-heard (p.line m.link) m.rest m.some m.up (h.lines m.link))
+      (record { awaited = omega arith; far_awaited = omega arith; truth = h.there.words m.link; far_truth = h.back.words m.link }) refl refl h)
+
+  pub sound-takes_status : TakesStatus read p q → Sound read p → Sound read q
+  sound-takes_status m h =
+      subst (Sound read) (sym m.after)
+      (frames-change m.link (with_statuses_left (p.line m.link) m.rest) m.lines m.set (line-told (p.line m.link) m.rest m.rest m.some (h.lines m.link))
+      (record { awaited = omega arith; far_awaited = omega arith; truth = h.there.words m.link; far_truth = h.back.words m.link }) refl refl h)
+
+  pub sound-doubles_status : DoublesStatus read p q → Sound read p → Sound read q
+  sound-doubles_status m h =
+      subst (Sound read) (sym m.after)
+      (frames-change m.link (with_statuses_left (p.line m.link) (suc (suc m.rest))) m.lines m.set (line-told (p.line m.link) m.rest (suc (suc m.rest)) m.some (h.lines m.link))
       (record { awaited = omega arith; far_awaited = omega arith; truth = h.there.words m.link; far_truth = h.back.words m.link }) refl refl h)
 
   pub sound-drops : Drops read p q → Sound read p → Sound read q
   sound-drops m h =
       subst (Sound read) (sym m.after)
       (frames-change m.link (with_frames_left (p.line m.link) m.rest) m.lines m.set
-      (line-left (p.line m.link) m.frame m.rest m.first m.silent (h.lines m.link))
+      (line-left (p.line m.link) m.frame m.rest m.first m.down (h.lines m.link))
       (record { awaited = omega arith; far_awaited = omega arith; truth = h.there.words m.link; far_truth = h.back.words m.link }) refl refl h)
 
   pub sound-takes_empty : TakesEmpty read p q → Sound read p → Sound read q

@@ -1,14 +1,22 @@
 -- Moves of frames (RFC 4165 §2 and §4).
-use Rattle.std.specs.Prelude.{◌≡◌, ◌⊎◌, ℕ, Bool, true, false, ◌≤◌, List, ◌∷◌, [], ◌++◌, Some, Ok}
+use Rattle.std.specs.Prelude.{◌≡◌, ℕ, suc, Bool, true, false, ◌≤◌, List, ◌∷◌, [], ◌++◌, Some, Ok}
 use Rattle.signalling_types.specs.Message.{Message}
 use Rattle.signalling_types.specs.declared.limits.TheConstants.Limits.{WINDOW}
 use Rattle.link.specs.Queue.{Queue, Sending, to_send, after_sending, last_sent, last_accepted}
 use Rattle.link.specs.Queue.{accept_answer, after_answer}
 use Rattle.pair_moves.specs.Sayings.{Saying}
-use Rattle.pair_moves.specs.Ends.{Frame, StatusFrame, EmptyFrame, MessageFrame, Line, Pair}
+use Rattle.pair_moves.specs.Ends.{Frame, EmptyFrame, MessageFrame, Line, Pair}
 use Rattle.pair_moves.specs.Passing.{BecomeAt}
 
--- a line after the near end sent a frame
+-- a line after the near end sent a link status
+abbrev pub with_status : Line → Line
+with_status z = record z { told_far = suc z.told_far }
+
+-- a line with so many link statuses in flight to the near end
+abbrev pub with_statuses_left : Line → ℕ → Line
+with_statuses_left z count = record z { told_near = count }
+
+-- a line after the near end sent User Data
 abbrev pub with_frame : Line → Frame → Line
 with_frame z frame = record z { to_far = z.to_far ++ frame ∷ [] }
 
@@ -24,7 +32,7 @@ with_sent z sending = record z {
   to_far = z.to_far ++ MessageFrame sending.number (last_accepted z.near.queue) sending.message ∷ [];
 }
 
--- a line after a frame came to the near end and said nothing to it
+-- a line after User Data came to the near end and said nothing to it
 abbrev pub with_frames_left : Line → List Frame → Line
 with_frames_left z rest = record z { to_near = rest }
 
@@ -45,7 +53,7 @@ module _ (read : Message → Saying) (p q : Pair) where
     pub link : ℕ
     pub up : (p.line link).near.up ≡ true
     pub lines : ℕ → Line
-    pub set : BecomeAt p link (with_frame (p.line link) StatusFrame) lines
+    pub set : BecomeAt p link (with_status (p.line link)) lines
     pub after : q ≡ record p { line = lines }
 
   -- the next message of a link in service goes out, within a window
@@ -68,24 +76,41 @@ module _ (read : Message → Saying) (p q : Pair) where
     pub set : BecomeAt p link (with_frame (p.line link) (acknowledgement (p.line link).near.queue)) lines
     pub after : q ≡ record p { line = lines }
 
-  -- an end that is up hears the first frame in flight to it: so its alignment goes on
-  pub record HearsFrame : Type 0 where
+  -- an end that is up hears a link status in flight to it: so its alignment goes on
+  pub record HearsStatus : Type 0 where
     pub link : ℕ
     pub up : (p.line link).near.up ≡ true
-    pub frame : Frame
-    pub rest : List Frame
-    pub first : (p.line link).to_near ≡ frame ∷ rest
+    pub rest : ℕ
+    pub some : (p.line link).told_near ≡ suc rest
     pub lines : ℕ → Line
     pub set : BecomeAt p link (with_heard (p.line link)) lines
     pub after : q ≡ record p { line = lines }
 
-  -- a frame comes that says nothing: a link status, or any to an end that is down
+  -- a link status is in flight no longer: it came, or was lost
+  pub record TakesStatus : Type 0 where
+    pub link : ℕ
+    pub rest : ℕ
+    pub some : (p.line link).told_near ≡ suc rest
+    pub lines : ℕ → Line
+    pub set : BecomeAt p link (with_statuses_left (p.line link) rest) lines
+    pub after : q ≡ record p { line = lines }
+
+  -- a link status in flight becomes two
+  pub record DoublesStatus : Type 0 where
+    pub link : ℕ
+    pub rest : ℕ
+    pub some : (p.line link).told_near ≡ suc rest
+    pub lines : ℕ → Line
+    pub set : BecomeAt p link (with_statuses_left (p.line link) (suc (suc rest))) lines
+    pub after : q ≡ record p { line = lines }
+
+  -- User Data comes to an end that is down
   pub record Drops : Type 0 where
     pub link : ℕ
     pub frame : Frame
     pub rest : List Frame
     pub first : (p.line link).to_near ≡ frame ∷ rest
-    pub silent : ((p.line link).near.up ≡ false) ⊎ (frame ≡ StatusFrame)
+    pub down : (p.line link).near.up ≡ false
     pub lines : ℕ → Line
     pub set : BecomeAt p link (with_frames_left (p.line link) rest) lines
     pub after : q ≡ record p { line = lines }

@@ -5,9 +5,9 @@ use Rattle.std.specs.Prelude.{Option, Some, None, if◌then◌else◌}
 use Rattle.signalling_types.specs.Message.{Message, is_management}
 use Rattle.signalling_types.specs.Numbers.{number_of}
 use Rattle.pair_moves.specs.Sayings.{Saying, UserMessage, Order, Answer, Declaration, Confirmation}
-use Rattle.pair_moves.specs.Ends.{StatusFrame, Line, Procedure, Changeover, Code, Time, Side, Pair, turned, first_pair}
+use Rattle.pair_moves.specs.Ends.{Line, Procedure, Changeover, Code, Time, Side, Pair, turned, first_pair}
 use Rattle.pair_moves.specs.Passing.{with_message}
-use Rattle.pair_moves.specs.Carrying.{with_frame, with_sent, with_heard, with_frames_left, with_accepted}
+use Rattle.pair_moves.specs.Carrying.{with_status, with_statuses_left, with_sent, with_heard, with_frames_left, with_accepted}
 use Rattle.pair_moves.specs.Failing.{with_failure, with_completion}
 use Rattle.pair_moves.specs.Returning.{opened_first, opened_second, with_service}
 use Rattle.pair_moves.specs.Moves.{Moves, last_of}
@@ -81,13 +81,13 @@ abbrev pub follows : Pair → ℕ → Pair
 follows p link = with_line p link (opened_second (p.line link))
 
 abbrev pub says_so : Pair → ℕ → Pair
-says_so p link = with_line p link (with_frame (p.line link) StatusFrame)
+says_so p link = with_line p link (with_status (p.line link))
 
 abbrev pub hears : Pair → ℕ → Pair
 hears p link = with_line p link (with_heard (p.line link))
 
-abbrev pub drops : Pair → ℕ → Pair
-drops p link = with_line p link (with_frames_left (p.line link) [])
+abbrev pub takes : Pair → ℕ → Pair
+takes p link = with_line p link (with_statuses_left (p.line link) 0)
 
 -- the far end follows, and then both are told
 abbrev pub followed : Pair → ℕ → Pair
@@ -102,18 +102,18 @@ said_back p link = turned (says_so (turned (said p link)) link)
 abbrev pub heard : Pair → ℕ → Pair
 heard p link = hears (said_back p link) link
 
-abbrev pub dropped : Pair → ℕ → Pair
-dropped p link = drops (heard p link) link
+abbrev pub taken : Pair → ℕ → Pair
+taken p link = takes (heard p link) link
 
 abbrev pub heard_there : Pair → ℕ → Pair
-heard_there p link = turned (hears (turned (dropped p link)) link)
+heard_there p link = turned (hears (turned (taken p link)) link)
 
 abbrev pub joined : Pair → ℕ → Pair
-joined p link = turned (drops (turned (heard_there p link)) link)
+joined p link = turned (takes (turned (heard_there p link)) link)
 
 abbrev pub joining : Pair → ℕ → List Pair
 joining p link =
-    followed p link ∷ said p link ∷ said_back p link ∷ heard p link ∷ dropped p link ∷ heard_there p link
+    followed p link ∷ said p link ∷ said_back p link ∷ heard p link ∷ taken p link ∷ heard_there p link
     ∷ joined p link ∷ []
 
 -- ---- the run: both links open and enter service at both ends

@@ -4,9 +4,8 @@ use Rattle.signalling_types.specs.Message.{Message}
 use Rattle.signalling_types.specs.declared.point.Flow.{Flow}
 use Rattle.link.specs.Queue.{Queue, first_queue}
 
--- a frame in flight: a link status, User Data without a message, User Data with one (RFC 4165 §2)
+-- User Data in flight: without a message, or with one (RFC 4165 §2)
 pub data Frame : Type 0 where
-  StatusFrame : Frame
   EmptyFrame : (fsn bsn : ℕ) → Frame
   MessageFrame : (fsn bsn : ℕ) (message : Message) → Frame
 
@@ -24,12 +23,15 @@ pub record LinkEnd : Type 0 where
   -- since it opened, it heard the other end
   pub heard : Bool
 
--- a link: its two ends, and the frames in flight to each, the first that went out first
+-- a link: its two ends, and what is in flight to each: User Data, the first that went out first; and so many link
+-- statuses, on a stream of their own
 pub record Line : Type 0 where
   pub near : LinkEnd
   pub far : LinkEnd
   pub to_far : List Frame
   pub to_near : List Frame
+  pub told_far : ℕ
+  pub told_near : ℕ
   -- the other end opened, and this one hasn't followed yet
   pub near_may_follow : Bool
   pub far_may_follow : Bool
@@ -76,6 +78,8 @@ turned_line z = record {
   far = z.near;
   to_far = z.to_near;
   to_near = z.to_far;
+  told_far = z.told_near;
+  told_near = z.told_far;
   near_may_follow = z.far_may_follow;
   far_may_follow = z.near_may_follow;
 }
@@ -107,6 +111,8 @@ closed_line = record {
   far = closed_end;
   to_far = [];
   to_near = [];
+  told_far = 0;
+  told_near = 0;
   near_may_follow = false;
   far_may_follow = false;
 }

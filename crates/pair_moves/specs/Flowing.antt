@@ -5,13 +5,12 @@ use Rattle.signalling_types.specs.Message.{Message}
 use Rattle.signalling_types.specs.declared.limits.TheConstants.Limits.{WINDOW}
 use Rattle.signalling_types.specs.Numbers.{previous_number}
 use Rattle.link.specs.Queue.{Queue, IsQueue, first_queue, forward_number, named_count, last_accepted}
-use Rattle.pair_moves.specs.Ends.{Frame, StatusFrame, EmptyFrame, MessageFrame, LinkEnd, Line, unreceived}
+use Rattle.pair_moves.specs.Ends.{Frame, EmptyFrame, MessageFrame, LinkEnd, Line, unreceived}
 use Rattle.pair_moves.specs.Returning.{MayOpen}
 
 -- frames carry the messages of a queue from one count on, in order, up to the last that was sent
 abbrev pub Carry : Queue → ℕ → List Frame → Type 0
 Carry q from [] = from ≡ q.sent
-Carry q from (StatusFrame ∷ frames) = Carry q from frames
 Carry q from (EmptyFrame fsn bsn ∷ frames) = (fsn ≡ previous_number (q.base + from)) × Carry q from frames
 Carry q from (MessageFrame fsn bsn message ∷ frames) =
     (fsn ≡ forward_number q from) × (slice_get q.all from ≡ Some message) × Carry q (from + 1) frames
@@ -19,7 +18,6 @@ Carry q from (MessageFrame fsn bsn message ∷ frames) =
 -- the backward numbers of frames name counts from one on up to another, never falling
 abbrev pub Name : ℕ → ℕ → List Frame → Type 0
 Name from to [] = Unit {0}
-Name from to (StatusFrame ∷ frames) = Name from to frames
 Name from to (EmptyFrame fsn bsn ∷ frames) =
     (count : ℕ) × (from ≤ count) × (count ≤ to) × (bsn ≡ previous_number count) × Name count to frames
 Name from to (MessageFrame fsn bsn message ∷ frames) =
@@ -45,8 +43,8 @@ IsFlowing z = is_in_use z ≡ true → Flows z
 
 -- in place of it, while the far end may follow: that end may still open. The near end opened first,
 -- and may have failed since; it isn't in service and has nothing to complete, heard nothing, and its
--- queue is as it began. Nothing is in flight to it, and what is in flight to the far end carries no
--- message and confirms none
+-- queue is as it began. Nothing is in flight to it, no link status either, and what is in flight to the far end carries
+-- no message and confirms none
 pub record OpenedAlone (z : Line) : Type 0 where
   pub alone : z.near_may_follow ≡ false
   pub far_may : MayOpen z.far
@@ -56,6 +54,7 @@ pub record OpenedAlone (z : Line) : Type 0 where
   pub unheard : z.near.heard ≡ false
   pub queue : z.near.queue ≡ first_queue
   pub silent : z.to_near ≡ []
+  pub untold : z.told_near ≡ 0
   pub carried : Carry first_queue 0 z.to_far
   pub named : Name 0 0 z.to_far
 

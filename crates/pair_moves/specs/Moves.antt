@@ -5,7 +5,7 @@ use Rattle.signalling_types.specs.declared.point.Flow.{Flow}
 use Rattle.pair_moves.specs.Sayings.{Saying}
 use Rattle.pair_moves.specs.Ends.{Procedure, Pair, turned}
 use Rattle.pair_moves.specs.Passing.{Accepts, TakesOut, Keeps, Places, HandsOver}
-use Rattle.pair_moves.specs.Carrying.{SendsStatus, SendsMessage, SendsEmpty, HearsFrame, Drops}
+use Rattle.pair_moves.specs.Carrying.{SendsStatus, SendsMessage, SendsEmpty, HearsStatus, TakesStatus, DoublesStatus, Drops}
 use Rattle.pair_moves.specs.Carrying.{TakesEmpty, TakesMessage}
 use Rattle.pair_moves.specs.Failing.{Falls, FallsWithOrder, CompletesByOrder, AnswersOrder}
 use Rattle.pair_moves.specs.Failing.{CompletesByAnswer, EndsWait, IgnoresAnswer}
@@ -32,7 +32,9 @@ module _ (read : Message → Saying) where
     sends_status : SendsStatus read p q → NearMove p q
     sends_message : SendsMessage read p q → NearMove p q
     sends_empty : SendsEmpty read p q → NearMove p q
-    hears_frame : HearsFrame read p q → NearMove p q
+    hears_status : HearsStatus read p q → NearMove p q
+    takes_status : TakesStatus read p q → NearMove p q
+    doubles_status : DoublesStatus read p q → NearMove p q
     drops : Drops read p q → NearMove p q
     takes_empty : TakesEmpty read p q → NearMove p q
     takes_message : TakesMessage read p q → NearMove p q

@@ -18,6 +18,8 @@ opened_first z = record {
   far = z.far;
   to_far = [];
   to_near = [];
+  told_far = 0;
+  told_near = 0;
   near_may_follow = false;
   far_may_follow = true;
 }
