@@ -19,16 +19,16 @@ use Rattle.exchange_rules.proofs.Sound.{done-waits}
 use Rattle.pair_moves.specs.Sayings.{Saying}
 use Rattle.pair_moves.specs.Ends.{Pair}
 use Rattle.pair_moves.specs.Ends as ends
-use Rattle.pair_rules.specs.Pairs.{Doing, Submits, Takes, Delivers, Loses, Ticks, Activates, Deactivates, OpensFirst, OpensSecond, PairState, Step, AtNear, AtFar, after_steps, did, may_follow, may_open_at, opens_first, opens_second, turn, turned}
-use Rattle.pair_rules.proofs.World.{World, says_of, shown, turned_world}
-use Rattle.pair_rules.proofs.Good.{Each, IsFlying, IsJoined, Good, Passes, at}
+use Rattle.pair_rules.specs.Pairs.{AddsTitle, DeliversStatus, Doing, DoublesStatus, LosesStatus, RemovesTitle, Streams, Submits, Takes, Delivers, Loses, Ticks, Activates, Deactivates, OpensFirst, OpensSecond, PairState, Step, AtNear, AtFar, after_steps, did, emptied, may_follow, may_open_at, opens_first, opens_second, turn, turned}
+use Rattle.pair_rules.proofs.World.{Flying, World, says_of, shown, turned_world}
+use Rattle.pair_rules.proofs.Good.{AreFlying, Each, IsFlying, IsTelling, IsJoined, Good, Passes, at}
 use Rattle.pair_rules.proofs.Going.{Goes, goes-both}
 use Rattle.pair_rules.proofs.Turned.{goes-turned, shown-turned}
 use Rattle.pair_rules.proofs.Events.{settled-passes}
-use Rattle.pair_rules.proofs.Statuses.{activate-passes, association_down-passes, deactivate-passes, tick-passes}
+use Rattle.pair_rules.proofs.Statuses.{activate-passes, add_title-passes, association_down-passes, deactivate-passes, remove_title-passes, tick-passes}
 use Rattle.pair_rules.proofs.Opening.{MayComeUp, came-up, first-goes, listed, may_open-at, opened-good, opened_near, second-goes, wants-open}
-use Rattle.pair_rules.proofs.Standing.{Stands, Waits, end_with, happens-stands, regood, rests, world_of}
-use Rattle.pair_rules.proofs.Steps.{deliver-stands, submit-stands, take-stands}
+use Rattle.pair_rules.proofs.Standing.{AreStreams, Stands, Waits, end_with, happens-stands, regood, rests, world_of}
+use Rattle.pair_rules.proofs.Steps.{deliver-stands, deliver_status-stands, double_status-stands, lose_status-stands, submit-stands, take-stands}
 use Rattle.pair_rules.proofs.Flights.{changed_at, changed-here, changed-other, texts-changed}
 
 -- two settings that face each other, by all that the pass needs of them
@@ -82,31 +82,43 @@ module _ (c z : Configuration) (a : AreFacing c z) where
   unfolding apply
   opened-node d n link m = ap (λ (x : Done WholeQueues). (settled whole d x).left) (came-up d n link m)
 
-  module _ (n m : Node WholeQueues) (ni fi : List (List (List ℕ))) (nv fv : List Bool) (na nr fa fr : List Message) where
+  module _ (n m : Node WholeQueues) (ni fi : Streams) (nv fv : List Bool) (na nr fa fr : List Message) where
     abbrev p : PairState
     p = record { near = end_with c n ni nv na nr; far = end_with z m fi fv fa fr }
 
     -- nothing is in flight to an end on the link then
-    still : (x y : Configuration) (link : ℕ) (f : ℕ → List FrameValue) → ((other : ℕ) → Each (IsFlying x y) (f other)) → (other : ℕ) → Each (IsFlying x y) (changed_at link [] f other)
-    still x y link f each other =
+    abbrev without : ℕ → Flying → Flying
+    without link f = record { statuses = changed_at link [] f.statuses; user_data = changed_at link [] f.user_data }
+
+    none-left : (P : FrameValue → Type 0) (link : ℕ) (f : ℕ → List FrameValue) → ((other : ℕ) → Each P (f other)) → (other : ℕ) → Each P (changed_at link [] f other)
+    none-left P link f each other =
         ⊎_elim
         (λ (same : other ≡ link).
-        subst (λ (k : ℕ). Each (IsFlying x y) (changed_at link [] f k)) (sym same) (subst (Each (IsFlying x y)) (sym (changed-here link [] f)) tt))
-        (λ (d : other ≢ link). subst (Each (IsFlying x y)) (sym (changed-other link [] f other d)) (each other))
+        subst (λ (k : ℕ). Each P (changed_at link [] f k)) (sym same) (subst (Each P) (sym (changed-here link [] f)) tt))
+        (λ (d : other ≢ link). subst (Each P) (sym (changed-other link [] f other d)) (each other))
         (cases_eq other link)
+
+    still : (x y : Configuration) (link : ℕ) (f : Flying) → AreFlying x y f → AreFlying x y (without link f)
+    still x y link f a = record { statuses = none-left IsTelling link f.statuses a.statuses; user_data = none-left (IsFlying x y) link f.user_data a.user_data }
+
+    empty-texts : (d : Configuration) (t : Streams) (f : Flying) (link : ℕ) → AreStreams d t f → link < length d.links → AreStreams d (emptied link t) (without link f)
+    empty-texts d t f link a l = record {
+      statuses = texts-changed d t.statuses f.statuses link [] [] a.statuses l refl;
+      user_data = texts-changed d t.user_data f.user_data link [] [] a.user_data l refl;
+    }
 
     abbrev near_left : ℕ → Node WholeQueues
     near_left link = (settled whole c (answer Handled (open_link whole c link n))).left
 
     -- it is the first of the two
     abbrev first_left : ℕ → Node WholeQueues → PairState
-    first_left link x = record { near = end_with c x (slice_set ni link []) (slice_set nv link false) na nr; far = end_with z m (slice_set fi link []) (slice_set fv link true) fa fr }
+    first_left link x = record { near = end_with c x (emptied link ni) (slice_set nv link false) na nr; far = end_with z m (emptied link fi) (slice_set fv link true) fa fr }
 
     first-at : (link : ℕ) → MayComeUp n.parts link → may_open_at p.far link ≡ true → Stands c z p → Stands c z (first_left link (near_left link))
     first-at link near far s =
         let w : World = world_of p s.to_near s.to_far in
-        let g : ℕ → List FrameValue = changed_at link [] s.to_near in
-        let f : ℕ → List FrameValue = changed_at link [] s.to_far in
+        let g : Flying = without link s.to_near in
+        let f : Flying = without link s.to_far in
         let v : ℕ → Bool = λ k. slice_index_or (slice_set nv link false) k false in
         let u : ℕ → Bool = λ k. slice_index_or (slice_set fv link true) k false in
         let one : World = opened_near c w link v u g f in
@@ -114,13 +126,17 @@ module _ (c z : Configuration) (a : AreFacing c z) where
         let there : link < length z.links = subst (λ (k : ℕ). link < k) (sym a.near_joined.many) l in
         let first : Goes (says_of c.links) (shown c z w) (shown c z one) =
         first-goes c z w link near v u g f (record {
-          near_here = changed-here link [] s.to_near;
-          far_here = changed-here link [] s.to_far;
+          near_here = changed-here link [] s.to_near.user_data;
+          far_here = changed-here link [] s.to_far.user_data;
+          near_told = changed-here link [] s.to_near.statuses;
+          far_told = changed-here link [] s.to_far.statuses;
           near_follows = get_or-set_same nv link false false (subst (λ (k : ℕ). link < k) (sym s.near_flags) l);
           far_follows = get_or-set_same fv link true false (subst (λ (k : ℕ). link < k) (sym s.far_flags) there);
         }) (record {
-          to_near = changed-other link [] s.to_near;
-          to_far = changed-other link [] s.to_far;
+          to_near = changed-other link [] s.to_near.user_data;
+          to_far = changed-other link [] s.to_far.user_data;
+          told_near = changed-other link [] s.to_near.statuses;
+          told_far = changed-other link [] s.to_far.statuses;
           near_follows = λ other d. get_or-set_other nv link other false false d;
           far_follows = λ other d. get_or-set_other fv link other true false d;
         }) (may_open-at m link far) s.near_good in
@@ -145,8 +161,8 @@ module _ (c z : Configuration) (a : AreFacing c z) where
           far_waits = s.far_waits;
           to_near = g;
           to_far = f;
-          near_texts = texts-changed c ni s.to_near link [] [] s.near_texts l refl;
-          far_texts = texts-changed z fi s.to_far link [] [] s.far_texts there refl;
+          near_texts = empty-texts c ni s.to_near link s.near_texts l;
+          far_texts = empty-texts z fi s.to_far link s.far_texts there;
           near_flags = length-set nv link false ∙ s.near_flags;
           far_flags = length-set fv link true ∙ s.far_flags;
           near_good = x.good near_one;
@@ -178,11 +194,15 @@ module _ (c z : Configuration) (a : AreFacing c z) where
           followed = follows;
           near_here = refl;
           far_here = refl;
+          near_told = refl;
+          far_told = refl;
           near_follows = get_or-set_same nv link false false (subst (λ (k : ℕ). link < k) (sym s.near_flags) l);
           far_follows = refl;
         }) (record {
           to_near = λ other d. refl;
           to_far = λ other d. refl;
+          told_near = λ other d. refl;
+          told_far = λ other d. refl;
           near_follows = λ other d. get_or-set_other nv link other false false d;
           far_follows = λ other d. refl;
         }) s.near_good in
@@ -214,11 +234,17 @@ module _ (c z : Configuration) (a : AreFacing c z) where
 
   -- ---- what is done at the near end
 
-  did-stands : (what : Doing) (n m : Node WholeQueues) (ni fi : List (List (List ℕ))) (nv fv : List Bool) (na nr fa fr : List Message) → Stands c z (record { near = end_with c n ni nv na nr; far = end_with z m fi fv fa fr })
+  did-stands : (what : Doing) (n m : Node WholeQueues) (ni fi : Streams) (nv fv : List Bool) (na nr fa fr : List Message) → Stands c z (record { near = end_with c n ni nv na nr; far = end_with z m fi fv fa fr })
       → Stands c z (did what (record { near = end_with c n ni nv na nr; far = end_with z m fi fv fa fr })).left
   did-stands (Submits message) n m ni fi nv fv na nr fa fr s = submit-stands c z a.near_joined a.apart a.network n m ni fi nv fv na nr fa fr message s
   did-stands (Takes link) n m ni fi nv fv na nr fa fr s = take-stands c z a.near_joined a.apart a.network n m ni fi nv fv na nr fa fr link s
   did-stands (Delivers link) n m ni fi nv fv na nr fa fr s = deliver-stands c z a.near_joined a.apart a.network n m ni fi nv fv na nr fa fr link s
+  did-stands (DeliversStatus link) n m ni fi nv fv na nr fa fr s = deliver_status-stands c z a.near_joined a.apart a.network n m ni fi nv fv na nr fa fr link s
+  did-stands (LosesStatus link) n m ni fi nv fv na nr fa fr s = lose_status-stands c z a.near_joined a.apart a.network n m ni fi nv fv na nr fa fr link s
+  did-stands (DoublesStatus link) n m ni fi nv fv na nr fa fr s = double_status-stands c z a.near_joined a.apart a.network n m ni fi nv fv na nr fa fr link s
+  did-stands (AddsTitle row is_memory_refused) n m ni fi nv fv na nr fa fr s =
+      happens-stands c z a.near_joined _ n m ni fi nv fv na nr fa fr (λ w. add_title-passes c z a.near_joined row is_memory_refused w n) s
+  did-stands (RemovesTitle key digits) n m ni fi nv fv na nr fa fr s = happens-stands c z a.near_joined _ n m ni fi nv fv na nr fa fr (λ w. remove_title-passes c z a.near_joined key digits w n) s
   did-stands (Loses link) n m ni fi nv fv na nr fa fr s = happens-stands c z a.near_joined _ n m ni fi nv fv na nr fa fr (λ w. association_down-passes c z a.near_joined w n link) s
   did-stands Ticks n m ni fi nv fv na nr fa fr s = happens-stands c z a.near_joined _ n m ni fi nv fv na nr fa fr (λ w. tick-passes c z a.near_joined w n) s
   did-stands (Activates link) n m ni fi nv fv na nr fa fr s = happens-stands c z a.near_joined _ n m ni fi nv fv na nr fa fr (λ w. activate-passes c z a.near_joined w n link) s

@@ -1,5 +1,5 @@
 -- The texts in flight carry what the far end hasn't received.
-use Rattle.std.proofs.Common.{Contains, ◌≡◌, ◌≤◌, ◌-◌, ◌+◌, ◌&&◌, ℕ, zero, suc, Bool, true, false, not, List, [], ◌∷◌, map, Option, Some, None, Ok, refl, ap, sym, subst, ◌∙◌, arith}
+use Rattle.std.proofs.Common.{Contains, ◌≡◌, ◌≤◌, ◌-◌, ◌+◌, ◌&&◌, ℕ, zero, suc, Bool, true, false, not, List, [], ◌∷◌, map, Option, Some, None, Ok, length, refl, ap, sym, subst, ◌∙◌, arith}
 use Rattle.std.specs.Prelude.{drop, take, slice_get, if◌then◌else◌}
 use Rattle.std.specs.List.{cons_option}
 use Rattle.signalling_types.specs.Message.{Message}
@@ -15,8 +15,9 @@ use Rattle.pair_moves.specs.Flowing.{Carry}
 use Rattle.pair_moves.proofs.Frames.{carry-below}
 use Rattle.pair_rules.specs.Laws.{messages_in}
 use Rattle.pair_rules.proofs.World.{frame_of}
-use Rattle.pair_rules.proofs.Good.{Each, IsFlying}
-use Rattle.pair_rules.proofs.Flights.{IsFirst, flies-back}
+use Rattle.pair_rules.proofs.Good as good
+use Rattle.pair_rules.proofs.Good.{Each, IsFlying, IsTelling, no-status}
+use Rattle.pair_rules.proofs.Flights.{IsFirst, flies-back, tells-back}
 
 -- ---- one more of a list
 
@@ -32,6 +33,17 @@ taken-one q from m e l =
     ap (λ (k : ℕ). m ∷ take (q.sent - (from + 1)) (drop k q.all)) one
     ∙ taken-next q.all from (q.sent - (from + 1)) m e
     ∙ ap (λ (n : ℕ). take n (drop from q.all)) many
+
+-- ---- a link status carries no message
+
+pub tells-none : (frame : FrameValue) → IsTelling frame → carried_message (Ok frame) ≡ None
+tells-none _ (good.telling bsn fsn status s) = refl
+
+pub statuses-carry : (frames : List FrameValue) → Each IsTelling frames → messages_in (map spelled frames) ≡ []
+statuses-carry [] e = refl
+statuses-carry (frame ∷ frames) e =
+    ap (λ (o : Option Message). cons_option o (messages_in (map spelled frames))) (ap carried_message (tells-back frame e.0) ∙ tells-none frame e.0)
+    ∙ statuses-carry frames e.1
 
 -- ---- what texts carry
 
@@ -49,7 +61,7 @@ module _ (c z : Configuration) where
       let none : 0 ≡ q.sent - from = omega (arith, h) in
       ap (λ (n : ℕ). take n (drop from q.all)) none
   texts-carry q from (EmptyFrame bsn fsn ∷ frames) f h = one-more (EmptyFrame bsn fsn) frames f.0 ∙ texts-carry q from frames f.1 h.1
-  texts-carry q from (StatusFrame bsn fsn status ∷ frames) f h = one-more (StatusFrame bsn fsn status) frames f.0 ∙ texts-carry q from frames f.1 h
+  texts-carry q from (StatusFrame bsn fsn status ∷ frames) f h = no-status c z bsn fsn status f.0
   texts-carry q from (MessageFrame bsn fsn sio sif ∷ frames) f h =
       let m : Message = record { sio = sio; sif = sif } in
       one-more (MessageFrame bsn fsn sio sif) frames f.0
@@ -100,6 +112,10 @@ may-so false incomplete awaited d i a = sym d
 pub none-shown : (fs : List FrameValue) → map frame_of fs ≡ [] → fs ≡ []
 none-shown [] e = refl
 none-shown (f ∷ fs) e = absurd cc
+
+pub none-told : (fs : List FrameValue) → length fs ≡ 0 → fs ≡ []
+none-told [] e = refl
+none-told (f ∷ fs) e = absurd (omega (arith, e))
 
 pub nothing-first : (texts : List (List ℕ)) (text : List ℕ) → slice_get texts 0 ≡ Some text → texts ≡ [] → false ≡ true
 nothing-first [] text e none = absurd cc

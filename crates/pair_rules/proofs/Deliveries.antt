@@ -94,8 +94,8 @@ module _ (c z : Configuration) (j : IsJoined c z) where
     failing-frame n why up =
         none-received c z j (at c z w n [] []) (popped c z j w f) (fail whole c link why n) [] []
         (record {
-          goes = λ g. (passes-both c z _ _ _ (fail-passes c z j w n [] link why up) (dropping-frame c z j w link frame f p (fail whole c link why n) (inl (failed-down link why n g.fits p.inside)))).goes g;
-          good = λ g. (passes-both c z _ _ _ (fail-passes c z j w n [] link why up) (dropping-frame c z j w link frame f p (fail whole c link why n) (inl (failed-down link why n g.fits p.inside)))).good g;
+          goes = λ g. (passes-both c z _ _ _ (fail-passes c z j w n [] link why up) (dropping-frame c z j w link frame f p (fail whole c link why n) (failed-down link why n g.fits p.inside))).goes g;
+          good = λ g. (passes-both c z _ _ _ (fail-passes c z j w n [] link why up) (dropping-frame c z j w link frame f p (fail whole c link why n) (failed-down link why n g.fits p.inside))).good g;
         })
 
   -- ---- User Data without a message
@@ -148,7 +148,7 @@ module _ (c z : Configuration) (j : IsJoined c z) where
     abbrev d : Carrying
     d = message_data bsn fsn sio sif
 
-    between : ((other : ℕ) → Each (IsFlying z c) (w.to_near other)) → IsBetween z c came
+    between : ((other : ℕ) → Each (IsFlying z c) (w.to_near.user_data other)) → IsBetween z c came
     between each = by (subst (Each (IsFlying z c)) p.first (each link)).0
       where
         by : IsFlying z c (MessageFrame bsn fsn sio sif) → IsBetween z c came
@@ -173,7 +173,7 @@ module _ (c z : Configuration) (j : IsJoined c z) where
             set = accepted-set c z j w link (MessageFrame bsn fsn sio sif) f p n d confirmed serves accepts (came ∷ []) g.fits;
             after = refl;
           }));
-      good = λ g. accepted-good c z j w link (MessageFrame bsn fsn sio sif) f p n d confirmed serves accepts (came ∷ []) (λ h. (between h.coming, tt)) g;
+      good = λ g. accepted-good c z j w link (MessageFrame bsn fsn sio sif) f p n d confirmed serves accepts (came ∷ []) (λ h. (between h.coming.user_data, tt)) g;
     }
 
     message-owed : (n : Node WholeQueues) → down n.parts link ≡ false → Passes c z (at c z (popped c z j w f) n (came ∷ []) []) (at c z (popped c z j w f) (with_parts n (owing link (Some came) n.parts)) (came ∷ []) [])
@@ -182,7 +182,7 @@ module _ (c z : Configuration) (j : IsJoined c z) where
         (λ h gone. (let no : true ≡ false = sym gone ∙ up in absurd cc))
         (owing-steps (fit-steps c) link (Some came) n)
 
-    message-handled : (r : Result ℕ SeqFault) (n : Node WholeQueues) → in_service n.parts link ≡ true → numbers whole c link d n ≡ r → ((other : ℕ) → Each (IsFlying z c) (w.to_near other))
+    message-handled : (r : Result ℕ SeqFault) (n : Node WholeQueues) → in_service n.parts link ≡ true → numbers whole c link d n ≡ r → ((other : ℕ) → Each (IsFlying z c) (w.to_near.user_data other))
         → Passes c z (at c z w n [] []) (at c z (receiving c z j (popped c z j w f) (for_users (option_to_list (new_by r d)))) (handle_by whole c r link d n).left [] [])
     message-handled (Ok confirmed) n serves e each =
         passes-both c z _ _ _ (message-taken n confirmed serves e)
@@ -190,7 +190,7 @@ module _ (c z : Configuration) (j : IsJoined c z) where
         (deliver-passes c z j (popped c z j w f) (accept whole c link d confirmed n) link came (between each)))
     message-handled (Err fault) n serves e each = failing-frame w link (MessageFrame bsn fsn sio sif) f p n reasons.Sequence (serving-up (link_at n.parts link).alignment serves)
 
-    pub message-acted : (a : Action) (n : Node WholeQueues) → action_at (link_at n.parts link).alignment UserData ≡ a → down n.parts link ≡ false → ((other : ℕ) → Each (IsFlying z c) (w.to_near other))
+    pub message-acted : (a : Action) (n : Node WholeQueues) → action_at (link_at n.parts link).alignment UserData ≡ a → down n.parts link ≡ false → ((other : ℕ) → Each (IsFlying z c) (w.to_near.user_data other))
         → Passes c z (at c z w n [] []) (at c z (receiving c z j (popped c z j w f) (for_users (option_to_list (new_at a link d c n)))) (act_by_data whole c a link d n).left [] [])
     message-acted act.Ignored n e up each = (let no : false ≡ true = data-acts (link_at n.parts link).alignment up e in absurd cc)
     message-acted act.Fail n e up each = failing-frame w link (MessageFrame bsn fsn sio sif) f p n reasons.Sequence up

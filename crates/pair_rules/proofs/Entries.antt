@@ -186,11 +186,11 @@ pub all-ways : (n : Node WholeQueues) (link : ℕ) (a b d e s t : Bool) → a �
 all-ways n link a b d e s t f g h =
     ap (λ (x : Bool). end_with n link x d s) f ∙ ap (λ (x : Bool). end_with n link b x s) g ∙ ap (λ (x : Bool). end_with n link b e x) h
 
--- a frame is in flight to the near end on a link
+-- a link status is in flight to the near end on a link
 pub record IsComing (w : World) (link : ℕ) : Type 0 where
   pub frame : FrameValue
   pub rest : List FrameValue
-  pub first : w.to_near link ≡ frame ∷ rest
+  pub first : w.to_near.statuses link ≡ frame ∷ rest
 
 -- ---- a flow has the link that it had, or the one that entered
 

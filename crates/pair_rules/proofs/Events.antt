@@ -1,11 +1,11 @@
 -- Whole events at the near node: by moves.
 use Rattle.std.proofs.Common.{◌≡◌, ◌<◌, ◌&&◌, ℕ, Bool, true, false, not, List, [], ◌∷◌, ◌++◌, length, map, replicate, Option, Some, None, Result, Ok, refl, ap, sym, subst, ◌∙◌, nat_lt, arith}
-use Rattle.std.specs.Prelude.{if◌then◌else◌, option_to_list, slice_index_or}
+use Rattle.std.specs.Prelude.{if◌then◌else◌, is_some, option_to_list, slice_index_or}
 use Rattle.std.proofs.lemmas.Bool.Decides.{nat_tests}
-use Rattle.signalling_types.specs.Message.{Message, flow_of, is_management, dpc_of}
+use Rattle.signalling_types.specs.Message.{Message, flow_of, is_management, dpc_of, service_indicator}
 use Rattle.signalling_types.specs.declared.cause.Cause.{Cause}
 use Rattle.signalling_types.specs.declared.cause.Cause.TheVariants as causes
-use Rattle.signalling_types.specs.declared.outcome.Outcome.TheVariants.{Ignored}
+use Rattle.signalling_types.specs.declared.outcome.Outcome.TheVariants.{Ignored, Local}
 use Rattle.settings_rows.specs.Configuration.{Configuration}
 use Rattle.m2pa_codec.specs.Frames.{FrameValue, EmptyFrame, MessageFrame, StatusFrame}
 use Rattle.m2pa_codec.specs.Reading.{read_frame}
@@ -18,7 +18,9 @@ use Rattle.routes.specs.Facts.{Facts}
 use Rattle.route_management.specs.Told.{ToldTable, is_own_point}
 use Rattle.std.proofs.Common.{append-nil}
 use Rattle.pair_moves.specs.Sayings.{is_user_message}
-use Rattle.std.proofs.Common.{inl}
+use Rattle.settings.specs.Readings.{destination_place}
+use Rattle.exchange_rules.specs.Local.{is_user, local}
+use Rattle.exchange_rules.specs.Relaying.{on_unitdata}
 use Rattle.route_management.specs.Told.{told_at}
 use Rattle.route_management.specs.Owed.{Owed, owed, owed_at, owed_by_sets, owed_from, is_owed, is_reachable, is_unlike, status_to_advertise}
 use Rattle.route_management.proofs.Listing.{none_of_point}
@@ -41,12 +43,13 @@ use Rattle.exchange_rules.specs.Exchange.{apply, handle_event, settled}
 use Rattle.exchange_rules.proofs.Fitting.{Fits, fit-steps}
 use Rattle.exchange_rules.proofs.LeavingMessages.{chosen_serves}
 use Rattle.pair_moves.specs.Moves as moves
-use Rattle.pair_rules.specs.Pairs.{accepted_by, for_users}
+use Rattle.pair_rules.specs.Pairs.{accepted_by, for_users, is_sccp}
 use Rattle.pair_rules.proofs.World.{World, says_of}
-use Rattle.pair_rules.proofs.Good.{Each, IsBetween, IsFlying, IsJoined, Good, Passes, passes-none, passes-both, at}
+use Rattle.pair_rules.proofs.Good.{Each, IsBetween, IsFlying, IsTelling, IsJoined, Good, Passes, passes-none, passes-both, at, no-status}
+use Rattle.pair_rules.proofs.Good as good
 use Rattle.pair_rules.proofs.Going.{goes-one}
 use Rattle.pair_rules.proofs.Messages.{free-user, keeping, may-go, placing, release-passes, user-says}
-use Rattle.pair_rules.proofs.Frames.{Pops, popped, receiving, none-received, dropping-frame}
+use Rattle.pair_rules.proofs.Frames.{Pops, Retells, popped, retold, receiving, none-received, dropping-frame, status-taken}
 use Rattle.pair_rules.proofs.Deliveries.{empty-acted, message-acted}
 use Rattle.pair_rules.proofs.Statuses.{status-passes}
 
@@ -136,66 +139,116 @@ module _ (c z : Configuration) (j : IsJoined c z) where
       (placing c z j (accepting w (m ∷ [])) n [] link m [] (chosen_serves c n.parts (flow_of m) link f) ((fit-steps c).routed link m n f)
       (λ g is. may-go c z j n (m ∷ []) [] (accepting w (m ∷ [])) m link between.to (free-user c z j n.parts.holds m user e) wait f))
 
-  transferred : (w : World) (n : Node WholeQueues) (m : Message) → is_management m ≡ false → IsBetween c z m → all_wait c n.parts.holds n.queues.held ≡ true
+  transferred : (w : World) (n : Node WholeQueues) (m : Message) → is_management m ≡ false → (dpc_of m ≡ z.own → IsBetween c z m) → all_wait c n.parts.holds n.queues.held ≡ true
       → Passes c z (at c z w n [] []) (at c z (accepting w (accepted_by (transfer whole c None m n).outcome m)) (transfer whole c None m n).left [] [])
-  transferred w n m user between wait = by (is_destination c (dpc_of m))
+  transferred w n m user between wait = by (is_destination c (dpc_of m)) refl
     where
       into : Done WholeQueues
       into = offer whole c (no_room whole c m n.queues) (waits c n.parts.holds m) (link_of c n.parts (flow_of m)) None m n
 
-      by : (b : Bool) → Passes c z (at c z w n [] [])
+      -- the only destination is the far point
+      only-far : (o : Option ℕ) → destination_place c (dpc_of m) ≡ o → is_some o ≡ true → dpc_of m ≡ z.own
+      only-far (Some place) f e = (j.only (dpc_of m) place f).0
+      only-far None f e = absurd cc
+
+      by : (b : Bool) → is_destination c (dpc_of m) ≡ b → Passes c z (at c z w n [] [])
           (at c z (accepting w (accepted_by (if b then into else refuse causes.UnknownDestination n).outcome m)) (if b then into else refuse causes.UnknownDestination n).left [] [])
-      by true = offered (no_room whole c m n.queues) (waits c n.parts.holds m) (link_of c n.parts (flow_of m)) w n m user between refl refl wait
-      by false = none-accepted w n
+      by true e = offered (no_room whole c m n.queues) (waits c n.parts.holds m) (link_of c n.parts (flow_of m)) w n m user (between (only-far (destination_place c (dpc_of m)) refl e)) refl refl wait
+      by false e = none-accepted w n
 
-  -- what is for the far point goes there
-  pub submitted : (d : Discrimination) (w : World) (n : Node WholeQueues) (m : Message) → is_management m ≡ false → whither_goes c m ≡ d → ((label : Label) → d ≡ whither.Here label → false ≡ true)
-      → ((label : Label) → whither_goes c m ≡ whither.Transfer label → IsBetween c z m) → all_wait c n.parts.holds n.queues.held ≡ true
+  -- it is accepted only if it goes to the far point; a message for a user part here is handed to that
+  pub submitted : (d : Discrimination) (w : World) (n : Node WholeQueues) (m : Message) → is_sccp m ≡ false → whither_goes c m ≡ d
+      → ((label : Label) → d ≡ whither.Transfer label → is_management m ≡ false → dpc_of m ≡ z.own → IsBetween c z m) → all_wait c n.parts.holds n.queues.held ≡ true
       → Passes c z (at c z w n [] []) (at c z (accepting w (accepted_by (submit_to whole c d m n).outcome m)) (submit_to whole c d m n).left [] [])
-  submitted (whither.Refused cause) w n m user e here between wait = none-accepted w n
-  submitted (whither.Here label) w n m user e here between wait = (let no : false ≡ true = here label refl in absurd cc)
-  submitted (whither.Transfer label) w n m user e here between wait =
-      subst (λ (b : Bool). Passes c z (at c z w n [] [])
-      (at c z (accepting w (accepted_by (if b then refuse causes.NotInProfile n else transfer whole c None m n).outcome m)) (if b then refuse causes.NotInProfile n else transfer whole c None m n).left [] []))
-      (sym user) (transferred w n m user (between label e) wait)
+  submitted (whither.Refused cause) w n m plain e between wait = none-accepted w n
+  submitted (whither.Here label) w n m plain e between wait = by (is_management m)
+    where
+      handed : (b : Bool) → Passes c z (at c z w n [] [])
+          (at c z (accepting w (accepted_by (if b then answer Local n else refuse causes.NoUserPart n).outcome m)) (if b then answer Local n else refuse causes.NoUserPart n).left [] [])
+      handed true = none-accepted w n
+      handed false = none-accepted w n
 
-  -- ---- the first frame in flight on a link is handed in
+      by : (b : Bool) → Passes c z (at c z w n [] [])
+          (at c z (accepting w (accepted_by (if b then refuse causes.NotInProfile n else local whole c m n).outcome m)) (if b then refuse causes.NotInProfile n else local whole c m n).left [] [])
+      by true = none-accepted w n
+      by false =
+          subst (λ (s : Bool). Passes c z (at c z w n [] [])
+          (at c z (accepting w (accepted_by (if s then on_unitdata whole c m n else if is_user c (service_indicator m) then answer Local n else refuse causes.NoUserPart n).outcome m))
+          (if s then on_unitdata whole c m n else if is_user c (service_indicator m) then answer Local n else refuse causes.NoUserPart n).left [] []))
+          (sym plain) (handed (is_user c (service_indicator m)))
+  submitted (whither.Transfer label) w n m plain e between wait = by (is_management m) refl
+    where
+      by : (b : Bool) → is_management m ≡ b → Passes c z (at c z w n [] [])
+          (at c z (accepting w (accepted_by (if b then refuse causes.NotInProfile n else transfer whole c None m n).outcome m)) (if b then refuse causes.NotInProfile n else transfer whole c None m n).left [] [])
+      by true f = none-accepted w n
+      by false f = transferred w n m f (between label refl f) wait
 
-  module _ (w : World) (link : ℕ) (f : ℕ → List FrameValue) where
-    -- a frame by what it is
-    frame-passes : (frame : FrameValue) → Pops c z j w link frame f → (n : Node WholeQueues) → down n.parts link ≡ false → ((other : ℕ) → Each (IsFlying z c) (w.to_near other))
-        → Passes c z (at c z w n [] [])
-        (at c z (receiving c z j (popped c z j w f) (for_users (option_to_list (new_in (data_of frame) link c n)))) (receive_frame whole c link frame n).left [] [])
-    frame-passes (EmptyFrame bsn fsn) p n up each = empty-acted c z j w link bsn fsn f p (action_at (link_at n.parts link).alignment UserData) n refl up
-    frame-passes (MessageFrame bsn fsn sio sif) p n up each = message-acted c z j w link bsn fsn sio sif f p (action_at (link_at n.parts link).alignment UserData) n refl up each
-    frame-passes (StatusFrame bsn fsn status) p n up each = status-passes c z j w n link bsn fsn status f p
+  -- ---- a frame is handed in
 
-    module _ (frame : FrameValue) (p : Pops c z j w link frame f) (text : List ℕ) (reads : read_frame text ≡ Ok frame) (n : Node WholeQueues) where
-      -- where its link is there and isn't down it is read
-      abbrev taken : (l b : Bool) → Done WholeQueues
-      taken l b = (if l then (if b then answer Ignored n else read whole c link (read_frame text) n) else refuse causes.NoSuchName n)
+  -- User Data by what it is
+  data-passes : (w : World) (link : ℕ) (f : ℕ → List FrameValue) (frame : FrameValue) → IsFlying z c frame → Pops c z j w link frame f → (n : Node WholeQueues) → down n.parts link ≡ false
+      → ((other : ℕ) → Each (IsFlying z c) (w.to_near.user_data other))
+      → Passes c z (at c z w n [] [])
+      (at c z (receiving c z j (popped c z j w f) (for_users (option_to_list (new_in (data_of frame) link c n)))) (receive_frame whole c link frame n).left [] [])
+  data-passes w link f (EmptyFrame bsn fsn) flies p n up each = empty-acted c z j w link bsn fsn f p (action_at (link_at n.parts link).alignment UserData) n refl up
+  data-passes w link f (MessageFrame bsn fsn sio sif) flies p n up each = message-acted c z j w link bsn fsn sio sif f p (action_at (link_at n.parts link).alignment UserData) n refl up each
+  data-passes w link f (StatusFrame bsn fsn status) flies p n up each = no-status z c bsn fsn status flies
 
-      abbrev newly : (l b : Bool) → List Message
-      newly l b = for_users (option_to_list (if l && not b then new_of (read_frame text) link c n else None))
+  -- a link status
+  status-told : (w : World) (link : ℕ) (rest : List FrameValue) (f : ℕ → List FrameValue) (frame : FrameValue) → IsTelling frame → Retells c z j w link frame rest rest f → (n : Node WholeQueues)
+      → Passes c z (at c z w n [] [])
+      (at c z (receiving c z j (retold c z j w f) (for_users (option_to_list (new_in (data_of frame) link c n)))) (receive_frame whole c link frame n).left [] [])
+  status-told w link rest f _ (good.telling bsn fsn status s) r n = status-passes c z j w n link bsn fsn status rest f r
 
-      by-state : (l b : Bool) → is_link n.parts link ≡ l → down n.parts link ≡ b → l ≡ true → ((other : ℕ) → Each (IsFlying z c) (w.to_near other))
-          → Passes c z (at c z w n [] []) (at c z (receiving c z j (popped c z j w f) (newly l b)) (taken l b).left [] [])
-      by-state true true there e l each = none-received c z j (at c z w n [] []) (popped c z j w f) n [] [] (dropping-frame c z j w link frame f p n (inl e))
-      by-state true false there e l each =
-          subst (λ (r : Result FrameValue FrameFault). Passes c z (at c z w n [] [])
-          (at c z (receiving c z j (popped c z j w f) (for_users (option_to_list (new_of r link c n)))) (read whole c link r n).left [] []))
-          (sym reads) (frame-passes frame p n e each)
-      by-state false b there e l each = absurd cc
+  -- any frame, with what it leaves in flight: where its link is there and isn't down it is read
+  module _ (w v : World) (link : ℕ) (frame : FrameValue) (text : List ℕ) (reads : read_frame text ≡ Ok frame) (inside : link < length c.links) (n : Node WholeQueues)
+      (drops : down n.parts link ≡ true → Passes c z (at c z w n [] []) (at c z v n [] []))
+      (acts : Good c z (at c z w n [] []) → down n.parts link ≡ false
+      → Passes c z (at c z w n [] []) (at c z (receiving c z j v (for_users (option_to_list (new_in (data_of frame) link c n)))) (receive_frame whole c link frame n).left [] [])) where
+    abbrev taken : (l b : Bool) → Done WholeQueues
+    taken l b = (if l then (if b then answer Ignored n else read whole c link (read_frame text) n) else refuse causes.NoSuchName n)
 
-      pub receive-passes : Passes c z (at c z w n [] [])
-          (at c z (receiving c z j (popped c z j w f) (for_users (option_to_list (new_message link text (record { settings = c; node = n }))))) (receive whole c link text n).left [] [])
-      receive-passes = record { goes = λ g. (whole-passes g).goes g; good = λ g. (whole-passes g).good g }
-        where
-          there : Fits c n → is_link n.parts link ≡ true
-          there fits = below link (length n.parts.links) (subst (λ (k : ℕ). link < k) (sym fits.places.parts.links) p.inside)
-            where
-              below : (m k : ℕ) → m < k → nat_lt m k ≡ true
-              below m k h = grind (arith, nat_tests, h)
+    abbrev newly : (l b : Bool) → List Message
+    newly l b = for_users (option_to_list (if l && not b then new_of (read_frame text) link c n else None))
 
-          whole-passes : Good c z (at c z w n [] []) → Passes c z (at c z w n [] []) (at c z (receiving c z j (popped c z j w f) (newly (is_link n.parts link) (down n.parts link))) (taken (is_link n.parts link) (down n.parts link)).left [] [])
-          whole-passes g = by-state (is_link n.parts link) (down n.parts link) refl refl (there g.fits) g.coming
+    by-state : (l b : Bool) → is_link n.parts link ≡ l → down n.parts link ≡ b → l ≡ true → Good c z (at c z w n [] [])
+        → Passes c z (at c z w n [] []) (at c z (receiving c z j v (newly l b)) (taken l b).left [] [])
+    by-state true true there e l g = none-received c z j (at c z w n [] []) v n [] [] (drops e)
+    by-state true false there e l g =
+        subst (λ (r : Result FrameValue FrameFault). Passes c z (at c z w n [] [])
+        (at c z (receiving c z j v (for_users (option_to_list (new_of r link c n)))) (read whole c link r n).left [] []))
+        (sym reads) (acts g e)
+    by-state false b there e l g = absurd cc
+
+    pub receive-passes : Passes c z (at c z w n [] [])
+        (at c z (receiving c z j v (for_users (option_to_list (new_message link text (record { settings = c; node = n }))))) (receive whole c link text n).left [] [])
+    receive-passes = record { goes = λ g. (whole-passes g).goes g; good = λ g. (whole-passes g).good g }
+      where
+        there : Fits c n → is_link n.parts link ≡ true
+        there fits = below link (length n.parts.links) (subst (λ (k : ℕ). link < k) (sym fits.places.parts.links) inside)
+          where
+            below : (m k : ℕ) → m < k → nat_lt m k ≡ true
+            below m k h = grind (arith, nat_tests, h)
+
+        whole-passes : Good c z (at c z w n [] []) → Passes c z (at c z w n [] []) (at c z (receiving c z j v (newly (is_link n.parts link) (down n.parts link))) (taken (is_link n.parts link) (down n.parts link)).left [] [])
+        whole-passes g = by-state (is_link n.parts link) (down n.parts link) refl refl (there g.fits) g
+
+  -- the next User Data, or the next link status, that is in flight on a link
+  pub data-received : (w : World) (link : ℕ) (f : ℕ → List FrameValue) (frame : FrameValue) → Pops c z j w link frame f → (text : List ℕ) → read_frame text ≡ Ok frame → (n : Node WholeQueues)
+      → Passes c z (at c z w n [] [])
+      (at c z (receiving c z j (popped c z j w f) (for_users (option_to_list (new_message link text (record { settings = c; node = n }))))) (receive whole c link text n).left [] [])
+  data-received w link f frame p text reads n =
+      receive-passes w (popped c z j w f) link frame text reads p.inside n (λ gone. dropping-frame c z j w link frame f p n gone)
+      (λ g up.
+      let each : Each (IsFlying z c) (w.to_near.user_data link) = g.coming.user_data link in
+      data-passes w link f frame (subst (Each (IsFlying z c)) p.first each).0 p n up g.coming.user_data)
+
+  pub status-received : (w : World) (link : ℕ) (rest : List FrameValue) (f : ℕ → List FrameValue) (frame : FrameValue) → Retells c z j w link frame rest rest f → (text : List ℕ) → read_frame text ≡ Ok frame
+      → (n : Node WholeQueues)
+      → Passes c z (at c z w n [] [])
+      (at c z (receiving c z j (retold c z j w f) (for_users (option_to_list (new_message link text (record { settings = c; node = n }))))) (receive whole c link text n).left [] [])
+  status-received w link rest f frame r text reads n =
+      receive-passes w (retold c z j w f) link frame text reads r.inside n (λ gone. status-taken c z j w link frame rest f r n)
+      (λ g up.
+      let each : Each IsTelling (w.to_near.statuses link) = g.coming.statuses link in
+      status-told w link rest f frame (subst (Each IsTelling) r.first each).0 r n)

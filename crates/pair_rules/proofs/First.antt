@@ -34,7 +34,7 @@ use Rattle.exchange_rules.proofs.Fitting.{Fits}
 use Rattle.exchange_rules.proofs.FacingNodes.{sets-one, destinations-one, adjacent-sole, destination-found}
 use Rattle.pair_moves.specs.Ends.{LinkEnd, Procedure, closed_end, first_side, first_pair}
 use Rattle.pair_rules.proofs.Alone.{IsAlone, only_routes}
-use Rattle.pair_rules.proofs.World.{Mid, World, is_heard, end_of, side_by, shown, holds_of, route_of, procedure_of}
+use Rattle.pair_rules.proofs.World.{Flying, Mid, World, is_heard, end_of, side_by, shown, holds_of, route_of, procedure_of}
 use Rattle.pair_rules.proofs.Good.{Each, IsBetween, IsSilent, Good}
 
 -- ---- the first world
@@ -42,12 +42,15 @@ use Rattle.pair_rules.proofs.Good.{Each, IsBetween, IsSilent, Good}
 abbrev pub first_mid : Configuration → Mid
 first_mid c = record { node = (first_state c).node; arrived = []; loose = []; accepted = []; received = [] }
 
+abbrev pub nothing_flies : Flying
+nothing_flies = record { statuses = λ link. []; user_data = λ link. [] }
+
 abbrev pub first_world : (near far : Configuration) → World
 first_world near far = record {
   near = first_mid near;
   far = first_mid far;
-  to_near = λ link. [];
-  to_far = λ link. [];
+  to_near = nothing_flies;
+  to_far = nothing_flies;
   near_may = λ link. slice_index_or (replicate (length near.links) false) link false;
   far_may = λ link. slice_index_or (replicate (length far.links) false) link false;
 }
@@ -115,7 +118,7 @@ first-good near far near_well far_well f = record {
   held = tt;
   loose = tt;
   arrived = tt;
-  coming = λ link. tt;
+  coming = record { statuses = λ link. tt; user_data = λ link. tt };
 }
 
 -- ---- what is shown of it
@@ -197,6 +200,8 @@ first-shown near far = λ i. record {
     far = end-first far link i;
     to_far = [];
     to_near = [];
+    told_far = 0;
+    told_near = 0;
     near_may_follow = each-replicate (λ (b : Bool). b ≡ false) (length near.links) link false refl i;
     far_may_follow = each-replicate (λ (b : Bool). b ≡ false) (length far.links) link false refl i;
   };

@@ -10,7 +10,7 @@ use Rattle.m2pa_codec.specs.Frames.{FrameValue, EmptyFrame, MessageFrame, Status
 use Rattle.m2pa_codec.specs.Reading.{read_frame}
 use Rattle.m2pa_codec.proofs.FrameTexts.{read_frame-spelled}
 use Rattle.pair_rules.specs.Pairs.{in_flight}
-use Rattle.pair_rules.proofs.Good.{Each, each-behind, IsBetween, IsFlying, IsJoined, Good, Passes, at}
+use Rattle.pair_rules.proofs.Good.{IsFlying, IsTelling}
 use Rattle.pair_rules.proofs.Good as good
 use Rattle.pair_rules.proofs.Standing.{AreTexts}
 
@@ -53,7 +53,9 @@ map-behind (f ∷ fs) frame = ap (λ (xs : List (List ℕ)). spelled f ∷ xs) (
 pub flies-back : (c z : Configuration) (frame : FrameValue) → IsFlying c z frame → read_frame (spelled frame) ≡ Ok frame
 flies-back c z _ (good.empty bsn fsn s) = read_frame-spelled (EmptyFrame bsn fsn) s
 flies-back c z _ (good.carrying bsn fsn sio sif s b) = read_frame-spelled (MessageFrame bsn fsn sio sif) s
-flies-back c z _ (good.telling bsn fsn status s) = read_frame-spelled (StatusFrame bsn fsn status) s
+
+pub tells-back : (frame : FrameValue) → IsTelling frame → read_frame (spelled frame) ≡ Ok frame
+tells-back _ (good.telling bsn fsn status s) = read_frame-spelled (StatusFrame bsn fsn status) s
 
 -- ---- a frame is in flight on a link that is there
 

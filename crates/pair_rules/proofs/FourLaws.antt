@@ -39,7 +39,7 @@ use Rattle.pair_rules.proofs.Flights.{first-flies, first-frame}
 use Rattle.pair_rules.proofs.Standing.{Stands, world_of}
 use Rattle.pair_rules.proofs.AllSteps.{AreFacing, facing-back, stands-turned}
 use Rattle.pair_rules.proofs.Promised.{all-stand, are-facing, count-join, of-shown, same-links}
-use Rattle.pair_rules.proofs.CarriedTexts.{first-text, may-so, new-up, no-message, none-shown, nothing-first, texts-carry, up-false}
+use Rattle.pair_rules.proofs.CarriedTexts.{first-text, may-so, new-up, no-message, none-shown, none-told, nothing-first, statuses-carry, texts-carry, up-false}
 use Rattle.pair_rules.proofs.SaidWords.{Says, between-says, contained-behind, contained-join, contained-take, each-contained, each-drop, each-join, none-contained}
 
 module _ (c z : Configuration) (a : AreFacing c z) (p : PairState) (s : Stands c z p) (kept : LostNothing p) where
@@ -61,8 +61,8 @@ module _ (c z : Configuration) (a : AreFacing c z) (p : PairState) (s : Stands c
         confirmed = f.confirmed;
         received = f.received;
         carried = λ up.
-            ap messages_of (s.far_texts.each link)
-            ∙ texts-carry c z (queue_of p.near link) (queue_of p.far link).received (s.to_far link) (s.far_good.coming link) (f.carried (ap not up));
+            ap messages_of (s.far_texts.user_data.each link)
+            ∙ texts-carry c z (queue_of p.near link) (queue_of p.far link).received (s.to_far.user_data link) (s.far_good.coming.user_data link) (f.carried (ap not up));
       }
     where
       messages_of : List (List ℕ) → List Message
@@ -77,11 +77,11 @@ module _ (c z : Configuration) (a : AreFacing c z) (p : PairState) (s : Stands c
   alone-back = (of-shown c z a p s kept (λ read q. (link : ℕ) → OpensAlone (q.line link)) first_ends_are_alone-always).back
 
   -- no end may follow where something comes to an end that isn't down
-  heard-used : (link : ℕ) → not (is_down_at p.far link) ≡ true → (in_flight p.far.incoming link ≡ [] → false ≡ true) → is_in_use p link ≡ true
+  heard-used : (link : ℕ) → not (is_down_at p.far link) ≡ true → (in_flight p.far.incoming.user_data link ≡ [] → false ≡ true) → is_in_use p link ≡ true
   heard-used link up coming =
       used-by (may_follow p.near link) (may_follow p.far link) (not (is_down_at p.near link) || is_incomplete_at p.near link || not (is_down_at p.far link))
       (unless-true (may_follow p.near link)
-      (λ follows. coming (s.far_texts.each link ∙ ap (λ (fs : List FrameValue). map spelled fs) (none-shown (s.to_far link) (alone-back link follows).silent))))
+      (λ follows. coming (s.far_texts.user_data.each link ∙ ap (λ (fs : List FrameValue). map spelled fs) (none-shown (s.to_far.user_data link) (alone-back link follows).silent))))
       (unless-true (may_follow p.far link) (λ follows. sym (alone link follows).far_may.down ∙ up))
       (or-third (not (is_down_at p.near link)) (is_incomplete_at p.near link) (not (is_down_at p.far link)) up)
 
@@ -93,21 +93,27 @@ module _ (c z : Configuration) (a : AreFacing c z) (p : PairState) (s : Stands c
         far_may = may-so (is_down_at p.far link) (is_incomplete_at p.far link) (changeover_of p.far.exchange.node.parts link).awaited o.far_may.down o.far_may.complete o.far_may.unawaited;
         unserved = o.unserved;
         queue = o.queue;
-        silent = s.near_texts.each link ∙ ap (λ (fs : List FrameValue). map spelled fs) (none-shown (s.to_near link) o.silent);
-        empty = ap (λ (texts : List (List ℕ)). messages_in texts) (s.far_texts.each link) ∙ texts-carry c z first_queue 0 (s.to_far link) (s.far_good.coming link) o.carried;
+        silent = s.near_texts.user_data.each link ∙ ap (λ (fs : List FrameValue). map spelled fs) (none-shown (s.to_near.user_data link) o.silent);
+        untold = s.near_texts.statuses.each link ∙ ap (λ (fs : List FrameValue). map spelled fs) (none-told (s.to_near.statuses link) o.untold);
+        empty = ap (λ (texts : List (List ℕ)). messages_in texts) (s.far_texts.user_data.each link) ∙ texts-carry c z first_queue 0 (s.to_far.user_data link) (s.far_good.coming.user_data link) o.carried;
       }
 
   next-there : (link : ℕ) → NextIsFirst p link
   next-there link text message e n =
       let up : not (down p.far.exchange.node.parts link) ≡ true = new-up link text p.far.exchange message n in
-      let coming : in_flight p.far.incoming link ≡ [] → false ≡ true = λ none. nothing-first (in_flight p.far.incoming link) text e none in
+      let coming : in_flight p.far.incoming.user_data link ≡ [] → false ≡ true = λ none. nothing-first (in_flight p.far.incoming.user_data link) text e none in
       let f : Flows (line_of w link) = flows link (heard-used link up coming) in
-      first-text c z (queue_of p.near link) (queue_of p.far link).received (s.to_far link) (in_flight p.far.incoming link) text message
-      (first-frame (s.to_far link) (in_flight p.far.incoming link) text (s.far_texts.each link) e) (s.far_good.coming link) (f.carried up)
+      first-text c z (queue_of p.near link) (queue_of p.far link).received (s.to_far.user_data link) (in_flight p.far.incoming.user_data link) text message
+      (first-frame (s.to_far.user_data link) (in_flight p.far.incoming.user_data link) text (s.far_texts.user_data.each link) e) (s.far_good.coming.user_data link) (f.carried up)
       (new-carried link text p.far.exchange message n)
 
   pub carried-there : IsCarried p
-  carried-there = record { frames = frames-there; opening = alone-there; next = next-there }
+  carried-there = record {
+    statuses = λ link. ap (λ (texts : List (List ℕ)). messages_in texts) (s.far_texts.statuses.each link) ∙ statuses-carry (s.to_far.statuses link) (s.far_good.coming.statuses link);
+    frames = frames-there;
+    opening = alone-there;
+    next = next-there;
+  }
 
   -- ---- what is under way
 
@@ -127,9 +133,9 @@ module _ (c z : Configuration) (a : AreFacing c z) (p : PairState) (s : Stands c
       s.near_good.held
 
   -- what a link has is among it
-  among : (link : ℕ) (message : Message) → link < length p.far.incoming → Contains (unreceived_on p link) message → Contains (unreceived p) message
+  among : (link : ℕ) (message : Message) → link < length p.far.incoming.user_data → Contains (unreceived_on p link) message → Contains (unreceived p) message
   among link message l h =
-      let many : length p.far.incoming ≡ length p.near.exchange.settings.links = s.far_texts.many ∙ a.near_joined.many ∙ sym (same-links c z a p s kept) in
+      let many : length p.far.incoming.user_data ≡ length p.near.exchange.settings.links = s.far_texts.user_data.many ∙ a.near_joined.many ∙ sym (same-links c z a p s kept) in
       let here : link < length p.near.exchange.settings.links = subst (λ (k : ℕ). link < k) many l in
       Contains-append_left (join_to (unreceived_on p) (length p.near.exchange.settings.links)) p.near.exchange.node.queues.held message
       (contained-join (unreceived_on p) (length p.near.exchange.settings.links) link message here h)
@@ -149,13 +155,13 @@ module _ (c z : Configuration) (a : AreFacing c z) (p : PairState) (s : Stands c
           contained-take (unreceived_on p f.link) ((queue_of p.near f.link).sent - (queue_of p.far f.link).received) f.message
           (subst (λ (ms : List Message). Contains ms f.message) (carry.carried f.up) f.carried)
 
-      flies : (link : ℕ) (message : Message) → Contains (messages_in (in_flight p.far.incoming link)) message → link < length p.far.incoming
+      flies : (link : ℕ) (message : Message) → Contains (messages_in (in_flight p.far.incoming.user_data link)) message → link < length p.far.incoming.user_data
       flies link message h =
-          ⊎_elim (λ (l : link < length p.far.incoming). l)
-          (λ (l : length p.far.incoming ≤ link).
-          let none : Contains (messages_in []) message = subst (λ (texts : List (List ℕ)). Contains (messages_in texts) message) (get_or_past p.far.incoming link [] l) h in
+          ⊎_elim (λ (l : link < length p.far.incoming.user_data). l)
+          (λ (l : length p.far.incoming.user_data ≤ link).
+          let none : Contains (messages_in []) message = subst (λ (texts : List (List ℕ)). Contains (messages_in texts) message) (get_or_past p.far.incoming.user_data link [] l) h in
           absurd (omega (arith, none.1)))
-          (cases_lt link (length p.far.incoming))
+          (cases_lt link (length p.far.incoming.user_data))
 
   says : (word : Word) (u : IsUnderWay p word) → Says c u.message word
   says word u =
@@ -232,10 +238,10 @@ module _ (c z : Configuration) (a : AreFacing c z) (p : PairState) (s : Stands c
   -- ---- (iv)
 
   -- what the next frame newly carries was under way
-  pub brought-there : (link : ℕ) (text : List ℕ) (message : Message) → slice_get (in_flight p.far.incoming link) 0 ≡ Some text → new_message link text p.far.exchange ≡ Some message
+  pub brought-there : (link : ℕ) (text : List ℕ) (message : Message) → slice_get (in_flight p.far.incoming.user_data link) 0 ≡ Some text → new_message link text p.far.exchange ≡ Some message
       → Contains (unreceived p) message
   brought-there link text message e n =
-      among link message (first-flies p.far.incoming link text e)
+      among link message (first-flies p.far.incoming.user_data link text e)
       (contained-behind (queue_of p.near link).all (queue_of p.far link).received message (next-there link text message e n))
 
   pub named-there : (link : ℕ) → is_in_use p link ≡ true → named_count (queue_of p.near link) (last_accepted (queue_of p.far link)) ≡ Some (queue_of p.far link).received

@@ -1,15 +1,14 @@
 -- A frame comes: by moves.
-use Rattle.std.proofs.Common.{append-nil, inl, inr}
-use Rattle.std.specs.Prelude.{◌⊎◌}
-use Rattle.pair_rules.specs.Pairs.{for_users}
-use Rattle.pair_rules.proofs.Good.{IsFlying}
+use Rattle.std.proofs.Common.{append-nil, suc}
+use Rattle.pair_rules.specs.Pairs.{for_users, is_sccp}
+use Rattle.pair_rules.proofs.Good.{AreFlying, IsFlying, IsTelling}
 use Rattle.link.specs.Queue as queue
 use Rattle.std.proofs.Math.Logic.{⊎_elim}
 use Rattle.std.proofs.lemmas.Bool.{cases_eq}
 use Rattle.exchange_rules.specs.Local.{do_test}
 use Rattle.mtp3_codec.specs.LinkTests.{read_link_test}
-use Rattle.std.proofs.Common.{◌≡◌, ◌≢◌, ◌<◌, ℕ, Bool, true, false, not, List, [], ◌∷◌, ◌++◌, length, Option, Some, Result, Ok, Err, refl, ap, sym, subst, ◌∙◌, nat_eq, arith}
-use Rattle.std.specs.Prelude.{if◌then◌else◌, is_some, map, nat_le}
+use Rattle.std.proofs.Common.{◌≡◌, ◌≢◌, ◌<◌, ℕ, Bool, true, false, not, ◌&&◌, List, [], ◌∷◌, ◌++◌, length, Option, Some, Result, Ok, Err, refl, ap, sym, subst, ◌∙◌, nat_eq, arith}
+use Rattle.std.specs.Prelude.{if◌then◌else◌, is_some, map}
 use Rattle.std.proofs.lemmas.Bool.Decides.{nat_tests}
 use Rattle.signalling_types.specs.Message.{Message, is_management, opc_of, service_indicator}
 use Rattle.signalling_types.specs.declared.outcome.Outcome.TheVariants.{Local}
@@ -38,7 +37,7 @@ use Rattle.pair_moves.specs.Sayings.{UserMessage, Order, Answer}
 use Rattle.pair_moves.specs.Ends.{LinkEnd, Line, Pair, Frame}
 use Rattle.pair_moves.specs.Ends as ends
 use Rattle.pair_moves.specs.Passing.{BecomeAt}
-use Rattle.pair_moves.specs.Carrying.{with_accepted}
+use Rattle.pair_moves.specs.Carrying.{with_accepted, with_statuses_left}
 use Rattle.pair_moves.specs.Moves as moves
 use Rattle.pair_rules.proofs.World.{World, says_of, read_says, management_says, said_by, unsaid, shown, line_of, end_of, frame_of}
 use Rattle.pair_rules.proofs.Good.{Each, IsBetween, IsJoined, IsSaid, IsWord, Good, Passes, passes-none, passes-both, at}
@@ -56,8 +55,8 @@ says-word links m word e f =
     ap (λ (b : Bool). if b then read_says links (read_management m.sif) else UserMessage) e ∙ ap (read_says links) f
 
 -- the tests that distribute a message
-pub user-local : (si : ℕ) → nat_le 4 si ≡ true → nat_eq si 3 ≡ false
-user-local si e = grind (arith, nat_tests, e)
+pub for-users : (m : Message) (a b : Bool) → is_management m ≡ a → is_sccp m ≡ b → for_users (m ∷ []) ≡ (if not a && not b then m ∷ [] else [])
+for-users m a b e f = ap (λ (x : Bool). if not x && not (is_sccp m) then m ∷ [] else []) e ∙ ap (λ (y : Bool). if not a && not y then m ∷ [] else []) f
 
 word-no-test : (si : ℕ) → si ≡ 0 → nat_eq si 1 ≡ false
 word-no-test si e = ap (λ (n : ℕ). nat_eq n 1) e
@@ -90,7 +89,7 @@ module _ (c z : Configuration) (j : IsJoined c z) where
     };
   }
 
-  local-left : (m : Message) (n : Node WholeQueues) → nat_eq (service_indicator m) sccp ≡ false → (local whole c m n).left ≡ n
+  pub local-left : (m : Message) (n : Node WholeQueues) → nat_eq (service_indicator m) sccp ≡ false → (local whole c m n).left ≡ n
   local-left m n e =
       ap (λ (b : Bool). (if b then on_unitdata whole c m n else if is_user c (service_indicator m) then answer Local n else refuse causes.NoUserPart n).left) e
       ∙ by (is_user c (service_indicator m))
@@ -148,14 +147,14 @@ module _ (c z : Configuration) (j : IsJoined c z) where
       → Passes c z (at c z w n (m ∷ []) []) (at c z (receiving w (for_users (m ∷ []))) (distribute whole c link m n).left [] [])
   said-passes w n link m (good.is_user user part) =
       let here : (distribute whole c link m n).left ≡ n =
-      ap (λ (b : Bool). (if b then manage whole c link m n else local whole c m n).left) user ∙ local-left m n (user-local (service_indicator m) part) in
-      let ms : for_users (m ∷ []) ≡ m ∷ [] = ap (λ (b : Bool). if b then m ∷ [] else []) part in
+      ap (λ (b : Bool). (if b then manage whole c link m n else local whole c m n).left) user ∙ local-left m n part in
+      let ms : for_users (m ∷ []) ≡ m ∷ [] = for-users m false false user part in
       subst (λ (o : Node WholeQueues). Passes c z (at c z w n (m ∷ []) []) (at c z (receiving w (for_users (m ∷ []))) o [] [])) (sym here)
       (subst (λ (xs : List Message). Passes c z (at c z w n (m ∷ []) []) (at c z (receiving w xs) n [] [])) (sym ms) (handing w n m [] user))
   said-passes w n link m (good.is_word e si from word f is) =
       let here : (distribute whole c link m n).left ≡ (on_management whole c word z.own n).left =
       ap (λ (d : Done WholeQueues). d.left) (word-left link m n word e si from f) in
-      let ms : for_users (m ∷ []) ≡ [] = ap (λ (k : ℕ). if nat_le 4 k then m ∷ [] else []) si in
+      let ms : for_users (m ∷ []) ≡ [] = for-users m true (is_sccp m) e refl in
       subst (λ (o : Node WholeQueues). Passes c z (at c z w n (m ∷ []) []) (at c z (receiving w (for_users (m ∷ []))) o [] [])) (sym here)
       (subst (λ (xs : List Message). Passes c z (at c z w n (m ∷ []) []) (at c z (receiving w xs) (on_management whole c word z.own n).left [] [])) (sym ms)
       (none-received (at c z w n (m ∷ []) []) w (on_management whole c word z.own n).left [] [] (hearing word is w n m [] (says-word c.links m word e f))))
@@ -169,31 +168,110 @@ module _ (c z : Configuration) (j : IsJoined c z) where
       (said-passes w n link m b.said))
       (note_outcome-passes c z d.outcome link (receiving w (for_users (m ∷ []))) d.left [] [])
 
-  -- ---- the first frame in flight on a link comes
+  -- ---- the next User Data in flight on a link comes
 
   pub record Pops (w : World) (link : ℕ) (frame : FrameValue) (f : ℕ → List FrameValue) : Type 0 where
     pub rest : List FrameValue
-    pub first : w.to_near link ≡ frame ∷ rest
+    pub first : w.to_near.user_data link ≡ frame ∷ rest
     pub here : f link ≡ rest
-    pub others : (other : ℕ) → other ≢ link → f other ≡ w.to_near other
+    pub others : (other : ℕ) → other ≢ link → f other ≡ w.to_near.user_data other
     pub inside : link < length c.links
 
   abbrev pub popped : World → (ℕ → List FrameValue) → World
-  popped w f = record w { to_near = f }
+  popped w f = record w { to_near = record w.to_near { user_data = f } }
+
+  -- ---- the link statuses in flight on a link change
+
+  pub record Retells (w : World) (link : ℕ) (frame : FrameValue) (rest next : List FrameValue) (f : ℕ → List FrameValue) : Type 0 where
+    pub first : w.to_near.statuses link ≡ frame ∷ rest
+    pub here : f link ≡ next
+    pub others : (other : ℕ) → other ≢ link → f other ≡ w.to_near.statuses other
+    pub inside : link < length c.links
+
+  abbrev pub retold : World → (ℕ → List FrameValue) → World
+  retold w f = record w { to_near = record w.to_near { statuses = f } }
+
+  module _ (w : World) (link : ℕ) (frame : FrameValue) (rest next : List FrameValue) (f : ℕ → List FrameValue) (r : Retells w link frame rest next f) where
+    still-telling : Each IsTelling next → AreFlying z c w.to_near → AreFlying z c (record w.to_near { statuses = f })
+    still-telling each coming = record {
+      user_data = coming.user_data;
+      statuses = λ other.
+          ⊎_elim
+          (λ (same : other ≡ link). subst (λ (k : ℕ). Each IsTelling (f k)) (sym same) (subst (Each IsTelling) (sym r.here) each))
+          (λ (d : other ≢ link). subst (Each IsTelling) (sym (r.others other d)) (coming.statuses other))
+          (cases_eq other link);
+    }
+
+    retold-good : (Each IsTelling (frame ∷ rest) → Each IsTelling next) → (n : Node WholeQueues) → Good c z (at c z w n [] []) → Good c z (at c z (retold w f) n [] [])
+    retold-good each n g = record {
+      fits = g.fits;
+      alone = g.alone;
+      unawaited = g.unawaited;
+      silent = g.silent;
+      queued = g.queued;
+      held = g.held;
+      loose = g.loose;
+      arrived = g.arrived;
+      coming = still-telling (each (subst (Each IsTelling) r.first (g.coming.statuses link))) g.coming;
+    }
+
+    retold-set : (n : Node WholeQueues) → BecomeAt (shown c z (at c z w n [] [])) link (with_statuses_left (line_of (at c z w n [] []) link) (length next)) (line_of (at c z (retold w f) n [] []))
+    retold-set n = record {
+      inside = r.inside;
+      here = ap (λ (fs : List FrameValue). record (line_of (at c z w n [] []) link) { told_near = length fs }) r.here;
+      others = λ other d. ap (λ (fs : List FrameValue). record (line_of (at c z w n [] []) other) { told_near = length fs }) (r.others other d);
+    }
+
+  -- one comes, or is lost
+  pub status-taken : (w : World) (link : ℕ) (frame : FrameValue) (rest : List FrameValue) (f : ℕ → List FrameValue) → Retells w link frame rest rest f
+      → (n : Node WholeQueues) → Passes c z (at c z w n [] []) (at c z (retold w f) n [] [])
+  status-taken w link frame rest f r n = record {
+    goes = λ g.
+        goes-one (says_of c.links) _ _
+        (moves.takes_status (record {
+          link = link;
+          rest = length rest;
+          some = ap (λ (fs : List FrameValue). length fs) r.first;
+          lines = line_of (at c z (retold w f) n [] []);
+          set = retold-set w link frame rest rest f r n;
+          after = refl;
+        }));
+    good = retold-good w link frame rest rest f r (λ e. e.1) n;
+  }
+
+  -- one becomes two
+  pub status-doubled : (w : World) (link : ℕ) (frame : FrameValue) (rest : List FrameValue) (f : ℕ → List FrameValue) → Retells w link frame rest (frame ∷ frame ∷ rest) f
+      → (n : Node WholeQueues) → Passes c z (at c z w n [] []) (at c z (retold w f) n [] [])
+  status-doubled w link frame rest f r n = record {
+    goes = λ g.
+        goes-one (says_of c.links) _ _
+        (moves.doubles_status (record {
+          link = link;
+          rest = length rest;
+          some = ap (λ (fs : List FrameValue). length fs) r.first;
+          lines = line_of (at c z (retold w f) n [] []);
+          set = retold-set w link frame rest (frame ∷ frame ∷ rest) f r n;
+          after = refl;
+        }));
+    good = retold-good w link frame rest (frame ∷ frame ∷ rest) f r (λ e. (e.0, e)) n;
+  }
 
   module _ (w : World) (link : ℕ) (frame : FrameValue) (f : ℕ → List FrameValue) (p : Pops w link frame f) where
-    still-coming : ((other : ℕ) → Each (IsFlying z c) (w.to_near other)) → (other : ℕ) → Each (IsFlying z c) (f other)
-    still-coming each other =
-        ⊎_elim
-        (λ (same : other ≡ link).
-        subst (λ (k : ℕ). Each (IsFlying z c) (f k)) (sym same)
-        (subst (Each (IsFlying z c)) (sym p.here) (subst (Each (IsFlying z c)) p.first (each link)).1))
-        (λ (d : other ≢ link). subst (Each (IsFlying z c)) (sym (p.others other d)) (each other))
-        (cases_eq other link)
+    still-coming : AreFlying z c w.to_near → AreFlying z c (record w.to_near { user_data = f })
+    still-coming coming = record {
+      statuses = coming.statuses;
+      user_data = λ other.
+          ⊎_elim
+          (λ (same : other ≡ link).
+          subst (λ (k : ℕ). Each (IsFlying z c) (f k)) (sym same)
+          (subst (Each (IsFlying z c)) (sym p.here) (subst (Each (IsFlying z c)) p.first (coming.user_data link)).1))
+          (λ (d : other ≢ link). subst (Each (IsFlying z c)) (sym (p.others other d)) (coming.user_data other))
+          (cases_eq other link);
+    }
 
-    -- it says nothing to the node
-    pub dropping-frame : (n : Node WholeQueues) → (down n.parts link ≡ true) ⊎ (frame_of frame ≡ ends.StatusFrame) → Passes c z (at c z w n [] []) (at c z (popped w f) n [] [])
-    dropping-frame n silent = record {
+    -- it says nothing to a node where the link is down
+    pub dropping-frame : (n : Node WholeQueues) → down n.parts link ≡ true → Passes c z (at c z w n [] []) (at c z (popped w f) n [] [])
+    dropping-frame n gone = record {
       goes = λ g.
           goes-one (says_of c.links) _ _
           (moves.drops (record {
@@ -201,7 +279,7 @@ module _ (c z : Configuration) (j : IsJoined c z) where
             frame = frame_of frame;
             rest = map frame_of p.rest;
             first = ap (λ (fs : List FrameValue). map frame_of fs) p.first;
-            silent = ⊎_elim (λ (e : down n.parts link ≡ true). inl (ap not e)) (λ (e : frame_of frame ≡ ends.StatusFrame). inr e) silent;
+            down = ap not gone;
             lines = line_of (at c z (popped w f) n [] []);
             set = record {
               inside = p.inside;

@@ -1,6 +1,6 @@
 -- What holds of a node at work, and of what is in flight to it; and that a rule goes by moves and keeps that.
-use Rattle.std.proofs.Common.{zero, suc, subst, ◌≡◌, ◌<◌, ◌^◌, ℕ, true, false, List, [], ◌∷◌, ◌++◌, length, Some, Ok, arith}
-use Rattle.std.specs.Prelude.{slice_get, nat_le}
+use Rattle.std.proofs.Common.{zero, suc, subst, refl, ◌≡◌, ◌<◌, ◌^◌, ℕ, Bool, true, false, List, [], ◌∷◌, ◌++◌, length, Some, Ok, arith}
+use Rattle.std.specs.Prelude.{slice_get}
 use Rattle.signalling_types.specs.Message.{Message, is_management, service_indicator, dpc_of, opc_of}
 use Rattle.settings_rows.specs.Configuration.{Configuration}
 use Rattle.settings.specs.Readings.{destination_place, set_place}
@@ -23,9 +23,10 @@ use Rattle.exchange_rules.specs.Made.{management_to}
 use Rattle.exchange_rules.specs.Local.{link_with_code}
 use Rattle.exchange_rules.specs.Messages.{whither_goes}
 use Rattle.exchange_rules.proofs.Fitting.{Fits}
+use Rattle.pair_rules.specs.Pairs.{is_sccp}
 use Rattle.pair_rules.proofs.Alone.{IsAlone}
 use Rattle.pair_rules.proofs.Going.{Goes, goes-none, goes-both}
-use Rattle.pair_rules.proofs.World.{World, says_of, management_says, link_of_code, shown}
+use Rattle.pair_rules.proofs.World.{Flying, World, says_of, management_says, link_of_code, shown}
 
 -- ---- each of a list
 
@@ -57,7 +58,7 @@ pub data IsWord (c : Configuration) : Management → Type 0 where
   confirms : (slc code : ℕ) → IsWord c (ChangebackAcknowledgement slc code)
 
 pub data IsSaid (c : Configuration) (m : Message) : Type 0 where
-  is_user : is_management m ≡ false → nat_le 4 (service_indicator m) ≡ true → IsSaid c m
+  is_user : is_management m ≡ false → is_sccp m ≡ false → IsSaid c m
   is_word : is_management m ≡ true → service_indicator m ≡ 0 → opc_of m ≡ c.own → (word : Management) → read_management m.sif ≡ Ok word → IsWord c word → IsSaid c m
 
 -- a message that the node with settings c accepted or made, for the one with settings z
@@ -67,11 +68,32 @@ pub record IsBetween (c z : Configuration) (m : Message) : Type 0 where
   pub here : whither_goes z m ≡ whither.Here label
   pub said : IsSaid c m
 
--- a frame in flight from the node with settings c
+-- User Data in flight from the node with settings c
 pub data IsFlying (c z : Configuration) : FrameValue → Type 0 where
   empty : (bsn fsn : ℕ) → IsSayable (EmptyFrame bsn fsn) → IsFlying c z (EmptyFrame bsn fsn)
   carrying : (bsn fsn sio : ℕ) (sif : List ℕ) → IsSayable (MessageFrame bsn fsn sio sif) → IsBetween c z (record { sio = sio; sif = sif }) → IsFlying c z (MessageFrame bsn fsn sio sif)
-  telling : (bsn fsn : ℕ) (status : LinkStatus) → IsSayable (StatusFrame bsn fsn status) → IsFlying c z (StatusFrame bsn fsn status)
+
+-- a link status in flight
+pub data IsTelling : FrameValue → Type 0 where
+  telling : (bsn fsn : ℕ) (status : LinkStatus) → IsSayable (StatusFrame bsn fsn status) → IsTelling (StatusFrame bsn fsn status)
+
+-- User Data isn't a link status
+abbrev is_data : FrameValue → Bool
+is_data (EmptyFrame bsn fsn) = true
+is_data (MessageFrame bsn fsn sio sif) = true
+is_data (StatusFrame bsn fsn status) = false
+
+flies-data : (c z : Configuration) (frame : FrameValue) → IsFlying c z frame → is_data frame ≡ true
+flies-data c z _ (empty bsn fsn s) = refl
+flies-data c z _ (carrying bsn fsn sio sif s b) = refl
+
+pub no-status : {A : Type 0} (c z : Configuration) (bsn fsn : ℕ) (status : LinkStatus) → IsFlying c z (StatusFrame bsn fsn status) → A
+no-status c z bsn fsn status f = (let no : false ≡ true = flies-data c z (StatusFrame bsn fsn status) f in absurd cc)
+
+-- all that is in flight to a node from the one with settings c
+pub record AreFlying (c z : Configuration) (f : Flying) : Type 0 where
+  pub user_data : (link : ℕ) → Each (IsFlying c z) (f.user_data link)
+  pub statuses : (link : ℕ) → Each IsTelling (f.statuses link)
 
 -- ---- two settings that face each other
 
@@ -120,7 +142,7 @@ module _ (c z : Configuration) where
     pub loose : Each (IsBetween c z) w.near.loose
     -- what comes
     pub arrived : Each (IsBetween z c) w.near.arrived
-    pub coming : (link : ℕ) → Each (IsFlying z c) (w.to_near link)
+    pub coming : AreFlying z c w.to_near
 
   -- one goes by moves to another, and stays good
   pub record Passes (v w : World) : Type 0 where

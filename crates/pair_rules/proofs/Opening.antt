@@ -29,8 +29,8 @@ use Rattle.pair_moves.specs.Ends.{LinkEnd, Line, Pair}
 use Rattle.pair_moves.specs.Passing.{BecomeAt}
 use Rattle.pair_moves.specs.Returning.{MayOpen, opened_end}
 use Rattle.pair_moves.specs.Moves as moves
-use Rattle.pair_rules.proofs.World.{Mid, World, says_of, shown, shown_by, route_of, line_of, end_of, frame_of}
-use Rattle.pair_rules.proofs.Good.{Each, IsBetween, IsFlying, IsSilent, Good}
+use Rattle.pair_rules.proofs.World.{Flying, Mid, World, says_of, shown, shown_by, route_of, line_of, end_of, frame_of}
+use Rattle.pair_rules.proofs.Good.{AreFlying, Each, IsBetween, IsSilent, Good}
 use Rattle.pair_rules.proofs.Going.{Goes, goes-one}
 use Rattle.pair_rules.proofs.Lines.{end-by, end_by, link-here, link-other, queue-here, queue-other}
 use Rattle.pair_rules.proofs.Relinked.{route_by}
@@ -149,7 +149,7 @@ may-open n link m = by (down n.parts link) (may_restart (changeover_of n.parts l
     by false b e f = e
 
 -- the world after a link opened at the near end
-abbrev pub opened_near : Configuration → World → (link : ℕ) → (near_may far_may : ℕ → Bool) → (to_near to_far : ℕ → List FrameValue) → World
+abbrev pub opened_near : Configuration → World → (link : ℕ) → (near_may far_may : ℕ → Bool) → (to_near to_far : Flying) → World
 opened_near c w link near_may far_may to_near to_far = record {
   near = record w.near { node = open_link whole c link w.near.node };
   far = w.far;
@@ -159,12 +159,12 @@ opened_near c w link near_may far_may to_near to_far = record {
   far_may = far_may;
 }
 
-module _ (c z : Configuration) (w : World) (link : ℕ) (m : MayComeUp w.near.node.parts link) (near_may far_may : ℕ → Bool) (g f : ℕ → List FrameValue) where
+module _ (c z : Configuration) (w : World) (link : ℕ) (m : MayComeUp w.near.node.parts link) (near_may far_may : ℕ → Bool) (g f : Flying) where
   abbrev after_opening : World
   after_opening = opened_near c w link near_may far_may g f
 
   -- the node is good in any world
-  pub opened-good : ((other : ℕ) → Each (IsFlying z c) (g other)) → Good c z w → Good c z after_opening
+  pub opened-good : AreFlying z c g → Good c z w → Good c z after_opening
   opened-good coming h = record {
     fits = ((fit-steps c).opened link w.near.node tt m.there m.opens (restarts-complete (changeover_of w.near.node.parts link) m.restarts)).stay h.fits;
     alone = record { routes = h.alone.routes; adjacents = h.alone.adjacents };
@@ -183,20 +183,20 @@ module _ (c z : Configuration) (w : World) (link : ℕ) (m : MayComeUp w.near.no
     coming = coming;
   }
 
-  abbrev line_with : LinkEnd → LinkEnd → List FrameValue → List FrameValue → Bool → Bool → Line
-  line_with x y to_far to_near near far = record {
+  abbrev line_with : LinkEnd → LinkEnd → List FrameValue → List FrameValue → List FrameValue → List FrameValue → Bool → Bool → Line
+  line_with x y to_far to_near told_far told_near near far = record {
     near = x;
     far = y;
     to_far = map frame_of to_far;
     to_near = map frame_of to_near;
+    told_far = length told_far;
+    told_near = length told_near;
     near_may_follow = near;
     far_may_follow = far;
   }
 
-  five : {x a y : LinkEnd} {s i t k : List FrameValue} {n o v b : Bool} → x ≡ a → s ≡ i → t ≡ k → n ≡ o → v ≡ b → line_with x y s t n v ≡ line_with a y i k o b
-  five {x} {a} {y} {s} {i} {t} {k} {n} {o} {v} {b} p r u q e =
-      ap (λ (l : LinkEnd). line_with l y s t n v) p ∙ ap (λ (l : List FrameValue). line_with a y l t n v) r ∙ ap (λ (l : List FrameValue). line_with a y i l n v) u
-      ∙ ap (λ (l : Bool). line_with a y i k l v) q ∙ ap (λ (l : Bool). line_with a y i k o l) e
+  seven : {x a y : LinkEnd} {s i t k h l c d : List FrameValue} {n o v b : Bool} → x ≡ a → s ≡ i → t ≡ k → h ≡ l → c ≡ d → n ≡ o → v ≡ b → line_with x y s t h c n v ≡ line_with a y i k l d o b
+  seven {y = y} p r u h t q e = λ i. line_with (p i) y (r i) (u i) (h i) (t i) (q i) (e i)
 
   routed : shown c z after_opening ≡ record (shown c z w) { line = line_of after_opening }
   routed = ap (λ (route : Flow → Option ℕ). shown_by c z route after_opening) (opened-route c z w.near.node link m)
@@ -204,19 +204,23 @@ module _ (c z : Configuration) (w : World) (link : ℕ) (m : MayComeUp w.near.no
   -- ---- it is the first to open: nothing is in flight then
 
   pub record IsFirst : Type 0 where
-    pub near_here : g link ≡ []
-    pub far_here : f link ≡ []
+    pub near_here : g.user_data link ≡ []
+    pub far_here : f.user_data link ≡ []
+    pub near_told : g.statuses link ≡ []
+    pub far_told : f.statuses link ≡ []
     pub near_follows : near_may link ≡ false
     pub far_follows : far_may link ≡ true
 
   pub record IsElsewhere : Type 0 where
-    pub to_near : (other : ℕ) → other ≢ link → g other ≡ w.to_near other
-    pub to_far : (other : ℕ) → other ≢ link → f other ≡ w.to_far other
+    pub to_near : (other : ℕ) → other ≢ link → g.user_data other ≡ w.to_near.user_data other
+    pub to_far : (other : ℕ) → other ≢ link → f.user_data other ≡ w.to_far.user_data other
+    pub told_near : (other : ℕ) → other ≢ link → g.statuses other ≡ w.to_near.statuses other
+    pub told_far : (other : ℕ) → other ≢ link → f.statuses other ≡ w.to_far.statuses other
     pub near_follows : (other : ℕ) → other ≢ link → near_may other ≡ w.near_may other
     pub far_follows : (other : ℕ) → other ≢ link → far_may other ≡ w.far_may other
 
   elsewhere : IsElsewhere → (other : ℕ) → other ≢ link → line_of after_opening other ≡ line_of w other
-  elsewhere e other d = five (opened-other c z w.near.node link m other d) (e.to_far other d) (e.to_near other d) (e.near_follows other d) (e.far_follows other d)
+  elsewhere e other d = seven (opened-other c z w.near.node link m other d) (e.to_far other d) (e.to_near other d) (e.told_far other d) (e.told_near other d) (e.near_follows other d) (e.far_follows other d)
 
   pub first-goes : IsFirst → IsElsewhere → MayOpen (end_of w.far.node link) → Good c z w → Goes (says_of c.links) (shown c z w) (shown c z after_opening)
   first-goes i e far h =
@@ -228,7 +232,7 @@ module _ (c z : Configuration) (w : World) (link : ℕ) (m : MayComeUp w.near.no
         lines = line_of after_opening;
         set = record {
           inside = listed c z w.near.node link m h.fits;
-          here = five (opened-here c z w.near.node link m h.fits) i.far_here i.near_here i.near_follows i.far_follows;
+          here = seven (opened-here c z w.near.node link m h.fits) i.far_here i.near_here i.far_told i.near_told i.near_follows i.far_follows;
           others = elsewhere e;
         };
         after = routed;
@@ -238,8 +242,10 @@ module _ (c z : Configuration) (w : World) (link : ℕ) (m : MayComeUp w.near.no
 
   pub record IsSecond : Type 0 where
     pub followed : w.near_may link ≡ true
-    pub near_here : g link ≡ w.to_near link
-    pub far_here : f link ≡ w.to_far link
+    pub near_here : g.user_data link ≡ w.to_near.user_data link
+    pub far_here : f.user_data link ≡ w.to_far.user_data link
+    pub near_told : g.statuses link ≡ w.to_near.statuses link
+    pub far_told : f.statuses link ≡ w.to_far.statuses link
     pub near_follows : near_may link ≡ false
     pub far_follows : far_may link ≡ w.far_may link
 
@@ -253,7 +259,7 @@ module _ (c z : Configuration) (w : World) (link : ℕ) (m : MayComeUp w.near.no
         lines = line_of after_opening;
         set = record {
           inside = listed c z w.near.node link m h.fits;
-          here = five (opened-here c z w.near.node link m h.fits) i.far_here i.near_here i.near_follows i.far_follows;
+          here = seven (opened-here c z w.near.node link m h.fits) i.far_here i.near_here i.far_told i.near_told i.near_follows i.far_follows;
           others = elsewhere e;
         };
         after = routed;

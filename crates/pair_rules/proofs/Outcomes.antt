@@ -1,6 +1,6 @@
 -- What a frame that is handed in comes to tells what it brought.
 use Rattle.std.proofs.Common.{◌≡◌, ◌≢◌, ◌&&◌, ℕ, Bool, true, false, not, List, [], ◌∷◌, ◌++◌, zero, suc, length, Option, Some, None, Result, Ok, Err, refl, ap, sym, subst, ◌∙◌}
-use Rattle.std.specs.Prelude.{if◌then◌else◌, drop, option_to_list, nat_le, slice_get}
+use Rattle.std.specs.Prelude.{if◌then◌else◌, drop, option_to_list, slice_get}
 use Rattle.signalling_types.specs.Message.{Message, service_indicator}
 use Rattle.signalling_types.specs.declared.cause.Cause.TheVariants as causes
 use Rattle.signalling_types.specs.declared.outcome.Outcome.{Outcome}
@@ -36,13 +36,13 @@ use Rattle.exchange_rules.specs.Exchange.{outcome_of}
 use Rattle.exchange_rules.proofs.Received.{nothing-delivered}
 use Rattle.exchange_rules.specs.Laws.{carried_message}
 use Rattle.exchange_rules.proofs.CarriedMessages.{new-carried}
-use Rattle.pair_rules.specs.Pairs.{PairState, Delivers, after_steps, deliver_frame, did, first_pair, for_users, in_flight, turned}
-use Rattle.pair_rules.specs.Promises.{BothWays}
-use Rattle.pair_rules.specs.Deliveries.{ComesTo, TellsWhatCame, brought_by, deliveries_tell}
-use Rattle.pair_rules.proofs.Good.{Each, IsBetween, IsFlying, IsJoined, IsSaid, IsWord}
+use Rattle.pair_rules.specs.Pairs.{PairState, Streams, Delivers, DeliversStatus, after_steps, deliver_frame, first_pair, for_users, in_flight, is_sccp, turned, without_data, without_status}
+use Rattle.pair_rules.specs.Deliveries.{ComesTo, Tells, deliveries_tell}
+use Rattle.pair_rules.proofs.Good.{Each, IsBetween, IsFlying, IsTelling, IsJoined, IsSaid, IsWord}
 use Rattle.pair_rules.proofs.Good as good
-use Rattle.pair_rules.proofs.Frames.{user-local, word-left}
-use Rattle.pair_rules.proofs.Flights.{IsFirst, first-frame, flies-back}
+use Rattle.pair_rules.proofs.Frames.{for-users, word-left}
+use Rattle.pair_rules.proofs.Flights.{IsFirst, first-frame, flies-back, tells-back}
+use Rattle.pair_rules.proofs.CarriedTexts.{tells-none}
 use Rattle.pair_rules.proofs.Standing.{Stands}
 use Rattle.pair_rules.proofs.Steps.{outcome-same}
 use Rattle.pair_rules.proofs.AllSteps.{AreFacing, facing-back, stands-turned}
@@ -104,13 +104,13 @@ module _ (c z : Configuration) (j : IsJoined c z) (link : ℕ) where
       let here : (distribute whole c link m n).outcome ≡ (if is_user c (service_indicator m) then answer Local n else refuse causes.NoUserPart n).outcome =
       ap (λ (b : Bool). (if b then manage whole c link m n else local whole c m n).outcome) user
       ∙ ap (λ (b : Bool). (if b then on_unitdata whole c m n else if is_user c (service_indicator m) then answer Local n else refuse causes.NoUserPart n).outcome)
-      (user-local (service_indicator m) part) in
-      let ms : for_users (m ∷ []) ≡ m ∷ [] = ap (λ (b : Bool). if b then m ∷ [] else []) part in
+      part in
+      let ms : for_users (m ∷ []) ≡ m ∷ [] = for-users m false false user part in
       subst (λ (xs : List Message). ComesTo c xs (distribute whole c link m n).outcome) (sym ms) (here ∙ parted (is_user c (service_indicator m)) n)
   said-tells m n (good.is_word e si from word f is) =
       let here : (distribute whole c link m n).outcome ≡ (on_management whole c word z.own n).outcome =
       ap (λ (d : Done WholeQueues). d.outcome) (word-left c z j link m n word e si from f) in
-      let ms : for_users (m ∷ []) ≡ [] = ap (λ (k : ℕ). if nat_le 4 k then m ∷ [] else []) si in
+      let ms : for_users (m ∷ []) ≡ [] = for-users m true (is_sccp m) e refl in
       subst (λ (xs : List Message). ComesTo c xs (distribute whole c link m n).outcome) (sym ms) (subst Quiet (sym here) (word-quiet word is n))
 
   deliver-tells : (m : Message) → IsBetween z c m → (n : Node WholeQueues) → ComesTo c (for_users (m ∷ [])) (deliver whole c link m n).outcome
@@ -153,7 +153,6 @@ module _ (c z : Configuration) (j : IsJoined c z) (link : ℕ) where
   same-carried : (frame : FrameValue) (m : Message) → IsFlying z c frame → carried_message (Ok frame) ≡ Some m → IsBetween z c m
   same-carried _ m (good.empty bsn fsn s) e = absurd cc
   same-carried _ m (good.carrying bsn fsn sio sif s b) e = subst (IsBetween z c) (let same : record { sio = sio; sif = sif } ≡ m = cc in same) b
-  same-carried _ m (good.telling bsn fsn status s) e = absurd cc
 
 -- ---- what was received before is dropped
 
@@ -181,26 +180,64 @@ module _ (c z : Configuration) (f : AreFacing c z) (p : PairState) (s : Stands c
       (received-as c z f.near_joined link m (ComesTo c (for_users (m ∷ []))) (deliver-tells c z f.near_joined link m b) text a.node
       (ap (new_message link text) (sym known) ∙ e)))
 
-  pub delivery-tells : ComesTo p.near.exchange.settings (brought_by (Delivers link) p) (did (Delivers link) p).outcome
-  delivery-tells = by (slice_get (in_flight p.near.incoming link) 0) refl
+  -- a link status brings none
+  status-tells : (text : List ℕ) (frame : FrameValue) → read_frame text ≡ Ok frame → IsTelling frame → (o : Option Message) → new_message link text a ≡ o
+      → ComesTo c (for_users (option_to_list o)) (outcome_of whole (FrameCame link text) a)
+  status-tells text frame reads telling None e = idle-quiet (outcome_of whole (FrameCame link text) a) (nothing-delivered a link text e)
+  status-tells text frame reads telling (Some m) e =
+      (let no : None ≡ Some m = sym (tells-none frame telling) ∙ ap carried_message (sym reads) ∙ new-carried link text a m e in absurd cc)
+
+  -- whichever frame comes, and what it leaves in flight
+  came-tells : (text : List ℕ) (left : Streams) → ComesTo c (for_users (option_to_list (new_message link text a))) (outcome_of whole (FrameCame link text) a)
+      → ComesTo p.near.exchange.settings (drop (length p.near.received) (deliver_frame (Some text) link left p).left.near.received) (deliver_frame (Some text) link left p).outcome
+  came-tells text left h =
+      subst (λ (x : Configuration). ComesTo x (drop (length p.near.received) (deliver_frame (Some text) link left p).left.near.received) (deliver_frame (Some text) link left p).outcome) (sym s.near_settings)
+      (subst (λ (ms : List Message). ComesTo c ms (outcome_of whole (FrameCame link text) a))
+      (sym (drop-before p.near.received (for_users (option_to_list (new_message link text a))))) h)
+
+  none-tells : ComesTo p.near.exchange.settings (drop (length p.near.received) p.near.received) Ignored
+  none-tells = subst (λ (ms : List Message). ComesTo p.near.exchange.settings ms Ignored) (sym (drop-all p.near.received)) ignored
+
+  abbrev data_left : Streams
+  data_left = without_data link p.near.incoming
+
+  abbrev statuses_left : Streams
+  statuses_left = without_status link p.near.incoming
+
+  pub delivery-tells : Tells (Delivers link) p
+  delivery-tells = by (slice_get (in_flight p.near.incoming.user_data link) 0) refl
     where
-      by : (o : Option (List ℕ)) → slice_get (in_flight p.near.incoming link) 0 ≡ o
-          → ComesTo p.near.exchange.settings (drop (length p.near.received) (deliver_frame o link p).left.near.received) (deliver_frame o link p).outcome
-      by None e = subst (λ (ms : List Message). ComesTo p.near.exchange.settings ms Ignored) (sym (drop-all p.near.received)) ignored
+      by : (o : Option (List ℕ)) → slice_get (in_flight p.near.incoming.user_data link) 0 ≡ o
+          → ComesTo p.near.exchange.settings (drop (length p.near.received) (deliver_frame o link data_left p).left.near.received) (deliver_frame o link data_left p).outcome
+      by None e = none-tells
       by (Some text) e =
-          let first : IsFirst (s.to_near link) (in_flight p.near.incoming link) text = first-frame (s.to_near link) (in_flight p.near.incoming link) text (s.near_texts.each link) e in
-          let flying : IsFlying z c first.frame = (subst (Each (IsFlying z c)) first.first (s.near_good.coming link)).0 in
-          subst (λ (x : Configuration). ComesTo x (drop (length p.near.received) (deliver_frame (Some text) link p).left.near.received) (deliver_frame (Some text) link p).outcome) (sym s.near_settings)
-          (subst (λ (ms : List Message). ComesTo c ms (outcome_of whole (FrameCame link text) a))
-          (sym (drop-before p.near.received (for_users (option_to_list (new_message link text a)))))
-          (frame-tells text first.frame (ap read_frame first.spells ∙ flies-back z c first.frame flying) flying (new_message link text a) refl))
+          let first : IsFirst (s.to_near.user_data link) (in_flight p.near.incoming.user_data link) text =
+          first-frame (s.to_near.user_data link) (in_flight p.near.incoming.user_data link) text (s.near_texts.user_data.each link) e in
+          let flying : IsFlying z c first.frame = (subst (Each (IsFlying z c)) first.first (s.near_good.coming.user_data link)).0 in
+          came-tells text data_left (frame-tells text first.frame (ap read_frame first.spells ∙ flies-back z c first.frame flying) flying (new_message link text a) refl)
+
+  pub status_delivery-tells : Tells (DeliversStatus link) p
+  status_delivery-tells = by (slice_get (in_flight p.near.incoming.statuses link) 0) refl
+    where
+      by : (o : Option (List ℕ)) → slice_get (in_flight p.near.incoming.statuses link) 0 ≡ o
+          → ComesTo p.near.exchange.settings (drop (length p.near.received) (deliver_frame o link statuses_left p).left.near.received) (deliver_frame o link statuses_left p).outcome
+      by None e = none-tells
+      by (Some text) e =
+          let first : IsFirst (s.to_near.statuses link) (in_flight p.near.incoming.statuses link) text =
+          first-frame (s.to_near.statuses link) (in_flight p.near.incoming.statuses link) text (s.near_texts.statuses.each link) e in
+          let telling : IsTelling first.frame = (subst (Each IsTelling) first.first (s.near_good.coming.statuses link)).0 in
+          came-tells text statuses_left (status-tells text first.frame (ap read_frame first.spells ∙ tells-back first.frame telling) telling (new_message link text a) refl)
 
 pub tells : deliveries_tell
 tells near far steps g =
     let p : PairState = after_steps steps (first_pair near far) in
     let s : Stands near far p = all-stand near far steps g in
     let a : AreFacing near far = are-facing near far g in
+    let b : Stands far near (turned p) = stands-turned near far a p s in
     record {
-      there = λ link. delivery-tells near far a p s link;
-      back = λ link. delivery-tells far near (facing-back near far a) (turned p) (stands-turned near far a p s) link;
+      there = record { user_data = λ link. delivery-tells near far a p s link; status = λ link. status_delivery-tells near far a p s link };
+      back = record {
+        user_data = λ link. delivery-tells far near (facing-back near far a) (turned p) b link;
+        status = λ link. status_delivery-tells far near (facing-back near far a) (turned p) b link;
+      };
     }

@@ -32,7 +32,7 @@ use Rattle.pair_rules.proofs.World.{World, says_of, read_says, shown, line_of}
 use Rattle.pair_rules.proofs.Going.{goes-same}
 use Rattle.pair_rules.proofs.Messages.{word-says}
 use Rattle.pair_rules.proofs.Joined.{joined}
-use Rattle.pair_rules.proofs.First.{first-good, first-shown}
+use Rattle.pair_rules.proofs.First.{first-good, first-shown, nothing_flies}
 use Rattle.pair_rules.proofs.Reading.{says-alike}
 use Rattle.pair_rules.proofs.Standing.{AreTexts, Stands, world_of}
 use Rattle.pair_rules.proofs.AllSteps.{AreFacing, stands-turned, steps-stand}
@@ -183,10 +183,10 @@ first-stands near far g = record {
   far_settings = refl;
   near_waits = refl;
   far_waits = refl;
-  to_near = λ link. [];
-  to_far = λ link. [];
-  near_texts = no-texts near;
-  far_texts = no-texts far;
+  to_near = nothing_flies;
+  to_far = nothing_flies;
+  near_texts = record { statuses = no-texts near; user_data = no-texts near };
+  far_texts = record { statuses = no-texts far; user_data = no-texts far };
   near_flags = length-replicate (length near.links) false;
   far_flags = length-replicate (length far.links) false;
   near_good = first-good near far g.near_well g.far_well g.facing;

@@ -1,5 +1,5 @@
 -- What isn't shown changes: the same pair is shown.
-use Rattle.std.proofs.Common.{◌≡◌, ℕ, Bool, not, List, Option, None, ap, sym, ◌∙◌, nat_lt}
+use Rattle.std.proofs.Common.{◌≡◌, ℕ, Bool, not, List, [], Option, None, ap, sym, ◌∙◌, nat_lt}
 use Rattle.std.specs.Prelude.{if◌then◌else◌, slice_set}
 use Rattle.std.specs.Option.{option_and_then}
 use Rattle.signalling_types.specs.declared.limits.TheConstants.Limits.{SELECTIONS}
@@ -9,7 +9,7 @@ use Rattle.signalling_types.specs.declared.notice.Notice.{Notice}
 use Rattle.signalling_types.specs.declared.notice.Notice.TheVariants as notices
 use Rattle.signalling_types.specs.declared.outcome.Outcome.{Outcome}
 use Rattle.signalling_types.specs.declared.outcome.Outcome.TheVariants.{Handled, Held, Ignored, Local, Queued, Refused}
-use Rattle.settings_rows.specs.Configuration.{Configuration}
+use Rattle.settings_rows.specs.Configuration.{Configuration, TitleEntry}
 use Rattle.settings.specs.Readings.{destination_place}
 use Rattle.link.specs.declared.alignment.Alignment.{Alignment}
 use Rattle.timers.specs.Timers.{Running}
@@ -23,6 +23,7 @@ use Rattle.exchange_rules.specs.Links.{link_at}
 use Rattle.exchange_rules.specs.Queues.{WholeQueues, queue_at}
 use Rattle.exchange_rules.specs.Failing.{changeover_of}
 use Rattle.exchange_rules.specs.Noting.{note_outcome}
+use Rattle.exchange_rules.specs.Relaying.{with_titles}
 use Rattle.exchange_rules.specs.Routing.{facts, sets_in}
 use Rattle.exchange_rules.proofs.Fitting.{StaysFit, fit-steps}
 use Rattle.exchange_rules.proofs.Lists.{alike-at, each-set}
@@ -91,7 +92,7 @@ module _ (c z : Configuration) where
       };
     }
 
-  -- ---- only timers, or only notices
+  -- ---- only timers, only notices, or only translation rows
 
   pub timed-passes : (w : World) (n : Node WholeQueues) (arrived loose : List Message) (t : Running) → StaysFit c n (with_parts n (record n.parts { timers = t }))
       → Passes c z (at c z w n arrived loose) (at c z w (with_parts n (record n.parts { timers = t })) arrived loose)
@@ -116,6 +117,22 @@ module _ (c z : Configuration) where
     goes = λ g. goes-none (says_of c.links) (shown c z (at c z w n arrived loose));
     good = λ g. record {
       fits = stay.stay g.fits;
+      alone = record { routes = g.alone.routes; adjacents = g.alone.adjacents };
+      unawaited = g.unawaited;
+      silent = g.silent;
+      queued = g.queued;
+      held = g.held;
+      loose = g.loose;
+      arrived = g.arrived;
+      coming = g.coming;
+    };
+  }
+
+  pub titled-passes : (w : World) (n : Node WholeQueues) (titles : List TitleEntry) → Passes c z (at c z w n [] []) (at c z w (with_parts n (with_titles titles n.parts)) [] [])
+  titled-passes w n titles = record {
+    goes = λ g. goes-none (says_of c.links) (shown c z (at c z w n [] []));
+    good = λ g. record {
+      fits = ((fit-steps c).titled titles n).stay g.fits;
       alone = record { routes = g.alone.routes; adjacents = g.alone.adjacents };
       unawaited = g.unawaited;
       silent = g.silent;

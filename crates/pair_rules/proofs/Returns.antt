@@ -205,16 +205,15 @@ module _ (c z : Configuration) (j : IsJoined c z) where
           ap (λ (f : Facts). shown_by c z (route_by c f) (at c z w (with_parts n once) arrived [])) (facts_alike (network_of c n.parts) link (stepped step (link_at n.parts link)) stays)
           ∙ ap (λ (ends : ℕ → LinkEnd). record (shown c z (at c z w n arrived [])) { line = λ other. record (line_of w other) { near = ends other } }) same
 
-      -- a frame that comes is heard
+      -- a link status that comes is heard
       hearing-goes : IsComing w link → link < length c.links → Goes (says_of c.links) (shown c z (at c z w n arrived [])) (shown c z (at c z w (with_parts n once) arrived []))
       hearing-goes coming there =
           goes-one (says_of c.links) _ _
-          (moves.hears_frame (record {
+          (moves.hears_status (record {
             link = link;
             up = ap not (starts-up (link_at n.parts link).alignment input step e);
-            frame = frame_of coming.frame;
-            rest = map frame_of coming.rest;
-            first = ap (λ (fs : List FrameValue). map frame_of fs) coming.first;
+            rest = length coming.rest;
+            some = ap (λ (fs : List FrameValue). length fs) coming.first;
             lines = line_of (at c z w (with_parts n once) arrived []);
             set = becomes c z (at c z w n arrived []) (with_parts n once) arrived [] (route_of c n.parts) link (record (end_of n link) { heard = true }) there
                 (all-ways n link (down once link) (down n.parts link) (in_service once link) (in_service n.parts link) (heard once link) true (step-down link) (step-service link) heard-then)

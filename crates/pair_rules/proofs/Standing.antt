@@ -11,15 +11,15 @@ use Rattle.exchange_rules.specs.Exchange.{apply, handle_event}
 use Rattle.exchange_rules.proofs.Sound.{done-waits}
 use Rattle.pair_moves.specs.Ends.{Pair}
 use Rattle.pair_moves.specs.Ends as ends
-use Rattle.pair_rules.specs.Pairs.{End, PairState, happens, in_flight, may_follow}
-use Rattle.pair_rules.proofs.World.{Mid, World, says_of, shown, turned_world}
+use Rattle.pair_rules.specs.Pairs.{End, PairState, Streams, happens, in_flight, may_follow}
+use Rattle.pair_rules.proofs.World.{Flying, Mid, World, says_of, shown, turned_world}
 use Rattle.pair_rules.proofs.Good.{IsJoined, Good, Passes, at}
 use Rattle.pair_rules.proofs.Going.{Goes, goes-both}
 use Rattle.pair_rules.proofs.Events.{event-passes}
 
 -- ---- an end, and two of them, with the frames in flight
 
-abbrev pub end_with : Configuration → Node WholeQueues → (incoming : List (List (List ℕ))) → (following : List Bool) → (accepted received : List Message) → End
+abbrev pub end_with : Configuration → Node WholeQueues → (incoming : Streams) → (following : List Bool) → (accepted received : List Message) → End
 end_with c n incoming following accepted received = record {
   exchange = record { settings = c; node = n };
   incoming = incoming;
@@ -32,7 +32,7 @@ end_with c n incoming following accepted received = record {
 abbrev pub rests : End → Mid
 rests e = record { node = e.exchange.node; arrived = []; loose = []; accepted = e.accepted; received = e.received }
 
-abbrev pub world_of : PairState → (to_near to_far : ℕ → List FrameValue) → World
+abbrev pub world_of : PairState → (to_near to_far : Flying) → World
 world_of p to_near to_far = record {
   near = rests p.near;
   far = rests p.far;
@@ -47,6 +47,11 @@ pub record AreTexts (c : Configuration) (texts : List (List (List ℕ))) (frames
   pub many : length texts ≡ length c.links
   pub each : (link : ℕ) → in_flight texts link ≡ map spelled (frames link)
 
+-- on both streams
+pub record AreStreams (c : Configuration) (s : Streams) (f : Flying) : Type 0 where
+  pub statuses : AreTexts c s.statuses f.statuses
+  pub user_data : AreTexts c s.user_data f.user_data
+
 -- each message of Held waits
 abbrev pub Waits : Configuration → Node WholeQueues → Type 0
 Waits c n = all_wait c n.parts.holds n.queues.held ≡ true
@@ -58,10 +63,10 @@ module _ (c z : Configuration) where
     pub far_settings : p.far.exchange.settings ≡ z
     pub near_waits : Waits c p.near.exchange.node
     pub far_waits : Waits z p.far.exchange.node
-    pub to_near : ℕ → List FrameValue
-    pub to_far : ℕ → List FrameValue
-    pub near_texts : AreTexts c p.near.incoming to_near
-    pub far_texts : AreTexts z p.far.incoming to_far
+    pub to_near : Flying
+    pub to_far : Flying
+    pub near_texts : AreStreams c p.near.incoming to_near
+    pub far_texts : AreStreams z p.far.incoming to_far
     pub near_flags : length p.near.following ≡ length c.links
     pub far_flags : length p.far.following ≡ length z.links
     pub near_good : Good c z (world_of p to_near to_far)
@@ -69,7 +74,7 @@ module _ (c z : Configuration) where
     pub goes : Goes (says_of c.links) (ends.first_pair (length c.links)) (shown c z (world_of p to_near to_far))
 
   -- good is what the node and what comes to it are
-  pub regood : (x y other : Mid) (f g h : ℕ → List FrameValue) (m n s t : ℕ → Bool) → Good c z (record { near = x; far = y; to_near = f; to_far = g; near_may = m; far_may = n })
+  pub regood : (x y other : Mid) (f g h : Flying) (m n s t : ℕ → Bool) → Good c z (record { near = x; far = y; to_near = f; to_far = g; near_may = m; far_may = n })
       → Good c z (record { near = x; far = other; to_near = f; to_far = h; near_may = s; far_may = t })
   regood x y other f g h m n s t a = record {
     fits = a.fits;
@@ -87,7 +92,7 @@ module _ (c z : Configuration) where
 
 module _ (c z : Configuration) (j : IsJoined c z) where
   -- nothing comes, is handed over or is received
-  pub happens-stands : (what : Happening) (n m : Node WholeQueues) (ni fi : List (List (List ℕ))) (nv fv : List Bool) (na nr fa fr : List Message)
+  pub happens-stands : (what : Happening) (n m : Node WholeQueues) (ni fi : Streams) (nv fv : List Bool) (na nr fa fr : List Message)
       → ((w : World) → Passes c z (at c z w n [] []) (at c z w (handle_event whole c what n).left [] []))
       → Stands c z (record { near = end_with c n ni nv na nr; far = end_with z m fi fv fa fr })
       → Stands c z (happens what (record { near = end_with c n ni nv na nr; far = end_with z m fi fv fa fr })).left

@@ -7,8 +7,12 @@ use Rattle.signalling_types.specs.declared.notice.FailureReason.{FailureReason}
 use Rattle.signalling_types.specs.declared.notice.FailureReason.TheVariants as reasons
 use Rattle.signalling_types.specs.declared.notice.ChangeoverTimer.TheVariants as timer
 use Rattle.signalling_types.specs.declared.outcome.Outcome.TheVariants.{Handled, Ignored}
+use Rattle.signalling_types.specs.declared.cause.Cause.{Cause}
 use Rattle.signalling_types.specs.declared.cause.Cause.TheVariants.{NoSuchName}
-use Rattle.settings_rows.specs.Configuration.{Configuration}
+use Rattle.sccp_codec.specs.declared.title.TitleKey.{TitleKey}
+use Rattle.sccp_relay.specs.Rows.{place_of, has_row, with_row, without_row}
+use Rattle.exchange_rules.specs.Relaying.{add_title, add_title_unless, remove_title, title_refusal, with_titles}
+use Rattle.settings_rows.specs.Configuration.{Configuration, TitleEntry}
 use Rattle.m2pa_codec.specs.Frames.{FrameValue, StatusFrame}
 use Rattle.m2pa_codec.specs.declared.status.LinkStatus.{LinkStatus}
 use Rattle.m2pa_codec.specs.declared.status.LinkStatus.TheVariants as says
@@ -44,9 +48,9 @@ use Rattle.exchange_rules.proofs.Fitting.{StaysFit, fit-steps, handed-fit, ticke
 use Rattle.pair_rules.proofs.Alone.{only_routes}
 use Rattle.pair_rules.proofs.World.{World}
 use Rattle.pair_rules.proofs.Good.{IsJoined, Good, Passes, passes-none, passes-both, at}
-use Rattle.pair_rules.proofs.Relinked.{relinked-passes, timed-passes}
+use Rattle.pair_rules.proofs.Relinked.{relinked-passes, timed-passes, titled-passes}
 use Rattle.pair_rules.proofs.Failures.{fail-passes}
-use Rattle.pair_rules.proofs.Frames.{Pops, popped, receiving, none-received, dropping-frame}
+use Rattle.pair_rules.proofs.Frames.{Retells, retold, receiving, none-received, status-taken}
 use Rattle.pair_rules.proofs.Deliveries.{fails-up}
 use Rattle.pair_rules.proofs.Expiries.{changeover_timer-passes}
 use Rattle.pair_rules.proofs.Entries.{IsComing, expiry-heard}
@@ -118,13 +122,14 @@ module _ (c z : Configuration) (j : IsJoined c z) where
 
   -- ---- the status of a frame in flight
 
-  pub status-passes : (w : World) (n : Node WholeQueues) (link bsn fsn : ℕ) (status : LinkStatus) (f : ℕ → List FrameValue) → Pops c z j w link (StatusFrame bsn fsn status) f
-      → Passes c z (at c z w n [] []) (at c z (receiving c z j (popped c z j w f) []) (on_link_status whole c link status n).left [] [])
-  status-passes w n link bsn fsn status f p =
+  pub status-passes : (w : World) (n : Node WholeQueues) (link bsn fsn : ℕ) (status : LinkStatus) (rest : List FrameValue) (f : ℕ → List FrameValue)
+      → Retells c z j w link (StatusFrame bsn fsn status) rest rest f
+      → Passes c z (at c z w n [] []) (at c z (receiving c z j (retold c z j w f) []) (on_link_status whole c link status n).left [] [])
+  status-passes w n link bsn fsn status rest f r =
       let acted : Node WholeQueues = (on_link_status whole c link status n).left in
-      none-received c z j (at c z w n [] []) (popped c z j w f) acted [] []
-      (passes-both c z _ _ _ (status-acted (action_at (link_at n.parts link).alignment (Status status)) w n link status refl (record { frame = StatusFrame bsn fsn status; rest = p.rest; first = p.first }))
-      (dropping-frame c z j w link (StatusFrame bsn fsn status) f p acted (inr refl)))
+      none-received c z j (at c z w n [] []) (retold c z j w f) acted [] []
+      (passes-both c z _ _ _ (status-acted (action_at (link_at n.parts link).alignment (Status status)) w n link status refl (record { frame = StatusFrame bsn fsn status; rest = rest; first = r.first }))
+      (status-taken c z j w link (StatusFrame bsn fsn status) rest f r acted))
 
   -- ---- a route set test of our own is never due
 
@@ -217,6 +222,23 @@ module _ (c z : Configuration) (j : IsJoined c z) where
       (end_association-passes w gone link ((fit-steps c).parted link gone (failed_if_up-down c (down n.parts link) link reasons.Association n refl))))
       (passes-none c z (at c z w n [] [])))
       (passes-none c z (at c z w n [] []))
+
+  -- ---- translation rows
+
+  add_by-passes : (refusal : Option Cause) (row : TitleEntry) (w : World) (n : Node WholeQueues) → Passes c z (at c z w n [] []) (at c z w (add_title_unless refusal row n).left [] [])
+  add_by-passes (Some cause) row w n = passes-none c z (at c z w n [] [])
+  add_by-passes None row w n = titled-passes c z w n (with_row row n.parts.titles)
+
+  pub add_title-passes : (row : TitleEntry) (is_memory_refused : Bool) (w : World) (n : Node WholeQueues) → Passes c z (at c z w n [] []) (at c z w (add_title row is_memory_refused n).left [] [])
+  add_title-passes row is_memory_refused w n = add_by-passes (title_refusal n.parts.titles row is_memory_refused) row w n
+
+  pub remove_title-passes : (key : TitleKey) (digits : List ℕ) (w : World) (n : Node WholeQueues) → Passes c z (at c z w n [] []) (at c z w (remove_title key digits n).left [] [])
+  remove_title-passes key digits w n =
+      let left : List TitleEntry = without_row (place_of key digits) n.parts.titles in
+      either_done-passes (has_row n.parts.titles (place_of key digits)) w n (answer Handled (with_parts n (with_titles left n.parts))) (refuse NoSuchName n)
+      (titled-passes c z w n left) (passes-none c z (at c z w n [] []))
+
+  -- ---- the operator's word
 
   pub activate-passes : (w : World) (n : Node WholeQueues) (link : ℕ) → Passes c z (at c z w n [] []) (at c z w (activate whole c link n).left [] [])
   activate-passes w n link =

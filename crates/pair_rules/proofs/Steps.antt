@@ -1,16 +1,16 @@
 -- Each step of a pair goes by moves.
 use Rattle.std.proofs.Common.{◌≡◌, ◌≢◌, ◌<◌, ◌≤◌, ◌&&◌, ℕ, Bool, true, false, List, [], ◌∷◌, ◌++◌, length, Option, Some, None, refl, ap, sym, subst, ◌∙◌, nat_eq, nat_lt, arith}
-use Rattle.std.specs.Prelude.{if◌then◌else◌, drop, nat_le, option_to_list, slice_get}
+use Rattle.std.specs.Prelude.{if◌then◌else◌, drop, map, option_to_list, slice_get, slice_set, take}
 use Rattle.std.proofs.Math.Logic.{⊎_elim}
 use Rattle.std.proofs.lemmas.Bool.{cases_eq, cases_lt}
 use Rattle.std.proofs.lemmas.Bool.Decides.{nat_tests}
 use Rattle.std.proofs.lemmas.List.{get_or_past}
-use Rattle.signalling_types.specs.Message.{Message, dpc_of, is_management, network_indicator, service_indicator}
+use Rattle.signalling_types.specs.Message.{Message, dpc_of, network_indicator}
 use Rattle.signalling_types.specs.declared.cause.Cause.TheVariants as causes
 use Rattle.signalling_types.specs.declared.limits.TheConstants.Limits.{SIF_OCTETS}
 use Rattle.signalling_types.specs.declared.outcome.Outcome.{Outcome}
 use Rattle.settings_rows.specs.Configuration.{Configuration}
-use Rattle.m2pa_codec.specs.Frames.{FrameValue, spelled}
+use Rattle.m2pa_codec.specs.Frames.{FrameValue, EmptyFrame, MessageFrame, StatusFrame, spelled}
 use Rattle.m2pa_codec.specs.Reading.{read_frame}
 use Rattle.node_links.specs.Link.{Link}
 use Rattle.node_links.specs.LinkState.{down_link}
@@ -30,17 +30,17 @@ use Rattle.signalling_types.specs.declared.outcome.Outcome.TheVariants.{Refused}
 use Rattle.exchange_rules.proofs.Sound.{done-waits}
 use Rattle.exchange_rules.proofs.Settling.{take-waits}
 use Rattle.exchange_rules.proofs.MadeManagement.{comes-here}
-use Rattle.pair_rules.specs.Pairs.{Doing, Submits, Takes, Delivers, Loses, Ticks, Activates, Deactivates, End, PairState, Turn, accepted_by, deliver_frame, did, happens, in_flight, for_users, is_for_far, may_follow, take_frame}
+use Rattle.pair_rules.specs.Pairs.{PairState, Streams, accepted_by, change_statuses, deliver_frame, in_flight, for_users, is_sccp, may_follow, take_frame}
 use Rattle.pair_rules.specs.Pairs as pairs
-use Rattle.pair_rules.proofs.World.{World, says_of, turned_world}
-use Rattle.pair_rules.proofs.Good.{Each, each-behind, IsBetween, IsFlying, IsJoined, Good, Passes, at}
+use Rattle.pair_rules.proofs.World.{Flying, World, says_of, turned_world}
+use Rattle.pair_rules.proofs.Good.{AreFlying, Each, each-behind, IsFlying, IsTelling, IsJoined, Good, Passes, at}
 use Rattle.pair_rules.proofs.Good as good
 use Rattle.pair_rules.proofs.Going.{goes-both}
-use Rattle.pair_rules.proofs.Events.{accepting, event-passes, receive-passes, submitted}
-use Rattle.pair_rules.proofs.Frames.{Pops, popped, receiving}
-use Rattle.pair_rules.proofs.Taking.{Adds, Fetches, take-passes}
-use Rattle.pair_rules.proofs.Standing.{Stands, end_with, regood, rests, world_of}
-use Rattle.pair_rules.proofs.Flights.{IsFirst, changed-here, changed-other, changed_at, first-flies, first-frame, flies-back, map-behind, texts-changed}
+use Rattle.pair_rules.proofs.Events.{accepting, data-received, event-passes, status-received, submitted}
+use Rattle.pair_rules.proofs.Frames.{Pops, Retells, popped, receiving, retold, status-doubled, status-taken}
+use Rattle.pair_rules.proofs.Taking.{Adds, AddsStatus, Fetches, FetchesStatus, take-passes}
+use Rattle.pair_rules.proofs.Standing.{AreStreams, AreTexts, Stands, end_with, regood, rests, world_of}
+use Rattle.pair_rules.proofs.Flights.{IsFirst, changed-here, changed-other, changed_at, first-flies, first-frame, flies-back, map-behind, tells-back, texts-changed}
 
 -- ---- a frame is fetched only from a link that is there
 
@@ -71,13 +71,6 @@ decided long short ours own label =
     if long then whither.Refused causes.TooLong
     else fault_or_destination (if short then Some causes.NoLabel else (if ours then None else Some causes.WrongNetwork)) (if own then whither.Here label else whither.Transfer label)
 
-decided-here : (long short ours own : Bool) (its label : Label) → decided long short ours own its ≡ whither.Here label → own ≡ true
-decided-here true short ours own its label e = absurd cc
-decided-here false true ours own its label e = absurd cc
-decided-here false false false own its label e = absurd cc
-decided-here false false true true its label e = refl
-decided-here false false true false its label e = absurd cc
-
 decided-on : (long short ours own : Bool) (its label : Label) → decided long short ours own its ≡ whither.Transfer label → (long ≡ false) × (short ≡ false) × (ours ≡ true)
 decided-on true short ours own its label e = absurd cc
 decided-on false true ours own its label e = absurd cc
@@ -88,12 +81,6 @@ decided-on false false true false its label e = (refl, refl, refl)
 module _ (c z : Configuration) (j : IsJoined c z) (apart : c.own ≢ z.own) (network : c.network ≡ z.network) where
   -- ---- a message that a user part hands over for the far point
 
-  here-is-own : (m : Message) (label : Label) → whither_goes c m ≡ whither.Here label → dpc_of m ≡ c.own
-  here-is-own m label e =
-      (let own : nat_eq (dpc_of m) c.own ≡ true =
-      decided-here (nat_lt SIF_OCTETS (length m.sif)) (nat_lt (length m.sif) 4) (nat_eq (network_indicator m) c.network) (nat_eq (dpc_of m) c.own) (label_at m.sif) label e in
-      grind (arith, nat_tests, own))
-
   goes-on : (m : Message) (label : Label) → dpc_of m ≡ z.own → whither_goes c m ≡ whither.Transfer label → whither_goes z m ≡ whither.Here (label_at m.sif)
   goes-on m label to e =
       let ours : (nat_lt SIF_OCTETS (length m.sif) ≡ false) × (nat_lt (length m.sif) 4 ≡ false) × (nat_eq (network_indicator m) c.network ≡ true) =
@@ -103,32 +90,16 @@ module _ (c z : Configuration) (j : IsJoined c z) (apart : c.own ≢ z.own) (net
       let same : network_indicator m ≡ c.network = grind (arith, nat_tests, ours.2) in
       comes-here z m long short (same ∙ network) to
 
-  user-message : (si : ℕ) → nat_le 4 si ≡ true → nat_lt si 2 ≡ false
-  user-message si e = grind (arith, nat_tests, e)
-
-  module _ (n m : Node WholeQueues) (ni fi : List (List (List ℕ))) (nv fv : List Bool) (na nr fa fr : List Message) where
+  module _ (n m : Node WholeQueues) (ni fi : Streams) (nv fv : List Bool) (na nr fa fr : List Message) where
     abbrev p : PairState
     p = record { near = end_with c n ni nv na nr; far = end_with z m fi fv fa fr }
 
-    abbrev submitted_pair : Message → Turn
-    submitted_pair message = record {
-      outcome = outcome_of whole (Submitted message) p.near.exchange;
-      left = record p {
-        near = record p.near {
-          exchange = after whole (Submitted message) p.near.exchange;
-          accepted = p.near.accepted ++ accepted_by (outcome_of whole (Submitted message) p.near.exchange) message;
-        };
-      };
-    }
-
-    handed-over : (message : Message) → Stands c z p → nat_le 4 (service_indicator message) ≡ true → dpc_of message ≡ z.own → Stands c z (submitted_pair message).left
-    handed-over message s part to =
+    handed-over : (message : Message) → Stands c z p → is_sccp message ≡ false → Stands c z (pairs.handed_over message p).left
+    handed-over message s plain =
         let w : World = world_of p s.to_near s.to_far in
-        let user : is_management message ≡ false = user-message (service_indicator message) part in
         let handled : Passes c z (at c z w n [] []) (at c z (accepting c z j w (accepted_by (handle_event whole c (Submitted message) n).outcome message)) (handle_event whole c (Submitted message) n).left [] []) =
-        submitted c z j (whither_goes c message) w n message user refl
-        (λ label e. absurd (apart (sym (here-is-own message label e) ∙ to)))
-        (λ label e. record { to = to; label = label_at message.sif; here = goes-on message label to e; said = good.is_user user part }) s.near_waits in
+        submitted c z j (whither_goes c message) w n message plain refl
+        (λ label e user to. record { to = to; label = label_at message.sif; here = goes-on message label to e; said = good.is_user user plain }) s.near_waits in
         let known : accepted_by (handle_event whole c (Submitted message) n).outcome message ≡ accepted_by (outcome_of whole (Submitted message) p.near.exchange) message =
         ap (λ (o : Outcome). accepted_by o message) (sym (outcome-same c (Submitted message) n)) in
         let v : World = accepting c z j w (accepted_by (outcome_of whole (Submitted message) p.near.exchange) message) in
@@ -152,102 +123,288 @@ module _ (c z : Configuration) (j : IsJoined c z) (apart : c.own ≢ z.own) (net
         }
 
     pub submit-stands : (message : Message) → Stands c z p → Stands c z (pairs.submit message p).left
-    submit-stands message s = by (nat_le 4 (service_indicator message)) (nat_le 4 (length message.sif)) (nat_eq (dpc_of message) z.own) refl refl
+    submit-stands message s = by (is_sccp message) refl
       where
-        by : (b l d : Bool) → nat_le 4 (service_indicator message) ≡ b → nat_eq (dpc_of message) z.own ≡ d
-            → Stands c z (if b && (l && d) then submitted_pair message else record { outcome = Refused causes.NotInProfile; left = p }).left
-        by true true true e f = handed-over message s e (equal (dpc_of message) z.own f)
-        by true true false e f = s
-        by true false d e f = s
-        by false l d e f = s
+        by : (b : Bool) → is_sccp message ≡ b → Stands c z (if b then record { outcome = Refused causes.NotInProfile; left = p } else pairs.handed_over message p).left
+        by true e = s
+        by false e = handed-over message s e
+
+    -- ---- a frame is fetched
+
+    -- the world as the far end sees it, once the near end is o and this is in flight to the far end
+    abbrev seen_there : Flying → Flying → Node WholeQueues → World
+    seen_there to_near to_far o = record {
+      near = rests p.far;
+      far = rests (end_with c o ni nv na nr);
+      to_near = to_far;
+      to_far = to_near;
+      near_may = λ other. may_follow p.far other;
+      far_may = λ other. may_follow p.near other;
+    }
+
+    far-good : (f g h : Flying) (o : Node WholeQueues) → Good z c (turned_world (world_of p h g)) → AreFlying c z f → Good z c (seen_there h f o)
+    far-good f g h o a flying = record {
+      fits = a.fits;
+      alone = a.alone;
+      unawaited = a.unawaited;
+      silent = a.silent;
+      queued = a.queued;
+      held = a.held;
+      loose = a.loose;
+      arrived = a.arrived;
+      coming = flying;
+    }
+
+    -- one more that flies
+    one-more : (P : FrameValue → Type 0) (link : ℕ) (g : ℕ → List FrameValue) (frame : FrameValue) → ((other : ℕ) → Each P (g other)) → P frame → (other : ℕ) → Each P (changed_at link (g link ++ frame ∷ []) g other)
+    one-more P link g frame each flies other =
+        ⊎_elim
+        (λ (same : other ≡ link).
+        subst (λ (k : ℕ). Each P (changed_at link (g link ++ frame ∷ []) g k)) (sym same)
+        (subst (Each P) (sym (changed-here link (g link ++ frame ∷ []) g)) (each-behind P (g link) (frame ∷ []) (each link) (flies, tt))))
+        (λ (d : other ≢ link). subst (Each P) (sym (changed-other link (g link ++ frame ∷ []) g other d)) (each other))
+        (cases_eq other link)
+
+    one-more-text : (texts : List (List (List ℕ))) (g : ℕ → List FrameValue) (link : ℕ) (frame : FrameValue) → AreTexts z texts g → link < length c.links
+        → AreTexts z (slice_set texts link (in_flight texts link ++ spelled frame ∷ [])) (changed_at link (g link ++ frame ∷ []) g)
+    one-more-text texts g link frame a l =
+        texts-changed z texts g link (in_flight texts link ++ spelled frame ∷ []) (g link ++ frame ∷ []) a (subst (λ (k : ℕ). link < k) (sym j.many) l)
+        (ap (λ (ts : List (List ℕ)). ts ++ spelled frame ∷ []) (a.each link) ∙ map-behind (g link) frame)
+
+    abbrev fetched_pair : Streams → ℕ → PairState
+    fetched_pair incoming link = record { near = end_with c (after_take whole c link n) ni nv na nr; far = end_with z m incoming fv fa fr }
+
+    there : (link : ℕ) (frame : FrameValue) → Stands c z p → frame_taken whole c link n ≡ Some frame → link < length c.links
+    there link frame s e = subst (λ (k : ℕ). link < k) s.near_good.fits.places.parts.links (taken-there c link n frame e)
+
+    data-fetched : (link : ℕ) (frame : FrameValue) (s : Stands c z p) → link < length c.links
+        → Fetches c z j (world_of p s.to_near s.to_far) link (changed_at link (s.to_far.user_data link ++ frame ∷ []) s.to_far.user_data) frame n (after_take whole c link n)
+        → Stands c z (fetched_pair (pairs.behind_data (spelled frame) link fi) link)
+    data-fetched link frame s l x =
+        let g : ℕ → List FrameValue = s.to_far.user_data in
+        let f : Flying = record s.to_far { user_data = changed_at link (g link ++ frame ∷ []) g } in
+        record {
+          near_settings = refl;
+          far_settings = refl;
+          near_waits = take-waits c link n s.near_waits;
+          far_waits = s.far_waits;
+          to_near = s.to_near;
+          to_far = f;
+          near_texts = s.near_texts;
+          near_flags = s.near_flags;
+          far_flags = s.far_flags;
+          far_texts = record { statuses = s.far_texts.statuses; user_data = one-more-text fi.user_data g link frame s.far_texts.user_data l };
+          near_good = x.passes.good s.near_good;
+          far_good = far-good f s.to_far s.to_near (after_take whole c link n) s.far_good
+              (record { statuses = s.far_good.coming.statuses; user_data = one-more (IsFlying c z) link g frame s.far_good.coming.user_data (x.flies s.near_good) });
+          goes = goes-both (says_of c.links) _ _ _ s.goes (x.passes.goes s.near_good);
+        }
+
+    status-fetched : (link : ℕ) (frame : FrameValue) (s : Stands c z p) → link < length c.links
+        → FetchesStatus c z j (world_of p s.to_near s.to_far) link (changed_at link (s.to_far.statuses link ++ frame ∷ []) s.to_far.statuses) frame n (after_take whole c link n)
+        → Stands c z (fetched_pair (pairs.behind_statuses (spelled frame) link fi) link)
+    status-fetched link frame s l x =
+        let g : ℕ → List FrameValue = s.to_far.statuses in
+        let f : Flying = record s.to_far { statuses = changed_at link (g link ++ frame ∷ []) g } in
+        record {
+          near_settings = refl;
+          far_settings = refl;
+          near_waits = take-waits c link n s.near_waits;
+          far_waits = s.far_waits;
+          to_near = s.to_near;
+          to_far = f;
+          near_texts = s.near_texts;
+          near_flags = s.near_flags;
+          far_flags = s.far_flags;
+          far_texts = record { statuses = one-more-text fi.statuses g link frame s.far_texts.statuses l; user_data = s.far_texts.user_data };
+          near_good = x.passes.good s.near_good;
+          far_good = far-good f s.to_far s.to_near (after_take whole c link n) s.far_good
+              (record { statuses = one-more IsTelling link g frame s.far_good.coming.statuses x.tells; user_data = s.far_good.coming.user_data });
+          goes = goes-both (says_of c.links) _ _ _ s.goes (x.passes.goes s.near_good);
+        }
+
+    abbrev put : (link : ℕ) → FrameValue → (ℕ → List FrameValue) → ℕ → List FrameValue
+    put link frame g = changed_at link (g link ++ frame ∷ []) g
 
     pub take-stands : (link : ℕ) → Stands c z p → Stands c z (take_frame (frame_to_take whole p.near.exchange link) link p).left
     take-stands link s = by (frame_taken whole c link n) refl
       where
-        there : (frame : FrameValue) → frame_taken whole c link n ≡ Some frame → link < length c.links
-        there frame e = subst (λ (k : ℕ). link < k) s.near_good.fits.places.parts.links (taken-there c link n frame e)
+        adds : (frame : FrameValue) → link < length c.links → Adds c z j (world_of p s.to_near s.to_far) link frame (put link frame s.to_far.user_data)
+        adds frame l = record {
+          here = changed-here link (s.to_far.user_data link ++ frame ∷ []) s.to_far.user_data;
+          others = changed-other link (s.to_far.user_data link ++ frame ∷ []) s.to_far.user_data;
+          inside = l;
+        }
+
+        adds-status : (frame : FrameValue) → link < length c.links → AddsStatus c z j (world_of p s.to_near s.to_far) link frame (put link frame s.to_far.statuses)
+        adds-status frame l = record {
+          here = changed-here link (s.to_far.statuses link ++ frame ∷ []) s.to_far.statuses;
+          others = changed-other link (s.to_far.statuses link ++ frame ∷ []) s.to_far.statuses;
+          inside = l;
+        }
 
         by : (o : Option FrameValue) → frame_taken whole c link n ≡ o → Stands c z (take_frame o link p).left
         by None e = s
-        by (Some frame) e =
-            let l : link < length c.links = there frame e in
-            let w : World = world_of p s.to_near s.to_far in
-            let frames : List FrameValue = s.to_far link ++ frame ∷ [] in
-            let f : ℕ → List FrameValue = changed_at link frames s.to_far in
-            let adds : Adds c z j w link frame f = record { here = changed-here link frames s.to_far; others = changed-other link frames s.to_far; inside = l } in
-            let x : Fetches c z j w link f frame n (after_take whole c link n) = take-passes c z j w link f n frame e adds in
-            record {
-              near_settings = refl;
-              far_settings = refl;
-              near_waits = take-waits c link n s.near_waits;
-              far_waits = s.far_waits;
-              to_near = s.to_near;
-              to_far = f;
-              near_texts = s.near_texts;
-              near_flags = s.near_flags;
-              far_flags = s.far_flags;
-              far_texts = texts-changed z fi s.to_far link (in_flight fi link ++ spelled frame ∷ []) frames s.far_texts (subst (λ (k : ℕ). link < k) (sym j.many) l)
-                  (ap (λ (ts : List (List ℕ)). ts ++ spelled frame ∷ []) (s.far_texts.each link) ∙ map-behind (s.to_far link) frame);
-              near_good = x.passes.good s.near_good;
-              far_good = far-good link frame f s.far_good (changed-here link frames s.to_far) (changed-other link frames s.to_far) (x.flies s.near_good);
-              goes = goes-both (says_of c.links) _ _ _ s.goes (x.passes.goes s.near_good);
-            }
-          where
-            far-good : (link : ℕ) (frame : FrameValue) (f : ℕ → List FrameValue) → Good z c (turned_world (world_of p s.to_near s.to_far)) → f link ≡ s.to_far link ++ frame ∷ []
-                → ((other : ℕ) → other ≢ link → f other ≡ s.to_far other) → IsFlying c z frame
-                → Good z c (record { near = rests p.far; far = rests (end_with c (after_take whole c link n) ni nv na nr); to_near = f; to_far = s.to_near; near_may = λ other. may_follow p.far other; far_may = λ other. may_follow p.near other })
-            far-good link frame f a here others flies = record {
-              fits = a.fits;
-              alone = a.alone;
-              unawaited = a.unawaited;
-              silent = a.silent;
-              queued = a.queued;
-              held = a.held;
-              loose = a.loose;
-              arrived = a.arrived;
-              coming = λ other.
-                  ⊎_elim
-                  (λ (same : other ≡ link).
-                  subst (λ (k : ℕ). Each (IsFlying c z) (f k)) (sym same)
-                  (subst (Each (IsFlying c z)) (sym here) (each-behind (IsFlying c z) (s.to_far link) (frame ∷ []) (a.coming link) (flies, tt))))
-                  (λ (d : other ≢ link). subst (Each (IsFlying c z)) (sym (others other d)) (a.coming other))
-                  (cases_eq other link);
-            }
+        by (Some (EmptyFrame bsn fsn)) e =
+            let frame : FrameValue = EmptyFrame bsn fsn in
+            let l : link < length c.links = there link frame s e in
+            data-fetched link frame s l (take-passes c z j (world_of p s.to_near s.to_far) link (put link frame s.to_far.user_data) n frame e (adds frame l))
+        by (Some (MessageFrame bsn fsn sio sif)) e =
+            let frame : FrameValue = MessageFrame bsn fsn sio sif in
+            let l : link < length c.links = there link frame s e in
+            data-fetched link frame s l (take-passes c z j (world_of p s.to_near s.to_far) link (put link frame s.to_far.user_data) n frame e (adds frame l))
+        by (Some (StatusFrame bsn fsn status)) e =
+            let frame : FrameValue = StatusFrame bsn fsn status in
+            let l : link < length c.links = there link frame s e in
+            status-fetched link frame s l (take-passes c z j (world_of p s.to_near s.to_far) link (put link frame s.to_far.statuses) n frame e (adds-status frame l))
 
-    pub deliver-stands : (link : ℕ) → Stands c z p → Stands c z (deliver_frame (slice_get (in_flight ni link) 0) link p).left
-    deliver-stands link s = by (slice_get (in_flight ni link) 0) refl
+    -- ---- a frame comes
+
+    abbrev newly : ℕ → List ℕ → List Message
+    newly link text = for_users (option_to_list (new_message link text p.near.exchange))
+
+    pub deliver-stands : (link : ℕ) → Stands c z p → Stands c z (deliver_frame (slice_get (in_flight ni.user_data link) 0) link (pairs.without_data link ni) p).left
+    deliver-stands link s = by (slice_get (in_flight ni.user_data link) 0) refl
       where
-        by : (o : Option (List ℕ)) → slice_get (in_flight ni link) 0 ≡ o → Stands c z (deliver_frame o link p).left
+        by : (o : Option (List ℕ)) → slice_get (in_flight ni.user_data link) 0 ≡ o → Stands c z (deliver_frame o link (pairs.without_data link ni) p).left
         by None e = s
         by (Some text) e =
-            let first : IsFirst (s.to_near link) (in_flight ni link) text = first-frame (s.to_near link) (in_flight ni link) text (s.near_texts.each link) e in
-            let l : link < length c.links = subst (λ (k : ℕ). link < k) s.near_texts.many (first-flies ni link text e) in
+            let g : ℕ → List FrameValue = s.to_near.user_data in
+            let first : IsFirst (g link) (in_flight ni.user_data link) text = first-frame (g link) (in_flight ni.user_data link) text (s.near_texts.user_data.each link) e in
+            let l : link < length c.links = subst (λ (k : ℕ). link < k) s.near_texts.user_data.many (first-flies ni.user_data link text e) in
             let w : World = world_of p s.to_near s.to_far in
-            let f : ℕ → List FrameValue = changed_at link first.rest s.to_near in
+            let f : ℕ → List FrameValue = changed_at link first.rest g in
             let pops : Pops c z j w link first.frame f = record {
               rest = first.rest;
               first = first.first;
-              here = changed-here link first.rest s.to_near;
-              others = changed-other link first.rest s.to_near;
+              here = changed-here link first.rest g;
+              others = changed-other link first.rest g;
               inside = l;
             } in
-            let flying : IsFlying z c first.frame = (subst (Each (IsFlying z c)) first.first (s.near_good.coming link)).0 in
-            let came : List Message = for_users (option_to_list (new_message link text p.near.exchange)) in
-            let v : World = receiving c z j (popped c z j w f) came in
+            let flying : IsFlying z c first.frame = (subst (Each (IsFlying z c)) first.first (s.near_good.coming.user_data link)).0 in
+            let v : World = receiving c z j (popped c z j w f) (newly link text) in
             let x : Passes c z (at c z w n [] []) (at c z v (apply whole c (FrameCame link text) n).left [] []) =
-            event-passes c z j (FrameCame link text) w v n (receive-passes c z j w link f first.frame pops text (ap read_frame first.spells ∙ flies-back z c first.frame flying) n) in
+            event-passes c z j (FrameCame link text) w v n (data-received c z j w link f first.frame pops text (ap read_frame first.spells ∙ flies-back z c first.frame flying) n) in
             record {
               near_settings = refl;
               far_settings = refl;
               near_waits = done-waits (FrameCame link text) (record { settings = c; node = n });
               far_waits = s.far_waits;
-              to_near = f;
+              to_near = record s.to_near { user_data = f };
               to_far = s.to_far;
-              near_texts = texts-changed c ni s.to_near link (drop 1 (in_flight ni link)) first.rest s.near_texts l first.left;
+              near_texts = record {
+                statuses = s.near_texts.statuses;
+                user_data = texts-changed c ni.user_data g link (drop 1 (in_flight ni.user_data link)) first.rest s.near_texts.user_data l first.left;
+              };
               near_flags = s.near_flags;
               far_flags = s.far_flags;
               far_texts = s.far_texts;
               near_good = x.good s.near_good;
-              far_good = regood z c (rests p.far) (rests p.near) _ s.to_far s.to_near f _ _ _ _ s.far_good;
+              far_good = regood z c (rests p.far) (rests p.near) _ s.to_far s.to_near (record s.to_near { user_data = f }) _ _ _ _ s.far_good;
               goes = goes-both (says_of c.links) _ _ _ s.goes (x.goes s.near_good);
             }
+
+    -- ---- link statuses
+
+    -- the first of those in flight on a link
+    record FirstStatus (s : Stands c z p) (link : ℕ) (text : List ℕ) : Type 0 where
+      pub first : IsFirst (s.to_near.statuses link) (in_flight ni.statuses link) text
+      pub inside : link < length c.links
+      pub telling : IsTelling first.frame
+
+    first-status : (s : Stands c z p) (link : ℕ) (text : List ℕ) → slice_get (in_flight ni.statuses link) 0 ≡ Some text → FirstStatus s link text
+    first-status s link text e =
+        let first : IsFirst (s.to_near.statuses link) (in_flight ni.statuses link) text =
+        first-frame (s.to_near.statuses link) (in_flight ni.statuses link) text (s.near_texts.statuses.each link) e in
+        record {
+          first = first;
+          inside = subst (λ (k : ℕ). link < k) s.near_texts.statuses.many (first-flies ni.statuses link text e);
+          telling = (subst (Each IsTelling) first.first (s.near_good.coming.statuses link)).0;
+        }
+
+    retells : (s : Stands c z p) (link : ℕ) (text : List ℕ) (i : FirstStatus s link text) (next : List FrameValue)
+        → Retells c z j (world_of p s.to_near s.to_far) link i.first.frame i.first.rest next (changed_at link next s.to_near.statuses)
+    retells s link text i next = record {
+      first = i.first.first;
+      here = changed-here link next s.to_near.statuses;
+      others = changed-other link next s.to_near.statuses;
+      inside = i.inside;
+    }
+
+    retold-texts : (s : Stands c z p) (link : ℕ) (texts : List (List ℕ)) (next : List FrameValue) → link < length c.links → texts ≡ map spelled next
+        → AreStreams c (record ni { statuses = slice_set ni.statuses link texts }) (record s.to_near { statuses = changed_at link next s.to_near.statuses })
+    retold-texts s link texts next l e = record {
+      statuses = texts-changed c ni.statuses s.to_near.statuses link texts next s.near_texts.statuses l e;
+      user_data = s.near_texts.user_data;
+    }
+
+    pub deliver_status-stands : (link : ℕ) → Stands c z p → Stands c z (deliver_frame (slice_get (in_flight ni.statuses link) 0) link (pairs.without_status link ni) p).left
+    deliver_status-stands link s = by (slice_get (in_flight ni.statuses link) 0) refl
+      where
+        by : (o : Option (List ℕ)) → slice_get (in_flight ni.statuses link) 0 ≡ o → Stands c z (deliver_frame o link (pairs.without_status link ni) p).left
+        by None e = s
+        by (Some text) e =
+            let i : FirstStatus s link text = first-status s link text e in
+            let w : World = world_of p s.to_near s.to_far in
+            let f : ℕ → List FrameValue = changed_at link i.first.rest s.to_near.statuses in
+            let v : World = receiving c z j (retold c z j w f) (newly link text) in
+            let x : Passes c z (at c z w n [] []) (at c z v (apply whole c (FrameCame link text) n).left [] []) =
+            event-passes c z j (FrameCame link text) w v n
+            (status-received c z j w link i.first.rest f i.first.frame (retells s link text i i.first.rest) text (ap read_frame i.first.spells ∙ tells-back i.first.frame i.telling) n) in
+            record {
+              near_settings = refl;
+              far_settings = refl;
+              near_waits = done-waits (FrameCame link text) (record { settings = c; node = n });
+              far_waits = s.far_waits;
+              to_near = record s.to_near { statuses = f };
+              to_far = s.to_far;
+              near_texts = retold-texts s link (drop 1 (in_flight ni.statuses link)) i.first.rest i.inside i.first.left;
+              near_flags = s.near_flags;
+              far_flags = s.far_flags;
+              far_texts = s.far_texts;
+              near_good = x.good s.near_good;
+              far_good = regood z c (rests p.far) (rests p.near) _ s.to_far s.to_near (record s.to_near { statuses = f }) _ _ _ _ s.far_good;
+              goes = goes-both (says_of c.links) _ _ _ s.goes (x.goes s.near_good);
+            }
+
+    -- without an event
+    retold-stands : (s : Stands c z p) (link : ℕ) (texts : List (List ℕ)) (next : List FrameValue) → link < length c.links → texts ≡ map spelled next
+        → Passes c z (at c z (world_of p s.to_near s.to_far) n [] []) (at c z (retold c z j (world_of p s.to_near s.to_far) (changed_at link next s.to_near.statuses)) n [] [])
+        → Stands c z (record { near = end_with c n (record ni { statuses = slice_set ni.statuses link texts }) nv na nr; far = end_with z m fi fv fa fr })
+    retold-stands s link texts next l e x = record {
+      near_settings = refl;
+      far_settings = refl;
+      near_waits = s.near_waits;
+      far_waits = s.far_waits;
+      to_near = record s.to_near { statuses = changed_at link next s.to_near.statuses };
+      to_far = s.to_far;
+      near_texts = retold-texts s link texts next l e;
+      near_flags = s.near_flags;
+      far_flags = s.far_flags;
+      far_texts = s.far_texts;
+      near_good = x.good s.near_good;
+      far_good = regood z c (rests p.far) (rests p.near) _ s.to_far s.to_near (record s.to_near { statuses = changed_at link next s.to_near.statuses }) _ _ _ _ s.far_good;
+      goes = goes-both (says_of c.links) _ _ _ s.goes (x.goes s.near_good);
+    }
+
+    pub lose_status-stands : (link : ℕ) → Stands c z p → Stands c z (change_statuses (slice_get (in_flight ni.statuses link) 0) (pairs.without_status link ni) p).left
+    lose_status-stands link s = by (slice_get (in_flight ni.statuses link) 0) refl
+      where
+        by : (o : Option (List ℕ)) → slice_get (in_flight ni.statuses link) 0 ≡ o → Stands c z (change_statuses o (pairs.without_status link ni) p).left
+        by None e = s
+        by (Some text) e =
+            let i : FirstStatus s link text = first-status s link text e in
+            retold-stands s link (drop 1 (in_flight ni.statuses link)) i.first.rest i.inside i.first.left
+            (status-taken c z j (world_of p s.to_near s.to_far) link i.first.frame i.first.rest (changed_at link i.first.rest s.to_near.statuses) (retells s link text i i.first.rest) n)
+
+    pub double_status-stands : (link : ℕ) → Stands c z p → Stands c z (change_statuses (slice_get (in_flight ni.statuses link) 0) (pairs.with_status_twice link ni) p).left
+    double_status-stands link s = by (slice_get (in_flight ni.statuses link) 0) refl
+      where
+        by : (o : Option (List ℕ)) → slice_get (in_flight ni.statuses link) 0 ≡ o → Stands c z (change_statuses o (pairs.with_status_twice link ni) p).left
+        by None e = s
+        by (Some text) e =
+            let i : FirstStatus s link text = first-status s link text e in
+            let next : List FrameValue = i.first.frame ∷ i.first.frame ∷ i.first.rest in
+            retold-stands s link (take 1 (in_flight ni.statuses link) ++ in_flight ni.statuses link) next i.inside
+            (ap (λ (ts : List (List ℕ)). take 1 ts ++ ts) (s.near_texts.statuses.each link ∙ ap (map spelled) i.first.first))
+            (status-doubled c z j (world_of p s.to_near s.to_far) link i.first.frame i.first.rest (changed_at link next s.to_near.statuses) (retells s link text i next) n)

@@ -1,5 +1,5 @@
 -- A frame is fetched at the near node, and is in flight to the far one: by moves.
-use Rattle.std.proofs.Common.{◌-◌, ◌≡◌, ◌≢◌, ◌<◌, ◌≤◌, ◌^◌, ◌+◌, ◌&&◌, ℕ, Bool, true, false, not, List, [], ◌∷◌, ◌++◌, length, map, Option, Some, None, refl, ap, sym, subst, ◌∙◌, nat_lt, arith}
+use Rattle.std.proofs.Common.{suc, ◌-◌, ◌≡◌, ◌≢◌, ◌<◌, ◌≤◌, ◌^◌, ◌+◌, ◌&&◌, ℕ, Bool, true, false, not, List, [], ◌∷◌, ◌++◌, length, map, Option, Some, None, refl, ap, sym, subst, ◌∙◌, nat_lt, arith}
 use Rattle.std.specs.Prelude.{if◌then◌else◌, slice_get}
 use Rattle.signalling_types.specs.Message.{Message}
 use Rattle.signalling_types.specs.declared.limits.TheConstants.Limits.{SIF_OCTETS, WINDOW}
@@ -16,7 +16,7 @@ use Rattle.exchange_rules.proofs.Fitting.{Fits, StaysFit, fit-steps}
 use Rattle.pair_moves.specs.Ends.{LinkEnd, Frame}
 use Rattle.pair_moves.specs.Moves as moves
 use Rattle.pair_rules.proofs.World.{World, says_of, shown, line_of, end_of, frame_of}
-use Rattle.pair_rules.proofs.Good.{Each, each-behind, IsBetween, IsFlying, IsJoined, Good, Passes, passes-none, passes-both, at, previous-fits, each-get}
+use Rattle.pair_rules.proofs.Good.{AreFlying, Each, each-behind, IsBetween, IsFlying, IsTelling, IsJoined, Good, Passes, passes-none, passes-both, at, previous-fits, each-get}
 use Rattle.pair_rules.proofs.Good as good
 use Rattle.pair_rules.proofs.Going.{goes-one}
 use Rattle.pair_rules.proofs.Lines.{queue-here, queue-other}
@@ -38,21 +38,46 @@ use Rattle.pair_moves.specs.Passing.{BecomeAt}
 use Rattle.pair_moves.specs.Carrying.{with_frame, with_sent}
 use Rattle.std.proofs.lemmas.Bool.Decides.{nat_tests}
 
+one-longer : (fs : List FrameValue) (frame : FrameValue) → length (fs ++ frame ∷ []) ≡ suc (length fs)
+one-longer [] frame = refl
+one-longer (f ∷ fs) frame = ap suc (one-longer fs frame)
+
 map-behind : (fs : List FrameValue) (frame : FrameValue) → map frame_of (fs ++ frame ∷ []) ≡ map frame_of fs ++ frame_of frame ∷ []
 map-behind [] frame = refl
 map-behind (f ∷ fs) frame = ap (λ (xs : List Frame). frame_of f ∷ xs) (map-behind fs frame)
 
 module _ (c z : Configuration) (j : IsJoined c z) (w : World) (link : ℕ) where
-  -- one more frame in flight to the far node
+  -- one more frame in flight to the far node: User Data, or a link status
   pub record Adds (frame : FrameValue) (f : ℕ → List FrameValue) : Type 0 where
-    pub here : f link ≡ w.to_far link ++ frame ∷ []
-    pub others : (other : ℕ) → other ≢ link → f other ≡ w.to_far other
+    pub here : f link ≡ w.to_far.user_data link ++ frame ∷ []
+    pub others : (other : ℕ) → other ≢ link → f other ≡ w.to_far.user_data other
+    pub inside : link < length c.links
+
+  pub record AddsStatus (frame : FrameValue) (f : ℕ → List FrameValue) : Type 0 where
+    pub here : f link ≡ w.to_far.statuses link ++ frame ∷ []
+    pub others : (other : ℕ) → other ≢ link → f other ≡ w.to_far.statuses other
     pub inside : link < length c.links
 
   abbrev pub launched : (ℕ → List FrameValue) → World
-  launched f = record w { to_far = f }
+  launched f = record w { to_far = record w.to_far { user_data = f } }
+
+  abbrev pub launched_status : (ℕ → List FrameValue) → World
+  launched_status f = record w { to_far = record w.to_far { statuses = f } }
 
   -- ---- a status, or an acknowledgement: nothing that is shown changes at the near node
+
+  still-good : (v : World) (n : Node WholeQueues) → v.to_near ≡ w.to_near → Good c z (at c z w n [] []) → Good c z (at c z (record v { near = w.near }) n [] [])
+  still-good v n e g = record {
+    fits = g.fits;
+    alone = g.alone;
+    unawaited = g.unawaited;
+    silent = g.silent;
+    queued = g.queued;
+    held = g.held;
+    loose = g.loose;
+    arrived = g.arrived;
+    coming = subst (AreFlying z c) (sym e) g.coming;
+  }
 
   module _ (frame : FrameValue) (f : ℕ → List FrameValue) (a : Adds frame f) (n : Node WholeQueues) where
     flies-set : BecomeAt (shown c z (at c z w n [] [])) link (with_frame (line_of (at c z w n [] []) link) (frame_of frame)) (line_of (at c z (launched f) n [] []))
@@ -60,29 +85,28 @@ module _ (c z : Configuration) (j : IsJoined c z) (w : World) (link : ℕ) where
       inside = a.inside;
       here =
           ap (λ (fs : List FrameValue). record (line_of (at c z w n [] []) link) { to_far = map frame_of fs }) a.here
-          ∙ ap (λ (fs : List Frame). record (line_of (at c z w n [] []) link) { to_far = fs }) (map-behind (w.to_far link) frame);
+          ∙ ap (λ (fs : List Frame). record (line_of (at c z w n [] []) link) { to_far = fs }) (map-behind (w.to_far.user_data link) frame);
       others = λ other d. ap (λ (fs : List FrameValue). record (line_of (at c z w n [] []) other) { to_far = map frame_of fs }) (a.others other d);
     }
 
-    still-good : Good c z (at c z w n [] []) → Good c z (at c z (launched f) n [] [])
-    still-good g = record {
-      fits = g.fits;
-      alone = g.alone;
-      unawaited = g.unawaited;
-      silent = g.silent;
-      queued = g.queued;
-      held = g.held;
-      loose = g.loose;
-      arrived = g.arrived;
-      coming = g.coming;
-    }
-
-  status-sent : (bsn fsn : ℕ) (status : LinkStatus) (f : ℕ → List FrameValue) → Adds (StatusFrame bsn fsn status) f → (n : Node WholeQueues) → down n.parts link ≡ false → Passes c z (at c z w n [] []) (at c z (launched f) n [] [])
-  status-sent bsn fsn status f a n up = record {
+  status-sent : (frame : FrameValue) (f : ℕ → List FrameValue) → AddsStatus frame f → (n : Node WholeQueues) → down n.parts link ≡ false → Passes c z (at c z w n [] []) (at c z (launched_status f) n [] [])
+  status-sent frame f a n up = record {
     goes = λ g.
         goes-one (says_of c.links) _ _
-        (moves.sends_status (record { link = link; up = ap not up; lines = line_of (at c z (launched f) n [] []); set = flies-set (StatusFrame bsn fsn status) f a n; after = refl }));
-    good = still-good (StatusFrame bsn fsn status) f a n;
+        (moves.sends_status (record {
+          link = link;
+          up = ap not up;
+          lines = line_of (at c z (launched_status f) n [] []);
+          set = record {
+            inside = a.inside;
+            here =
+                ap (λ (fs : List FrameValue). record (line_of (at c z w n [] []) link) { told_far = length fs }) a.here
+                ∙ ap (λ (k : ℕ). record (line_of (at c z w n [] []) link) { told_far = k }) (one-longer (w.to_far.statuses link) frame);
+            others = λ other d. ap (λ (fs : List FrameValue). record (line_of (at c z w n [] []) other) { told_far = length fs }) (a.others other d);
+          };
+          after = refl;
+        }));
+    good = still-good (launched_status f) n refl;
   }
 
   empty-sent : (f : ℕ → List FrameValue) (n : Node WholeQueues) → down n.parts link ≡ false → Adds (EmptyFrame (last_accepted (queue_at n.queues link)) (last_sent (queue_at n.queues link))) f
@@ -91,7 +115,7 @@ module _ (c z : Configuration) (j : IsJoined c z) (w : World) (link : ℕ) where
     goes = λ g.
         goes-one (says_of c.links) _ _
         (moves.sends_empty (record { link = link; up = ap not up; lines = line_of (at c z (launched f) n [] []); set = flies-set (EmptyFrame (last_accepted (queue_at n.queues link)) (last_sent (queue_at n.queues link))) f a n; after = refl }));
-    good = still-good (EmptyFrame (last_accepted (queue_at n.queues link)) (last_sent (queue_at n.queues link))) f a n;
+    good = still-good (launched f) n refl;
   }
 
   -- ---- a message
@@ -143,7 +167,7 @@ module _ (c z : Configuration) (j : IsJoined c z) (w : World) (link : ℕ) where
       here =
           ap (λ (x : LinkEnd). record (line_of (at c z w n [] []) link) { near = x; to_far = map frame_of (f link) }) (sent-end fits a.inside)
           ∙ ap (λ (fs : List FrameValue). record (line_of (at c z w n [] []) link) { near = record (end_of n link) { queue = queue.after_sending q (Some next) }; to_far = map frame_of fs }) a.here
-          ∙ ap (λ (fs : List Frame). record (line_of (at c z w n [] []) link) { near = record (end_of n link) { queue = queue.after_sending q (Some next) }; to_far = fs }) (map-behind (w.to_far link) frame);
+          ∙ ap (λ (fs : List Frame). record (line_of (at c z w n [] []) link) { near = record (end_of n link) { queue = queue.after_sending q (Some next) }; to_far = fs }) (map-behind (w.to_far.user_data link) frame);
       others = λ other d.
           ap (λ (x : LinkEnd). record (line_of (at c z w n [] []) other) { near = x; to_far = map frame_of (f other) }) (sent-other other d)
           ∙ ap (λ (fs : List FrameValue). record (line_of (at c z w n [] []) other) { to_far = map frame_of fs }) (a.others other d);
@@ -191,16 +215,31 @@ module _ (c z : Configuration) (j : IsJoined c z) (w : World) (link : ℕ) where
 
   -- ---- what goes out
 
-  status-flies : (bsn fsn : ℕ) (status : LinkStatus) → bsn < 2 ^ 24 → fsn < 2 ^ 24 → IsFlying c z (StatusFrame bsn fsn status)
+  status-flies : (bsn fsn : ℕ) (status : LinkStatus) → bsn < 2 ^ 24 → fsn < 2 ^ 24 → IsTelling (StatusFrame bsn fsn status)
   status-flies bsn fsn status e f = good.telling bsn fsn status (record { bsn_fits = e; fsn_fits = f; length_fits = omega arith })
 
   empty-flies : (bsn fsn : ℕ) → bsn < 2 ^ 24 → fsn < 2 ^ 24 → IsFlying c z (EmptyFrame bsn fsn)
   empty-flies bsn fsn e f = good.empty bsn fsn (record { bsn_fits = e; fsn_fits = f; length_fits = omega arith })
 
-  -- a frame is fetched, and the node is left as it is after that; the frame is one that flies
+  -- a frame is fetched, and the node is left as it is after that; the frame is one that flies on its stream
   pub record Fetches (f : ℕ → List FrameValue) (frame : FrameValue) (n o : Node WholeQueues) : Type 0 where
     pub passes : Passes c z (at c z w n [] []) (at c z (launched f) o [] [])
     pub flies : Good c z (at c z w n [] []) → IsFlying c z frame
+
+  pub record FetchesStatus (f : ℕ → List FrameValue) (frame : FrameValue) (n o : Node WholeQueues) : Type 0 where
+    pub passes : Passes c z (at c z w n [] []) (at c z (launched_status f) o [] [])
+    pub tells : IsTelling frame
+
+  -- by what a frame is
+  abbrev pub AddsTo : FrameValue → (ℕ → List FrameValue) → Type 0
+  AddsTo (StatusFrame bsn fsn status) f = AddsStatus (StatusFrame bsn fsn status) f
+  AddsTo (EmptyFrame bsn fsn) f = Adds (EmptyFrame bsn fsn) f
+  AddsTo (MessageFrame bsn fsn sio sif) f = Adds (MessageFrame bsn fsn sio sif) f
+
+  abbrev pub FetchesTo : FrameValue → (ℕ → List FrameValue) → (n o : Node WholeQueues) → Type 0
+  FetchesTo (StatusFrame bsn fsn status) f n o = FetchesStatus f (StatusFrame bsn fsn status) n o
+  FetchesTo (EmptyFrame bsn fsn) f n o = Fetches f (EmptyFrame bsn fsn) n o
+  FetchesTo (MessageFrame bsn fsn sio sif) f n o = Fetches f (MessageFrame bsn fsn sio sif) n o
 
   module _ (f : ℕ → List FrameValue) (n : Node WholeQueues) where
     status-up : (status : LinkStatus) → goes_out whole c link n ≡ SendsStatus status → Good c z (at c z w n [] []) → down n.parts link ≡ false
@@ -214,35 +253,37 @@ module _ (c z : Configuration) (j : IsJoined c z) (w : World) (link : ℕ) where
         by-up (down n.parts link)
         (λ gone. owed-out (slice_get (link_at n.parts link).waiting 0) (next_message whole c link n) (link_at n.parts link).acknowledgement_owed (g.silent link gone).1 e)
 
-    fetched : (out : Outgoing) (frame : FrameValue) → goes_out whole c link n ≡ out → frame_from (last_accepted (queue_at n.queues link)) (last_sent (queue_at n.queues link)) out ≡ Some frame → Adds frame f
-        → StaysFit c n (after_sending whole c link n out) → Fetches f frame n (after_sending whole c link n out)
+    fetched : (out : Outgoing) (frame : FrameValue) → goes_out whole c link n ≡ out → frame_from (last_accepted (queue_at n.queues link)) (last_sent (queue_at n.queues link)) out ≡ Some frame → AddsTo frame f
+        → StaysFit c n (after_sending whole c link n out) → FetchesTo frame f n (after_sending whole c link n out)
     fetched (SendsStatus status) frame e is a stay =
         let s : FrameValue = StatusFrame (last_accepted (queue_at n.queues link)) (last_sent (queue_at n.queues link)) status in
         let same : s ≡ frame = cc in
-        let passes : down n.parts link ≡ false → Passes c z (at c z w n [] []) (at c z (launched f) (after_sending whole c link n (SendsStatus status)) [] []) =
+        let passes : down n.parts link ≡ false → Passes c z (at c z w n [] []) (at c z (launched_status f) (after_sending whole c link n (SendsStatus status)) [] []) =
         λ up.
         passes-both c z _ _ _
-        (status-sent (last_accepted (queue_at n.queues link)) (last_sent (queue_at n.queues link)) status f (subst (λ (x : FrameValue). Adds x f) (sym same) a) n up)
-        (relinked-passes c z (launched f) n [] [] link (record (link_at n.parts link) { waiting = drop 1 (link_at n.parts link).waiting }) n.parts.timers refl
+        (status-sent s f (subst (λ (x : FrameValue). AddsTo x f) (sym same) a) n up)
+        (relinked-passes c z (launched_status f) n [] [] link (record (link_at n.parts link) { waiting = drop 1 (link_at n.parts link).waiting }) n.parts.timers refl
         (λ h gone. (ap (drop 1) (h gone).0, (h gone).1)) stay) in
-        record {
+        subst (λ (x : FrameValue). FetchesTo x f n (after_sending whole c link n (SendsStatus status))) same
+        (record {
           passes = record { goes = λ g. (passes (status-up status e g)).goes g; good = λ g. (passes (status-up status e g)).good g };
-          flies = λ g. subst (IsFlying c z) same
-              (status-flies (last_accepted (queue_at n.queues link)) (last_sent (queue_at n.queues link)) status (previous-fits (queue_at n.queues link).received) (previous-fits ((queue_at n.queues link).base + (queue_at n.queues link).sent)));
-        }
+          tells =
+              status-flies (last_accepted (queue_at n.queues link)) (last_sent (queue_at n.queues link)) status (previous-fits (queue_at n.queues link).received) (previous-fits ((queue_at n.queues link).base + (queue_at n.queues link).sent));
+        })
     fetched (SendsMessage next) frame e is a stay =
         let s : FrameValue = MessageFrame (last_accepted (queue_at n.queues link)) next.number next.message.sio next.message.sif in
         let same : s ≡ frame = cc in
         let sends : next_message whole c link n ≡ Some next = message-is-next (slice_get (link_at n.parts link).waiting 0) (next_message whole c link n) (link_at n.parts link).acknowledgement_owed next e in
         let serves : in_service n.parts link ≡ true = next-serves (in_service n.parts link) (link_at n.parts link).peer_busy (to_send (queue_at n.queues link) c.window) next sends in
         let now : to_send (queue_at n.queues link) c.window ≡ Some next = next-sends (may_send (link_at n.parts link)) (to_send (queue_at n.queues link) c.window) next sends in
-        record {
+        subst (λ (x : FrameValue). FetchesTo x f n (after_sending whole c link n (SendsMessage next))) same
+        (record {
           passes = record {
-            goes = λ g. (whole-passes next serves now (subst (λ (x : FrameValue). Adds x f) (sym same) a) stay (g.fits.queues.each link).limit).goes g;
-            good = λ g. (whole-passes next serves now (subst (λ (x : FrameValue). Adds x f) (sym same) a) stay (g.fits.queues.each link).limit).good g;
+            goes = λ g. (whole-passes next serves now (subst (λ (x : FrameValue). AddsTo x f) (sym same) a) stay (g.fits.queues.each link).limit).goes g;
+            good = λ g. (whole-passes next serves now (subst (λ (x : FrameValue). AddsTo x f) (sym same) a) stay (g.fits.queues.each link).limit).good g;
           };
-          flies = λ g. subst (IsFlying c z) same (message-flies f n next serves now (subst (λ (x : FrameValue). Adds x f) (sym same) a) (g.fits.queues.each link).limit (queues-fit next) (g.queued link));
-        }
+          flies = λ g. (message-flies f n next serves now (subst (λ (x : FrameValue). AddsTo x f) (sym same) a) (g.fits.queues.each link).limit (queues-fit next) (g.queued link));
+        })
       where
         queues-fit : (next : Sending) → StaysFit c n (record { queues = whole.sent_one n.queues link c.window; parts = n.parts })
         queues-fit next = record {
@@ -271,14 +312,15 @@ module _ (c z : Configuration) (j : IsJoined c z) (w : World) (link : ℕ) where
         let passes : down n.parts link ≡ false → Passes c z (at c z w n [] []) (at c z (launched f) (after_sending whole c link n Acknowledges) [] []) =
         λ up.
         passes-both c z _ _ _
-        (empty-sent f n up (subst (λ (x : FrameValue). Adds x f) (sym same) a))
+        (empty-sent f n up (subst (λ (x : FrameValue). AddsTo x f) (sym same) a))
         (relinked-passes c z (launched f) n [] [] link (without_owed (link_at n.parts link)) n.parts.timers refl (λ h gone. ((h gone).0, refl)) stay) in
-        record {
+        subst (λ (x : FrameValue). FetchesTo x f n (after_sending whole c link n Acknowledges)) same
+        (record {
           passes = record { goes = λ g. (passes (owed-up e g)).goes g; good = λ g. (passes (owed-up e g)).good g };
-          flies = λ g. subst (IsFlying c z) same
+          flies = λ g.
               (empty-flies (last_accepted (queue_at n.queues link)) (last_sent (queue_at n.queues link)) (previous-fits (queue_at n.queues link).received) (previous-fits ((queue_at n.queues link).base + (queue_at n.queues link).sent)));
-        }
+        })
     fetched SendsNothing frame e is a stay = absurd cc
 
-    pub take-passes : (out : FrameValue) → frame_taken whole c link n ≡ Some out → Adds out f → Fetches f out n (after_take whole c link n)
+    pub take-passes : (out : FrameValue) → frame_taken whole c link n ≡ Some out → AddsTo out f → FetchesTo out f n (after_take whole c link n)
     take-passes out is a = fetched (goes_out whole c link n) out refl is a (take-steps (fit-steps c) link n tt)

@@ -35,11 +35,16 @@ pub record Mid : Type 0 where
   pub accepted : List Message
   pub received : List Message
 
+-- what is in flight to a node on each link: link statuses, and User Data
+pub record Flying : Type 0 where
+  pub statuses : ℕ → List FrameValue
+  pub user_data : ℕ → List FrameValue
+
 pub record World : Type 0 where
   pub near : Mid
   pub far : Mid
-  pub to_near : ℕ → List FrameValue
-  pub to_far : ℕ → List FrameValue
+  pub to_near : Flying
+  pub to_far : Flying
   -- an end may follow the other
   pub near_may : ℕ → Bool
   pub far_may : ℕ → Bool
@@ -126,17 +131,20 @@ side_by far route m = record {
   late = m.node.parts.late_any;
 }
 
+-- (a link status isn't among User Data)
 abbrev pub frame_of : FrameValue → Frame
 frame_of (EmptyFrame bsn fsn) = ends.EmptyFrame fsn bsn
 frame_of (MessageFrame bsn fsn sio sif) = ends.MessageFrame fsn bsn (record { sio = sio; sif = sif })
-frame_of (StatusFrame bsn fsn status) = ends.StatusFrame
+frame_of (StatusFrame bsn fsn status) = ends.EmptyFrame fsn bsn
 
 abbrev pub line_of : World → (link : ℕ) → Line
 line_of w link = record {
   near = end_of w.near.node link;
   far = end_of w.far.node link;
-  to_far = map frame_of (w.to_far link);
-  to_near = map frame_of (w.to_near link);
+  to_far = map frame_of (w.to_far.user_data link);
+  to_near = map frame_of (w.to_near.user_data link);
+  told_far = length (w.to_far.statuses link);
+  told_near = length (w.to_near.statuses link);
   near_may_follow = w.near_may link;
   far_may_follow = w.far_may link;
 }

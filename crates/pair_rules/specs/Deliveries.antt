@@ -6,7 +6,7 @@ use Rattle.signalling_types.specs.declared.outcome.Outcome.{Outcome}
 use Rattle.signalling_types.specs.declared.outcome.Outcome.TheVariants.{Local, Refused}
 use Rattle.settings_rows.specs.Configuration.{Configuration}
 use Rattle.exchange_rules.specs.Local.{is_user}
-use Rattle.pair_rules.specs.Pairs.{PairState, Step, AtNear, AtFar, Doing, Delivers, did, turn, turned}
+use Rattle.pair_rules.specs.Pairs.{PairState, Doing, Delivers, DeliversStatus, did}
 use Rattle.pair_rules.specs.Promises.{Always, BothWays}
 
 -- by what was brought for user parts: Local if a message came for a part that the settings list, NoUserPart if one came
@@ -19,10 +19,14 @@ ComesTo c (m ∷ ms) outcome = outcome ≡ (if is_user c (service_indicator m) t
 abbrev pub brought_by : Doing → PairState → List Message
 brought_by what p = drop (length p.near.received) (did what p).left.near.received
 
--- a delivery at the near end
-abbrev pub TellsWhatCame : PairState → Type 0
-TellsWhatCame p =
-    (link : ℕ) → ComesTo p.near.exchange.settings (brought_by (Delivers link) p) (did (Delivers link) p).outcome
+-- something done at the near end tells what it brought
+abbrev pub Tells : Doing → PairState → Type 0
+Tells what p = ComesTo p.near.exchange.settings (brought_by what p) (did what p).outcome
+
+-- a delivery at the near end does, of User Data or of a link status
+pub record TellsWhatCame (p : PairState) : Type 0 where
+  pub user_data : (link : ℕ) → Tells (Delivers link) p
+  pub status : (link : ℕ) → Tells (DeliversStatus link) p
 
 abbrev pub deliveries_tell : Type 0
 deliveries_tell = Always (λ p. BothWays TellsWhatCame p)

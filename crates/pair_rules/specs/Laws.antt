@@ -66,13 +66,13 @@ sent_on p link = take ((queue_of p.near link).sent - (queue_of p.far link).recei
 pub record FramesCarry (p : PairState) (link : ℕ) : Type 0 where
   pub confirmed : (queue_of p.near link).confirmed ≤ (queue_of p.far link).received
   pub received : (queue_of p.far link).received ≤ (queue_of p.near link).sent
-  pub carried : is_down_at p.far link ≡ false → messages_in (in_flight p.far.incoming link) ≡ sent_on p link
+  pub carried : is_down_at p.far link ≡ false → messages_in (in_flight p.far.incoming.user_data link) ≡ sent_on p link
 
 -- the message that the next frame newly carries is the first of the near end's queue that the far end hasn't received
 abbrev pub NextIsFirst : PairState → (link : ℕ) → Type 0
 NextIsFirst p link =
     (text : List ℕ) (message : Message) →
-    slice_get (in_flight p.far.incoming link) 0 ≡ Some text → new_message link text p.far.exchange ≡ Some message →
+    slice_get (in_flight p.far.incoming.user_data link) 0 ≡ Some text → new_message link text p.far.exchange ≡ Some message →
     slice_get (queue_of p.near link).all (queue_of p.far link).received ≡ Some message
 
 -- while the far end may follow, the near one, which opened first, isn't in service and has the queue with which it
@@ -82,10 +82,16 @@ pub record OpenedAlone (p : PairState) (link : ℕ) : Type 0 where
   pub far_may : may_open_at p.far link ≡ true
   pub unserved : in_service p.near.exchange.node.parts link ≡ false
   pub queue : queue_of p.near link ≡ first_queue
-  pub silent : in_flight p.near.incoming link ≡ []
-  pub empty : messages_in (in_flight p.far.incoming link) ≡ []
+  pub silent : in_flight p.near.incoming.user_data link ≡ []
+  pub untold : in_flight p.near.incoming.statuses link ≡ []
+  pub empty : messages_in (in_flight p.far.incoming.user_data link) ≡ []
+
+-- a link status that is in flight carries no message
+abbrev pub StatusesCarryNone : PairState → (link : ℕ) → Type 0
+StatusesCarryNone p link = messages_in (in_flight p.far.incoming.statuses link) ≡ []
 
 pub record IsCarried (p : PairState) : Type 0 where
+  pub statuses : (link : ℕ) → StatusesCarryNone p link
   pub frames : (link : ℕ) → is_in_use p link ≡ true → FramesCarry p link
   pub opening : (link : ℕ) → may_follow p.far link ≡ true → OpenedAlone p link
   pub next : (link : ℕ) → NextIsFirst p link
@@ -144,7 +150,7 @@ pub record IsInFlight (p : PairState) (word : Word) : Type 0 where
   pub link : ℕ
   pub up : is_down_at p.far link ≡ false
   pub message : Message
-  pub carried : Contains (messages_in (in_flight p.far.incoming link)) message
+  pub carried : Contains (messages_in (in_flight p.far.incoming.user_data link)) message
   pub says : word_of p.far.exchange.settings message ≡ Some word
 
 -- where the near end wants a link to open, and it may open at the far end too, or the near end may follow that, no word
@@ -180,7 +186,7 @@ pub record MovesLacked (p : PairState) : Type 0 where
       named_count (queue_of p.near link) (last_accepted (queue_of p.far link)) ≡ Some (queue_of p.far link).received
   -- a word that the next frame of any link brings is one that was under way
   pub brought : (link : ℕ) (text : List ℕ) (message : Message) (word : Word) →
-      slice_get (in_flight p.near.incoming link) 0 ≡ Some text → new_message link text p.near.exchange ≡ Some message →
+      slice_get (in_flight p.near.incoming.user_data link) 0 ≡ Some text → new_message link text p.near.exchange ≡ Some message →
       word_of p.near.exchange.settings message ≡ Some word → IsUnderWay (turned p) word
   -- so whatever word of the far end completes the changeover, what goes elsewhere is just what the far end hasn't
   -- received

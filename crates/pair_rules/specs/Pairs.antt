@@ -1,19 +1,21 @@
 -- Two exchanges that face each other, and the frames in flight between them.
-use Rattle.std.specs.Prelude.{◌&&◌, ℕ, Bool, true, false, nat_eq, nat_le, List, [], ◌∷◌, ◌++◌, drop, length, replicate}
-use Rattle.std.specs.Prelude.{Option, Some, None, filter, slice_get, slice_index_or, slice_set, option_to_list}
-use Rattle.std.specs.Prelude.{if◌then◌else◌}
-use Rattle.signalling_types.specs.Message.{Message, dpc_of, service_indicator}
+use Rattle.std.specs.Prelude.{◌&&◌, ℕ, Bool, true, false, not, nat_eq, List, [], ◌∷◌, ◌++◌, drop, length}
+use Rattle.std.specs.Prelude.{replicate, Option, Some, None, filter, slice_get, slice_index_or, slice_set}
+use Rattle.std.specs.Prelude.{option_to_list, take, if◌then◌else◌}
+use Rattle.signalling_types.specs.Message.{Message, is_management, service_indicator}
 use Rattle.signalling_types.specs.declared.cause.Cause.TheVariants.{NotInProfile}
 use Rattle.signalling_types.specs.declared.outcome.Outcome.{Outcome}
 use Rattle.signalling_types.specs.declared.outcome.Outcome.TheVariants.{Handled, Held, Ignored, Local, Queued, Refused}
-use Rattle.settings_rows.specs.Configuration.{Configuration}
-use Rattle.m2pa_codec.specs.Frames.{FrameValue, spelled}
+use Rattle.settings_rows.specs.Configuration.{Configuration, TitleEntry}
+use Rattle.sccp_codec.specs.declared.title.TitleKey.{TitleKey}
+use Rattle.m2pa_codec.specs.Frames.{FrameValue, EmptyFrame, MessageFrame, StatusFrame, spelled}
 use Rattle.changeover.specs.Standing.{may_restart}
 use Rattle.exchange_rules.specs.declared.wants.Wants.{Wants}
 use Rattle.exchange_rules.specs.declared.wants.Wants.TheVariants.{Open}
 use Rattle.exchange_rules.specs.Happening.{Happening, CameUp, WentDown, FrameCame, Ticked, Submitted}
-use Rattle.exchange_rules.specs.Happening.{Activated, Deactivated}
+use Rattle.exchange_rules.specs.Happening.{Activated, Deactivated, TitleAdded, TitleRemoved}
 use Rattle.exchange_rules.specs.Links.{down}
+use Rattle.exchange_rules.specs.Local.{sccp}
 use Rattle.exchange_rules.specs.Failing.{changeover_of}
 use Rattle.exchange_rules.specs.Sound.{Abstract}
 use Rattle.exchange_rules.specs.First.{first_state}
@@ -21,12 +23,17 @@ use Rattle.exchange_rules.specs.Queues.{whole}
 use Rattle.exchange_rules.specs.Exchange.{outcome_of, after, frame_to_take, taken, wants_of}
 use Rattle.exchange_rules.specs.Receiving.{new_message}
 
--- an end: its exchange; of each link the frames in flight to it, the first that went out first, and whether it may
--- follow the other end, which opened first; all user messages that it accepted from its user parts, and all that came
--- to it from the other end
+-- what is in flight to an end on each link, on two streams: its link statuses, and its User Data; on each the first
+-- that went out first, but neither stream is ordered with the other (RFC 4165 §2)
+pub record Streams : Type 0 where
+  pub statuses : List (List (List ℕ))
+  pub user_data : List (List (List ℕ))
+
+-- an end: its exchange; what is in flight to it; of each link whether it may follow the other end, which opened first;
+-- all user messages that it accepted from its user parts, and all that came to it from the other end
 pub record End : Type 0 where
   pub exchange : Abstract
-  pub incoming : List (List (List ℕ))
+  pub incoming : Streams
   pub following : List Bool
   pub accepted : List Message
   pub received : List Message
@@ -45,15 +52,23 @@ turned p = record { near = p.far; far = p.near }
 pub data Doing : Type 0 where
   -- a user part hands a message over
   Submits : (message : Message) → Doing
-  -- a frame is fetched for the other end, and one that is in flight to this end is handed in
+  -- a frame is fetched for the other end
   Takes : (link : ℕ) → Doing
+  -- the next User Data in flight to this end is handed in, or the next link status
   Delivers : (link : ℕ) → Doing
+  DeliversStatus : (link : ℕ) → Doing
+  -- the next link status in flight to this end is lost on its way, or comes twice
+  LosesStatus : (link : ℕ) → Doing
+  DoublesStatus : (link : ℕ) → Doing
   -- the association is lost, as this end sees it
   Loses : (link : ℕ) → Doing
   Ticks : Doing
   -- the operator lets a link open, or keeps it from it
   Activates : (link : ℕ) → Doing
   Deactivates : (link : ℕ) → Doing
+  -- the operator adds a translation row, where memory for it isn't refused, or removes one
+  AddsTitle : (row : TitleEntry) (is_memory_refused : Bool) → Doing
+  RemovesTitle : (key : TitleKey) (digits : List ℕ) → Doing
   -- a link opens at this end, which is the first of the two; or this end follows the other
   OpensFirst : (link : ℕ) → Doing
   OpensSecond : (link : ℕ) → Doing
@@ -69,7 +84,7 @@ pub record Turn : Type 0 where
 
 -- ---- what each does
 
--- the frames in flight on one link
+-- what one stream has in flight on one link
 abbrev pub in_flight : List (List (List ℕ)) → (link : ℕ) → List (List ℕ)
 in_flight frames link = slice_index_or frames link []
 
@@ -85,15 +100,7 @@ may_open_at e link = down e.exchange.node.parts link && may_restart (changeover_
 abbrev pub ignored : PairState → Turn
 ignored p = record { outcome = Ignored; left = p }
 
--- whether a message is of the user parts 4 to 15, and has a label that leads to a point
-abbrev pub is_for : (point : ℕ) → Message → Bool
-is_for point m = nat_le 4 (service_indicator m) && (nat_le 4 (length m.sif) && nat_eq (dpc_of m) point)
-
--- whether a message may be handed over: it is one for the far end
-abbrev pub is_for_far : PairState → Message → Bool
-is_for_far p m = is_for p.far.exchange.settings.own m
-
--- it was accepted where it stands in a queue or in Held
+-- it was accepted where it stands in a queue or in Held: so it is for the far end, since no other is kept
 abbrev pub accepted_by : Outcome → Message → List Message
 accepted_by (Queued link) m = m ∷ []
 accepted_by Held m = m ∷ []
@@ -109,50 +116,91 @@ happens what p = record {
   left = record p { near = record p.near { exchange = after whole what p.near.exchange } };
 }
 
-abbrev pub submit : Message → PairState → Turn
-submit m p =
-    if is_for_far p m
-    then record {
-      outcome = outcome_of whole (Submitted m) p.near.exchange;
-      left = record p {
-        near = record p.near {
-          exchange = after whole (Submitted m) p.near.exchange;
-          accepted = p.near.accepted ++ accepted_by (outcome_of whole (Submitted m) p.near.exchange) m;
-        };
-      };
-    }
-    else record { outcome = Refused NotInProfile; left = p }
+-- a message that is submitted to the near end's exchange
+abbrev pub handed_over : Message → PairState → Turn
+handed_over m p = record {
+  outcome = outcome_of whole (Submitted m) p.near.exchange;
+  left = record p {
+    near = record p.near {
+      exchange = after whole (Submitted m) p.near.exchange;
+      accepted = p.near.accepted ++ accepted_by (outcome_of whole (Submitted m) p.near.exchange) m;
+    };
+  };
+}
 
--- the next frame of a link is in flight behind the others
+-- whether a message is one of SCCP, which is relayed: a pair has none
+abbrev pub is_sccp : Message → Bool
+is_sccp m = nat_eq (service_indicator m) sccp
+
+abbrev pub submit : Message → PairState → Turn
+submit m p = if is_sccp m then record { outcome = Refused NotInProfile; left = p } else handed_over m p
+
+-- a frame is in flight behind the others of its stream
+abbrev pub behind_statuses : List ℕ → (link : ℕ) → Streams → Streams
+behind_statuses text link s =
+    record s { statuses = slice_set s.statuses link (in_flight s.statuses link ++ text ∷ []) }
+
+abbrev pub behind_data : List ℕ → (link : ℕ) → Streams → Streams
+behind_data text link s =
+    record s { user_data = slice_set s.user_data link (in_flight s.user_data link ++ text ∷ []) }
+
+abbrev pub launched : FrameValue → (link : ℕ) → Streams → Streams
+launched (StatusFrame bsn fsn status) link s = behind_statuses (spelled (StatusFrame bsn fsn status)) link s
+launched (EmptyFrame bsn fsn) link s = behind_data (spelled (EmptyFrame bsn fsn)) link s
+launched (MessageFrame bsn fsn sio sif) link s = behind_data (spelled (MessageFrame bsn fsn sio sif)) link s
+
+-- the next frame of a link is in flight
 abbrev pub take_frame : Option FrameValue → (link : ℕ) → PairState → Turn
 take_frame None link p = ignored p
 take_frame (Some frame) link p = record {
   outcome = Handled;
   left = record {
     near = record p.near { exchange = taken whole p.near.exchange link };
-    far = record p.far {
-      incoming = slice_set p.far.incoming link (in_flight p.far.incoming link ++ spelled frame ∷ []);
-    };
+    far = record p.far { incoming = launched frame link p.far.incoming };
   };
 }
 
--- the user messages among these: those of the user parts 4 to 15
+-- the user messages among these: all but management, testing and SCCP
 abbrev pub for_users : List Message → List Message
-for_users ms = filter (λ m. nat_le 4 (service_indicator m)) ms
+for_users ms = filter (λ m. not (is_management m) && not (is_sccp m)) ms
 
--- the first frame that is in flight on a link comes, and with it the message that it newly carries
-abbrev pub deliver_frame : Option (List ℕ) → (link : ℕ) → PairState → Turn
-deliver_frame None link p = ignored p
-deliver_frame (Some text) link p = record {
+-- the streams without the first of one link
+abbrev pub without_status : (link : ℕ) → Streams → Streams
+without_status link s = record s { statuses = slice_set s.statuses link (drop 1 (in_flight s.statuses link)) }
+
+abbrev pub without_data : (link : ℕ) → Streams → Streams
+without_data link s = record s { user_data = slice_set s.user_data link (drop 1 (in_flight s.user_data link)) }
+
+-- a frame comes that was in flight on a link, and with it the message that it newly carries; so much is left in flight
+abbrev pub deliver_frame : Option (List ℕ) → (link : ℕ) → (left : Streams) → PairState → Turn
+deliver_frame None link left p = ignored p
+deliver_frame (Some text) link left p = record {
   outcome = outcome_of whole (FrameCame link text) p.near.exchange;
   left = record p {
     near = record p.near {
       exchange = after whole (FrameCame link text) p.near.exchange;
-      incoming = slice_set p.near.incoming link (drop 1 (in_flight p.near.incoming link));
+      incoming = left;
       received = p.near.received ++ for_users (option_to_list (new_message link text p.near.exchange));
     };
   };
 }
+
+-- what is in flight to the near end changes, where a link status is in flight there
+abbrev pub change_statuses : Option (List ℕ) → (left : Streams) → PairState → Turn
+change_statuses None left p = ignored p
+change_statuses (Some text) left p =
+    record { outcome = Handled; left = record p { near = record p.near { incoming = left } } }
+
+-- the streams with the first status of one link twice
+abbrev pub with_status_twice : (link : ℕ) → Streams → Streams
+with_status_twice link s =
+    record s {
+      statuses = slice_set s.statuses link (take 1 (in_flight s.statuses link) ++ in_flight s.statuses link);
+    }
+
+-- the streams with nothing in flight on one link
+abbrev pub emptied : (link : ℕ) → Streams → Streams
+emptied link s = record { statuses = slice_set s.statuses link []; user_data = slice_set s.user_data link [] }
 
 -- a link opens at the near end, where that wants it to, and where it may open at the far one too: then nothing is in
 -- flight, and the far end may follow
@@ -162,11 +210,11 @@ opens_first Open true link p = record {
   left = record {
     near = record p.near {
       exchange = after whole (CameUp link) p.near.exchange;
-      incoming = slice_set p.near.incoming link [];
+      incoming = emptied link p.near.incoming;
       following = slice_set p.near.following link false;
     };
     far = record p.far {
-      incoming = slice_set p.far.incoming link [];
+      incoming = emptied link p.far.incoming;
       following = slice_set p.far.following link true;
     };
   };
@@ -190,11 +238,20 @@ opens_second wants follows link p = ignored p
 abbrev pub did : Doing → PairState → Turn
 did (Submits m) p = submit m p
 did (Takes link) p = take_frame (frame_to_take whole p.near.exchange link) link p
-did (Delivers link) p = deliver_frame (slice_get (in_flight p.near.incoming link) 0) link p
+did (Delivers link) p =
+    deliver_frame (slice_get (in_flight p.near.incoming.user_data link) 0) link (without_data link p.near.incoming) p
+did (DeliversStatus link) p =
+    deliver_frame (slice_get (in_flight p.near.incoming.statuses link) 0) link (without_status link p.near.incoming) p
+did (LosesStatus link) p =
+    change_statuses (slice_get (in_flight p.near.incoming.statuses link) 0) (without_status link p.near.incoming) p
+did (DoublesStatus link) p =
+    change_statuses (slice_get (in_flight p.near.incoming.statuses link) 0) (with_status_twice link p.near.incoming) p
 did (Loses link) p = happens (WentDown link) p
 did Ticks p = happens Ticked p
 did (Activates link) p = happens (Activated link) p
 did (Deactivates link) p = happens (Deactivated link) p
+did (AddsTitle row is_memory_refused) p = happens (TitleAdded row is_memory_refused) p
+did (RemovesTitle key digits) p = happens (TitleRemoved key digits) p
 did (OpensFirst link) p = opens_first (wants_of p.near.exchange link) (may_open_at p.far link) link p
 did (OpensSecond link) p = opens_second (wants_of p.near.exchange link) (may_follow p.near link) link p
 
@@ -208,10 +265,14 @@ turn (AtFar what) p = record {
 
 -- ---- from the first on
 
+-- nothing is in flight on so many links
+abbrev pub nothing_in_flight : (links : ℕ) → Streams
+nothing_in_flight links = record { statuses = replicate links []; user_data = replicate links [] }
+
 abbrev pub first_end : Configuration → End
 first_end c = record {
   exchange = first_state c;
-  incoming = replicate (length c.links) [];
+  incoming = nothing_in_flight (length c.links);
   following = replicate (length c.links) false;
   accepted = [];
   received = [];
