@@ -76,14 +76,14 @@ pub fn each_flow_keeps_its_order()
     ensures { each_flow_in_order }
 {}
 
-/// These laws aren't empty: by a run of 25 moves a message that stands on a link as it fails at
+/// These laws aren't empty: by a run of 39 moves a message that stands on a link as it fails at
 /// both ends is accepted at one node and received by the other, through a changeover order and its
 /// answer, and no flag is raised.
 pub fn a_message_crosses_a_failure()
     ensures { Crosses }
 {}
 
-/// Nor is the law of codes. The run goes on by 18 moves: the link that failed returns, and the flow
+/// Nor is the law of codes. The run goes on by 27 moves: the link that failed returns, and the flow
 /// goes back to it behind a changeback declaration. A message that is accepted meanwhile is held
 /// until the declaration is confirmed, goes by the link that returned, and is received behind the
 /// first; no flag is raised.

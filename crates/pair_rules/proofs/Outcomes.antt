@@ -183,9 +183,9 @@ module _ (c z : Configuration) (f : AreFacing c z) (p : PairState) (s : Stands c
   -- a link status brings none
   status-tells : (text : List ℕ) (frame : FrameValue) → read_frame text ≡ Ok frame → IsTelling frame → (o : Option Message) → new_message link text a ≡ o
       → ComesTo c (for_users (option_to_list o)) (outcome_of whole (FrameCame link text) a)
-  status-tells text frame reads telling None e = idle-quiet (outcome_of whole (FrameCame link text) a) (nothing-delivered a link text e)
-  status-tells text frame reads telling (Some m) e =
-      (let no : None ≡ Some m = sym (tells-none frame telling) ∙ ap carried_message (sym reads) ∙ new-carried link text a m e in absurd cc)
+  status-tells text frame reads says None e = idle-quiet (outcome_of whole (FrameCame link text) a) (nothing-delivered a link text e)
+  status-tells text frame reads says (Some m) e =
+      (let no : None ≡ Some m = sym (tells-none frame says) ∙ ap carried_message (sym reads) ∙ new-carried link text a m e in absurd cc)
 
   -- whichever frame comes, and what it leaves in flight
   came-tells : (text : List ℕ) (left : Streams) → ComesTo c (for_users (option_to_list (new_message link text a))) (outcome_of whole (FrameCame link text) a)

@@ -3,3 +3,4 @@ pub mod Reached
 pub mod Rules
 pub mod Turns
 pub mod Promised
+pub mod Telling

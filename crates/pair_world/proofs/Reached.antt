@@ -5,7 +5,7 @@ use Rattle.exchange_rules.specs.Lasting.{HasAllPlaces}
 use Rattle.exchange_rules.specs.declared.wants.Wants.{Wants}
 use Rattle.exchange_rules.specs.declared.wants.Wants.TheVariants.{Nothing, Open, Close}
 use Rattle.exchange_rules.specs.Exchange.{wants_of}
-use Rattle.pair_rules.specs.Pairs.{PairState, Step, AtNear, AtFar, Submits, Takes, Delivers, Loses, Ticks, Activates, Deactivates, OpensFirst, OpensSecond, Turn, after_steps, did, first_pair, turn, turned}
+use Rattle.pair_rules.specs.Pairs.{PairState, Step, AtNear, AtFar, Submits, Takes, Delivers, DeliversStatus, LosesStatus, DoublesStatus, AddsTitle, RemovesTitle, Loses, Ticks, Activates, Deactivates, OpensFirst, OpensSecond, Turn, after_steps, did, first_pair, turn, turned}
 use Rattle.pair_rules.specs.Promises.{AreJoined}
 use Rattle.pair_rules.proofs.Standing.{Stands}
 use Rattle.pair_rules.proofs.AllSteps.{AreFacing, facing-back, stands-turned}
@@ -13,15 +13,17 @@ use Rattle.pair_rules.proofs.Promised.{all-stand, are-facing}
 use Rattle.pair_world.specs.Told.{if_wanted, turn_told}
 use Rattle.pair_world.specs.Stands.{IsReached}
 
--- the near end has all its places, and the far end a list of frames for each of its links
+-- the near end has all its places, and the far end two lists of frames for each of its links
 pub record IsReady (p : PairState) : Type 0 where
   pub places : HasAllPlaces p.near.exchange.settings p.near.exchange.node
-  pub many : length p.far.incoming ≡ length p.near.exchange.node.parts.links
+  pub statuses : length p.far.incoming.statuses ≡ length p.near.exchange.node.parts.links
+  pub user_data : length p.far.incoming.user_data ≡ length p.near.exchange.node.parts.links
 
 ready : (c z : Configuration) → AreFacing c z → (p : PairState) → Stands c z p → IsReady p
 ready c z f p s = record {
   places = subst (λ (x : Configuration). HasAllPlaces x p.near.exchange.node) (sym s.near_settings) s.near_good.fits.places;
-  many = s.far_texts.many ∙ f.near_joined.many ∙ sym s.near_good.fits.places.parts.links;
+  statuses = s.far_texts.statuses.many ∙ f.near_joined.many ∙ sym s.near_good.fits.places.parts.links;
+  user_data = s.far_texts.user_data.many ∙ f.near_joined.many ∙ sym s.near_good.fits.places.parts.links;
 }
 
 -- at both ends
@@ -73,6 +75,11 @@ reached-told (AtFar (OpensFirst link)) p r =
 reached-told (AtNear (Submits message)) p r = reached-more (AtNear (Submits message)) p r
 reached-told (AtNear (Takes link)) p r = reached-more (AtNear (Takes link)) p r
 reached-told (AtNear (Delivers link)) p r = reached-more (AtNear (Delivers link)) p r
+reached-told (AtNear (DeliversStatus link)) p r = reached-more (AtNear (DeliversStatus link)) p r
+reached-told (AtNear (LosesStatus link)) p r = reached-more (AtNear (LosesStatus link)) p r
+reached-told (AtNear (DoublesStatus link)) p r = reached-more (AtNear (DoublesStatus link)) p r
+reached-told (AtNear (AddsTitle row is_memory_refused)) p r = reached-more (AtNear (AddsTitle row is_memory_refused)) p r
+reached-told (AtNear (RemovesTitle key digits)) p r = reached-more (AtNear (RemovesTitle key digits)) p r
 reached-told (AtNear (Loses link)) p r = reached-more (AtNear (Loses link)) p r
 reached-told (AtNear Ticks) p r = reached-more (AtNear Ticks) p r
 reached-told (AtNear (Activates link)) p r = reached-more (AtNear (Activates link)) p r
@@ -81,6 +88,11 @@ reached-told (AtNear (OpensSecond link)) p r = reached-more (AtNear (OpensSecond
 reached-told (AtFar (Submits message)) p r = reached-more (AtFar (Submits message)) p r
 reached-told (AtFar (Takes link)) p r = reached-more (AtFar (Takes link)) p r
 reached-told (AtFar (Delivers link)) p r = reached-more (AtFar (Delivers link)) p r
+reached-told (AtFar (DeliversStatus link)) p r = reached-more (AtFar (DeliversStatus link)) p r
+reached-told (AtFar (LosesStatus link)) p r = reached-more (AtFar (LosesStatus link)) p r
+reached-told (AtFar (DoublesStatus link)) p r = reached-more (AtFar (DoublesStatus link)) p r
+reached-told (AtFar (AddsTitle row is_memory_refused)) p r = reached-more (AtFar (AddsTitle row is_memory_refused)) p r
+reached-told (AtFar (RemovesTitle key digits)) p r = reached-more (AtFar (RemovesTitle key digits)) p r
 reached-told (AtFar (Loses link)) p r = reached-more (AtFar (Loses link)) p r
 reached-told (AtFar Ticks) p r = reached-more (AtFar Ticks) p r
 reached-told (AtFar (Activates link)) p r = reached-more (AtFar (Activates link)) p r

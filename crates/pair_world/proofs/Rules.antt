@@ -1,6 +1,6 @@
 -- What becomes of what is done at one end, on what is kept, is what is kept of what becomes of it.
 use Rattle.std.proofs.Common.{◌≡◌, ◌<◌, ℕ, Bool, true, false, List, [], ◌∷◌, ◌++◌, length, Option, Some, None, nat_lt, refl, ap, sym, subst, ◌∙◌, arith}
-use Rattle.std.specs.Prelude.{if◌then◌else◌, drop, slice_get, slice_set}
+use Rattle.std.specs.Prelude.{◌&&◌, if◌then◌else◌, slice_get, slice_set}
 use Rattle.std.specs.Option.{option_map}
 use Rattle.std.proofs.lemmas.Bool.Decides.{nat_tests}
 use Rattle.std.proofs.lemmas.List.{set-get_or}
@@ -8,24 +8,24 @@ use Rattle.signalling_types.specs.Message.{Message}
 use Rattle.settings_rows.specs.Configuration.{Configuration}
 use Rattle.signalling_types.specs.declared.cause.Cause.TheVariants.{NotInProfile}
 use Rattle.signalling_types.specs.declared.outcome.Outcome.TheVariants.{Handled, Ignored, Refused}
-use Rattle.m2pa_codec.specs.Frames.{FrameValue, spelled}
+use Rattle.m2pa_codec.specs.Frames.{FrameValue, EmptyFrame, MessageFrame, StatusFrame, spelled}
 use Rattle.exchange_rules.specs.declared.wants.Wants.{Wants}
 use Rattle.exchange_rules.specs.declared.wants.Wants.TheVariants as wants
 use Rattle.exchange_rules.specs.State.{Node}
 use Rattle.exchange_rules.specs.Queues.{WholeQueues, whole}
-use Rattle.exchange_rules.specs.Happening.{Happening, CameUp, WentDown, FrameCame, Ticked, Submitted, Activated, Deactivated}
+use Rattle.exchange_rules.specs.Happening.{Happening, CameUp, WentDown, FrameCame, Ticked, Submitted, Activated, Deactivated, TitleAdded, TitleRemoved}
 use Rattle.exchange_rules.specs.Sending.{Outgoing, SendsStatus, SendsMessage, Acknowledges, SendsNothing, frame_from, after_sending, goes_out}
 use Rattle.exchange_rules.specs.Exchange.{after, outcome_of, frame_to_take, taken, wants_of}
 use Rattle.exchange_rules.specs.Sound.{Abstract, IsSound}
 use Rattle.exchange.specs.KeptQueues.{kept}
 use Rattle.exchange.specs.Stands.{StandsFor, kept_of}
 use Rattle.exchange.proofs.Standing.{stands-after, stands-outcome, stands-frame, stands-taken}
-use Rattle.pair_rules.specs.Pairs.{PairState, Turn, Doing, Submits, Takes, Delivers, Loses, Ticks, Activates, Deactivates, OpensFirst, OpensSecond, accepted_by, deliver_frame, happens, in_flight, is_for, may_follow, may_open_at, opens_first, opens_second, take_frame}
+use Rattle.pair_rules.specs.Pairs.{PairState, Streams, Turn, Doing, Submits, Takes, Delivers, DeliversStatus, LosesStatus, DoublesStatus, Loses, Ticks, Activates, Deactivates, AddsTitle, RemovesTitle, OpensFirst, OpensSecond, accepted_by, change_statuses, deliver_frame, emptied, handed_over, happens, in_flight, is_sccp, launched, may_follow, may_open_at, opens_first, opens_second, take_frame, with_status_twice, without_data, without_status}
 use Rattle.pair_rules.proofs.Opening.{may-open, wants-open}
 use Rattle.pair_rules.proofs.Steps.{taken-there}
 use Rattle.pair_world.specs.Told.{did_here, if_wanted}
-use Rattle.pair_world.specs.KeptEnds.{end_follows, end_happens, end_submits, end_hears, end_delivers, kept_end_of}
-use Rattle.pair_world.specs.KeptPairs.{KeptTurn, alone, kept_did, kept_fetched, kept_ignored, kept_opens_first, kept_pair_of, kept_takes, kept_turn_of}
+use Rattle.pair_world.specs.KeptEnds.{KeptEnd, behind_its, end_changes, end_follows, end_happens, end_hears, kept_end_of}
+use Rattle.pair_world.specs.KeptPairs.{KeptTurn, alone, has_link, kept_did, kept_fetched, kept_ignored, kept_opens_first, kept_pair_of, kept_takes, kept_turn_of}
 use Rattle.pair_world.proofs.Newly.{newly-same, stands-itself}
 use Rattle.pair_world.proofs.Reached.{IsReady}
 
@@ -50,6 +50,9 @@ nothing-taken a link e =
 
 not-there : (link count : ℕ) → link < count → nat_lt link count ≡ true
 not-there link count l = grind (arith, nat_tests, l)
+
+both-there : {b c : Bool} → b ≡ true → c ≡ true → (b && c) ≡ true
+both-there {b} {c} e f = ap (λ (x : Bool). x && c) e ∙ f
 
 module _ (p : PairState) (near : IsSound p.near.exchange) (far : IsSound p.far.exchange) where
   abbrev a : Abstract
@@ -78,29 +81,19 @@ module _ (p : PairState) (near : IsSound p.near.exchange) (far : IsSound p.far.e
 
   -- ---- a message is handed over
 
-  abbrev handed-over : (m : Message) → Turn
-  handed-over m = record {
-    outcome = outcome_of whole (Submitted m) a;
-    left = record p {
-      near = record p.near {
-        exchange = after whole (Submitted m) a;
-        accepted = p.near.accepted ++ accepted_by (outcome_of whole (Submitted m) a) m;
-      };
-    };
-  }
-
   submit-by : (b : Bool) (m : Message)
       → IsSame
-      (alone (if b then record {
+      (alone (if b then record { outcome = Refused NotInProfile; left = kept_end_of p.near }
+      else record {
         outcome = outcome_of kept (Submitted m) (kept_of a);
         left = record (kept_end_of p.near) {
           exchange = after kept (Submitted m) (kept_of a);
           accepted = p.near.accepted ++ accepted_by (outcome_of kept (Submitted m) (kept_of a)) m;
         };
-      }
-      else record { outcome = Refused NotInProfile; left = kept_end_of p.near }) (kept_end_of p.far))
-      (if b then handed-over m else record { outcome = Refused NotInProfile; left = p })
-  submit-by true m =
+      }) (kept_end_of p.far))
+      (if b then record { outcome = Refused NotInProfile; left = p } else handed_over m p)
+  submit-by true m = record { turn = refl; near = near; far = far }
+  submit-by false m =
       let o = stands-outcome (Submitted m) (kept_of a) a k in
       let s = stands-after (Submitted m) (kept_of a) a k in
       record {
@@ -120,21 +113,40 @@ module _ (p : PairState) (near : IsSound p.near.exchange) (far : IsSound p.far.e
         near = s.sound;
         far = far;
       }
-  submit-by false m = record { turn = refl; near = near; far = far }
 
   -- ---- a frame is fetched
 
-  fetch-by : (link : ℕ) → IsReady p → (frame : Option FrameValue) (b : Bool) → frame_to_take whole a link ≡ frame → nat_lt link (length p.far.incoming) ≡ b
+  abbrev kept_far : Streams → KeptEnd
+  kept_far s = record { exchange = kept_of p.far.exchange; incoming = s; following = p.far.following; accepted = p.far.accepted; received = p.far.received }
+
+  -- what is in flight to the far end is the same, where no frame goes out, or none on a stream
+  statuses-same : (link : ℕ) → slice_set p.far.incoming.statuses link (in_flight p.far.incoming.statuses link) ≡ p.far.incoming.statuses
+  statuses-same link = set-get_or p.far.incoming.statuses link []
+
+  data-same : (link : ℕ) → slice_set p.far.incoming.user_data link (in_flight p.far.incoming.user_data link) ≡ p.far.incoming.user_data
+  data-same link = set-get_or p.far.incoming.user_data link []
+
+  -- a frame goes out on its stream
+  behind-same : (link : ℕ) (frame : FrameValue) → behind_its (Some (spelled frame)) link p.far.incoming ≡ launched frame link p.far.incoming
+  behind-same link (EmptyFrame bsn fsn) =
+      ap (λ (xs : List (List (List ℕ))). record { statuses = xs; user_data = slice_set p.far.incoming.user_data link (in_flight p.far.incoming.user_data link ++ spelled (EmptyFrame bsn fsn) ∷ []) }) (statuses-same link)
+  behind-same link (MessageFrame bsn fsn sio sif) =
+      ap (λ (xs : List (List (List ℕ))). record { statuses = xs; user_data = slice_set p.far.incoming.user_data link (in_flight p.far.incoming.user_data link ++ spelled (MessageFrame bsn fsn sio sif) ∷ []) }) (statuses-same link)
+  behind-same link (StatusFrame bsn fsn status) =
+      ap (λ (xs : List (List (List ℕ))). record { statuses = slice_set p.far.incoming.statuses link (in_flight p.far.incoming.statuses link ++ spelled (StatusFrame bsn fsn status) ∷ []); user_data = xs }) (data-same link)
+
+  fetch-by : (link : ℕ) → IsReady p → (frame : Option FrameValue) (b : Bool) → frame_to_take whole a link ≡ frame → has_link link p.far.incoming ≡ b
       → IsSame (if b then kept_fetched (option_map spelled frame) link (kept_pair_of p) else kept_ignored (kept_pair_of p)) (take_frame frame link p)
   fetch-by link ready None true e t =
       let x = (stands-taken link (kept_of a) a k).kept ∙ ap kept_of (nothing-taken a link e) in
-      let y = set-get_or p.far.incoming link [] in
+      let y = statuses-same link in
+      let v = data-same link in
       record {
         turn = λ i. record {
           outcome = Ignored;
           left = record {
             near = record { exchange = x i; incoming = p.near.incoming; following = p.near.following; accepted = p.near.accepted; received = p.near.received };
-            far = record { exchange = kept_of p.far.exchange; incoming = y i; following = p.far.following; accepted = p.far.accepted; received = p.far.received };
+            far = kept_far (record { statuses = y i; user_data = v i });
           };
         };
         near = near;
@@ -143,41 +155,38 @@ module _ (p : PairState) (near : IsSound p.near.exchange) (far : IsSound p.far.e
   fetch-by link ready None false e t = record { turn = refl; near = near; far = far }
   fetch-by link ready (Some frame) true e t =
       let s = stands-taken link (kept_of a) a k in
+      let y = behind-same link frame in
       record {
         turn = λ i. record {
           outcome = Handled;
           left = record {
             near = record { exchange = s.kept i; incoming = p.near.incoming; following = p.near.following; accepted = p.near.accepted; received = p.near.received };
-            far = record {
-              exchange = kept_of p.far.exchange;
-              incoming = slice_set p.far.incoming link (in_flight p.far.incoming link ++ spelled frame ∷ []);
-              following = p.far.following;
-              accepted = p.far.accepted;
-              received = p.far.received;
-            };
+            far = kept_far (y i);
           };
         };
         near = s.sound;
         far = far;
       }
   fetch-by link ready (Some frame) false e t =
-      let there : link < length p.far.incoming = subst (λ (n : ℕ). link < n) (sym ready.many) (taken-there a.settings link a.node frame e) in
-      let not_there : nat_lt link (length p.far.incoming) ≡ true = not-there link (length p.far.incoming) there in
+      let l : link < length a.node.parts.links = taken-there a.settings link a.node frame e in
+      let no : has_link link p.far.incoming ≡ true =
+      both-there (not-there link (length p.far.incoming.statuses) (subst (λ (n : ℕ). link < n) (sym ready.statuses) l))
+      (not-there link (length p.far.incoming.user_data) (subst (λ (n : ℕ). link < n) (sym ready.user_data) l)) in
       absurd cc
 
   take-same : (link : ℕ) → IsReady p → IsSame (kept_takes link (kept_pair_of p)) (take_frame (frame_to_take whole a link) link p)
   take-same link ready =
       subst (λ (frame : Option FrameValue).
-      IsSame (if nat_lt link (length p.far.incoming) then kept_fetched (option_map spelled frame) link (kept_pair_of p) else kept_ignored (kept_pair_of p))
+      IsSame (if has_link link p.far.incoming then kept_fetched (option_map spelled frame) link (kept_pair_of p) else kept_ignored (kept_pair_of p))
       (take_frame (frame_to_take whole a link) link p))
       (sym (stands-frame link (kept_of a) a k))
-      (fetch-by link ready (frame_to_take whole a link) (nat_lt link (length p.far.incoming)) refl refl)
+      (fetch-by link ready (frame_to_take whole a link) (has_link link p.far.incoming) refl refl)
 
   -- ---- a frame comes
 
-  hear-by : (link : ℕ) → IsReady p → (text : Option (List ℕ)) → IsSame (alone (end_hears text link (kept_end_of p.near)) (kept_end_of p.far)) (deliver_frame text link p)
-  hear-by link ready None = record { turn = refl; near = near; far = far }
-  hear-by link ready (Some text) =
+  hear-by : (link : ℕ) → IsReady p → (text : Option (List ℕ)) (left : Streams) → IsSame (alone (end_hears text link left (kept_end_of p.near)) (kept_end_of p.far)) (deliver_frame text link left p)
+  hear-by link ready None left = record { turn = refl; near = near; far = far }
+  hear-by link ready (Some text) left =
       let o = stands-outcome (FrameCame link text) (kept_of a) a k in
       let s = stands-after (FrameCame link text) (kept_of a) a k in
       let r = newly-same link text a near ready.places in
@@ -187,7 +196,7 @@ module _ (p : PairState) (near : IsSound p.near.exchange) (far : IsSound p.far.e
           left = record {
             near = record {
               exchange = s.kept i;
-              incoming = slice_set p.near.incoming link (drop 1 (in_flight p.near.incoming link));
+              incoming = left;
               following = p.near.following;
               accepted = p.near.accepted;
               received = p.near.received ++ r i;
@@ -198,6 +207,11 @@ module _ (p : PairState) (near : IsSound p.near.exchange) (far : IsSound p.far.e
         near = s.sound;
         far = far;
       }
+
+  -- link statuses in flight change
+  change-by : (text : Option (List ℕ)) (left : Streams) → IsSame (alone (end_changes text left (kept_end_of p.near)) (kept_end_of p.far)) (change_statuses text left p)
+  change-by None left = record { turn = refl; near = near; far = far }
+  change-by (Some text) left = record { turn = refl; near = near; far = far }
 
   -- ---- a link opens
 
@@ -213,14 +227,14 @@ module _ (p : PairState) (near : IsSound p.near.exchange) (far : IsSound p.far.e
           left = record {
             near = record {
               exchange = s.kept i;
-              incoming = slice_set p.near.incoming link [];
+              incoming = emptied link p.near.incoming;
               following = slice_set p.near.following link false;
               accepted = p.near.accepted;
               received = p.near.received;
             };
             far = record {
               exchange = kept_of p.far.exchange;
-              incoming = slice_set p.far.incoming link [];
+              incoming = emptied link p.far.incoming;
               following = slice_set p.far.following link true;
               accepted = p.far.accepted;
               received = p.far.received;
@@ -273,9 +287,14 @@ module _ (p : PairState) (near : IsSound p.near.exchange) (far : IsSound p.far.e
   -- ---- all that is done at one end
 
   pub did-same : (what : Doing) → IsReady p → IsSame (kept_did what (kept_pair_of p)) (did_here what p)
-  did-same (Submits m) ready = submit-by (is_for p.far.exchange.settings.own m) m
+  did-same (Submits m) ready = submit-by (is_sccp m) m
   did-same (Takes link) ready = take-same link ready
-  did-same (Delivers link) ready = hear-by link ready (slice_get (in_flight p.near.incoming link) 0)
+  did-same (Delivers link) ready = hear-by link ready (slice_get (in_flight p.near.incoming.user_data link) 0) (without_data link p.near.incoming)
+  did-same (DeliversStatus link) ready = hear-by link ready (slice_get (in_flight p.near.incoming.statuses link) 0) (without_status link p.near.incoming)
+  did-same (LosesStatus link) ready = change-by (slice_get (in_flight p.near.incoming.statuses link) 0) (without_status link p.near.incoming)
+  did-same (DoublesStatus link) ready = change-by (slice_get (in_flight p.near.incoming.statuses link) 0) (with_status_twice link p.near.incoming)
+  did-same (AddsTitle row is_memory_refused) ready = happens-same (TitleAdded row is_memory_refused)
+  did-same (RemovesTitle key digits) ready = happens-same (TitleRemoved key digits)
   did-same (Loses link) ready = happens-same (WentDown link)
   did-same Ticks ready = happens-same Ticked
   did-same (Activates link) ready = happens-same (Activated link)

@@ -1,13 +1,14 @@
 -- One end of a pair as the code keeps it, and what becomes of it: the rules of an end of two abstract exchanges, on
 -- what is kept.
-use Rattle.std.specs.Prelude.{ℕ, Bool, true, false, nat_eq, List, [], ◌∷◌, ◌++◌, drop, slice_get, slice_set, Option, Some, None}
+use Rattle.std.specs.Prelude.{ℕ, Bool, true, false, nat_eq, List, [], ◌∷◌, ◌++◌, slice_get, slice_set, drop, take}
+use Rattle.std.specs.Prelude.{Option, Some, None}
 use Rattle.std.specs.Prelude.{option_to_list, slice_index_or, if◌then◌else◌}
 use Rattle.std.specs.Option.{option_map}
 use Rattle.signalling_types.specs.Message.{Message}
 use Rattle.signalling_types.specs.declared.cause.Cause.TheVariants.{NotInProfile}
 use Rattle.signalling_types.specs.declared.outcome.Outcome.{Outcome}
 use Rattle.signalling_types.specs.declared.outcome.Outcome.TheVariants.{Handled, Ignored, Refused}
-use Rattle.m2pa_codec.specs.Frames.{spelled}
+use Rattle.m2pa_codec.specs.Frames.{link_status, spelled}
 use Rattle.m2pa_codec.specs.Reading.{read_frame}
 use Rattle.exchange_rules.specs.Happening.{Happening, CameUp, FrameCame, Submitted}
 use Rattle.exchange_rules.specs.declared.wants.Wants.{Wants}
@@ -18,13 +19,14 @@ use Rattle.exchange.specs.declared.view.LinkView.{LinkView}
 use Rattle.exchange.specs.KeptQueues.{kept}
 use Rattle.exchange.specs.Stands.{Kept, kept_of}
 use Rattle.exchange.specs.Views.{link_view}
-use Rattle.pair_rules.specs.Pairs.{End, accepted_by, for_users, in_flight, is_for}
+use Rattle.pair_rules.specs.Pairs.{End, Streams, accepted_by, emptied, for_users, in_flight, is_sccp}
+use Rattle.pair_rules.specs.Pairs.{with_status_twice, without_data, without_status}
 
--- an end: what is kept of its exchange, the frames in flight to it, on which links it may follow the other, and what it
+-- an end: what is kept of its exchange, what is in flight to it, on which links it may follow the other, and what it
 -- accepted and received
 pub record KeptEnd : Type 0 where
   pub exchange : Kept
-  pub incoming : List (List (List ℕ))
+  pub incoming : Streams
   pub following : List Bool
   pub accepted : List Message
   pub received : List Message
@@ -52,19 +54,19 @@ end_happens what e = record {
   left = record e { exchange = after kept what e.exchange };
 }
 
--- ---- a message is handed over, for this point
+-- ---- a message is handed over
 
-abbrev pub end_submits : (point : ℕ) → Message → KeptEnd → EndTurn
-end_submits point m e =
-    if is_for point m
-    then record {
+abbrev pub end_submits : Message → KeptEnd → EndTurn
+end_submits m e =
+    if is_sccp m
+    then record { outcome = Refused NotInProfile; left = e }
+    else record {
       outcome = outcome_of kept (Submitted m) e.exchange;
       left = record e {
         exchange = after kept (Submitted m) e.exchange;
         accepted = e.accepted ++ accepted_by (outcome_of kept (Submitted m) e.exchange) m;
       };
     }
-    else record { outcome = Refused NotInProfile; left = e }
 
 -- ---- a frame comes
 
@@ -90,27 +92,53 @@ abbrev pub newly_received : (link : ℕ) → (text : List ℕ) → Kept → List
 newly_received link text k =
     new_if_other (accepted_number k link) (accepted_number (after kept (FrameCame link text) k) link) text
 
--- the frames in flight without the first of a link
+-- the frames of one stream without the first of a link
 abbrev pub without_first : Option (List ℕ) → (link : ℕ) → List (List (List ℕ)) → List (List (List ℕ))
 without_first (Some text) link frames = slice_set frames link (drop 1 (in_flight frames link))
 without_first None link frames = frames
 
-abbrev pub end_hears : Option (List ℕ) → (link : ℕ) → KeptEnd → EndTurn
-end_hears (Some text) link e = record {
+-- a frame comes, and so much is left in flight
+abbrev pub end_hears : Option (List ℕ) → (link : ℕ) → (left : Streams) → KeptEnd → EndTurn
+end_hears (Some text) link left e = record {
   outcome = outcome_of kept (FrameCame link text) e.exchange;
   left = record {
     exchange = after kept (FrameCame link text) e.exchange;
-    incoming = without_first (Some text) link e.incoming;
+    incoming = left;
     following = e.following;
     accepted = e.accepted;
     received = e.received ++ newly_received link text e.exchange;
   };
 }
-end_hears None link e = record { outcome = Ignored; left = e }
+end_hears None link left e = record { outcome = Ignored; left = e }
 
--- the first frame in flight on a link comes
+-- the next User Data, or the next link status, that is in flight on a link comes
 abbrev pub end_delivers : (link : ℕ) → KeptEnd → EndTurn
-end_delivers link e = end_hears (slice_get (in_flight e.incoming link) 0) link e
+end_delivers link e =
+    end_hears (slice_get (in_flight e.incoming.user_data link) 0) link (without_data link e.incoming) e
+
+abbrev pub end_delivers_status : (link : ℕ) → KeptEnd → EndTurn
+end_delivers_status link e =
+    end_hears (slice_get (in_flight e.incoming.statuses link) 0) link (without_status link e.incoming) e
+
+-- the frames of one stream with the first of a link twice
+abbrev pub with_first_twice : Option (List ℕ) → (link : ℕ) → List (List (List ℕ)) → List (List (List ℕ))
+with_first_twice (Some text) link frames =
+    slice_set frames link (take 1 (in_flight frames link) ++ in_flight frames link)
+with_first_twice None link frames = frames
+
+-- what is in flight changes, where a link status is
+abbrev pub end_changes : Option (List ℕ) → (left : Streams) → KeptEnd → EndTurn
+end_changes (Some text) left e = record { outcome = Handled; left = record e { incoming = left } }
+end_changes None left e = record { outcome = Ignored; left = e }
+
+-- the next link status on a link is lost, or comes twice
+abbrev pub end_loses_status : (link : ℕ) → KeptEnd → EndTurn
+end_loses_status link e =
+    end_changes (slice_get (in_flight e.incoming.statuses link) 0) (without_status link e.incoming) e
+
+abbrev pub end_doubles_status : (link : ℕ) → KeptEnd → EndTurn
+end_doubles_status link e =
+    end_changes (slice_get (in_flight e.incoming.statuses link) 0) (with_status_twice link e.incoming) e
 
 -- ---- a link opens
 
@@ -118,13 +146,13 @@ end_delivers link e = end_hears (slice_get (in_flight e.incoming link) 0) link e
 abbrev pub end_opens_first : (link : ℕ) → KeptEnd → KeptEnd
 end_opens_first link e = record e {
   exchange = after kept (CameUp link) e.exchange;
-  incoming = slice_set e.incoming link [];
+  incoming = emptied link e.incoming;
   following = slice_set e.following link false;
 }
 
 abbrev pub end_may_follow : (link : ℕ) → KeptEnd → KeptEnd
 end_may_follow link e = record e {
-  incoming = slice_set e.incoming link [];
+  incoming = emptied link e.incoming;
   following = slice_set e.following link true;
 }
 
@@ -152,6 +180,29 @@ text_to_take k link = option_map spelled (frame_to_take kept k link)
 abbrev pub behind : List (List ℕ) → Option (List ℕ) → List (List ℕ)
 behind frames (Some text) = frames ++ text ∷ []
 behind frames None = frames
+
+-- the message type of a frame says which stream it goes out on (RFC 4165 §2.1.4)
+abbrev pub is_of_type : (kind : ℕ) → Option ℕ → Bool
+is_of_type kind (Some octet) = nat_eq octet kind
+is_of_type kind None = false
+
+abbrev pub is_link_status : List ℕ → Bool
+is_link_status text = is_of_type link_status (slice_get text 3)
+
+abbrev pub status_in : Option (List ℕ) → Option (List ℕ)
+status_in (Some text) = if is_link_status text then Some text else None
+status_in None = None
+
+abbrev pub data_in : Option (List ℕ) → Option (List ℕ)
+data_in (Some text) = if is_link_status text then None else Some text
+data_in None = None
+
+-- it is in flight behind the others of its stream
+abbrev pub behind_its : Option (List ℕ) → (link : ℕ) → Streams → Streams
+behind_its text link s = record {
+  statuses = slice_set s.statuses link (behind (in_flight s.statuses link) (status_in text));
+  user_data = slice_set s.user_data link (behind (in_flight s.user_data link) (data_in text));
+}
 
 abbrev pub take_outcome : Option (List ℕ) → Outcome
 take_outcome (Some text) = Handled

@@ -1,17 +1,19 @@
 -- Both ends of a pair as the code keeps them, and what becomes of a step.
-use Rattle.std.specs.Prelude.{ℕ, nat_lt, List, length, slice_set, Option, if◌then◌else◌}
+use Rattle.std.specs.Prelude.{ℕ, Bool, ◌&&◌, nat_lt, List, length, Option, if◌then◌else◌}
 use Rattle.signalling_types.specs.declared.outcome.Outcome.{Outcome}
 use Rattle.signalling_types.specs.declared.outcome.Outcome.TheVariants.{Handled, Ignored}
 use Rattle.exchange_rules.specs.declared.wants.Wants.{Wants}
 use Rattle.exchange_rules.specs.declared.wants.Wants.TheVariants.{Open}
-use Rattle.exchange_rules.specs.Happening.{WentDown, Ticked, Activated, Deactivated}
+use Rattle.exchange_rules.specs.Happening.{WentDown, Ticked, Activated, Deactivated, TitleAdded, TitleRemoved}
 use Rattle.exchange_rules.specs.Exchange.{taken, wants_of}
 use Rattle.exchange.specs.KeptQueues.{kept}
-use Rattle.pair_rules.specs.Pairs.{PairState, Doing, Submits, Takes, Delivers, Loses, Ticks, Activates, Deactivates}
-use Rattle.pair_rules.specs.Pairs.{OpensFirst, OpensSecond, Step, AtNear, AtFar, Turn, in_flight}
+use Rattle.pair_rules.specs.Pairs.{PairState, Streams, Doing, Submits, Takes, Delivers, DeliversStatus, LosesStatus}
+use Rattle.pair_rules.specs.Pairs.{DoublesStatus, Loses, Ticks, Activates, Deactivates, AddsTitle, RemovesTitle}
+use Rattle.pair_rules.specs.Pairs.{OpensFirst, OpensSecond, Step, AtNear, AtFar, Turn}
 use Rattle.pair_world.specs.KeptEnds.{KeptEnd, EndTurn, kept_end_of, end_happens, end_submits, end_delivers}
+use Rattle.pair_world.specs.KeptEnds.{end_delivers_status, end_loses_status, end_doubles_status}
 use Rattle.pair_world.specs.KeptEnds.{end_opens_first, end_may_follow, end_opens_second}
-use Rattle.pair_world.specs.KeptEnds.{text_to_take, behind, take_outcome}
+use Rattle.pair_world.specs.KeptEnds.{text_to_take, behind_its, take_outcome}
 
 pub record KeptPair : Type 0 where
   pub near : KeptEnd
@@ -51,13 +53,17 @@ kept_fetched text link p = record {
   outcome = take_outcome text;
   left = record {
     near = record p.near { exchange = taken kept p.near.exchange link };
-    far = record p.far { incoming = slice_set p.far.incoming link (behind (in_flight p.far.incoming link) text) };
+    far = record p.far { incoming = behind_its text link p.far.incoming };
   };
 }
 
+-- whether a link is one of those that something can be in flight on
+abbrev pub has_link : (link : ℕ) → Streams → Bool
+has_link link s = nat_lt link (length s.statuses) && nat_lt link (length s.user_data)
+
 abbrev pub kept_takes : (link : ℕ) → KeptPair → KeptTurn
 kept_takes link p =
-    if nat_lt link (length p.far.incoming)
+    if has_link link p.far.incoming
     then kept_fetched (text_to_take p.near.exchange link) link p
     else kept_ignored p
 
@@ -71,13 +77,18 @@ kept_opens_first near far link p = kept_ignored p
 
 -- what is done at the near end
 abbrev pub kept_did : Doing → KeptPair → KeptTurn
-kept_did (Submits m) p = alone (end_submits p.far.exchange.settings.own m p.near) p.far
+kept_did (Submits m) p = alone (end_submits m p.near) p.far
 kept_did (Takes link) p = kept_takes link p
 kept_did (Delivers link) p = alone (end_delivers link p.near) p.far
+kept_did (DeliversStatus link) p = alone (end_delivers_status link p.near) p.far
+kept_did (LosesStatus link) p = alone (end_loses_status link p.near) p.far
+kept_did (DoublesStatus link) p = alone (end_doubles_status link p.near) p.far
 kept_did (Loses link) p = alone (end_happens (WentDown link) p.near) p.far
 kept_did Ticks p = alone (end_happens Ticked p.near) p.far
 kept_did (Activates link) p = alone (end_happens (Activated link) p.near) p.far
 kept_did (Deactivates link) p = alone (end_happens (Deactivated link) p.near) p.far
+kept_did (AddsTitle row is_memory_refused) p = alone (end_happens (TitleAdded row is_memory_refused) p.near) p.far
+kept_did (RemovesTitle key digits) p = alone (end_happens (TitleRemoved key digits) p.near) p.far
 kept_did (OpensFirst link) p =
     kept_opens_first (wants_of p.near.exchange link) (wants_of p.far.exchange link) link p
 kept_did (OpensSecond link) p = alone (end_opens_second link p.near) p.far

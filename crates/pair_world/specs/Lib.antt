@@ -4,3 +4,4 @@ pub mod KeptPairs
 pub mod Told
 pub mod Stands
 pub mod Promised
+pub mod Tells

@@ -1,10 +1,12 @@
--- What the steps of the code tell of.
+-- What the steps of the code tell of, with what was answered: that says whether memory was refused.
 use Rattle.pair_world.specs.declared.step.End.{End}
 use Rattle.pair_world.specs.declared.step.End.TheVariants as end
 use Rattle.pair_world.specs.declared.step.Step.{Step}
 use Rattle.pair_world.specs.declared.step.Step.TheVariants as step
 use Rattle.pair_world.specs.declared.step.Doing.{Doing}
 use Rattle.pair_world.specs.declared.step.Doing.TheVariants as doing
+use Rattle.signalling_types.specs.declared.outcome.Outcome.{Outcome}
+use Rattle.exchange.specs.Calls.{is_memory_refused}
 use Rattle.pair_rules.specs.Pairs as pairs
 use Rattle.pair_rules.specs.Pairs.{PairState, Turn, did, ignored, turned}
 use Rattle.exchange_rules.specs.declared.wants.Wants.{Wants}
@@ -29,16 +31,21 @@ other end.One = end.Two
 other end.Two = end.One
 
 -- what is done at one end
-abbrev pub told : Doing → pairs.Doing
-told (doing.Submit message) = pairs.Submits message
-told (doing.Take link) = pairs.Takes link
-told (doing.Deliver link) = pairs.Delivers link
-told (doing.Lose link) = pairs.Loses link
-told doing.Tick = pairs.Ticks
-told (doing.Activate link) = pairs.Activates link
-told (doing.Deactivate link) = pairs.Deactivates link
-told (doing.OpenFirst link) = pairs.OpensFirst link
-told (doing.OpenSecond link) = pairs.OpensSecond link
+abbrev pub told : Doing → Outcome → pairs.Doing
+told (doing.Submit message) outcome = pairs.Submits message
+told (doing.Take link) outcome = pairs.Takes link
+told (doing.Deliver link) outcome = pairs.Delivers link
+told (doing.DeliverStatus link) outcome = pairs.DeliversStatus link
+told (doing.LoseStatus link) outcome = pairs.LosesStatus link
+told (doing.DoubleStatus link) outcome = pairs.DoublesStatus link
+told (doing.Lose link) outcome = pairs.Loses link
+told doing.Tick outcome = pairs.Ticks
+told (doing.Activate link) outcome = pairs.Activates link
+told (doing.Deactivate link) outcome = pairs.Deactivates link
+told (doing.AddTitle row) outcome = pairs.AddsTitle row (is_memory_refused outcome)
+told (doing.RemoveTitle key digits) outcome = pairs.RemovesTitle key digits.items
+told (doing.OpenFirst link) outcome = pairs.OpensFirst link
+told (doing.OpenSecond link) outcome = pairs.OpensSecond link
 
 -- where it is done
 abbrev pub done_at : End → pairs.Doing → pairs.Step
@@ -46,16 +53,21 @@ done_at end.One what = pairs.AtNear what
 done_at end.Two what = pairs.AtFar what
 
 -- a step
-abbrev pub step_told : Step → pairs.Step
-step_told (step.Submit its message) = done_at its (pairs.Submits message)
-step_told (step.Take its link) = done_at its (pairs.Takes link)
-step_told (step.Deliver its link) = done_at its (pairs.Delivers link)
-step_told (step.Lose its link) = done_at its (pairs.Loses link)
-step_told (step.Tick its) = done_at its pairs.Ticks
-step_told (step.Activate its link) = done_at its (pairs.Activates link)
-step_told (step.Deactivate its link) = done_at its (pairs.Deactivates link)
-step_told (step.OpenFirst its link) = done_at its (pairs.OpensFirst link)
-step_told (step.OpenSecond its link) = done_at its (pairs.OpensSecond link)
+abbrev pub step_told : Step → Outcome → pairs.Step
+step_told (step.Submit its message) outcome = done_at its (pairs.Submits message)
+step_told (step.Take its link) outcome = done_at its (pairs.Takes link)
+step_told (step.Deliver its link) outcome = done_at its (pairs.Delivers link)
+step_told (step.DeliverStatus its link) outcome = done_at its (pairs.DeliversStatus link)
+step_told (step.LoseStatus its link) outcome = done_at its (pairs.LosesStatus link)
+step_told (step.DoubleStatus its link) outcome = done_at its (pairs.DoublesStatus link)
+step_told (step.Lose its link) outcome = done_at its (pairs.Loses link)
+step_told (step.Tick its) outcome = done_at its pairs.Ticks
+step_told (step.Activate its link) outcome = done_at its (pairs.Activates link)
+step_told (step.Deactivate its link) outcome = done_at its (pairs.Deactivates link)
+step_told (step.AddTitle its row) outcome = done_at its (pairs.AddsTitle row (is_memory_refused outcome))
+step_told (step.RemoveTitle its key digits) outcome = done_at its (pairs.RemovesTitle key digits.items)
+step_told (step.OpenFirst its link) outcome = done_at its (pairs.OpensFirst link)
+step_told (step.OpenSecond its link) outcome = done_at its (pairs.OpensSecond link)
 
 -- what becomes of a step. A link opens at one end first only where the other end wants it to: that it may, which is
 -- enough for an abstract pair, an exchange doesn't show

@@ -12,20 +12,29 @@ use settings::{LinkId, Outcome};
 
 /// Does what is done at the near end. After NoMemory nothing has changed.
 pub(crate) fn act(near: &mut Side, far: &mut Side, what: Doing) -> Result<Outcome, NoMemory>
-    ensures outcome { IfOk result (λ outcome. outcome ≡ (kept_did (told what) (both near.old far.old)).outcome) }
-    ensures near { OnOk result (near.new ≡ (kept_did (told what) (both near.old far.old)).left.near) }
-    ensures far { OnOk result (far.new ≡ (kept_did (told what) (both near.old far.old)).left.far) }
+    ensures outcome { IfOk result (λ outcome.
+        outcome ≡ (kept_did (told what outcome) (both near.old far.old)).outcome) }
+    ensures near { IfOk result (λ outcome.
+        near.new ≡ (kept_did (told what outcome) (both near.old far.old)).left.near) }
+    ensures far { IfOk result (λ outcome. far.new ≡ (kept_did (told what outcome) (both near.old far.old)).left.far) }
     ensures same_near { OnErr result (near.new ≡ near.old) }
     ensures same_far { OnErr result (far.new ≡ far.old) }
 {
     match what {
-        Doing::Submit(message) => near.submit(message, far.own()),
+        Doing::Submit(message) => near.submit(message),
         Doing::Take(link) => take(near, far, link),
         Doing::Deliver(link) => near.deliver(link),
+        Doing::DeliverStatus(link) => near.deliver_status(link),
+        Doing::LoseStatus(link) => Ok(near.lose_status(link)),
+        Doing::DoubleStatus(link) => near.double_status(link),
         Doing::Lose(link) => Ok(near.happen(&Event::AssociationDown(link))),
         Doing::Tick => Ok(near.happen(&Event::Tick)),
         Doing::Activate(link) => Ok(near.happen(&Event::Order(Order::Activate(link)))),
         Doing::Deactivate(link) => Ok(near.happen(&Event::Order(Order::Deactivate(link)))),
+        Doing::AddTitle(row) => Ok(near.happen(&Event::Order(Order::AddTitle(row)))),
+        Doing::RemoveTitle(key, digits) => {
+            Ok(near.happen(&Event::Order(Order::RemoveTitle(key, digits))))
+        }
         Doing::OpenFirst(link) => Ok(open_first(near, far, link)),
         Doing::OpenSecond(link) => Ok(near.open_second(link)),
     }

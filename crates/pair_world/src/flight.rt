@@ -1,11 +1,12 @@
-//! The frames in flight on one link, in one direction.
+//! The frames in flight on one stream of one link, in one direction.
 
-ghost use Rattle.std.specs.Prelude.{◌≡◌, ℕ, List, [], false, drop, slice_get, slice_index_or, slice_set};
+ghost use Rattle.std.specs.Prelude.{◌≡◌, ℕ, List, [], false, ◌++◌, drop, take, slice_get, slice_index_or, slice_set};
 ghost use Rattle.std.specs.Prelude.{IfOk, OnOk, OnErr};
 ghost use Rattle.exchange.specs.KeptQueues.{kept};
 ghost use Rattle.exchange_rules.specs.Exchange.{taken};
 ghost use Rattle.pair_rules.specs.Pairs.{in_flight};
-ghost use Rattle.pair_world.specs.KeptEnds.{text_to_take, behind, take_outcome, without_first};
+ghost use Rattle.pair_world.specs.KeptEnds.{text_to_take, behind, is_link_status, status_in, data_in};
+ghost use Rattle.pair_world.specs.KeptEnds.{take_outcome, without_first, with_first_twice};
 
 use exchange::{BUFFER_OCTETS, Exchange, FrameText, NoMemory};
 use settings::{LinkId, Outcome};
@@ -13,7 +14,13 @@ use std::alloc::Global;
 use std::collections::VecDeque;
 use std::marker::Model;
 
-/// The frames in flight on one link, in one direction: the first that went out is the first to come.
+/// The place of the message type in a frame (RFC 4165 §2.1).
+const MESSAGE_TYPE_PLACE: usize = 3;
+
+/// The message type of Link Status (RFC 4165 §2.1.4).
+const LINK_STATUS: u8 = 2;
+
+/// The frames in flight on one stream of one link, in one direction: the first that went out is the first to come.
 #[derive(Drop)]
 pub(crate) struct Flight {
     frames: VecDeque<FrameText>,
@@ -50,27 +57,58 @@ impl Flight {
         self.frames.clear();
     }
 
-    /// The next frame of a link of an exchange goes out behind the others, where there is one. After NoMemory nothing
-    /// has changed.
-    pub(crate) fn take_from(
-        &mut self,
-        exchange: &mut Exchange,
-        link: LinkId,
-    ) -> Result<Outcome, NoMemory>
-        ensures outcome { IfOk result (λ outcome. outcome ≡ take_outcome (text_to_take exchange.old link)) }
-        ensures frames { OnOk result (self.new ≡ behind self.old (text_to_take exchange.old link)) }
-        ensures exchange { OnOk result (exchange.new ≡ taken kept exchange.old link) }
-        ensures same_frames { OnErr result (self.new ≡ self.old) }
-        ensures same_exchange { OnErr result (exchange.new ≡ exchange.old) }
+    /// The first frame is in flight twice, where there is one. After NoMemory nothing has changed.
+    pub(crate) fn double(&mut self) -> Result<Outcome, NoMemory>
+        ensures outcome { IfOk result (λ outcome. outcome ≡ take_outcome (slice_get self.old 0)) }
+        ensures frames { OnOk result (self.new ≡ take 1 self.old ++ self.old) }
+        ensures unchanged { OnErr result (self.new ≡ self.old) }
     {
         self.frames.reserve(1)?;
-        match next_text(exchange, link) {
-            Some(text) => {
-                self.frames.push_back_reserved(text);
-                Ok(Outcome::Handled)
-            }
-            None => Ok(Outcome::Ignored),
-        }
+        let Some(first) = self.frames.front() else {
+            return Ok(Outcome::Ignored);
+        };
+        let again = FrameText::new(first.octets());
+        self.frames.push_front_reserved(again);
+        Ok(Outcome::Handled)
+    }
+}
+
+/// The next frame of a link of an exchange goes out behind the others of its stream, where there is one. After NoMemory
+/// nothing has changed.
+pub(crate) fn take_behind(
+    statuses: &mut Flight,
+    user_data: &mut Flight,
+    exchange: &mut Exchange,
+    link: LinkId,
+) -> Result<Outcome, NoMemory>
+    ensures outcome { IfOk result (λ outcome. outcome ≡ take_outcome (text_to_take exchange.old link)) }
+    ensures statuses { OnOk result (statuses.new ≡ behind statuses.old (status_in (text_to_take exchange.old link))) }
+    ensures data { OnOk result (user_data.new ≡ behind user_data.old (data_in (text_to_take exchange.old link))) }
+    ensures exchange { OnOk result (exchange.new ≡ taken kept exchange.old link) }
+    ensures same_statuses { OnErr result (statuses.new ≡ statuses.old) }
+    ensures same_data { OnErr result (user_data.new ≡ user_data.old) }
+    ensures same_exchange { OnErr result (exchange.new ≡ exchange.old) }
+{
+    statuses.frames.reserve(1)?;
+    user_data.frames.reserve(1)?;
+    let Some(text) = next_text(exchange, link) else {
+        return Ok(Outcome::Ignored);
+    };
+    if is_link_status(&text) {
+        statuses.frames.push_back_reserved(text);
+    } else {
+        user_data.frames.push_back_reserved(text);
+    }
+    Ok(Outcome::Handled)
+}
+
+/// Whether a frame is a link status.
+fn is_link_status(text: &FrameText) -> bool
+    ensures { result ≡ is_link_status text.now }
+{
+    match text.octets().get(MESSAGE_TYPE_PLACE) {
+        Some(kind) => *kind == LINK_STATUS,
+        None => false,
     }
 }
 
@@ -84,7 +122,7 @@ fn next_text(exchange: &mut Exchange, link: LinkId) -> Option<FrameText>
     Some(FrameText::new(&buffer[..count]))
 }
 
-/// The first frame in flight on a link comes, where there is one.
+/// The first frame in flight on a link of a stream comes, where there is one.
 pub(crate) fn next_in_flight(incoming: &mut Vec<Flight>, link: LinkId) -> Option<FrameText>
     ensures first { result ≡ slice_get (in_flight incoming.old.items link) 0 }
     ensures rest { incoming.new.items ≡ without_first result link incoming.old.items }
@@ -93,6 +131,20 @@ pub(crate) fn next_in_flight(incoming: &mut Vec<Flight>, link: LinkId) -> Option
         return None;
     }
     incoming[link.index()].pop()
+}
+
+/// The first frame in flight on a link of a stream comes twice, where there is one. After NoMemory nothing has changed.
+pub(crate) fn double_in_flight(frames: &mut Vec<Flight>, link: LinkId) -> Result<Outcome, NoMemory>
+    ensures outcome { IfOk result (λ outcome.
+        outcome ≡ take_outcome (slice_get (in_flight frames.old.items link) 0)) }
+    ensures frames { OnOk result (frames.new.items ≡
+        with_first_twice (slice_get (in_flight frames.old.items link) 0) link frames.old.items) }
+    ensures unchanged { OnErr result (frames.new.items ≡ frames.old.items) }
+{
+    if link.index() >= frames.len() {
+        return Ok(Outcome::Ignored);
+    }
+    frames[link.index()].double()
 }
 
 /// Nothing is in flight on a link any more.

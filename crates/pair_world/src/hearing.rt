@@ -11,8 +11,11 @@ use exchange::{Event, Exchange, Frame, FrameText, LONGEST_FRAME, decode};
 use settings::{Limits, LinkId, Msu, Outcome};
 use signalling_types::Number24;
 
-/// The first user part whose messages a pair is about: before it are management, testing and SCCP (Q.704 §14.2.1).
-pub(crate) const FIRST_USER_PART: u8 = 4;
+/// The first user part: before it are management and testing (Q.704 §14.2.1).
+const FIRST_USER_PART: u8 = 2;
+
+/// The user part that is SCCP (Q.704 §14.2.1).
+pub(crate) const SCCP: u8 = 3;
 
 /// A frame is handed in. What it newly brings for user parts joins what was received.
 pub(crate) fn hand_in(
@@ -86,8 +89,9 @@ fn for_user_part(sio: u8, sif: &[u8]) -> Option<Msu>
     let Ok(message) = Msu::new(sio, sif) else {
         unreachable!()
     };
-    if message.service_indicator() < FIRST_USER_PART {
-        return None;
+    match message.service_indicator() {
+        SCCP => None,
+        FIRST_USER_PART.. => Some(message),
+        _ => None,
     }
-    Some(message)
 }

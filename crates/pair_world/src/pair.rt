@@ -8,6 +8,7 @@ ghost use Rattle.pair_rules.specs.Pairs.{PairState, first_pair};
 ghost use Rattle.pair_world.specs.Told.{seen_from, other, told, done_at, step_told, turn_told, kept_at};
 ghost use Rattle.pair_world.specs.KeptPairs.{kept_pair_of, kept_turn};
 ghost use Rattle.pair_world.specs.Stands.{StandsFor};
+ghost use Rattle.pair_world.specs.Tells.{Tells};
 ghost use Rattle.pair_world.specs.Promised.{ComeOnce, ComeInOrder};
 
 use crate::act::act;
@@ -88,16 +89,20 @@ impl Pair {
     pub fn turn(&mut self, step: Step) -> Result<Outcome, NoMemory>
         // For every abstract pair that it stood for, the outcome is that of the abstract step,
         ensures outcome { (p : PairState) → StandsFor self.old p →
-            IfOk result (λ outcome. outcome ≡ (turn_told (step_told step) p).outcome) }
+            IfOk result (λ outcome. outcome ≡ (turn_told (step_told step outcome) p).outcome) }
+        // which for a delivery says what came: Local or NoUserPart exactly if the end received a message,
+        ensures told { (p : PairState) → StandsFor self.old p →
+            IfOk result (λ outcome. Tells (step_told step outcome) p outcome) }
         // and the pair stands for the one after it.
         ensures state { (p : PairState) → StandsFor self.old p →
-            OnOk result (StandsFor self.new (turn_told (step_told step) p).left) }
+            IfOk result (λ outcome. StandsFor self.new (turn_told (step_told step outcome) p).left) }
         ensures unchanged { OnErr result (self.new ≡ self.old) }
     {
         self.apply(step)
     }
 
-    /// All user messages of the user parts 4 to 15 that an end accepted from its user parts, in order.
+    /// All messages that an end accepted from its user parts, in order: all that it queued or held.
+    /// They are for the other end, and none is of management, testing or SCCP.
     pub fn accepted(&self, end: End) -> &[Msu]
         ensures accepted { (p : PairState) → StandsFor self.now p → result.now ≡ (seen_from end p).near.accepted }
         // "Exactly once"
@@ -110,7 +115,7 @@ impl Pair {
         self.side(end).accepted()
     }
 
-    /// All user messages of these parts that frames newly brought to an end from the other, in order.
+    /// All messages for user parts that frames newly brought to an end from the other, in order.
     pub fn received(&self, end: End) -> &[Msu]
         ensures received { (p : PairState) → StandsFor self.now p → result.now ≡ (seen_from end p).near.received }
         // "Exactly once"
@@ -152,18 +157,27 @@ impl Pair {
 impl Pair {
     /// Takes one step.
     fn apply(&mut self, step: Step) -> Result<Outcome, NoMemory>
-        ensures outcome { IfOk result (λ outcome. outcome ≡ (kept_turn (step_told step) self.old).outcome) }
-        ensures state { OnOk result (self.new ≡ (kept_turn (step_told step) self.old).left) }
+        ensures outcome { IfOk result (λ outcome.
+            outcome ≡ (kept_turn (step_told step outcome) self.old).outcome) }
+        ensures state { IfOk result (λ outcome.
+            self.new ≡ (kept_turn (step_told step outcome) self.old).left) }
         ensures unchanged { OnErr result (self.new ≡ self.old) }
     {
         match step {
             Step::Submit(end, message) => self.act_at(end, Doing::Submit(message)),
             Step::Take(end, link) => self.act_at(end, Doing::Take(link)),
             Step::Deliver(end, link) => self.act_at(end, Doing::Deliver(link)),
+            Step::DeliverStatus(end, link) => self.act_at(end, Doing::DeliverStatus(link)),
+            Step::LoseStatus(end, link) => self.act_at(end, Doing::LoseStatus(link)),
+            Step::DoubleStatus(end, link) => self.act_at(end, Doing::DoubleStatus(link)),
             Step::Lose(end, link) => self.act_at(end, Doing::Lose(link)),
             Step::Tick(end) => self.act_at(end, Doing::Tick),
             Step::Activate(end, link) => self.act_at(end, Doing::Activate(link)),
             Step::Deactivate(end, link) => self.act_at(end, Doing::Deactivate(link)),
+            Step::AddTitle(end, row) => self.act_at(end, Doing::AddTitle(row)),
+            Step::RemoveTitle(end, key, digits) => {
+                self.act_at(end, Doing::RemoveTitle(key, digits))
+            }
             Step::OpenFirst(end, link) => self.act_at(end, Doing::OpenFirst(link)),
             Step::OpenSecond(end, link) => self.act_at(end, Doing::OpenSecond(link)),
         }
@@ -172,8 +186,9 @@ impl Pair {
     /// Does what is done at an end.
     fn act_at(&mut self, end: End, what: Doing) -> Result<Outcome, NoMemory>
         ensures outcome { IfOk result (λ outcome.
-            outcome ≡ (kept_turn (done_at end (told what)) self.old).outcome) }
-        ensures state { OnOk result (self.new ≡ (kept_turn (done_at end (told what)) self.old).left) }
+            outcome ≡ (kept_turn (done_at end (told what outcome)) self.old).outcome) }
+        ensures state { IfOk result (λ outcome.
+            self.new ≡ (kept_turn (done_at end (told what outcome)) self.old).left) }
         ensures unchanged { OnErr result (self.new ≡ self.old) }
     {
         match end {

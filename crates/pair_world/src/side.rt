@@ -1,32 +1,36 @@
 //! One end of a pair.
 
-ghost use Rattle.std.specs.Prelude.{◌≡◌, ◌<◌, [], false, nat_lt, length, replicate};
-ghost use Rattle.std.specs.Prelude.{slice_index_or, slice_set, option_to_list};
+ghost use Rattle.std.specs.Prelude.{◌≡◌, ◌<◌, [], false, ◌&&◌, nat_lt, length, replicate};
+ghost use Rattle.std.specs.Prelude.{slice_index_or, option_to_list};
 ghost use Rattle.std.specs.Prelude.{IfOk, OnOk, OnErr};
 ghost use Rattle.exchange_rules.specs.Exchange.{taken, wants_of};
 ghost use Rattle.exchange_rules.specs.First.{first_state};
 ghost use Rattle.exchange.specs.Calls.{happened};
 ghost use Rattle.exchange.specs.KeptQueues.{kept};
 ghost use Rattle.exchange.specs.Stands.{kept_of};
-ghost use Rattle.pair_rules.specs.Pairs.{in_flight, is_for, accepted_by, first_end};
+ghost use Rattle.pair_rules.specs.Pairs.{Streams, is_sccp, accepted_by, first_end};
 ghost use Rattle.pair_world.specs.KeptEnds.{kept_end_of, end_happens, end_submits, end_delivers};
+ghost use Rattle.pair_world.specs.KeptEnds.{end_delivers_status, end_loses_status, end_doubles_status};
 ghost use Rattle.pair_world.specs.KeptEnds.{end_opens_first, end_may_follow, end_opens_second};
-ghost use Rattle.pair_world.specs.KeptEnds.{text_to_take, behind, take_outcome};
+ghost use Rattle.pair_world.specs.KeptEnds.{text_to_take, behind_its, take_outcome};
+ghost use Rattle.pair_world.specs.KeptPairs.{has_link};
 
-use crate::flight::{Flight, clear_flight, is_noted, next_in_flight, note};
-use crate::hearing::{FIRST_USER_PART, add, hand_in};
+use crate::flight::{
+    Flight, clear_flight, double_in_flight, is_noted, next_in_flight, note, take_behind,
+};
+use crate::hearing::{SCCP, add, hand_in};
 use exchange::{Event, Exchange, NoMemory, Wants};
-use mtp3_codec::Label;
-use settings::{Cause, LinkId, Msu, Outcome, PointCode, Settings};
+use settings::{Cause, LinkId, Msu, Outcome, Settings};
 use std::alloc::{AllocError, Global};
 use std::marker::Model;
 
-/// One end: its exchange, the frames in flight to it on each link, and whether it may follow the other end there, and
-/// what it accepted and received since it was booted.
+/// One end: its exchange, the link statuses and the User Data in flight to it on each link, whether it may follow the
+/// other end there, and what it accepted and received since it was booted.
 #[derive(Drop)]
 pub(crate) struct Side {
     exchange: Exchange,
-    incoming: Vec<Flight>,
+    statuses: Vec<Flight>,
+    user_data: Vec<Flight>,
     following: Vec<bool>,
     accepted: Vec<Msu>,
     received: Vec<Msu>,
@@ -45,7 +49,7 @@ impl Model for Side {
 
     ghost view = { λ side. record {
       exchange = side.exchange;
-      incoming = side.incoming.items;
+      incoming = record { statuses = side.statuses.items; user_data = side.user_data.items };
       following = side.following.items;
       accepted = side.accepted.items;
       received = side.received.items;
@@ -58,17 +62,24 @@ impl Side {
         ensures { IfOk result (λ side. side ≡ kept_end_of (first_end settings)) }
     {
         let links = settings.link_count();
-        let incoming = nothing_in_flight(alloc, links)?;
+        let statuses = nothing_in_flight(alloc, links)?;
+        let user_data = nothing_in_flight(alloc, links)?;
         let following = none_follows(alloc, links)?;
         let exchange = Exchange::boot(alloc, settings)?;
-        Ok(Side::with(alloc, exchange, incoming, following))
+        Ok(Side::with(alloc, exchange, statuses, user_data, following))
     }
 
     /// An end with this exchange and these frames in flight, which accepted and received nothing yet.
-    fn with(alloc: Global, exchange: Exchange, incoming: Vec<Flight>, following: Vec<bool>) -> Side
+    fn with(
+        alloc: Global,
+        exchange: Exchange,
+        statuses: Vec<Flight>,
+        user_data: Vec<Flight>,
+        following: Vec<bool>,
+    ) -> Side
         ensures { result ≡ record {
           exchange = exchange;
-          incoming = incoming.items;
+          incoming = record { statuses = statuses.items; user_data = user_data.items };
           following = following.items;
           accepted = [];
           received = [];
@@ -76,7 +87,8 @@ impl Side {
     {
         Side {
             exchange,
-            incoming,
+            statuses,
+            user_data,
             following,
             accepted: Vec::new(alloc),
             received: Vec::new(alloc),
@@ -104,13 +116,6 @@ impl Side {
         self.received.as_slice()
     }
 
-    /// Its point.
-    pub(crate) fn own(&self) -> PointCode
-        ensures { result ≡ self.now.exchange.settings.own }
-    {
-        self.exchange.settings().own()
-    }
-
     /// Whether it may follow the other end on a link.
     pub(crate) fn may_follow(&self, link: LinkId) -> bool
         ensures { result ≡ slice_index_or self.now.following link false }
@@ -135,13 +140,13 @@ impl Side {
         self.exchange.step(event)
     }
 
-    /// A user part hands over a message, which is to be for this point.
-    pub(crate) fn submit(&mut self, message: Msu, point: PointCode) -> Result<Outcome, NoMemory>
-        ensures outcome { IfOk result (λ outcome. outcome ≡ (end_submits point message self.old).outcome) }
-        ensures state { OnOk result (self.new ≡ (end_submits point message self.old).left) }
+    /// A user part hands over a message.
+    pub(crate) fn submit(&mut self, message: Msu) -> Result<Outcome, NoMemory>
+        ensures outcome { IfOk result (λ outcome. outcome ≡ (end_submits message self.old).outcome) }
+        ensures state { OnOk result (self.new ≡ (end_submits message self.old).left) }
         ensures unchanged { OnErr result (self.new ≡ self.old) }
     {
-        if !is_for(&message, point) {
+        if message.service_indicator() == SCCP {
             return Ok(Outcome::Refused(Cause::NotInProfile));
         }
         self.accepted.reserve(1)?;
@@ -150,39 +155,74 @@ impl Side {
         Ok(outcome)
     }
 
-    /// The first frame in flight on a link comes, where there is one.
+    /// The next User Data in flight on a link comes, where there is some.
     pub(crate) fn deliver(&mut self, link: LinkId) -> Result<Outcome, NoMemory>
         ensures outcome { IfOk result (λ outcome. outcome ≡ (end_delivers link self.old).outcome) }
         ensures state { OnOk result (self.new ≡ (end_delivers link self.old).left) }
         ensures unchanged { OnErr result (self.new ≡ self.old) }
     {
         self.received.reserve(1)?;
-        match next_in_flight(&mut self.incoming, link) {
+        match next_in_flight(&mut self.user_data, link) {
             Some(text) => Ok(hand_in(&mut self.exchange, &mut self.received, link, &text)),
             None => Ok(Outcome::Ignored),
         }
     }
 
+    /// The next link status in flight on a link comes, where there is one.
+    pub(crate) fn deliver_status(&mut self, link: LinkId) -> Result<Outcome, NoMemory>
+        ensures outcome { IfOk result (λ outcome. outcome ≡ (end_delivers_status link self.old).outcome) }
+        ensures state { OnOk result (self.new ≡ (end_delivers_status link self.old).left) }
+        ensures unchanged { OnErr result (self.new ≡ self.old) }
+    {
+        self.received.reserve(1)?;
+        match next_in_flight(&mut self.statuses, link) {
+            Some(text) => Ok(hand_in(&mut self.exchange, &mut self.received, link, &text)),
+            None => Ok(Outcome::Ignored),
+        }
+    }
+
+    /// The next link status in flight on a link is lost, where there is one.
+    pub(crate) fn lose_status(&mut self, link: LinkId) -> Outcome
+        ensures outcome { result ≡ (end_loses_status link self.old).outcome }
+        ensures state { self.new ≡ (end_loses_status link self.old).left }
+    {
+        match next_in_flight(&mut self.statuses, link) {
+            Some(_) => Outcome::Handled,
+            None => Outcome::Ignored,
+        }
+    }
+
+    /// The next link status in flight on a link comes twice, where there is one.
+    pub(crate) fn double_status(&mut self, link: LinkId) -> Result<Outcome, NoMemory>
+        ensures outcome { IfOk result (λ outcome. outcome ≡ (end_doubles_status link self.old).outcome) }
+        ensures state { OnOk result (self.new ≡ (end_doubles_status link self.old).left) }
+        ensures unchanged { OnErr result (self.new ≡ self.old) }
+    {
+        double_in_flight(&mut self.statuses, link)
+    }
+
     /// The next frame of a link of the other end's exchange is fetched for this end. Requires that the link is there.
     pub(crate) fn take_from(&mut self, other: &mut Side, link: LinkId) -> Result<Outcome, NoMemory>
-        requires { link < length self.old.incoming }
+        requires statuses { link < length self.old.incoming.statuses }
+        requires data { link < length self.old.incoming.user_data }
         ensures outcome { IfOk result (λ outcome. outcome ≡ take_outcome (text_to_take other.old.exchange link)) }
         ensures state { OnOk result (self.new ≡ record self.old {
-          incoming = slice_set self.old.incoming link
-              (behind (in_flight self.old.incoming link) (text_to_take other.old.exchange link));
+          incoming = behind_its (text_to_take other.old.exchange link) link self.old.incoming;
         }) }
         ensures other { OnOk result (other.new ≡ record other.old { exchange = taken kept other.old.exchange link }) }
         ensures unchanged { OnErr result (self.new ≡ self.old) }
         ensures same_other { OnErr result (other.new ≡ other.old) }
     {
-        self.incoming[link.index()].take_from(&mut other.exchange, link)
+        let statuses = &mut self.statuses[link.index()];
+        let user_data = &mut self.user_data[link.index()];
+        take_behind(statuses, user_data, &mut other.exchange, link)
     }
 
     /// Whether a link is there.
     pub(crate) fn has(&self, link: LinkId) -> bool
-        ensures { result ≡ nat_lt link (length self.now.incoming) }
+        ensures { result ≡ has_link link self.now.incoming }
     {
-        link.index() < self.incoming.len()
+        link.index() < self.statuses.len() && link.index() < self.user_data.len()
     }
 
     /// A link opens before it does at the other end, and nothing is in flight to it.
@@ -190,7 +230,8 @@ impl Side {
         ensures { self.new ≡ end_opens_first link self.old }
     {
         self.exchange.step(&Event::AssociationUp(link));
-        clear_flight(&mut self.incoming, link);
+        clear_flight(&mut self.statuses, link);
+        clear_flight(&mut self.user_data, link);
         note(&mut self.following, link, false);
     }
 
@@ -198,7 +239,8 @@ impl Side {
     pub(crate) fn let_follow(&mut self, link: LinkId)
         ensures { self.new ≡ end_may_follow link self.old }
     {
-        clear_flight(&mut self.incoming, link);
+        clear_flight(&mut self.statuses, link);
+        clear_flight(&mut self.user_data, link);
         note(&mut self.following, link, true);
     }
 
@@ -238,16 +280,6 @@ fn none_follows(alloc: Global, links: usize) -> Result<Vec<bool>, AllocError>
         following.push(false)?;
     }
     Ok(following)
-}
-
-/// Whether a message is of the user parts 4 to 15, and has a label that leads to this point.
-fn is_for(message: &Msu, point: PointCode) -> bool
-    ensures { result ≡ is_for point message.now }
-{
-    match Label::read(message.sif()) {
-        Some(label) => message.service_indicator() >= FIRST_USER_PART && label.dpc == point,
-        None => false,
-    }
 }
 
 /// The message, where it was accepted: where it stands in a queue or in Held.

@@ -1,6 +1,7 @@
 //! What is done to a pair.
 
-use settings::{LinkId, Msu};
+use exchange::{TitleDigits, TitleKey};
+use settings::{LinkId, Msu, TitleRow};
 
 /// One of the two ends of a pair.
 #[derive(Clone, Copy, Debug, PartialEq, Eq)]
@@ -14,14 +15,20 @@ pub enum End {
 /// One step of a pair.
 #[derive(Drop)]
 pub enum Step {
-    /// A user part of an end hands a message over. Refused NotInProfile where it isn't of the user parts 4 to 15, or
-    /// has no label that leads to the other end; else the outcome is that of the exchange.
+    /// A user part of an end hands a message over. Refused NotInProfile where it is one of SCCP, since a pair has no
+    /// relay; else the outcome is that of the exchange.
     Submit(End, Msu),
-    /// The next frame of a link is fetched from an end, and is then in flight to the other. Ignored where there is
-    /// none.
+    /// The next frame of a link is fetched from an end, and is then in flight to the other, on the stream of link
+    /// statuses or on that of User Data (RFC 4165 §2). Ignored where there is none.
     Take(End, LinkId),
-    /// The first frame in flight on a link to an end is handed in there. Ignored where there is none.
+    /// The next User Data in flight on a link to an end is handed in there. Ignored where there is none.
     Deliver(End, LinkId),
+    /// The next link status in flight on a link to an end is handed in there. Ignored where there is none.
+    DeliverStatus(End, LinkId),
+    /// The next link status in flight on a link to an end is lost on its way. Ignored where there is none.
+    LoseStatus(End, LinkId),
+    /// The next link status in flight on a link to an end comes twice. Ignored where there is none.
+    DoubleStatus(End, LinkId),
     /// An end loses the association of a link; what is in flight stays so.
     Lose(End, LinkId),
     /// A tick passes at an end.
@@ -30,6 +37,10 @@ pub enum Step {
     Activate(End, LinkId),
     /// The operator of an end keeps a link from opening; it fails there if it isn't down.
     Deactivate(End, LinkId),
+    /// The operator of an end adds a translation row.
+    AddTitle(End, TitleRow),
+    /// The operator of an end removes the translation row of this key and these digits.
+    RemoveTitle(End, TitleKey, TitleDigits),
     /// A link opens at an end, before it opens at the other: nothing is in flight on it then, and from now on the other
     /// end may follow. Ignored unless both ends want it to open.
     OpenFirst(End, LinkId),
@@ -45,8 +56,14 @@ pub(crate) enum Doing {
     Submit(Msu),
     /// The next frame of a link is fetched for the other end.
     Take(LinkId),
-    /// The first frame in flight on a link is handed in.
+    /// The next User Data in flight on a link is handed in.
     Deliver(LinkId),
+    /// The next link status in flight on a link is handed in.
+    DeliverStatus(LinkId),
+    /// The next link status in flight on a link is lost.
+    LoseStatus(LinkId),
+    /// The next link status in flight on a link comes twice.
+    DoubleStatus(LinkId),
     /// The association of a link is lost.
     Lose(LinkId),
     /// A tick passes.
@@ -55,6 +72,10 @@ pub(crate) enum Doing {
     Activate(LinkId),
     /// The operator keeps a link from opening.
     Deactivate(LinkId),
+    /// The operator adds a translation row.
+    AddTitle(TitleRow),
+    /// The operator removes a translation row.
+    RemoveTitle(TitleKey, TitleDigits),
     /// A link opens, and the other end may follow.
     OpenFirst(LinkId),
     /// A link opens as it did at the other end.
