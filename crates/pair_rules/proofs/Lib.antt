@@ -38,3 +38,5 @@ pub mod SaidWords
 pub mod MadeWords
 pub mod FourLaws
 pub mod Outcomes
+pub mod RunSettings
+pub mod OneEndFirst

@@ -2,3 +2,4 @@ pub mod Pairs
 pub mod Promises
 pub mod Laws
 pub mod Deliveries
+pub mod OneEndFirst

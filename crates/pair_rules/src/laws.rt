@@ -9,6 +9,7 @@ ghost use Rattle.pair_rules.specs.Promises.{each_message_once, each_flow_in_orde
 ghost use Rattle.pair_rules.specs.Laws.{frames_carry, words_are_read, none_is_left, words_are_final};
 ghost use Rattle.pair_rules.specs.Laws.{moves_are_lacked};
 ghost use Rattle.pair_rules.specs.Deliveries.{deliveries_tell};
+ghost use Rattle.pair_rules.specs.OneEndFirst.{ComesOnce};
 
 /// "Exactly once", in both directions. While neither exchange may have lost a message, as many user
 /// messages of any kind were accepted at one end as the other end received and as wait between
@@ -72,4 +73,11 @@ pub fn completions_move_what_the_peer_lacks()
 /// be lost.
 pub fn deliveries_tell_what_came()
     ensures { deliveries_tell }
+{}
+
+/// These promises aren't empty. By a run of 49 steps of two exchanges a message is accepted, and
+/// the link on which it waits fails at both ends; that link opens again at one end, and falls there
+/// before the other follows; and the message comes by the other link, once. No flag is raised.
+pub fn a_message_crosses_while_one_end_opens()
+    ensures { ComesOnce }
 {}
