@@ -31,12 +31,15 @@
 //!   after each round T1 to T4 run out, at either end or at both.
 //! - Stopped again: `e1` stops at both ends at the first place and comes back. After the third submissions end 1
 //!   loses one of the links at one of the 13 places of the next round, while flows are taken back.
+//! - One end first: as Stopped, without a tick, where the link stops at the end that is to open first. It opens at
+//!   one end, and a round passes; then the other follows, or the first falls before that and opens again, or the other
+//!   follows the fallen one and both open again, or never follows and opens first itself. In both orders of the ends.
 //! - An answer late: both ends lose a link. The answer to one end's order stays behind, the link opens if it may,
 //!   carries messages and is lost again, and only then the answer comes: for each end and each link, with 0 to 3
 //!   messages that come before and 1 to 4 that are lost.
 //! - By chance: 400 steps from a seed. Of 256 steps 80 submit a message, 86 take a frame, 75 deliver one, 3 lose a
-//!   link at an end, 3 let a tick pass, 1 closes a link by an operator's order and lets it open, and 8 open a link
-//!   again. Then the links come back three times, and rounds pass until nothing is left.
+//!   link at an end, 3 let a tick pass, 1 closes a link by an operator's order and lets it open, 5 open a link again at
+//!   one end, and 3 let an end follow. Of link statuses and User Data either may come first. Then the links come back three times, and rounds pass until nothing is left.
 //!
 //! A link that fails while no other is left loses what waits for it when T1 runs out, and doesn't open before that.
 //! So in each run over one link an end sets `lost_any`: what is left to judge is that nothing comes twice or out of
@@ -52,6 +55,7 @@
 
 mod again;
 mod epochs;
+mod firsts;
 mod ledger;
 mod marking;
 mod random;
@@ -62,6 +66,7 @@ mod world;
 
 use again::stop_again;
 use epochs::late_answers;
+use firsts::{Way, open_in_turn};
 use ledger::Verdict;
 use random::schedules;
 use rounds::Clock;
@@ -77,6 +82,7 @@ const BOTH: Clock = Clock { one: 1, two: 1 };
 
 fn main(rt: HostRuntime) -> io::Result<()> {
     stop_three(&rt)?;
+    open_first(&rt)?;
     stop_again_or_late(&rt)?;
     stop_fewer(&rt)?;
     try_chance(&rt)
@@ -90,6 +96,36 @@ fn stop_three(rt: &HostRuntime) -> io::Result<()> {
     stop_one(rt, "the same, a tick at both ends", 3, BOTH)?;
     stop_one(rt, "the same, a tick at end 1", 3, one)?;
     stop_one(rt, "the same, 2 ticks at end 2", 3, two)
+}
+
+/// One link of three stops at each place, and opens at one end first.
+fn open_first(rt: &HostRuntime) -> io::Result<()> {
+    open_one(
+        rt,
+        "one end first at 97 places, 3 links, 2 orders",
+        Way::InTurn,
+    )?;
+    open_one(
+        rt,
+        "the same, it falls and opens again before the other follows",
+        Way::FirstFalls,
+    )?;
+    open_one(
+        rt,
+        "the same, it falls before the other follows, and both open again",
+        Way::FollowsFallen,
+    )?;
+    open_one(
+        rt,
+        "the same, the other never follows, and opens first",
+        Way::NeverFollows,
+    )
+}
+
+/// One link opens so.
+fn open_one(rt: &HostRuntime, name: &str, way: Way) -> io::Result<()> {
+    let total = open_in_turn(rt.alloc(), way);
+    report(rt, name, &total)
 }
 
 /// One link of two stops, and one link alone.

@@ -54,7 +54,8 @@ fn step(world: &mut World, dice: &mut Dice) {
         40..=187 => frame_or_loss(world, chance, end, link),
         188..=190 => world.tick(end, 1),
         191 => world.reset(end, link),
-        _ => reopen(world, link),
+        192..=196 => reopen(world, end, link),
+        _ => follow(world, end, link),
     }
 }
 
@@ -71,17 +72,31 @@ fn thrown_end(dice: &mut Dice) -> End {
 fn frame_or_loss(world: &mut World, chance: u8, end: End, link: LinkId) {
     if chance <= 109 {
         world.take(end, link);
-    } else if chance <= 184 {
+    } else if chance <= 146 {
         world.deliver(end, link);
+    } else if chance <= 184 {
+        deliver_data_first(world, end, link);
     } else {
         world.lose(end, link);
     }
 }
 
-/// A link that is down at one end is lost at the other, and opens where both ends want it.
-fn reopen(world: &mut World, link: LinkId) {
+/// User Data comes before the link statuses on its link; where there is none, one of these.
+fn deliver_data_first(world: &mut World, end: End, link: LinkId) {
+    if !world.deliver_data(end, link) {
+        world.deliver(end, link);
+    }
+}
+
+/// A link that is down at one end is lost at the other, and opens at an end where both want it.
+fn reopen(world: &mut World, end: End, link: LinkId) {
     lose_halves(world, link);
-    world.open(link);
+    world.open_first(end, link);
+}
+
+/// A link opens at an end that may follow the other.
+fn follow(world: &mut World, end: End, link: LinkId) {
+    world.follow(end, link);
 }
 
 /// A link that is down at one end is lost at the other.

@@ -66,7 +66,7 @@ fn ends_from(first: bool) -> (End, End) {
 }
 
 /// A round, and whether it did something.
-fn pass_round(world: &mut World) -> bool {
+pub(crate) fn pass_round(world: &mut World) -> bool {
     let mut moved = false;
     for step in 0..steps_over(world.links()) {
         moved |= step_of_round(world, step);
@@ -117,10 +117,15 @@ pub(crate) fn come_back(world: &mut World, link: LinkId, clock: Clock) -> bool {
         outlast_t1(world, clock);
     }
     let opened = world.open(link);
+    serve(world, link);
+    opened
+}
+
+/// A link that is open at both ends comes into service.
+pub(crate) fn serve(world: &mut World, link: LinkId) {
     carry_statuses(world, link);
     prove_links(world);
     carry_statuses(world, link);
-    opened
 }
 
 /// Time passes until T1 has run out.

@@ -8,7 +8,7 @@ use pair_world::End;
 use std::alloc::Global;
 
 /// So many rounds pass in which a link may stop.
-const ROUNDS: u8 = 8;
+pub(crate) const ROUNDS: u8 = 8;
 
 /// At which end a link stops.
 #[derive(Clone, Copy)]
@@ -114,14 +114,20 @@ fn play(alloc: Global, group: Group, stop: &Stop, total: &mut Total) {
 /// other links then, and once more behind that. Says whether all went well: where another link is left, what was
 /// submitted first came while this one was down.
 pub(crate) fn stop_and_return(world: &mut World, stop: &Stop, clock: Clock) -> bool {
-    let up = bring_up(world);
-    submit_all(world);
-    rounds_with(world, stop, clock);
-    let settled = settle(world, clock) && brought_all_it_can(world);
+    let stopped = stop_and_settle(world, stop, clock);
     submit_all(world);
     let back = come_back(world, stop.link, clock);
     submit_all(world);
-    up && settled && back
+    stopped && back
+}
+
+/// All links come up, and the link stops. Says whether all went well: where another link is left, what was submitted
+/// came.
+pub(crate) fn stop_and_settle(world: &mut World, stop: &Stop, clock: Clock) -> bool {
+    let up = bring_up(world);
+    submit_all(world);
+    rounds_with(world, stop, clock);
+    up && settle(world, clock) && brought_all_it_can(world)
 }
 
 /// Whether all came that could: over one link alone nothing does while it is down.

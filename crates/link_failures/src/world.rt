@@ -138,8 +138,13 @@ impl World {
         taken
     }
 
-    /// The first frame on a link to an end comes.
+    /// The next frame on a link to an end comes: a link status if there is one, else User Data.
     pub(crate) fn deliver(&mut self, end: End, link: LinkId) -> bool {
+        self.act(Step::DeliverStatus(end, link)) || self.act(Step::Deliver(end, link))
+    }
+
+    /// The next User Data on a link to an end comes, before the link statuses there.
+    pub(crate) fn deliver_data(&mut self, end: End, link: LinkId) -> bool {
         self.act(Step::Deliver(end, link))
     }
 
@@ -150,7 +155,17 @@ impl World {
 
     /// A link opens at end 1, where that wants it to and it may open at end 2, which then follows.
     pub(crate) fn open(&mut self, link: LinkId) -> bool {
-        self.act(Step::OpenFirst(End::One, link)) && self.act(Step::OpenSecond(End::Two, link))
+        self.open_first(End::One, link) && self.follow(End::Two, link)
+    }
+
+    /// A link opens at an end, before it opens at the other.
+    pub(crate) fn open_first(&mut self, end: End, link: LinkId) -> bool {
+        self.act(Step::OpenFirst(end, link))
+    }
+
+    /// A link opens at an end that may follow the other.
+    pub(crate) fn follow(&mut self, end: End, link: LinkId) -> bool {
+        self.act(Step::OpenSecond(end, link))
     }
 
     /// So many ticks pass at an end.
