@@ -4,7 +4,6 @@ mod calls;
 mod drafts;
 mod labs;
 mod lost;
-mod pair;
 mod streams;
 
 use lab::Joiner;

@@ -8,5 +8,5 @@ pub mod settings_text;
 
 pub use dice::Dice;
 pub use linked::{LinkedNodes, settings_to};
-pub use node::{Node, boot};
+pub use node::{Node, NodeTrial, boot, holds_of_node};
 pub use settings_text::settings_of;

@@ -69,11 +69,6 @@ impl LinkedNodes {
         turn(&mut self.pair, step)
     }
 
-    /// The user messages that an end accepted.
-    pub fn accepted(&self, end: End) -> &[Msu] {
-        self.pair.accepted(end)
-    }
-
     /// The user messages that an end received.
     pub fn received(&self, end: End) -> &[Msu] {
         self.pair.received(end)

@@ -17,6 +17,23 @@ pub fn boot(alloc: Global, text: &str) -> Result<Exchange, SettingsFault> {
         .ok_or(SettingsFault::Draft(DraftFault::NoMemory))
 }
 
+/// What is tried with a node.
+pub trait NodeTrial {
+    /// Whether the node does what it is to do.
+    fn holds(&self, alloc: Global, node: &mut Node) -> bool;
+}
+
+/// Whether a trial holds of a node with the settings of a text, before its first event. What calls this owns no node, so
+/// that its proof has none to drop.
+pub fn holds_of_node<T: NodeTrial>(
+    alloc: Global,
+    text: &str,
+    trial: &T,
+) -> Result<bool, SettingsFault> {
+    let mut node = Node::new(alloc, text)?;
+    Ok(trial.holds(alloc, &mut node))
+}
+
 /// An exchange whose state is hidden from proofs, so that those of its callers are short.
 #[derive(Drop)]
 pub struct Node {

@@ -4,7 +4,7 @@ use exchange::{Answer, BUFFER_OCTETS, Call, Event, Order, Wants};
 use settings::{Cause, FrameFault, LinkId, Msu, Notice, Outcome};
 use std::alloc::Global;
 use std::test::*;
-use test_nodes::Node;
+use test_nodes::{Node, NodeTrial, holds_of_node};
 
 /// A Link Status before any message: the peer proves.
 const PROVING: &[u8] = b"\x01\0\x0b\x02\0\0\0\x14\0\xff\xff\xff\0\xff\xff\xff\0\0\0\x02";
@@ -45,13 +45,13 @@ fn call<'a>(row: &str, message: &'a Msu) -> Call<'a> {
     }
 }
 
-/// What a node answers to the calls.
-fn made(alloc: Global, node: &mut Node, message: &Msu) -> Result<Vec<Answer>, Fail> {
+/// What a node answers to the calls. None where memory runs out.
+fn made(alloc: Global, node: &mut Node, message: &Msu) -> Option<Vec<Answer>> {
     let mut calls = Vec::new(alloc);
     for row in CALLS.split("; ") {
-        calls.push(call(row, message))?;
+        calls.push(call(row, message)).ok()?;
     }
-    Ok(node.run(alloc, calls.as_slice())?)
+    node.run(alloc, calls.as_slice()).ok()
 }
 
 /// What an answer is, in a word.
@@ -80,19 +80,30 @@ fn are_wanted(answers: &[Answer]) -> bool {
     rows.next().is_none()
 }
 
-/// Whether a node answers the calls so, and notes the frame of another version.
-fn answers(alloc: Global) -> Result<bool, Fail> {
-    let message = Msu::new(0x85, &[0x01, 0x80, 0x00, 0x50])?;
-    let mut node = Node::new(alloc, "")?;
-    let answers = made(alloc, &mut node, &message)?;
-    let notice = node.shown().notices().front().copied();
-    let noted = notice == Some(Notice::Frame(FrameFault::Version, LinkId::new(0)));
-    Ok(noted && are_wanted(answers.as_slice()))
+/// The calls, whose answers are those of the rows; the frame of another version is noted.
+struct InARow;
+
+impl NodeTrial for InARow {
+    fn holds(&self, alloc: Global, node: &mut Node) -> bool {
+        let Ok(message) = Msu::new(0x85, &[0x01, 0x80, 0x00, 0x50]) else {
+            return false;
+        };
+        match made(alloc, node, &message) {
+            Some(answers) => are_wanted(answers.as_slice()) && notes_version(node),
+            None => false,
+        }
+    }
+}
+
+/// Whether a node notes a frame of another version first.
+fn notes_version(node: &Node) -> bool {
+    let noted = Notice::Frame(FrameFault::Version, LinkId::new(0));
+    node.shown().notices().front().copied() == Some(noted)
 }
 
 #[test]
 fn calls_in_a_row(rt: HostRuntime) -> Result<(), Fail> {
-    assert!(&rt; answers(rt.alloc())?);
+    assert!(&rt; holds_of_node(rt.alloc(), "", &InARow)?);
     Ok(())
 }
 
@@ -104,16 +115,21 @@ fn is_refused(node: &mut Node, event: &Event<'_>) -> bool {
     node.step(event) == Outcome::Refused(Cause::NoSuchName)
 }
 
-/// Whether a node refuses each event about a link, and has neither it nor a row of its number.
-fn is_absent(alloc: Global, link: LinkId) -> Result<bool, Fail> {
-    let mut node = Node::new(alloc, ONE_DESTINATION)?;
-    let is_refused = is_refused(&mut node, &Event::AssociationUp(link))
-        && is_refused(&mut node, &Event::AssociationDown(link))
-        && is_refused(&mut node, &Event::Frame(link, b""))
-        && is_refused(&mut node, &Event::Order(Order::Activate(link)))
-        && is_refused(&mut node, &Event::Order(Order::Deactivate(link)));
-    let is_taken = node.take(link, &mut [0; BUFFER_OCTETS]).is_some();
-    Ok(is_refused && !is_taken && shows_nothing(&node, link))
+/// A link that isn't there: each event about it is refused, and the node shows neither it nor a row of its number.
+struct Absent {
+    link: LinkId,
+}
+
+impl NodeTrial for Absent {
+    fn holds(&self, _alloc: Global, node: &mut Node) -> bool {
+        is_refused(node, &Event::AssociationUp(self.link))
+            && is_refused(node, &Event::AssociationDown(self.link))
+            && is_refused(node, &Event::Frame(self.link, b""))
+            && is_refused(node, &Event::Order(Order::Activate(self.link)))
+            && is_refused(node, &Event::Order(Order::Deactivate(self.link)))
+            && node.take(self.link, &mut [0; BUFFER_OCTETS]).is_none()
+            && shows_nothing(node, self.link)
+    }
 }
 
 /// Whether a node shows nothing of a link, or of a row of its number.
@@ -129,7 +145,13 @@ fn shows_nothing(node: &Node, link: LinkId) -> bool {
 #[test]
 fn numbers_that_name_nothing(rt: HostRuntime) -> Result<(), Fail> {
     for number in [1, 64, 255] {
-        assert!(&rt; is_absent(rt.alloc(), LinkId::new(number))?, "{number}");
+        let absent = Absent {
+            link: LinkId::new(number),
+        };
+        assert!(&rt;
+            holds_of_node(rt.alloc(), ONE_DESTINATION, &absent)?,
+            "{number}"
+        );
     }
     Ok(())
 }

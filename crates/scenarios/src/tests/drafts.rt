@@ -48,11 +48,19 @@ fn without(alloc: Global, name: &str) -> Result<Draft, Fail> {
 
 /// The built-in settings with so many translation rows.
 fn with_titles(alloc: Global, count: u32) -> Result<Draft, Fail> {
+    let titles = titles(alloc, count)?;
     let mut draft = built_in(alloc)?;
-    for number in 0..count {
-        draft.titles.push(title(alloc, number)?)?;
-    }
+    draft.titles = titles;
     Ok(draft)
+}
+
+/// So many translation rows.
+fn titles(alloc: Global, count: u32) -> Result<Vec<TitleDraft>, Fail> {
+    let mut titles = Vec::new(alloc);
+    for number in 0..count {
+        titles.push(title(alloc, number)?)?;
+    }
+    Ok(titles)
 }
 
 /// A translation row of its own for each number.
@@ -70,8 +78,8 @@ fn title(alloc: Global, number: u32) -> Result<TitleDraft, Fail> {
 
 /// Whether a check of settings answers this: `ok`, or a fault.
 fn is_answered(alloc: Global, draft: Draft, answer: &str) -> Result<bool, Fail> {
-    match Settings::check(alloc, draft) {
-        Ok(_) => Ok(answer == "ok"),
-        Err(fault) => Ok(format!(in alloc; "{fault}")?.as_str() == answer),
+    match Settings::check(alloc, draft).err() {
+        None => Ok(answer == "ok"),
+        Some(fault) => Ok(format!(in alloc; "{fault}")?.as_str() == answer),
     }
 }

@@ -2,7 +2,7 @@
 
 use std::alloc::Global;
 use std::test::*;
-use test_nodes::Node;
+use test_nodes::{Node, NodeTrial, holds_of_node};
 
 /// What differs from the built-in settings: two links lead to point 2.
 const TWO_LINKS: &str =
@@ -63,8 +63,7 @@ tick 6
 ";
 
 /// A script, a last one, and what a node says behind both: whether messages may be lost, and whether they may be late.
-/// Before the last script it says neither.
-const ROWS: [(&str, &str, (bool, bool)); 6] = [
+const ROWS: [(&'static str, &'static str, (bool, bool)); 6] = [
     (SENT, BY_NUMBER, (false, false)),
     (SENT, WITHOUT_NUMBER, (true, false)),
     (SENT, OVER_ALREADY, (false, false)),
@@ -76,17 +75,27 @@ const ROWS: [(&str, &str, (bool, bool)); 6] = [
 #[test]
 fn messages_that_may_be_lost_or_late(rt: HostRuntime) -> Result<(), Fail> {
     for (before, last, said) in ROWS {
-        assert!(&rt; says(rt.alloc(), before, last, said)?, "after {last}");
+        let row = Saying { before, last, said };
+        assert!(&rt; holds_of_node(rt.alloc(), TWO_LINKS, &row)?, "after {last}");
     }
     Ok(())
 }
 
-/// Whether a node says this behind both scripts, and neither before the last one.
-fn says(alloc: Global, before: &str, last: &str, said: (bool, bool)) -> Result<bool, Fail> {
-    let mut node = Node::new(alloc, TWO_LINKS)?;
-    let is_sent = node.play(alloc, ALIGNED) && node.play(alloc, before);
-    let is_silent = said_by(&node) == (false, false);
-    Ok(is_sent && is_silent && node.play(alloc, last) && said_by(&node) == said)
+/// What a node says behind two scripts. Before the last one it says neither.
+struct Saying {
+    before: &'static str,
+    last: &'static str,
+    said: (bool, bool),
+}
+
+impl NodeTrial for Saying {
+    fn holds(&self, alloc: Global, node: &mut Node) -> bool {
+        node.play(alloc, ALIGNED)
+            && node.play(alloc, self.before)
+            && said_by(node) == (false, false)
+            && node.play(alloc, self.last)
+            && said_by(node) == self.said
+    }
 }
 
 /// What a node says.
