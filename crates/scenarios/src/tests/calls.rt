@@ -81,6 +81,7 @@ fn are_wanted(answers: &[Answer]) -> bool {
 }
 
 /// The calls, whose answers are those of the rows; the frame of another version is noted.
+#[derive(Clone, Copy)]
 struct InARow;
 
 impl NodeTrial for InARow {
@@ -116,6 +117,7 @@ fn is_refused(node: &mut Node, event: &Event<'_>) -> bool {
 }
 
 /// A link that isn't there: each event about it is refused, and the node shows neither it nor a row of its number.
+#[derive(Clone, Copy)]
 struct Absent {
     link: LinkId,
 }

@@ -82,6 +82,7 @@ fn messages_that_may_be_lost_or_late(rt: HostRuntime) -> Result<(), Fail> {
 }
 
 /// What a node says behind two scripts. Before the last one it says neither.
+#[derive(Clone, Copy)]
 struct Saying {
     before: &'static str,
     last: &'static str,
