@@ -2,8 +2,12 @@
 use Rattle.std.proofs.Common.{◌≡◌, ℕ, zero, suc, ◌+◌, ◌^◌, ◌<◌, Bool, true, List, [], ◌∷◌, length, get_or, refl, ap, ◌∙◌, arith}
 use Rattle.std.proofs.lemmas.Bool.Decides.{nat_tests}
 use Rattle.std.specs.Prelude.{◌==◌, ◌&&◌, slice_index}
-use Rattle.crc32c.specs.declared.tables.TheConstants.{AFTER_8, AFTER_16, AFTER_24, AFTER_32}
-use Rattle.crc32c.specs.Division.{divided, divided_by}
+use Rattle.crc32c.specs.declared.tables.TheConstants.{TABLES}
+use Rattle.crc32c.specs.Division.{divided_by}
+
+-- the table of this place
+abbrev pub table : ℕ → List ℕ
+table place = get_or TABLES place []
 
 -- the list has what the function gives, from this number on
 abbrev holds : (ℕ → ℕ) → ℕ → List ℕ → Bool
@@ -21,30 +25,30 @@ at_place f from (x ∷ xs) (suc i) h inside =
     let place : from + 1 + i ≡ from + suc i = omega arith in
     at_place f (from + 1) xs i rest (omega (arith, inside)) ∙ ap f place
 
-holds_8 : holds (divided_by 8) 0 AFTER_8 ≡ true
+holds_8 : holds (divided_by 8) 0 (table 0) ≡ true
 unfolding divided_by
 holds_8 = refl
 
-pub table_8 : (n : ℕ) → n < 2 ^ 8 → slice_index AFTER_8 n ≡ divided_by 8 n
-table_8 n fits = let e : 0 + n ≡ n = omega arith in at_place (divided_by 8) 0 AFTER_8 n holds_8 fits ∙ ap (divided_by 8) e
+pub table_8 : (n : ℕ) → n < 2 ^ 8 → slice_index (table 0) n ≡ divided_by 8 n
+table_8 n fits = let e : 0 + n ≡ n = omega arith in at_place (divided_by 8) 0 (table 0) n holds_8 fits ∙ ap (divided_by 8) e
 
-holds_16 : holds (divided_by 16) 0 AFTER_16 ≡ true
+holds_16 : holds (divided_by 16) 0 (table 1) ≡ true
 unfolding divided_by
 holds_16 = refl
 
-pub table_16 : (n : ℕ) → n < 2 ^ 8 → slice_index AFTER_16 n ≡ divided_by 16 n
-table_16 n fits = let e : 0 + n ≡ n = omega arith in at_place (divided_by 16) 0 AFTER_16 n holds_16 fits ∙ ap (divided_by 16) e
+pub table_16 : (n : ℕ) → n < 2 ^ 8 → slice_index (table 1) n ≡ divided_by 16 n
+table_16 n fits = let e : 0 + n ≡ n = omega arith in at_place (divided_by 16) 0 (table 1) n holds_16 fits ∙ ap (divided_by 16) e
 
-holds_24 : holds (divided_by 24) 0 AFTER_24 ≡ true
+holds_24 : holds (divided_by 24) 0 (table 2) ≡ true
 unfolding divided_by
 holds_24 = refl
 
-pub table_24 : (n : ℕ) → n < 2 ^ 8 → slice_index AFTER_24 n ≡ divided_by 24 n
-table_24 n fits = let e : 0 + n ≡ n = omega arith in at_place (divided_by 24) 0 AFTER_24 n holds_24 fits ∙ ap (divided_by 24) e
+pub table_24 : (n : ℕ) → n < 2 ^ 8 → slice_index (table 2) n ≡ divided_by 24 n
+table_24 n fits = let e : 0 + n ≡ n = omega arith in at_place (divided_by 24) 0 (table 2) n holds_24 fits ∙ ap (divided_by 24) e
 
-holds_32 : holds (divided_by 32) 0 AFTER_32 ≡ true
+holds_32 : holds (divided_by 32) 0 (table 3) ≡ true
 unfolding divided_by
 holds_32 = refl
 
-pub table_32 : (n : ℕ) → n < 2 ^ 8 → slice_index AFTER_32 n ≡ divided_by 32 n
-table_32 n fits = let e : 0 + n ≡ n = omega arith in at_place (divided_by 32) 0 AFTER_32 n holds_32 fits ∙ ap (divided_by 32) e
+pub table_32 : (n : ℕ) → n < 2 ^ 8 → slice_index (table 3) n ≡ divided_by 32 n
+table_32 n fits = let e : 0 + n ≡ n = omega arith in at_place (divided_by 32) 0 (table 3) n holds_32 fits ∙ ap (divided_by 32) e

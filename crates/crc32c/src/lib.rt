@@ -7,7 +7,7 @@ mod tables;
 ghost use Rattle.std.specs.Prelude.{◌≡◌, [], ◌∷◌};
 ghost use Rattle.crc32c.specs.Division.{ones, after_octets, crc32c_of, divided_by};
 
-use tables::{AFTER_8, AFTER_16, AFTER_24, AFTER_32};
+use tables::TABLES;
 
 /// What the division begins with: 32 bits that are set.
 pub const INITIAL: u32 = u32::MAX;
@@ -59,7 +59,7 @@ fn after_octet(remainder: u32, octet: u8) -> u32
 fn after_8(octet: u8) -> u32
     ensures { result ≡ divided_by 8 octet }
 {
-    AFTER_8[usize::from(octet)]
+    TABLES[0][usize::from(octet)]
 }
 
 /// What an octet leaves after 16 steps.
@@ -67,7 +67,7 @@ fn after_8(octet: u8) -> u32
 fn after_16(octet: u8) -> u32
     ensures { result ≡ divided_by 16 octet }
 {
-    AFTER_16[usize::from(octet)]
+    TABLES[1][usize::from(octet)]
 }
 
 /// What an octet leaves after 24 steps.
@@ -75,7 +75,7 @@ fn after_16(octet: u8) -> u32
 fn after_24(octet: u8) -> u32
     ensures { result ≡ divided_by 24 octet }
 {
-    AFTER_24[usize::from(octet)]
+    TABLES[2][usize::from(octet)]
 }
 
 /// What an octet leaves after 32 steps.
@@ -83,5 +83,5 @@ fn after_24(octet: u8) -> u32
 fn after_32(octet: u8) -> u32
     ensures { result ≡ divided_by 32 octet }
 {
-    AFTER_32[usize::from(octet)]
+    TABLES[3][usize::from(octet)]
 }

@@ -1,10 +1,9 @@
 use Rattle.std.proofs.Common.{◌≡◌, ℕ, ap, ◌∙◌, arith, rules}
 use Rattle.std.specs.Prelude.{slice_index}
-use Rattle.crc32c.specs.declared.tables.TheConstants.{AFTER_24}
-use Rattle.crc32c.proofs.Entries.{table_24}
+use Rattle.crc32c.proofs.Entries.{table, table_24}
 use Rattle.crc32c.proofs.after_24.Goals as goal
 
 pub returns : goal.returns
 returns c =
     let same : c.from.result ≡ c.args.octet = search rules in
-    ap (λ (i : ℕ). slice_index AFTER_24 i) same ∙ table_24 c.args.octet (omega (arith, c.ranges.octet.fits))
+    ap (λ (i : ℕ). slice_index (table 2) i) same ∙ table_24 c.args.octet (omega (arith, c.ranges.octet.fits))

@@ -1,4 +1,4 @@
-use Rattle.std.proofs.Common.{◌≡◌, ℕ, refl, sym, subst, ◌∙◌, ◌<◌, ◌^◌, ◌+◌, get_or, drop, List, arith}
+use Rattle.std.proofs.Common.{◌≡◌, ℕ, refl, ◌∙◌, ◌<◌, ◌^◌, ◌+◌, drop, List, arith}
 use Rattle.std.proofs.lemmas.List.{get_or-drop}
 use Rattle.std.specs.Prelude.{slice_index}
 use Rattle.crc32c.proofs.Linear.{word_loop, octet_loop}
