@@ -1,7 +1,7 @@
 -- The checksum of a packet, piece by piece.
 use Rattle.std.proofs.Common.{◌≡◌, ℕ, ◌-◌, List, [], ◌∷◌, ◌++◌, length, take, drop, sym, ap, ◌∙◌}
 use Rattle.std.proofs.lemmas.List.{take_rest}
-use Rattle.crc32c.specs.Division.{ones, after_octets, crc32c_of}
+use Rattle.crc32c.specs.Division.{ones, after_octets}
 use Rattle.crc32c.proofs.Linear.{after_octets-append}
 use Rattle.sctp_codec.specs.Reading.{checksum_of}
 

@@ -1,20 +1,20 @@
 -- Chunks and packets that are written read back.
-use Rattle.std.proofs.Common.{◌≡◌, ◌≢◌, ℕ, zero, suc, ◌+◌, ◌-◌, ◌*◌, ◌/◌, ◌%◌, ◌^◌, ◌<◌, ◌≤◌, Bool, true, false, List, [], ◌∷◌, ◌++◌, length, take, drop, map, Option, Some, None, refl, sym, ap, subst, ◌∙◌, inl, inr, arith}
+use Rattle.std.proofs.Common.{◌≡◌, ◌≢◌, ℕ, ◌+◌, ◌*◌, ◌/◌, ◌%◌, ◌^◌, ◌<◌, ◌≤◌, Bool, true, false, List, [], ◌∷◌, ◌++◌, length, take, drop, map, Some, refl, sym, ap, ◌∙◌, arith}
 use Rattle.std.proofs.lemmas.Bool.{eq-eqb, ne_eqb, le-ltb}
-use Rattle.std.proofs.lemmas.List.{length-append, append_assoc, append-nil, take_at, drop_at, drop-drop}
+use Rattle.std.proofs.lemmas.List.{length-append, append-nil, take_at, drop_at, drop-drop}
 use Rattle.std.proofs.lemmas.List.Elements.{All-nil, All-cons, All-head, All-tail}
 use Rattle.std.proofs.lemmas.Nat.{from_be_bytes-to_be_bytes_2, from_be_bytes-to_be_bytes_4, from_le_bytes-to_le_bytes_4}
-use Rattle.std.specs.Prelude.{if◌then◌else◌, slice_index, ◌==◌, All}
-use Rattle.std.specs.Int.{w16, w32, to_be_bytes, from_be_bytes}
+use Rattle.std.specs.Prelude.{All}
+use Rattle.std.specs.Int.{w32, to_be_bytes}
 use Rattle.std.specs.List.{flat_map}
-use Rattle.crc32c.specs.Division.{ones, after_octets, crc32c_of}
-use Rattle.sctp_codec.specs.Items.{ItemValue, IsItem, number16_at, number32_at, read_items, padded_item, padded_items, joined_items}
+use Rattle.crc32c.specs.Division.{crc32c_of}
+use Rattle.sctp_codec.specs.Items.{IsItem, number16_at, padded_items, joined_items}
 use Rattle.sctp_codec.specs.Packets.{DataValue, InitValue, BlockValue, SackValue, PacketValue, ChunkValue, DataChunk, kind_of}
 use Rattle.sctp_codec.specs.Packets.{InitChunk, InitAckChunk, SackChunk, HeartbeatChunk, HeartbeatAckChunk, AbortChunk}
 use Rattle.sctp_codec.specs.Packets.{ShutdownChunk, ShutdownAckChunk, ErrorChunk, CookieEchoChunk, CookieAckChunk}
 use Rattle.sctp_codec.specs.Packets.{ShutdownCompleteChunk, UnknownChunk, MalformedChunk}
-use Rattle.sctp_codec.specs.Reading.{is_set, type_of, flags_of, data_in, init_in, init_with, chunk_or_malformed, blocks_in, numbers_in, sack_in, shutdown_in, chunk_of, chunk_in, checksum_of, checksum_field, tag_field, is_bundled_well, packet_with, read_packet}
-use Rattle.sctp_codec.specs.Writing.{bit, data_octets, init_front, init_octets, block_octets, sack_octets, flags_in, value_octets, chunk_item, header_octets, headed, packet_octets, IsData, IsInit, IsBlock, IsSack, IsUnknown, IsChunk, IsPacket}
+use Rattle.sctp_codec.specs.Reading.{is_set, data_in, init_in, chunk_or_malformed, blocks_in, numbers_in, sack_in, chunk_of, chunk_in, checksum_of, checksum_field, tag_field, read_packet}
+use Rattle.sctp_codec.specs.Writing.{bit, data_octets, init_octets, block_octets, sack_octets, flags_in, chunk_item, header_octets, packet_octets, IsData, IsInit, IsBlock, IsSack, IsUnknown, IsChunk, IsPacket}
 use Rattle.sctp_codec.proofs.ItemTexts.{read_items-padded_items, read_items-joined_items}
 
 -- ---- flags

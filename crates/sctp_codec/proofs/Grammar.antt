@@ -5,7 +5,7 @@ use Rattle.std.proofs.lemmas.Bool.Decides.{nat_tests}
 use Rattle.std.proofs.lemmas.List.{length-append, length-take, length-take-le, length-drop, take-append-drop, drop-drop, drop_at, drop_all, get_or-drop}
 use Rattle.std.specs.Prelude.{if◌then◌else◌, slice_index, slice_range}
 use Rattle.std.specs.Int.{w16, to_be_bytes, from_be_bytes}
-use Rattle.sctp_codec.specs.Items.{ItemValue, IsItem, IsPadding, BeginWith, AreItems, AreOctets, number16_at, padding_behind, length_field, begins_whole, first_item, behind_first, with_first, read_up_to, read_items, item_octets}
+use Rattle.sctp_codec.specs.Items.{ItemValue, IsPadding, BeginWith, AreItems, AreOctets, number16_at, padding_behind, length_field, begins_whole, first_item, behind_first, with_first, read_up_to, read_items, item_octets}
 use Rattle.sctp_codec.proofs.ItemTexts.{begins, behind, read_items-nil, read_items-whole}
 
 -- ---- what is items is read

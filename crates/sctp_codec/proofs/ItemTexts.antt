@@ -1,12 +1,11 @@
 -- Items and the octets that they are read from and written as.
-use Rattle.std.proofs.Common.{◌≡◌, ◌≢◌, ℕ, zero, suc, ◌+◌, ◌-◌, ◌*◌, ◌%◌, ◌^◌, ◌<◌, ◌≤◌, Bool, true, false, List, [], ◌∷◌, ◌++◌, length, take, drop, replicate, Option, Some, None, refl, sym, ap, subst, ◌∙◌, arith}
+use Rattle.std.proofs.Common.{◌≡◌, ◌≢◌, ℕ, zero, suc, ◌+◌, ◌-◌, ◌<◌, ◌≤◌, Bool, true, false, List, [], ◌∷◌, ◌++◌, length, take, drop, replicate, Option, Some, None, refl, sym, ap, ◌∙◌, arith}
 use Rattle.std.proofs.lemmas.Bool.Decides.{nat_tests}
 use Rattle.std.proofs.lemmas.List.{length-drop, length-append, length-replicate, append_assoc, append-nil, take_at, drop_at, drop-drop, drop_all}
 use Rattle.std.proofs.lemmas.List.Elements.{All-head, All-tail}
 use Rattle.std.proofs.lemmas.Nat.{from_be_bytes-to_be_bytes_2}
-use Rattle.std.specs.Prelude.{if◌then◌else◌, slice_index, slice_range, nat_le, ◌&&◌, All, IsSome, is_some, unwrap_or}
-use Rattle.std.specs.Int.{w16, to_be_bytes, from_be_bytes}
-use Rattle.sctp_codec.specs.Items.{ItemValue, IsItem, number16_at, padding_behind, length_field, begins_whole, first_item, behind_first, with_first, read_up_to, read_items, item_octets, padded_item, padded_items, joined_items}
+use Rattle.std.specs.Prelude.{if◌then◌else◌, All, IsSome, is_some, unwrap_or}
+use Rattle.sctp_codec.specs.Items.{ItemValue, IsItem, padding_behind, length_field, begins_whole, first_item, behind_first, with_first, read_up_to, read_items, item_octets, padded_item, padded_items, joined_items}
 use Rattle.sctp_codec.specs.Values.{items_in}
 
 -- ---- a step of reading

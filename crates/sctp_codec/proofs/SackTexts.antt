@@ -3,7 +3,7 @@ use Rattle.std.proofs.Common.{◌≡◌, ℕ, ◌+◌, ◌-◌, ◌*◌, ◌≤�
 use Rattle.std.proofs.lemmas.Bool.{le-ltb}
 use Rattle.std.specs.Prelude.{slice_range}
 use Rattle.sctp_codec.specs.Items.{number32_at}
-use Rattle.sctp_codec.specs.Packets.{SackValue, ChunkValue, SackChunk}
+use Rattle.sctp_codec.specs.Packets.{SackChunk}
 use Rattle.sctp_codec.specs.Reading.{blocks_in, numbers_in, block_count, duplicate_count, sack_in}
 
 pub sack-read : (value : List ℕ) (m n cumulative window : ℕ) (blocks duplicates : List ℕ) → m ≡ block_count value → n ≡ duplicate_count value → 12 + 4 * m + 4 * n ≤ length value

@@ -1,7 +1,8 @@
--- Items: a number of 16 bits, a length of 16 bits, and a value behind them. Chunks, parameters and error causes have this
--- form (RFC 9260 §3.2, §3.2.1).
-use Rattle.std.specs.Prelude.{◌≡◌, ℕ, zero, suc, ◌+◌, ◌-◌, ◌*◌, ◌%◌, ◌^◌, ◌<◌, ◌≤◌, ◌⊎◌, Bool, ◌&&◌, if◌then◌else◌, nat_le, List, []}
-use Rattle.std.specs.Prelude.{◌∷◌, ◌++◌, length, take, drop, replicate, slice_index, slice_range, Option, Some, None}
+-- Items: a number of 16 bits, a length of 16 bits, and a value behind them. Chunks, parameters and error causes have
+-- this form (RFC 9260 §3.2, §3.2.1).
+use Rattle.std.specs.Prelude.{◌≡◌, ℕ, zero, suc, ◌+◌, ◌-◌, ◌%◌, ◌^◌, ◌<◌, ◌≤◌, ◌⊎◌, Bool, ◌&&◌}
+use Rattle.std.specs.Prelude.{if◌then◌else◌, nat_le, List, []}
+use Rattle.std.specs.Prelude.{◌∷◌, ◌++◌, length, drop, replicate, slice_index, slice_range, Option, Some, None}
 use Rattle.std.specs.Int.{w16, w32, from_be_bytes, to_be_bytes}
 
 -- the number of 16 bits at a place, and that of 32 bits, most significant octet first (RFC 9260 §3)
@@ -11,7 +12,8 @@ number16_at octets at = from_be_bytes w16 (slice_index octets at ∷ slice_index
 abbrev pub number32_at : List ℕ → ℕ → ℕ
 number32_at octets at =
     from_be_bytes w32
-    (slice_index octets at ∷ slice_index octets (at + 1) ∷ slice_index octets (at + 2) ∷ slice_index octets (at + 3) ∷ [])
+    (slice_index octets at ∷ slice_index octets (at + 1) ∷ slice_index octets (at + 2)
+    ∷ slice_index octets (at + 3) ∷ [])
 
 -- an item: of a parameter and a cause its type; of a chunk its type and its flags, an octet each
 pub record ItemValue : Type 0 where
@@ -30,7 +32,8 @@ length_field octets = number16_at octets 2
 
 -- the octets begin with a whole item
 abbrev pub begins_whole : List ℕ → Bool
-begins_whole octets = nat_le 4 (length octets) && nat_le 4 (length_field octets) && nat_le (length_field octets) (length octets)
+begins_whole octets =
+    nat_le 4 (length octets) && nat_le 4 (length_field octets) && nat_le (length_field octets) (length octets)
 
 abbrev pub first_item : List ℕ → ItemValue
 first_item octets = record { kind = number16_at octets 0; value = slice_range octets 4 (length_field octets) }

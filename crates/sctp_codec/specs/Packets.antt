@@ -1,10 +1,11 @@
 -- Packets of SCTP: what they say (RFC 9260 §3).
-use Rattle.std.specs.Prelude.{ℕ, ◌*◌, Bool, List, Option}
+use Rattle.std.specs.Prelude.{ℕ, Bool, List}
 use Rattle.sctp_codec.specs.Items.{ItemValue}
 
 -- a DATA chunk (RFC 9260 §3.3.1)
 pub record DataValue : Type 0 where
-  -- the I, U, B and E bits: an acknowledgement is wanted at once; the message is unordered; it begins here, it ends here
+  -- the I, U, B and E bits: an acknowledgement is wanted at once; the message is unordered; it begins here; it ends
+  -- here
   pub immediate : Bool
   pub unordered : Bool
   pub begins : Bool
@@ -65,7 +66,8 @@ pub data ChunkValue : Type 0 where
   ShutdownCompleteChunk : (is_reflected : Bool) → ChunkValue
   -- a chunk of another type
   UnknownChunk : (kind flags : ℕ) (value : List ℕ) → ChunkValue
-  -- a chunk of one of the types above whose value is too short for its fields, or isn't made of whole parameters or causes
+  -- a chunk of one of the types above whose value is too short for its fields, or whose parameters or causes aren't
+  -- whole
   MalformedChunk : (kind : ℕ) → ChunkValue
 
 -- a packet

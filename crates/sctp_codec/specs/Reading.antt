@@ -1,10 +1,11 @@
 -- Reading a packet (RFC 9260 §3, §6.8, §6.10).
-use Rattle.std.specs.Prelude.{ℕ, ◌+◌, ◌*◌, ◌/◌, ◌%◌, ◌^◌, Bool, true, false, ◌==◌, ◌||◌, ◌&&◌, not, if◌then◌else◌, nat_lt, List, []}
+use Rattle.std.specs.Prelude.{ℕ, ◌+◌, ◌*◌, ◌/◌, ◌%◌, ◌^◌, Bool, true, false, ◌==◌, ◌||◌, ◌&&◌}
+use Rattle.std.specs.Prelude.{if◌then◌else◌, nat_lt, List, []}
 use Rattle.std.specs.Prelude.{◌∷◌, ◌++◌, length, take, drop, map, slice_index, Option, Some, None}
 use Rattle.std.specs.Int.{w16, w32, from_be_bytes, from_le_bytes}
 use Rattle.crc32c.specs.Division.{crc32c_of}
 use Rattle.sctp_codec.specs.Items.{ItemValue, number16_at, number32_at, read_items}
-use Rattle.sctp_codec.specs.Packets.{DataValue, InitValue, BlockValue, SackValue, PacketValue, ChunkValue, DataChunk}
+use Rattle.sctp_codec.specs.Packets.{InitValue, BlockValue, PacketValue, ChunkValue, DataChunk}
 use Rattle.sctp_codec.specs.Packets.{InitChunk, InitAckChunk, SackChunk, HeartbeatChunk, HeartbeatAckChunk, AbortChunk}
 use Rattle.sctp_codec.specs.Packets.{ShutdownChunk, ShutdownAckChunk, ErrorChunk, CookieEchoChunk, CookieAckChunk}
 use Rattle.sctp_codec.specs.Packets.{ShutdownCompleteChunk, UnknownChunk, MalformedChunk}

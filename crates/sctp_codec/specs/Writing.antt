@@ -1,11 +1,13 @@
 -- The octets that say what a packet says (RFC 9260 §3).
-use Rattle.std.specs.Prelude.{◌≡◌, ◌≢◌, ℕ, ◌+◌, ◌*◌, ◌^◌, ◌<◌, ◌≤◌, Bool, true, if◌then◌else◌, List, [], ◌∷◌, ◌++◌, length, map}
-use Rattle.std.specs.Prelude.{nat_lt, All}
+use Rattle.std.specs.Prelude.{◌≡◌, ◌≢◌, ℕ, ◌+◌, ◌*◌, ◌^◌, ◌<◌, ◌≤◌, Bool, true, if◌then◌else◌}
+use Rattle.std.specs.Prelude.{List, [], ◌++◌, length, map}
+use Rattle.std.specs.Prelude.{All}
 use Rattle.std.specs.Int.{w16, w32, to_be_bytes, to_le_bytes}
 use Rattle.std.specs.List.{flat_map}
 use Rattle.crc32c.specs.Division.{crc32c_of}
 use Rattle.sctp_codec.specs.Items.{ItemValue, IsItem, padded_item, padded_items, joined_items}
-use Rattle.sctp_codec.specs.Packets.{DataValue, InitValue, BlockValue, SackValue, PacketValue, ChunkValue, DataChunk, kind_of}
+use Rattle.sctp_codec.specs.Packets.{DataValue, InitValue, BlockValue, SackValue, PacketValue, ChunkValue, kind_of}
+use Rattle.sctp_codec.specs.Packets.{DataChunk}
 use Rattle.sctp_codec.specs.Packets.{InitChunk, InitAckChunk, SackChunk, HeartbeatChunk, HeartbeatAckChunk, AbortChunk}
 use Rattle.sctp_codec.specs.Packets.{ShutdownChunk, ShutdownAckChunk, ErrorChunk, CookieEchoChunk, CookieAckChunk}
 use Rattle.sctp_codec.specs.Packets.{ShutdownCompleteChunk, UnknownChunk, MalformedChunk}
@@ -17,7 +19,8 @@ bit set number = if set then 2 ^ number else 0
 
 abbrev pub data_octets : DataValue → List ℕ
 data_octets d =
-    to_be_bytes w32 d.tsn ++ to_be_bytes w16 d.stream ++ to_be_bytes w16 d.sequence ++ to_be_bytes w32 d.protocol ++ d.octets
+    to_be_bytes w32 d.tsn ++ to_be_bytes w16 d.stream ++ to_be_bytes w16 d.sequence ++ to_be_bytes w32 d.protocol
+    ++ d.octets
 
 -- an INIT or an INIT ACK before its parameters
 abbrev pub init_front : InitValue → List ℕ
@@ -34,7 +37,8 @@ block_octets b = to_be_bytes w16 b.start ++ to_be_bytes w16 b.end
 abbrev pub sack_octets : SackValue → List ℕ
 sack_octets s =
     to_be_bytes w32 s.cumulative ++ to_be_bytes w32 s.window ++ to_be_bytes w16 (length s.blocks)
-    ++ to_be_bytes w16 (length s.duplicates) ++ flat_map block_octets s.blocks ++ flat_map (to_be_bytes w32) s.duplicates
+    ++ to_be_bytes w16 (length s.duplicates) ++ flat_map block_octets s.blocks
+    ++ flat_map (to_be_bytes w32) s.duplicates
 
 -- the flags of a chunk: those that say something, and 0 for the others
 abbrev pub flags_in : ChunkValue → ℕ

@@ -102,7 +102,8 @@ fn bare(code: u16, behind: &[u8]) -> CauseParts<'_>
 /// A cause whose value is an item of this number and this value.
 fn nested(code: u16, kind: u16, value: &[u8]) -> CauseParts<'_>
     requires { 4 + length value.now < 2 ^ 16 }
-    ensures { parts_of result ≡ record { kind = code; value = item_octets (record { kind = kind; value = value.now }) } }
+    ensures { parts_of result
+        ≡ record { kind = code; value = item_octets (record { kind = kind; value = value.now }) } }
 {
     let length = (ITEM_HEADER_OCTETS + value.len()) as u16;
     let [kind_high, kind_low] = kind.to_be_bytes();

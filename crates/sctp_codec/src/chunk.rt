@@ -3,7 +3,8 @@
 ghost use Rattle.std.specs.Prelude.{◌≡◌, ◌+◌, ◌*◌, ◌<◌, ◌≤◌, ◌==◌, length};
 ghost use Rattle.sctp_codec.specs.Items.{number16_at, number32_at};
 ghost use Rattle.sctp_codec.specs.Packets as value;
-ghost use Rattle.sctp_codec.specs.Reading.{is_set, data_in, init_in, sack_in, shutdown_in, chunk_of, chunk_in, chunk_or_malformed};
+ghost use Rattle.sctp_codec.specs.Reading.{is_set, data_in, init_in, sack_in, shutdown_in, chunk_of, chunk_in};
+ghost use Rattle.sctp_codec.specs.Reading.{chunk_or_malformed};
 ghost use Rattle.sctp_codec.specs.Reading.{blocks_in, numbers_in};
 ghost use Rattle.sctp_codec.specs.Values.{item_of, init_of, block_of, blocks_of, numbers_of, chunk_value, Gives};
 

@@ -18,7 +18,8 @@ pub struct Item<'a> {
 /// The first item of the octets, and what stands behind its padding. None where they don't begin with a whole item.
 pub(crate) fn first(octets: &[u8]) -> Option<(Item<'_>, &[u8])>
     ensures { MatchOption result (begins_whole octets.now ≡ false) (λ found.
-        (begins_whole octets.now ≡ true) × (item_of found.0 ≡ first_item octets.now) × (found.1.now ≡ behind_first octets.now)) }
+        (begins_whole octets.now ≡ true) × (item_of found.0 ≡ first_item octets.now)
+        × (found.1.now ≡ behind_first octets.now)) }
 {
     let [kind_high, kind_low, length_high, length_low, ..] = *octets else {
         return None;

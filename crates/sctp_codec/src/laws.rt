@@ -1,7 +1,8 @@
 //! Laws of packets, for whoever reads and writes them. Each function says its law by its contract, and does nothing.
 
 ghost use Rattle.std.specs.Prelude.{◌≡◌, ◌↔◌, ℕ, List, Some, All};
-ghost use Rattle.sctp_codec.specs.Items.{ItemValue, IsItem, AreItems, AreOctets, read_items, padded_items, joined_items};
+ghost use Rattle.sctp_codec.specs.Items.{ItemValue, IsItem, AreItems, AreOctets, read_items};
+ghost use Rattle.sctp_codec.specs.Items.{padded_items, joined_items};
 ghost use Rattle.sctp_codec.specs.Packets.{PacketValue, ChunkValue};
 ghost use Rattle.sctp_codec.specs.Reading.{chunk_in, read_packet};
 ghost use Rattle.sctp_codec.specs.Writing.{IsChunk, IsPacket, chunk_item, packet_octets};

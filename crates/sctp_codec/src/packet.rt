@@ -2,7 +2,8 @@
 
 ghost use Rattle.std.specs.Prelude.{◌≡◌, ◌==◌, ◌<◌, ◌≤◌, length, take, drop, slice_index};
 ghost use Rattle.sctp_codec.specs.Items.{read_items};
-ghost use Rattle.sctp_codec.specs.Reading.{read_packet, chunk_in, checksum_of, checksum_field, is_bundled_well, has_type};
+ghost use Rattle.sctp_codec.specs.Reading.{read_packet, chunk_in, checksum_of, checksum_field};
+ghost use Rattle.sctp_codec.specs.Reading.{is_bundled_well, has_type};
 ghost use Rattle.sctp_codec.specs.Values.{items_of, chunk_value, chunks_of, packet_of, Gives};
 
 use crate::chunk::{Chunk, Tag, number16_at, number32_at};

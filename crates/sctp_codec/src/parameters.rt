@@ -1,7 +1,8 @@
 //! The parameters of INIT and INIT ACK, and the causes of ERROR.
 
 ghost use Rattle.std.specs.Prelude.{◌≡◌, ◌||◌};
-ghost use Rattle.sctp_codec.specs.Parameters.{is_known, is_skipped, is_reported, is_last, counting, first_of_kind, has_kind};
+ghost use Rattle.sctp_codec.specs.Parameters.{is_known, is_skipped, is_reported, is_last, counting};
+ghost use Rattle.sctp_codec.specs.Parameters.{first_of_kind, has_kind};
 ghost use Rattle.sctp_codec.specs.Parameters.{cookie_in, host_name_in, has_stale_cookie, information_of};
 ghost use Rattle.sctp_codec.specs.Values.{items_of, Gives};
 

@@ -3,7 +3,8 @@
 ghost use Rattle.std.specs.Prelude.{◌≡◌, ◌+◌, ◌<◌, ◌≤◌, true, false, List, [], ◌∷◌, ◌++◌, length, take, map, replicate};
 ghost use Rattle.sctp_codec.specs.Items.{item_octets, padding_behind};
 ghost use Rattle.sctp_codec.specs.Packets as value;
-ghost use Rattle.sctp_codec.specs.Parameters.{reported_in, report_of, fitting, following, answering, complained_of, unrecognized_parameters};
+ghost use Rattle.sctp_codec.specs.Parameters.{reported_in, report_of, fitting, following, answering};
+ghost use Rattle.sctp_codec.specs.Parameters.{complained_of, unrecognized_parameters};
 ghost use Rattle.sctp_codec.specs.Writing.{chunk_octets};
 ghost use Rattle.sctp_codec.specs.Values.{item_of, items_of, offer_with};
 ghost use Rattle.sctp_codec.specs.Reports.{reports_of};
@@ -102,8 +103,8 @@ pub fn write_unrecognized_parameters(
     write_item(out, at, UNRECOGNIZED_PARAMETERS, &reports[..end])
 }
 
-/// Writes reported parameters from a place on, each behind the padding of what stands before it, as many of the first of
-/// them as there is room for, and answers the place behind them.
+/// Writes reported parameters from a place on, each behind the padding of what stands before it, as many
+/// of the first of them as there is room for, and answers the place behind them.
 fn write_reports(
     out: &mut PacketBuffer,
     at: usize,
@@ -114,7 +115,8 @@ fn write_reports(
     requires few { padding < 4 }
     requires space { at + padding + 512 ≤ 1200 }
     ensures room { result ≤ at + padding + 512 }
-    ensures count { result ≡ at + length (following padding (fitting 512 (map (report_of is_wrapped) (reports_of reports.entry)))) }
+    ensures count { result
+        ≡ at + length (following padding (fitting 512 (map (report_of is_wrapped) (reports_of reports.entry)))) }
     ensures text { take result out.new
         ≡ take at out.old ++ following padding (fitting 512 (map (report_of is_wrapped) (reports_of reports.entry))) }
 {

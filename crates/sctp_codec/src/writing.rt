@@ -1,12 +1,14 @@
 //! Packets written into a buffer: the header, chunk by chunk, and last the checksum.
 
-ghost use Rattle.std.specs.Prelude.{◌≡◌, ℕ, ◌+◌, ◌-◌, ◌*◌, ◌<◌, ◌≤◌, ◌^◌, List, [], ◌∷◌, ◌++◌, length, take, map, replicate};
+ghost use Rattle.std.specs.Prelude.{◌≡◌, ℕ, ◌+◌, ◌-◌, ◌*◌, ◌<◌, ◌≤◌, ◌^◌, List, [], ◌∷◌, ◌++◌, length, take};
+ghost use Rattle.std.specs.Prelude.{map, replicate};
 ghost use Rattle.std.specs.Int.{w16, w32, to_be_bytes};
 ghost use Rattle.sctp_codec.specs.Items.{ItemValue, padding_behind, item_octets, padded_item};
 ghost use Rattle.sctp_codec.specs.Packets as value;
 ghost use Rattle.std.specs.Prelude.{false, true};
 ghost use Rattle.std.specs.List.{flat_map};
-ghost use Rattle.sctp_codec.specs.Writing.{header_octets, headed, chunk_octets, bit, data_octets, init_front, block_octets};
+ghost use Rattle.sctp_codec.specs.Writing.{header_octets, headed, chunk_octets, bit, data_octets};
+ghost use Rattle.sctp_codec.specs.Writing.{init_front, block_octets};
 ghost use Rattle.sctp_codec.specs.Parameters.{cause_item};
 ghost use Rattle.sctp_codec.specs.Values.{data_of, block_of, offer_with};
 ghost use Rattle.sctp_codec.specs.Causes.{cause_of};
@@ -190,8 +192,10 @@ fn write_number(out: &mut PacketBuffer, at: usize, number: u32) -> usize
 
 /// Writes an ABORT chunk with this cause from a place on, and answers the place behind it (RFC 9260 §3.3.7).
 pub fn write_abort(out: &mut PacketBuffer, at: usize, cause: &Cause<'_>) -> usize
-    requires { at + length (chunk_octets (value.AbortChunk false (item_octets (cause_item (cause_of cause.now))))) ≤ 1200 }
-    ensures count { result ≡ at + length (chunk_octets (value.AbortChunk false (item_octets (cause_item (cause_of cause.now))))) }
+    requires { at + length (chunk_octets (value.AbortChunk false (item_octets (cause_item (cause_of cause.now)))))
+        ≤ 1200 }
+    ensures count { result
+        ≡ at + length (chunk_octets (value.AbortChunk false (item_octets (cause_item (cause_of cause.now))))) }
     ensures text { take result out.new
         ≡ take at out.old ++ chunk_octets (value.AbortChunk false (item_octets (cause_item (cause_of cause.now)))) }
 {
@@ -220,11 +224,13 @@ pub fn write_error(out: &mut PacketBuffer, at: usize, cause: &Cause<'_>) -> usiz
 
 /// Writes a chunk of this number whose value is this cause, and answers the place behind it.
 fn write_cause(out: &mut PacketBuffer, at: usize, kind: u16, cause: &Cause<'_>) -> usize
-    requires { at + length (padded_item (record { kind = kind; value = item_octets (cause_item (cause_of cause.now)) })) ≤ 1200 }
+    requires { at + length (padded_item (record { kind = kind; value = item_octets (cause_item (cause_of cause.now)) }))
+        ≤ 1200 }
     ensures count { result
         ≡ at + length (padded_item (record { kind = kind; value = item_octets (cause_item (cause_of cause.now)) })) }
     ensures text { take result out.new
-        ≡ take at out.old ++ padded_item (record { kind = kind; value = item_octets (cause_item (cause_of cause.now)) }) }
+        ≡ take at out.old
+        ++ padded_item (record { kind = kind; value = item_octets (cause_item (cause_of cause.now)) }) }
 {
     let CauseParts {
         code,

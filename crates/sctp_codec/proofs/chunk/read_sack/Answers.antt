@@ -1,4 +1,4 @@
-use Rattle.std.proofs.Common.{rules, ◌≡◌, ℕ, refl, arith}
+use Rattle.std.proofs.Common.{rules, ◌≡◌, refl, arith}
 use Rattle.sctp_codec.specs.Reading.{block_count, duplicate_count}
 use Rattle.sctp_codec.proofs.SackTexts.{sack-read}
 use Rattle.sctp_codec.proofs.chunk.read_sack.Goals as goal

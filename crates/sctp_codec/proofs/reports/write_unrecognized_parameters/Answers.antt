@@ -1,6 +1,6 @@
-use Rattle.std.proofs.Common.{◌≡◌, ℕ, ◌+◌, ◌*◌, ◌^◌, List, ◌++◌, length, take, map, sym, ap, ◌∙◌, arith}
+use Rattle.std.proofs.Common.{◌≡◌, ℕ, ◌+◌, List, length, take, map, sym, ap, ◌∙◌, arith}
 use Rattle.std.proofs.lemmas.List.{length-take}
-use Rattle.sctp_codec.specs.Items.{ItemValue, padding_behind, padded_item, joined_items}
+use Rattle.sctp_codec.specs.Items.{ItemValue, padding_behind, joined_items}
 use Rattle.sctp_codec.specs.Parameters.{reported_in, fitting, following, report_octets, complained_of}
 use Rattle.sctp_codec.specs.Values.{items_of}
 use Rattle.sctp_codec.proofs.ReportTexts.{joined-following}

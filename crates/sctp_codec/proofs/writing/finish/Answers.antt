@@ -1,4 +1,4 @@
-use Rattle.std.proofs.Common.{rules, ◌≡◌, arith}
+use Rattle.std.proofs.Common.{rules}
 use Rattle.sctp_codec.proofs.Finishing.{finished}
 use Rattle.sctp_codec.proofs.writing.finish.Goals as goal
 

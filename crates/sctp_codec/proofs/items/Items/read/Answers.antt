@@ -1,4 +1,4 @@
-use Rattle.std.proofs.Common.{rules, ◌≡◌, ◌<◌, ℕ, List, true, false, length, ap, sym, ◌∙◌, arith}
+use Rattle.std.proofs.Common.{rules, ◌≡◌, ◌<◌, ℕ, List, true, false, length, ap, sym, ◌∙◌}
 use Rattle.std.specs.Prelude.{is_some}
 use Rattle.sctp_codec.specs.Items.{begins_whole, behind_first, read_items}
 use Rattle.sctp_codec.proofs.ItemTexts.{none-read, is_some-broken, is_some-behind, is_some-empty}

@@ -1,4 +1,4 @@
-use Rattle.std.proofs.Common.{rules, ◌≡◌, ℕ, true, false, ◌∙◌, ◌∷◌, ap, sym, length, arith}
+use Rattle.std.proofs.Common.{rules, ◌≡◌, true, false, ◌∙◌, ◌∷◌, ap, sym, length}
 use Rattle.sctp_codec.specs.Items.{ItemValue, begins_whole, first_item, behind_first}
 use Rattle.sctp_codec.specs.Values.{item_of, items_in}
 use Rattle.sctp_codec.proofs.ItemTexts.{none_left, one_more}
