@@ -1,0 +1,45 @@
+//! The words of a row.
+
+/// Octets of a row, at most.
+pub const OCTETS: usize = 1_500;
+
+/// The word of a row at a place; nothing where it has fewer.
+pub fn word(row: &str, place: usize) -> &str {
+    row.split(' ').nth(place).unwrap_or("")
+}
+
+/// The last word of a row.
+pub fn last(row: &str) -> &str {
+    row.split(' ').last().unwrap_or("")
+}
+
+/// The octets of a word, in a buffer. What is none, or finds no room, is left out, so that the row fails.
+pub fn octets<'a>(word: &str, buffer: &'a mut [u8; OCTETS]) -> &'a [u8] {
+    let mut count = 0;
+    for piece in word.split(',') {
+        count = put(piece, buffer, count);
+    }
+    buffer.get(..count).unwrap_or(&[])
+}
+
+/// Puts the octets of a piece into the buffer from a place on, and answers the place behind them.
+fn put(piece: &str, buffer: &mut [u8; OCTETS], at: usize) -> usize {
+    let (text, times) = piece.split_once('*').unwrap_or((piece, "1"));
+    let mut count = at;
+    for _ in 0..times.parse().unwrap_or(0u32) {
+        count = put_once(text, buffer, count);
+    }
+    count
+}
+
+/// The same, of a text once.
+fn put_once(text: &str, buffer: &mut [u8; OCTETS], at: usize) -> usize {
+    let end = at.saturating_add(text.len() / 2);
+    let Some(room) = buffer.get_mut(at..end) else {
+        return at;
+    };
+    match hex::decode_to_slice(text, room) {
+        Ok(()) => end,
+        Err(_) => at,
+    }
+}
