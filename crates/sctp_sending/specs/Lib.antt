@@ -10,3 +10,4 @@ pub mod Outbox
 pub mod Tallies
 pub mod Tallied
 pub mod Sending
+pub mod Inside

@@ -1,5 +1,5 @@
 -- The messages on their way, and what is done to one of them.
-use Rattle.std.specs.Prelude.{ℕ, ◌+◌, ◌-◌, List, take, drop, nat_lt, if◌then◌else◌, slice_set, sum_by}
+use Rattle.std.specs.Prelude.{ℕ, ◌+◌, ◌-◌, false, List, take, drop, slice_set, sum_by}
 use Rattle.sctp_sending.specs.Outgoing.{Outgoing, outgoing_at, gone_out, under_way_of, newly_confirmed_of}
 
 -- all that was given and isn't confirmed, in order; the first `went` of them went out
@@ -15,12 +15,9 @@ under_way_in b = sum_by under_way_of (take b.went b.out)
 abbrev pub changed : Outbox → ℕ → (Outgoing → Outgoing) → Outbox
 changed b place f = record { out = slice_set b.out place (f (outgoing_at b.out place)); went = b.went }
 
--- the message at a place goes out, for the first time or again
-abbrev pub put_out : Outbox → ℕ → Outbox
-put_out b place = record {
-  out = slice_set b.out place (gone_out (nat_lt place b.went) (outgoing_at b.out place));
-  went = if nat_lt place b.went then b.went else b.went + 1;
-}
+-- the first message that didn't go out yet does
+abbrev pub put_out_first : Outbox → Outbox
+put_out_first b = record { out = slice_set b.out b.went (gone_out false (outgoing_at b.out b.went)); went = b.went + 1 }
 
 -- the first messages leave
 abbrev pub without_first : Outbox → ℕ → Outbox

@@ -1,19 +1,15 @@
 -- The sender's half of an association, and what each call makes of it (RFC 9260 §6.1, §6.2.1, §6.3, §7.2).
-use Rattle.std.specs.Prelude.{ℕ, zero, suc, ◌+◌, ◌-◌, ◌*◌, ◌/◌, ◌%◌, ◌^◌, Bool, false, not, ◌&&◌, ◌||◌, List, [], ◌∷◌}
-use Rattle.std.specs.Prelude.{◌++◌, length, take, drop, map, sum_by, nat_lt, nat_le, ◌==◌, if◌then◌else◌, Option, Some}
+use Rattle.std.specs.Prelude.{ℕ, zero, suc, ◌+◌, ◌-◌, ◌*◌, ◌/◌, ◌%◌, ◌^◌, Bool, true, false, not, ◌&&◌, ◌||◌, List, [], ◌∷◌}
+use Rattle.std.specs.Prelude.{◌++◌, length, take, drop, map, sum_by, min, nat_lt, nat_le, ◌==◌, if◌then◌else◌, Option, Some}
 use Rattle.std.specs.Prelude.{None, is_some, slice_index, slice_set}
 use Rattle.sctp_sending.specs.declared.confirmation.Confirmation.{Confirmation}
 use Rattle.sctp_sending.specs.declared.confirmation.Confirmation.TheVariants.{Old, Beyond, Of}
 use Rattle.sctp_sending.specs.declared.bounds.Bounds.{Bounds}
+use Rattle.sctp_sending.specs.declared.timed.Timed.{Timed}
 use Rattle.sctp_sending.specs.RoundTrips.{RoundTrips, first_round_trips, after_measured, backed_off}
 use Rattle.sctp_sending.specs.Congestion.{Congestion, first_congestion, grown, after_confirmed, after_loss, after_timeout, after_all}
 use Rattle.sctp_sending.specs.Outgoing.{Message, Outgoing, new_outgoing, outgoing_at, octets_of, under_way_of, newly_confirmed_of}
 use Rattle.sctp_sending.specs.Outgoing.{gone_out, named_or_not, passed_over, timed_out, tsn_at, ahead_of, lost_from}
-
--- a message whose round trip is measured: its place, and when it went out
-pub record Timed : Type 0 where
-  pub place : ℕ
-  pub since : ℕ
 
 pub record Sending : Type 0 where
   -- all that was given and isn't confirmed, in order; the first `went` of them went out
@@ -67,7 +63,7 @@ under_way s = sum_by under_way_of (take s.went s.out)
 -- ---- a message is given
 
 -- it gets the next TSN, and the next number of its stream
-abbrev pub given : Sending → Message → Sending
+unfoldable pub given : Sending → Message → Sending
 given s message = record s {
   out = s.out ++ new_outgoing message (slice_index s.sequences message.stream) ∷ [];
   sequences = slice_set s.sequences message.stream ((slice_index s.sequences message.stream + 1) % 2 ^ 16);
@@ -82,7 +78,7 @@ abbrev pub has_credit : Sending → Bool
 has_credit s = nat_lt (under_way s) s.congestion.window
 
 -- a message that is given now goes out now
-abbrev pub has_room : Sending → Bool
+unfoldable pub has_room : Sending → Bool
 has_room s =
     nat_lt (length s.out) most_messages
     && not (is_some (lost_from s.out 0 s.went))
@@ -110,7 +106,7 @@ abbrev pub next_of : Sending → Option ℕ → Option ℕ
 next_of s (Some place) = if may_repeat s place then Some place else None
 next_of s None = if may_begin s then Some s.went else None
 
-abbrev pub next_place : Sending → Option ℕ
+unfoldable pub next_place : Sending → Option ℕ
 next_place s = next_of s (lost_from s.out 0 s.went)
 
 -- the octets that are left of a burst
@@ -131,19 +127,28 @@ abbrev pub running : Option ℕ → ℕ → Option ℕ
 running None moment = Some moment
 running (Some t) moment = Some t
 
--- the message at a place goes out
+-- a lost message goes out again
+unfoldable pub gone_again : Sending → (place now : ℕ) → Sending
+gone_again s place now = record s {
+  out = slice_set s.out place (gone_out true (outgoing_at s.out place));
+  peer_window = s.peer_window - octets_of (outgoing_at s.out place);
+  burst = burst_left s.burst (chunk_octets (octets_of (outgoing_at s.out place)));
+  timed = timed_without s.timed place;
+  t3 = running s.t3 (now + s.round_trips.timeout);
+}
+
+-- the first new one goes out
+unfoldable pub gone_first : Sending → (now : ℕ) → Sending
+gone_first s now = record s {
+  out = slice_set s.out s.went (gone_out false (outgoing_at s.out s.went));
+  went = s.went + 1;
+  peer_window = s.peer_window - octets_of (outgoing_at s.out s.went);
+  timed = timed_from s.timed s.went now;
+  t3 = running s.t3 (now + s.round_trips.timeout);
+}
+
 abbrev pub gone : Sending → (place now : ℕ) → Sending
-gone s place now =
-    let o = outgoing_at s.out place in
-    let before = nat_lt place s.went in
-    record s {
-      out = slice_set s.out place (gone_out before o);
-      went = if before then s.went else s.went + 1;
-      peer_window = s.peer_window - octets_of o;
-      burst = if before then burst_left s.burst (chunk_octets (octets_of o)) else s.burst;
-      timed = if before then timed_without s.timed place else timed_from s.timed place now;
-      t3 = running s.t3 (now + s.round_trips.timeout);
-    }
+gone s place now = if nat_lt place s.went then gone_again s place now else gone_first s now
 
 -- the next message goes out; where there is none, a burst is over
 abbrev pub gone_next : Sending → (now : ℕ) → Option ℕ → Sending
@@ -154,7 +159,7 @@ gone_next s now (Some place) = gone s place now
 
 -- how many messages a cumulative TSN confirms: Old where it is behind what is confirmed, Beyond where it confirms one
 -- that didn't go out
-abbrev pub confirmation : Sending → (cumulative : ℕ) → Confirmation
+unfoldable pub confirmation : Sending → (cumulative : ℕ) → Confirmation
 confirmation s cumulative =
     let count = ahead_of (tsn_at cumulative 1) s.first in
     if nat_le (2 ^ 31) count then Old else if nat_lt s.went count then Beyond else Of count
@@ -169,7 +174,7 @@ measured_in r None count now = r
 measured_in r (Some t) count now = if nat_lt t.place count then after_measured r (now - t.since) else r
 
 -- the first messages are confirmed: they leave
-abbrev pub confirmed : Sending → (count now : ℕ) → Sending
+unfoldable pub confirmed : Sending → (count now : ℕ) → Sending
 confirmed s count now = record s {
   out = drop count s.out;
   went = s.went - count;
@@ -180,7 +185,7 @@ confirmed s count now = record s {
 }
 
 -- T3 stops where nothing is out any more, and begins anew where something was confirmed (RFC 9260 §6.3.2, R2 and R3)
-abbrev pub settled : Sending → (count now : ℕ) → Sending
+unfoldable pub settled : Sending → (count now : ℕ) → Sending
 settled s count now =
     if s.went == 0 then record s { t3 = None; congestion = after_all s.congestion }
     else if nat_lt 0 count then record s { t3 = Some (now + s.round_trips.timeout) }
@@ -257,7 +262,7 @@ abbrev pub passing_of : Naming → Passing
 passing_of n = passed_below n.out n.reach
 
 -- a SACK that confirms so many messages, names some, and tells the peer's window
-abbrev pub acknowledged : Sending → (now window count : ℕ) → (ℕ → Bool) → Sending
+unfoldable pub acknowledged : Sending → (now window count : ℕ) → (ℕ → Bool) → Sending
 acknowledged s now window count names =
     let full = nat_le s.congestion.window (under_way s) in
     let left = confirmed s count now in
@@ -281,7 +286,7 @@ after_sack s now window names (Of count) = acknowledged s now window count names
 
 -- ---- T3 runs out
 
-abbrev pub after_t3 : Sending → (now : ℕ) → Sending
+unfoldable pub after_t3 : Sending → (now : ℕ) → Sending
 after_t3 s now =
     let waited = backed_off s.round_trips in
     record s {
@@ -292,3 +297,15 @@ after_t3 s now =
       timed = None;
       t3 = Some (now + waited.timeout);
     }
+
+-- ---- which messages there are
+
+-- the messages that aren't confirmed
+abbrev pub messages_of : Sending → List Message
+messages_of s = map (λ o. o.message) s.out
+
+-- how many a cumulative TSN confirms
+abbrev pub count_of : Confirmation → ℕ
+count_of Old = 0
+count_of Beyond = 0
+count_of (Of count) = count

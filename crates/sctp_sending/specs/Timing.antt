@@ -9,5 +9,6 @@ round_trips_in t = record { bounds = t.bounds; measured = t.measured; timeout = 
 pub record IsBounded (t : Inside) : Type 0 where
   pub measured : IfSome t.measured (λ s. (s.time ≤ t.bounds.most) × (s.variation ≤ t.bounds.most))
   pub timeout : t.timeout ≤ t.bounds.most
+  pub initial : t.bounds.initial ≤ t.bounds.most
   pub least : t.bounds.least ≤ t.bounds.most
   pub most : t.bounds.most ≤ 2 ^ 24

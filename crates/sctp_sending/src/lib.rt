@@ -5,12 +5,18 @@ pub mod bounds;
 mod cell;
 pub mod confirmation;
 mod congestion;
+pub mod data;
+pub mod laws;
 pub mod message;
 mod outbox;
 mod ring;
 mod round_trips;
+pub mod sender;
 mod tally;
+pub mod timed;
 
 pub use bounds::Bounds;
 pub use confirmation::Confirmation;
+pub use data::Data;
 pub use message::Message;
+pub use sender::Sender;

@@ -1,6 +1,6 @@
 //! The messages on their way, with what is counted along.
 
-ghost use Rattle.std.specs.Prelude.{◌≡◌, ◌↔◌, ◌+◌, ◌-◌, ◌*◌, ◌<◌, ◌≤◌, [], ◌∷◌, ◌++◌, length, take, drop, sum_by, true, IfOk, IsTrue, None};
+ghost use Rattle.std.specs.Prelude.{◌≡◌, ◌↔◌, ◌+◌, ◌-◌, ◌*◌, ◌<◌, ◌≤◌, [], ◌∷◌, ◌++◌, length, take, drop, sum_by, true, IfOk, IfSome, IsTrue, None};
 ghost use Rattle.sctp_sending.specs.Outgoing.{
   outgoing_at,
   new_outgoing,
@@ -12,7 +12,7 @@ ghost use Rattle.sctp_sending.specs.Outgoing.{
   under_way_of,
   newly_confirmed_of,
 };
-ghost use Rattle.sctp_sending.specs.Outbox.{changed, put_out, without_first, under_way_in, newly_confirmed_in};
+ghost use Rattle.sctp_sending.specs.Outbox.{changed, put_out_first, without_first, under_way_in, newly_confirmed_in};
 ghost use Rattle.sctp_sending.specs.Cells.{given_as};
 ghost use Rattle.sctp_sending.specs.Tallies.{named_of, tally_of};
 
@@ -53,6 +53,15 @@ impl Outbox {
             went: 0,
             tally: NOTHING,
         })
+    }
+
+    /// Drops all messages.
+    pub fn clear(&mut self)
+        ensures { self.new ≡ record { out = []; went = 0 } }
+    {
+        self.ring.truncate(0);
+        self.went = 0;
+        self.tally = NOTHING;
     }
 
     /// How many messages there are.
@@ -103,7 +112,8 @@ impl Outbox {
 
     /// The place of the first lost message.
     pub fn first_lost(&self) -> Option<usize>
-        ensures { result ≡ lost_from self.now.out 0 self.now.went }
+        ensures place { result ≡ lost_from self.now.out 0 self.now.went }
+        ensures within { IfSome result (λ place. place < self.now.went) }
     {
         if self.tally.lost == 0 {
             None
@@ -114,7 +124,8 @@ impl Outbox {
 
     /// The same, by a look at each.
     fn find_lost(&self) -> Option<usize>
-        ensures { result ≡ lost_from self.now.out 0 self.now.went }
+        ensures place { result ≡ lost_from self.now.out 0 self.now.went }
+        ensures within { IfSome result (λ place. place < self.now.went) }
     {
         for place in 0..self.went {
             if self.ring.get(place).is_lost() {
@@ -131,22 +142,8 @@ impl Outbox {
         self.tally.named > 0
     }
 
-    /// The message at a place goes out, for the first time or again. The first one that didn't go out yet may, and any
-    /// before it.
-    pub fn put_out(&mut self, place: usize)
-        requires within { place < length self.old.out }
-        requires next { place ≤ self.old.went }
-        ensures { self.new ≡ put_out self.old place }
-    {
-        if place < self.went {
-            self.put_out_again(place);
-        } else {
-            self.put_out_first();
-        }
-    }
-
     /// The message at a place goes out again.
-    fn put_out_again(&mut self, place: usize)
+    pub fn put_out_again(&mut self, place: usize)
         requires { place < self.old.went }
         ensures { self.new ≡ changed self.old place (gone_out true) }
     {
@@ -156,9 +153,9 @@ impl Outbox {
     }
 
     /// The first message that didn't go out yet does.
-    fn put_out_first(&mut self)
+    pub fn put_out_first(&mut self)
         requires { self.old.went < length self.old.out }
-        ensures { self.new ≡ put_out self.old self.old.went }
+        ensures { self.new ≡ put_out_first self.old }
     {
         self.ring.go_out(self.went, false);
         self.tally = self.tally.with(self.ring.get(self.went));

@@ -1,0 +1,27 @@
+//! Laws of what an end sends. Each function says its law by its contract, and does nothing.
+
+ghost use Rattle.std.specs.Prelude.{◌≡◌, ℕ, ◌∷◌, ◌++◌, [], drop, Bool, Option};
+ghost use Rattle.sctp_sending.specs.declared.confirmation.Confirmation.{Confirmation};
+ghost use Rattle.sctp_sending.specs.Outgoing.{Message};
+ghost use Rattle.sctp_sending.specs.Sending.{
+  Sending,
+  given,
+  gone_next,
+  after_cumulative,
+  after_sack,
+  after_t3,
+  messages_of,
+  count_of,
+};
+
+/// A message that is given goes behind the others, and only a cumulative TSN takes messages away: as many as it
+/// confirms, from the front. Nothing else changes which messages there are.
+pub fn messages_leave_from_the_front()
+    ensures given { (s : Sending) (m : Message) → messages_of (given s m) ≡ messages_of s ++ m ∷ [] }
+    ensures gone { (s : Sending) (now : ℕ) (place : Option ℕ) → messages_of (gone_next s now place) ≡ messages_of s }
+    ensures t3 { (s : Sending) (now : ℕ) → messages_of (after_t3 s now) ≡ messages_of s }
+    ensures cumulative { (s : Sending) (now : ℕ) (c : Confirmation)
+        → messages_of (after_cumulative s now c) ≡ drop (count_of c) (messages_of s) }
+    ensures sack { (s : Sending) (now window : ℕ) (names : ℕ → Bool) (c : Confirmation)
+        → messages_of (after_sack s now window names c) ≡ drop (count_of c) (messages_of s) }
+{}
