@@ -1,12 +1,12 @@
 -- Which messages there are after each rule.
-use Rattle.std.proofs.Common.{◌≡◌, ℕ, zero, suc, Bool, true, false, cond, ltb, eqb, ◌+◌, ◌-◌, ◌<◌, ◌≤◌, ◌||◌, List, [], ◌∷◌, ◌++◌, length, get_or, take, drop, map, Option, Some, None, refl, sym, ap, ◌∙◌, arith}
+use Rattle.std.proofs.Common.{◌≡◌, ℕ, zero, suc, Bool, true, false, cond, ltb, eqb, ◌||◌, List, [], ◌∷◌, ◌++◌, take, drop, map, Option, Some, None, refl, sym, ap, ◌∙◌}
 use Rattle.std.proofs.Math.ListN.{set, get_or-map}
 use Rattle.std.proofs.lemmas.List.{map-set, map-append, drop-map, set-get_or, take-append-drop}
 use Rattle.std.proofs.lemmas.Simd.{map-map}
 use Rattle.sctp_sending.specs.declared.confirmation.Confirmation.{Confirmation}
 use Rattle.sctp_sending.specs.declared.confirmation.Confirmation.TheVariants.{Old, Beyond, Of}
-use Rattle.sctp_sending.specs.Outgoing.{Message, Outgoing, new_outgoing, no_message, outgoing_at, gone_out, named_or_not, passed_over, timed_out}
-use Rattle.sctp_sending.specs.Sending.{Sending, given, gone, gone_again, gone_first, gone_next, confirmed, settled, after_cumulative, named_below, passed_below, naming_of, passing_of, acknowledged, after_sack, after_t3, messages_of, count_of}
+use Rattle.sctp_sending.specs.Outgoing.{Message, Outgoing, no_message, outgoing_at, passed_over, timed_out}
+use Rattle.sctp_sending.specs.Sending.{Sending, given, gone_again, gone_first, gone_next, confirmed, settled, after_cumulative, named_below, passed_below, naming_of, acknowledged, after_sack, after_t3, messages_of, count_of}
 use Rattle.sctp_sending.proofs.Windows.{blank}
 
 abbrev message_of : Outgoing → Message

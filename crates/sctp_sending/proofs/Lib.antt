@@ -1,3 +1,4 @@
 pub mod Windows
 pub mod Tallying
 pub mod Leaving
+pub mod Timing

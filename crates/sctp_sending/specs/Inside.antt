@@ -1,5 +1,5 @@
 -- The sender's half as the struct keeps it.
-use Rattle.std.specs.Prelude.{◌≡◌, ◌<◌, ◌≤◌, ◌^◌, length, IfSome}
+use Rattle.std.specs.Prelude.{◌<◌, ◌≤◌, length, IfSome}
 use Rattle.sctp_sending.specs.declared.sender.Sender.TheInside.{Inside}
 use Rattle.sctp_sending.specs.Sending.{Sending}
 

@@ -1,6 +1,6 @@
 -- The sender's half of an association, and what each call makes of it (RFC 9260 §6.1, §6.2.1, §6.3, §7.2).
 use Rattle.std.specs.Prelude.{ℕ, zero, suc, ◌+◌, ◌-◌, ◌*◌, ◌/◌, ◌%◌, ◌^◌, Bool, true, false, not, ◌&&◌, ◌||◌, List, [], ◌∷◌}
-use Rattle.std.specs.Prelude.{◌++◌, length, take, drop, map, sum_by, min, nat_lt, nat_le, ◌==◌, if◌then◌else◌, Option, Some}
+use Rattle.std.specs.Prelude.{◌++◌, length, take, drop, map, sum_by, nat_lt, nat_le, ◌==◌, if◌then◌else◌, Option, Some}
 use Rattle.std.specs.Prelude.{None, is_some, slice_index, slice_set}
 use Rattle.sctp_sending.specs.declared.confirmation.Confirmation.{Confirmation}
 use Rattle.sctp_sending.specs.declared.confirmation.Confirmation.TheVariants.{Old, Beyond, Of}

@@ -1,6 +1,6 @@
 //! The messages on their way, with what is counted along.
 
-ghost use Rattle.std.specs.Prelude.{◌≡◌, ◌↔◌, ◌+◌, ◌-◌, ◌*◌, ◌<◌, ◌≤◌, [], ◌∷◌, ◌++◌, length, take, drop, sum_by, true, IfOk, IfSome, IsTrue, None};
+ghost use Rattle.std.specs.Prelude.{◌≡◌, ◌↔◌, ◌+◌, ◌-◌, ◌*◌, ◌<◌, ◌≤◌, [], ◌∷◌, ◌++◌, length, take, drop, map, sum_by, true, IfOk, IfSome, IsTrue, None};
 ghost use Rattle.sctp_sending.specs.Outgoing.{
   outgoing_at,
   new_outgoing,
@@ -190,6 +190,18 @@ impl Outbox {
         self.tally = self.tally.without(self.ring.get(place));
         self.ring.time_out(place);
         self.tally = self.tally.with(self.ring.get(place));
+    }
+
+    /// T3 ran out for all messages that went out.
+    pub fn time_out_all(&mut self)
+        ensures { self.new ≡ record {
+          out = map timed_out (take self.old.went self.old.out) ++ drop self.old.went self.old.out;
+          went = self.old.went;
+        } }
+    {
+        for place in 0..self.went {
+            self.time_out(place);
+        }
     }
 
     /// The first messages leave, all of which went out. Answers how many octets that adds to what is confirmed.

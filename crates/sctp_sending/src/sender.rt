@@ -1,8 +1,9 @@
 //! The sender's half of an association.
 
-ghost use Rattle.std.specs.Prelude.{◌≡◌, ◌+◌, ◌<◌, ◌≤◌, ◌^◌, length, take, IfOk, IfSome, sum_by};
-ghost use Rattle.sctp_sending.specs.Outgoing.{octets_of, outgoing_at, tsn_at};
+ghost use Rattle.std.specs.Prelude.{◌≡◌, ℕ, ◌+◌, ◌-◌, ◌<◌, ◌≤◌, ◌^◌, length, take, IfOk, IfSome, sum_by};
+ghost use Rattle.sctp_sending.specs.Outgoing.{octets_of, outgoing_at, tsn_at, newly_confirmed_of};
 ghost use Rattle.sctp_sending.specs.Cells.{given_as};
+ghost use Rattle.sctp_sending.specs.RoundTrips.{after_measured, backed_off};
 ghost use Rattle.sctp_sending.specs.Sending.{
   first_sending,
   given,
@@ -22,7 +23,14 @@ ghost use Rattle.sctp_sending.specs.Sending.{
   timed_without,
   timed_from,
   running,
+  measured_in,
+  timed_behind,
+  confirmed,
+  settled,
+  after_cumulative,
+  after_t3,
   confirmation,
+  count_of,
 };
 
 use crate::bounds::Bounds;
@@ -39,6 +47,9 @@ use std::marker::Model;
 
 /// Octets of a message that is sent, at most.
 const MOST_OCTETS: u32 = 290;
+
+/// Octets of the chunks of a packet of lost messages that goes out whatever the congestion window is.
+const BURST_OCTETS: u32 = 1_188;
 
 /// Octets of the header and the fields of a DATA chunk (RFC 9260 §3.3.1).
 const DATA_HEADER_OCTETS: u32 = 16;
@@ -148,7 +159,8 @@ impl Sender {
     /// What a cumulative TSN confirms.
     #[tactic(auto, unfolding(crate::specs::Sending::confirmation))]
     pub fn confirmation(&self, cumulative: u32) -> Confirmation
-        ensures { result ≡ confirmation self.now cumulative }
+        ensures answer { result ≡ confirmation self.now cumulative }
+        ensures within { count_of result ≤ self.now.went }
     {
         let count = cumulative.wrapping_add(1).wrapping_sub(self.first);
         if count >= 1 << 31 {
@@ -270,11 +282,88 @@ impl Sender {
         }
     }
 
+    /// The retransmission timeout, in milliseconds: RTO.
+    pub fn timeout(&self) -> u32
+        ensures { result ≡ self.now.round_trips.timeout }
+    {
+        self.round_trips.timeout()
+    }
+
+    /// Takes a round trip of so many milliseconds into account, as that of a heartbeat.
+    pub fn measure(&mut self, round_trip: u64)
+        ensures { self.new ≡ record self.old { round_trips = after_measured self.old.round_trips round_trip } }
+    {
+        self.round_trips.measure(round_trip);
+    }
+
+    /// Doubles the timeout, up to RTO.Max: another timer than T3 ran out.
+    pub fn back_off(&mut self)
+        ensures { self.new ≡ record self.old { round_trips = backed_off self.old.round_trips } }
+    {
+        self.round_trips.back_off();
+    }
+
     /// When T3 runs out, in milliseconds of the endpoint's clock.
     pub fn t3(&self) -> Option<u64>
         ensures { result ≡ self.now.t3 }
     {
         self.t3
+    }
+    /// Takes what a SHUTDOWN confirms, and answers it. Old and Beyond change nothing.
+    pub fn confirm(&mut self, cumulative: u32, now: u64) -> Confirmation
+        requires { now ≤ 2 ^ 63 }
+        ensures answer { result ≡ confirmation self.old cumulative }
+        ensures sending { self.new ≡ after_cumulative self.old now result }
+    {
+        let confirmation = self.confirmation(cumulative);
+        if let Confirmation::Of(count) = confirmation {
+            self.take_off(count as usize, now);
+            self.settle(count as usize, now);
+        }
+        confirmation
+    }
+
+    /// The first messages are confirmed: they leave. Answers how many octets that adds.
+    #[tactic(auto, unfolding(crate::specs::Sending::confirmed))]
+    fn take_off(&mut self, count: usize, now: u64) -> u32
+        requires { count ≤ self.old.went }
+        ensures octets { result ≡ sum_by newly_confirmed_of (take count self.old.out) }
+        ensures sending { self.new ≡ confirmed self.old count now }
+    {
+        measure(&mut self.round_trips, self.timed, count, now);
+        self.timed = timed_behind(self.timed, count);
+        let octets = self.outbox.confirm(count);
+        self.first = self.first.wrapping_add(count as u32);
+        self.congestion.confirm(count);
+        octets
+    }
+
+    /// T3 stops where nothing is out any more, and begins anew where something was confirmed.
+    #[tactic(auto, unfolding(crate::specs::Sending::settled))]
+    fn settle(&mut self, count: usize, now: u64)
+        requires { now ≤ 2 ^ 63 }
+        ensures { self.new ≡ settled self.old count now }
+    {
+        if self.outbox.went() == 0 {
+            self.t3 = None;
+            self.congestion.finish();
+        } else if count > 0 {
+            self.t3 = Some(now + u64::from(self.round_trips.timeout()));
+        }
+    }
+
+    /// T3 ran out: what is out and isn't named is lost.
+    #[tactic(auto, unfolding(crate::specs::Sending::after_t3))]
+    pub fn time_out(&mut self, now: u64)
+        requires { now ≤ 2 ^ 63 }
+        ensures { self.new ≡ after_t3 self.old now }
+    {
+        self.outbox.time_out_all();
+        self.burst = BURST_OCTETS;
+        self.congestion.time_out();
+        self.round_trips.back_off();
+        self.timed = None;
+        self.t3 = Some(now + u64::from(self.round_trips.timeout()));
     }
 }
 
@@ -325,4 +414,30 @@ fn chunk_octets(octets: u32) -> u32
     ensures { result ≡ chunk_octets octets }
 {
     DATA_HEADER_OCTETS + (octets + 3) / 4 * 4
+}
+
+/// Measures the round trip of the message that is timed, if it is among the first ones.
+fn measure(round_trips: &mut RoundTrips, timed: Option<Timed>, count: usize, now: u64)
+    ensures { round_trips.new ≡ measured_in round_trips.old timed count now }
+{
+    if let Some(timed) = timed {
+        if timed.place < count {
+            round_trips.measure(now.saturating_sub(timed.since));
+        }
+    }
+}
+
+/// What is timed once the first messages left.
+fn timed_behind(timed: Option<Timed>, count: usize) -> Option<Timed>
+    ensures value { result ≡ timed_behind timed count }
+    ensures within { (went : ℕ) → count ≤ went → IfSome timed (λ t. t.place < went)
+        → IfSome result (λ t. t.place < went - count) }
+{
+    match timed {
+        Some(Timed { place, since }) if place >= count => Some(Timed {
+            place: place - count,
+            since,
+        }),
+        _ => None,
+    }
 }
