@@ -15,6 +15,7 @@ use Rattle.sctp_sending.specs.declared.confirmation.Confirmation.TheVariants.{Ol
 use Rattle.sctp_sending.specs.Outgoing.{Message, Outgoing, no_message, new_outgoing, outgoing_at, gone_out, named_or_not}
 use Rattle.sctp_sending.specs.Outgoing.{passed_over, timed_out, newly_confirmed_of, octets_of, tsn_at, ahead_of, lost_from}
 use Rattle.sctp_sending.specs.Sending.{Sending, given, next_place, next_of, gone_next, confirmation, confirmed, settled}
+use Rattle.sctp_sending.specs.Sending.{gone_again, gone_first}
 use Rattle.sctp_sending.specs.Sending.{after_cumulative, after_sack, after_t3, named_below, passed_below, named_one, passed_one}
 use Rattle.sctp_sending.specs.Sending.{under_way, naming_of, passing_of, is_timed_named, congestion_by, burst_octets, measured_in}
 use Rattle.sctp_sending.specs.Sending.{acknowledged, may_begin, may_repeat, is_named, has_credit, finds_window}
@@ -116,6 +117,7 @@ settled-if false true x y z a e = e
 settled-if false false x y z a e = record { out = refl; first = refl; went = refl }
 
 settled-alike : (s : Sending) (count now : ℕ) → Alike (settled s count now) s
+unfolding settled
 settled-alike s count now =
     settled-if (s.went == 0) (nat_lt 0 count) _ _ s (record { out = refl; first = refl; went = refl })
     (record { out = refl; first = refl; went = refl })
@@ -128,6 +130,7 @@ of-cases false true n count e = absurd (cc)
 of-cases false false n count e = (refl, cc)
 
 confirmed-within : (s : Sending) (cumulative count : ℕ) → confirmation s cumulative ≡ Of count → count ≤ s.went
+unfolding confirmation
 confirmed-within s cumulative count e =
     let n : ℕ = ahead_of (tsn_at cumulative 1) s.first in
     let parts = of-cases (nat_le (2 ^ 31) n) (nat_lt s.went n) n count e in
@@ -143,6 +146,7 @@ left-over first c h =
 
 confirmed-so : (first : ℕ) (c : Course) (count now : ℕ) → count ≤ c.half.went → IsCourse first c →
     IsCourse first (record c { half = confirmed c.half count now; confirmed = c.confirmed + count })
+unfolding confirmed
 confirmed-so first c count now l h = record {
   order = record {
     out = sym (drop-map message_of count c.half.out)
@@ -175,6 +179,7 @@ unsettled s now window count names =
 
 acknowledged-alike : (s : Sending) (now window count : ℕ) (names : ℕ → Bool) →
     Alike (acknowledged s now window count names) (confirmed s count now)
+unfolding acknowledged
 acknowledged-alike s now window count names =
     let left : Sending = confirmed s count now in
     let u : Sending = unsettled s now window count names in
@@ -268,36 +273,57 @@ chunk-given first c p h l = record {
       ∙ get_or-map message_of c.half.out p (new_outgoing no_message 0);
 }
 
-went-on : (b : Bool) (p went long : ℕ) → nat_lt p went ≡ b → went ≤ long → p < long → (if b then went else went + 1) ≤ long
-went-on true p went long e l m = l
-went-on false p went long e l m =
-    let above : went ≤ p = grind (arith, nat_tests, e) in
-    omega (arith, above, m)
+again-alike : (s : Sending) (p now : ℕ) → Alike (gone_again s p now) s
+unfolding gone_again
+again-alike s p now = record { out = kept-at (λ o. gone_out true o) (λ o. refl) s.out p; first = refl; went = refl }
+
+first-goes : (first : ℕ) (c : Course) (now : ℕ) → c.half.went < length c.half.out → IsCourse first c →
+    IsCourse first (record c { half = gone_first c.half now })
+unfolding gone_first
+first-goes first c now l h =
+    let place : ℕ = c.half.went in
+    let long : length (set c.half.out place (gone_out false (outgoing_at c.half.out place))) ≡ length c.half.out =
+    length-set c.half.out place (gone_out false (outgoing_at c.half.out place)) in
+    record {
+      order = record {
+        out = kept-at (λ o. gone_out false o) (λ o. refl) c.half.out place ∙ h.order.out;
+        tsn = h.order.tsn;
+        chunks = h.order.chunks;
+      };
+      went = omega (arith, l, long);
+      within = h.within;
+    }
+
+goes-so : (b : Bool) (first : ℕ) (c : Course) (p now : ℕ) → nat_lt p c.half.went ≡ b → p < length c.half.out → IsCourse first c →
+    IsCourse first (record c { half = if b then gone_again c.half p now else gone_first c.half now })
+goes-so true first c p now e l h = alike-so first c (gone_again c.half p now) (again-alike c.half p now) h
+goes-so false first c p now e l h =
+    let above : c.half.went ≤ p = grind (arith, nat_tests, e) in
+    first-goes first c now (omega (arith, above, l)) h
+
+-- a chunk more
+chunk-more : (first : ℕ) (c : Course) (chunk : DataValue) → IsGiven first c.messages chunk → IsCourse first c →
+    IsCourse first (record c { chunks = c.chunks ++ chunk ∷ [] })
+chunk-more first c chunk g h = record {
+  order = record {
+    out = h.order.out;
+    tsn = h.order.tsn;
+    chunks = All-append (λ (x : DataValue). IsGiven first c.messages x) c.chunks (chunk ∷ []) h.order.chunks
+        (only (λ (x : DataValue). IsGiven first c.messages x) chunk g);
+  };
+  went = h.went;
+  within = h.within;
+}
 
 puts-so : (place : Option ℕ) (first : ℕ) (c : Course) (now : ℕ) → next_place c.half ≡ place → IsCourse first c →
     IsCourse first (after_putting place now c)
+unfolding next_place
 puts-so None first c now e h =
     alike-so first c (gone_next c.half now None) (record { out = refl; first = refl; went = refl }) h
 puts-so (Some p) first c now e h =
     let within : p < length c.half.out = next-within (lost_from c.half.out 0 c.half.went) c.half p refl e in
-    let before : Bool = nat_lt p c.half.went in
-    let same : map message_of (set c.half.out p (gone_out before (outgoing_at c.half.out p))) ≡ map message_of c.half.out =
-    kept-at (λ o. gone_out before o) (λ o. refl) c.half.out p in
-    record {
-      order = record {
-        out = same ∙ h.order.out;
-        tsn = h.order.tsn;
-        chunks = All-append (λ (chunk : DataValue). IsGiven first c.messages chunk) c.chunks (data_at c.half p ∷ []) h.order.chunks
-            (only (λ (chunk : DataValue). IsGiven first c.messages chunk) (data_at c.half p) (chunk-given first c p h within));
-      };
-      went =
-          let long : length (set c.half.out p (gone_out before (outgoing_at c.half.out p))) ≡ length c.half.out =
-          length-set c.half.out p (gone_out before (outgoing_at c.half.out p)) in
-          let on : (if before then c.half.went else c.half.went + 1) ≤ length c.half.out =
-          went-on before p c.half.went (length c.half.out) refl h.went within in
-          subst (λ (n : ℕ). (if before then c.half.went else c.half.went + 1) ≤ n) (sym long) on;
-      within = h.within;
-    }
+    chunk-more first (record c { half = gone_next c.half now (Some p) }) (data_at c.half p) (chunk-given first c p h within)
+    (goes-so (nat_lt p c.half.went) first c p now refl within h)
 
 -- ---- a message is given
 
@@ -312,6 +338,7 @@ still-given first messages m chunk g = record {
 
 gives-so : (first : ℕ) (c : Course) (m : Message) → IsCourse first c →
     IsCourse first (record c { half = given c.half m; messages = c.messages ++ m ∷ [] })
+unfolding given
 gives-so first c m h =
     let number : ℕ = slice_index_or c.half.sequences m.stream 0 in
     record {
@@ -329,15 +356,17 @@ gives-so first c m h =
 
 -- ---- all calls
 
+timed-alike : (s : Sending) (now : ℕ) → Alike (after_t3 s now) s
+unfolding after_t3
+timed-alike s now = record { out = timed-messages s.went s.out; first = refl; went = refl }
+
 call-so : (call : Call) (first : ℕ) (c : Course) → IsCourse first c → IsCourse first (after_call call c)
 call-so (Gives m) first c h = gives-so first c m h
 call-so (PutsOut now) first c h = puts-so (next_place c.half) first c now refl h
 call-so (Hears now window cumulative names) first c h =
     hears-so (confirmation c.half cumulative) first c now window cumulative names refl h
 call-so (HearsShutdown now cumulative) first c h = shutdown-so (confirmation c.half cumulative) first c now cumulative refl h
-call-so (TimesOut now) first c h =
-    alike-so first c (after_t3 c.half now)
-    (record { out = timed-messages c.half.went c.half.out; first = refl; went = refl }) h
+call-so (TimesOut now) first c h = alike-so first c (after_t3 c.half now) (timed-alike c.half now) h
 
 calls-so : (calls : List Call) (first : ℕ) (c : Course) → IsCourse first c → IsCourse first (after_calls calls c)
 calls-so [] first c h = h
