@@ -1,7 +1,7 @@
 -- The sending half under any list of calls.
 use Rattle.std.proofs.Common.{◌≡◌, ℕ, zero, suc, ◌+◌, ◌-◌, ◌%◌, ◌^◌, ◌<◌, ◌≤◌, Bool, true, false, List, [], ◌∷◌, ◌++◌}
 use Rattle.std.proofs.Common.{Option, Some, None, length, map, take, drop, set, get_or, refl, ap, sym, ◌∙◌, subst, arith}
-use Rattle.std.proofs.Common.{inl, inr, nat_lt, nat_le, length-append, length-drop, add_assoc, min}
+use Rattle.std.proofs.Common.{inl, inr, nat_lt, nat_le, length-append, length-drop, min}
 use Rattle.std.specs.Prelude.{◌&&◌, ◌||◌, not, ◌==◌, if◌then◌else◌, All, slice_index_or, sum_by}
 use Rattle.std.proofs.Math.Seq.{map-set_same}
 use Rattle.std.proofs.Math.ListN.{get_or-map, get_or-append}
@@ -9,18 +9,17 @@ use Rattle.std.proofs.lemmas.Bool.{cases_lt}
 use Rattle.std.proofs.lemmas.Bool.Decides.{nat_tests}
 use Rattle.std.proofs.lemmas.List.{map-append, length-map, length-set, get_or-drop, drop-map, drop-append-le}
 use Rattle.std.proofs.lemmas.List.Elements.{All-append, All-weaker, All-nil}
-use Rattle.sctp_sending.specs.declared.bounds.Bounds.{Bounds}
 use Rattle.sctp_sending.specs.declared.confirmation.Confirmation.{Confirmation}
 use Rattle.sctp_sending.specs.declared.confirmation.Confirmation.TheVariants.{Old, Beyond, Of}
 use Rattle.sctp_sending.specs.Outgoing.{Message, Outgoing, no_message, new_outgoing, outgoing_at, gone_out, named_or_not}
 use Rattle.sctp_sending.specs.Outgoing.{passed_over, timed_out, newly_confirmed_of, octets_of, tsn_at, ahead_of, lost_from}
 use Rattle.sctp_sending.specs.Sending.{Sending, given, next_place, next_of, gone_next, confirmation, confirmed, settled}
 use Rattle.sctp_sending.specs.Sending.{gone_again, gone_first}
-use Rattle.sctp_sending.specs.Sending.{after_cumulative, after_sack, after_t3, named_below, passed_below, named_one, passed_one}
+use Rattle.sctp_sending.specs.Sending.{after_cumulative, after_sack, after_t3, named_below, passed_below}
 use Rattle.sctp_sending.specs.Sending.{under_way, naming_of, passing_of, is_timed_named, congestion_by, burst_octets, measured_in}
 use Rattle.sctp_sending.specs.Sending.{acknowledged, may_begin, may_repeat, is_named, has_credit, finds_window}
 use Rattle.sctp_codec.specs.Packets.{DataValue}
-use Rattle.sctp_rules.specs.Confirming.{data_at, data_of}
+use Rattle.sctp_rules.specs.Confirming.{data_at}
 use Rattle.sctp_rules.specs.GivenMessages.{Call, Gives, PutsOut, Hears, HearsShutdown, TimesOut, Course, first_course, counted}
 use Rattle.sctp_rules.specs.GivenMessages.{after_putting, after_call, after_calls, message_of, IsGiven, IsInOrder}
 use Rattle.sctp_rules.specs.GivenMessages.{given_messages_go_out}

@@ -1,9 +1,8 @@
 -- How often associations open, by the pass over all rules; and packets with another tag.
-use Rattle.std.proofs.Common.{◌≡◌, ◌≢◌, ◌≤◌, ℕ, ◌+◌, ◌-◌, Bool, true, false, List, [], ◌∷◌, ◌++◌, refl, ap, sym, ◌∙◌}
-use Rattle.std.proofs.Common.{arith, nat_eq, nat_lt, subst}
+use Rattle.std.proofs.Common.{◌≡◌, ◌≢◌, ◌≤◌, ℕ, ◌+◌, ◌-◌, Bool, true, false, List, [], ◌∷◌, ◌++◌, refl, ap, ◌∙◌}
+use Rattle.std.proofs.Common.{arith, nat_eq, nat_lt}
 use Rattle.std.specs.Prelude.{◌&&◌, ◌||◌, not, if◌then◌else◌}
 use Rattle.std.proofs.lemmas.Bool.Decides.{nat_tests}
-use Rattle.sctp_cookie.specs.declared.cookie.Cookie.{Cookie}
 use Rattle.sctp_receiving.specs.Consuming as consuming
 use Rattle.sctp_receiving.specs.Receiver.{received}
 use Rattle.sctp_receiving.specs.Receiver as receiving
@@ -12,9 +11,6 @@ use Rattle.sctp_receiving.specs.declared.violation.Violation.TheVariants as viol
 use Rattle.sctp_codec.specs.Packets.{ChunkValue, DataValue, PacketValue}
 use Rattle.sctp_codec.specs.Packets as packets
 use Rattle.sctp_rules.specs.declared.phase.Phase.{Phase}
-use Rattle.sctp_rules.specs.declared.phase.Phase.TheVariants.{Closed, CookieWait, CookieEchoed, Established}
-use Rattle.sctp_rules.specs.declared.phase.Phase.TheVariants.{ShutdownPending, ShutdownSent, ShutdownReceived}
-use Rattle.sctp_rules.specs.declared.phase.Phase.TheVariants.{ShutdownAckSent}
 use Rattle.sctp_rules.specs.declared.loss.Loss.{Loss}
 use Rattle.sctp_rules.specs.declared.loss.Loss.TheVariants as losses
 use Rattle.sctp_rules.specs.Settings.{Settings, Secrets, Address}

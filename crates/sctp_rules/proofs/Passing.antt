@@ -5,11 +5,9 @@ use Rattle.std.specs.Prelude.{◌&&◌, ◌||◌, not, if◌then◌else◌}
 use Rattle.std.specs.Str.{bytes_eq}
 use Rattle.std.specs.List.{list_any}
 use Rattle.sctp_receiving.specs.Consuming as consuming
-use Rattle.sctp_receiving.specs.declared.violation.Violation.{Violation}
 use Rattle.sctp_receiving.specs.declared.violation.Violation.TheVariants as violations
 use Rattle.sctp_receiving.specs.Receiver.{received, drained}
 use Rattle.sctp_receiving.specs.Receiver as receiving
-use Rattle.sctp_receiving.specs.Pieces.{Piece}
 use Rattle.sctp_codec.specs.Items.{ItemValue}
 use Rattle.sctp_codec.specs.Packets as packets
 use Rattle.sctp_codec.specs.Packets.{ChunkValue, InitValue, SackValue, DataValue, PacketValue}
@@ -38,7 +36,7 @@ use Rattle.sctp_rules.specs.Data as data_rules
 use Rattle.sctp_rules.specs.Packets as arriving
 use Rattle.sctp_rules.specs.Timers as timers
 use Rattle.sctp_rules.specs.Sending as sending
-use Rattle.sctp_rules.specs.Endpoint.{Happening, Opens, Came, Ticked, Sends, Aborts, ShutsDown, Flushes, after, after_all}
+use Rattle.sctp_rules.specs.Endpoint.{Happening, Opens, Came, Ticked, Sends, Aborts, ShutsDown, Flushes, after}
 
 -- ---- what a law may look at
 

@@ -1,27 +1,24 @@
 -- What an endpoint receives, by the pass over all rules.
 use Rattle.std.proofs.Common.{◌≡◌, ℕ, zero, suc, ◌+◌, ◌<◌, ◌^◌, Bool, true, false, List, [], ◌∷◌, ◌++◌, Option, Some, None}
-use Rattle.std.proofs.Common.{refl, ap, sym, ◌∙◌, subst, arith, append_assoc, length, get_or, length-append}
+use Rattle.std.proofs.Common.{refl, ap, sym, ◌∙◌, subst, arith, append_assoc, length, length-append}
 use Rattle.std.specs.Prelude.{All, is_some, if◌then◌else◌}
 use Rattle.std.specs.List.{Contains}
 use Rattle.std.proofs.Math.ListN.{get_or-append}
 use Rattle.std.proofs.lemmas.List.{append-nil, get_or-append-add}
-use Rattle.std.proofs.lemmas.List.Elements.{All-append, All-weaker, All-nil, Contains-append_left, Contains-append_right}
+use Rattle.std.proofs.lemmas.List.Elements.{All-append, All-nil, Contains-append_left, Contains-append_right}
 use Rattle.sctp_receiving.specs.Pieces.{Piece}
 use Rattle.sctp_receiving.specs.Pieces as pieces
 use Rattle.sctp_receiving.specs.Consuming as consuming
 use Rattle.sctp_receiving.specs.Receiver as receiving
 use Rattle.sctp_receiving.specs.Receiver.{drained, received}
 use Rattle.sctp_receiving.specs.Sack.{reported}
-use Rattle.sctp_receiving.specs.Courses.{Chunk, Call, Hears, TakesNext, Reports, AreCalls, Course, first_course, consuming}
-use Rattle.sctp_receiving.specs.Courses.{after_call, after_calls, after_hearing, after_taking, arrived}
+use Rattle.sctp_receiving.specs.Courses.{Chunk, Call, Hears, TakesNext, Reports, AreCalls, Course, first_course}
+use Rattle.sctp_receiving.specs.Courses.{after_call, after_calls, after_hearing, after_taking}
 use Rattle.sctp_receiving.specs.declared.standing.Standing.{Standing}
 use Rattle.sctp_receiving.specs.declared.standing.Standing.TheVariants.{Next, Early, Again, Beyond}
-use Rattle.sctp_receiving.specs.declared.violation.Violation.{Violation}
 use Rattle.sctp_receiving.specs.declared.violation.Violation.TheVariants as violations
 use Rattle.sctp_codec.specs.Packets.{ChunkValue, DataValue}
 use Rattle.sctp_codec.specs.Packets as packets
-use Rattle.sctp_rules.specs.declared.phase.Phase.{Phase}
-use Rattle.sctp_rules.specs.declared.loss.Loss.{Loss}
 use Rattle.sctp_rules.specs.Settings.{Settings, Secrets, Address}
 use Rattle.sctp_rules.specs.State as state
 use Rattle.sctp_rules.specs.State.{Association, State, Told, Up, Heard, Down, Failed, Done, silent, followed_by, first_state, Datagram}
@@ -33,7 +30,7 @@ use Rattle.sctp_rules.specs.Endpoint.{Happening, Opens, Came, Ticked, Sends, Abo
 use Rattle.sctp_rules.specs.ReceivedMessages.{chunks_in, came_by, came_in, Fits, heard_since, messages_in, IsReceived}
 use Rattle.sctp_rules.specs.ReceivedMessages.{messages_are_received}
 use Rattle.sctp_rules.proofs.Telling.{OnlyLast, received-last, rest-last}
-use Rattle.sctp_rules.proofs.Passing.{Alike, IsTry, AreSteps, Passes, Right, HasCome, HaveCome, Comes, happens, off}
+use Rattle.sctp_rules.proofs.Passing.{Alike, AreSteps, Passes, Right, HaveCome, Comes, happens, off}
 use Rattle.sctp_rules.proofs.Passing.{itself, answer-alike}
 
 -- ---- lists

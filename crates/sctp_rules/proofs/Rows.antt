@@ -1,5 +1,5 @@
 -- Rows of the state table, by computation.
-use Rattle.std.proofs.Common.{◌≡◌, refl}
+use Rattle.std.proofs.Common.{refl}
 use Rattle.sctp_rules.specs.Endpoint.{after}
 use Rattle.sctp_rules.specs.Confirming.{going}
 use Rattle.sctp_sending.specs.Outgoing.{lost_from}

@@ -1,6 +1,6 @@
 -- What goes out of the sending half, and what a SACK or a SHUTDOWN does to it (RFC 9260 §6.1, §6.2.1).
-use Rattle.std.specs.Prelude.{ℕ, zero, suc, Bool, true, false, ◌+◌, ◌&&◌, ◌||◌, List, [], ◌∷◌, Option, Some, None}
-use Rattle.std.specs.Prelude.{length, take, nat_lt, nat_le, if◌then◌else◌}
+use Rattle.std.specs.Prelude.{ℕ, zero, suc, Bool, true, false, ◌&&◌, ◌||◌, List, [], ◌∷◌, Option, Some, None}
+use Rattle.std.specs.Prelude.{length, take, nat_lt, nat_le}
 use Rattle.std.specs.List.{list_any}
 use Rattle.sctp_sending.specs.Outgoing.{Message, Outgoing, outgoing_at, tsn_at}
 use Rattle.sctp_sending.specs.Sending.{Sending, most_messages, most_octets, next_place, gone_next, confirmation}

@@ -10,8 +10,8 @@ use Rattle.sctp_receiving.specs.declared.block.Block.{Block}
 use Rattle.sctp_receiving.specs.Receiver.{Receiver, Steps, received, window}
 use Rattle.sctp_receiving.specs.Sack.{blocks, reported}
 use Rattle.sctp_codec.specs.Packets.{ChunkValue, DataValue, BlockValue, SackValue, SackChunk, ErrorChunk}
-use Rattle.sctp_codec.specs.Packets.{HeartbeatChunk, HeartbeatAckChunk}
-use Rattle.sctp_codec.specs.Parameters.{CauseValue, NoStream, NoUserData, cause_item, information_of}
+use Rattle.sctp_codec.specs.Packets.{HeartbeatAckChunk}
+use Rattle.sctp_codec.specs.Parameters.{NoStream, NoUserData, cause_item, information_of}
 use Rattle.sctp_rules.specs.declared.limits.TheConstants.{SHUT_WINDOW}
 use Rattle.sctp_rules.specs.declared.phase.Phase.{Phase}
 use Rattle.sctp_rules.specs.declared.phase.Phase.TheVariants.{Closed, CookieWait, CookieEchoed, Established}

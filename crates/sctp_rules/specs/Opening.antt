@@ -1,11 +1,11 @@
 -- How an association begins: the handshake of four ways (RFC 9260 §5).
-use Rattle.std.specs.Prelude.{ℕ, Bool, true, false, not, ◌+◌, ◌-◌, ◌*◌, ◌^◌, ◌&&◌, ◌||◌, List, [], ◌∷◌, ◌++◌, Option}
-use Rattle.std.specs.Prelude.{Some, None, is_none, min, nat_eq, nat_lt, nat_le, if◌then◌else◌}
+use Rattle.std.specs.Prelude.{ℕ, Bool, true, false, not, ◌+◌, ◌-◌, ◌*◌, ◌^◌, ◌&&◌, ◌||◌, List, [], ◌∷◌, Option}
+use Rattle.std.specs.Prelude.{Some, None, is_none, min, nat_eq, nat_lt, if◌then◌else◌}
 use Rattle.sctp_receiving.specs.Receiver.{first_receiver}
 use Rattle.sctp_codec.specs.Items.{ItemValue}
 use Rattle.sctp_codec.specs.Packets.{ChunkValue, InitValue, InitChunk, InitAckChunk, ErrorChunk, CookieEchoChunk}
 use Rattle.sctp_codec.specs.Packets.{CookieAckChunk, ShutdownAckChunk}
-use Rattle.sctp_codec.specs.Parameters.{CauseValue, StaleCookie, UnresolvableAddress, InvalidParameter}
+use Rattle.sctp_codec.specs.Parameters.{StaleCookie, UnresolvableAddress, InvalidParameter}
 use Rattle.sctp_codec.specs.Parameters.{CookieInShutdown}
 use Rattle.sctp_codec.specs.Parameters.{cause_item, unrecognized_parameters, cookie_in, host_name_in, has_stale_cookie}
 use Rattle.sctp_codec.specs.Parameters.{answering, complained_of}
@@ -21,7 +21,7 @@ use Rattle.sctp_cookie.specs.declared.cookie.Cookie.{Cookie}
 use Rattle.sctp_rules.specs.Settings.{Settings, Address, Beginning, Secrets}
 use Rattle.sctp_sending.specs.RoundTrips.{first_round_trips, backed_off}
 use Rattle.sctp_sending.specs.Sending.{first_sending}
-use Rattle.sctp_rules.specs.State.{Peer, Try, Association, State, Told, Up, Done, silent, followed_by, no_association}
+use Rattle.sctp_rules.specs.State.{Peer, Try, Association, State, Up, Done, silent, followed_by, no_association}
 use Rattle.sctp_rules.specs.State.{with_association, put}
 use Rattle.sctp_rules.specs.Ending.{with_answer_first, answered, ended, abort_for}
 

@@ -1,10 +1,9 @@
 -- How often associations open, of any peer whatever; and packets with another tag.
 use Rattle.std.specs.Prelude.{◌≡◌, ◌≢◌, ◌≤◌, ℕ, ◌+◌, Bool, true, false, List, [], ◌∷◌}
 use Rattle.sctp_cookie.specs.declared.cookie.Cookie.{Cookie}
-use Rattle.sctp_codec.specs.Packets.{ChunkValue, PacketValue, InitChunk, CookieEchoChunk, MalformedChunk}
-use Rattle.sctp_codec.specs.Packets.{ShutdownAckChunk}
+use Rattle.sctp_codec.specs.Packets.{ChunkValue, PacketValue, InitChunk, CookieEchoChunk}
 use Rattle.sctp_rules.specs.Settings.{Settings, Secrets, Address}
-use Rattle.sctp_rules.specs.State.{State, Told, Up, Heard, Down, Failed, Done, silent, first_state}
+use Rattle.sctp_rules.specs.State.{State, Told, Up, Heard, Down, Failed, silent, first_state}
 use Rattle.sctp_rules.specs.Opening.{is_there, heard_cookie}
 use Rattle.sctp_rules.specs.Packets.{heard, has_peer_tag}
 use Rattle.sctp_rules.specs.Endpoint.{Happening, after_all}

@@ -1,5 +1,5 @@
 -- A packet comes (RFC 9260 §8.4, §8.5).
-use Rattle.std.specs.Prelude.{ℕ, Bool, true, false, not, ◌*◌, ◌/◌, ◌%◌, ◌^◌, ◌&&◌, ◌||◌, List, [], ◌∷◌}
+use Rattle.std.specs.Prelude.{ℕ, Bool, true, false, not, ◌/◌, ◌%◌, ◌^◌, ◌&&◌, ◌||◌, List, [], ◌∷◌}
 use Rattle.std.specs.Prelude.{nat_eq, if◌then◌else◌}
 use Rattle.std.specs.List.{list_any}
 use Rattle.sctp_codec.specs.Packets.{ChunkValue, PacketValue, DataChunk, InitChunk, InitAckChunk, SackChunk}
@@ -9,9 +9,6 @@ use Rattle.sctp_codec.specs.Packets.{CookieEchoChunk, CookieAckChunk, ShutdownCo
 use Rattle.sctp_codec.specs.Packets.{MalformedChunk}
 use Rattle.sctp_codec.specs.Parameters.{UnrecognizedChunk, cause_item}
 use Rattle.sctp_rules.specs.declared.phase.Phase.{Phase}
-use Rattle.sctp_rules.specs.declared.phase.Phase.TheVariants.{Closed, CookieWait, CookieEchoed, Established}
-use Rattle.sctp_rules.specs.declared.phase.Phase.TheVariants.{ShutdownPending, ShutdownSent, ShutdownReceived}
-use Rattle.sctp_rules.specs.declared.phase.Phase.TheVariants.{ShutdownAckSent}
 use Rattle.sctp_rules.specs.declared.loss.Loss.{Loss}
 use Rattle.sctp_rules.specs.declared.loss.Loss.TheVariants.{Aborted, Refused}
 use Rattle.sctp_rules.specs.Settings.{Settings, Address, Secrets}

@@ -4,13 +4,13 @@ use Rattle.std.specs.List.{Contains}
 use Rattle.sctp_receiving.specs.Pieces as pieces
 use Rattle.sctp_receiving.specs.Consuming as consuming
 use Rattle.sctp_receiving.specs.Receiver.{Receiver}
-use Rattle.sctp_receiving.specs.Courses.{Chunk, Call, AreCalls, Course, first_course, after_calls}
+use Rattle.sctp_receiving.specs.Courses.{Chunk, Call, AreCalls, first_course, after_calls}
 use Rattle.sctp_codec.specs.Packets.{ChunkValue, DataChunk}
 use Rattle.sctp_rules.specs.declared.limits.TheConstants.{STREAMS}
 use Rattle.sctp_rules.specs.Settings.{Settings, Secrets}
-use Rattle.sctp_rules.specs.State.{State, Told, Up, Heard, Down, Failed, first_state}
+use Rattle.sctp_rules.specs.State.{Told, Up, Heard, Down, Failed, first_state}
 use Rattle.sctp_rules.specs.Data.{takes_data, piece_of}
-use Rattle.sctp_rules.specs.Endpoint.{Happening, Opens, Came, Ticked, Sends, Aborts, ShutsDown, Flushes, after_all}
+use Rattle.sctp_rules.specs.Endpoint.{Happening, Came, after_all}
 
 -- ---- the DATA that came
 

@@ -1,5 +1,5 @@
 -- Rows of the state table, at two endpoints that face each other.
-use Rattle.std.specs.Prelude.{◌≡◌, ℕ, zero, suc, Bool, true, false, ◌+◌, List, [], ◌∷◌, Option, Some, None, map, length}
+use Rattle.std.specs.Prelude.{◌≡◌, ℕ, true, false, ◌+◌, List, [], ◌∷◌, Option, Some, None, map, length}
 use Rattle.sctp_receiving.specs.Pieces as pieces
 use Rattle.sctp_sending.specs.Outgoing.{Message}
 use Rattle.sctp_cookie.specs.declared.cookie.Cookie.{Cookie}
@@ -14,7 +14,7 @@ use Rattle.sctp_rules.specs.declared.phase.Phase.{Phase}
 use Rattle.sctp_rules.specs.declared.loss.Loss.TheVariants.{Local, Aborted, Shutdown, Restart, NoAnswer, Refused}
 use Rattle.sctp_rules.specs.declared.loss.Loss.TheVariants.{Protocol}
 use Rattle.sctp_rules.specs.declared.loss.Loss.TheVariants.{BadInitAck}
-use Rattle.sctp_rules.specs.Settings.{Settings, Secrets, Address, Beginning}
+use Rattle.sctp_rules.specs.Settings.{Settings, Secrets, Address}
 use Rattle.sctp_rules.specs.State.{State, Datagram, Told, Up, Heard, Down, Failed, Done, first_state}
 use Rattle.sctp_rules.specs.Opening.{init_of}
 use Rattle.sctp_rules.specs.Endpoint.{Happening, Opens, Came, Ticked, Sends, Aborts, ShutsDown, Flushes, after}

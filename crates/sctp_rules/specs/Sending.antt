@@ -1,5 +1,5 @@
 -- Messages that are taken, and packets that go out (RFC 9260 §6.1, §6.10).
-use Rattle.std.specs.Prelude.{ℕ, Bool, true, false, ◌+◌, ◌&&◌, ◌||◌, List, [], ◌∷◌, ◌++◌, map, nat_lt, if◌then◌else◌}
+use Rattle.std.specs.Prelude.{ℕ, Bool, true, false, ◌+◌, ◌&&◌, List, [], ◌∷◌, ◌++◌, map, nat_lt, if◌then◌else◌}
 use Rattle.sctp_sending.specs.Outgoing.{Message}
 use Rattle.sctp_sending.specs.Sending.{given}
 use Rattle.sctp_sending.specs.Sending as half
@@ -11,7 +11,7 @@ use Rattle.sctp_rules.specs.declared.phase.Phase.TheVariants.{ShutdownPending, S
 use Rattle.sctp_rules.specs.declared.phase.Phase.TheVariants.{ShutdownAckSent}
 use Rattle.sctp_rules.specs.Settings.{Settings}
 use Rattle.sctp_rules.specs.Confirming.{can_take, all_gone}
-use Rattle.sctp_rules.specs.State.{Association, State, Datagram, Done, silent, with_association, datagram_to}
+use Rattle.sctp_rules.specs.State.{Association, State, Datagram, Done, with_association, datagram_to}
 use Rattle.sctp_rules.specs.Ending.{chunk_size}
 use Rattle.sctp_rules.specs.Data.{takes_data, takes_sack, sack_of, sacked}
 use Rattle.sctp_rules.specs.Shutdown.{shutdown_of}

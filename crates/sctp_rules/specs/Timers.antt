@@ -1,18 +1,17 @@
 -- The timers of an endpoint (RFC 9260 §5.1, §6.3, §8.1, §8.3, §9.2).
-use Rattle.std.specs.Prelude.{ℕ, Bool, true, false, ◌+◌, [], ◌∷◌, Option, Some, None, min, nat_lt, nat_le}
+use Rattle.std.specs.Prelude.{ℕ, Bool, false, ◌+◌, Option, Some, None, min, nat_lt, nat_le}
 use Rattle.std.specs.Prelude.{if◌then◌else◌}
 use Rattle.sctp_codec.specs.Packets.{ChunkValue, HeartbeatChunk, ShutdownAckChunk}
 use Rattle.sctp_codec.specs.Parameters.{EndedByUser, information_of}
 use Rattle.sctp_rules.specs.declared.phase.Phase.{Phase}
-use Rattle.sctp_rules.specs.declared.phase.Phase.TheVariants.{Closed, CookieWait, CookieEchoed, Established}
-use Rattle.sctp_rules.specs.declared.phase.Phase.TheVariants.{ShutdownPending, ShutdownSent, ShutdownReceived}
-use Rattle.sctp_rules.specs.declared.phase.Phase.TheVariants.{ShutdownAckSent}
+use Rattle.sctp_rules.specs.declared.phase.Phase.TheVariants.{Established}
+use Rattle.sctp_rules.specs.declared.phase.Phase.TheVariants.{ShutdownSent}
 use Rattle.sctp_rules.specs.declared.loss.Loss.TheVariants.{NoAnswer}
 use Rattle.sctp_rules.specs.Settings.{Settings, Secrets}
 use Rattle.sctp_sending.specs.RoundTrips.{backed_off}
 use Rattle.sctp_sending.specs.Sending.{after_t3}
 use Rattle.sctp_rules.specs.State.{Try, Beat, Association, State, Done, silent, followed_by, with_association}
-use Rattle.sctp_rules.specs.Ending.{with_answer, answered, aborted, violation}
+use Rattle.sctp_rules.specs.Ending.{answered, aborted, violation}
 use Rattle.sctp_rules.specs.Opening.{tried_again}
 use Rattle.sctp_rules.specs.Shutdown.{shutdown_of, awaiting}
 
