@@ -15,6 +15,7 @@
 //! - `titles.rows`, `full_table.rows`, `relaying.rows`: `title`, calls of a table of translation rows; `relay`, a SIF
 //!   that comes to point 1, which has subsystem 8, by that table.
 //! - `tries.rows`: `trie`, calls of a trie of digits.
+//! - `sctp.rows`: `packet`.
 #![tactic(auto)]
 
 mod frames;
@@ -22,6 +23,7 @@ mod mtp3;
 mod rows;
 mod said;
 mod sccp;
+mod sctp;
 mod tables;
 mod traces;
 
@@ -90,6 +92,7 @@ fn say(said: &mut Said, stores: &mut Stores, row: &str) {
         "number" => mtp3::numbers(said, row),
         "address" => sccp::address(said, octets),
         "unitdata" => sccp::unitdata(said, octets),
+        "packet" => sctp::packet(said, octets),
         "title" => tables::titles(said, &mut stores.titles, row),
         "relay" => tables::relayed(said, &stores.titles, octets),
         _ => tables::digits_of(said, &mut stores.trie, row),
