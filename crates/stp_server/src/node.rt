@@ -30,7 +30,10 @@ impl Node {
     ) -> Result<Node, OpenFault> {
         match watchers(alloc, &settings, points) {
             Ok((audience, seen)) => Node::around(alloc, settings, audience, seen),
-            Err(fault) => Err(fault),
+            Err(fault) => {
+                drop(settings);
+                Err(fault)
+            }
         }
     }
 
@@ -47,7 +50,11 @@ impl Node {
                 audience,
                 seen,
             }),
-            Err(NoMemory) => Err(OpenFault::NoMemory),
+            Err(NoMemory) => {
+                drop(audience);
+                drop(seen);
+                Err(OpenFault::NoMemory)
+            }
         }
     }
 

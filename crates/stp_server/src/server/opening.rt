@@ -99,14 +99,21 @@ impl Server {
         endpoint: Endpoint,
         journal: &mut Journal<'_, W>,
     ) -> Result<(), OpenFault> {
-        let listener = match endpoint {
-            Endpoint::Listen(address) => Some(self.listen(net, link, address, journal)?),
+        match endpoint {
+            Endpoint::Listen(address) => {
+                let listener = self.listen(net, link, address, journal)?;
+                self.push_gate(Gate::new(link, endpoint, Some(listener)))
+            }
             Endpoint::Connect(address) => {
                 journal.tell_at("connect", self.node.audience.name(link), address);
-                None
+                self.push_gate(Gate::new(link, endpoint, None))
             }
-        };
-        self.gates.push(Gate::new(link, endpoint, listener))?;
+        }
+    }
+
+    /// Adds a gate.
+    fn push_gate(&mut self, gate: Gate) -> Result<(), OpenFault> {
+        self.gates.push(gate)?;
         Ok(())
     }
 
