@@ -197,6 +197,10 @@ after_cumulative s now Old = s
 after_cumulative s now Beyond = s
 after_cumulative s now (Of count) = settled (confirmed s count now) count now
 
+-- the peer wants no more: what didn't go out yet never does
+unfoldable pub stopped : Sending → Sending
+stopped s = record s { out = take s.went s.out }
+
 -- ---- messages are named
 
 -- the messages after some places were looked at; the octets that were named for the first time; the last place of these

@@ -204,6 +204,13 @@ impl Outbox {
         }
     }
 
+    /// Drops the messages that didn't go out yet.
+    pub fn drop_new(&mut self)
+        ensures { self.new ≡ record { out = take self.old.went self.old.out; went = self.old.went } }
+    {
+        self.ring.truncate(self.went);
+    }
+
     /// The first messages leave, all of which went out. Answers how many octets that adds to what is confirmed.
     pub fn confirm(&mut self, count: usize) -> u32
         requires { count ≤ self.old.went }

@@ -29,6 +29,7 @@ ghost use Rattle.sctp_sending.specs.Sending.{
   settled,
   after_cumulative,
   after_t3,
+  stopped,
   confirmation,
   count_of,
 };
@@ -280,6 +281,14 @@ impl Sender {
             sequence: cell.sequence(),
             message: cell.message(),
         }
+    }
+
+    /// Drops the messages that didn't go out yet: the peer wants no more (RFC 9260 §9.2).
+    #[tactic(auto, unfolding(crate::specs::Sending::stopped))]
+    pub fn stop(&mut self)
+        ensures { self.new ≡ stopped self.old }
+    {
+        self.outbox.drop_new();
     }
 
     /// The retransmission timeout, in milliseconds: RTO.
