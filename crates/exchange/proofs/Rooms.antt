@@ -32,13 +32,13 @@ use Rattle.settings_rows.specs.Configuration.{Configuration}
 use Rattle.exchange.specs.declared.exchange.Exchange.TheInside.{Inside}
 
 -- whatever changes but queues, the changeovers and the notices
-pub any_room : (e : Inside) (n : Network) (t : ToldTable) (k : Codes) (u : HoldSet) (r : Running) (late release : Bool) (pending : Pending) → HasRoom e
+pub any_room : (e : Inside) (n : Network) (t : ToldTable) (k : Codes) (u : HoldSet) (r : Running) (release : Bool) (pending : Pending) → HasRoom e
     → length n.links ≡ length e.links.links → n.sets ≡ e.links.sets → length n.routes ≡ length e.links.routes → shape_of t ≡ shape_of e.told
     → HasCodes (length e.settings.sets) k → HasHoldsFor e.settings u
     → (release || all_wait e.settings u (lane_at e.lanes.lists held_lane)) ≡ true
     → OwesNoneBut pending (facts_of n) t
-    → HasRoom (record e { links = n; told = t; changeback = k; holds = u; timers = r; late_any = late; release_due = release; pending = pending })
-any_room e n t k u r late release pending h many sets routes shape codes holds waiting owes = record {
+    → HasRoom (record e { links = n; told = t; changeback = k; holds = u; timers = r; release_due = release; pending = pending })
+any_room e n t k u r release pending h many sets routes shape codes holds waiting owes = record {
   lanes = h.lanes ∙ ap (λ (k : ℕ). k + 1) (sym many);
   sequences = h.sequences ∙ sym many;
   changeovers = h.changeovers ∙ sym many;
@@ -61,14 +61,14 @@ pub changed_room : (e : Inside) (n : Network) (t : ToldTable) (r : Running) (pen
     → OwesNoneBut pending (facts_of n) t
     → HasRoom (record e { links = n; told = t; timers = r; pending = pending })
 changed_room e n t r pending h many sets routes shape owes =
-    any_room e n t e.changeback e.holds r e.late_any e.release_due pending h many sets routes shape h.codes h.holds h.waiting owes
+    any_room e n t e.changeback e.holds r e.release_due pending h many sets routes shape h.codes h.holds h.waiting owes
 
 -- what is held changes, a release is due, and codes and timers may change with it
-pub held_room : (e : Inside) (n : Network) (k : Codes) (u : HoldSet) (r : Running) (late : Bool) → HasRoom e
+pub held_room : (e : Inside) (n : Network) (k : Codes) (u : HoldSet) (r : Running) → HasRoom e
     → n ≡ e.links → HasCodes (length e.settings.sets) k → HasHoldsFor e.settings u
-    → HasRoom (record e { links = n; changeback = k; holds = u; timers = r; late_any = late; release_due = true })
-held_room e n k u r late h same codes holds =
-    any_room e n e.told k u r late true e.pending h (ap (λ (m : Network). length m.links) same) (ap (λ (m : Network). m.sets) same)
+    → HasRoom (record e { links = n; changeback = k; holds = u; timers = r; release_due = true })
+held_room e n k u r h same codes holds =
+    any_room e n e.told k u r true e.pending h (ap (λ (m : Network). length m.links) same) (ap (λ (m : Network). m.sets) same)
     (ap (λ (m : Network). length m.routes) same) refl codes holds refl
     (subst (λ (m : Network). OwesNoneBut e.pending (facts_of m) e.told) (sym same) h.pending)
 
@@ -83,7 +83,7 @@ pub rerouted_room : (e : Inside) (n : Network) (u : HoldSet) (r : Running) (pend
     → n.links ≡ e.links.links → n.sets ≡ e.links.sets → length n.routes ≡ length e.links.routes → HasHoldsFor e.settings u
     → pending ≡ all_pending → HasRoom (record e { links = n; holds = u; timers = r; release_due = true; pending = pending })
 rerouted_room e n u r pending h links sets routes holds all =
-    any_room e n e.told e.changeback u r e.late_any true pending h (ap (λ (ls : List Link). length ls) links) sets routes refl h.codes holds refl
+    any_room e n e.told e.changeback u r true pending h (ap (λ (ls : List Link). length ls) links) sets routes refl h.codes holds refl
     (subst (λ (p : Pending). OwesNoneBut p (facts_of n) e.told) (sym all) (before_all (facts_of n) e.told))
 
 -- one link changes

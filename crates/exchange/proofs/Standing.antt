@@ -92,9 +92,9 @@ pub first-kept : (c : Configuration) (n : ℕ) (lanes : List (List Message)) (co
           holds = holds;
           titles = titles;
           timers = timers;
-          notices = notices;
-          lost_any = false;
-          late_any = false;
+          notices = record { last = notices; count = 0 };
+          times_lost = 0;
+          times_late = 0;
         };
       };
     } ≡ kept_of (first_state c)

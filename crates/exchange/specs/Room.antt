@@ -26,9 +26,9 @@ kept_in e = record {
       holds = e.holds;
       titles = e.titles;
       timers = e.timers;
-      notices = e.notices.items;
-      lost_any = e.lost_any;
-      late_any = e.late_any;
+      notices = record { last = e.notices.items; count = e.notice_count };
+      times_lost = e.times_lost;
+      times_late = e.times_late;
     };
   };
 }

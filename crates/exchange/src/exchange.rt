@@ -73,8 +73,10 @@ pub struct Exchange {
     titles: Translations,
     timers: Timers,
     notices: HeapCircularBuffer<Notice>,
-    lost_any: bool,
-    late_any: bool,
+    // how many notices there ever were
+    notice_count: u64,
+    times_lost: u64,
+    times_late: u64,
     // whether a hold changed since the messages of Held were last gone through
     release_due: bool,
     // which updates for adjacent points may be pending

@@ -22,4 +22,4 @@ pub use settings::{
     FrameFault, Key, LateTimer, Limits, LinkDraft, LinkId, Msu, MsuRef, Notice, Outcome, PointCode,
     SetDraft, SetId, Settings, Sls, Ssn, TimersDraft, TitleDraft, TitleRoute, TitleRow,
 };
-pub use view::{LinkStanding, LinkView, RouteView};
+pub use view::{LinkStanding, LinkView, NewNotices, RouteView};

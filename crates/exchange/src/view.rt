@@ -69,6 +69,15 @@ pub struct LinkView {
     pub last_accepted: Number24,
 }
 
+/// The notices that a reader hasn't seen.
+#[derive(Clone, Copy, PartialEq, Eq)]
+pub struct NewNotices {
+    /// How many of them are kept: the last ones of all that are.
+    pub kept: usize,
+    /// How many aren't kept any more.
+    pub missed: u64,
+}
+
 /// A destination as it is shown, with the sets that messages take to it (Q.704 §3.4).
 #[derive(Drop)]
 pub struct RouteView {

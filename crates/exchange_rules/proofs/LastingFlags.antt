@@ -1,7 +1,7 @@
 -- The flags never fall.
 use Rattle.std.proofs.Common.{◌≡◌, true, refl, ◌∙◌}
 use Rattle.settings_rows.specs.Configuration.{Configuration}
-use Rattle.exchange_rules.specs.State.{Node}
+use Rattle.exchange_rules.specs.State.{Node, lost_any, late_any}
 use Rattle.exchange_rules.specs.Queues.{WholeQueues}
 use Rattle.exchange_rules.specs.Lasting.{losses_stay, lateness_stays}
 use Rattle.exchange_rules.proofs.Steps.{IsOfSteps}
@@ -9,10 +9,10 @@ use Rattle.exchange_rules.proofs.Asked.{any, IsOfAll, all-of, asked-all}
 
 -- from one node to another the flags don't fall
 pub record Flags (n m : Node WholeQueues) : Type 0 where
-  pub lost : n.parts.lost_any ≡ true → m.parts.lost_any ≡ true
-  pub late : n.parts.late_any ≡ true → m.parts.late_any ≡ true
+  pub lost : lost_any n.parts ≡ true → lost_any m.parts ≡ true
+  pub late : late_any n.parts ≡ true → late_any m.parts ≡ true
 
-same-flags : (n m : Node WholeQueues) → m.parts.lost_any ≡ n.parts.lost_any → m.parts.late_any ≡ n.parts.late_any → Flags n m
+same-flags : (n m : Node WholeQueues) → lost_any m.parts ≡ lost_any n.parts → late_any m.parts ≡ late_any n.parts → Flags n m
 same-flags n m e f = record { lost = λ h. e ∙ h; late = λ h. f ∙ h }
 
 pub flags-steps : (c : Configuration) → IsOfSteps c any any Flags

@@ -8,7 +8,8 @@ use Rattle.signalling_types.specs.declared.limits.TheConstants.Limits.{NOTICES}
 use Rattle.signalling_types.specs.declared.notice.Notice.{Notice}
 use Rattle.signalling_types.specs.declared.notice.Notice.TheVariants as notices
 use Rattle.settings_rows.specs.Configuration.{Configuration}
-use Rattle.exchange_rules.specs.State.{Parts, Node, Found}
+use Rattle.exchange_rules.specs.State.{Noted, Parts, Node, Found, lost_any, late_any}
+use Rattle.exchange_rules.specs.Noting.{noted}
 use Rattle.exchange_rules.specs.ChangingOver.{concluded}
 use Rattle.exchange_rules.specs.First.{first_state}
 use Rattle.exchange_rules.specs.Queues.{WholeQueues, whole}
@@ -60,20 +61,20 @@ raised-still f x xs flag all one e = ⊎_elim all one (some-last f x xs (some-dr
 record Raised (n m : Node WholeQueues) : Type 0 where
   pub stay : AreFlagsRaised n.parts → AreFlagsRaised m.parts
 
-same-raised : (n m : Node WholeQueues) → m.parts.notices ≡ n.parts.notices → m.parts.lost_any ≡ n.parts.lost_any → m.parts.late_any ≡ n.parts.late_any → Raised n m
+same-raised : (n m : Node WholeQueues) → m.parts.notices ≡ n.parts.notices → lost_any m.parts ≡ lost_any n.parts → late_any m.parts ≡ late_any n.parts → Raised n m
 same-raised n m e f g = record {
   stay = λ h. record {
-    lost = λ k. f ∙ h.lost (sym (ap (list_any tells_of_loss) e) ∙ k);
-    late = λ k. g ∙ h.late (sym (ap (list_any tells_of_lateness) e) ∙ k);
+    lost = λ k. f ∙ h.lost (sym (ap (λ (x : Noted). list_any tells_of_loss x.last) e) ∙ k);
+    late = λ k. g ∙ h.late (sym (ap (λ (x : Noted). list_any tells_of_lateness x.last) e) ∙ k);
   };
 }
 
-noted-raised : (notice : Notice) (n m : Node WholeQueues) → (tells_of_loss notice ≡ true → n.parts.lost_any ≡ true) → (tells_of_lateness notice ≡ true → n.parts.late_any ≡ true)
-    → m.parts.notices ≡ keep_last NOTICES (n.parts.notices ++ notice ∷ []) → m.parts.lost_any ≡ n.parts.lost_any → m.parts.late_any ≡ n.parts.late_any → Raised n m
+noted-raised : (notice : Notice) (n m : Node WholeQueues) → (tells_of_loss notice ≡ true → lost_any n.parts ≡ true) → (tells_of_lateness notice ≡ true → late_any n.parts ≡ true)
+    → m.parts.notices ≡ noted notice n.parts.notices → lost_any m.parts ≡ lost_any n.parts → late_any m.parts ≡ late_any n.parts → Raised n m
 noted-raised notice n m lost late e f g = record {
   stay = λ h. record {
-    lost = λ k. f ∙ raised-still tells_of_loss notice n.parts.notices n.parts.lost_any h.lost lost (sym (ap (list_any tells_of_loss) e) ∙ k);
-    late = λ k. g ∙ raised-still tells_of_lateness notice n.parts.notices n.parts.late_any h.late late (sym (ap (list_any tells_of_lateness) e) ∙ k);
+    lost = λ k. f ∙ raised-still tells_of_loss notice n.parts.notices.last (lost_any n.parts) h.lost lost (sym (ap (λ (x : Noted). list_any tells_of_loss x.last) e) ∙ k);
+    late = λ k. g ∙ raised-still tells_of_lateness notice n.parts.notices.last (late_any n.parts) h.late late (sym (ap (λ (x : Noted). list_any tells_of_lateness x.last) e) ∙ k);
   };
 }
 
@@ -117,7 +118,7 @@ notices-raise c asked = (asked-all (raised-all c) asked (first_state c) refl).st
 
 -- ---- a completion without a reasonable number
 
-raised-by : (link : ℕ) (found : Found) (p : Parts) (reasonable : Bool) → reasonable ≡ false → (concluded link (record found { is_reasonable = reasonable }) p).lost_any ≡ true
+raised-by : (link : ℕ) (found : Found) (p : Parts) (reasonable : Bool) → reasonable ≡ false → lost_any (concluded link (record found { is_reasonable = reasonable }) p) ≡ true
 raised-by link found p true e = absurd cc
 raised-by link found p false e = refl
 

@@ -6,7 +6,6 @@ use Rattle.signalling_types.specs.declared.notice.Notice.TheVariants as notices
 use Rattle.signalling_types.specs.declared.notice.FailureReason.{FailureReason}
 use Rattle.std.proofs.lemmas.List.{length-set, length-replicate, length-map}
 use Rattle.settings_rows.specs.Configuration.{Configuration, TitleEntry}
-use Rattle.signalling_types.specs.declared.notice.Notice.{Notice}
 use Rattle.link.specs.Table.{opening}
 use Rattle.link.specs.Queue as queue
 use Rattle.link.specs.Queue.{Queue, first_queue, appended, emptied}
@@ -22,9 +21,9 @@ use Rattle.route_management.specs.Told.{ToldTable, shape_of}
 use Rattle.route_management.proofs.Shape.{first_shape}
 use Rattle.node_links.specs.Link.{Link}
 use Rattle.changeover.specs.Standing.{Standing, no_changeover}
-use Rattle.exchange_rules.specs.State.{Node, with_parts}
+use Rattle.exchange_rules.specs.State.{Node, Noted, with_parts}
 use Rattle.exchange_rules.specs.Links.{link_at, links_with}
-use Rattle.exchange_rules.specs.Noting.{note}
+use Rattle.exchange_rules.specs.Noting.{note, flagged, flagged_late}
 use Rattle.exchange_rules.specs.Timing.{without_timers}
 use Rattle.exchange_rules.specs.Failing.{with_changeover, fail_link}
 use Rattle.exchange_rules.specs.ChangingBack.{declaration}
@@ -62,8 +61,8 @@ module _ (c : Configuration) where
   queue-keeps held link q n = queues-keep (record { held = held; links = slice_set n.queues.links link q }) n (length-set n.queues.links link q)
 
   -- notices and flags are no places
-  notices-keep : (notices : List Notice) (lost late : Bool) (n : Node WholeQueues)
-      → Keeps c n (with_parts n (record n.parts { notices = notices; lost_any = lost; late_any = late }))
+  notices-keep : (notices : Noted) (lost late : ℕ) (n : Node WholeQueues)
+      → Keeps c n (with_parts n (record n.parts { notices = notices; times_lost = lost; times_late = late }))
   notices-keep notices lost late n = record {
     stay = λ h. record {
       parts = record {
@@ -206,7 +205,7 @@ module _ (c : Configuration) where
   fallen-keeps : (link : ℕ) (why : FailureReason) (n : Node WholeQueues) → Keeps c n (with_parts n (fail_link link why n.parts))
   fallen-keeps link why n =
       both-keep _ _ _ (link-keeps link (after_failure (link_at n.parts link)) (without_timers link n.parts.timers) n (without_timers-for link n.parts.timers).counts)
-      (notices-keep (note (notices.Failed link why) n.parts).notices n.parts.lost_any n.parts.late_any _)
+      (notices-keep (note (notices.Failed link why) n.parts).notices n.parts.times_lost n.parts.times_late _)
 
 pub places-steps : (c : Configuration) → IsOfSteps c any any (Keeps c)
 places-steps c = record {
@@ -217,9 +216,9 @@ places-steps c = record {
   tested = λ link point test n e f. queue-keeps c n.queues.held link (appended (queue_at n.queues link) (test_answer c point test)) n;
   held = λ m n e. queues-keep c (whole.holding n.queues m) n refl;
   taken_out = λ n. queues-keep c (whole.without_held n.queues) n refl;
-  noted = λ notice n e. notices-keep c (note notice n.parts).notices n.parts.lost_any n.parts.late_any n;
-  lost = λ n. notices-keep c n.parts.notices true n.parts.late_any n;
-  late = λ n. notices-keep c n.parts.notices n.parts.lost_any true n;
+  noted = λ notice n e. notices-keep c (note notice n.parts).notices n.parts.times_lost n.parts.times_late n;
+  lost = λ n. notices-keep c n.parts.notices (flagged n.parts).times_lost n.parts.times_late n;
+  late = λ n. notices-keep c n.parts.notices n.parts.times_lost (flagged_late n.parts).times_late n;
   timed = λ r n e. timers-keep c r n e.counts;
   holding = λ h n e. holds-keep c h n e;
   coded = codes-keep c;

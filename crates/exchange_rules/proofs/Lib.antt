@@ -64,6 +64,7 @@ pub mod Moves
 pub mod Departing
 pub mod Conserved
 pub mod Naming
+pub mod Counting
 pub mod AddingUp
 pub mod Giving
 pub mod Fates

@@ -2,33 +2,32 @@
 use Rattle.std.proofs.Common.{Bool, List, None, Option, Some, [], ap, false, map, not, refl, sym, true, ℕ, ◌&&◌, ◌++◌, ◌∙◌, ◌∷◌, ◌≡◌}
 use Rattle.std.proofs.lemmas.List.Elements.{filter_agree}
 use Rattle.std.specs.Prelude.{filter, if◌then◌else◌, is_some}
-use Rattle.circular_buffer.specs.Buffer.{keep_last}
 use Rattle.settings_rows.specs.Configuration.{Configuration}
 use Rattle.signalling_types.specs.Message.{Message, dpc_of, flow_of}
 use Rattle.signalling_types.specs.declared.cause.Cause.{Cause}
 use Rattle.signalling_types.specs.declared.cause.Cause.TheVariants.{LostUnconfirmed, NoRoute}
-use Rattle.signalling_types.specs.declared.limits.TheConstants.Limits.{NOTICES}
 use Rattle.signalling_types.specs.declared.notice.Notice.{Notice}
 use Rattle.exchange_rules.specs.ChangingOver.{complete_if, concluded, judged, lifted_parts, lose, lose_each, send_each}
 use Rattle.exchange_rules.specs.Conserving.{gone_by_completion, is_stranded}
-use Rattle.exchange_rules.specs.LawsOfMessages.{completions_name_what_they_lose, naming, noted_all, releases_name_what_they_lose}
+use Rattle.exchange_rules.specs.LawsOfMessages.{completions_name_what_they_lose, naming, releases_name_what_they_lose}
+use Rattle.exchange_rules.specs.Noting.{noted, noted_all}
 use Rattle.exchange_rules.specs.Holding.{waits}
 use Rattle.exchange_rules.specs.Made.{send, send_anew}
 use Rattle.exchange_rules.specs.Queues.{WholeQueues, whole}
 use Rattle.exchange_rules.specs.Releasing.{go, go_by, go_each, go_on}
 use Rattle.exchange_rules.specs.Routing.{link_of}
-use Rattle.exchange_rules.specs.State.{Found, Node, Parts}
+use Rattle.exchange_rules.specs.State.{Found, Node, Noted, Parts}
 use Rattle.exchange_rules.proofs.Departing.{go_by-strands}
 use Rattle.signalling_types.specs.declared.notice.Notice.TheVariants as notices
 
 -- ---- notices
 
-named-append : (xs ys kept : List Notice) → noted_all (xs ++ ys) kept ≡ noted_all ys (noted_all xs kept)
+pub named-append : (xs ys : List Notice) (kept : Noted) → noted_all (xs ++ ys) kept ≡ noted_all ys (noted_all xs kept)
 named-append [] ys kept = refl
-named-append (x ∷ xs) ys kept = named-append xs ys (keep_last NOTICES (kept ++ x ∷ []))
+named-append (x ∷ xs) ys kept = named-append xs ys (noted x kept)
 
 -- one message first, where a test holds
-one-named : (b : Bool) (cause : Cause) (m : Message) (ms : List Message) (kept : List Notice)
+one-named : (b : Bool) (cause : Cause) (m : Message) (ms : List Message) (kept : Noted)
     → noted_all (map (naming cause) (if b then m ∷ ms else ms)) kept ≡ noted_all (map (naming cause) ms) (noted_all (map (naming cause) (if b then m ∷ [] else [])) kept)
 one-named true cause m ms kept = refl
 one-named false cause m ms kept = refl

@@ -33,6 +33,11 @@ pub opening_leaves_the_flag : examples.opening_leaves_the_flag
 unfolding apply tell_owed first_sets links_below
 opening_leaves_the_flag = refl
 
+-- ---- notices
+
+pub first_notice_is_counted : examples.first_notice_is_counted
+first_notice_is_counted = refl
+
 -- ---- a release
 
 pub message_waits : examples.message_waits

@@ -192,7 +192,7 @@ module _ {c : Configuration} {Own Counts : ℕ → Type 0} {R : Node WholeQueues
       s.both _ _ _ (s.noted (notices.Expired which.T1 link) n (record { lost = λ f. absurd cc; late = λ f. absurd cc }))
       (ended-steps (changeover_of n.parts link).incomplete link None (completed (changeover_of n.parts link)) noted refl refl)
   expired-steps which.T2 link n =
-      let noted : Node WholeQueues = with_parts n (record n.parts { notices = (with_expiry which.T2 link n.parts).notices; lost_any = true }) in
+      let noted : Node WholeQueues = with_parts n (record n.parts { notices = (with_expiry which.T2 link n.parts).notices; times_lost = (with_expiry which.T2 link n.parts).times_lost }) in
       s.both _ _ _ (s.both _ _ _ (s.lost n) (s.noted (notices.Expired which.T2 link) _ (record { lost = λ f. refl; late = λ f. absurd cc })))
       (ended-steps (changeover_of n.parts link).incomplete link None (acknowledged (changeover_of n.parts link)) noted refl refl)
 

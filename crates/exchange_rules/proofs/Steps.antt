@@ -25,9 +25,9 @@ use Rattle.node_links.specs.Link.{Link}
 use Rattle.changeover.specs.Standing.{Standing}
 use Rattle.changeback.specs.Codes.{with_code}
 use Rattle.flow_hold.specs.Holds.{HoldSet}
-use Rattle.exchange_rules.specs.State.{Parts, Node, Done, with_parts}
+use Rattle.exchange_rules.specs.State.{Parts, Node, Done, with_parts, lost_any, late_any}
 use Rattle.exchange_rules.specs.Links.{is_link, link_at, links_with, with_link, down, in_service}
-use Rattle.exchange_rules.specs.Noting.{note, flagged}
+use Rattle.exchange_rules.specs.Noting.{note, flagged, flagged_late}
 use Rattle.exchange_rules.specs.Routing.{link_of}
 use Rattle.exchange_rules.specs.Queueing.{queue_on}
 use Rattle.exchange_rules.specs.Holding.{waits, hold}
@@ -56,8 +56,8 @@ pub record AreHeld (c : Configuration) (h g : HoldSet) : Type 0 where
 
 -- a notice says of losses and of lateness what the flags say
 pub record IsTold (notice : Notice) (p : Parts) : Type 0 where
-  pub lost : tells_of_loss notice ≡ true → p.lost_any ≡ true
-  pub late : tells_of_lateness notice ≡ true → p.late_any ≡ true
+  pub lost : tells_of_loss notice ≡ true → lost_any p ≡ true
+  pub late : tells_of_lateness notice ≡ true → late_any p ≡ true
 
 -- the status of the route to a destination over a set, if there is one
 abbrev pub status_over : (set destination : ℕ) → List (List Route) → Option RouteStatus
@@ -128,7 +128,7 @@ pub record IsOfSteps (c : Configuration) (Own Counts : ℕ → Type 0) (R : Node
   -- ---- parts that concern no link
   pub noted : (notice : Notice) (n : Node WholeQueues) → IsTold notice n.parts → R n (with_parts n (note notice n.parts))
   pub lost : (n : Node WholeQueues) → R n (with_parts n (flagged n.parts))
-  pub late : (n : Node WholeQueues) → R n (with_parts n (record n.parts { late_any = true }))
+  pub late : (n : Node WholeQueues) → R n (with_parts n (flagged_late n.parts))
   pub timed : (r : Running) (n : Node WholeQueues) → AreTimed n.parts.timers r → R n (with_parts n (record n.parts { timers = r }))
   pub holding : (h : HoldSet) (n : Node WholeQueues) → AreHeld c n.parts.holds h → R n (with_parts n (record n.parts { holds = h }))
   pub coded : (set code : ℕ) (awaited : Bool) (n : Node WholeQueues) → R n (with_parts n (record n.parts { codes = with_code n.parts.codes set code awaited }))

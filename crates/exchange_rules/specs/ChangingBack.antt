@@ -21,7 +21,7 @@ use Rattle.flow_hold.specs.Holds.{lifted}
 use Rattle.flow_hold.specs.Flows.{any_flow, with_flows}
 use Rattle.changeback.specs.Codes.{free_code, is_outstanding, with_code}
 use Rattle.exchange_rules.specs.State.{unless◌then◌else◌, ◌▷◌, QueueKind, Parts, Node, Done, with_parts, answer}
-use Rattle.exchange_rules.specs.Noting.{note}
+use Rattle.exchange_rules.specs.Noting.{note, flagged_late}
 use Rattle.exchange_rules.specs.Routing.{facts, goes_by}
 use Rattle.exchange_rules.specs.Queueing.{no_room, queue_on}
 use Rattle.exchange_rules.specs.Made.{management_to, send_routed}
@@ -53,7 +53,7 @@ freed set code p = record p {
 
 -- a hold ended by its timer: that is noted, and messages may go out of order
 abbrev pub late : Notice → Procedure → Parts → Parts
-late notice procedure p = record (note notice p) { holds = lifted p.holds procedure; late_any = true }
+late notice procedure p = flagged_late (record (note notice p) { holds = lifted p.holds procedure })
 
 -- T3 of a link ran out
 abbrev pub late_time : (link : ℕ) → Parts → Parts

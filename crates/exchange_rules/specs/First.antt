@@ -1,5 +1,5 @@
 -- The state that an exchange has once it is booted.
-use Rattle.std.specs.Prelude.{false, [], map, length, replicate}
+use Rattle.std.specs.Prelude.{[], map, length, replicate}
 use Rattle.settings_rows.specs.Configuration.{Configuration}
 use Rattle.timers.specs.declared.name.NodeCounts.{NodeCounts}
 use Rattle.timers.specs.Timers.{none_running}
@@ -30,9 +30,9 @@ first_parts c = record {
   holds = no_holds (length c.links) (length c.sets) (length c.destinations);
   titles = table_of c.titles;
   timers = none_running (counts_in c);
-  notices = [];
-  lost_any = false;
-  late_any = false;
+  notices = record { last = []; count = 0 };
+  times_lost = 0;
+  times_late = 0;
 }
 
 -- the state that boot gives: nothing stands in any queue

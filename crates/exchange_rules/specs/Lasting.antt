@@ -1,14 +1,16 @@
 -- What lasts over every event and every take: laws.
-use Rattle.std.specs.Prelude.{◌≡◌, ◌≤◌, ℕ, Bool, true, false, length, List, [], ◌∷◌, Option}
+use Rattle.std.specs.Prelude.{◌≡◌, ◌≤◌, ◌<◌, ℕ, ◌+◌, ◌%◌, ◌^◌, min, Bool, true, false, length, List, [], ◌∷◌, ◌++◌, Option}
 use Rattle.std.specs.List.{list_any}
+use Rattle.circular_buffer.specs.Buffer.{keep_last}
 use Rattle.settings_rows.specs.Configuration.{Configuration}
 use Rattle.signalling_types.specs.declared.notice.Notice.{Notice}
 use Rattle.signalling_types.specs.declared.notice.Notice.TheVariants as notices
 use Rattle.signalling_types.specs.declared.notice.ChangeoverTimer.TheVariants as timer
-use Rattle.signalling_types.specs.declared.limits.TheConstants.Limits.{LINKS}
+use Rattle.signalling_types.specs.declared.limits.TheConstants.Limits.{LINKS, NOTICES}
 use Rattle.timers.specs.Timers.{Running}
 use Rattle.exchange_rules.specs.Happening.{Asking, Happens, Takes, AsksWants}
-use Rattle.exchange_rules.specs.State.{Parts, Node}
+use Rattle.exchange_rules.specs.Noting.{made_since}
+use Rattle.exchange_rules.specs.State.{Noted, Parts, Node, lost_any, late_any}
 use Rattle.exchange_rules.specs.ChangingOver.{complete_if}
 use Rattle.exchange_rules.specs.Queues.{WholeQueues, whole}
 use Rattle.exchange_rules.specs.Exchange.{after, taken}
@@ -32,14 +34,14 @@ after_each (asking ∷ others) a = after_each others (after_asking asking a)
 -- once a message may have been lost, that stays so, whatever happens and whatever is taken
 abbrev pub losses_stay : Type 0
 losses_stay =
-    (asked : List Asking) (a : Abstract) → a.node.parts.lost_any ≡ true →
-    (after_each asked a).node.parts.lost_any ≡ true
+    (asked : List Asking) (a : Abstract) → lost_any a.node.parts ≡ true →
+    lost_any (after_each asked a).node.parts ≡ true
 
 -- and so it does once messages may have gone out of order
 abbrev pub lateness_stays : Type 0
 lateness_stays =
-    (asked : List Asking) (a : Abstract) → a.node.parts.late_any ≡ true →
-    (after_each asked a).node.parts.late_any ≡ true
+    (asked : List Asking) (a : Abstract) → late_any a.node.parts ≡ true →
+    late_any (after_each asked a).node.parts ≡ true
 
 -- whether a notice says that a message may have been lost
 abbrev pub tells_of_loss : Notice → Bool
@@ -64,8 +66,8 @@ tells_of_lateness (notices.Failed link why) = false
 
 -- while a notice says so, the flag is raised
 pub record AreFlagsRaised (p : Parts) : Type 0 where
-  pub lost : list_any tells_of_loss p.notices ≡ true → p.lost_any ≡ true
-  pub late : list_any tells_of_lateness p.notices ≡ true → p.late_any ≡ true
+  pub lost : list_any tells_of_loss p.notices.last ≡ true → lost_any p ≡ true
+  pub late : list_any tells_of_lateness p.notices.last ≡ true → late_any p ≡ true
 
 -- in each state that comes of the first
 abbrev pub notices_raise_flags : Type 0
@@ -77,7 +79,37 @@ abbrev pub unreasonable_numbers_raise_it : Type 0
 unreasonable_numbers_raise_it =
     (c : Configuration) (link : ℕ) (number : Option ℕ) (node : Node WholeQueues) →
     (whole.found node.queues link number).is_reasonable ≡ false →
-    (complete_if whole c true link number node).parts.lost_any ≡ true
+    lost_any (complete_if whole c true link number node).parts ≡ true
+
+-- ---- notices
+
+-- some notices were made, one after the other: the count grew by as many, and the last 64 of all are kept
+pub record AreNoted (made : List Notice) (old new : Noted) : Type 0 where
+  pub counted : new.count ≡ (old.count + length made) % 2 ^ 64
+  pub kept : new.last ≡ keep_last NOTICES (old.last ++ made)
+
+-- what is kept keeps its limits
+pub record IsWithinLimits (n : Noted) : Type 0 where
+  pub count : n.count < 2 ^ 64
+  pub last : length n.last ≤ NOTICES
+
+-- so it is at first, and so it stays, whatever is asked; and then some notices were made
+abbrev pub notices_keep_their_limits : Type 0
+notices_keep_their_limits =
+    (c : Configuration) (asked : List Asking) →
+    IsWithinLimits (after_each asked (first_state c)).node.parts.notices
+
+abbrev pub notices_made_are_counted : Type 0
+notices_made_are_counted =
+    (asked : List Asking) (a : Abstract) → IsWithinLimits a.node.parts.notices →
+    (made : List Notice) × AreNoted made a.node.parts.notices (after_each asked a).node.parts.notices
+
+-- So a reader that kept an earlier count knows how many are new, and which: the last ones, as far as they are kept.
+abbrev pub new_notices_are_the_last : Type 0
+new_notices_are_the_last =
+    (made : List Notice) (old new : Noted) → IsWithinLimits old → AreNoted made old new → length made < 2 ^ 64 →
+    (made_since old.count new ≡ length made)
+    × (keep_last (min (length made) NOTICES) new.last ≡ keep_last NOTICES made)
 
 -- ---- places
 

@@ -2,12 +2,11 @@
 use Rattle.std.specs.Prelude.{Bool, List, Option, Some, [], false}
 use Rattle.std.specs.Prelude.{length, map, true, ℕ}
 use Rattle.std.specs.Prelude.{◌++◌, ◌+◌, ◌∷◌, ◌≡◌, ◌≤◌}
-use Rattle.circular_buffer.specs.Buffer.{keep_last}
 use Rattle.settings_rows.specs.Configuration.{Configuration}
 use Rattle.signalling_types.specs.Message.{Message, flow_of, is_management}
 use Rattle.signalling_types.specs.declared.cause.Cause.{Cause}
 use Rattle.signalling_types.specs.declared.cause.Cause.TheVariants.{LostUnconfirmed, NoRoute}
-use Rattle.signalling_types.specs.declared.limits.TheConstants.Limits.{LINKS, NOTICES, WINDOW}
+use Rattle.signalling_types.specs.declared.limits.TheConstants.Limits.{LINKS, WINDOW}
 use Rattle.signalling_types.specs.declared.notice.Notice.{Notice}
 use Rattle.signalling_types.specs.declared.notice.Notice.TheVariants as notices
 use Rattle.signalling_types.specs.declared.outcome.Outcome.{Outcome}
@@ -20,6 +19,7 @@ use Rattle.exchange_rules.specs.Happening.{Asking, AsksWants, Happens, Takes}
 use Rattle.exchange_rules.specs.Happening.{FrameCame, Happening, Submitted}
 use Rattle.exchange_rules.specs.Lasting.{HasAllPlaces, after_asking, after_each}
 use Rattle.exchange_rules.specs.LastingLinks.{AreLinksSteady}
+use Rattle.exchange_rules.specs.Noting.{noted_all}
 use Rattle.exchange_rules.specs.Queues.{WholeQueues, whole}
 use Rattle.exchange_rules.specs.Receiving.{new_message}
 use Rattle.exchange_rules.specs.Releasing.{release}
@@ -95,11 +95,6 @@ all_that_came_adds_up =
 -- the notice that names a message as lost
 abbrev pub naming : Cause → Message → Notice
 naming cause m = notices.Lost cause (flow_of m).point (flow_of m).sls
-
--- what is kept of notices once these were noted, one after the other
-abbrev pub noted_all : List Notice → List Notice → List Notice
-noted_all [] kept = kept
-noted_all (notice ∷ others) kept = noted_all others (keep_last NOTICES (kept ++ notice ∷ []))
 
 -- a completion names each message that it loses, and then management that finds no link
 abbrev pub completions_name_what_they_lose : Type 0

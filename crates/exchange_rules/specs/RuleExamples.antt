@@ -2,6 +2,7 @@
 use Rattle.std.specs.Prelude.{◌≡◌, true, false, List, [], ◌∷◌, None}
 use Rattle.signalling_types.specs.Message.{Message}
 use Rattle.signalling_types.specs.declared.notice.FailureReason.TheVariants as reasons
+use Rattle.signalling_types.specs.declared.notice.Notice.TheVariants.{Failed}
 use Rattle.settings_rows.specs.Configuration.{Configuration}
 use Rattle.settings_rows.specs.declared.timer_ticks.TimerTicks.{TimerTicks}
 use Rattle.link.specs.declared.alignment.Alignment.TheVariants.{InService}
@@ -11,11 +12,11 @@ use Rattle.routes.specs.declared.route.RouteStatus.TheVariants.{Allowed}
 use Rattle.node_links.specs.LinkState.{down_link}
 use Rattle.flow_hold.specs.declared.procedure.Procedure.TheVariants.{Changeover}
 use Rattle.flow_hold.specs.Holds.{HoldSet, no_holds, holds, with_hold}
-use Rattle.exchange_rules.specs.State.{Node, with_node, with_parts}
+use Rattle.exchange_rules.specs.State.{lost_any, Node, Noted, with_node, with_parts}
 use Rattle.exchange_rules.specs.Queues.{WholeQueues, queue_at, whole}
 use Rattle.exchange_rules.specs.Sound.{Abstract}
 use Rattle.exchange_rules.specs.First.{first_parts, first_state}
-use Rattle.exchange_rules.specs.Noting.{flagged}
+use Rattle.exchange_rules.specs.Noting.{flagged, made_since, noted}
 use Rattle.exchange_rules.specs.Holding.{waits}
 use Rattle.exchange_rules.specs.Happening.{Happens, CameUp}
 use Rattle.exchange_rules.specs.ChangingOver.{complete_if}
@@ -85,14 +86,23 @@ abbrev pub no_number_is_reasonable : Type 0
 no_number_is_reasonable = (whole.found booted.node.queues 0 None).is_reasonable ≡ false
 
 abbrev pub completion_raises_the_flag : Type 0
-completion_raises_the_flag = (complete_if whole settings true 0 None booted.node).parts.lost_any ≡ true
+completion_raises_the_flag = lost_any (complete_if whole settings true 0 None booted.node).parts ≡ true
 
 -- and an association that comes up leaves it
 abbrev pub with_flag : Abstract
 with_flag = with_node booted (with_parts booted.node (flagged booted.node.parts))
 
 abbrev pub opening_leaves_the_flag : Type 0
-opening_leaves_the_flag = (after_each (Happens (CameUp 0) ∷ []) with_flag).node.parts.lost_any ≡ true
+opening_leaves_the_flag = lost_any (after_each (Happens (CameUp 0) ∷ []) with_flag).node.parts ≡ true
+
+-- ---- notices
+
+-- the first notice is counted
+abbrev pub one_noted : Noted
+one_noted = noted (Failed 0 reasons.Operator) booted.node.parts.notices
+
+abbrev pub first_notice_is_counted : Type 0
+first_notice_is_counted = made_since 0 one_noted ≡ 1
 
 -- ---- a release
 

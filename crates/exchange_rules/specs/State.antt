@@ -1,5 +1,5 @@
 -- The state of an exchange, with queues of any kind.
-use Rattle.std.specs.Prelude.{ℕ, Bool, List, Option, Result, if◌then◌else◌}
+use Rattle.std.specs.Prelude.{ℕ, zero, suc, Bool, true, false, List, Option, Result, if◌then◌else◌}
 use Rattle.signalling_types.specs.Message.{Message}
 use Rattle.settings_rows.specs.Configuration.{Configuration, TitleEntry}
 use Rattle.signalling_types.specs.declared.cause.Cause.{Cause}
@@ -26,6 +26,11 @@ infix 5 unless◌then◌else◌
 abbrev pub unless◌then◌else◌ : {A : Type 0} → Bool → A → A → A
 unless test then otherwise else next = if test then next else otherwise
 
+-- The notices that an operator can still read, the oldest first, and how many there ever were, modulo 2 ^ 64.
+pub record Noted : Type 0 where
+  pub last : List Notice
+  pub count : ℕ
+
 -- All that isn't a queue.
 pub record Parts : Type 0 where
   pub links : List Link
@@ -41,11 +46,24 @@ pub record Parts : Type 0 where
   -- the translation rows, in their order
   pub titles : List TitleEntry
   pub timers : Running
-  pub notices : List Notice
-  -- whether a message may have been lost since the node was booted
-  pub lost_any : Bool
-  -- whether messages of a flow may have gone out of order since the node was booted
-  pub late_any : Bool
+  pub notices : Noted
+  -- how often a message may have been lost since the node was booted, 2 ^ 64 - 1 at most
+  pub times_lost : ℕ
+  -- how often messages of a flow may have gone out of order since then, 2 ^ 64 - 1 at most
+  pub times_late : ℕ
+
+-- a flag is raised if what raises it happened
+abbrev pub is_raised : ℕ → Bool
+is_raised zero = false
+is_raised (suc times) = true
+
+-- whether a message may have been lost since the node was booted
+abbrev pub lost_any : Parts → Bool
+lost_any p = is_raised p.times_lost
+
+-- whether messages of a flow may have gone out of order since then
+abbrev pub late_any : Parts → Bool
+late_any p = is_raised p.times_late
 
 -- What a completion finds on a link, by the number that its peer gave: whether that names a count, the user messages
 -- that are named as lost, and the management messages that are queued anew.

@@ -16,6 +16,8 @@ ghost use Rattle.exchange_rules.specs.LawsOfMessages.{carried_messages_have_a_fa
 ghost use Rattle.exchange_rules.specs.LawsOfMessages.{completions_name_what_they_lose, releases_name_what_they_lose};
 ghost use Rattle.exchange_rules.specs.Lasting.{places_at_first, places_stay, losses_stay, lateness_stays};
 ghost use Rattle.exchange_rules.specs.Lasting.{notices_raise_flags, unreasonable_numbers_raise_it};
+ghost use Rattle.exchange_rules.specs.Lasting.{notices_made_are_counted, new_notices_are_the_last};
+ghost use Rattle.exchange_rules.specs.Lasting.{notices_keep_their_limits};
 ghost use Rattle.exchange_rules.specs.LawsOfFailures.{failures_hold_their_flows, failures_by_peer_hold_their_flows};
 ghost use Rattle.exchange_rules.specs.LawsOfFailures.{idle_failures_hold_nothing, idle_failures_by_peer_hold_nothing};
 ghost use Rattle.exchange_rules.specs.LawsOfReturns.{entries_hold_changed_flows, changed_flows_are_held};
@@ -57,6 +59,15 @@ pub fn only_links_in_service_are_given_messages()
 /// before those that were held, and each flow keeps its order.
 pub fn completion_leaves_other_links()
     ensures { completion_leaves_others }
+{}
+
+/// Whatever happens and whatever is taken, some notices were made: their count grew by as many, modulo 2^64, and the
+/// last 64 of all notices are kept. So a reader that kept an earlier count knows how many are new, unless these are 2^64
+/// or more, and that they are the last ones, as far as they are kept.
+pub fn notices_are_counted()
+    ensures counted { notices_made_are_counted }
+    ensures newest { new_notices_are_the_last }
+    ensures limits { notices_keep_their_limits }
 {}
 
 /// A release leaves in Held what waits, and puts the other messages behind those of their links, each in the order of

@@ -14,7 +14,7 @@ use Rattle.settings_rows.specs.Configuration.{Configuration}
 use Rattle.link.specs.Queue.{Queue}
 use Rattle.changeover.specs.Standing.{Standing, acknowledged, completed}
 use Rattle.changeover.specs.Completion.{behind, managements_of}
-use Rattle.exchange_rules.specs.State.{Node, with_parts}
+use Rattle.exchange_rules.specs.State.{Node, lost_any, with_parts}
 use Rattle.exchange_rules.specs.Links.{is_link}
 use Rattle.exchange_rules.specs.Queues.{WholeQueues, queue_at, whole}
 use Rattle.exchange_rules.specs.Failing.{changeover_of, with_changeover}
@@ -65,7 +65,7 @@ module _ (c z : Configuration) (j : IsJoined c z) where
 
   -- ---- T2
 
-  t2-ends : (b : Bool) (w : World) (n : Node WholeQueues) (link : ℕ) → (changeover_of n.parts link).incomplete ≡ b → is_link n.parts link ≡ true → n.parts.lost_any ≡ true
+  t2-ends : (b : Bool) (w : World) (n : Node WholeQueues) (link : ℕ) → (changeover_of n.parts link).incomplete ≡ b → is_link n.parts link ≡ true → lost_any n.parts ≡ true
       → Passes c z (at c z w n [] []) (at c z w (complete_if whole c b link None (with_parts n (with_changeover link (acknowledged (changeover_of n.parts link)) n.parts))) [] [])
   t2-ends true w n link e there lost = ends-lost w n link (acknowledged (changeover_of n.parts link)) (λ h. absurd cc) there e refl
   t2-ends false w n link e there lost = record {
@@ -91,7 +91,7 @@ module _ (c z : Configuration) (j : IsJoined c z) where
   }
 
   flagging : (w : World) (n : Node WholeQueues) (link : ℕ)
-      → Passes c z (at c z w n [] []) (at c z w (with_parts n (record n.parts { notices = (with_expiry timer.T2 link n.parts).notices; lost_any = true })) [] [])
+      → Passes c z (at c z w n [] []) (at c z w (with_parts n (record n.parts { notices = (with_expiry timer.T2 link n.parts).notices; times_lost = (with_expiry timer.T2 link n.parts).times_lost })) [] [])
   flagging w n link = record {
     goes = λ g. goes-lost (says_of c.links) _ _ refl;
     good = λ g. record {
@@ -115,7 +115,7 @@ module _ (c z : Configuration) (j : IsJoined c z) where
       (noted-passes c z w n [] [] (with_expiry timer.T1 link n.parts).notices ((fit-steps c).noted (notices.Expired timer.T1 link) n (record { lost = λ f. absurd cc; late = λ f. absurd cc })))
       (t1-ends (changeover_of n.parts link).incomplete w noted link refl there)
   expiry-passes timer.T2 w n link there =
-      let noted : Node WholeQueues = with_parts n (record n.parts { notices = (with_expiry timer.T2 link n.parts).notices; lost_any = true }) in
+      let noted : Node WholeQueues = with_parts n (record n.parts { notices = (with_expiry timer.T2 link n.parts).notices; times_lost = (with_expiry timer.T2 link n.parts).times_lost }) in
       passes-both c z _ _ _ (flagging w n link) (t2-ends (changeover_of n.parts link).incomplete w noted link refl there refl)
 
   pub changeover_timer-passes : (which : ChangeoverTimer) (w : World) (n : Node WholeQueues) (link : ℕ) → Passes c z (at c z w n [] []) (at c z w (on_changeover_timer whole c which link n) [] [])

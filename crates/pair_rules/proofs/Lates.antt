@@ -7,7 +7,6 @@ use Rattle.std.proofs.lemmas.Bool.{cases_lt}
 use Rattle.std.proofs.lemmas.List.{get_or_past, get_or-set_other, get_or-set_same, length-set}
 use Rattle.signalling_types.specs.Message.{Message}
 use Rattle.signalling_types.specs.declared.point.Flow.{Flow}
-use Rattle.signalling_types.specs.declared.notice.Notice.{Notice}
 use Rattle.signalling_types.specs.declared.outcome.Outcome.TheVariants.{Handled, Ignored}
 use Rattle.settings_rows.specs.Configuration.{Configuration}
 use Rattle.mtp3_codec.specs.declared.management.Management.TheVariants.{ChangebackAcknowledgement}
@@ -18,7 +17,8 @@ use Rattle.flow_hold.specs.declared.procedure.Procedure.{Procedure}
 use Rattle.flow_hold.specs.declared.procedure.Procedure.TheVariants as held_by
 use Rattle.flow_hold.proofs.Pairing.{leaves_others}
 use Rattle.changeback.specs.Codes.{Codes, codes_of, is_outstanding, with_code}
-use Rattle.exchange_rules.specs.State.{Node, answer, with_parts}
+use Rattle.exchange_rules.specs.State.{Node, Noted, answer, with_parts}
+use Rattle.exchange_rules.specs.Noting.{flagged_late}
 use Rattle.exchange_rules.specs.Queues.{WholeQueues, whole}
 use Rattle.exchange_rules.specs.ChangingBack.{changeback_acknowledgement, freed, late_code, late_time, on_changeback_acknowledgement, on_changeback_declaration}
 use Rattle.exchange_rules.specs.Rerouting.{rerouting_ended}
@@ -183,10 +183,10 @@ module _ (c z : Configuration) (j : IsJoined c z) where
   -- ---- timers end holds
 
   -- a procedure holds nothing from now on, and that is noted
-  abbrev ended : Procedure → (notices : List Notice) → Node WholeQueues → Node WholeQueues
-  ended procedure notices n = with_parts n (record n.parts { holds = hold.lifted n.parts.holds procedure; late_any = true; notices = notices })
+  abbrev ended : Procedure → (notices : Noted) → Node WholeQueues → Node WholeQueues
+  ended procedure notices n = with_parts n (flagged_late (record n.parts { holds = hold.lifted n.parts.holds procedure; notices = notices }))
 
-  running-late : (w : World) (n : Node WholeQueues) (arrived loose : List Message) (procedure : Procedure) (notices : List Notice) → StaysFit c n (ended procedure notices n)
+  running-late : (w : World) (n : Node WholeQueues) (arrived loose : List Message) (procedure : Procedure) (notices : Noted) → StaysFit c n (ended procedure notices n)
       → Passes c z (at c z w n arrived loose) (at c z w (ended procedure notices n) arrived loose)
   running-late w n arrived loose procedure notices stay = record {
     goes = λ g. goes-one (says_of c.links) _ _ (moves.runs_late (record { holds = holds_of z.own (ended procedure notices n).parts; after = refl }));

@@ -16,7 +16,7 @@ use Rattle.flow_hold.specs.Holds.{HoldSet, is_held}
 use Rattle.flow_hold.specs.declared.procedure.Procedure.{Procedure}
 use Rattle.flow_hold.proofs.Pairing.{held_by}
 use Rattle.link.specs.Queue.{Queue, appended, first_queue}
-use Rattle.exchange_rules.specs.State.{Node, Parts}
+use Rattle.exchange_rules.specs.State.{Node, Parts, lost_any}
 use Rattle.exchange_rules.specs.Links.{in_service}
 use Rattle.exchange_rules.specs.Queues.{WholeQueues, queue_at, whole}
 use Rattle.exchange_rules.specs.Queueing.{queue_on, no_room}
@@ -209,7 +209,7 @@ module _ (c z : Configuration) (j : IsJoined c z) where
   }
 
   -- what stands nowhere is given up: a flag tells
-  dropping : (w : World) (n o : Node WholeQueues) (arrived : List Message) (m : Message) (rest : List Message) → o.parts.lost_any ≡ true → StaysFit c n o → o.queues ≡ n.queues
+  dropping : (w : World) (n o : Node WholeQueues) (arrived : List Message) (m : Message) (rest : List Message) → lost_any o.parts ≡ true → StaysFit c n o → o.queues ≡ n.queues
       → o.parts.routes ≡ n.parts.routes → o.parts.told ≡ n.parts.told → o.parts.links ≡ n.parts.links → o.parts.changeovers ≡ n.parts.changeovers
       → Passes c z (at c z w n arrived (m ∷ rest)) (at c z w o arrived rest)
   dropping w n o arrived m rest lost stay queues routes told links changeovers = record {

@@ -19,7 +19,7 @@ use Rattle.flow_hold.specs.Holds.{HoldSet, holds, is_held, is_same, lifted, may_
 use Rattle.flow_hold.proofs.Flows.{flows_add, flows_leave}
 use Rattle.flow_hold.proofs.Numbers.{same, same-itself}
 use Rattle.flow_hold.proofs.Pairing.{contains-lifted, held_by, none_at_first}
-use Rattle.exchange_rules.specs.State.{Done, Node}
+use Rattle.exchange_rules.specs.State.{Done, Node, lost_any, late_any}
 use Rattle.exchange_rules.specs.Queues.{WholeQueues, whole}
 use Rattle.exchange_rules.specs.Queueing.{no_room}
 use Rattle.exchange_rules.specs.Holding.{waits}
@@ -232,8 +232,8 @@ comes-once = record {
   missing = completed-so (λ p. (fallen_from p).far.received) [] refl;
   received = completed-so (λ p. (come_from p).far.received) (the_message ∷ []) refl;
   lost_nothing = record {
-    near = completed-so (λ p. (come_from p).near.exchange.node.parts.lost_any) false refl;
-    far = completed-so (λ p. (come_from p).far.exchange.node.parts.lost_any) false refl;
+    near = completed-so (λ p. lost_any (come_from p).near.exchange.node.parts) false refl;
+    far = completed-so (λ p. lost_any (come_from p).far.exchange.node.parts) false refl;
   };
-  punctual = completed-so (λ p. (come_from p).near.exchange.node.parts.late_any) false refl;
+  punctual = completed-so (λ p. late_any (come_from p).near.exchange.node.parts) false refl;
 }

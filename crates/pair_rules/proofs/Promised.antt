@@ -11,6 +11,7 @@ use Rattle.settings.specs.Facing.{IsFacing}
 use Rattle.mtp3_codec.specs.Management.{read_management}
 use Rattle.changeover.specs.Completion.{users_of}
 use Rattle.exchange_rules.specs.Queues.{queue_at}
+use Rattle.exchange_rules.specs.State.{late_any}
 use Rattle.pair_moves.specs.Sayings.{Saying, UserMessage, is_user_message, is_same_flow}
 use Rattle.pair_moves.specs.Sayings as sayings
 use Rattle.pair_moves.specs.Ends.{Pair, unreceived}
@@ -144,7 +145,7 @@ module _ (c z : Configuration) (a : AreFacing c z) (p : PairState) (s : Stands c
   in-a-row : (r x h : List Message) → r ++ [] ++ x ++ h ++ [] ≡ r ++ (x ++ h)
   in-a-row r x h = append-nil (r ++ [] ++ x ++ h) ∙ ap (λ (ms : List Message). ms ++ x ++ h) (append-nil r) ∙ append_assoc r x h
 
-  pub order-there : p.near.exchange.node.parts.late_any ≡ false → InOrder p
+  pub order-there : late_any p.near.exchange.node.parts ≡ false → InOrder p
   order-there punctual flow =
       let o : order.IsInOrder read flow (shown c z w) =
       (of-shown (λ read q. q.near.late ≡ false → (flow : Flow) → order.IsInOrder read flow q) each_flow_in_order-always).there punctual flow in

@@ -5,7 +5,6 @@ use Rattle.std.specs.Option.{option_and_then}
 use Rattle.signalling_types.specs.declared.limits.TheConstants.Limits.{SELECTIONS}
 use Rattle.signalling_types.specs.Message.{Message}
 use Rattle.signalling_types.specs.declared.point.Flow.{Flow}
-use Rattle.signalling_types.specs.declared.notice.Notice.{Notice}
 use Rattle.signalling_types.specs.declared.notice.Notice.TheVariants as notices
 use Rattle.signalling_types.specs.declared.outcome.Outcome.{Outcome}
 use Rattle.signalling_types.specs.declared.outcome.Outcome.TheVariants.{Handled, Held, Ignored, Local, Queued, Refused}
@@ -18,7 +17,7 @@ use Rattle.node_links.specs.LinkState.{down_link, is_down, is_in_service}
 use Rattle.node_links.proofs.Serving.{serving_alike}
 use Rattle.routes.specs.Facts.{Facts}
 use Rattle.routes.specs.Chosen.{chosen_link}
-use Rattle.exchange_rules.specs.State.{Node, with_parts}
+use Rattle.exchange_rules.specs.State.{Node, Noted, with_parts}
 use Rattle.exchange_rules.specs.Links.{link_at}
 use Rattle.exchange_rules.specs.Queues.{WholeQueues, queue_at}
 use Rattle.exchange_rules.specs.Failing.{changeover_of}
@@ -111,7 +110,7 @@ module _ (c z : Configuration) where
     };
   }
 
-  pub noted-passes : (w : World) (n : Node WholeQueues) (arrived loose : List Message) (notices : List Notice) → StaysFit c n (with_parts n (record n.parts { notices = notices }))
+  pub noted-passes : (w : World) (n : Node WholeQueues) (arrived loose : List Message) (notices : Noted) → StaysFit c n (with_parts n (record n.parts { notices = notices }))
       → Passes c z (at c z w n arrived loose) (at c z w (with_parts n (record n.parts { notices = notices })) arrived loose)
   noted-passes w n arrived loose notices stay = record {
     goes = λ g. goes-none (says_of c.links) (shown c z (at c z w n arrived loose));

@@ -14,7 +14,7 @@ use Rattle.flow_hold.specs.Holds as hold
 use Rattle.flow_hold.specs.declared.procedure.Procedure.{Procedure}
 use Rattle.flow_hold.specs.declared.procedure.Procedure.TheVariants as held_by
 use Rattle.changeback.specs.Codes.{is_outstanding}
-use Rattle.exchange_rules.specs.State.{Node, Parts}
+use Rattle.exchange_rules.specs.State.{Node, Parts, lost_any, late_any}
 use Rattle.link.specs.declared.alignment.Alignment.{Alignment}
 use Rattle.link.specs.declared.alignment.Alignment.TheVariants.{Down, NotAligned, Aligned, Proving, AlignedReady, InService}
 use Rattle.exchange_rules.specs.Links.{down, in_service, link_at}
@@ -127,8 +127,8 @@ side_by far route m = record {
   route = route;
   holds = holds_of far m.node.parts;
   outstanding = λ code. is_outstanding m.node.parts.codes 0 code;
-  lost = m.node.parts.lost_any;
-  late = m.node.parts.late_any;
+  lost = lost_any m.node.parts;
+  late = late_any m.node.parts;
 }
 
 -- (a link status isn't among User Data)

@@ -9,6 +9,7 @@ use Rattle.settings.specs.Facing.{IsFacing}
 use Rattle.link.specs.Queue.{Queue, named_count, last_accepted}
 use Rattle.changeover.specs.Completion.{users_of}
 use Rattle.exchange_rules.specs.Queues.{queue_at}
+use Rattle.exchange_rules.specs.State.{lost_any, late_any}
 use Rattle.pair_moves.specs.Order.{join_to}
 use Rattle.pair_rules.specs.Pairs.{End, PairState, Step, turned, first_pair, after_steps}
 
@@ -35,8 +36,8 @@ waiting p =
 
 -- neither end may have lost a message
 pub record LostNothing (p : PairState) : Type 0 where
-  pub near : p.near.exchange.node.parts.lost_any ≡ false
-  pub far : p.far.exchange.node.parts.lost_any ≡ false
+  pub near : lost_any p.near.exchange.node.parts ≡ false
+  pub far : lost_any p.far.exchange.node.parts ≡ false
 
 -- a user message that passes a test
 abbrev pub user : (Message → Bool) → Message → Bool
@@ -85,7 +86,7 @@ each_message_once = Always (λ p. LostNothing p → BothWays EachOnce p)
 
 -- "Order", where besides no timer of the accepting end ended a hold
 abbrev pub IsPunctual : PairState → Type 0
-IsPunctual p = p.near.exchange.node.parts.late_any ≡ false
+IsPunctual p = late_any p.near.exchange.node.parts ≡ false
 
 abbrev pub each_flow_in_order : Type 0
 each_flow_in_order = Always (λ p. LostNothing p → BothWays (λ q. IsPunctual q → InOrder q) p)

@@ -69,8 +69,9 @@ impl Exchange {
             titles,
             timers,
             notices,
-            lost_any: false,
-            late_any: false,
+            notice_count: 0,
+            times_lost: 0,
+            times_late: 0,
             release_due: false,
             // nothing is owed yet, which the first event finds out
             pending: Pending::all(),

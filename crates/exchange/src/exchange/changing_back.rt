@@ -223,9 +223,9 @@ impl Exchange {
             (with_parts self.old.node (rule.late notice procedure self.old.node.parts)) }
     {
         self.release_due = true;
-        self.late_any = true;
         self.holds.lift(procedure);
         self.note(notice);
+        self.flag_lateness();
     }
 }
 

@@ -12,14 +12,22 @@ impl Exchange {
     pub(super) fn flag_loss(&mut self)
         ensures { self.new ≡ with_node self.old (with_parts self.old.node (rule.flagged self.old.node.parts)) }
     {
-        self.lost_any = true;
+        self.times_lost = self.times_lost.saturating_add(1);
     }
 
-    /// Keeps a notice. Beyond 64 the oldest is dropped.
+    /// Messages may have gone out of order from now on.
+    pub(super) fn flag_lateness(&mut self)
+        ensures { self.new ≡ with_node self.old (with_parts self.old.node (rule.flagged_late self.old.node.parts)) }
+    {
+        self.times_late = self.times_late.saturating_add(1);
+    }
+
+    /// Keeps a notice, and counts it. Beyond 64 the oldest is dropped.
     #[inline(never)]
     pub(super) fn note(&mut self, notice: Notice)
         ensures { self.new ≡ with_node self.old (with_parts self.old.node (rule.note notice self.old.node.parts)) }
     {
         self.notices.push_back(notice);
+        self.notice_count = self.notice_count.wrapping_add(1);
     }
 }

@@ -1,8 +1,10 @@
 //! What an exchange shows: its settings, its flags and notices, its links, routes and translation rows; and the places
 //! that it has.
 
-ghost use Rattle.std.specs.Prelude.{◌≡◌, length, slice_get};
+ghost use Rattle.std.specs.Prelude.{◌≡◌, ◌+◌, length, min, slice_get};
 ghost use Rattle.exchange_rules.specs.Sound.{Abstract};
+ghost use Rattle.exchange_rules.specs.Noting.{made_since};
+ghost use Rattle.exchange_rules.specs.State.{lost_any, late_any};
 ghost use Rattle.exchange.specs.Stands.{StandsFor};
 ghost use Rattle.exchange.specs.KeptQueues.{kept};
 ghost use Rattle.exchange_rules.specs.Queues.{whole};
@@ -11,7 +13,7 @@ ghost use Rattle.sccp_relay.specs.Rows.{IsOrdered};
 ghost use Rattle.exchange.specs.Views.{link_view, route_view};
 
 use super::Exchange;
-use crate::view::{LinkStanding, LinkView, RouteView, status_shown};
+use crate::view::{LinkStanding, LinkView, NewNotices, RouteView, status_shown};
 use circular_buffer::HeapCircularBuffer;
 use settings::{LinkId, Notice, Settings, TitleRow};
 
@@ -27,28 +29,73 @@ impl Exchange {
     /// Whether a message may have been lost since `boot`: a notice of a lost message or of a dropped management message
     /// was made, a changeover ended without a reasonable number, or T2 ran out. Once true it stays true.
     pub fn lost_any(&self) -> bool
-        ensures lost { (a : Abstract) → StandsFor self.now a → result ≡ a.node.parts.lost_any }
-        ensures kept_lost { result ≡ self.now.node.parts.lost_any }
+        ensures lost { (a : Abstract) → StandsFor self.now a → result ≡ lost_any a.node.parts }
+        ensures kept_lost { result ≡ lost_any self.now.node.parts }
     {
-        self.lost_any
+        self.times_lost != 0
+    }
+
+    /// How often a message may have been lost since `boot`; it stays at 2^64 - 1.
+    pub fn times_lost(&self) -> u64
+        ensures times { (a : Abstract) → StandsFor self.now a → result ≡ a.node.parts.times_lost }
+        ensures kept_times { result ≡ self.now.node.parts.times_lost }
+    {
+        self.times_lost
     }
 
     /// Whether messages of a flow may have gone out of order since `boot`: T3 or T4 ran out, so a changeback released
     /// messages before the acknowledgement arrived. Once true it stays true.
     pub fn late_any(&self) -> bool
-        ensures late { (a : Abstract) → StandsFor self.now a → result ≡ a.node.parts.late_any }
-        ensures kept_late { result ≡ self.now.node.parts.late_any }
+        ensures late { (a : Abstract) → StandsFor self.now a → result ≡ late_any a.node.parts }
+        ensures kept_late { result ≡ late_any self.now.node.parts }
     {
-        self.late_any
+        self.times_late != 0
     }
 
-    /// The last 64 notices, the oldest first. Reading removes none; once there are 64, each new one drops the oldest,
-    /// and nothing says how many there were in all.
+    /// How often messages of a flow may have gone out of order since `boot`; it stays at 2^64 - 1.
+    pub fn times_late(&self) -> u64
+        ensures times { (a : Abstract) → StandsFor self.now a → result ≡ a.node.parts.times_late }
+        ensures kept_times { result ≡ self.now.node.parts.times_late }
+    {
+        self.times_late
+    }
+
+    /// The last 64 notices, the oldest first. Reading removes none; once there are 64, each new one drops the oldest.
     pub fn notices(&self) -> &HeapCircularBuffer<Notice>
-        ensures notices { (a : Abstract) → StandsFor self.now a → result.now.items ≡ a.node.parts.notices }
-        ensures kept_notices { result.now.items ≡ self.now.node.parts.notices }
+        ensures notices { (a : Abstract) → StandsFor self.now a → result.now.items ≡ a.node.parts.notices.last }
+        ensures kept_notices { result.now.items ≡ self.now.node.parts.notices.last }
     {
         &self.notices
+    }
+
+    /// The notices that are new to a reader that last saw so many (`notice_count`): the last ones of `notices`, and how
+    /// many it missed. Of 2^64 new notices or more it takes only the rest modulo 2^64 for new.
+    pub fn notices_since(&self, count: u64) -> NewNotices
+        ensures kept { (a : Abstract) → StandsFor self.now a →
+            result.kept ≡ min (made_since count a.node.parts.notices) (length a.node.parts.notices.last) }
+        ensures all { (a : Abstract) → StandsFor self.now a →
+            result.kept + result.missed ≡ made_since count a.node.parts.notices }
+    {
+        let new = self.notice_count.wrapping_sub(count);
+        let kept = self.notices.len();
+        if new < kept as u64 {
+            return NewNotices {
+                kept: new as usize,
+                missed: 0,
+            };
+        }
+        NewNotices {
+            kept,
+            missed: new - kept as u64,
+        }
+    }
+
+    /// How many notices there were since `boot`, modulo 2^64. The last of `notices` has this number.
+    pub fn notice_count(&self) -> u64
+        ensures count { (a : Abstract) → StandsFor self.now a → result ≡ a.node.parts.notices.count }
+        ensures kept_count { result ≡ self.now.node.parts.notices.count }
+    {
+        self.notice_count
     }
 
     /// A link as it is shown; `None` if there is no such link.

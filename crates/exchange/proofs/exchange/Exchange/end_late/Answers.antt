@@ -7,6 +7,6 @@ use Rattle.exchange.proofs.exchange.Exchange.end_late.Goals as goal
 
 pub invariant_of-self : goal.invariant_of-self
 invariant_of-self c =
-    held_room c.self.inside c.self.inside.links c.self.inside.changeback c.lift.new.self c.self.inside.timers true c.self.invariant
+    held_room c.self.inside c.self.inside.links c.self.inside.changeback c.lift.new.self c.self.inside.timers c.self.invariant
     refl c.self.invariant.codes
     (subst (HasHoldsFor c.self.inside.settings) (sym c.lift.ensures) (lifted-fits c.self.inside.settings c.self.inside.holds c.args.procedure c.self.invariant.holds))

@@ -8,6 +8,6 @@ use Rattle.exchange.proofs.exchange.Exchange.end_rerouting.Goals as goal
 
 pub invariant_of-self : goal.invariant_of-self
 invariant_of-self c =
-    held_room c.self.inside c.self.inside.links c.self.inside.changeback c.lift.new.self c.self.inside.timers c.self.inside.late_any c.self.invariant
+    held_room c.self.inside c.self.inside.links c.self.inside.changeback c.lift.new.self c.self.inside.timers c.self.invariant
     refl c.self.invariant.codes
     (subst (HasHoldsFor c.self.inside.settings) (sym c.lift.ensures) (lifted-fits c.self.inside.settings c.self.inside.holds (Reroute c.from.result) c.self.invariant.holds))

@@ -9,7 +9,7 @@ use Rattle.exchange.proofs.exchange.Exchange.hold_changes.Goals as goal
 
 pub invariant_of-self : goal.invariant_of-self
 invariant_of-self c =
-    held_room c.self.inside c.hold_changes.new.links c.self.inside.changeback c.hold_changes.new.holds c.self.inside.timers c.self.inside.late_any c.self.invariant
+    held_room c.self.inside c.hold_changes.new.links c.self.inside.changeback c.hold_changes.new.holds c.self.inside.timers c.self.invariant
     c.hold_changes.ensures.links c.self.invariant.codes
     (subst (HasHoldsFor c.self.inside.settings) (sym c.hold_changes.ensures.holds)
     (held_by-fits c.self.inside.settings c.self.inside.holds c.args.holders.now

@@ -8,7 +8,7 @@ use Rattle.exchange.proofs.exchange.Exchange.hold_flow.Goals as goal
 
 pub invariant_of-self : goal.invariant_of-self
 invariant_of-self c =
-    held_room c.self.inside c.self.inside.links c.self.inside.changeback c.hold.new.self c.self.inside.timers c.self.inside.late_any c.self.invariant
+    held_room c.self.inside c.self.inside.links c.self.inside.changeback c.hold.new.self c.self.inside.timers c.self.invariant
     refl c.self.invariant.codes
     (subst (HasHoldsFor c.self.inside.settings) (sym c.hold.ensures)
     (with_hold-fits c.self.inside.settings c.self.inside.holds (Changeover c.args.link) c.args.destination c.args.sls c.self.invariant.holds))

@@ -9,7 +9,7 @@ use Rattle.exchange.proofs.exchange.Exchange.on_changeback_acknowledgement.Goals
 pub invariant_of-self-2 : goal.invariant_of-self-2
 invariant_of-self-2 c =
     let waits : Bool = is_outstanding c.self.inside.changeback c.in-Some.set c.args.code in
-    held_room c.self.inside c.self.inside.links c.acknowledge.new.self c.acknowledge.new.holds c.clear.new.self c.self.inside.late_any c.self.invariant
+    held_room c.self.inside c.self.inside.links c.acknowledge.new.self c.acknowledge.new.holds c.clear.new.self c.self.invariant
     refl
     (subst (HasCodes (length c.self.inside.settings.sets)) (sym c.acknowledge.ensures.codes)
     (freed_codes-fits (length c.self.inside.settings.sets) c.self.inside.changeback c.in-Some.set c.args.code waits c.self.invariant.codes))
