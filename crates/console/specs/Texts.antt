@@ -1,5 +1,5 @@
 -- What the console shows, a line at a time, without the line feeds.
-use Rattle.std.specs.Prelude.{◌≡◌, ℕ, ◌+◌, Bool, true, false, ◌++◌, List, [], ◌∷◌, map, codes, decimal, slice_get}
+use Rattle.std.specs.Prelude.{◌≡◌, ℕ, zero, suc, ◌+◌, Bool, true, false, ◌++◌, List, [], ◌∷◌, map, codes, decimal, slice_get}
 use Rattle.std.specs.Prelude.{nat_lt, if◌then◌else◌}
 use Rattle.std.specs.Prelude.{Option, Some, None}
 use Rattle.std.specs.Option.{option_map, option_and_then}
@@ -107,7 +107,19 @@ notice_text c (Late T4 code) = late_code_text code
 
 -- the line of notice k, the oldest first
 abbrev pub notice_line : {Q : Type 0} → State Q → ℕ → Option (List ℕ)
-notice_line s k = option_map (λ notice. notice_text s.settings notice) (slice_get s.node.parts.notices k)
+notice_line s k = option_map (λ notice. notice_text s.settings notice) (slice_get s.node.parts.notices.last k)
+
+-- ---- flags
+
+-- a flag by its word, and how often it was raised
+abbrev pub flag_text : (word : List ℕ) (times : ℕ) → List ℕ
+flag_text word times = word ++ decimal times
+
+-- the line of flag k
+abbrev pub flag_line : {Q : Type 0} → State Q → ℕ → Option (List ℕ)
+flag_line s zero = Some (flag_text (codes "flag lost_any ") s.node.parts.times_lost)
+flag_line s (suc zero) = Some (flag_text (codes "flag late_any ") s.node.parts.times_late)
+flag_line s (suc (suc k)) = None
 
 -- ---- translation rows
 

@@ -2,6 +2,7 @@
 #![tactic(auto)]
 
 pub mod commands;
+pub mod flags;
 mod line;
 pub mod links;
 pub mod names;
@@ -14,6 +15,7 @@ pub mod titles;
 pub mod words;
 
 pub use commands::Command;
+pub use flags::{FLAGS, show_flags};
 pub use line::LINE_OCTETS;
 pub use links::show_links;
 pub use names::link_name;

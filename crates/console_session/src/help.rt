@@ -7,6 +7,7 @@ show links                each link: its state, how many messages wait, the last
 show routes               each destination: the sets that messages take, and their status
 show titles               the translation rows
 show notices              the last 64 notices
+show flags                how often a message may have been lost, or flows gone out of order
 show counters             what passed on each link since the start: counter NAME LINK VALUE
 submit HEX                a user part submits a message: its SIO, then its SIF
 activate LINK             the link may open

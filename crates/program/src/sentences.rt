@@ -139,6 +139,6 @@ fn form(command: Command) -> &'static str {
              N 0 to 127, DIGITS 1 to 32 of 0 to 9 and a to f, POINT 0 to 16383, ROUTE title or ssn, SSN 1 to 255, \
              or - if ROUTE is title"
         }
-        Command::Show => "show links, show routes, show titles or show notices",
+        Command::Show => "show links, show routes, show titles, show notices or show flags",
     }
 }

@@ -13,7 +13,7 @@ use Rattle.console.specs.Texts.{link_text}
 use Rattle.script.specs.Streams.{AppendsFirst}
 use Rattle.script.specs.Showing.{line_of, most_lines, ended, first_lines, shown_text}
 use Rattle.script.specs.declared.line.Show.{Show}
-use Rattle.script.specs.declared.line.Show.TheVariants.{Links, Routes, Titles, Notices}
+use Rattle.script.specs.declared.line.Show.TheVariants.{Links, Routes, Titles, Notices, Flags}
 use Rattle.script.proofs.Appending.{appends-appends, appends-first, appends-nothing}
 
 -- ---- of what is kept, and of the whole
@@ -24,6 +24,7 @@ line-stands Links k a s =
 line-stands Routes k a s = refl
 line-stands Titles k a s = refl
 line-stands Notices k a s = refl
+line-stands Flags k a s = refl
 
 lines-alike : (f g : ℕ → Option (List ℕ)) (n : ℕ) → ((k : ℕ) → f k ≡ g k) → first_lines f n ≡ first_lines g n
 lines-alike f g zero e = refl
@@ -35,6 +36,7 @@ most-stands Links a = refl
 most-stands Routes a = refl
 most-stands Titles a = refl
 most-stands Notices a = refl
+most-stands Flags a = refl
 
 pub shown-stands : (what : Show) (a : Abstract) → StandsFor (kept_of a) a → shown_text kept what (kept_of a) ≡ shown_text whole what a
 shown-stands what a s =

@@ -14,7 +14,7 @@ use Rattle.script.specs.declared.line.Line.{Line}
 use Rattle.script.specs.declared.line.Line.TheVariants as line
 use Rattle.script.specs.declared.line.Malformed.{Malformed}
 use Rattle.script.specs.declared.line.Show.{Show}
-use Rattle.script.specs.declared.line.Show.TheVariants.{Links, Routes, Titles, Notices}
+use Rattle.script.specs.declared.line.Show.TheVariants.{Links, Routes, Titles, Notices, Flags}
 
 -- what a line asks for; a link goes by a name, which no link need have
 pub data Asked : Type 0 where
@@ -35,6 +35,7 @@ show_named word =
     else if bytes_eq word (codes "routes") then Some Routes
     else if bytes_eq word (codes "titles") then Some Titles
     else if bytes_eq word (codes "notices") then Some Notices
+    else if bytes_eq word (codes "flags") then Some Flags
     else None
 
 -- a command with one word behind it

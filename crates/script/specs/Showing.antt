@@ -1,9 +1,10 @@
 -- What is shown, line by line.
 use Rattle.std.specs.Prelude.{ℕ, zero, suc, List, [], ◌++◌, length, codes, Option, Some, None}
 use Rattle.exchange_rules.specs.State.{QueueKind, State}
-use Rattle.console.specs.Texts.{link_line, route_line, title_line, notice_line}
+use Rattle.console.specs.Texts.{link_line, route_line, title_line, notice_line, flag_line}
+use Rattle.console.specs.declared.flags.TheConstants.{FLAGS}
 use Rattle.script.specs.declared.line.Show.{Show}
-use Rattle.script.specs.declared.line.Show.TheVariants.{Links, Routes, Titles, Notices}
+use Rattle.script.specs.declared.line.Show.TheVariants.{Links, Routes, Titles, Notices, Flags}
 
 -- a line of a text by its number, from 0
 abbrev pub line_of : {Q : Type 0} → QueueKind Q → Show → State Q → ℕ → Option (List ℕ)
@@ -11,13 +12,15 @@ line_of q Links s k = link_line q s k
 line_of q Routes s k = route_line s k
 line_of q Titles s k = title_line s k
 line_of q Notices s k = notice_line s k
+line_of q Flags s k = flag_line s k
 
 -- how many lines it has, at most
 abbrev pub most_lines : {Q : Type 0} → Show → State Q → ℕ
 most_lines Links s = length s.settings.links
 most_lines Routes s = length s.settings.destinations
 most_lines Titles s = length s.node.parts.titles
-most_lines Notices s = length s.node.parts.notices
+most_lines Notices s = length s.node.parts.notices.last
+most_lines Flags s = FLAGS
 
 -- a line with its line feed, where there is one
 abbrev pub ended : Option (List ℕ) → List ℕ

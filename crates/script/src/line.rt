@@ -30,6 +30,8 @@ pub enum Show {
     Titles,
     /// The notices.
     Notices,
+    /// The flags.
+    Flags,
 }
 
 /// What a line of a script asks for.
@@ -189,6 +191,8 @@ fn show_named(word: &[u8]) -> Option<Show>
         Some(Show::Titles)
     } else if word == b"notices".as_slice() {
         Some(Show::Notices)
+    } else if word == b"flags".as_slice() {
+        Some(Show::Flags)
     } else {
         None
     }

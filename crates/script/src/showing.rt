@@ -13,7 +13,7 @@ use crate::performing::{Reply, report};
 use crate::sink::{Sink, WriteFailed};
 use crate::text::console_line;
 use arrayvec::ArrayString;
-use console::{LINE_OCTETS, show_links, show_notices, show_routes, show_titles};
+use console::{FLAGS, LINE_OCTETS, show_flags, show_links, show_notices, show_routes, show_titles};
 use exchange::Exchange;
 
 /// Prints the outcome of a line. It allocates no memory.
@@ -80,6 +80,7 @@ fn write_line(
         Show::Routes => show_routes(exchange, k, line),
         Show::Titles => show_titles(exchange, k, line),
         Show::Notices => show_notices(exchange, k, line),
+        Show::Flags => show_flags(exchange, k, line),
     }
 }
 
@@ -92,5 +93,6 @@ fn most_lines(exchange: &Exchange, what: Show) -> usize
         Show::Routes => exchange.settings().destinations().len(),
         Show::Titles => exchange.title_count(),
         Show::Notices => exchange.notices().len(),
+        Show::Flags => FLAGS,
     }
 }

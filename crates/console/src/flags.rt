@@ -1,0 +1,42 @@
+//! The text of the flags.
+
+ghost use Rattle.std.specs.Prelude.{◌≡◌, ◌+◌, ◌≤◌, ◌++◌, codes, length};
+ghost use Rattle.exchange_rules.specs.Sound.{Abstract};
+ghost use Rattle.exchange.specs.Stands.{StandsFor};
+ghost use Rattle.console.specs.Texts.{Shows, flag_line, flag_text};
+
+use crate::line::{LINE_OCTETS, push_number};
+use arrayvec::ArrayString;
+use exchange::Exchange;
+
+/// Lines of the text of the flags.
+pub const FLAGS: usize = 2;
+
+/// Writes line `k`, from 0, of the text of the flags: `flag lost_any TIMES`, then `flag late_any TIMES`. TIMES is how
+/// often the flag was raised since the node was booted; a flag whose number is 0 isn't raised.
+///
+/// False past the last line, and then nothing is written.
+pub fn show_flags(exchange: &Exchange, k: usize, out: &mut ArrayString<LINE_OCTETS>) -> bool
+    // For every abstract state that the exchange stands for, the line is that of the abstract state.
+    ensures line { (a : Abstract) → StandsFor exchange.now a →
+        Shows (flag_line a k) result out.old.bytes out.new.bytes }
+
+    // The same on what is kept.
+    ensures kept_line { Shows (flag_line exchange.now k) result out.old.bytes out.new.bytes }
+{
+    match k {
+        0 => write_flag("flag lost_any ", exchange.times_lost(), out),
+        1 => write_flag("flag late_any ", exchange.times_late(), out),
+        _ => return false,
+    }
+    true
+}
+
+/// The line of a flag.
+fn write_flag(word: &str, times: u64, out: &mut ArrayString<LINE_OCTETS>)
+    requires { length word.now + 20 ≤ LINE_OCTETS }
+    ensures { out.new.bytes ≡ flag_text word.now times }
+{
+    out.clear();
+    push_number(out, word, times);
+}
