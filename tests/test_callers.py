@@ -1,15 +1,18 @@
 """Two nodes with consoles, and the callers of these."""
 
+import signal
 import socket
 
 from harness import MALFORMED, Link, NodeTest, free_port
-from traffic import FAR, Pair
+from traffic import FAR, NEAR, Pair, submit_to
 
 MESSAGES = 64
 MOST_CALLERS = 16
+KEPT_NOTICES = 64
+LOST = 100
 LINE_OCTETS = 8300
 QUESTIONS = 6000
-HELP_LINES = 16
+HELP_LINES = 17
 ROUTE = f"route {FAR} to-{FAR} allowed"
 
 # Points and how they are written in three parts, of 3, 8 and 3 bits (Q.708): 4237 is 2 * 2048 + 17 * 8 + 5.
@@ -136,3 +139,23 @@ class Points(NodeTest):
             caller.write(line + "\n")
             self.assertEqual(caller.read_line(), MALFORMED, line)
         self.assertEqual(self.near.ask("show titles"), [])
+
+
+class Notices(NodeTest):
+    def test_notices_that_were_missed(self) -> None:
+        """T1 ends a changeover without a number. It makes a notice, and one for each message that may be lost: more at
+        once than a node keeps. The flag is raised for each of these messages, and for the number that never came."""
+        pair = Pair(self, links=1, t1=4)
+        watcher = pair.near.call()
+        self.assertEqual(watcher.ask("watch"), ["handled"])
+        self.assertEqual(pair.near.ask("show flags"), ["flag lost_any 0", "flag late_any 0"])
+        pair.far.signal(signal.SIGSTOP)
+        self.assertEqual(submit_to(pair.near, NEAR, FAR, LOST), {"queued e0": LOST})
+        pair.far.kill()
+        self.assertEqual(watcher.read_line(), "failed e0 association")
+        self.assertEqual(watcher.read_line(), f"missed {LOST + 1 - KEPT_NOTICES}")
+        for line in watcher.read_lines(KEPT_NOTICES):
+            self.assertRegex(line, rf"^lost 14 LostUnconfirmed {FAR} \d+$")
+        self.assertEqual(pair.near.ask("show flags"), [f"flag lost_any {LOST + 1}", "flag late_any 0"])
+        pair.near.await_log(f" missed {LOST + 1 - KEPT_NOTICES}$")
+        pair.near.await_log(f" flag lost_any {LOST + 1}$")

@@ -28,7 +28,6 @@ pub(crate) struct Audience {
     pub(crate) callers: Callers,
     pub(crate) points: PointFormat,
     pub(crate) now: Duration,
-    pub(crate) refused: usize,
 }
 
 impl Audience {
@@ -47,7 +46,6 @@ impl Audience {
             callers,
             points,
             now: Duration::ZERO,
-            refused: 0,
         })
     }
 
@@ -141,12 +139,8 @@ impl<U: Watch> Watch for Watching<'_, U> {
     fn came_in(&mut self, link: LinkId, frame: &[u8], outcome: &Outcome) {
         self.audience.counters.count_in(link, frame, outcome);
         self.audience.passed(link, Direction::In, frame);
-        match outcome {
-            Outcome::Local => self.audience.delivered(link, frame),
-            Outcome::Refused(_) => {
-                self.audience.refused = self.audience.refused.saturating_add(1);
-            }
-            _ => {}
+        if *outcome == Outcome::Local {
+            self.audience.delivered(link, frame);
         }
         self.user.came_in(link, frame, outcome);
     }

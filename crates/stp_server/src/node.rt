@@ -7,10 +7,11 @@ use crate::noticing::Seen;
 use arrayvec::{ArrayString, ArrayVec};
 use console::{LINE_OCTETS, show_notices};
 use console_session::{Desk, News, line_in_parts};
-use exchange::{Event, Exchange, NoMemory};
+use exchange::{Event, Exchange, NewNotices, NoMemory};
 use script::Sink;
 use settings::{FailureReason, LinkId, Notice, Settings};
 use std::alloc::Global;
+use std::fmt::Write;
 use trace::PointFormat;
 
 /// The node, who is told what happens in it, and which notices they were told.
@@ -92,14 +93,40 @@ impl Node {
     /// Looks for new notices: the log and the callers that watch them are told, and failures are counted. A failure
     /// whose notice was dropped for those behind it is counted as one for this reason.
     pub(crate) fn look<W: Sink>(&mut self, dropped: FailureReason, journal: &mut Journal<'_, W>) {
-        for _ in 0..self.audience.refused {
-            self.seen.refused();
+        let new = self.seen.look(&self.exchange);
+        if new.kept > 0 {
+            self.tell_new(new, journal);
+            self.count_dropped_failures(new.kept, dropped);
+            self.tell_flags(journal);
         }
-        self.audience.refused = 0;
-        let count = self.seen.look(&self.exchange);
-        if count > 0 {
-            self.tell_last(count, journal);
-            self.count_dropped_failures(count, dropped);
+    }
+
+    /// Tells how many notices were missed, and then of the new ones that are kept.
+    #[inline(never)]
+    fn tell_new<W: Sink>(&mut self, new: NewNotices, journal: &mut Journal<'_, W>) {
+        if new.missed > 0 {
+            self.tell_missed(new.missed, journal);
+        }
+        self.tell_last(new.kept, journal);
+    }
+
+    /// Tells that so many notices were dropped for those behind them before they could be told.
+    fn tell_missed<W: Sink>(&mut self, missed: u64, journal: &mut Journal<'_, W>) {
+        let mut line = ArrayString::<LINE_OCTETS>::new();
+        let _fits = write!(line, "missed {missed}");
+        self.audience
+            .callers
+            .tell_line(News::Notice, line.as_bytes());
+        journal.tell(&format_args!("missed {missed}"));
+    }
+
+    /// Tells the log of a flag that was raised since the last time, and how often it was by now.
+    fn tell_flags<W: Sink>(&mut self, journal: &mut Journal<'_, W>) {
+        if let Some(times) = self.seen.newly_lost(&self.exchange) {
+            journal.tell(&format_args!("flag lost_any {times}"));
+        }
+        if let Some(times) = self.seen.newly_late(&self.exchange) {
+            journal.tell(&format_args!("flag late_any {times}"));
         }
     }
 
@@ -162,6 +189,5 @@ fn watchers(
     settings: &Settings,
     points: PointFormat,
 ) -> Result<(Audience, Seen), OpenFault> {
-    let seen = Seen::new(alloc)?;
-    Ok((Audience::new(alloc, settings, points)?, seen))
+    Ok((Audience::new(alloc, settings, points)?, Seen::new()))
 }

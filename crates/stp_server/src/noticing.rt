@@ -1,48 +1,53 @@
-//! Which notices are new.
+//! Which notices are new, which flags rose, and which links failed.
 
-use exchange::{Exchange, LinkStanding};
-use settings::{Limits, LinkId, Notice};
-use std::alloc::{AllocError, Global};
-use std::mem;
+use exchange::{Exchange, LinkStanding, NewNotices};
+use settings::{Limits, LinkId};
 
-/// What was last seen of a node: its notices, and which links weren't down.
+/// What was last seen of a node: how many notices there were, how often its flags were raised, and which links weren't
+/// down.
 #[derive(Drop)]
 pub struct Seen {
-    former: Vec<Notice>,
-    notices: Vec<Notice>,
+    notices: u64,
+    times_lost: u64,
+    times_late: u64,
     up: [bool; Limits::LINKS],
     fell: [bool; Limits::LINKS],
-    refused: usize,
 }
 
 impl Seen {
-    /// Nothing was seen yet: a node has no notice at first, and its links are down.
-    pub fn new(alloc: Global) -> Result<Seen, AllocError> {
-        Ok(Seen {
-            former: Vec::with_capacity(alloc, Limits::NOTICES)?,
-            notices: Vec::with_capacity(alloc, Limits::NOTICES)?,
+    /// Nothing was seen yet: a node has no notice at first, no flag is raised, and its links are down.
+    pub fn new() -> Seen {
+        Seen {
+            notices: 0,
+            times_lost: 0,
+            times_late: 0,
             up: [false; Limits::LINKS],
             fell: [false; Limits::LINKS],
-            refused: 0,
-        })
-    }
-
-    /// A frame that came in was refused, which made a notice.
-    pub fn refused(&mut self) {
-        self.refused = self.refused.saturating_add(1);
-    }
-
-    /// How many notices, counted from the last one back, are new since the last look. It tells by the notices that the
-    /// node keeps, so some that are the same as those before them may be missed, but no refusal and no failure is.
-    pub fn look(&mut self, exchange: &Exchange) -> usize {
-        let least = self.refused.saturating_add(self.note_failures(exchange));
-        self.refused = 0;
-        if least == 0 && self.has_seen_all(exchange) {
-            return 0;
         }
-        mem::swap(&mut self.former, &mut self.notices);
-        self.note_notices(exchange);
-        new_among(&self.former, &self.notices, least)
+    }
+
+    /// The notices that are new since the last look.
+    pub fn look(&mut self, exchange: &Exchange) -> NewNotices {
+        let new = exchange.notices_since(self.notices);
+        self.notices = exchange.notice_count();
+        self.note_failures(exchange);
+        new
+    }
+
+    /// How often `lost_any` was raised, if that is more than when this was last asked.
+    pub fn newly_lost(&mut self, exchange: &Exchange) -> Option<u64> {
+        let times = exchange.times_lost();
+        let is_more = times != self.times_lost;
+        self.times_lost = times;
+        is_more.then_some(times)
+    }
+
+    /// How often `late_any` was raised, if that is more than when this was last asked.
+    pub fn newly_late(&mut self, exchange: &Exchange) -> Option<u64> {
+        let times = exchange.times_late();
+        let is_more = times != self.times_late;
+        self.times_late = times;
+        is_more.then_some(times)
     }
 
     /// Whether a link failed between the last look and the one before.
@@ -50,43 +55,12 @@ impl Seen {
         self.fell.get(link.index()).copied().unwrap_or(false)
     }
 
-    /// Whether the notices are those of the last look. As long as a node keeps each, any further one makes them more.
-    fn has_seen_all(&self, exchange: &Exchange) -> bool {
-        let notices = exchange.notices();
-        notices.len() == self.notices.len()
-            && (notices.len() < Limits::NOTICES
-                || notices
-                    .iter()
-                    .zip(self.notices.iter())
-                    .all(|(now, seen)| now == seen))
-    }
-
-    /// Keeps the notices as they are now. There is room for as many as an exchange keeps.
-    fn note_notices(&mut self, exchange: &Exchange) {
-        self.notices.clear();
-        for notice in exchange.notices().iter() {
-            let _fits = self.notices.push(*notice);
-        }
-    }
-
-    /// How many links failed since the last look. Each failure made a notice.
-    fn note_failures(&mut self, exchange: &Exchange) -> usize {
-        let mut failures = 0usize;
-        for k in 0..exchange.settings().link_count() {
-            let link = LinkId::new(u8::try_from(k).unwrap_or(u8::MAX));
-            self.note(link, is_up(exchange, link));
-            if self.fell(link) {
-                failures = failures.saturating_add(1);
-            }
-        }
-        failures
-    }
-
-    /// Keeps whether a link is up, and whether it was until now.
-    fn note(&mut self, link: LinkId, is_up: bool) {
-        if let Some(up) = self.up.get_mut(link.index())
-            && let Some(fell) = self.fell.get_mut(link.index())
-        {
+    /// Notes which links failed since the last look.
+    fn note_failures(&mut self, exchange: &Exchange) {
+        let marks = self.up.iter_mut().zip(self.fell.iter_mut());
+        let links = exchange.settings().link_count();
+        for (k, (up, fell)) in marks.enumerate().take(links) {
+            let is_up = is_up(exchange, LinkId::new(k as u8));
             *fell = *up && !is_up;
             *up = is_up;
         }
@@ -99,15 +73,4 @@ fn is_up(exchange: &Exchange, link: LinkId) -> bool {
         Some(view) => view.standing != LinkStanding::Down,
         None => false,
     }
-}
-
-/// How many notices at the end are new: the fewest, but at least so many, for which those in front of them are the last
-/// of the former ones.
-fn new_among(former: &[Notice], now: &[Notice], least: usize) -> usize {
-    for count in least..now.len() {
-        if former.ends_with(&now[..now.len() - count]) {
-            return count;
-        }
-    }
-    now.len()
 }
