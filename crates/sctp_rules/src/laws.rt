@@ -22,8 +22,8 @@ pub fn what_goes_out_was_given()
     ensures { given_messages_go_out }
 {}
 
-/// The generation grows with each association that opens, and never falls; and a cookie opens in its own generation
-/// alone. So a cookie opens one association at most.
+/// Up is told at most as often as the generation counts; and a cookie of another generation than that of now opens
+/// nothing.
 pub fn a_cookie_opens_once()
     ensures generations { generations_grow }
     ensures cookies { cookies_open_in_their_generation }
