@@ -157,5 +157,5 @@ class Notices(NodeTest):
         for line in watcher.read_lines(KEPT_NOTICES):
             self.assertRegex(line, rf"^lost 14 LostUnconfirmed {FAR} \d+$")
         self.assertEqual(pair.near.ask("show flags"), [f"flag lost_any {LOST + 1}", "flag late_any 0"])
-        pair.near.await_log(f" missed {LOST + 1 - KEPT_NOTICES}$")
-        pair.near.await_log(f" flag lost_any {LOST + 1}$")
+        pair.near.await_log(f"missed {LOST + 1 - KEPT_NOTICES}$")
+        pair.near.await_log(f"flag lost_any {LOST + 1}$")
