@@ -1,10 +1,8 @@
-pub mod Buffers
 pub mod Chaining
 pub mod Counting
 pub mod LinkedReading
 pub mod Linking
 pub mod Moving
-pub mod Passing
 pub mod Reading
 pub mod Sharing
 pub mod Splicing

@@ -3,16 +3,15 @@ use Rattle.std.proofs.Common.{◌≡◌, ◌≢◌, ℕ, ◌+◌, ◌<◌, ◌�
 use Rattle.std.specs.Prelude.{sum_by, if◌then◌else◌}
 use Rattle.std.proofs.Math.ListN.{set}
 use Rattle.std.proofs.lemmas.Bool.{ltb-true, ltb-false, lt-ltb, le-ltb}
-use Rattle.std.proofs.lemmas.List.{map-set, map-append, length-map, length-set, length_push, take-map, drop-map, get_or_push}
+use Rattle.std.proofs.lemmas.List.{map-set, map-append, length-map, take-map, drop-map, get_or_push}
 use Rattle.std.proofs.lemmas.List.Sums.{sum_by-cons, get_or-le-sum_by}
 use Rattle.signalling_types.specs.Message.{Message}
 use Rattle.cell_pool.specs.Numbering.{uses, ring_at}
 use Rattle.cell_pool.specs.Lanes.{lane_at, pushed}
 use Rattle.cell_pool.specs.Moves.{all_behind, put_behind}
 use Rattle.cell_pool.specs.Turns.{cut_at}
-use Rattle.cell_pool.specs.Links.{IsReached}
 use Rattle.cell_pool.specs.Cells.{Occupied, message_at, messages_at, lists_at}
-use Rattle.cell_pool.specs.LinkedRow.{occupied_in, written}
+use Rattle.cell_pool.specs.Row.{occupied_in, written}
 use Rattle.cell_pool.specs.declared.linked_lists.LinkedLists.TheInside.{Inside}
 use Rattle.cell_pool.proofs.Sharing.{uses-cons}
 use Rattle.cell_pool.proofs.Reading.{unused-apart, list_at, pushed-lists, moved-behind}
@@ -21,14 +20,6 @@ use Rattle.cell_pool.proofs.Walks.{get_or-push_other}
 -- there is a ring for each list
 pub within_linked : (s : Inside) (v : Occupied) (i : ℕ) → occupied_in s ≡ v → i < length v.lists → i < length s.links.rings
 within_linked s v i e h = omega (arith, ap (λ (w : Occupied). length w.lists) e, length-map s.links.rings (messages_at s.cells.items))
-
-reached-either : (b : Bool) (before cell after : ℕ) → cell ≤ before → nat_lt cell before ≡ b → after ≡ (if b then before else before + 1) → cell < after
-reached-either true before cell after l e r = omega (arith, r, ltb-true cell before e)
-reached-either false before cell after l e r = omega (arith, l, r)
-
--- a cell that was taken is one of those that were used by then
-pub reached-less : (before cell after : ℕ) → IsReached before cell after → cell < after
-reached-less before cell after r = reached-either (nat_lt cell before) before cell after r.within refl r.reached
 
 -- ---- a message behind the row
 
@@ -71,16 +62,6 @@ written-either false cells rings i n m e l h f =
 
 pub written-lists : (cells : List Message) (rings : List (List ℕ)) (i n : ℕ) (m : Message) → n ≤ length cells → i < length rings → sum_by (uses n) rings ≡ 0 → lists_at (written cells n m) (set rings i (ring_at rings i ++ n ∷ [])) ≡ pushed (lists_at cells rings) i m
 written-lists cells rings i n m l h f = written-either (nat_lt n (length cells)) cells rings i n m refl l h f
-
-length-either : (b : Bool) (cells : List Message) (n : ℕ) (m : Message) → length (if b then set cells n m else cells ++ m ∷ []) ≡ (if b then length cells else length cells + 1)
-length-either true cells n m = length-set cells n m
-length-either false cells n m = length_push cells m
-
-pub length-written : (cells : List Message) (used n after : ℕ) (m : Message) → length cells ≡ used → IsReached used n after → length (written cells n m) ≡ after
-length-written cells used n after m e r =
-    length-either (nat_lt n (length cells)) cells n m
-    ∙ ap (λ (k : ℕ). if nat_lt n k then k else k + 1) e
-    ∙ sym r.reached
 
 -- ---- moves of cells are moves of their messages
 

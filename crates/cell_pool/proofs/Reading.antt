@@ -1,16 +1,14 @@
 -- What the lists are after a message was written into a cell that no list had, and after a cell left a list or moved.
-use Rattle.std.proofs.Common.{◌≡◌, ℕ, zero, suc, ◌<◌, ◌≢◌, List, [], ◌∷◌, ◌++◌, ◌-◌, length, take, drop, replicate, refl, ap, sym, ◌∙◌, arith}
+use Rattle.std.proofs.Common.{◌≡◌, ℕ, zero, suc, ◌<◌, ◌≢◌, List, [], ◌∷◌, ◌++◌, length, take, drop, replicate, refl, ap, sym, ◌∙◌, arith}
 use Rattle.std.specs.Prelude.{sum_by}
 use Rattle.std.proofs.Math.ListN.{set}
-use Rattle.std.proofs.lemmas.List.{map-set, map-append, get_or-map, get_or-set_same, get_or-set_other, length-map, length-set, take-map, drop-map}
+use Rattle.std.proofs.lemmas.List.{map-set, map-append, get_or-map, get_or-set_same, get_or-set_other, length-set, take-map, drop-map}
 use Rattle.std.proofs.lemmas.List.Sums.{sum_by-cons, get_or-le-sum_by}
 use Rattle.signalling_types.specs.Message.{Message}
 use Rattle.cell_pool.specs.Numbering.{uses, ring_at}
 use Rattle.cell_pool.specs.Lanes.{lane_at, pushed, dropped}
-use Rattle.cell_pool.specs.Moves.{put_behind, put_before, first_behind, last_before}
-use Rattle.cell_pool.specs.Cells.{Occupied, message_at, messages_at, lists_at}
-use Rattle.cell_pool.specs.Row.{occupied_in}
-use Rattle.cell_pool.specs.declared.cell_lists.CellLists.TheInside.{Inside}
+use Rattle.cell_pool.specs.Moves.{put_behind, first_behind}
+use Rattle.cell_pool.specs.Cells.{message_at, messages_at, lists_at}
 use Rattle.cell_pool.proofs.Sharing.{use_of, uses-cons, use_of-itself}
 
 -- a number that isn't used is another one
@@ -33,10 +31,6 @@ written-unused cells n m (ring ∷ rings) h =
     let rest : sum_by (uses n) rings ≡ 0 = omega (arith, sum_by-cons (uses n) ring rings) in
     ap (λ x. x ∷ lists_at (set cells n m) rings) (written-elsewhere cells n m ring here) ∙ ap (λ xs. messages_at cells ring ∷ xs) (written-unused cells n m rings rest)
 
--- there is a ring for each list
-pub within_rings : (s : Inside) (v : Occupied) (i : ℕ) → occupied_in s ≡ v → i < length v.lists → i < length s.numbers.rings
-within_rings s v i e h = omega (arith, ap (λ (w : Occupied). length w.lists) e, length-map s.numbers.rings (messages_at s.cells.items))
-
 -- one of the lists
 pub list_at : (cells : List Message) (rings : List (List ℕ)) (i : ℕ) → i < length rings → lane_at (lists_at cells rings) i ≡ messages_at cells (ring_at rings i)
 list_at cells rings i h = get_or-map (messages_at cells) rings i [] [] h
@@ -55,11 +49,6 @@ dropped-lists cells rings i count h =
     map-set (messages_at cells) rings i (drop count (ring_at rings i))
     ∙ ap (set (lists_at cells rings) i) (sym (drop-map (message_at cells) count (ring_at rings i)) ∙ ap (λ xs. drop count xs) (sym (list_at cells rings i h)))
 
--- as many messages as cells
-pub length-lists : (cells : List Message) (rings : List (List ℕ)) → sum_by (length {A = Message}) (lists_at cells rings) ≡ sum_by (length {A = ℕ}) rings
-length-lists cells [] = refl
-length-lists cells (ring ∷ rings) = omega (arith, sum_by-cons (length {A = ℕ}) ring rings, sum_by-cons (length {A = Message}) (messages_at cells ring) (lists_at cells rings), length-map ring (message_at cells), length-lists cells rings)
-
 pub lists_at-empty : (cells : List Message) (count : ℕ) → lists_at cells (replicate count []) ≡ replicate count []
 lists_at-empty cells zero = refl
 lists_at-empty cells (suc count) = ap (λ lists. [] ∷ lists) (lists_at-empty cells count)
@@ -75,15 +64,6 @@ moved-behind cells rings from to left gone h =
     ∙ ap (set (lists_at cells kept) to) there
     ∙ ap (λ (lists : List (List Message)). set lists to (lane_at lists to ++ messages_at cells gone)) (map-set (messages_at cells) rings from left)
 
-pub moved-before : (cells : List Message) (rings : List (List ℕ)) (from to : ℕ) (left gone : List ℕ) → to < length rings → lists_at cells (put_before rings from left gone to) ≡ put_before (lists_at cells rings) from (messages_at cells left) (messages_at cells gone) to
-moved-before cells rings from to left gone h =
-    let kept : List (List ℕ) = set rings from left in
-    let inside : to < length kept = omega (arith, h, length-set rings from left) in
-    let there : messages_at cells (gone ++ ring_at kept to) ≡ messages_at cells gone ++ lane_at (lists_at cells kept) to = map-append (message_at cells) gone (ring_at kept to) ∙ ap (λ (ms : List Message). messages_at cells gone ++ ms) (sym (list_at cells kept to inside)) in
-    map-set (messages_at cells) kept to (gone ++ ring_at kept to)
-    ∙ ap (set (lists_at cells kept) to) there
-    ∙ ap (λ (lists : List (List Message)). set lists to (messages_at cells gone ++ lane_at lists to)) (map-set (messages_at cells) rings from left)
-
 pub first-lists : (cells : List Message) (rings : List (List ℕ)) (from to : ℕ) → from < length rings → to < length rings → lists_at cells (first_behind rings from to) ≡ first_behind (lists_at cells rings) from to
 first-lists cells rings from to h k =
     let lists : List (List Message) = lists_at cells rings in
@@ -93,15 +73,3 @@ first-lists cells rings from to h k =
     ∙ ap (λ (ms : List Message). put_behind lists from ms (messages_at cells (take 1 ring)) to) (sym (drop-map (message_at cells) 1 ring))
     ∙ ap (λ (ms : List Message). put_behind lists from (drop 1 (messages_at cells ring)) ms to) (sym (take-map (message_at cells) 1 ring))
     ∙ ap (λ (ms : List Message). put_behind lists from (drop 1 ms) (take 1 ms) to) there
-
-pub last-lists : (cells : List Message) (rings : List (List ℕ)) (from to : ℕ) → from < length rings → to < length rings → lists_at cells (last_before rings from to) ≡ last_before (lists_at cells rings) from to
-last-lists cells rings from to h k =
-    let lists : List (List Message) = lists_at cells rings in
-    let ring : List ℕ = ring_at rings from in
-    let n : ℕ = length ring - 1 in
-    let there : messages_at cells ring ≡ lane_at lists from = sym (list_at cells rings from h) in
-    moved-before cells rings from to (take n ring) (drop n ring) k
-    ∙ ap (λ (ms : List Message). put_before lists from ms (messages_at cells (drop n ring)) to) (sym (take-map (message_at cells) n ring))
-    ∙ ap (λ (ms : List Message). put_before lists from (take n (messages_at cells ring)) ms to) (sym (drop-map (message_at cells) n ring))
-    ∙ ap (λ (i : ℕ). put_before lists from (take (i - 1) (messages_at cells ring)) (drop (i - 1) (messages_at cells ring)) to) (sym (length-map ring (message_at cells)))
-    ∙ ap (λ (ms : List Message). put_before lists from (take (length ms - 1) ms) (drop (length ms - 1) ms) to) there

@@ -1,5 +1,5 @@
 -- What a move leaves as it is: every sum over all elements of all lists.
-use Rattle.std.proofs.Common.{◌≡◌, ℕ, ◌+◌, ◌-◌, ◌<◌, Bool, not, List, [], ◌++◌, length, take, drop, refl, arith}
+use Rattle.std.proofs.Common.{◌≡◌, ℕ, ◌+◌, ◌<◌, Bool, not, List, [], ◌++◌, length, take, drop, refl, arith}
 use Rattle.std.specs.Prelude.{sum_by, filter}
 use Rattle.std.proofs.Math.ListN.{set}
 use Rattle.std.proofs.lemmas.List.{length-set, length-append}
@@ -7,7 +7,7 @@ use Rattle.std.proofs.lemmas.List.Sums.{sum_by-set, sum_by-append, sum_by-take-d
 use Rattle.std.proofs.lemmas.List.Filters.{sum_by-filter_both}
 use Rattle.signalling_types.specs.Message.{Message}
 use Rattle.cell_pool.specs.Lanes.{HasAsMany}
-use Rattle.cell_pool.specs.Moves.{list_at, put_behind, put_before, first_behind, last_before, all_behind, all_before, picked_behind, picked_before}
+use Rattle.cell_pool.specs.Moves.{list_at, put_behind, put_before, first_behind, all_behind, all_before, picked_behind, picked_before}
 use Rattle.cell_pool.proofs.Counting.{as_user, as_management}
 
 module _ {A : Type 0} where
@@ -34,13 +34,6 @@ module _ {A : Type 0} where
       let inside : to < length rest = omega (arith, k, length-set lists from left) in
       omega (arith, e, sum_by-set (length {A = A}) lists from left [] h, sum_by-set (length {A = A}) rest to (list_at rest to ++ gone) [] inside, length-append (list_at rest to) gone)
 
-  pub length-before : (lists : List (List A)) (from to : ℕ) (left gone : List A) → from < length lists → to < length lists →
-      length left + length gone ≡ length (list_at lists from) → sum_by (length {A = A}) (put_before lists from left gone to) ≡ sum_by (length {A = A}) lists
-  length-before lists from to left gone h k e =
-      let rest : List (List A) = set lists from left in
-      let inside : to < length rest = omega (arith, k, length-set lists from left) in
-      omega (arith, e, sum_by-set (length {A = A}) lists from left [] h, sum_by-set (length {A = A}) rest to (gone ++ list_at rest to) [] inside, length-append gone (list_at rest to))
-
   -- ---- of one element
 
   sum-parts : (g : A → ℕ) (xs : List A) (i : ℕ) → sum_by g (drop i xs) + sum_by g (take i xs) ≡ sum_by g xs
@@ -49,10 +42,6 @@ module _ {A : Type 0} where
   pub sum-first : (g : A → ℕ) (lists : List (List A)) (from to : ℕ) → from < length lists → to < length lists →
       sum_by (sum_by g) (first_behind lists from to) ≡ sum_by (sum_by g) lists
   sum-first g lists from to h k = sum-behind g lists from to _ _ h k (sum-parts g (list_at lists from) 1)
-
-  pub sum-last : (g : A → ℕ) (lists : List (List A)) (from to : ℕ) → from < length lists → to < length lists →
-      sum_by (sum_by g) (last_before lists from to) ≡ sum_by (sum_by g) lists
-  sum-last g lists from to h k = sum-before g lists from to _ _ h k (sum_by-take-drop g (list_at lists from) (length (list_at lists from) - 1))
 
   -- ---- of all, and of those that are picked
 
@@ -79,9 +68,6 @@ module _ {A : Type 0} where
 
 pub many-first : (lists : List (List Message)) (from to : ℕ) → from < length lists → to < length lists → HasAsMany lists (first_behind lists from to)
 many-first lists from to h k = record { users = sum-first as_user lists from to h k; managements = sum-first as_management lists from to h k }
-
-pub many-last : (lists : List (List Message)) (from to : ℕ) → from < length lists → to < length lists → HasAsMany lists (last_before lists from to)
-many-last lists from to h k = record { users = sum-last as_user lists from to h k; managements = sum-last as_management lists from to h k }
 
 pub many-all_behind : (lists : List (List Message)) (from to : ℕ) → from < length lists → to < length lists → HasAsMany lists (all_behind lists from to)
 many-all_behind lists from to h k = record { users = sum-all_behind as_user lists from to h k; managements = sum-all_behind as_management lists from to h k }

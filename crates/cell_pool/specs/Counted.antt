@@ -3,7 +3,7 @@ use Rattle.signalling_types.specs.declared.limits.TheConstants.Limits.{MANAGEMEN
 use Rattle.std.specs.Prelude.{◌≡◌, ◌+◌, ◌≤◌}
 use Rattle.cell_pool.specs.Lanes.{users, managements}
 use Rattle.cell_pool.specs.Stored.{Stored}
-use Rattle.cell_pool.specs.declared.ring_lanes.RingLanes.TheInside.{Inside}
+use Rattle.cell_pool.specs.declared.linked_pool.CellPool.TheInside.{Inside}
 
 abbrev pub stored_in : Inside → Stored
 stored_in s = record { lists = s.lists.lists; pool = s.pool }

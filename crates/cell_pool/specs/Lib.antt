@@ -2,13 +2,10 @@ pub mod Lanes
 pub mod Moves
 pub mod Turns
 pub mod Numbering
-pub mod Rings
 pub mod Cells
 pub mod Row
-pub mod LinkedRow
 pub mod Stored
 pub mod Counted
-pub mod LinkedCounted
 pub mod Chains
 pub mod Links
 pub mod Linked

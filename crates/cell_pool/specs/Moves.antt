@@ -1,5 +1,5 @@
 -- Moves of elements from one of several lists to another.
-use Rattle.std.specs.Prelude.{ℕ, Bool, ◌-◌, List, [], ◌++◌, length, take, drop, filter, not, slice_index_or, slice_set}
+use Rattle.std.specs.Prelude.{ℕ, Bool, List, [], ◌++◌, take, drop, filter, not, slice_index_or, slice_set}
 
 -- one of the lists
 abbrev pub list_at : {A : Type 0} → List (List A) → ℕ → List A
@@ -18,14 +18,6 @@ put_before lists from left gone to =
 -- the first element of a list goes to the end of a list, also of its own
 abbrev pub first_behind : {A : Type 0} → List (List A) → (from to : ℕ) → List (List A)
 first_behind lists from to = put_behind lists from (drop 1 (list_at lists from)) (take 1 (list_at lists from)) to
-
--- the last element of a list goes before all of a list, also of its own
-abbrev pub last_before : {A : Type 0} → List (List A) → (from to : ℕ) → List (List A)
-last_before lists from to =
-    put_before lists from
-    (take (length (list_at lists from) - 1) (list_at lists from))
-    (drop (length (list_at lists from) - 1) (list_at lists from))
-    to
 
 -- all of a list, in order, goes to the end of another
 abbrev pub all_behind : {A : Type 0} → List (List A) → (from to : ℕ) → List (List A)

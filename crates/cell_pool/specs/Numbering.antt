@@ -2,11 +2,6 @@
 use Rattle.std.specs.Prelude.{◌≡◌, ℕ, ◌+◌, List, [], length, nat_lt, nat_eq, count_by, sum_by, if◌then◌else◌}
 use Rattle.std.specs.Prelude.{slice_index_or}
 
--- the numbers of each list's cells in order, one ring for each list, and how many cells there are
-pub record Numbering : Type 0 where
-  pub rings : List (List ℕ)
-  pub total : ℕ
-
 -- one ring of them
 abbrev pub ring_at : List (List ℕ) → ℕ → List ℕ
 ring_at rings ring = slice_index_or rings ring []

@@ -1,8 +1,8 @@
 -- A list is gone through once, message by message: each goes to another list or stays. Or a list is turned round.
-use Rattle.std.specs.Prelude.{ℕ, Bool, ◌-◌, List, Option, Some, None, false, ◌++◌, length, take, drop}
+use Rattle.std.specs.Prelude.{ℕ, Bool, List, Option, Some, None, false, ◌++◌, take, drop}
 use Rattle.std.specs.Prelude.{slice_get, slice_set}
 use Rattle.std.specs.Prelude.{if◌then◌else◌}
-use Rattle.cell_pool.specs.Moves.{list_at, first_behind, last_before}
+use Rattle.cell_pool.specs.Moves.{list_at, first_behind}
 
 -- whether there is an element that a test picks
 abbrev pub is_picked : {A : Type 0} → (A → Bool) → Option A → Bool
@@ -13,12 +13,6 @@ is_picked picks None = false
 abbrev pub turned : {A : Type 0} → (A → Bool) → List (List A) → (from to : ℕ) → List (List A)
 turned picks lists from to =
     first_behind lists from (if is_picked picks (slice_get (list_at lists from) 0) then to else from)
-
--- the last goes before all of another list where it is picked, else before all of its own
-abbrev pub turned_back : {A : Type 0} → (A → Bool) → List (List A) → (from to : ℕ) → List (List A)
-turned_back picks lists from to =
-    last_before lists from
-    (if is_picked picks (slice_get (list_at lists from) (length (list_at lists from) - 1)) then to else from)
 
 -- what comes behind so many first elements of a list is put before these
 abbrev pub cut_at : {A : Type 0} → ℕ → List (List A) → (list : ℕ) → List (List A)

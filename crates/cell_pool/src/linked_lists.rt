@@ -7,7 +7,7 @@ ghost use Rattle.signalling_types.specs.Lent.{lent};
 ghost use Rattle.cell_pool.specs.Lanes.{lane_at, pushed, dropped};
 ghost use Rattle.cell_pool.specs.Moves.{first_behind, all_behind};
 ghost use Rattle.cell_pool.specs.Turns.{cut_at};
-ghost use Rattle.cell_pool.specs.LinkedRow.{written};
+ghost use Rattle.cell_pool.specs.Row.{written};
 
 use crate::cell_links::CellLinks;
 use signalling_types::{Limits, Msu, MsuRef};
@@ -27,7 +27,7 @@ impl Model for LinkedLists {
 
     ghost Value = { Occupied };
 
-    ghost use Rattle.cell_pool.specs.LinkedRow.{occupied_in, HasRow};
+    ghost use Rattle.cell_pool.specs.Row.{occupied_in, HasRow};
 
     ghost view = { occupied_in };
 

@@ -37,7 +37,7 @@ impl Model for CellPool {
 
     ghost Value = { Stored };
 
-    ghost use Rattle.cell_pool.specs.LinkedCounted.{stored_in, IsCounted};
+    ghost use Rattle.cell_pool.specs.Counted.{stored_in, IsCounted};
 
     ghost view = { stored_in };
 

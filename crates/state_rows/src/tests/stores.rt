@@ -1,10 +1,10 @@
-//! Stores of both kinds, and the numbers of a link's messages over them. Digits are messages, even ones of management.
+//! Stores of messages, and the numbers of a link's messages over one. Digits are messages, even ones of management.
 
 ghost use Rattle.std.specs.Prelude.{◌≤◌};
 ghost use Rattle.signalling_types.specs.declared.limits.TheConstants.Limits;
 
 use super::{Part, all_right, first_wrong, number, word};
-use cell_pool::{CellPool, Lanes, RingLanes, UserMessages};
+use cell_pool::{CellPool, Lanes, UserMessages};
 use changeover::{complete, count_in_doubt};
 use link::Sequence;
 use signalling_types::{Msu, Number24};
@@ -207,16 +207,13 @@ fn completes<L: Lanes>(lanes: &mut L, sequence: &mut Sequence, call: &str) -> bo
     doubt == word(call, 2).parse().ok() && sequence.outstanding() == 0
 }
 
-/// The first row that doesn't hold of a store of either kind with room for so many user messages.
+/// The first row that doesn't hold of a store with room for so many user messages.
 fn wrong_with(alloc: Global, pool: usize, rows: &'static str) -> Result<&'static str, AllocError>
     requires { pool ≤ Limits.POOL }
 {
-    let sequence = Sequence::start();
-    let lanes = RingLanes::new(alloc, 2, pool)?;
-    let wrong = first_wrong(&mut Link { lanes, sequence }, rows);
     let lanes = CellPool::new(alloc, 2, pool)?;
-    let also = first_wrong(&mut Link { lanes, sequence }, rows);
-    Ok(if wrong.is_empty() { also } else { wrong })
+    let sequence = Sequence::start();
+    Ok(first_wrong(&mut Link { lanes, sequence }, rows))
 }
 
 #[test]

@@ -1,7 +1,0 @@
--- so many messages of the list are dropped by now
-use Rattle.std.proofs.Common.{◌≡◌}
-use Rattle.cell_pool.specs.Lanes.{dropped}
-use Rattle.cell_pool.proofs.ring_lanes.RingLanesLanes.drop_front.Given as goal
-
-abbrev pub invariant-loop : goal.invariant-loop
-invariant-loop l = l.self ≡ record l.fn.self { lists = dropped l.fn.self.lists l.lane l.counter }
