@@ -8,18 +8,10 @@ use Rattle.signalling_types.specs.declared.limits.TheConstants.Limits.{SELECTION
 use Rattle.flow_hold.specs.Holds.{HoldSet}
 use Rattle.changeback.specs.Return.{FlowChange, former_link_of, change_from, changes_of, changes, comes_from, gives_up, with_change, held_by}
 
-pub no_changes_of : (to : ℕ) (before after : Facts) (destination : ℕ) → changes_of to before after destination 0 ≡ []
-unfolding changes_of
-no_changes_of to before after destination = refl
-
 pub more_changes_of : (to : ℕ) (before after : Facts) (destination count : ℕ)
     → changes_of to before after destination (count + 1) ≡ changes_of to before after destination count ++ change_from destination count (former_link_of to before after destination count)
 unfolding changes_of
 more_changes_of to before after destination count = ap (λ (n : ℕ). changes_of to before after destination n) (add-one count)
-
-pub no_changes : (to : ℕ) (before after : Facts) → changes to before after 0 ≡ []
-unfolding changes
-no_changes to before after = refl
 
 pub more_changes : (to : ℕ) (before after : Facts) (count : ℕ)
     → changes to before after (count + 1) ≡ changes to before after count ++ changes_of to before after count SELECTIONS
@@ -64,9 +56,6 @@ pub marked_one : (m0 m1 m2 : List Bool) (xs : List FlowChange) (destination sls 
 marked_one m0 m1 m2 xs destination sls from f g =
     marked_more m0 m1 m2 xs (change_from destination sls from) f
     (λ other. g other ∙ ap (λ (b : Bool). slice_index_or m1 other false || b) (sym (gives_up-one destination sls from other)))
-
-pub marked_none : (m : List Bool) (other : ℕ) → slice_index_or m other false ≡ (slice_index_or m other false || gives_up [] other)
-marked_none m other = sym (or-false (slice_index_or m other false))
 
 -- ---- which flows are held
 
