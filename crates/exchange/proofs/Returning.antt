@@ -145,11 +145,6 @@ enters_so false d e f = e
 absurd_state : false ≡ true → (u s : State KeptQueues) → u ≡ s
 absurd_state e u s = absurd cc
 
-not_other : (a b : Bool) → (a && not b) ≡ true → b ≡ false
-not_other true false e = refl
-not_other true true e = absurd cc
-not_other false b e = absurd cc
-
 not_first : (b : Bool) → not b ≡ true → b ≡ false
 not_first true e = absurd cc
 not_first false e = refl

@@ -8,7 +8,7 @@ use Rattle.exchange_rules.specs.Sound.{Abstract, AreQueues}
 use Rattle.exchange.specs.Stands.{Kept, StandsFor, kept_queues_of}
 use Rattle.exchange_rules.specs.Queues.{WholeQueues, whole}
 use Rattle.exchange.specs.KeptQueues.{kept}
-use Rattle.exchange.specs.Views.{link_shown, link_view, route_view}
+use Rattle.exchange.specs.Views.{link_shown, link_view}
 use Rattle.exchange.proofs.KeptQueues.{keeps_whole}
 
 link_shown-kept : (w : ℕ) (node : Node WholeQueues) (l : ℕ) → AreQueues w node.queues
@@ -25,6 +25,3 @@ pub stands-link : (l : ℕ) (k : Kept) (a : Abstract) → StandsFor k a → link
 stands-link l k a s =
     ap (λ (x : Kept). link_view kept x l) s.kept
     ∙ either_view (is_link a.node.parts l) _ _ (link_shown-kept a.settings.window a.node l s.sound.queues)
-
-pub stands-route : (d : ℕ) (k : Kept) (a : Abstract) → StandsFor k a → route_view k d ≡ route_view a d
-stands-route d k a s = ap (λ (x : Kept). route_view x d) s.kept

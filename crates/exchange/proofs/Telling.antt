@@ -16,11 +16,6 @@ use Rattle.exchange.specs.Telling.{tell_at, told_at_place, told_set}
 use Rattle.exchange_rules.proofs.Telling.{tell-facts, tell-told, tell_each-facts, tell_each-row, tell_each-adjacents}
 
 module _ {Q : Type 0} (q : QueueKind Q) (c : Configuration) where
-  pub none_told_at : (set destination : ℕ) (status : Option RouteStatus) (n : Node Q) → may_tell q c n ≡ false → n ≡ tell_at q c set destination status n
-  none_told_at set destination (Some status) n full =
-      ap (λ (b : Bool). if b then tell q c (record { set = set; destination = destination; status = status }) n else n) (sym full)
-  none_told_at set destination None n full = refl
-
   -- ---- one destination after the other
 
   -- what the adjacent point of a set is still to be told, of so many destinations from one on
