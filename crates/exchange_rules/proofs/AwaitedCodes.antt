@@ -1,16 +1,11 @@
 -- One code more is awaited, and one message more stands in a queue.
-use Rattle.std.proofs.Common.{◌≡◌, ◌≢◌, ◌<◌, ◌≤◌, ◌+◌, ℕ, zero, suc, Bool, true, false, cond, not, List, [], ◌∷◌, ◌++◌, length, drop, Some, refl, ap, sym, ◌∙◌, subst, arith}
-use Rattle.std.specs.Prelude.{slice_index_or, slice_set, sum_by}
+use Rattle.std.proofs.Common.{◌≡◌, ◌≢◌, ◌<◌, ◌≤◌, ℕ, Bool, true, false, not, List, [], length, Some, refl, ap, sym, ◌∙◌, subst, arith}
+use Rattle.std.specs.Prelude.{slice_index_or, slice_set}
 use Rattle.std.proofs.Math.Logic.{⊎_elim}
 use Rattle.std.proofs.lemmas.Bool.{cases_lt, cases_eq}
 use Rattle.std.proofs.lemmas.List.{get_or_past, get_or-set_same, get_or-set_other, length-set}
 use Rattle.std.proofs.lemmas.List.Quantifiers.{position-Some}
-use Rattle.std.proofs.lemmas.List.Sums.{sum_by-cons}
-use Rattle.signalling_types.specs.Message.{Message, is_management}
-use Rattle.cell_pool.specs.Lanes.{managements_in}
-use Rattle.link.specs.Queue.{Queue, first_queue, appended, unconfirmed}
 use Rattle.changeback.specs.Codes.{Codes, codes_of, free_code, is_outstanding, with_code}
-use Rattle.exchange_rules.specs.Queues.{WholeQueues, queue_at, whole}
 
 no : {A : Type 0} → false ≡ true → A
 no e = absurd cc
@@ -85,30 +80,3 @@ pub is-free : (t : Codes) (set code : ℕ) → free_code t set ≡ Some code →
 is-free t set code e =
     let found = position-Some not (codes_of t set) code false e in
     record { there = found.0; free = not-so (is_outstanding t set code) found.1 }
-
--- ---- one message more is there
-
-more : (a b k l s t : ℕ) → s ≡ a + k → t ≡ b + l → a ≤ b → k ≤ l → s ≤ t
-more a b k l s t e f g h = omega (arith, e, f, g, h)
-
-abbrev kind : Message → ℕ
-kind m = cond (is_management m) 1 0
-
-count-appended : (n : ℕ) (ms : List Message) (m : Message) → managements_in (drop n ms) ≤ managements_in (drop n (ms ++ m ∷ []))
-count-appended zero [] m = omega arith
-count-appended zero (x ∷ ms) m =
-    more (kind x) (kind x) (managements_in ms) (managements_in (ms ++ m ∷ [])) (managements_in (x ∷ ms)) (managements_in (x ∷ (ms ++ m ∷ [])))
-    (sum_by-cons kind x ms) (sum_by-cons kind x (ms ++ m ∷ [])) (omega arith) (count-appended zero ms m)
-count-appended (suc n) [] m = omega arith
-count-appended (suc n) (x ∷ ms) m = count-appended n ms m
-
-sum-set : {A : Type 0} (f : A → ℕ) (xs : List A) (i : ℕ) (x d : A) → f (slice_index_or xs i d) ≤ f x → sum_by f xs ≤ sum_by f (slice_set xs i x)
-sum-set f [] i x d l = omega arith
-sum-set f (y ∷ xs) zero x d l = more (f y) (f x) (sum_by f xs) (sum_by f xs) (sum_by f (y ∷ xs)) (sum_by f (x ∷ xs)) (sum_by-cons f y xs) (sum_by-cons f x xs) l (omega arith)
-sum-set f (y ∷ xs) (suc i) x d l =
-    more (f y) (f y) (sum_by f xs) (sum_by f (slice_set xs i x)) (sum_by f (y ∷ xs)) (sum_by f (y ∷ slice_set xs i x)) (sum_by-cons f y xs) (sum_by-cons f y (slice_set xs i x)) (omega arith) (sum-set f xs i x d l)
-
-pub managements-appended : (qs : WholeQueues) (link : ℕ) (m : Message) → whole.managements qs ≤ whole.managements (whole.appended qs link m)
-managements-appended qs link m =
-    let q : Queue = queue_at qs link in
-    omega (arith, sum-set (λ (x : Queue). managements_in (unconfirmed x)) qs.links link (appended q m) first_queue (count-appended q.confirmed q.all m))

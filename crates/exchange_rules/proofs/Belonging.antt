@@ -1,7 +1,7 @@
 -- The link that a flow takes is one of the settings, and so are its set and its destination.
 use Rattle.std.proofs.Common.{◌≡◌, ◌<◌, ◌≤◌, ℕ, zero, suc, ◌-◌, Bool, true, false, ◌&&◌, cond, List, [], ◌∷◌, length, nat_eq, refl, ap, ◌∙◌, subst, arith, inl, inr}
 use Rattle.std.specs.Prelude.{Option, Some, None, Contains, find, position, slice_index_or}
-use Rattle.std.specs.Option.{option_map, option_or, option_and_then, option_to_list}
+use Rattle.std.specs.Option.{option_map, option_or, option_to_list}
 use Rattle.std.proofs.Math.Logic.{⊎_elim}
 use Rattle.std.proofs.lemmas.Bool.{cases_lt}
 use Rattle.std.proofs.lemmas.Option.{same_Some}
@@ -16,9 +16,7 @@ use Rattle.routes.specs.Facts.{Facts, first_sets}
 use Rattle.routes.specs.Chosen.{chosen_link}
 use Rattle.routes.proofs.Leaving.{IsOfSet, chosen_of_set, none_past}
 use Rattle.exchange_rules.specs.State.{Parts}
-use Rattle.signalling_types.specs.declared.point.Flow.{Flow}
-use Rattle.settings.specs.Readings.{destination_place}
-use Rattle.exchange_rules.specs.Routing.{facts, link_of}
+use Rattle.exchange_rules.specs.Routing.{facts}
 use Rattle.exchange_rules.specs.Points.{set_of}
 
 -- ---- the links of a set
@@ -116,11 +114,3 @@ chosen_there f destination sls link e =
     let gone : chosen_link f destination sls ≡ None = none_past f destination sls past in
     absurd cc)
     (cases_lt destination (length f.routes))
-
-listed-at : (c : Configuration) (p : Parts) (destination : Option ℕ) (sls link : ℕ) → option_and_then (λ d. chosen_link (facts c p) d sls) destination ≡ Some link → IsListed c link
-listed-at c p None sls link e = absurd cc
-listed-at c p (Some destination) sls link e = chosen_listed c p destination sls link e
-
--- the link of a flow is one of the settings
-pub flow_listed : (c : Configuration) (p : Parts) (f : Flow) (link : ℕ) → link_of c p f ≡ Some link → IsListed c link
-flow_listed c p f link e = listed-at c p (destination_place c f.point) f.sls link e

@@ -1,8 +1,7 @@
 -- What was received on a link rises by one at most, exactly where a frame newly carries a message, and that is the one
 -- that stands in the frame.
-use Rattle.std.proofs.Common.{◌≡◌, ◌≤◌, ◌+◌, ◌&&◌, ℕ, Bool, true, false, not, is_some, nat_eq, nat_lt, List, Some, None, Result, Ok, Err, refl, ap, ◌∙◌, arith}
+use Rattle.std.proofs.Common.{◌≡◌, ◌&&◌, ℕ, Bool, true, false, not, List, Some, None, Result, Ok, Err}
 use Rattle.std.specs.Prelude.{if◌then◌else◌}
-use Rattle.std.proofs.lemmas.Bool.Decides.{nat_tests}
 use Rattle.signalling_types.specs.Message.{Message}
 use Rattle.signalling_types.specs.declared.notice.FrameFault.{FrameFault}
 use Rattle.settings_rows.specs.Configuration.{Configuration}
@@ -13,18 +12,14 @@ use Rattle.link.specs.declared.action.Action.TheVariants as act
 use Rattle.link.specs.declared.action.Input.TheVariants.{UserData}
 use Rattle.link.specs.Table.{action_at}
 use Rattle.link.specs.declared.fault.SeqFault.{SeqFault}
-use Rattle.exchange_rules.specs.Happening.{Happening, FrameCame}
 use Rattle.exchange_rules.specs.State.{Node}
 use Rattle.exchange_rules.specs.Links.{is_link, link_at, down}
 use Rattle.exchange_rules.specs.Statuses.{advance}
 use Rattle.exchange_rules.specs.Frames.{Carrying, empty_data, message_data, numbers}
 use Rattle.exchange_rules.specs.Queues.{WholeQueues, whole}
-use Rattle.exchange_rules.specs.Exchange.{after}
 use Rattle.exchange_rules.specs.Laws.{carried_message}
-use Rattle.exchange_rules.specs.Lasting.{HasAllPlaces}
-use Rattle.exchange_rules.specs.Receiving.{brought, new_by, new_at, new_of, new_message, received}
+use Rattle.exchange_rules.specs.Receiving.{new_by, new_at, new_of, new_message}
 use Rattle.exchange_rules.specs.Sound.{Abstract}
-use Rattle.exchange_rules.proofs.Received.{received-counted}
 
 -- ---- which message it is
 
@@ -50,30 +45,3 @@ module _ (link : ℕ) (c : Configuration) (n : Node WholeQueues) (m : Message) w
 
 pub new-carried : (link : ℕ) (text : List ℕ) (a : Abstract) (m : Message) → new_message link text a ≡ Some m → carried_message (read_frame text) ≡ Some m
 new-carried link text a m e = guarded-carried link a.settings a.node m (is_link a.node.parts link && not (down a.node.parts link)) (read_frame text) e
-
--- ---- when there is one
-
-one-more : (m n : ℕ) (b : Bool) → n ≡ m + (if b then 1 else 0) → nat_lt m n ≡ b
-one-more m n true e = grind (arith, nat_tests, e)
-one-more m n false e = grind (arith, nat_tests, e)
-
-itself : (link : ℕ) (b : Bool) → (nat_eq link link && b) ≡ b
-itself link true = grind (arith, nat_tests)
-itself link false = grind (arith, nat_tests)
-
--- what was received on the link of a frame rises exactly where the frame newly carries a message
-pub received-raised : (link : ℕ) (text : List ℕ) (a : Abstract) → HasAllPlaces a.settings a.node
-    → nat_lt (received a.node link) (received (after whole (FrameCame link text) a).node link) ≡ is_some (new_message link text a)
-received-raised link text a places =
-    one-more (received a.node link) (received (after whole (FrameCame link text) a).node link) (is_some (new_message link text a))
-    (received-counted (FrameCame link text) a link places refl
-    ∙ ap (λ (b : Bool). received a.node link + (if b then 1 else 0)) (itself link (is_some (new_message link text a))))
-
--- no event brings more than one message by a link
-pub brought-one : (what : Happening) (a : Abstract) (link : ℕ) → brought what a link ≤ 1
-brought-one (FrameCame its text) a link = one-at-most (nat_eq its link && is_some (new_message its text a))
-  where
-    one-at-most : (b : Bool) → (if b then 1 else 0) ≤ 1
-    one-at-most true = omega arith
-    one-at-most false = omega arith
-brought-one what a link = omega arith

@@ -64,10 +64,6 @@ use Rattle.link.specs.Queue as queue
 module _ (of : Message → Bool) (c : Configuration) where
   -- ---- a message of a frame
 
-  -- what it brings comes, and what its word completes goes
-  Moves : (m n : Node WholeQueues) → (came : List Message) → Gone → Type 0
-  Moves m n came went = stands of n + users_that of came ≡ stands of m + gone_that of went
-
   came-alone : (n m k : ℕ) → m ≡ n + k → n + k ≡ m + 0
   came-alone n m k e = omega (arith, e)
 
@@ -117,13 +113,6 @@ module _ (of : Message → Bool) (c : Configuration) where
     where
       parts-of : (a b k all : ℕ) → a ≡ b → all ≡ k + b → a + k ≡ all
       parts-of a b k all e f = omega (arith, e, f)
-
-  frame-sum : (n m o a k l t u : ℕ) → n ≡ m + k → m + a ≡ o + l → u ≡ (k + t) + l → t ≡ 0 → n + a ≡ o + u
-  frame-sum n m o a k l t u e f g h = omega (arith, e, f, g, h)
-
-  -- the numbers first, and then the message
-  data_gone : Result ℕ SeqFault → ℕ → Option Message → (accepts before : Node WholeQueues) → Gone
-  data_gone r link m accepts before = both_gone (record { accepted = confirmed_by r (queue_at before.queues link); lost = [] }) (gone_by_new m c accepts)
 
   data-that : (ms : List Message) (g : Gone) → gone_that of (both_gone (record { accepted = ms; lost = [] }) g) ≡ users_that of ms + gone_that of g
   data-that ms g = both-that of (record { accepted = ms; lost = [] }) g ∙ ap (λ (k : ℕ). k + gone_that of g) (sym (none-more (users_that of ms)))

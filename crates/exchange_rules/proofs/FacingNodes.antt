@@ -1,12 +1,12 @@
 -- Two nodes that face each other: the near end's links and codes mean the same at the far end.
-use Rattle.std.proofs.Common.{◌≡◌, ◌<◌, ℕ, zero, suc, List, [], ◌∷◌, Some, length, map, get_or, is_some, true, false, sym, ap, ◌∙◌, arith}
+use Rattle.std.proofs.Common.{◌≡◌, ◌<◌, ℕ, zero, suc, List, [], ◌∷◌, Some, length, map, get_or, false, sym, ap, ◌∙◌, arith}
 use Rattle.std.proofs.lemmas.List.{length-map, get_or-map}
 use Rattle.settings_rows.specs.Configuration.{Configuration, LinkEntry}
 use Rattle.settings.specs.Facing.{IsFacing, LeadsOnlyTo}
 use Rattle.settings.specs.Readings.{set_place, destination_place}
 use Rattle.settings.specs.Well.{IsWell}
 use Rattle.exchange_rules.specs.Points.{entry_of, set_of, adjacent_of, peer_of, point_of}
-use Rattle.exchange_rules.specs.Local.{is_adjacent, link_with_code}
+use Rattle.exchange_rules.specs.Local.{link_with_code}
 use Rattle.exchange_rules.proofs.Onward.{link-set}
 use Rattle.exchange_rules.proofs.NamedLinks.{set-named, destination-named, link-named}
 
@@ -50,9 +50,6 @@ module _ (c : Configuration) (point : ℕ) (leads : LeadsOnlyTo c point) where
     -- so does its one set
     pub set-found : set_place c point ≡ Some 0
     set-found = ap (set_place c) (sym adjacent-sole) ∙ set-named c well 0 (omega (arith, sets-one))
-
-    pub adjacent-found : is_adjacent c point ≡ true
-    adjacent-found = ap is_some set-found
 
 -- ---- two nodes
 

@@ -148,9 +148,6 @@ module _ (l : ℕ) where
 
     -- a declaration goes to a link that lost a flow
     module _ (link : ℕ) (before : Parts) (after : Facts) where
-      Declares : (n m : Node WholeQueues) → Type 0
-      Declares n m = (queue_at m.queues l ≡ queue_at n.queues l) ⊎ Went link before l
-
       hold_flows-declares : (code : Option ℕ) (other : ℕ) (n : Node WholeQueues) → Went link before other → (queue_at (hold_flows whole c (facts c before) after code link other n).queues l ≡ queue_at n.queues l) ⊎ Went link before l
       hold_flows-declares (Some code) other n w =
           ⊎_elim

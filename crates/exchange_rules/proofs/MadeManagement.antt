@@ -5,8 +5,7 @@ use Rattle.std.proofs.Math.Logic.{⊎_elim}
 use Rattle.std.proofs.lemmas.Bool.{cases_lt}
 use Rattle.std.proofs.lemmas.Bool.Decides.{nat_tests}
 use Rattle.std.proofs.lemmas.List.{get_or_past}
-use Rattle.signalling_types.specs.Message.{Message, dpc_of, opc_of, sls_of, service_indicator, network_indicator, is_management, flow_of}
-use Rattle.signalling_types.specs.declared.point.Flow.{Flow}
+use Rattle.signalling_types.specs.Message.{Message, dpc_of, opc_of, service_indicator, network_indicator, is_management}
 use Rattle.signalling_types.specs.declared.limits.TheConstants.Limits.{SIF_OCTETS}
 use Rattle.settings_rows.specs.Configuration.{Configuration, LinkEntry}
 use Rattle.settings.specs.Well.{IsWell, IsLink}
@@ -14,18 +13,13 @@ use Rattle.mtp3_codec.specs.declared.label.Label.{Label}
 use Rattle.mtp3_codec.specs.Label.{label_at}
 use Rattle.mtp3_codec.specs.declared.discrimination.Discrimination.TheVariants.{Here}
 use Rattle.mtp3_codec.specs.declared.management.Management.{Management}
-use Rattle.mtp3_codec.specs.Management.{IsManagement, link_code_of, read_management}
+use Rattle.mtp3_codec.specs.Management.{IsManagement, read_management}
 use Rattle.mtp3_codec.proofs.Reading.{label_of, its-label, message-back, octets-fit, octets-long}
-use Rattle.exchange_rules.specs.State.{QueueKind, Node}
 use Rattle.exchange_rules.specs.Made.{management_to}
 use Rattle.exchange_rules.specs.Points.{entry_of}
-use Rattle.exchange_rules.specs.Local.{is_adjacent, do_management, distribute}
 use Rattle.exchange_rules.specs.Messages.{whither_goes}
 
 -- ---- what it says
-
-abbrev pub flow_by : Label → Flow
-flow_by label = record { point = label.dpc; sls = label.sls }
 
 module _ (c : Configuration) (well : IsWell c) (point : ℕ) (m : Management) where
   pub made-indicator : service_indicator (management_to c point m) ≡ 0
@@ -36,9 +30,6 @@ module _ (c : Configuration) (well : IsWell c) (point : ℕ) (m : Management) wh
 
   pub made-network : network_indicator (management_to c point m) ≡ c.network
   made-network = omega arith
-
-  pub made-sio : (management_to c point m).sio < 2 ^ 8
-  made-sio = omega (arith, well.network)
 
   pub made-long : 5 ≤ length (management_to c point m).sif
   made-long = octets-long point c.own m
@@ -55,12 +46,6 @@ module _ (c : Configuration) (well : IsWell c) (point : ℕ) (m : Management) wh
 
     pub made-opc : opc_of (management_to c point m) ≡ c.own
     made-opc = ap (λ (l : Label). l.opc) made-label
-
-    pub made-sls : sls_of (management_to c point m) ≡ link_code_of m
-    made-sls = ap (λ (l : Label). l.sls) made-label
-
-    pub made-flow : flow_of (management_to c point m) ≡ flow_by (label_of point c.own m)
-    made-flow = ap flow_by made-label
 
     pub made-says : read_management (management_to c point m).sif ≡ Ok m
     made-says = message-back point c.own m fits well.own h
@@ -85,9 +70,3 @@ comes-here c m long short network here =
     let ours : nat_eq (network_indicator m) c.network ≡ true = grind (arith, nat_tests, network) in
     let own : nat_eq (dpc_of m) c.own ≡ true = grind (arith, nat_tests, here) in
     rw (fits, labelled, ours, own) refl
-
-module _ {Q : Type 0} (q : QueueKind Q) (c : Configuration) where
-  -- management from an adjacent point is read
-  pub management-read : (m : Message) (link : ℕ) (node : Node Q) → service_indicator m ≡ 0 → is_adjacent c (opc_of m) ≡ true
-      → distribute q c link m node ≡ do_management q c (read_management m.sif) (opc_of m) node
-  management-read m link node kind known = rw (kind, known) refl

@@ -26,14 +26,6 @@ down-is (Proving ready) e = absurd cc
 down-is AlignedReady e = absurd cc
 down-is InService e = absurd cc
 
-pub serving-is : (a : Alignment) → is_in_service a ≡ true → a ≡ InService
-serving-is Down e = absurd cc
-serving-is NotAligned e = absurd cc
-serving-is Aligned e = absurd cc
-serving-is (Proving ready) e = absurd cc
-serving-is AlignedReady e = absurd cc
-serving-is InService e = refl
-
 serving-number : (a : Alignment) → is_in_service a ≡ (state_number a == 6)
 serving-number Down = refl
 serving-number NotAligned = refl

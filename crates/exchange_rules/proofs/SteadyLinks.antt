@@ -9,7 +9,7 @@ use Rattle.node_links.specs.LinkState.{is_down, is_in_service, opened, after_fai
 use Rattle.changeover.specs.Standing.{Standing}
 use Rattle.exchange_rules.specs.Sending.{may_send}
 use Rattle.exchange_rules.specs.LastingLinks.{IsSteady}
-use Rattle.exchange_rules.proofs.Serving.{down-is, serving-is}
+use Rattle.exchange_rules.proofs.Serving.{down-is}
 
 -- a link is steady, but where its L7 has just run out (then it isn't exact whether that runs): out of service it doesn't run
 pub record Stands (exact : Bool) (w : ℕ) (l : Link) (s : Standing) (q : Queue) (b : Bool) : Type 0 where
@@ -25,9 +25,6 @@ pub record Stands (exact : Bool) (w : ℕ) (l : Link) (s : Standing) (q : Queue)
 -- no link is both
 pub down-idle : (a : Alignment) → is_down a ≡ true → is_in_service a ≡ false
 down-idle a e = ap is_in_service (down-is a e)
-
-pub serving-up : (a : Alignment) → is_in_service a ≡ true → is_down a ≡ false
-serving-up a e = ap is_down (serving-is a e)
 
 -- a link out of service sends nothing
 idle-test : (l : Link) (b : Bool) → is_in_service l.alignment ≡ false → (may_send l && b) ≡ false

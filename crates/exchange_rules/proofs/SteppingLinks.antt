@@ -11,7 +11,6 @@ use Rattle.signalling_types.specs.declared.notice.FailureReason.{FailureReason}
 use Rattle.signalling_types.specs.declared.notice.FailureReason.TheVariants as reasons
 use Rattle.m2pa_codec.specs.declared.status.LinkStatus.{LinkStatus}
 use Rattle.m2pa_codec.specs.declared.status.LinkStatus.TheVariants as says
-use Rattle.link.specs.declared.alignment.Alignment.TheVariants.{Down}
 use Rattle.link.specs.declared.action.Action.{Action}
 use Rattle.link.specs.declared.action.Action.TheVariants as act
 use Rattle.link.specs.declared.action.Input.{Input}
@@ -45,9 +44,6 @@ use Rattle.exchange_rules.proofs.SteppingFailures.{fail-links, fail-steps}
 use Rattle.exchange_rules.proofs.SteppingReturns.{change_back-steps}
 
 -- ---- a link that takes a step of its alignment is there
-
-down-ignores : (input : Input) → action_at Down input ≡ act.Ignored
-down-ignores input = refl
 
 pub stepping-there : (p : Parts) (link : ℕ) (input : Input) (step : Transition) → action_at (link_at p link).alignment input ≡ act.Go step → link < length p.links
 stepping-there p link input step e =

@@ -18,10 +18,7 @@ use Rattle.exchange_rules.specs.Points.{set_of}
 use Rattle.exchange_rules.specs.Queueing.{no_room}
 use Rattle.exchange_rules.specs.Queues.{WholeQueues, queue_at, whole}
 use Rattle.exchange_rules.specs.ChangingBack.{declaration, loses_flows, if_room, usable, code_for, hold_flows, take_back_each}
-use Rattle.exchange_rules.proofs.AwaitedCodes.{outstanding-other, outstanding-stays, IsFree, is-free, managements-appended}
-
-abbrev nothing : Option ℕ
-nothing = None
+use Rattle.exchange_rules.proofs.AwaitedCodes.{outstanding-other, outstanding-stays, IsFree, is-free}
 
 no : {A : Type 0} → false ≡ true → A
 no e = absurd cc
@@ -59,26 +56,6 @@ module _ (c : Configuration) (before after : Facts) (link : ℕ) where
       by-code (Some code) = length-set m.queues.links other (appended (queue_at m.queues other) (declaration c link code))
       by-code None = refl
   step-length false other m = refl
-
-  none-usable : (other : ℕ) (m : Node WholeQueues) → free_code m.parts.codes set ≡ None → code_for whole c link other m ≡ None
-  none-usable other m e =
-      ap (λ (o : Option ℕ). if nat_eq (set_of c other) set then usable whole c link o m else None) e ∙ either-none (nat_eq (set_of c other) set)
-    where
-      either-none : (b : Bool) → (if b then nothing else nothing) ≡ nothing
-      either-none true = refl
-      either-none false = refl
-
-  step-none : (b : Bool) (other : ℕ) (m : Node WholeQueues) → free_code m.parts.codes set ≡ None → free_code (step b other m).parts.codes set ≡ None
-  step-none true other m e = ap (λ (o : Option ℕ). free_code (hold_flows whole c before after o link other m).parts.codes set) (none-usable other m e) ∙ e
-  step-none false other m e = e
-
-  step-managements : (b : Bool) (other : ℕ) (m : Node WholeQueues) → whole.managements m.queues ≤ whole.managements (step b other m).queues
-  step-managements true other m = by-code (code_for whole c link other m)
-    where
-      by-code : (o : Option ℕ) → whole.managements m.queues ≤ whole.managements (hold_flows whole c before after o link other m).queues
-      by-code (Some code) = managements-appended m.queues other (declaration c link code)
-      by-code None = omega arith
-  step-managements false other m = omega arith
 
   -- ---- all of them
 
@@ -124,16 +101,6 @@ module _ (c : Configuration) (before after : Facts) (link : ℕ) where
     unfolding take_back_each
     queues_stay zero = refl
     queues_stay (suc other) = step-length (loses_flows c before after other link) other (at other) ∙ queues_stay other
-
-    pub none_later : (from many : ℕ) → from ≤ many → free_code (at from).parts.codes set ≡ None → free_code (at many).parts.codes set ≡ None
-    none_later from many l =
-        later (λ m o. free_code m.parts.codes set ≡ None → free_code o.parts.codes set ≡ None) (λ m e. e) (λ k m o f g e. g (f e)) from
-        (λ other h. step-none (loses_flows c before after other link) other (at other)) many l
-
-    pub managements_later : (from many : ℕ) → from ≤ many → whole.managements (at from).queues ≤ whole.managements (at many).queues
-    managements_later from many l =
-        later (λ m o. whole.managements m.queues ≤ whole.managements o.queues) (λ m. omega arith) (λ k m o f g. omega (arith, f, g)) from
-        (λ other h. step-managements (loses_flows c before after other link) other (at other)) many l
 
     -- ---- what is chosen for a link that loses flows
 

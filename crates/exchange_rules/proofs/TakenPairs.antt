@@ -86,9 +86,6 @@ module _ {Q : Type 0} (q : QueueKind Q) (c : Configuration) where
 
     -- ---- one link more
 
-    flows-of : (other : ℕ) → Node Q → HoldSet
-    flows-of other one = (hold_flows q c before after (code_for q c link other one) link other one).parts.holds
-
     step-keeps : (b : Bool) (other : ℕ) (one : Node Q) (procedure : Procedure) (destination sls : ℕ) → holds one.parts.holds procedure destination sls ≡ true
         → holds (if b then hold_flows q c before after (code_for q c link other one) link other one else one).parts.holds procedure destination sls ≡ true
     step-keeps true other one procedure destination sls e =
