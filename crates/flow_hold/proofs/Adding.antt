@@ -47,10 +47,6 @@ added_flows h k procedure test a = same_added h k (with_flows h procedure test) 
 
 -- ---- how flows are added
 
-or-false : (b : Bool) → (b || false) ≡ b
-or-false true = refl
-or-false false = refl
-
 and-false : (b c : Bool) → ((b && false) || c) ≡ c
 and-false true c = refl
 and-false false c = refl

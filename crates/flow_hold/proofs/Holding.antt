@@ -6,7 +6,7 @@ use Rattle.std.specs.FinSet.{contains, insert, contains-insert}
 use Rattle.std.proofs.lemmas.Bool.{and_parts, ltb-true}
 use Rattle.flow_hold.specs.declared.procedure.Procedure.{Procedure}
 use Rattle.signalling_types.specs.declared.limits.TheConstants.Limits.{SELECTIONS}
-use Rattle.flow_hold.specs.Holds.{Hold, HoldSet, by_numbers, holds, is_held, may_hold_to, may_hold, with_hold}
+use Rattle.flow_hold.specs.Holds.{Hold, HoldSet, by_numbers, holds, may_hold_to, may_hold, with_hold}
 use Rattle.flow_hold.specs.Pairs.{IsOfNode, pair, hold_is_of_node, hold_adds_its_pair, hold_leaves_others, may_not_leaves, hold_holds_its_flow, hold_keeps_flows_held}
 use Rattle.flow_hold.proofs.Numbers.{in_order, tied, tied-same, untied}
 use Rattle.flow_hold.proofs.Pairing.{held_by, may-alike}
@@ -24,12 +24,6 @@ may_parts h procedure destination sls may =
     and_parts (may_hold_to h procedure destination) (nat_lt destination h.destinations && nat_lt sls SELECTIONS) may in
     let flow : (nat_lt destination h.destinations ≡ true) × (nat_lt sls SELECTIONS ≡ true) = and_parts (nat_lt destination h.destinations) (nat_lt sls SELECTIONS) parts.1 in
     record { to = parts.0; there = ltb-true destination h.destinations flow.0; few = ltb-true sls SELECTIONS flow.1 }
-
--- a flow that is held is one of the node
-pub flows_there : (h : HoldSet) (destination sls : ℕ) → IsOfNode h → is_held h destination sls ≡ true → destination < h.destinations
-flows_there h destination sls of_node e =
-    let found : (procedure : Procedure) × (holds h procedure destination sls ≡ true) = (held_by h destination sls).0 e in
-    (may_parts h found.0 destination sls (of_node.each (record { procedure = found.0; destination = destination; sls = sls }) found.1)).there
 
 -- ---- the pairs after a hold
 
