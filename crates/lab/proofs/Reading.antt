@@ -2,14 +2,12 @@
 use Rattle.std.proofs.Common.{◌≤◌, ◌+◌, ℕ, List, [], ◌++◌, length, Option, Result, Ok, Err, arith, length-append}
 use Rattle.std.specs.Prelude.{OnOk}
 use Rattle.std.specs.Io.KnownBytes.{Consumes}
-use Rattle.exchange.specs.Stands.{Kept}
 use Rattle.script.specs.Faults.{EndsAtLine}
-use Rattle.script.specs.Streams.{Input, Output}
 use Rattle.script.specs.declared.fault.TheConstants.{READS}
 use Rattle.script.specs.declared.fault.ScriptFault.{ScriptFault}
 use Rattle.script.specs.declared.fault.ScriptFault.TheVariants.{Read, Write, Line, TooManyReads, NoMemory}
 use Rattle.script.proofs.Running.{consumes-consumes, consumes-nothing}
-use Rattle.lab.specs.Script.{ReadsAtLeast, ReadsOn, EndsInScript, LeavesAll}
+use Rattle.lab.specs.Script.{ReadsAtLeast, ReadsOn, EndsInScript}
 
 pub reads-nothing : (left : Option (List ℕ)) → ReadsAtLeast 0 left left
 reads-nothing left = record { octets = []; many = omega arith; consumed = consumes-nothing left }
@@ -47,12 +45,3 @@ line-in-script (Err Write) h = tt
 line-in-script (Err Read) h = absurd h
 line-in-script (Err TooManyReads) h = absurd h
 line-in-script (Err NoMemory) h = absurd h
-
-pub begun-leaves : (result : Result Unit ScriptFault) (near near_new far far_new : Kept) (input input_new : Input) (output output_new : Output) → EndsInScript result
-    → LeavesAll result near near_new far far_new input input_new output output_new
-begun-leaves (Ok x) near near_new far far_new input input_new output output_new h = tt
-begun-leaves (Err Read) near near_new far far_new input input_new output output_new h = tt
-begun-leaves (Err Write) near near_new far far_new input input_new output output_new h = tt
-begun-leaves (Err (Line line)) near near_new far far_new input input_new output output_new h = tt
-begun-leaves (Err TooManyReads) near near_new far far_new input input_new output output_new h = tt
-begun-leaves (Err NoMemory) near near_new far far_new input input_new output output_new h = absurd h

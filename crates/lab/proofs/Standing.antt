@@ -1,13 +1,10 @@
 -- What is carried between exchanges is what is carried between the abstract exchanges that they stand for.
-use Rattle.std.proofs.Common.{◌≡◌, ◌∙◌, ℕ, Option, Some, None, refl, sym, ap, subst}
+use Rattle.std.proofs.Common.{◌≡◌, ◌∙◌, ℕ, Option, refl, sym, ap, subst}
 use Rattle.std.specs.Option.{option_map}
-use Rattle.settings_rows.specs.Configuration.{Configuration}
 use Rattle.m2pa_codec.specs.Frames.{FrameValue, spelled}
-use Rattle.exchange_rules.specs.State.{Node, QueueKind, State}
 use Rattle.exchange_rules.specs.Queues.{whole}
 use Rattle.exchange_rules.specs.Happening.{WentDown, FrameCame}
-use Rattle.exchange_rules.specs.Sending.{Outgoing, SendsStatus, SendsMessage, Acknowledges, SendsNothing, frame_from, after_sending, goes_out}
-use Rattle.exchange_rules.specs.Exchange.{after, frame_to_take, taken}
+use Rattle.exchange_rules.specs.Exchange.{after, taken}
 use Rattle.exchange_rules.specs.Sound.{Abstract}
 use Rattle.exchange.specs.KeptQueues.{kept}
 use Rattle.exchange.specs.Stands.{Kept, StandsFor}
@@ -15,25 +12,6 @@ use Rattle.exchange.proofs.Standing.{stands-after, stands-outcome, stands-frame,
 use Rattle.lab.specs.Carrying.{Carriage, Carries, text_to_take}
 use Rattle.lab.specs.declared.carrying.Carried.{Carried}
 use Rattle.lab.specs.declared.carrying.Carried.TheVariants.{Nothing, Got, Lost}
-
--- ---- a take that gives nothing changes nothing
-
-nothing-sent : {Q : Type 0} (q : QueueKind Q) (c : Configuration) (link last_accepted last_sent : ℕ) (n : Node Q) (out : Outgoing)
-    → frame_from last_accepted last_sent out ≡ None → after_sending q c link n out ≡ n
-nothing-sent q c link last_accepted last_sent n (SendsStatus status) e = absurd cc
-nothing-sent q c link last_accepted last_sent n (SendsMessage next) e = absurd cc
-nothing-sent q c link last_accepted last_sent n Acknowledges e = absurd cc
-nothing-sent q c link last_accepted last_sent n SendsNothing e = refl
-
-no-text : (frame : Option FrameValue) → option_map spelled frame ≡ None → frame ≡ None
-no-text None e = refl
-no-text (Some frame) e = absurd cc
-
-pub nothing-taken : {Q : Type 0} (q : QueueKind Q) (s : State Q) (link : ℕ) → text_to_take q s link ≡ None → taken q s link ≡ s
-nothing-taken {Q = Q} q s link e =
-    ap (λ (n : Node Q). record { settings = s.settings; node = n })
-    (nothing-sent q s.settings link (q.last_accepted s.node.queues link) (q.last_sent s.node.queues link) s.node (goes_out q s.settings link s.node)
-    (no-text (frame_to_take q s link) e))
 
 -- ---- what is carried
 
