@@ -1,12 +1,12 @@
 -- Each word on what is kept of a queue is what is kept of that word on the queue.
-use Rattle.std.proofs.Common.{◌≡◌, ℕ, Bool, true, false, ◌+◌, ◌-◌, ◌%◌, ◌^◌, ◌<◌, ◌≤◌, ◌++◌, [], ◌∷◌, drop, arith, refl, Option, Some, None, Result, Ok, Err, nat_eq, if◌then◌else◌, sym, ap, ◌∙◌}
+use Rattle.std.proofs.Common.{◌≡◌, ℕ, Bool, true, false, ◌+◌, ◌-◌, ◌%◌, ◌^◌, ◌≤◌, ◌++◌, [], ◌∷◌, drop, arith, refl, Option, Some, None, Result, Ok, Err, nat_eq, if◌then◌else◌, sym, ap, ◌∙◌}
 use Rattle.std.proofs.lemmas.Grind.{common_steps}
 use Rattle.std.proofs.lemmas.List.{drop-drop, drop-append-le}
 use Rattle.signalling_types.specs.Message.{Message}
 use Rattle.signalling_types.specs.Numbers.{previous_number}
 use Rattle.link.specs.declared.fault.SeqFault.{SeqFault}
-use Rattle.link.specs.Queue.{Queue, IsQueue, Sending, first_queue, first_queue_at, newly_confirmed, expected, accept_answer, count_confirmed, after_answer, accepted, to_send, after_sending, sent_one, appended, emptied, last_sent, last_accepted, confirmation, unconfirmed}
-use Rattle.link.specs.Counts.{counts_of, kept_first, kept_first_at, kept_newly_confirmed, kept_expected, kept_accept_answer, kept_after_answer, kept_accepted, kept_to_send, kept_after_sending, kept_sent_one, kept_emptied, kept_last_sent, kept_last_accepted}
+use Rattle.link.specs.Queue.{Queue, IsQueue, Sending, newly_confirmed, expected, accept_answer, count_confirmed, after_answer, accepted, to_send, after_sending, sent_one, appended, last_sent, last_accepted, confirmation, unconfirmed}
+use Rattle.link.specs.Counts.{counts_of, kept_newly_confirmed, kept_expected, kept_accept_answer, kept_after_answer, kept_accepted, kept_to_send, kept_after_sending, kept_sent_one, kept_last_sent, kept_last_accepted}
 use Rattle.link.proofs.Named.{found_ahead, slice_get-drop}
 
 -- ---- numbers
@@ -22,14 +22,6 @@ sum-back confirmed sent h = omega arith
 
 previous-sum : (base confirmed sent : ℕ) → confirmed ≤ sent → previous_number ((base + confirmed) % 2 ^ 24 + (sent - confirmed)) ≡ previous_number (base + sent)
 previous-sum base confirmed sent h = omega arith
-
--- ---- the first queue
-
-pub counts-first : counts_of first_queue ≡ kept_first
-counts-first = refl
-
-pub counts-first_at : (number : ℕ) → number < 2 ^ 24 → counts_of (first_queue_at number) ≡ kept_first_at number
-counts-first_at number h = grind (arith, common_steps)
 
 -- ---- what a frame confirms
 
@@ -92,17 +84,8 @@ unconfirmed-sent_one q window = unconfirmed-after_sending q (to_send q window)
 
 -- ---- what is queued, and what is left of a link that failed
 
-pub counts-appended : (q : Queue) (m : Message) → counts_of (appended q m) ≡ counts_of q
-counts-appended q m = refl
-
 pub unconfirmed-appended : {w : ℕ} (q : Queue) (m : Message) → IsQueue w q → unconfirmed (appended q m) ≡ unconfirmed q ++ m ∷ []
 unconfirmed-appended q m h = drop-append-le q.confirmed q.all (m ∷ []) (omega (arith, h.confirmed, h.sent))
-
-pub counts-emptied : (q : Queue) → counts_of (emptied q) ≡ kept_emptied (counts_of q)
-counts-emptied q = refl
-
-pub unconfirmed-emptied : (q : Queue) → unconfirmed (emptied q) ≡ []
-unconfirmed-emptied q = refl
 
 -- ---- the last numbers
 

@@ -23,10 +23,6 @@ pub found_ahead : (base first many bsn : ℕ) → many < 2 ^ 24 →
 found_ahead base first many bsn h =
     rw (found base first (many + 1) (next_number bsn) (omega arith) (omega arith)) (ahead (steps_between ((base + first) % 2 ^ 24) (next_number bsn)) first many)
 
--- it is no further than the last of them
-pub within_many : (d many count : ℕ) → (if nat_le d many then Some d else None) ≡ Some count → count ≤ many
-within_many d many count e = grind (arith, common_steps, nat_tests)
-
 -- an element behind others
 pub slice_get-drop : {X : Type 0} (xs : List X) (n i : ℕ) → slice_get (drop n xs) i ≡ slice_get xs (n + i)
 slice_get-drop [] n i = grind (arith, common_steps)

@@ -8,13 +8,10 @@ use Rattle.signalling_types.specs.declared.limits.TheConstants.Limits.{WINDOW}
 use Rattle.link.specs.declared.fault.SeqFault.{SeqFault}
 use Rattle.signalling_types.specs.Numbers.{steps_between, next_number}
 use Rattle.link.proofs.Kept.{kept-newly_confirmed}
-use Rattle.link.specs.Queue.{Queue, IsQueue, confirmation, count_confirmed, forward_number, numbered, first_queue, first_queue_at, expected, accept_answer, after_answer, accepted, after_sending, sent_one, appended, emptied}
+use Rattle.link.specs.Queue.{Queue, IsQueue, confirmation, count_confirmed, forward_number, numbered, first_queue, expected, accept_answer, after_answer, accepted, after_sending, sent_one, appended, emptied}
 
 pub sound-first : (w : ℕ) → w ≤ WINDOW → IsQueue w first_queue
 sound-first w l = record { confirmed = omega arith; sent = omega arith; window = omega arith; limit = l }
-
-pub sound-first_at : (w number : ℕ) → w ≤ WINDOW → IsQueue w (first_queue_at number)
-sound-first_at w number l = record { confirmed = omega arith; sent = omega arith; window = omega arith; limit = l }
 
 pub sound-emptied : (w : ℕ) (q : Queue) → w ≤ WINDOW → IsQueue w (emptied q)
 sound-emptied w q l = record { confirmed = omega arith; sent = omega arith; window = omega arith; limit = l }
