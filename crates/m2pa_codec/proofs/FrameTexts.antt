@@ -1,7 +1,7 @@
 -- A text is a frame exactly where reading it gives a value.
 use Rattle.std.proofs.Common.{◌≡◌, ◌≢◌, ℕ, true, ◌+◌, ◌/◌, ◌%◌, ◌^◌, ◌<◌, ◌≤◌, List, [], ◌∷◌, ◌++◌, length, drop, Option, Some, None, Result, Ok, Err, refl, sym, ap, subst, ◌∙◌, ◌⊎◌, inl, inr, drop-cons, arith}
 use Rattle.std.proofs.lemmas.Bool.{cases_order, eq-eqb, ne_eqb}
-use Rattle.std.proofs.lemmas.List.{drop_all, nil_from_length, length-append, append-nil}
+use Rattle.std.proofs.lemmas.List.{drop_all}
 use Rattle.std.specs.Prelude.{slice_index, is_some, unwrap_or, IfOk, IfErr, IsOkAnd}
 use Rattle.std.specs.Int.{w32, to_be_bytes, from_be_bytes}
 use Rattle.std.proofs.lemmas.Nat.{from_be_bytes-to_be_bytes_4}
@@ -225,11 +225,6 @@ field_read text (Err fault) fits e = tt
 
 -- ---- the text that is written
 
-pub spelled-length : (value : FrameValue) → 16 ≤ length (spelled value)
-spelled-length (EmptyFrame bsn fsn) = omega arith
-spelled-length (MessageFrame bsn fsn sio sif) = omega arith
-spelled-length (StatusFrame bsn fsn status) = omega arith
-
 pub spelled-is_frame : (value : FrameValue) → IsSayable value → IsFrame (spelled value) value
 spelled-is_frame (EmptyFrame bsn fsn) h =
     record { spare = 0; before_bsn = 0; before_fsn = 0; parts = refl; length_fits = h.length_fits; bsn_fits = h.bsn_fits; fsn_fits = h.fsn_fits }
@@ -243,22 +238,3 @@ spelled-is_frame (StatusFrame bsn fsn status) h =
 -- what is written reads back
 pub read_frame-spelled : (value : FrameValue) → IsSayable value → read_frame (spelled value) ≡ Ok value
 read_frame-spelled value h = is_frame-read_frame (spelled value) value (spelled-is_frame value h)
-
--- ---- no frame begins another
-
-pub length_field-front : (text : List ℕ) (spare kind len : ℕ) (behind rest : List ℕ) → text ≡ common_header spare kind len ++ behind → len < 2 ^ 32 → length_field (text ++ rest) ≡ len
-length_field-front text spare kind len behind rest e h = rw e (from_be_bytes-to_be_bytes_4 len h)
-
-pub headed-announces : (text : List ℕ) (kind bsn fsn : ℕ) (body rest : List ℕ) → IsHeaded text kind bsn fsn body → length_field (text ++ rest) ≡ length text
-headed-announces text kind bsn fsn body rest h = length_field-front text h.spare kind (length text) (number_header h.before_bsn bsn h.before_fsn fsn ++ body) rest h.parts h.length_fits
-
--- the length field stands in the frame, and what follows doesn't change it
-pub is_frame-announces : (text rest : List ℕ) (value : FrameValue) → IsFrame text value → length_field (text ++ rest) ≡ length text
-is_frame-announces text rest (EmptyFrame bsn fsn) h = headed-announces text user_data bsn fsn [] rest h
-is_frame-announces text rest (MessageFrame bsn fsn sio sif) (priority, h) = headed-announces text user_data bsn fsn (priority ∷ sio ∷ sif) rest h
-is_frame-announces text rest (StatusFrame bsn fsn status) (filler, h) = headed-announces text link_status bsn fsn (state_octets status ++ filler) rest h
-
-pub no_rest : (x y rest : List ℕ) (v w : FrameValue) → IsFrame x v → IsFrame y w → x ++ rest ≡ y → rest ≡ []
-no_rest x y rest v w h k e =
-    let same : length x ≡ length y = sym (is_frame-announces x rest v h) ∙ ap length_field (e ∙ sym (append-nil y)) ∙ is_frame-announces y [] w k in
-    nil_from_length rest (omega (arith, same, length-append x rest, ap length e))
