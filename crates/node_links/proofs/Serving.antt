@@ -1,5 +1,5 @@
 -- Which links are in service, as one of them changes.
-use Rattle.std.proofs.Common.{◌≡◌, ◌∷◌, ℕ, Bool, false, true, List, replicate, zero, suc, refl, ap, sym, ◌∙◌}
+use Rattle.std.proofs.Common.{◌≡◌, ◌∷◌, ℕ, Bool, false, List, replicate, zero, suc, refl, ap, sym, ◌∙◌}
 use Rattle.std.specs.Prelude.{slice_index_or, slice_set}
 use Rattle.std.proofs.Math.ListN.{get_or-map}
 use Rattle.std.proofs.lemmas.List.{map-set, set-get_or, set-set}
@@ -33,14 +33,6 @@ pub serving_without : (links : List Link) (link : ℕ) (state : Link) → is_in_
 serving_without links link state e =
     ap (λ (bs : List Bool). slice_set bs link false) (serving_set links link state)
     ∙ set-set (serving links) link (is_in_service state.alignment) false
-    ∙ sym (ap (λ (b : Bool). slice_set (serving links) link b) (get_or-map (λ (l : Link). is_in_service l.alignment) links link down_link ∙ e))
-    ∙ set-get_or (serving links) link false
-
--- a link in service is taken out, and put back
-pub serving_again : (links : List Link) (link : ℕ) → is_in_service (link_in links link).alignment ≡ true
-    → slice_set (slice_set (serving links) link false) link true ≡ serving links
-serving_again links link e =
-    set-set (serving links) link false true
     ∙ sym (ap (λ (b : Bool). slice_set (serving links) link b) (get_or-map (λ (l : Link). is_in_service l.alignment) links link down_link ∙ e))
     ∙ set-get_or (serving links) link false
 
