@@ -21,9 +21,6 @@ empty-or (m ∷ ms) = inr (λ e. absurd cc)
 pub not-empty : (m : Message) (ms : List Message) → m ∷ ms ≢ []
 not-empty m ms e = absurd cc
 
-pub same-head : (a b : Message) (xs ys : List Message) → a ∷ xs ≡ b ∷ ys → a ≡ b
-same-head a b xs ys e = cc
-
 pub same-tail : (a b : Message) (xs ys : List Message) → a ∷ xs ≡ b ∷ ys → xs ≡ ys
 same-tail a b xs ys e = cc
 

@@ -11,13 +11,6 @@ use Rattle.pair_moves.specs.Order.{of_flow, IsInOrder}
 use Rattle.pair_moves.proofs.Joins.{flow-append}
 use Rattle.pair_moves.proofs.OrderSame.{moved-over, there-side, there-quiet, there-line-same, back-side, back-line}
 
--- the lists of the flow before and behind a message that goes from one to the other
-one-across : (t w l : List Message) (m : Message) → t ++ ((w ++ m ∷ []) ++ l) ≡ t ++ (w ++ (m ∷ l))
-one-across t w l m = ap (λ (xs : List Message). t ++ xs) (append_assoc w (m ∷ []) l)
-
-one-taken : (r w b : List Message) (m : Message) → (r ++ m ∷ []) ++ (w ++ b) ≡ r ++ ((m ∷ w) ++ b)
-one-taken r w b m = append_assoc r (m ∷ []) (w ++ b)
-
 module _ (read : Message → Saying) (flow : Flow) (p q : Pair) where
   abbrev of : List Message → List Message
   of ms = of_flow read flow ms
