@@ -43,16 +43,6 @@ pub facing-back : (c z : Configuration) → AreFacing c z → AreFacing z c
 facing-back c z f = record { near_joined = f.far_joined; far_joined = f.near_joined; apart = λ e. f.apart (sym e); network = sym f.network; says = sym f.says }
 
 module _ (c z : Configuration) (a : AreFacing c z) where
-  -- moves at the far node, seen from here
-  from-far : (u v : World) → Goes (says_of z.links) (shown z c (turned_world u)) (shown z c (turned_world v)) → Goes (says_of c.links) (shown c z u) (shown c z v)
-  from-far u v g =
-      subst (λ (read : Message → Saying). Goes read (shown c z u) (shown c z v)) (sym a.says)
-      (subst (λ (p : Pair). Goes (says_of z.links) (shown c z u) p) (back v) (subst (λ (p : Pair). Goes (says_of z.links) p (ends.turned (shown z c (turned_world v)))) (back u)
-      (goes-turned (says_of z.links) (shown z c (turned_world u)) (shown z c (turned_world v)) g)))
-    where
-      back : (w : World) → ends.turned (shown z c (turned_world w)) ≡ shown c z w
-      back w = sym (shown-turned z c (turned_world w) (sym a.near_joined.many))
-
   -- the pair as the far end sees it
   pub stands-turned : (p : PairState) → Stands c z p → Stands z c (turned p)
   stands-turned p s = record {

@@ -29,9 +29,6 @@ pub record StaysAlone (n m : Node WholeQueues) : Type 0 where
 allowed-route : (r : Route) → r.set ≡ 0 → ((status : RouteStatus) → option_map (λ (x : Route). x.status) (if nat_eq r.set 0 then Some r else None) ≡ Some status → status ≡ Allowed) → r.status ≡ Allowed
 allowed-route r e h = h r.status (ap (λ (s : ℕ). option_map (λ (x : Route). x.status) (if nat_eq s 0 then Some r else None)) e)
 
-no-list : {A : Type 0} {B : Type 0} (x : A) (xs : List A) → x ∷ xs ≡ [] → B
-no-list x xs e = absurd cc
-
 same-row : (rs : List Route) → map any_status rs ≡ first_route 0 ∷ []
     → ((status : RouteStatus) → option_map (λ (x : Route). x.status) (find (λ (r : Route). nat_eq r.set 0) rs) ≡ Some status → status ≡ Allowed) → rs ≡ first_route 0 ∷ []
 same-row [] e h = absurd cc

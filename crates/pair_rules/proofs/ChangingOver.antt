@@ -27,7 +27,7 @@ use Rattle.changeover.specs.Standing.{Standing, acknowledged, completed, no_chan
 use Rattle.changeover.specs.Completion.{behind, managements_of}
 use Rattle.node_links.specs.Link.{Link}
 use Rattle.node_links.specs.LinkState.{after_failure, down_link, is_down}
-use Rattle.exchange_rules.specs.State.{Node, Parts, lost_any, with_parts}
+use Rattle.exchange_rules.specs.State.{Node, Parts, with_parts}
 use Rattle.exchange_rules.specs.Links.{down, in_service, link_at, links_with}
 use Rattle.exchange_rules.specs.Queues.{WholeQueues, queue_at, whole}
 use Rattle.exchange_rules.specs.Failing.{begin_by_peer, changeover_of, fail_by_peer, make_unavailable, with_changeover}
@@ -42,9 +42,9 @@ use Rattle.exchange_rules.proofs.SteppingFailures.{concluded-steps}
 use Rattle.pair_moves.specs.Sayings.{Order, Answer}
 use Rattle.pair_moves.specs.Moves as moves
 use Rattle.pair_rules.proofs.World.{World, says_of, said_by, unsaid}
-use Rattle.pair_rules.proofs.Good.{Each, IsBetween, IsJoined, IsWord, IsWritable, Good, Passes, passes-none, passes-both, at, previous-fits}
+use Rattle.pair_rules.proofs.Good.{Each, IsBetween, IsJoined, IsWord, IsWritable, Passes, passes-none, passes-both, at, previous-fits}
 use Rattle.pair_rules.proofs.Good as good
-use Rattle.pair_rules.proofs.Going.{goes-one, goes-lost}
+use Rattle.pair_rules.proofs.Going.{goes-one}
 use Rattle.pair_rules.proofs.Lines.{link-here}
 use Rattle.pair_rules.proofs.Messages.{send_routed-passes}
 use Rattle.pair_rules.proofs.Failures.{fail_by_peer-passes}
@@ -272,10 +272,3 @@ module _ (c z : Configuration) (j : IsJoined c z) where
 
     pub acknowledgement-passes : Passes c z (at c z w n (m ∷ rest) []) (at c z w (on_changeover_acknowledgement whole c link (Some number) n).left rest [])
     acknowledgement-passes = acknowledgement-by (changeover_of n.parts link).awaited refl
-
-  -- ---- a timer of the changeover runs out
-
-  -- whether a changeover was incomplete or T2 ran out, a message may be lost
-  gives-up : (w : World) (n o : Node WholeQueues) (arrived : List Message) → lost_any o.parts ≡ true → (Good c z (at c z w n arrived []) → Good c z (at c z w o arrived []))
-      → Passes c z (at c z w n arrived []) (at c z w o arrived [])
-  gives-up w n o arrived lost good = record { goes = λ g. goes-lost (says_of c.links) _ _ lost; good = good }

@@ -58,9 +58,6 @@ says-word links m word e f =
 pub for-users : (m : Message) (a b : Bool) → is_management m ≡ a → is_sccp m ≡ b → for_users (m ∷ []) ≡ (if not a && not b then m ∷ [] else [])
 for-users m a b e f = ap (λ (x : Bool). if not x && not (is_sccp m) then m ∷ [] else []) e ∙ ap (λ (y : Bool). if not a && not y then m ∷ [] else []) f
 
-word-no-test : (si : ℕ) → si ≡ 0 → nat_eq si 1 ≡ false
-word-no-test si e = ap (λ (n : ℕ). nat_eq n 1) e
-
 module _ (c z : Configuration) (j : IsJoined c z) where
   -- one more message for the user parts here
   abbrev pub receiving : World → List Message → World

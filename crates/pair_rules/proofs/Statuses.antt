@@ -2,7 +2,6 @@
 use Rattle.std.proofs.Common.{inl, inr, ◌≡◌, ◌&&◌, ℕ, Bool, true, false, List, [], length, zero, suc, Option, Some, None, refl, ap, sym, subst, ◌∙◌, nat_eq, nat_lt}
 use Rattle.std.specs.Prelude.{if◌then◌else◌, find, slice_index_or}
 use Rattle.std.specs.Option.{option_map}
-use Rattle.signalling_types.specs.Message.{Message}
 use Rattle.signalling_types.specs.declared.notice.FailureReason.{FailureReason}
 use Rattle.signalling_types.specs.declared.notice.FailureReason.TheVariants as reasons
 use Rattle.signalling_types.specs.declared.notice.ChangeoverTimer.TheVariants as timer
@@ -58,11 +57,6 @@ use Rattle.pair_rules.proofs.Returns.{advance-passes}
 use Rattle.pair_rules.proofs.Lates.{late_time-passes, late_code-passes, rerouting_ended-passes}
 
 module _ (c z : Configuration) (j : IsJoined c z) where
-  either-passes : (b : Bool) (w : World) (n o x : Node WholeQueues) (arrived : List Message) → Passes c z (at c z w n arrived []) (at c z w o arrived [])
-      → Passes c z (at c z w n arrived []) (at c z w x arrived []) → Passes c z (at c z w n arrived []) (at c z w (if b then o else x) arrived [])
-  either-passes true w n o x arrived e f = e
-  either-passes false w n o x arrived e f = f
-
   either_done-passes : (b : Bool) (w : World) (n : Node WholeQueues) (d e : Done WholeQueues) → Passes c z (at c z w n [] []) (at c z w d.left [] [])
       → Passes c z (at c z w n [] []) (at c z w e.left [] []) → Passes c z (at c z w n [] []) (at c z w (if b then d else e).left [] [])
   either_done-passes true w n d e f g = f

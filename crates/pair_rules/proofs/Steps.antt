@@ -61,9 +61,6 @@ pub outcome-same : (c : Configuration) (what : Happening) (n : Node WholeQueues)
 unfolding apply
 outcome-same c what n = refl
 
-equal : (a b : ℕ) → nat_eq a b ≡ true → a ≡ b
-equal a b h = grind (arith, nat_tests, h)
-
 -- ---- where a message goes
 
 abbrev decided : (long short ours own : Bool) → Label → Discrimination

@@ -1,23 +1,13 @@
 -- The same, seen from the far node.
-use Rattle.std.proofs.Common.{◌≡◌, ℕ, List, [], ◌∷◌, map, length, refl, ap, sym, subst, ◌∙◌}
+use Rattle.std.proofs.Common.{◌≡◌, ℕ, List, [], ◌∷◌, map, length, refl, ap, ◌∙◌}
 use Rattle.signalling_types.specs.Message.{Message}
 use Rattle.settings_rows.specs.Configuration.{Configuration}
-use Rattle.settings.specs.Facing.{IsFacing}
-use Rattle.exchange_rules.proofs.FacingNodes.{links-alike}
 use Rattle.pair_moves.specs.Sayings.{Saying}
-use Rattle.pair_moves.specs.Ends.{Pair, turned, first_pair}
+use Rattle.pair_moves.specs.Ends.{Pair, turned}
 use Rattle.pair_moves.specs.Moves.{Move, Moves, last_of}
 use Rattle.pair_moves.specs.Moves as moves
 use Rattle.pair_rules.proofs.Going.{Goes}
-use Rattle.pair_rules.proofs.World.{World, turned_world, says_of, shown}
-use Rattle.pair_rules.proofs.Reading.{says-alike}
-use Rattle.pair_rules.proofs.First.{first_world}
-
-pub turned-twice : (p : Pair) → turned (turned p) ≡ p
-turned-twice p = refl
-
-pub turned-first : (links : ℕ) → turned (first_pair links) ≡ first_pair links
-turned-first links = refl
+use Rattle.pair_rules.proofs.World.{World, turned_world, shown}
 
 module _ (read : Message → Saying) where
   -- a move of one node is a move of the other, as that sees it
@@ -43,21 +33,3 @@ module _ (read : Message → Saying) where
 -- what is shown of two nodes, by either
 pub shown-turned : (near far : Configuration) (w : World) → length far.links ≡ length near.links → shown far near (turned_world w) ≡ turned (shown near far w)
 shown-turned near far w e = ap (λ (links : ℕ). record (turned (shown near far w)) { links = links }) e
-
-pub world-turned-twice : (w : World) → turned_world (turned_world w) ≡ w
-world-turned-twice w = refl
-
-pub first-turned : (near far : Configuration) → turned_world (first_world near far) ≡ first_world far near
-first-turned near far = refl
-
--- what goes by moves as the far node shows it, goes so as the near node does
-pub far-goes : (near far : Configuration) → IsFacing near far → (v w : World)
-    → Goes (says_of far.links) (shown far near (turned_world v)) (shown far near (turned_world w)) → Goes (says_of near.links) (shown near far v) (shown near far w)
-far-goes near far f v w g =
-    subst (λ (read : Message → Saying). Goes read (shown near far v) (shown near far w)) (sym (says-alike near far f))
-    (subst (λ (p : Pair). Goes (says_of far.links) p (shown near far w)) (back v)
-    (subst (λ (q : Pair). Goes (says_of far.links) (turned (shown far near (turned_world v))) q) (back w)
-    (goes-turned (says_of far.links) (shown far near (turned_world v)) (shown far near (turned_world w)) g)))
-  where
-    back : (u : World) → turned (shown far near (turned_world u)) ≡ shown near far u
-    back u = ap turned (shown-turned near far u (sym (links-alike near far f)))
