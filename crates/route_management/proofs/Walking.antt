@@ -4,23 +4,19 @@ use Rattle.std.proofs.Common.{add-one}
 use Rattle.std.specs.Prelude.{Option, Some, None, slice_get, slice_index_or, slice_set}
 use Rattle.std.specs.List.{AllByRecursion, range_with_len, filter_map, cons_option}
 use Rattle.std.specs.Option.{option_map}
-use Rattle.std.proofs.lemmas.List.{get_or-set_other, length-set}
+use Rattle.std.proofs.lemmas.List.{get_or-set_other}
 use Rattle.routes.specs.declared.route.RouteStatus.{RouteStatus}
 use Rattle.routes.specs.Facts.{Facts}
 use Rattle.route_management.specs.Told.{ToldTable, is_number, is_own_point, row_of, told_at, with_told}
-use Rattle.route_management.specs.Owed.{Owed, status_to_advertise, is_reachable, owed_at, owed_from, owed_to, owed_by_sets, all_told}
-use Rattle.route_management.proofs.Rows.{rows_as_long}
+use Rattle.route_management.specs.Owed.{Owed, status_to_advertise, is_reachable, owed_at, owed_from, owed_to, owed_by_sets}
 use Rattle.route_management.proofs.Owing.{owed_by, other_destinations}
-use Rattle.route_management.proofs.Listing.{as_many, as_long, none_of_point}
+use Rattle.route_management.proofs.Listing.{none_of_point}
 
 -- ---- one destination after the other
 
 -- a word about a destination, if it is owed
 abbrev word_about : (set destination : ℕ) → Option RouteStatus → Option Owed
 word_about set destination = option_map (λ status. record { set = set; destination = destination; status = status })
-
-pub none_left : (f : Facts) (t : ToldTable) (set from : ℕ) → owed_from f t set from 0 ≡ []
-none_left f t set from = refl
 
 -- what one more destination adds
 next_by : (f : Facts) (t : ToldTable) (set from count : ℕ) (o : Option RouteStatus) → owed_at f t set from ≡ o
@@ -49,9 +45,6 @@ later_stay_owed f t set destination from (suc count) status l =
 
 -- ---- one set after the other
 
-pub no_set_left : (f : Facts) (t : ToldTable) (from : ℕ) → owed_by_sets f t from 0 ≡ []
-no_set_left f t from = refl
-
 pub next_set : (f : Facts) (t : ToldTable) (from count : ℕ)
     → owed_by_sets f t from (suc count) ≡ owed_to f t from ++ owed_by_sets f t (suc from) count
 next_set f t from count = ap (λ (n : ℕ). owed_to f t from ++ owed_by_sets f t n count) (add-one from)
@@ -62,14 +55,6 @@ pub row_kept : (set other destination : ℕ) (status : RouteStatus) (t : ToldTab
     → row_of (with_told set destination status t) other ≡ row_of t other
 row_kept set other destination status t apart =
     get_or-set_other t.rows set other (slice_set (row_of t set) destination status) [] (λ e. apart (sym e))
-
-pub row_length : (set any destination : ℕ) (status : RouteStatus) (t : ToldTable)
-    → length (row_of (with_told set destination status t) any) ≡ length (row_of t any)
-row_length set any destination status t = rows_as_long t.rows set any destination status
-
-pub rows_count : (set destination : ℕ) (status : RouteStatus) (t : ToldTable)
-    → length (with_told set destination status t).rows ≡ length t.rows
-rows_count set destination status t = length-set t.rows set (slice_set (row_of t set) destination status)
 
 -- all of these go to the adjacent point of one set
 abbrev pub AreTo : ℕ → List Owed → Type 0
@@ -82,23 +67,6 @@ owed_are_to f t set from (suc count) =
       | None ↦ owed_are_to f t set (from + 1) count
       | Some status ↦ (refl, owed_are_to f t set (from + 1) count)
     ]
-
-pub row_kept_by_all : (set other : ℕ) (os : List Owed) (t : ToldTable) → AreTo set os → set ≢ other
-    → row_of (all_told os t) other ≡ row_of t other
-row_kept_by_all set other [] t to apart = refl
-row_kept_by_all set other (o ∷ os) t to apart =
-    row_kept_by_all set other os (with_told o.set o.destination o.status t) to.1 apart
-    ∙ row_kept o.set other o.destination o.status t (λ e. apart (sym to.0 ∙ e))
-
-pub row_length_by_all : (any : ℕ) (os : List Owed) (t : ToldTable) → length (row_of (all_told os t) any) ≡ length (row_of t any)
-row_length_by_all any os t = as_long os t any
-
-pub rows_count_by_all : (os : List Owed) (t : ToldTable) → length (all_told os t).rows ≡ length t.rows
-rows_count_by_all os t = as_many os t
-
-pub adjacents_kept_by_all : (os : List Owed) (t : ToldTable) → (all_told os t).adjacents ≡ t.adjacents
-adjacents_kept_by_all [] t = refl
-adjacents_kept_by_all (o ∷ os) t = adjacents_kept_by_all os (with_told o.set o.destination o.status t)
 
 -- ---- what stays owed
 
