@@ -1,5 +1,5 @@
 -- A link that was taken out of service is put back as it was.
-use Rattle.std.proofs.Common.{◌≡◌, ℕ, Bool, false, List, ap, sym, ◌∙◌}
+use Rattle.std.proofs.Common.{◌≡◌, ℕ, Bool, false, List, ap, ◌∙◌}
 use Rattle.std.proofs.lemmas.List.{set-set, set-get_or}
 use Rattle.std.specs.Prelude.{slice_set}
 use Rattle.routes.specs.Preference.{is_in_service}
@@ -9,9 +9,3 @@ pub put_back : (f : Facts) (link : ℕ) (was : Bool) → was ≡ is_in_service f
 put_back f link was e =
     ap (λ (bs : List Bool). record { sets = f.sets; in_service = bs; routes = f.routes })
     (set-set f.in_service link false was ∙ ap (λ (b : Bool). slice_set f.in_service link b) e ∙ set-get_or f.in_service link false)
-
--- a link that is as it is to be stays
-pub stays : (f : Facts) (link : ℕ) (up : Bool) → is_in_service f.in_service link ≡ up → f ≡ with_link link up f
-stays f link up e =
-    ap (λ (bs : List Bool). record { sets = f.sets; in_service = bs; routes = f.routes })
-    (sym (set-get_or f.in_service link false) ∙ ap (λ (b : Bool). slice_set f.in_service link b) e)
