@@ -27,12 +27,6 @@ less-is_lt Less e = refl
 less-is_lt Equal e = absurd cc
 less-is_lt Greater e = absurd cc
 
--- a place that doesn't come before another stands at it or behind it
-from_not_lt : (o : Ordering) → is_lt o ≡ false → (o ≡ Equal) ⊎ (o ≡ Greater)
-from_not_lt Less e = absurd cc
-from_not_lt Equal e = inl refl
-from_not_lt Greater e = inr refl
-
 -- what comes behind a place that stands at another or behind it, comes behind that
 less-then : (a b c : List ℕ) → place_order a b ≡ Less → place_order b c ≡ Less → place_order a c ≡ Less
 less-then a b c e f = total.trans a b c e f

@@ -1,5 +1,5 @@
 -- The longest way that is there behind the digits of a key is that of the row by which its addresses are translated.
-use Rattle.std.proofs.Common.{◌≡◌, ℕ, ◌+◌, ◌*◌, ◌<◌, ◌≤◌, ◌^◌, ◌/◌, ◌%◌, Bool, true, false, cond, List, ◌++◌, length, get_or, take, Option, Some, None, refl, sym, ap, subst, ◌∙◌, inl, inr, arith}
+use Rattle.std.proofs.Common.{◌≡◌, ℕ, ◌+◌, ◌*◌, ◌<◌, ◌≤◌, ◌^◌, ◌/◌, ◌%◌, Bool, true, cond, List, ◌++◌, length, get_or, take, Option, Some, None, refl, sym, ap, subst, ◌∙◌, inl, inr, arith}
 use Rattle.std.proofs.lemmas.Bool.{and_parts, cases_lt, eq-eqb, eqb-true, ne_eqb, lt-ltb, le-ltb}
 use Rattle.std.proofs.lemmas.List.{get_or_default, length-take, length-take-le}
 use Rattle.std.proofs.lemmas.List.Elements.{All-get_or}
@@ -70,10 +70,6 @@ led-same key digits row is s =
     ∙ row-back row is
 
 -- ---- rows that lead digits
-
-and-true : (a b : Bool) → a ≡ true → b ≡ true → cond a b false ≡ true
-and-true true b e f = f
-and-true false b e f = e
 
 key-true : (key : TitleKey) (digits : List ℕ) (row : TitleEntry) → SameWay key digits row → has_key key row ≡ true
 key-true key digits row s = rw (eq-eqb row.translation key.translation s.translation, eq-eqb row.plan key.plan s.plan, eq-eqb row.nature key.nature s.nature) refl

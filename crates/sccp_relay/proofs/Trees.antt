@@ -1,21 +1,18 @@
 -- Nodes stay a tree: with one more, and where something else stands at one.
 use Rattle.std.proofs.Common.{◌≡◌, ◌≢◌, ℕ, ◌<◌, ◌+◌, Bool, true, false, cond, List, [], ◌∷◌, ◌++◌, length, Option, Some, None, refl, sym, ap, ◌∙◌, inl, inr, arith}
 use Rattle.std.proofs.lemmas.Bool.{cases_eq, eq-eqb, ne_eqb}
-use Rattle.std.proofs.lemmas.List.{length-set, get_or-set_same, get_or-set_other}
+use Rattle.std.proofs.lemmas.List.{get_or-set_same, get_or-set_other}
 use Rattle.std.specs.Cmp.Lexicographic.{bytes_decides}
 use Rattle.std.specs.Prelude.{nat_eq}
 use Rattle.std.specs.Str.{bytes_eq}
 use Rattle.sccp_relay.specs.Digits.{without}
 use Rattle.sccp_relay.specs.declared.node.Node.{Node}
-use Rattle.sccp_relay.specs.Nodes.{IsTree, node_at, child, value, reached, root, stored, with_value_at, value_there}
+use Rattle.sccp_relay.specs.Nodes.{IsTree, child, value, reached, root, stored, with_value_at, value_there}
 use Rattle.sccp_relay.proofs.Walking.{same-digits}
 use Rattle.sccp_relay.proofs.Linking.{IsLinked}
 use Rattle.sccp_relay.proofs.Rows.{child_in, grown, grown-length, grown-linked, grown-wide, past}
 
 -- ---- no nodes, and the root alone
-
-no-child : (k e : ℕ) → child [] k e ≡ 0
-no-child k e = refl
 
 pub empty-tree : IsTree []
 empty-tree = record {
@@ -96,22 +93,6 @@ put-child nodes at v k e lt =
       | inl here ↦ rw here (ap (λ (n : Node). child_in n e) (get_or-set_same nodes at _ _ lt))
       | inr other ↦ ap (λ (n : Node). child_in n e) (get_or-set_other nodes at k _ _ other)
     ]
-
-put-wide : (nodes : List Node) (at : ℕ) (v : Option ℕ) (k : ℕ) → at < length nodes → length (node_at (with_value_at nodes at v) k).children ≡ length (node_at nodes k).children
-put-wide nodes at v k lt =
-    elim (cases_eq k at) [
-      | inl here ↦ rw here (ap (λ (n : Node). length n.children) (get_or-set_same nodes at _ _ lt))
-      | inr other ↦ ap (λ (n : Node). length n.children) (get_or-set_other nodes at k _ _ other)
-    ]
-
-pub put-tree : (nodes : List Node) (at : ℕ) (v : Option ℕ) → IsTree nodes → at < length nodes → IsTree (with_value_at nodes at v)
-put-tree nodes at v t lt = record {
-  path = t.path;
-  at_root = t.at_root;
-  wide = λ k within. put-wide nodes at v k lt ∙ t.wide k (rw (← length-set nodes at (record (node_at nodes at) { value = v })) within);
-  within = λ k e there. rw (length-set nodes at (record (node_at nodes at) { value = v }), put-child nodes at v k e lt) (t.within k e (λ z. there (put-child nodes at v k e lt ∙ z)));
-  leads = λ k e there. ap t.path (put-child nodes at v k e lt) ∙ t.leads k e (λ z. there (put-child nodes at v k e lt ∙ z));
-}
 
 -- what stands at digits, where something else stands at these
 abbrev pub but_at : (List ℕ → Option ℕ) → List ℕ → Option ℕ → List ℕ → Option ℕ
