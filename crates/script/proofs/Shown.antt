@@ -14,7 +14,7 @@ use Rattle.script.specs.Streams.{AppendsFirst}
 use Rattle.script.specs.Showing.{line_of, most_lines, ended, first_lines, shown_text}
 use Rattle.script.specs.declared.line.Show.{Show}
 use Rattle.script.specs.declared.line.Show.TheVariants.{Links, Routes, Titles, Notices, Flags}
-use Rattle.script.proofs.Appending.{appends-appends, appends-first, appends-nothing}
+use Rattle.script.proofs.Appending.{appends-first, appends-nothing}
 
 -- ---- of what is kept, and of the whole
 
@@ -44,16 +44,6 @@ shown-stands what a s =
     ∙ lines-alike (line_of kept what (kept_of a)) (line_of whole what a) (most_lines what a) (λ k. line-stands what k a s)
 
 -- ---- as they are written
-
-pub lines-none : (w : Option (List ℕ)) → Appends w w []
-lines-none w = appends-nothing w
-
--- one line more
-pub lines-next : (line : ℕ → Option (List ℕ)) (k : ℕ) (w0 w1 w2 : Option (List ℕ)) → Appends w0 w1 (first_lines line k) → Appends w1 w2 (ended (line k))
-    → Appends w0 w2 (first_lines line (k + 1))
-lines-next line k w0 w1 w2 h t =
-    let next : suc k ≡ k + 1 = omega arith in
-    subst (λ n. Appends w0 w2 (first_lines line n)) next (appends-appends w0 w1 w2 (first_lines line k) (ended (line k)) h t)
 
 take-within : (n : ℕ) (xs zs : List ℕ) → take (length (take n xs)) (xs ++ zs) ≡ take n xs
 take-within zero xs zs = refl

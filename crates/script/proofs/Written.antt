@@ -1,6 +1,6 @@
 -- Known octets that grow by one piece after another.
-use Rattle.std.proofs.Common.{ℕ, ◌+◌, List, Option, None, Some, take, drop, ◌∙◌, append_assoc}
-use Rattle.std.specs.Io.KnownBytes.{Appends, Keeps}
+use Rattle.std.proofs.Common.{ℕ, ◌+◌, List, Option, None, Some, take, drop, append_assoc}
+use Rattle.std.specs.Io.KnownBytes.{Appends}
 use Rattle.std.proofs.Math.Seq.{take-add}
 
 -- what grew by the first n and then by the next m grew by the first n + m
@@ -10,10 +10,3 @@ written_more None b c xs n m h k = tt
 written_more (Some xs0) None c xs n m h k = absurd h
 written_more (Some xs0) (Some xs1) None xs n m h k = absurd k
 written_more (Some xs0) (Some xs1) (Some xs2) xs n m h k = rw (take-add n m xs, k, h) (append_assoc xs0 (take n xs) (take m (drop n xs)))
-
--- what grew, and was then kept, grew
-pub written_kept : (a b c : Option (List ℕ)) (xs : List ℕ) → Appends a b xs → Keeps b c → Appends a c xs
-written_kept None b c xs h k = tt
-written_kept (Some xs0) None c xs h k = absurd h
-written_kept (Some xs0) (Some xs1) None xs h k = absurd k
-written_kept (Some xs0) (Some xs1) (Some xs2) xs h k = k ∙ h
