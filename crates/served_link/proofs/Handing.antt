@@ -1,5 +1,5 @@
 -- Texts that are handed in, a few and then some more.
-use Rattle.std.proofs.Common.{◌≡◌, ℕ, ◌<◌, ◌≤◌, ◌-◌, ◌∙◌, Bool, false, List, [], ◌∷◌, ◌++◌, length, take, drop, if◌then◌else◌, Ok, Err, refl, sym, ap, subst, arith, append_assoc, append-nil}
+use Rattle.std.proofs.Common.{◌≡◌, ℕ, ◌<◌, ◌≤◌, ◌-◌, ◌∙◌, Bool, false, List, [], ◌∷◌, ◌++◌, length, take, drop, if◌then◌else◌, Err, refl, sym, ap, subst, arith, append_assoc, append-nil}
 use Rattle.std.proofs.lemmas.List.{length-append, length-take, length-drop, take_all, drop_at, take-append-drop}
 use Rattle.std.proofs.lemmas.List.Elements.{All-nil, All-push, All-append}
 use Rattle.std.proofs.lemmas.List.Folds.{concat-append}
@@ -35,9 +35,6 @@ sees-append sees (x ∷ xs) ys u v w a b = (a.0, a.1, sees-append sees xs ys a.0
 -- ---- what is handed in
 
 module _ {W Q : Type 0} (sees : W → Sight → W → Type 0) (q : QueueKind Q) (link : ℕ) where
-  pub hands-nothing : (held : List ℕ) (s : State Q) (w : W) → HandsIn sees q link held held s s w w
-  hands-nothing held s w = record { texts = []; parts = refl; whole = All-nil IsText; handed_in = refl; seen = refl }
-
   pub hands-one : (octets text held : List ℕ) (s t : State Q) (w x : W) → octets ≡ text ++ held → IsText text → t ≡ after q (FrameCame link text) s
       → sees w (CameIn link text (outcome_of q (FrameCame link text) s)) x → HandsIn sees q link octets held s t w x
   hands-one octets text held s t w x parts whole state seen = record {
@@ -135,21 +132,6 @@ module _ {W Q : Type 0} (sees : W → Sight → W → Type 0) (q : QueueKind Q) 
   behind-parts octets rest held now s t w x h =
       ap (λ (ys : List ℕ). held ++ ys) h.parts ∙ sym (append_assoc held h.read rest) ∙ ap (λ (ys : List ℕ). ys ++ rest) h.handed_in.parts
       ∙ append_assoc (concat h.handed_in.texts) now rest
-
-  pub read-all : {A : Type 0} (done : A) (octets rest held now : List ℕ) (s t : State Q) (w x : W) → rest ≡ [] → HasRead sees q link octets rest held now s t w x → next_in now ≡ Wait
-      → Reads sees q link octets (Ok done) held now s t w x
-  read-all done octets rest held now s t w x none h waits = record {
-    texts = h.handed_in.texts;
-    rest = now;
-    cut = record {
-      parts = behind-parts octets rest held now s t w x h ∙ ap (λ (ys : List ℕ). concat h.handed_in.texts ++ (now ++ ys)) none ∙ ap (λ (ys : List ℕ). concat h.handed_in.texts ++ ys) (append-nil now);
-      cut = h.handed_in.whole;
-      end = subst NoText (sym waits) tt;
-    };
-    handed_in = h.handed_in.handed_in;
-    seen = h.handed_in.seen;
-    left = (waits, refl);
-  }
 
   pub read-broken : {A : Type 0} (why : Broken) (octets rest held now : List ℕ) (s t : State Q) (w x : W) → HasRead sees q link octets rest held now s t w x → next_in now ≡ BreaksOff
       → Reads {A = A} sees q link octets (Err why) held now s t w x

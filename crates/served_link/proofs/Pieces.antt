@@ -1,23 +1,9 @@
 -- A frame in its buffer: what is written of it, and what is left.
-use Rattle.std.proofs.Common.{◌≡◌, ℕ, ◌+◌, ◌-◌, ◌≤◌, ◌∙◌, List, ◌++◌, length, take, drop, slice_range, Option, Some, None, refl, ap, arith}
+use Rattle.std.proofs.Common.{◌≡◌, ℕ, ◌+◌, ◌-◌, ◌≤◌, ◌∙◌, List, ◌++◌, length, take, drop, slice_range, ap, arith}
 use Rattle.std.proofs.lemmas.List.{take-take, length-take-le, length-drop}
-use Rattle.std.specs.Option.{option_map}
-use Rattle.m2pa_codec.specs.Frames.{FrameValue, spelled}
 use Rattle.m2pa_codec.proofs.Windows.{consumed}
-use Rattle.exchange.specs.Taking.{Writes}
-use Rattle.served_link.specs.Connections.{Outgoing, begun, begun_with}
+use Rattle.served_link.specs.Connections.{Outgoing}
 use lib.Seq.{take-add}
-
--- a frame that was taken lies at the front of the buffer
-pub begun-some : (frame : Option FrameValue) (count : ℕ) (old new : List ℕ) → Writes frame (Some count) old new → begun (take count new) ≡ begun_with (option_map spelled frame)
-begun-some (Some frame) count old new h =
-    let same : count ≡ length (spelled frame) = cc in
-    ap begun (ap (λ (n : ℕ). take n new) same ∙ h.1)
-begun-some None count old new h = absurd cc
-
-pub begun-none : (frame : Option FrameValue) (old new : List ℕ) → Writes frame None old new → begun (take 0 new) ≡ begun_with (option_map spelled frame)
-begun-none (Some frame) old new h = absurd cc
-begun-none None old new h = refl
 
 -- the octets in front of the buffer are the frame
 pub whole_in : (buffer : List ℕ) (written end : ℕ) → written ≤ end → take end buffer ≡ take written buffer ++ slice_range buffer written end
