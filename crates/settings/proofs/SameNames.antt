@@ -1,8 +1,8 @@
 -- Lists of links that have the same names.
-use Rattle.std.proofs.Common.{◌≡◌, ◌<◌, ◌≤◌, ◌+◌, ◌∙◌, ℕ, List, [], map, take, length, sym, ap, arith}
+use Rattle.std.proofs.Common.{◌≡◌, ◌<◌, ◌+◌, ◌∙◌, ℕ, List, [], map, take, length, sym, ap, arith}
 use Rattle.std.proofs.Math.ListN.{get_or}
 use Rattle.std.proofs.lemmas.Grind.{common_steps}
-use Rattle.std.proofs.lemmas.List.{get_or-map, take_all}
+use Rattle.std.proofs.lemmas.List.{get_or-map}
 use Rattle.settings_rows.specs.Configuration.{LinkEntry}
 
 names-at : (xs : List LinkEntry) (i : ℕ) (x : LinkEntry) → i < length xs → x ≡ get_or xs i x → x.name ≡ get_or (map (λ (l : LinkEntry). l.name) xs) i []
@@ -19,11 +19,3 @@ pub names-next : (xs ys : List LinkEntry) (i : ℕ) (x y : LinkEntry) → i < le
     → map (λ (l : LinkEntry). l.name) (take i xs) ≡ map (λ (l : LinkEntry). l.name) (take i ys)
     → map (λ (l : LinkEntry). l.name) (take (i + 1) xs) ≡ map (λ (l : LinkEntry). l.name) (take (i + 1) ys)
 names-next xs ys i x y p q a b e h = grind (arith, common_steps)
-
--- all links
-pub names-all : (xs ys : List LinkEntry) (i : ℕ) → length xs ≤ i → length ys ≤ i
-    → map (λ (l : LinkEntry). l.name) (take i xs) ≡ map (λ (l : LinkEntry). l.name) (take i ys)
-    → map (λ (l : LinkEntry). l.name) xs ≡ map (λ (l : LinkEntry). l.name) ys
-names-all xs ys i p q h =
-    ap (λ (ls : List LinkEntry). map (λ (l : LinkEntry). l.name) ls) (sym (take_all i xs p)) ∙ h
-    ∙ ap (λ (ls : List LinkEntry). map (λ (l : LinkEntry). l.name) ls) (take_all i ys q)
