@@ -1,3 +1,2 @@
 pub mod Clearing
-pub mod Steps
 pub mod Octets
