@@ -1,5 +1,5 @@
 -- A timer of a set is stopped, destination by destination.
-use Rattle.std.proofs.Common.{◌≡◌, ℕ, zero, suc, ◌+◌, ◌==◌, nat_lt, ◌<◌, ◌≤◌, inl, inr, Bool, true, false, refl, sym, ap, subst, ◌∙◌, arith}
+use Rattle.std.proofs.Common.{◌≡◌, ℕ, zero, suc, ◌==◌, nat_lt, ◌<◌, ◌≤◌, inl, inr, Bool, true, false, refl, sym, ap, subst, ◌∙◌, arith}
 use Rattle.std.proofs.lemmas.Bool.{cases_eq, cases_lt, false≢true}
 use Rattle.std.proofs.lemmas.Bool.Decides.{nat_tests}
 use Rattle.std.specs.Prelude.{None, ◌&&◌}
@@ -18,11 +18,6 @@ use Rattle.timers.proofs.Maps.{left-clear, left-clear_other, counts-clear, left-
 abbrev pub cleared_below : RouteTimer → (set destinations : ℕ) → Running → Running
 cleared_below timer set zero r = r
 cleared_below timer set (suc destinations) r = clear_timer (name_of_route timer set destinations) (cleared_below timer set destinations r)
-
--- one more
-pub cleared-more : (timer : RouteTimer) (set destinations : ℕ) (r : Running)
-    → cleared_below timer set (destinations + 1) r ≡ clear_timer (name_of_route timer set destinations) (cleared_below timer set destinations r)
-cleared-more timer set destinations r = let e : destinations + 1 ≡ suc destinations = omega arith in ap (λ n. cleared_below timer set n r) e
 
 counts-below : (timer : RouteTimer) (set destinations : ℕ) (r : Running) → (cleared_below timer set destinations r).counts ≡ r.counts
 counts-below timer set zero r = refl

@@ -1,6 +1,6 @@
 -- What is left to the timers, by their places.
-use Rattle.std.proofs.Common.{◌≡◌, ◌≢◌, ℕ, suc, nat_lt, ◌+◌, ◌<◌, ◌≤◌, Bool, true, false, cond, List, [], ◌∷◌, length, map, get_or, slice_set, refl, sym, ap, subst, ◌∙◌, arith}
-use Rattle.std.proofs.lemmas.List.{get_or-set_same, get_or-set_other, length-set, length-map, length-replicate, get_or-replicate}
+use Rattle.std.proofs.Common.{◌≡◌, ◌≢◌, ℕ, suc, nat_lt, ◌+◌, ◌<◌, ◌≤◌, true, false, cond, List, [], ◌∷◌, length, map, get_or, slice_set, refl, sym, ap, subst, ◌∙◌, arith}
+use Rattle.std.proofs.lemmas.List.{get_or-set_same, get_or-set_other, length-set, length-map, get_or-replicate}
 use Rattle.std.proofs.lemmas.List.Sums.{sum_by-set, length-filter, passes_at_first, fails_before_first}
 use Rattle.std.proofs.lemmas.Bool.{true≢false}
 use Rattle.std.proofs.lemmas.Bool.Decides.{nat_tests}
@@ -11,7 +11,7 @@ use Rattle.std.specs.Option.{option_map}
 use Rattle.timers.specs.declared.name.TimerName.{TimerName}
 use Rattle.timers.specs.declared.name.NodeCounts.{NodeCounts}
 use Rattle.timers.specs.Names.{has_name, is_before, count_of}
-use Rattle.timers.specs.Places.{named_sets, place_in, place_of, name_at}
+use Rattle.timers.specs.Places.{named_sets, place_in, name_at}
 use Rattle.timers.specs.Timers.{one_less, no_tick_left}
 use Rattle.timers.specs.Table.{Table, has_place, left_to, IsWhole}
 use Rattle.timers.proofs.OnTable.{none_in, put, put_at, put_in, ticked_in, due_place, due_in, after_due_in, count_in}
@@ -37,13 +37,6 @@ left-absent name t h = ap (λ b. cond b (get_or t.left (place_for name t) None) 
 
 pub within : (name : TimerName) (t : Table) → IsWhole t → has_place name t ≡ true → place_for name t < length t.left
 within name t w h = let f = place-fits (named_sets t.counts) name h in omega (arith, f, w.places)
-
-pub placed : (name : TimerName) (n : NodeCounts) (p : ℕ) → place_of n name ≡ Some p → place_in n name ≡ p
-placed name n p e = at (has_name n name) e
-  where
-    at : (b : Bool) → cond b (Some (place_in n name)) None ≡ Some p → place_in n name ≡ p
-    at true e = some_is e
-    at false e = absurd cc
 
 pub put-there : (name : TimerName) (left : Option ℕ) (t : Table) → has_place name t ≡ true → put_in name left t ≡ put (place_for name t) left t
 put-there name left t h = ap (λ b. put_at (cond b (Some (place_for name t)) None) left t) h
@@ -103,9 +96,6 @@ left-none name n =
     ] refl
 
 -- ---- the table stays whole
-
-pub whole-none : (n : NodeCounts) → IsWhole (none_in n)
-whole-none n = record { places = length-replicate (count_of (named_sets n)) None }
 
 pub whole-put : (place : ℕ) (left : Option ℕ) (t : Table) → IsWhole t → IsWhole (put place left t)
 whole-put place left t w = record { places = length-set t.left place left ∙ w.places }
