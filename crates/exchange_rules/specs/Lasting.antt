@@ -31,6 +31,12 @@ after_each (asking ∷ others) a = after_each others (after_asking asking a)
 
 -- ---- flags
 
+-- at first neither is raised
+abbrev pub no_flag_at_first : Type 0
+no_flag_at_first =
+    (c : Configuration) →
+    (lost_any (first_state c).node.parts ≡ false) × (late_any (first_state c).node.parts ≡ false)
+
 -- once a message may have been lost, that stays so, whatever happens and whatever is taken
 abbrev pub losses_stay : Type 0
 losses_stay =

@@ -14,7 +14,8 @@ ghost use Rattle.exchange_rules.specs.LawsOfMessages.{user_messages_are_conserve
 ghost use Rattle.exchange_rules.specs.LawsOfMessages.{all_that_came_adds_up};
 ghost use Rattle.exchange_rules.specs.LawsOfMessages.{carried_messages_have_a_fate, submissions_have_a_fate};
 ghost use Rattle.exchange_rules.specs.LawsOfMessages.{completions_name_what_they_lose, releases_name_what_they_lose};
-ghost use Rattle.exchange_rules.specs.Lasting.{places_at_first, places_stay, losses_stay, lateness_stays};
+ghost use Rattle.exchange_rules.specs.Lasting.{places_at_first, places_stay};
+ghost use Rattle.exchange_rules.specs.Lasting.{no_flag_at_first, losses_stay, lateness_stays};
 ghost use Rattle.exchange_rules.specs.Lasting.{notices_raise_flags, unreasonable_numbers_raise_it};
 ghost use Rattle.exchange_rules.specs.Lasting.{notices_made_are_counted, new_notices_are_the_last};
 ghost use Rattle.exchange_rules.specs.Lasting.{notices_keep_their_limits};
@@ -119,10 +120,11 @@ pub fn nodes_have_their_places()
     ensures always { places_stay }
 {}
 
-/// The flags never fall, whatever happens and whatever is taken: once a message may have been lost, or messages may
-/// have gone out of order, that stays shown. They are raised while a notice says so, and by a completion without a
+/// No flag is raised at first. None ever falls, whatever happens and whatever is taken: once a message may have been
+/// lost, or messages may have gone out of order, that stays shown. They are raised while a notice says so, and by a completion without a
 /// reasonable number.
 pub fn flags_never_fall()
+    ensures first { no_flag_at_first }
     ensures lost { losses_stay }
     ensures late { lateness_stays }
     ensures noted { notices_raise_flags }

@@ -1,6 +1,10 @@
+use Rattle.std.proofs.Common.{refl}
 use Rattle.exchange_rules.proofs.LastingFlags.{losses-stay, lateness-stays}
 use Rattle.exchange_rules.proofs.LastingNotices.{notices-raise, unreasonable-raises}
 use Rattle.exchange_rules.proofs.laws.flags_never_fall.Goals as goal
+
+pub returns-clause-first : goal.returns-clause-first
+returns-clause-first c = λ configuration. (refl, refl)
 
 pub returns-clause-lost : goal.returns-clause-lost
 returns-clause-lost c = losses-stay
