@@ -1,14 +1,6 @@
 -- The laws by counts, kept by a move that is known by what it makes and what it looks at.
-use Rattle.std.proofs.Common.{◌≡◌, ◌≢◌, ℕ, Bool, ◌+◌, ◌≤◌, List, count_by, ap, sym, arith, subst}
-use Rattle.std.proofs.Math.Logic.{⊎_elim}
-use Rattle.std.proofs.lemmas.Bool.{cases_eq}
-use Rattle.signalling_types.specs.Message.{Message}
-use Rattle.link.specs.Queue.{last_accepted}
-use Rattle.pair_moves.specs.Sayings.{Saying, is_order, is_answer, is_untrue, is_declaration, is_confirmation}
-use Rattle.pair_moves.specs.Ends.{LinkEnd, Line, Side, Pair, turned, turned_line, unreceived}
-use Rattle.pair_moves.specs.Passing.{BecomeAt}
-use Rattle.pair_moves.specs.Laws.{sum_to, under_way, one_if, saying, OrdersAreAwaited, WordsAreTrue, CodesAreOutstanding}
-use Rattle.pair_moves.specs.Once.{user, EachOnce}
+use Rattle.pair_moves.proofs.Basics.{◌≡◌, ◌≢◌, ℕ, Bool, ◌+◌, ◌≤◌, List, count_by, ap, sym, arith, subst, ⊎_elim, cases_eq}
+use Rattle.pair_moves.proofs.Definitions.{Message, last_accepted, Saying, is_order, is_answer, is_untrue, is_declaration, is_confirmation, LinkEnd, Line, Side, Pair, turned, turned_line, unreceived, BecomeAt, sum_to, under_way, one_if, saying, OrdersAreAwaited, WordsAreTrue, CodesAreOutstanding, user, EachOnce}
 use Rattle.pair_moves.proofs.Counts.{sum-but}
 
 -- ---- a line changes

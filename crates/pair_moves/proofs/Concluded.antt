@@ -1,11 +1,6 @@
 -- The laws, after every list of moves.
-use Rattle.std.proofs.Common.{◌≡◌, inl, inr, ℕ, false, drop, ap, arith}
-use Rattle.signalling_types.specs.Message.{Message}
-use Rattle.signalling_types.specs.declared.point.Flow.{Flow}
-use Rattle.pair_moves.specs.Sayings.{Saying}
-use Rattle.pair_moves.specs.Ends.{Pair, turned, first_pair}
-use Rattle.pair_moves.specs.Moves.{last_of}
-use Rattle.pair_moves.specs.Order.{IsInOrder}
+use Rattle.pair_moves.proofs.Basics.{◌≡◌, inl, inr, ℕ, false, drop, ap, arith}
+use Rattle.pair_moves.proofs.Definitions.{Message, Flow, Saying, Pair, turned, first_pair, last_of, IsInOrder}
 use Rattle.pair_moves.specs.Theorems.{Always, lines_flow, first_ends_are_alone, ends_are_sound, messages_come_in_order, orders_are_awaited, opens_with_nothing_under_way, follows_with_nothing_under_way}
 use Rattle.pair_moves.specs.Theorems.{words_are_true, numbers_name_what_was_received, what_waits_is_lacked}
 use Rattle.pair_moves.specs.Theorems.{orders_move_what_is_lacked, answers_move_what_is_lacked}

@@ -1,11 +1,7 @@
 -- Counts of messages in lists, over links and under way.
-use Rattle.std.proofs.Common.{◌≡◌, ◌≢◌, ℕ, zero, suc, Bool, true, false, cond, not, ◌+◌, ◌≤◌, ◌<◌, List, [], ◌∷◌, ◌++◌, count_by, filter, refl, ap, sym, ◌∙◌, arith, if◌then◌else◌, subst}
-use Rattle.std.proofs.Math.Logic.{⊎_elim}
-use Rattle.std.proofs.lemmas.Bool.{cases_eq}
+use Rattle.pair_moves.proofs.Basics.{◌≡◌, ◌≢◌, ℕ, zero, suc, Bool, true, false, cond, not, ◌+◌, ◌≤◌, ◌<◌, List, [], ◌∷◌, ◌++◌, count_by, filter, refl, ap, sym, ◌∙◌, arith, if◌then◌else◌, subst, ⊎_elim, cases_eq}
+use Rattle.pair_moves.proofs.Definitions.{Message, Pair, unreceived, sum_to, under_way, one_if}
 use Rattle.std.proofs.lemmas.List.Sums.{sum_by-cons, sum_by-append}
-use Rattle.signalling_types.specs.Message.{Message}
-use Rattle.pair_moves.specs.Ends.{Pair, unreceived}
-use Rattle.pair_moves.specs.Laws.{sum_to, under_way, one_if}
 
 -- ---- in a list
 

@@ -1,13 +1,8 @@
 -- The run of the example is one: each pair of it comes from the one before by a move.
-use Rattle.std.proofs.Common.{true, false, [], refl, sym, arith, None}
-use Rattle.pair_moves.specs.Ends.{MessageFrame, turned}
-use Rattle.pair_moves.specs.Passing.{with_message}
-use Rattle.pair_moves.specs.Carrying.{with_sent, with_frames_left, with_accepted}
-use Rattle.pair_moves.specs.Failing.{with_failure, with_completion}
+use Rattle.pair_moves.proofs.Basics.{true, false, [], refl, sym, arith, None}
+use Rattle.pair_moves.proofs.Definitions.{MessageFrame, turned, with_message, with_sent, with_frames_left, with_accepted, with_failure, with_completion, Move, Moves, read_plainly, the_message, the_order, the_answer, lines_with, held_by_changeover, Crosses}
 use Rattle.pair_moves.specs.Moves as moves
-use Rattle.pair_moves.specs.Moves.{Move, Moves}
 use Rattle.pair_moves.specs.Crossing as run
-use Rattle.pair_moves.specs.Crossing.{read_plainly, the_message, the_order, the_answer, lines_with, held_by_changeover, Crosses}
 use Rattle.pair_moves.proofs.Lines.{false_is_true}
 use Rattle.pair_moves.proofs.CrossingBegun.{set, some-none, held-alone, joining, opens-first, joins-first, opens-second, joins-second, serves-first, serves-second, serves-first_there, serves-second_there, accepts, places-first, sends-first, fails-near, places-order, sends-order}
 

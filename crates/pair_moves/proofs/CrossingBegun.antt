@@ -1,15 +1,8 @@
 -- The run of the example begins: the link opens, and fails under its message.
-use Rattle.std.proofs.Common.{◌≡◌, ◌≢◌, ℕ, Bool, true, false, ◌<◌, List, [], ◌∷◌, ◌++◌, refl, ap, arith, Some, None, if◌then◌else◌}
-use Rattle.std.proofs.lemmas.Bool.{ne_eqb}
-use Rattle.pair_moves.specs.Ends.{Line, Procedure, Changeover, Code, Time, Pair, turned, first_pair}
-use Rattle.pair_moves.specs.Passing.{BecomeAt, with_message}
-use Rattle.pair_moves.specs.Carrying.{with_status, with_statuses_left, with_sent, with_heard}
-use Rattle.pair_moves.specs.Failing.{with_failure}
-use Rattle.pair_moves.specs.Returning.{MayOpen, opened_first, opened_second, with_service}
+use Rattle.pair_moves.proofs.Basics.{◌≡◌, ◌≢◌, ℕ, Bool, true, false, ◌<◌, List, [], ◌∷◌, ◌++◌, refl, ap, arith, Some, None, if◌then◌else◌, ne_eqb}
+use Rattle.pair_moves.proofs.Definitions.{Line, Procedure, Changeover, Code, Time, Pair, turned, first_pair, BecomeAt, with_message, with_status, with_statuses_left, with_sent, with_heard, with_failure, MayOpen, opened_first, opened_second, with_service, NearMove, Move, Moves, read_plainly, the_message, the_order, the_answer, lines_with, held_by_changeover, Crosses}
 use Rattle.pair_moves.specs.Moves as moves
-use Rattle.pair_moves.specs.Moves.{NearMove, Move, Moves}
 use Rattle.pair_moves.specs.Crossing as run
-use Rattle.pair_moves.specs.Crossing.{read_plainly, the_message, the_order, the_answer, lines_with, held_by_changeover, Crosses}
 use Rattle.pair_moves.proofs.Lines.{false_is_true}
 use Rattle.pair_moves.proofs.Words.{same-link}
 

@@ -1,13 +1,6 @@
 -- Moves of a failure and its changeover are sound.
-use Rattle.std.proofs.Common.{◌≡◌, ◌≢◌, inl, inr, ℕ, Bool, true, false, ◌+◌, ◌≤◌, List, [], ◌∷◌, ◌++◌, drop, count_by, nat_eq, refl, sym, subst, arith}
-use Rattle.std.proofs.Math.Logic.{⊎_elim}
-use Rattle.std.proofs.lemmas.Bool.{cases_eq}
-use Rattle.signalling_types.specs.Message.{Message}
-use Rattle.link.specs.Queue.{last_accepted}
-use Rattle.pair_moves.specs.Sayings.{Saying, Order, Answer, is_user_message, is_order, is_answer, is_untrue, is_declaration, is_confirmation}
-use Rattle.pair_moves.specs.Ends.{Line, Side, Pair, turned}
-use Rattle.pair_moves.specs.Failing.{with_failure, with_completion, without_wait, users_of, managements_of, Falls, FallsWithOrder, CompletesByOrder, AnswersOrder, CompletesByAnswer, EndsWait, IgnoresAnswer}
-use Rattle.pair_moves.specs.Laws.{under_way, one_if, saying}
+use Rattle.pair_moves.proofs.Basics.{◌≡◌, ◌≢◌, inl, inr, ℕ, Bool, true, false, ◌+◌, ◌≤◌, List, [], ◌∷◌, ◌++◌, drop, count_by, nat_eq, refl, sym, subst, arith, ⊎_elim, cases_eq}
+use Rattle.pair_moves.proofs.Definitions.{Message, last_accepted, Saying, Order, Answer, is_user_message, is_order, is_answer, is_untrue, is_declaration, is_confirmation, Line, Side, Pair, turned, with_failure, with_completion, without_wait, users_of, managements_of, Falls, FallsWithOrder, CompletesByOrder, AnswersOrder, CompletesByAnswer, EndsWait, IgnoresAnswer, under_way, one_if, saying}
 use Rattle.pair_moves.proofs.Counts.{count-append, count-one, count-first}
 use Rattle.pair_moves.proofs.Words.{said, said-no_user, same-link, other-link, told-order, told-answer, told-order_elsewhere, told-answer_elsewhere}
 use Rattle.pair_moves.proofs.Lines.{IsLine, not-beside}

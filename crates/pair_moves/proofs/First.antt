@@ -1,12 +1,6 @@
 -- The first pair: nothing is under way.
-use Rattle.std.proofs.Common.{◌≡◌, ℕ, zero, suc, Bool, List, [], ◌++◌, refl, ap, sym, arith}
-use Rattle.signalling_types.specs.Message.{Message}
-use Rattle.signalling_types.specs.declared.point.Flow.{Flow}
-use Rattle.pair_moves.specs.Sayings.{Saying, is_order, is_answer, is_declaration, is_confirmation}
-use Rattle.pair_moves.specs.Ends.{first_pair, closed_line}
-use Rattle.pair_moves.specs.Laws.{sum_to, under_way, saying}
-use Rattle.pair_moves.specs.Once.{user}
-use Rattle.pair_moves.specs.Order.{IsInOrder}
+use Rattle.pair_moves.proofs.Basics.{◌≡◌, ℕ, zero, suc, Bool, List, [], ◌++◌, refl, ap, sym, arith}
+use Rattle.pair_moves.proofs.Definitions.{Message, Flow, Saying, is_order, is_answer, is_declaration, is_confirmation, first_pair, closed_line, sum_to, under_way, saying, user, IsInOrder}
 use Rattle.pair_moves.proofs.Books.{Tallies, untrue_of}
 use Rattle.pair_moves.proofs.Sound.{Sound}
 use Rattle.pair_moves.proofs.Joins.{join-none}

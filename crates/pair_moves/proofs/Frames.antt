@@ -1,14 +1,11 @@
 -- Frames in flight: what they carry, and what they name.
-use Rattle.std.proofs.Common.{◌≡◌, ℕ, zero, suc, Bool, true, false, ◌+◌, ◌-◌, ◌%◌, ◌^◌, ◌≤◌, List, [], ◌∷◌, ◌++◌, slice_get, nat_eq, refl, ap, sym, subst, arith, Option, Some, Ok, Err, if◌then◌else◌}
+use Rattle.pair_moves.proofs.Basics.{◌≡◌, ℕ, zero, suc, Bool, true, false, ◌+◌, ◌-◌, ◌%◌, ◌^◌, ◌≤◌, List, [], ◌∷◌, ◌++◌, slice_get, nat_eq, refl, ap, sym, subst, arith, Option, Some, Ok, Err, if◌then◌else◌}
+use Rattle.pair_moves.proofs.Definitions.{Message, Queue, IsQueue, first_queue, forward_number, named_count, confirmation, expected, accept_answer, appended, last_sent, Frame, EmptyFrame, MessageFrame, Carry, Name}
 use Rattle.std.proofs.lemmas.Grind.{common_steps}
 use Rattle.std.specs.Option.{option_map}
-use Rattle.signalling_types.specs.Message.{Message}
 use Rattle.signalling_types.specs.Numbers.{previous_number}
 use Rattle.link.specs.declared.fault.SeqFault.{SeqFault}
-use Rattle.link.specs.Queue.{Queue, IsQueue, first_queue, forward_number, named_count, confirmation, expected, accept_answer, appended, last_sent}
 use Rattle.link.proofs.Naming.{finds_named}
-use Rattle.pair_moves.specs.Ends.{Frame, EmptyFrame, MessageFrame}
-use Rattle.pair_moves.specs.Flowing.{Carry, Name}
 
 -- ---- what they carry
 

@@ -1,15 +1,7 @@
 -- Lists of messages cut down to one flow, over links.
-use Rattle.std.proofs.Common.{◌≡◌, ◌≢◌, ◌⊎◌, inl, inr, ℕ, zero, suc, Bool, true, false, not, ◌&&◌, ◌<◌, List, [], ◌∷◌, ◌++◌, nat_eq, refl, ap, ◌∙◌, arith, if◌then◌else◌}
-use Rattle.std.proofs.Math.Logic.{⊎_elim}
-use Rattle.std.proofs.lemmas.Bool.{cases_eq}
-use Rattle.std.proofs.lemmas.Bool.Decides.{nat_tests}
-use Rattle.std.proofs.lemmas.List.{append-nil, append_assoc}
+use Rattle.pair_moves.proofs.Basics.{◌≡◌, ◌≢◌, ◌⊎◌, inl, inr, ℕ, zero, suc, Bool, true, false, not, ◌&&◌, ◌<◌, List, [], ◌∷◌, ◌++◌, nat_eq, refl, ap, ◌∙◌, arith, if◌then◌else◌, ⊎_elim, cases_eq, nat_tests, append-nil, append_assoc}
+use Rattle.pair_moves.proofs.Definitions.{Message, flow_of, Flow, Saying, is_user_message, is_of_flow, is_same_flow, users_of, managements_of, join_to, of_flow}
 use Rattle.std.proofs.lemmas.List.Elements.{filter-append}
-use Rattle.signalling_types.specs.Message.{Message, flow_of}
-use Rattle.signalling_types.specs.declared.point.Flow.{Flow}
-use Rattle.pair_moves.specs.Sayings.{Saying, is_user_message, is_of_flow, is_same_flow}
-use Rattle.pair_moves.specs.Failing.{users_of, managements_of}
-use Rattle.pair_moves.specs.Order.{join_to, of_flow}
 use Rattle.pair_moves.proofs.Lines.{false_is_true, true_is_false}
 
 -- ---- empty or not

@@ -1,12 +1,7 @@
 -- Every list of moves keeps all laws.
-use Rattle.std.proofs.Common.{◌≡◌, ◌⊎◌, inl, inr, ℕ, true, List, [], ◌∷◌, refl, ap, ◌∙◌}
-use Rattle.signalling_types.specs.Message.{Message}
-use Rattle.signalling_types.specs.declared.point.Flow.{Flow}
-use Rattle.pair_moves.specs.Sayings.{Saying}
-use Rattle.pair_moves.specs.Ends.{Pair, turned, first_pair}
+use Rattle.pair_moves.proofs.Basics.{◌≡◌, ◌⊎◌, inl, inr, ℕ, true, List, [], ◌∷◌, refl, ap, ◌∙◌}
+use Rattle.pair_moves.proofs.Definitions.{Message, Flow, Saying, Pair, turned, first_pair, NearMove, Move, Moves, last_of, IsInOrder}
 use Rattle.pair_moves.specs.Moves as moves
-use Rattle.pair_moves.specs.Moves.{NearMove, Move, Moves, last_of}
-use Rattle.pair_moves.specs.Order.{IsInOrder}
 use Rattle.pair_moves.proofs.Lines.{line-turned}
 use Rattle.pair_moves.proofs.Sound.{Sound}
 use Rattle.pair_moves.proofs.First.{sound-first_pair, order-first_pair}

@@ -1,3 +1,5 @@
+pub mod Definitions
+pub mod Basics
 pub mod Counts
 pub mod Frames
 pub mod Lines

@@ -1,16 +1,8 @@
 -- A line whose ends and frames agree with law (i), and what the near end's messages and frames keep
 -- of it.
-use Rattle.std.proofs.Common.{◌≡◌, ℕ, suc, Bool, true, false, not, ◌+◌, ◌-◌, ◌≤◌, ◌<◌, ◌||◌, ◌&&◌, List, [], ◌∷◌, ◌++◌, length, slice_get, nat_lt, refl, sym, ◌∙◌, subst, arith, Option, Some, None, if◌then◌else◌}
-use Rattle.std.proofs.lemmas.Bool.Decides.{nat_tests}
+use Rattle.pair_moves.proofs.Basics.{◌≡◌, ℕ, suc, Bool, true, false, not, ◌+◌, ◌-◌, ◌≤◌, ◌<◌, ◌||◌, ◌&&◌, List, [], ◌∷◌, ◌++◌, length, slice_get, nat_lt, refl, sym, ◌∙◌, subst, arith, Option, Some, None, if◌then◌else◌, nat_tests}
+use Rattle.pair_moves.proofs.Definitions.{Message, WINDOW, Queue, IsQueue, Sending, first_queue, forward_number, numbered, to_send, after_sending, last_sent, last_accepted, sound-appended, Frame, EmptyFrame, MessageFrame, Line, turned_line, with_message, with_status, with_statuses_left, with_frame, with_sent, with_heard, Carry, Name, Flows, IsFlowing, OpenedAlone, OpensAlone, IsEnd}
 use Rattle.std.proofs.lemmas.Option.{slice_get_within}
-use Rattle.signalling_types.specs.Message.{Message}
-use Rattle.signalling_types.specs.declared.limits.TheConstants.Limits.{WINDOW}
-use Rattle.link.specs.Queue.{Queue, IsQueue, Sending, first_queue, forward_number, numbered, to_send, after_sending, last_sent, last_accepted}
-use Rattle.link.proofs.Sound.{sound-appended}
-use Rattle.pair_moves.specs.Ends.{Frame, EmptyFrame, MessageFrame, Line, turned_line}
-use Rattle.pair_moves.specs.Passing.{with_message}
-use Rattle.pair_moves.specs.Carrying.{with_status, with_statuses_left, with_frame, with_sent, with_heard}
-use Rattle.pair_moves.specs.Flowing.{Carry, Name, Flows, IsFlowing, OpenedAlone, OpensAlone, IsEnd}
 use Rattle.pair_moves.proofs.Frames.{carry-appended, carry-empty, carry-message, name-empty, name-message}
 
 pub record IsLine (z : Line) : Type 0 where

@@ -1,14 +1,7 @@
 -- An end that fails, completes its changeover, opens or enters service keeps law (i); and law (iv).
-use Rattle.std.proofs.Common.{◌≡◌, ◌⊎◌, inl, inr, ℕ, zero, suc, Bool, true, false, not, ◌||◌, ◌&&◌, ◌≤◌, List, [], drop, Option, refl, ap, sym, ◌∙◌, subst, arith}
+use Rattle.pair_moves.proofs.Basics.{◌≡◌, ◌⊎◌, inl, inr, ℕ, zero, suc, Bool, true, false, not, ◌||◌, ◌&&◌, ◌≤◌, List, [], drop, Option, refl, ap, sym, ◌∙◌, subst, arith}
+use Rattle.pair_moves.proofs.Definitions.{Message, WINDOW, Queue, first_queue, named_count, last_accepted, sound-first, sound-emptied, Frame, LinkEnd, Line, turned_line, closed_end, closed_line, with_failure, with_completion, without_wait, opened_end, opened_first, opened_second, MayOpen, with_service, Carry, Name, Flows, IsEnd, OpenedAlone, is_in_use, NamesReceived, WaitsRightly}
 use Rattle.std.specs.Prelude.{unwrap_or}
-use Rattle.signalling_types.specs.Message.{Message}
-use Rattle.signalling_types.specs.declared.limits.TheConstants.Limits.{WINDOW}
-use Rattle.link.specs.Queue.{Queue, first_queue, named_count, last_accepted}
-use Rattle.link.proofs.Sound.{sound-first, sound-emptied}
-use Rattle.pair_moves.specs.Ends.{Frame, LinkEnd, Line, turned_line, closed_end, closed_line}
-use Rattle.pair_moves.specs.Failing.{with_failure, with_completion, without_wait}
-use Rattle.pair_moves.specs.Returning.{opened_end, opened_first, opened_second, MayOpen, with_service}
-use Rattle.pair_moves.specs.Flowing.{Carry, Name, Flows, IsEnd, OpenedAlone, is_in_use, NamesReceived, WaitsRightly}
 use Rattle.pair_moves.proofs.Frames.{named-there}
 use Rattle.pair_moves.proofs.Lines.{IsLine, false_is_true, true_is_false, both, or-first, or-third, none-of, none-first, none-second, none-of_two, not-without, used-by, none-may, up-first, incomplete-joined, incomplete-first}
 

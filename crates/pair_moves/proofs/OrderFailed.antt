@@ -1,17 +1,6 @@
 -- Moves of a failure and its changeover keep the order of each flow.
-use Rattle.std.proofs.Common.{◌≡◌, ◌≢◌, ◌⊎◌, inl, inr, ℕ, Bool, true, false, ◌<◌, ◌||◌, List, [], ◌∷◌, ◌++◌, drop, refl, ap, sym, ◌∙◌, subst, Some}
-use Rattle.std.proofs.Math.Logic.{⊎_elim}
-use Rattle.std.proofs.lemmas.Bool.{cases_eq}
-use Rattle.std.proofs.lemmas.List.{append-nil, append_assoc}
-use Rattle.signalling_types.specs.Message.{Message}
-use Rattle.signalling_types.specs.declared.point.Flow.{Flow}
-use Rattle.link.specs.Queue.{last_accepted}
-use Rattle.pair_moves.specs.Sayings.{Saying, Order, Answer, is_user_message}
-use Rattle.pair_moves.specs.Ends.{LinkEnd, Line, Changeover, Code, Time, Side, Pair, turned, unreceived}
-use Rattle.pair_moves.specs.Passing.{BecomeAt}
-use Rattle.pair_moves.specs.Failing.{with_failure, with_completion, without_wait, users_of, managements_of, Suspends, ChangesOnly, Falls, FallsWithOrder, CompletesByOrder, AnswersOrder, CompletesByAnswer, EndsWait, IgnoresAnswer}
-use Rattle.pair_moves.specs.Flowing.{IsEnd}
-use Rattle.pair_moves.specs.Order.{of_flow, standing_on, IsGuarded, by_route, by_changeover, by_time, by_code, IsInOrder}
+use Rattle.pair_moves.proofs.Basics.{◌≡◌, ◌≢◌, ◌⊎◌, inl, inr, ℕ, Bool, true, false, ◌<◌, ◌||◌, List, [], ◌∷◌, ◌++◌, drop, refl, ap, sym, ◌∙◌, subst, Some, ⊎_elim, cases_eq, append-nil, append_assoc}
+use Rattle.pair_moves.proofs.Definitions.{Message, Flow, last_accepted, Saying, Order, Answer, is_user_message, LinkEnd, Line, Changeover, Code, Time, Side, Pair, turned, unreceived, BecomeAt, with_failure, with_completion, without_wait, users_of, managements_of, Suspends, ChangesOnly, Falls, FallsWithOrder, CompletesByOrder, AnswersOrder, CompletesByAnswer, EndsWait, IgnoresAnswer, IsEnd, of_flow, standing_on, IsGuarded, by_route, by_changeover, by_time, by_code, IsInOrder}
 use Rattle.pair_moves.proofs.Lines.{IsLine, true_is_false, none-of_two, not-beside}
 use Rattle.pair_moves.proofs.LinesChanged.{drop-none}
 use Rattle.pair_moves.proofs.Books.{each-line}

@@ -1,13 +1,6 @@
 -- Moves of messages and frames keep the order of each flow.
-use Rattle.std.proofs.Common.{◌≡◌, ℕ, suc, true, false, List, [], ◌∷◌, ◌++◌, refl, ap, sym, ◌∙◌, subst}
-use Rattle.std.proofs.lemmas.List.{append_assoc}
-use Rattle.signalling_types.specs.Message.{Message}
-use Rattle.signalling_types.specs.declared.point.Flow.{Flow}
-use Rattle.pair_moves.specs.Sayings.{Saying}
-use Rattle.pair_moves.specs.Ends.{Line, Pair, turned, turned_line, unreceived}
-use Rattle.pair_moves.specs.Passing.{BecomeAt, Accepts, TakesOut, Keeps, HandsOver}
-use Rattle.pair_moves.specs.Carrying.{with_status, with_statuses_left, with_sent, with_heard, with_frames_left, with_accepted, SendsStatus, SendsMessage, SendsEmpty, HearsStatus, TakesStatus, DoublesStatus, Drops, TakesEmpty, TakesMessage}
-use Rattle.pair_moves.specs.Order.{of_flow, IsInOrder}
+use Rattle.pair_moves.proofs.Basics.{◌≡◌, ℕ, suc, true, false, List, [], ◌∷◌, ◌++◌, refl, ap, sym, ◌∙◌, subst, append_assoc}
+use Rattle.pair_moves.proofs.Definitions.{Message, Flow, Saying, Line, Pair, turned, turned_line, unreceived, BecomeAt, Accepts, TakesOut, Keeps, HandsOver, with_status, with_statuses_left, with_sent, with_heard, with_frames_left, with_accepted, SendsStatus, SendsMessage, SendsEmpty, HearsStatus, TakesStatus, DoublesStatus, Drops, TakesEmpty, TakesMessage, of_flow, IsInOrder}
 use Rattle.pair_moves.proofs.Joins.{flow-append}
 use Rattle.pair_moves.proofs.OrderSame.{moved-over, there-side, there-quiet, there-line-same, back-side, back-line}
 

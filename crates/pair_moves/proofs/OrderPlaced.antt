@@ -1,15 +1,6 @@
 -- A message that goes onto a link, or comes off it, keeps the order of each flow.
-use Rattle.std.proofs.Common.{◌≡◌, ◌≢◌, ℕ, Bool, true, false, ◌<◌, List, [], ◌∷◌, ◌++◌, refl, ap, sym, ◌∙◌, subst, Some}
-use Rattle.std.proofs.Math.Logic.{⊎_elim}
-use Rattle.std.proofs.lemmas.Bool.{cases_eq}
-use Rattle.std.proofs.lemmas.List.{append_assoc}
-use Rattle.signalling_types.specs.Message.{Message, flow_of}
-use Rattle.signalling_types.specs.declared.point.Flow.{Flow}
-use Rattle.pair_moves.specs.Sayings.{Saying, is_user_message, is_of_flow}
-use Rattle.pair_moves.specs.Ends.{Line, Procedure, Changeover, Code, Time, Side, Pair, turned, turned_line, unreceived}
-use Rattle.pair_moves.specs.Passing.{BecomeAt, MayGo, with_message, Places}
-use Rattle.pair_moves.specs.Carrying.{with_accepted, TakesMessage}
-use Rattle.pair_moves.specs.Order.{of_flow, standing_on, IsGuarded, by_route, by_changeover, by_time, by_code, IsInOrder}
+use Rattle.pair_moves.proofs.Basics.{◌≡◌, ◌≢◌, ℕ, Bool, true, false, ◌<◌, List, [], ◌∷◌, ◌++◌, refl, ap, sym, ◌∙◌, subst, Some, ⊎_elim, cases_eq, append_assoc}
+use Rattle.pair_moves.proofs.Definitions.{Message, flow_of, Flow, Saying, is_user_message, is_of_flow, Line, Procedure, Changeover, Code, Time, Side, Pair, turned, turned_line, unreceived, BecomeAt, MayGo, with_message, Places, with_accepted, TakesMessage, of_flow, standing_on, IsGuarded, by_route, by_changeover, by_time, by_code, IsInOrder}
 use Rattle.pair_moves.proofs.Lines.{IsLine, both}
 use Rattle.pair_moves.proofs.Books.{each-line, set-turned}
 use Rattle.pair_moves.proofs.Sound.{Sound}

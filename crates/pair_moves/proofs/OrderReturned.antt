@@ -1,17 +1,6 @@
 -- Moves of a link that opens and returns keep the order of each flow.
-use Rattle.std.proofs.Common.{◌≡◌, ◌≢◌, inl, inr, ℕ, Bool, true, false, ◌≤◌, ◌<◌, List, [], ◌∷◌, ◌++◌, count_by, refl, ap, sym, ◌∙◌, arith, subst, Some}
-use Rattle.std.proofs.Math.Logic.{⊎_elim}
-use Rattle.std.proofs.lemmas.Bool.{cases_eq}
-use Rattle.signalling_types.specs.Message.{Message}
-use Rattle.signalling_types.specs.declared.point.Flow.{Flow}
-use Rattle.link.specs.Queue.{Queue}
-use Rattle.pair_moves.specs.Sayings.{Saying, Declaration, Confirmation, is_of_flow, is_declaration, is_confirmation}
-use Rattle.pair_moves.specs.Ends.{Line, Changeover, Code, Time, Side, Pair, turned, unreceived}
-use Rattle.pair_moves.specs.Passing.{with_message}
-use Rattle.pair_moves.specs.Returning.{opened_first, opened_second, with_service, StaysOrIsHeld, OpensFirst, OpensSecond, Enters, Declares, WaitsForTime, Confirms, EndsHold, IgnoresConfirmation}
-use Rattle.pair_moves.specs.Moves.{RunsLate}
-use Rattle.pair_moves.specs.Laws.{one_if, saying}
-use Rattle.pair_moves.specs.Order.{IsGuarded, by_route, by_changeover, by_time, by_code, IsInOrder}
+use Rattle.pair_moves.proofs.Basics.{◌≡◌, ◌≢◌, inl, inr, ℕ, Bool, true, false, ◌≤◌, ◌<◌, List, [], ◌∷◌, ◌++◌, count_by, refl, ap, sym, ◌∙◌, arith, subst, Some, ⊎_elim, cases_eq}
+use Rattle.pair_moves.proofs.Definitions.{Message, Flow, Queue, Saying, Declaration, Confirmation, is_of_flow, is_declaration, is_confirmation, Line, Changeover, Code, Time, Side, Pair, turned, unreceived, with_message, opened_first, opened_second, with_service, StaysOrIsHeld, OpensFirst, OpensSecond, Enters, Declares, WaitsForTime, Confirms, EndsHold, IgnoresConfirmation, RunsLate, one_if, saying, IsGuarded, by_route, by_changeover, by_time, by_code, IsInOrder}
 use Rattle.pair_moves.proofs.Lines.{IsLine}
 use Rattle.pair_moves.proofs.LinesChanged.{drop-none}
 use Rattle.pair_moves.proofs.Counts.{count-cons, count-append, count-first, sum-holds}

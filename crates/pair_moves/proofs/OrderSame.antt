@@ -1,12 +1,6 @@
 -- The order of one flow where what stands on links is as before.
-use Rattle.std.proofs.Common.{◌≡◌, ◌≢◌, ℕ, false, ◌<◌, List, [], ◌∷◌, ◌++◌, refl, ap, sym, ◌∙◌}
-use Rattle.std.proofs.lemmas.List.{append-nil, append_assoc}
-use Rattle.signalling_types.specs.Message.{Message}
-use Rattle.signalling_types.specs.declared.point.Flow.{Flow}
-use Rattle.pair_moves.specs.Sayings.{Saying, is_of_flow}
-use Rattle.pair_moves.specs.Ends.{Line, Side, Pair, turned, turned_line, unreceived}
-use Rattle.pair_moves.specs.Passing.{BecomeAt}
-use Rattle.pair_moves.specs.Order.{of_flow, standing_on, IsGuarded, IsInOrder}
+use Rattle.pair_moves.proofs.Basics.{◌≡◌, ◌≢◌, ℕ, false, ◌<◌, List, [], ◌∷◌, ◌++◌, refl, ap, sym, ◌∙◌, append-nil, append_assoc}
+use Rattle.pair_moves.proofs.Definitions.{Message, Flow, Saying, is_of_flow, Line, Side, Pair, turned, turned_line, unreceived, BecomeAt, of_flow, standing_on, IsGuarded, IsInOrder}
 use Rattle.pair_moves.proofs.Books.{each-line}
 use Rattle.pair_moves.proofs.Joins.{flow-append, flow-without, flow-append_without}
 use Rattle.pair_moves.proofs.Ordered.{order-still, order-same, guard-same}

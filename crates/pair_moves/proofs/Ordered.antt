@@ -1,11 +1,6 @@
 -- The order of one flow, kept by a move that is known by what it changes.
-use Rattle.std.proofs.Common.{◌≡◌, ◌≢◌, ℕ, true, false, ◌<◌, List, [], ◌∷◌, ◌++◌, ap, sym, ◌∙◌, arith, Option, Some}
-use Rattle.std.proofs.lemmas.List.{append-nil, append_assoc}
-use Rattle.signalling_types.specs.Message.{Message}
-use Rattle.signalling_types.specs.declared.point.Flow.{Flow}
-use Rattle.pair_moves.specs.Sayings.{Saying, is_of_flow}
-use Rattle.pair_moves.specs.Ends.{Procedure, Changeover, Code, Time, Pair, unreceived}
-use Rattle.pair_moves.specs.Order.{join_to, of_flow, standing_on, IsGuarded, by_route, by_changeover, by_time, by_code, IsInOrder}
+use Rattle.pair_moves.proofs.Basics.{◌≡◌, ◌≢◌, ℕ, true, false, ◌<◌, List, [], ◌∷◌, ◌++◌, ap, sym, ◌∙◌, arith, Option, Some, append-nil, append_assoc}
+use Rattle.pair_moves.proofs.Definitions.{Message, Flow, Saying, is_of_flow, Procedure, Changeover, Code, Time, Pair, unreceived, join_to, of_flow, standing_on, IsGuarded, by_route, by_changeover, by_time, by_code, IsInOrder}
 use Rattle.pair_moves.proofs.Joins.{join-alike, four, flow-append_without}
 
 same-some : (a b : ℕ) → Some a ≡ Some b → a ≡ b

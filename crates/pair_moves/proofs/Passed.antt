@@ -1,15 +1,7 @@
 -- Moves of messages and frames are sound.
-use Rattle.std.proofs.Common.{◌≡◌, inl, ℕ, zero, suc, true, false, ◌+◌, ◌≤◌, List, [], ◌∷◌, ◌++◌, length, drop, slice_get, count_by, refl, ap, sym, ◌∙◌, subst, arith, Some}
+use Rattle.pair_moves.proofs.Basics.{◌≡◌, inl, ℕ, zero, suc, true, false, ◌+◌, ◌≤◌, List, [], ◌∷◌, ◌++◌, length, drop, slice_get, count_by, refl, ap, sym, ◌∙◌, subst, arith, Some, drop-append-le}
+use Rattle.pair_moves.proofs.Definitions.{Message, last_accepted, Saying, UserMessage, is_order, is_answer, is_untrue, is_declaration, is_confirmation, Line, Side, Pair, turned_line, unreceived, BecomeAt, with_message, Accepts, TakesOut, Keeps, Places, HandsOver, with_status, with_statuses_left, with_sent, with_heard, with_frames_left, with_accepted, SendsStatus, SendsMessage, SendsEmpty, HearsStatus, TakesStatus, DoublesStatus, Drops, TakesEmpty, TakesMessage, Flows, user}
 use Rattle.std.proofs.lemmas.Grind.{common_steps}
-use Rattle.std.proofs.lemmas.List.{drop-append-le}
-use Rattle.signalling_types.specs.Message.{Message}
-use Rattle.link.specs.Queue.{last_accepted}
-use Rattle.pair_moves.specs.Sayings.{Saying, UserMessage, is_order, is_answer, is_untrue, is_declaration, is_confirmation}
-use Rattle.pair_moves.specs.Ends.{Line, Side, Pair, turned_line, unreceived}
-use Rattle.pair_moves.specs.Passing.{BecomeAt, with_message, Accepts, TakesOut, Keeps, Places, HandsOver}
-use Rattle.pair_moves.specs.Carrying.{with_status, with_statuses_left, with_sent, with_heard, with_frames_left, with_accepted, SendsStatus, SendsMessage, SendsEmpty, HearsStatus, TakesStatus, DoublesStatus, Drops, TakesEmpty, TakesMessage}
-use Rattle.pair_moves.specs.Flowing.{Flows}
-use Rattle.pair_moves.specs.Once.{user}
 use Rattle.pair_moves.proofs.Counts.{count-append, count-one, count-first}
 use Rattle.pair_moves.proofs.Words.{only-user, said}
 use Rattle.pair_moves.proofs.Lines.{IsLine, serving-flows, line-message, line-status, line-empty, line-sent, line-heard, line-told}

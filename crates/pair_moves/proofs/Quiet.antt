@@ -1,12 +1,6 @@
 -- Moves that make nothing and look at nothing.
-use Rattle.std.proofs.Common.{◌≡◌, ◌⊎◌, ℕ, Bool, true, ◌+◌, ◌≤◌, [], count_by, refl, ap, arith}
-use Rattle.signalling_types.specs.Message.{Message}
-use Rattle.pair_moves.specs.Sayings.{Saying}
-use Rattle.link.specs.Queue.{last_accepted}
-use Rattle.pair_moves.specs.Ends.{LinkEnd, Line, Side, Pair, turned, turned_line, unreceived}
-use Rattle.pair_moves.specs.Passing.{BecomeAt}
-use Rattle.pair_moves.specs.Laws.{under_way, one_if}
-use Rattle.pair_moves.specs.Once.{user}
+use Rattle.pair_moves.proofs.Basics.{◌≡◌, ◌⊎◌, ℕ, Bool, true, ◌+◌, ◌≤◌, [], count_by, refl, ap, arith}
+use Rattle.pair_moves.proofs.Definitions.{Message, Saying, last_accepted, LinkEnd, Line, Side, Pair, turned, turned_line, unreceived, BecomeAt, under_way, one_if, user}
 use Rattle.pair_moves.proofs.Counts.{way-within}
 use Rattle.pair_moves.proofs.Words.{untrue-more}
 use Rattle.pair_moves.proofs.Lines.{IsLine}

@@ -1,16 +1,6 @@
 -- Moves of a link that opens and returns are sound.
-use Rattle.std.proofs.Common.{◌≡◌, ◌≢◌, inr, ℕ, Bool, true, ◌+◌, ◌≤◌, List, [], ◌∷◌, ◌++◌, drop, count_by, nat_eq, refl, ap, sym, ◌∙◌, subst, arith}
-use Rattle.std.proofs.Math.Logic.{⊎_elim}
-use Rattle.std.proofs.lemmas.Bool.{cases_eq}
-use Rattle.signalling_types.specs.Message.{Message}
-use Rattle.link.specs.Queue.{Queue, last_accepted}
-use Rattle.pair_moves.specs.Sayings.{Saying, Declaration, Confirmation, is_order, is_answer, is_untrue, is_declaration, is_confirmation}
-use Rattle.pair_moves.specs.Ends.{LinkEnd, Line, Side, Pair, turned, turned_line, unreceived}
-use Rattle.pair_moves.specs.Passing.{with_message}
-use Rattle.pair_moves.specs.Returning.{opened_end, opened_first, opened_second, MayOpen, with_service, OpensFirst, OpensSecond, Enters, Declares, WaitsForTime, Confirms, EndsHold, IgnoresConfirmation}
-use Rattle.pair_moves.specs.Moves.{RunsLate}
-use Rattle.pair_moves.specs.Flowing.{IsEnd, OpenedAlone}
-use Rattle.pair_moves.specs.Laws.{under_way, one_if, saying}
+use Rattle.pair_moves.proofs.Basics.{◌≡◌, ◌≢◌, inr, ℕ, Bool, true, ◌+◌, ◌≤◌, List, [], ◌∷◌, ◌++◌, drop, count_by, nat_eq, refl, ap, sym, ◌∙◌, subst, arith, ⊎_elim, cases_eq}
+use Rattle.pair_moves.proofs.Definitions.{Message, Queue, last_accepted, Saying, Declaration, Confirmation, is_order, is_answer, is_untrue, is_declaration, is_confirmation, LinkEnd, Line, Side, Pair, turned, turned_line, unreceived, with_message, opened_end, opened_first, opened_second, MayOpen, with_service, OpensFirst, OpensSecond, Enters, Declares, WaitsForTime, Confirms, EndsHold, IgnoresConfirmation, RunsLate, IsEnd, OpenedAlone, under_way, one_if, saying}
 use Rattle.pair_moves.proofs.Counts.{count-append, count-one, count-first, way-within}
 use Rattle.pair_moves.proofs.Words.{said, said-no_user, same-link, other-link, untrue-any, small}
 use Rattle.pair_moves.proofs.Lines.{IsLine, line-message}

@@ -1,9 +1,6 @@
 -- What a move keeps beside order, known by what it changes at the near node and on one line.
-use Rattle.std.proofs.Common.{◌≡◌, ℕ, Bool, ◌+◌, List, count_by, arith}
-use Rattle.signalling_types.specs.Message.{Message}
-use Rattle.pair_moves.specs.Sayings.{Saying}
-use Rattle.pair_moves.specs.Ends.{Line, Side, Pair, turned, turned_line, unreceived}
-use Rattle.pair_moves.specs.Passing.{BecomeAt}
+use Rattle.pair_moves.proofs.Basics.{◌≡◌, ℕ, Bool, ◌+◌, List, count_by, arith}
+use Rattle.pair_moves.proofs.Definitions.{Message, Saying, Line, Side, Pair, turned, turned_line, unreceived, BecomeAt}
 use Rattle.pair_moves.proofs.Lines.{IsLine}
 use Rattle.pair_moves.proofs.Books.{Books, Agrees, Tallies, total-but, set-turned, tallies-there, tallies-back}
 

@@ -1,11 +1,6 @@
 -- What an order or an answer that just arrived tells, since it is true.
-use Rattle.std.proofs.Common.{◌≡◌, ℕ, zero, suc, Bool, true, false, ◌||◌, ◌+◌, List, [], ◌∷◌, drop, count_by, refl, ap, sym, ◌∙◌, arith, Some}
-use Rattle.signalling_types.specs.Message.{Message}
-use Rattle.link.specs.Queue.{last_accepted, named_count}
-use Rattle.pair_moves.specs.Sayings.{Saying, Order, Answer, is_user_message, is_untrue}
-use Rattle.pair_moves.specs.Ends.{LinkEnd, Line, Pair, unreceived}
-use Rattle.pair_moves.specs.Failing.{users_of, managements_of}
-use Rattle.pair_moves.specs.Laws.{one_if}
+use Rattle.pair_moves.proofs.Basics.{◌≡◌, ℕ, zero, suc, Bool, true, false, ◌||◌, ◌+◌, List, [], ◌∷◌, drop, count_by, refl, ap, sym, ◌∙◌, arith, Some}
+use Rattle.pair_moves.proofs.Definitions.{Message, last_accepted, named_count, Saying, Order, Answer, is_user_message, is_untrue, LinkEnd, Line, Pair, unreceived, users_of, managements_of, one_if}
 use Rattle.pair_moves.proofs.Counts.{count-split}
 use Rattle.pair_moves.proofs.Words.{true-order, true-answer, arrived-not}
 use Rattle.pair_moves.proofs.Lines.{or-second, used-by, unless-true, incomplete-joined, incomplete-first}

@@ -1,15 +1,8 @@
 -- The run in which the flow goes back is one: each pair of it comes from the one before by a move.
-use Rattle.std.proofs.Common.{◌≡◌, ◌≢◌, inr, ℕ, true, false, [], nat_eq, refl, ap, sym, arith, Some, None}
-use Rattle.std.proofs.lemmas.Bool.{ne_eqb}
-use Rattle.pair_moves.specs.Ends.{Procedure, Changeover, Code, Time, turned}
-use Rattle.pair_moves.specs.Passing.{with_message}
-use Rattle.pair_moves.specs.Carrying.{with_sent, with_accepted}
-use Rattle.pair_moves.specs.Failing.{with_failure}
-use Rattle.pair_moves.specs.Returning.{with_service}
+use Rattle.pair_moves.proofs.Basics.{◌≡◌, ◌≢◌, inr, ℕ, true, false, [], nat_eq, refl, ap, sym, arith, Some, None, ne_eqb}
+use Rattle.pair_moves.proofs.Definitions.{Procedure, Changeover, Code, Time, turned, with_message, with_sent, with_accepted, with_failure, with_service, Move, Moves, read_plainly, lines_with}
 use Rattle.pair_moves.specs.Moves as moves
-use Rattle.pair_moves.specs.Moves.{Move, Moves}
 use Rattle.pair_moves.specs.Crossing as crossing
-use Rattle.pair_moves.specs.Crossing.{read_plainly, lines_with}
 use Rattle.pair_moves.specs.GoingBack as back
 use Rattle.pair_moves.specs.GoingBack.{second_message, the_declaration, the_confirmation, held_by_code, Returns}
 use Rattle.pair_moves.proofs.Lines.{false_is_true}

@@ -1,12 +1,6 @@
 -- What single messages say: orders and answers that are true, and what else a message is not.
-use Rattle.std.proofs.Common.{◌≡◌, ◌≢◌, ◌⊎◌, inl, inr, ℕ, Bool, true, false, not, ◌+◌, ◌≤◌, ◌||◌, ◌&&◌, List, [], ◌∷◌, count_by, nat_eq, refl, ap, sym, ◌∙◌, arith}
-use Rattle.std.proofs.lemmas.Bool.{eq-eqb, ne_eqb}
-use Rattle.std.proofs.lemmas.Bool.Decides.{nat_tests}
-use Rattle.signalling_types.specs.Message.{Message}
-use Rattle.pair_moves.specs.Sayings.{Saying, UserMessage, Order, Answer, Declaration, Confirmation, is_order, is_answer, is_untrue, is_user_message}
-use Rattle.pair_moves.specs.Ends.{Pair, turned}
-use Rattle.pair_moves.specs.Laws.{under_way, one_if, saying}
-use Rattle.pair_moves.specs.Once.{user}
+use Rattle.pair_moves.proofs.Basics.{◌≡◌, ◌≢◌, ◌⊎◌, inl, inr, ℕ, Bool, true, false, not, ◌+◌, ◌≤◌, ◌||◌, ◌&&◌, List, [], ◌∷◌, count_by, nat_eq, refl, ap, sym, ◌∙◌, arith, eq-eqb, ne_eqb, nat_tests}
+use Rattle.pair_moves.proofs.Definitions.{Message, Saying, UserMessage, Order, Answer, Declaration, Confirmation, is_order, is_answer, is_untrue, is_user_message, Pair, turned, under_way, one_if, saying, user}
 use Rattle.pair_moves.proofs.Counts.{count-one, count-first}
 use Rattle.pair_moves.proofs.Lines.{false_is_true, true_is_false}
 
