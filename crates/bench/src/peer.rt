@@ -13,6 +13,7 @@ use settings::{Limits, LinkId, MsuRef, Sls};
 use signalling_types::Number24;
 use signalling_types::number::next;
 use std::alloc::Global;
+use std::marker::Model;
 
 /// What a link tells on its way into service: Alignment, Proving Normal, Ready.
 const STATUSES: usize = 3;
@@ -35,7 +36,7 @@ const CODE_AT: usize = 23;
 /// Octets of its frame.
 const DECLARATION_OCTETS: u8 = 24;
 
-/// The exchange, and the peer at the other end of its link.
+/// The exchange, and the peer at the other end of its link. Its state is hidden from proofs: nothing is promised of it.
 #[derive(Drop)]
 pub(crate) struct Peer {
     exchange: Exchange,
@@ -48,6 +49,12 @@ pub(crate) struct Peer {
     empty: Incoming,
     buffer: [u8; BUFFER_OCTETS],
     total: Total,
+}
+
+impl Model for Peer {
+    ghost Value = { Unit {0} };
+
+    ghost view = { λ _. tt };
 }
 
 impl Peer {
