@@ -1,20 +1,7 @@
 -- A link that returns leaves Held as it is, and holds flows beside those that were held: what waited still waits.
-use Rattle.std.proofs.Common.{◌≡◌, ℕ, zero, suc, Bool, true, false, ◌&&◌, not, List, [], ◌∷◌, length, Option, Some, None, refl, ap, ◌∙◌}
-use Rattle.std.specs.Prelude.{if◌then◌else◌}
-use Rattle.signalling_types.specs.Message.{Message, flow_of, is_management}
-use Rattle.settings_rows.specs.Configuration.{Configuration}
-use Rattle.settings.specs.Readings.{destination_place}
-use Rattle.link.specs.declared.action.Transition.{Transition}
-use Rattle.routes.specs.Facts.{Facts}
-use Rattle.flow_hold.specs.Holds.{HoldSet, is_held}
-use Rattle.exchange_rules.specs.State.{Parts, Node, with_parts}
-use Rattle.exchange_rules.specs.Queues.{WholeQueues, whole}
-use Rattle.exchange_rules.specs.Routing.{facts}
-use Rattle.exchange_rules.specs.Holding.{is_held_at, is_flow_held, waits, all_wait}
-use Rattle.exchange_rules.specs.ChangingBack.{loses_flows, code_for, declare_by, hold_flows, take_back_each, change_back}
-use Rattle.exchange_rules.specs.Failing.{has_other}
+use Rattle.exchange_rules.proofs.Basics.{◌≡◌, ℕ, zero, suc, Bool, true, false, ◌&&◌, not, List, [], ◌∷◌, length, Option, Some, None, refl, ap, ◌∙◌, if◌then◌else◌, and_from as pair}
+use Rattle.exchange_rules.proofs.Definitions.{Message, flow_of, is_management, Configuration, destination_place, Transition, Facts, HoldSet, is_held, Parts, Node, with_parts, WholeQueues, whole, facts, is_held_at, is_flow_held, waits, all_wait, loses_flows, code_for, declare_by, hold_flows, take_back_each, change_back, has_other, enters, begun_anew_if, moved_on, return_if, advance, step_on}
 use Rattle.exchange_rules.proofs.TakenPairs.{flows_stay_held}
-use Rattle.exchange_rules.specs.Statuses.{enters, begun_anew_if, moved_on, return_if, advance, step_on}
 
 -- ---- holds are added
 
@@ -41,10 +28,6 @@ front false b e = absurd cc
 rest : (a b : Bool) → (a && b) ≡ true → b ≡ true
 rest true b e = e
 rest false b e = absurd cc
-
-pair : (a b : Bool) → a ≡ true → b ≡ true → (a && b) ≡ true
-pair true b e f = f
-pair false b e f = e
 
 all_wait-more : (c : Configuration) (ms : List Message) (t u : HoldSet) → HoldsMore t u → all_wait c t ms ≡ true → all_wait c u ms ≡ true
 all_wait-more c [] t u h e = e

@@ -1,16 +1,6 @@
 -- Over every event and every take, all that came in stands, was accepted by a peer, or is named as lost.
-use Rattle.std.proofs.Common.{Bool, List, [], ap, arith, length, refl, replicate, subst, suc, sum_by, sym, zero, ℕ, ◌+◌, ◌∙◌, ◌∷◌, ◌≡◌}
-use Rattle.std.proofs.lemmas.List.Sums.{sum_by-cons}
-use Rattle.link.specs.Queue.{first_queue, unconfirmed}
-use Rattle.settings_rows.specs.Configuration.{Configuration}
-use Rattle.signalling_types.specs.Message.{Message}
-use Rattle.exchange_rules.specs.Conserving.{gone_that, users_that}
-use Rattle.exchange_rules.specs.LawsOfMessages.{all_brought, all_gone, all_that_came_adds_up, brought_by_asking, gone_by_asking}
-use Rattle.exchange_rules.specs.First.{first_state}
-use Rattle.exchange_rules.specs.Happening.{Asking, AsksWants, Happens, Takes}
-use Rattle.exchange_rules.specs.Lasting.{HasAllPlaces, after_asking, after_each}
-use Rattle.exchange_rules.specs.LastingLinks.{AreLinksSteady}
-use Rattle.exchange_rules.specs.Sound.{Abstract}
+use Rattle.exchange_rules.proofs.Basics.{Bool, List, [], ap, arith, length, refl, replicate, subst, suc, sum_by, sym, zero, ℕ, ◌+◌, ◌∙◌, ◌∷◌, ◌≡◌, sum_by-cons}
+use Rattle.exchange_rules.proofs.Definitions.{first_queue, unconfirmed, Configuration, Message, gone_that, users_that, all_brought, all_gone, all_that_came_adds_up, brought_by_asking, gone_by_asking, first_state, Asking, AsksWants, Happens, Takes, HasAllPlaces, after_asking, after_each, AreLinksSteady, Abstract}
 use Rattle.exchange_rules.proofs.Asked.{settings-stay}
 use Rattle.exchange_rules.proofs.Changes.{stands}
 use Rattle.exchange_rules.proofs.Conserved.{conserved, take-leaves}

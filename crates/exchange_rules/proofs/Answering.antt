@@ -1,32 +1,12 @@
 -- What answers a refused message leaves what waits in Held, and lets no adjacent point be owed more.
-use Rattle.std.proofs.Common.{◌≡◌, ◌+◌, ℕ, zero, suc, Bool, true, false, ◌||◌, not, cond, List, [], ◌∷◌, ◌++◌, Option, Some, None, drop, sum_by, refl, sym, ap, ◌∙◌, arith}
-use Rattle.std.specs.Prelude.{if◌then◌else◌, nat_eq, nat_lt}
-use Rattle.std.proofs.Math.ListN.{set}
-use Rattle.std.proofs.lemmas.Bool.Decides.{nat_tests}
-use Rattle.std.proofs.lemmas.List.Sums.{sum_by-append, sum_by-cons}
-use Rattle.signalling_types.specs.Message.{Message, dpc_of, flow_of, is_management, service_indicator}
-use Rattle.signalling_types.specs.declared.cause.Cause.{Cause}
+use Rattle.exchange_rules.proofs.Basics.{◌≡◌, ◌+◌, ℕ, zero, suc, Bool, true, false, ◌||◌, not, cond, List, [], ◌∷◌, ◌++◌, Option, Some, None, sum_by, refl, sym, ap, ◌∙◌, arith, if◌then◌else◌, set, nat_tests, sum_by-append, sum_by-cons}
+use Rattle.exchange_rules.proofs.Definitions.{Message, dpc_of, flow_of, is_management, service_indicator, Cause, Configuration, destination_place, Discrimination, returned, Queue, first_queue, unconfirmed, owes_nothing, Node, refuse, WholeQueues, queue_at, whole, facts, link_of, no_room, queue_on, waits, all_wait, hold, is_destination, offer, sccp, whither_goes, own_of, in_place_of, send_udts, return_unitdata, told_below, is_all_told, answered_by, answered}
+use Rattle.std.proofs.Common.{drop}
+use Rattle.std.specs.Prelude.{nat_eq, nat_lt}
 use Rattle.signalling_types.specs.declared.cause.Cause.TheVariants as causes
-use Rattle.settings_rows.specs.Configuration.{Configuration}
-use Rattle.settings.specs.Readings.{destination_place}
-use Rattle.mtp3_codec.specs.declared.discrimination.Discrimination.{Discrimination}
 use Rattle.mtp3_codec.specs.declared.discrimination.Discrimination.TheVariants as whither
-use Rattle.sccp_relay.specs.Return.{returned}
 use Rattle.cell_pool.specs.Lanes.{managements_in}
 use Rattle.link.specs.Queue as queue
-use Rattle.link.specs.Queue.{Queue, first_queue, unconfirmed}
-use Rattle.route_management.specs.Owed.{owes_nothing}
-use Rattle.exchange_rules.specs.State.{Node, refuse}
-use Rattle.exchange_rules.specs.Queues.{WholeQueues, queue_at, whole}
-use Rattle.exchange_rules.specs.Routing.{facts, link_of}
-use Rattle.exchange_rules.specs.Queueing.{no_room, queue_on}
-use Rattle.exchange_rules.specs.Holding.{waits, all_wait, hold}
-use Rattle.exchange_rules.specs.Arrival.{is_destination, offer}
-use Rattle.exchange_rules.specs.Local.{sccp}
-use Rattle.exchange_rules.specs.Messages.{whither_goes}
-use Rattle.exchange_rules.specs.Relaying.{own_of, in_place_of, send_udts, return_unitdata}
-use Rattle.exchange_rules.specs.Telling.{told_below, is_all_told}
-use Rattle.exchange_rules.specs.Laws.{answered_by, answered}
 use Rattle.exchange_rules.proofs.Lists.{map-set_alike, sum_by-map}
 use Rattle.exchange_rules.proofs.Settling.{one_more, answer_no_route-waits}
 

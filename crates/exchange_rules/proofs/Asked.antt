@@ -1,16 +1,7 @@
 -- Whatever an exchange is asked, and however often, is made of steps: a relation that holds of each step, of a tick and of a timer that is handed out
 -- holds between the node before and the node after.
-use Rattle.std.proofs.Common.{◌≡◌, ℕ, List, [], ◌∷◌, refl, sym, subst, ◌∙◌}
-use Rattle.settings_rows.specs.Configuration.{Configuration}
-use Rattle.timers.specs.Timers.{ticked, after_due}
-use Rattle.exchange_rules.specs.State.{Node}
-use Rattle.exchange_rules.specs.Ticking.{with_timers, run_next}
-use Rattle.exchange_rules.specs.Happening.{Happening, Asking, Happens, Takes, AsksWants}
-use Rattle.exchange_rules.specs.Queues.{WholeQueues, whole}
-use Rattle.exchange_rules.specs.Exchange.{apply}
-use Rattle.exchange_rules.specs.Sending.{after_take}
-use Rattle.exchange_rules.specs.Sound.{Abstract}
-use Rattle.exchange_rules.specs.Lasting.{after_asking, after_each}
+use Rattle.exchange_rules.proofs.Basics.{◌≡◌, ℕ, List, [], ◌∷◌, refl, sym, subst, ◌∙◌}
+use Rattle.exchange_rules.proofs.Definitions.{Configuration, ticked, after_due, Node, with_timers, run_next, Happening, Asking, Happens, Takes, AsksWants, WholeQueues, whole, apply, after_take, Abstract, after_asking, after_each}
 use Rattle.exchange_rules.proofs.Steps.{IsOfSteps}
 use Rattle.exchange_rules.proofs.SteppingEvents.{tick-steps, run_next-steps, apply-steps, take-steps}
 

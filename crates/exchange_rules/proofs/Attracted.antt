@@ -1,32 +1,12 @@
 -- A link that returns to service takes over flows itself, and no flow goes to any other link then: each that changed its link is held.
-use Rattle.std.proofs.Common.{◌≡◌, ◌≢◌, ◌<◌, ◌≤◌, ◌⊎◌, ℕ, zero, suc, Bool, true, false, ◌&&◌, ◌||◌, cond, List, [], ◌∷◌, length, not, refl, ap, sym, ◌∙◌, arith, inl, inr}
-use Rattle.std.specs.Prelude.{Option, Some, None, Contains, find, map, slice_set, ◌==◌}
-use Rattle.std.specs.Option.{option_map, option_or, option_and_then}
-use Rattle.std.proofs.Math.Logic.{⊎_elim}
-use Rattle.std.proofs.lemmas.Bool.{cases_lt, cases_eq}
+use Rattle.exchange_rules.proofs.Basics.{◌≡◌, ◌≢◌, ◌<◌, ◌≤◌, ◌⊎◌, ℕ, zero, suc, Bool, true, false, ◌&&◌, ◌||◌, cond, List, [], ◌∷◌, length, not, refl, ap, sym, ◌∙◌, arith, inl, inr, Contains, find, slice_set, ◌==◌, option_map, option_or, option_and_then, ⊎_elim, cases_lt, cases_eq, get_or_past, get_or-set_same, get_or-set_other, length-set, length-map}
+use Rattle.exchange_rules.proofs.Definitions.{Route, RouteStatus, Allowed, Restricted, Facts, set_at, routes_to, with_status_over, chosen_link, Configuration, Transition, is_held, reset_shape, Parts, Node, with_parts, in_service, link_at, WholeQueues, whole, facts, change_back, set_of, enters, begun_anew_if, step_on, return_if, advance, HasPlacesFor, entries_hold_changed_flows}
+use Rattle.std.specs.Prelude.{Option, Some, None, map}
 use Rattle.std.proofs.lemmas.Option.{same_Some}
-use Rattle.std.proofs.lemmas.List.{get_or_past, get_or-set_same, get_or-set_other, length-set, length-map}
-use Rattle.routes.specs.declared.route.Route.{Route}
-use Rattle.routes.specs.declared.route.RouteStatus.{RouteStatus}
-use Rattle.routes.specs.declared.route.RouteStatus.TheVariants.{Allowed, Restricted}
-use Rattle.routes.specs.Facts.{Facts, set_at, routes_to, with_link, with_status_over}
-use Rattle.routes.specs.Chosen.{chosen_link}
+use Rattle.routes.specs.Facts.{with_link}
 use Rattle.routes.proofs.Leaving.{goes_or_stays}
-use Rattle.settings_rows.specs.Configuration.{Configuration}
-use Rattle.link.specs.declared.action.Transition.{Transition}
-use Rattle.flow_hold.specs.Holds.{is_held}
 use Rattle.node_links.specs.LinkState as state
-use Rattle.route_management.proofs.Shape.{reset_shape}
-use Rattle.exchange_rules.specs.State.{Parts, Node, with_parts}
-use Rattle.exchange_rules.specs.Links.{in_service, link_at}
-use Rattle.exchange_rules.specs.Queues.{WholeQueues, whole}
-use Rattle.exchange_rules.specs.Routing.{facts}
-use Rattle.exchange_rules.specs.ChangingBack.{change_back}
-use Rattle.exchange_rules.specs.Points.{set_of}
 use Rattle.exchange_rules.specs.Failing as failing
-use Rattle.exchange_rules.specs.Statuses.{enters, begun_anew_if, step_on, return_if, advance}
-use Rattle.exchange_rules.specs.Places.{HasPlacesFor}
-use Rattle.exchange_rules.specs.LawsOfReturns.{entries_hold_changed_flows}
 use Rattle.exchange_rules.proofs.Entering.{known_links}
 use Rattle.exchange_rules.proofs.TakenPairs.{IsAlike, take_back_each-alike}
 use Rattle.exchange_rules.proofs.TakenBack.{taken_flows_held}

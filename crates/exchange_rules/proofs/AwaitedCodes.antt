@@ -1,11 +1,6 @@
 -- One code more is awaited, and one message more stands in a queue.
-use Rattle.std.proofs.Common.{◌≡◌, ◌≢◌, ◌<◌, ◌≤◌, ℕ, Bool, true, false, not, List, [], length, Some, refl, ap, sym, ◌∙◌, subst, arith}
-use Rattle.std.specs.Prelude.{slice_index_or, slice_set}
-use Rattle.std.proofs.Math.Logic.{⊎_elim}
-use Rattle.std.proofs.lemmas.Bool.{cases_lt, cases_eq}
-use Rattle.std.proofs.lemmas.List.{get_or_past, get_or-set_same, get_or-set_other, length-set}
-use Rattle.std.proofs.lemmas.List.Quantifiers.{position-Some}
-use Rattle.changeback.specs.Codes.{Codes, codes_of, free_code, is_outstanding, with_code}
+use Rattle.exchange_rules.proofs.Basics.{◌≡◌, ◌≢◌, ◌<◌, ◌≤◌, ℕ, Bool, true, false, not, List, [], length, Some, refl, ap, sym, ◌∙◌, subst, arith, slice_index_or, slice_set, ⊎_elim, cases_lt, cases_eq, get_or_past, get_or-set_same, get_or-set_other, length-set, position-Some}
+use Rattle.exchange_rules.proofs.Definitions.{Codes, codes_of, free_code, is_outstanding, with_code}
 
 no : {A : Type 0} → false ≡ true → A
 no e = absurd cc

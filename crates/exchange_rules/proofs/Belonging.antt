@@ -1,23 +1,11 @@
 -- The link that a flow takes is one of the settings, and so are its set and its destination.
-use Rattle.std.proofs.Common.{◌≡◌, ◌<◌, ◌≤◌, ℕ, zero, suc, ◌-◌, Bool, true, false, ◌&&◌, cond, List, [], ◌∷◌, length, nat_eq, refl, ap, ◌∙◌, subst, arith, inl, inr}
-use Rattle.std.specs.Prelude.{Option, Some, None, Contains, find, position, slice_index_or}
-use Rattle.std.specs.Option.{option_map, option_or, option_to_list}
-use Rattle.std.proofs.Math.Logic.{⊎_elim}
-use Rattle.std.proofs.lemmas.Bool.{cases_lt}
+use Rattle.exchange_rules.proofs.Basics.{◌≡◌, ◌<◌, ◌≤◌, ℕ, zero, suc, ◌-◌, Bool, true, false, ◌&&◌, cond, List, [], ◌∷◌, length, nat_eq, refl, ap, ◌∙◌, subst, arith, inl, inr, Contains, find, position, slice_index_or, option_map, option_or, option_to_list, ⊎_elim, cases_lt, nat_tests, get_or_past, get_or_append_left, get_or-append_right, length-append, Contains-append_right, Contains-append_cases, position-Some}
+use Rattle.exchange_rules.proofs.Definitions.{Configuration, LinkEntry, Facts, first_sets, chosen_link, Parts, facts, set_of}
+use Rattle.std.specs.Prelude.{Option, Some, None}
 use Rattle.std.proofs.lemmas.Option.{same_Some}
-use Rattle.std.proofs.lemmas.Bool.Decides.{nat_tests}
-use Rattle.std.proofs.lemmas.List.{get_or_past, get_or_append_left, get_or-append_right, length-append}
-use Rattle.std.proofs.lemmas.List.Elements.{Contains-append_right, Contains-append_cases}
-use Rattle.std.proofs.lemmas.List.Quantifiers.{position-Some}
 use Rattle.std.proofs.lemmas.List.Sorted.{Contains-permutation, IsPermutation-sym}
-use Rattle.settings_rows.specs.Configuration.{Configuration, LinkEntry}
 use Rattle.routes.specs.Members.{has_code, links_below, links_of}
-use Rattle.routes.specs.Facts.{Facts, first_sets}
-use Rattle.routes.specs.Chosen.{chosen_link}
 use Rattle.routes.proofs.Leaving.{IsOfSet, chosen_of_set, none_past}
-use Rattle.exchange_rules.specs.State.{Parts}
-use Rattle.exchange_rules.specs.Routing.{facts}
-use Rattle.exchange_rules.specs.Points.{set_of}
 
 -- ---- the links of a set
 

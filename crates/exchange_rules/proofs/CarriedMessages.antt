@@ -1,25 +1,8 @@
 -- What was received on a link rises by one at most, exactly where a frame newly carries a message, and that is the one
 -- that stands in the frame.
-use Rattle.std.proofs.Common.{◌≡◌, ◌&&◌, ℕ, Bool, true, false, not, List, Some, None, Result, Ok, Err}
-use Rattle.std.specs.Prelude.{if◌then◌else◌}
-use Rattle.signalling_types.specs.Message.{Message}
-use Rattle.signalling_types.specs.declared.notice.FrameFault.{FrameFault}
-use Rattle.settings_rows.specs.Configuration.{Configuration}
-use Rattle.m2pa_codec.specs.Frames.{FrameValue, EmptyFrame, MessageFrame, StatusFrame}
-use Rattle.m2pa_codec.specs.Reading.{read_frame}
-use Rattle.link.specs.declared.action.Action.{Action}
+use Rattle.exchange_rules.proofs.Basics.{◌≡◌, ◌&&◌, ℕ, Bool, true, false, not, List, Some, None, Result, Ok, Err, if◌then◌else◌}
+use Rattle.exchange_rules.proofs.Definitions.{Message, FrameFault, Configuration, FrameValue, EmptyFrame, MessageFrame, StatusFrame, read_frame, Action, UserData, action_at, SeqFault, Node, is_link, link_at, down, advance, Carrying, empty_data, message_data, numbers, WholeQueues, whole, carried_message, new_by, new_at, new_of, new_message, Abstract}
 use Rattle.link.specs.declared.action.Action.TheVariants as act
-use Rattle.link.specs.declared.action.Input.TheVariants.{UserData}
-use Rattle.link.specs.Table.{action_at}
-use Rattle.link.specs.declared.fault.SeqFault.{SeqFault}
-use Rattle.exchange_rules.specs.State.{Node}
-use Rattle.exchange_rules.specs.Links.{is_link, link_at, down}
-use Rattle.exchange_rules.specs.Statuses.{advance}
-use Rattle.exchange_rules.specs.Frames.{Carrying, empty_data, message_data, numbers}
-use Rattle.exchange_rules.specs.Queues.{WholeQueues, whole}
-use Rattle.exchange_rules.specs.Laws.{carried_message}
-use Rattle.exchange_rules.specs.Receiving.{new_by, new_at, new_of, new_message}
-use Rattle.exchange_rules.specs.Sound.{Abstract}
 
 -- ---- which message it is
 

@@ -1,52 +1,6 @@
 -- Rules that make management alone, or change no queue: as many user messages stand after each as before.
-use Rattle.std.proofs.Common.{Bool, Err, List, None, Ok, Option, Result, Some, [], false, length, nat_lt, not, refl, suc, true, zero, ℕ, ◌&&◌, ◌∙◌, ◌∷◌, ◌≡◌}
-use Rattle.std.specs.Prelude.{if◌then◌else◌}
-use Rattle.changeback.specs.Codes.{is_outstanding}
-use Rattle.changeover.specs.Completion.{managements_of}
-use Rattle.link.specs.Table.{action_at}
-use Rattle.link.specs.declared.action.Action.{Action}
-use Rattle.link.specs.declared.action.Input.TheVariants.{Expiry, Status}
-use Rattle.link.specs.declared.action.LinkTimer.{LinkTimer}
-use Rattle.link.specs.declared.action.Transition.{Transition}
-use Rattle.link.specs.Queue.{Queue, appended}
-use Rattle.m2pa_codec.specs.declared.status.LinkStatus.{LinkStatus}
-use Rattle.mtp3_codec.specs.LinkTests.{LinkTestValue}
-use Rattle.mtp3_codec.specs.declared.fault.MgmtFault.{MgmtFault}
-use Rattle.mtp3_codec.specs.declared.link_test.TestKind.{TestKind}
-use Rattle.mtp3_codec.specs.declared.link_test.TestKind.TheVariants.{Acknowledgement, Test}
-use Rattle.mtp3_codec.specs.declared.management.Management.{Management}
-use Rattle.mtp3_codec.specs.declared.management.Management.TheVariants.{ChangebackDeclaration, ExtendedChangeoverOrder, RouteSetTestProhibited, RouteSetTestRestricted}
-use Rattle.route_management.specs.Owed.{Owed, owed}
-use Rattle.route_management.specs.declared.heard.Heard.{Heard}
-use Rattle.route_management.specs.declared.heard.RouteTest.{RouteTest}
-use Rattle.routes.specs.Facts.{Facts}
-use Rattle.routes.specs.Statuses.{status_of}
-use Rattle.routes.specs.declared.route.RouteStatus.{RouteStatus}
-use Rattle.routes.specs.declared.route.RouteStatus.TheVariants.{Allowed, Prohibited, Restricted}
-use Rattle.settings_rows.specs.Configuration.{Configuration}
-use Rattle.signalling_types.specs.Message.{Message, flow_of, is_management}
-use Rattle.signalling_types.specs.declared.cause.Cause.{Cause}
-use Rattle.signalling_types.specs.declared.notice.FailureReason.{FailureReason}
-use Rattle.signalling_types.specs.declared.notice.FrameFault.{FrameFault}
-use Rattle.signalling_types.specs.declared.outcome.Outcome.{Outcome}
-use Rattle.signalling_types.specs.declared.outcome.Outcome.TheVariants.{Handled, Ignored}
-use Rattle.exchange_rules.specs.ChangingBack.{code_for, code_in_use, declaration, freed, hold_flows, loses_flows, on_changeback_acknowledgement, take_back_each}
-use Rattle.exchange_rules.specs.ChangingOver.{fail_by_order, send_each}
-use Rattle.exchange_rules.specs.Conserving.{standing}
-use Rattle.exchange_rules.specs.Failing.{begin, begin_by_peer, change_over, changing, fail, fail_by_peer, has_other, make_unavailable}
-use Rattle.exchange_rules.specs.Frames.{leave_aside}
-use Rattle.exchange_rules.specs.Links.{down, in_service, is_link, link_at}
-use Rattle.exchange_rules.specs.Local.{do_kind, do_test, test_answer}
-use Rattle.exchange_rules.specs.Made.{management_to, send, send_anew, send_routed}
-use Rattle.exchange_rules.specs.Opening.{activate, association_down, deactivate, end_association, fail_if_up, set_active}
-use Rattle.exchange_rules.specs.Points.{adjacent_of, entry_of, peer_of, point_of, set_of}
-use Rattle.exchange_rules.specs.Queueing.{no_room, queue_on}
-use Rattle.exchange_rules.specs.Queues.{WholeQueues, queue_at, whole}
-use Rattle.exchange_rules.specs.Rerouting.{apply_route_status, ask_again, ask_by, on_route_status, with_next_test}
-use Rattle.exchange_rules.specs.Routing.{facts, link_of}
-use Rattle.exchange_rules.specs.State.{Done, Node, answer, refuse, with_parts}
-use Rattle.exchange_rules.specs.Statuses.{act_by_status, act_by_timer, advance, enters, moved_on, on_link_status, return_if, run_out, serve_status}
-use Rattle.exchange_rules.specs.Telling.{answer_no_route, answered_parts, inhibited, is_inhibited, may_tell, on_route_test, prohibit, send_route_status, tell_each, tell_if, tell_owed, telling, told_parts}
+use Rattle.exchange_rules.proofs.Basics.{Bool, Err, List, None, Ok, Option, Result, Some, [], false, length, nat_lt, not, refl, suc, true, zero, ℕ, ◌&&◌, ◌∙◌, ◌∷◌, ◌≡◌, if◌then◌else◌}
+use Rattle.exchange_rules.proofs.Definitions.{is_outstanding, managements_of, action_at, Action, Expiry, Status, LinkTimer, Transition, Queue, appended, LinkStatus, LinkTestValue, MgmtFault, TestKind, Acknowledgement, Test, Management, ChangebackDeclaration, ExtendedChangeoverOrder, RouteSetTestProhibited, RouteSetTestRestricted, Owed, owed, Heard, RouteTest, Facts, status_of, RouteStatus, Allowed, Prohibited, Restricted, Configuration, Message, flow_of, is_management, Cause, FailureReason, FrameFault, Outcome, Handled, Ignored, code_for, code_in_use, declaration, freed, hold_flows, loses_flows, on_changeback_acknowledgement, take_back_each, fail_by_order, send_each, standing, begin, begin_by_peer, change_over, changing, fail, fail_by_peer, has_other, make_unavailable, leave_aside, down, in_service, is_link, link_at, do_kind, do_test, test_answer, management_to, send, send_anew, send_routed, activate, association_down, deactivate, end_association, fail_if_up, set_active, adjacent_of, entry_of, peer_of, point_of, set_of, no_room, queue_on, WholeQueues, queue_at, whole, apply_route_status, ask_again, ask_by, on_route_status, with_next_test, facts, link_of, Done, Node, answer, refuse, with_parts, act_by_status, act_by_timer, advance, enters, moved_on, on_link_status, return_if, run_out, serve_status, answer_no_route, answered_parts, inhibited, is_inhibited, may_tell, on_route_test, prohibit, send_route_status, tell_each, tell_if, tell_owed, telling, told_parts}
 use Rattle.exchange_rules.proofs.OwnManagement.{made-management, answer-management}
 use Rattle.exchange_rules.proofs.Tallies.{no-user-behind, queue-same}
 use Rattle.link.specs.declared.action.Action.TheVariants as act

@@ -1,9 +1,6 @@
 -- Queues of one kind that are kept as those of another, rules that do the same over both, and how such rules are put together.
-use Rattle.std.proofs.Common.{◌≡◌, ℕ, Bool, true, false, Option, refl, ap, ◌∙◌}
-use Rattle.std.specs.Prelude.{if◌then◌else◌}
-use Rattle.signalling_types.specs.Message.{Message}
-use Rattle.signalling_types.specs.declared.outcome.Outcome.{Outcome}
-use Rattle.exchange_rules.specs.State.{Parts, Node, Done, QueueKind, keep, with_parts, answer}
+use Rattle.exchange_rules.proofs.Basics.{◌≡◌, ℕ, Bool, true, false, Option, refl, ap, ◌∙◌, if◌then◌else◌}
+use Rattle.exchange_rules.proofs.Definitions.{Message, Outcome, Parts, Node, Done, QueueKind, keep, with_parts, answer}
 
 -- y is what h keeps of x, and x is sound
 pub record IsKept {P Q : Type 0} (h : P → Q) (IsFit : P → Type 0) (y : Q) (x : P) : Type 0 where

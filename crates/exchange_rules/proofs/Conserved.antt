@@ -1,50 +1,7 @@
 -- Every event conserves user messages, and every take leaves them.
-use Rattle.std.proofs.Common.{Bool, Err, List, None, Ok, Option, Result, Some, [], ap, arith, drop, false, nat_eq, not, refl, suc, sym, true, zero, ℕ, ◌&&◌, ◌+◌, ◌∙◌, ◌≡◌}
-use Rattle.std.proofs.lemmas.List.{take-append-drop}
-use Rattle.std.specs.Prelude.{if◌then◌else◌, take}
-use Rattle.changeover.specs.Standing.{Standing, may_restart}
-use Rattle.sccp_relay.specs.Rows.{has_row, place_of, without_row}
-use Rattle.link.specs.Table.{action_at}
-use Rattle.link.specs.declared.action.Action.{Action}
-use Rattle.link.specs.declared.action.Input.TheVariants.{UserData}
-use Rattle.link.specs.declared.alignment.Alignment.{Alignment}
-use Rattle.link.proofs.Kept.{unconfirmed-accepted, unconfirmed-sent_one}
-use Rattle.link.specs.Queue.{Queue, count_confirmed, first_queue, unconfirmed}
-use Rattle.link.specs.declared.fault.SeqFault.{SeqFault}
-use Rattle.m2pa_codec.specs.Frames.{EmptyFrame, FrameValue, MessageFrame, StatusFrame}
-use Rattle.m2pa_codec.specs.Reading.{read_frame}
-use Rattle.mtp3_codec.specs.Management.{read_management}
-use Rattle.node_links.specs.Link.{Link}
-use Rattle.node_links.specs.LinkState.{is_down, is_in_service}
-use Rattle.mtp3_codec.specs.declared.discrimination.Discrimination.{Discrimination}
-use Rattle.settings_rows.specs.Configuration.{Configuration, TitleEntry}
-use Rattle.signalling_types.specs.Message.{Message, is_management, opc_of, service_indicator}
-use Rattle.signalling_types.specs.declared.cause.Cause.{Cause}
-use Rattle.signalling_types.specs.declared.notice.FrameFault.{FrameFault}
-use Rattle.signalling_types.specs.declared.outcome.Outcome.TheVariants.{Handled, Ignored}
-use Rattle.exchange_rules.specs.Arrival.{transfer}
-use Rattle.exchange_rules.specs.Conserving.{Gone, both_gone, brought_by, brought_here, brought_in, brought_to, confirmed_at, confirmed_by, confirmed_in, confirmed_of, gone, gone_by, gone_by_message, gone_by_new, gone_by_release, gone_by_tick, gone_by_word, gone_that, nothing_gone, taken_in, users_that}
-use Rattle.exchange_rules.specs.LawsOfMessages.{takes_leave_user_messages, user_messages_are_conserved}
-use Rattle.exchange_rules.specs.Exchange.{apply, handle_event}
-use Rattle.exchange_rules.specs.Failing.{changeover_of}
-use Rattle.exchange_rules.specs.Frames.{Carrying, accept, act_by_data, carries, carry, empty_data, handle_by, message_data, numbers, read, receive_data}
-use Rattle.exchange_rules.specs.Happening.{Activated, CameUp, Deactivated, FrameCame, Happening, Submitted, Ticked, TitleAdded, TitleRemoved, WentDown}
-use Rattle.exchange_rules.specs.LastingLinks.{AreLinksSteady, IsSteady, is_l7_running}
-use Rattle.exchange_rules.specs.Laws.{accept_data, accept_frame, accept_text}
-use Rattle.exchange_rules.specs.Links.{down, in_service, is_link, link_at}
-use Rattle.exchange_rules.specs.Local.{is_adjacent, local, manage, testing}
-use Rattle.exchange_rules.specs.Messages.{deliver_to, submit, whither_goes}
-use Rattle.exchange_rules.specs.Opening.{may_open, open_link}
-use Rattle.exchange_rules.specs.Queues.{WholeQueues, queue_at, whole}
-use Rattle.exchange_rules.specs.Receiving.{new_at, new_by, new_in, new_of}
-use Rattle.exchange_rules.specs.Relaying.{add_title_unless, title_refusal, with_titles}
-use Rattle.exchange_rules.specs.Releasing.{release}
-use Rattle.exchange_rules.specs.Sending.{Acknowledges, Outgoing, SendsMessage, SendsNothing, SendsStatus, after_sending, goes_out}
-use Rattle.exchange_rules.specs.Sound.{Abstract}
-use Rattle.exchange_rules.specs.State.{Done, Node, answer, refuse, with_parts}
-use Rattle.exchange_rules.specs.Statuses.{advance}
-use Rattle.exchange_rules.specs.Telling.{tell_owed}
-use Rattle.exchange_rules.specs.Ticking.{tick}
+use Rattle.exchange_rules.proofs.Basics.{Bool, Err, List, None, Ok, Option, Result, Some, [], ap, arith, false, nat_eq, not, refl, suc, sym, true, zero, ℕ, ◌&&◌, ◌+◌, ◌∙◌, ◌≡◌, take-append-drop, if◌then◌else◌, take}
+use Rattle.exchange_rules.proofs.Definitions.{Standing, may_restart, has_row, place_of, without_row, action_at, Action, UserData, Alignment, unconfirmed-accepted, unconfirmed-sent_one, Queue, count_confirmed, first_queue, unconfirmed, SeqFault, EmptyFrame, FrameValue, MessageFrame, StatusFrame, read_frame, read_management, Link, is_down, is_in_service, Discrimination, Configuration, TitleEntry, Message, is_management, opc_of, service_indicator, Cause, FrameFault, Handled, Ignored, transfer, Gone, both_gone, brought_by, brought_here, brought_in, brought_to, confirmed_at, confirmed_by, confirmed_in, confirmed_of, gone, gone_by, gone_by_message, gone_by_new, gone_by_release, gone_by_tick, gone_by_word, gone_that, nothing_gone, taken_in, users_that, takes_leave_user_messages, user_messages_are_conserved, apply, handle_event, changeover_of, Carrying, accept, act_by_data, carries, carry, empty_data, handle_by, message_data, numbers, read, receive_data, Activated, CameUp, Deactivated, FrameCame, Happening, Submitted, Ticked, TitleAdded, TitleRemoved, WentDown, AreLinksSteady, IsSteady, is_l7_running, accept_data, accept_frame, accept_text, down, in_service, is_link, link_at, is_adjacent, local, manage, testing, deliver_to, submit, whither_goes, may_open, open_link, WholeQueues, queue_at, whole, new_at, new_by, new_in, new_of, add_title_unless, title_refusal, with_titles, release, Acknowledges, Outgoing, SendsMessage, SendsNothing, SendsStatus, after_sending, goes_out, Abstract, Done, Node, answer, refuse, with_parts, advance, tell_owed, tick}
+use Rattle.std.proofs.Common.{drop}
 use Rattle.exchange_rules.proofs.Changes.{activate-stand, advance-stand, association_down-stand, deactivate-stand, either_done-stand, fail-stand, leave_aside-stand, on_link_status-stand, stands, tell_owed-stand}
 use Rattle.exchange_rules.proofs.Departing.{both-that, manage-lets, release-lets, tick-lets}
 use Rattle.exchange_rules.proofs.Fitting.{Fits, event-fit, fit-steps}

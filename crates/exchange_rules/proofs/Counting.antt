@@ -1,20 +1,11 @@
 -- Notices are counted, and the last 64 are kept.
-use Rattle.std.proofs.Common.{◌≡◌, ◌≤◌, ℕ, List, [], ◌∷◌, ◌++◌, length, refl, ap, sym, subst, arith, drop-drop, ◌∙◌}
+use Rattle.exchange_rules.proofs.Basics.{◌≡◌, ◌≤◌, ℕ, List, [], ◌∷◌, ◌++◌, length, refl, ap, sym, subst, arith, drop-drop, ◌∙◌, drop, min, append-nil, append_assoc, drop-append-le, length-append, length-drop}
+use Rattle.exchange_rules.proofs.Definitions.{Configuration, NOTICES, FailureReason, Notice, first_state, AreNoted, IsWithinLimits, after_each, new_notices_are_the_last, notices_made_are_counted, notices_keep_their_limits, noted, noted_all, WholeQueues, Node, Noted}
 use Rattle.std.proofs.Math.Nat.{min-le_left, min-le_right, sub-add-min_cancel}
 use Rattle.std.proofs.Math.Seq.{drop-append-add}
-use Rattle.std.specs.Prelude.{drop, min, ◌+◌, ◌-◌, ◌%◌, ◌^◌, ◌<◌}
-use Rattle.std.proofs.lemmas.List.{append-nil, append_assoc, drop-append-le, length-append, length-drop}
+use Rattle.std.specs.Prelude.{◌+◌, ◌-◌, ◌%◌, ◌^◌, ◌<◌}
 use Rattle.circular_buffer.specs.Buffer.{keep_last}
-use Rattle.settings_rows.specs.Configuration.{Configuration}
-use Rattle.signalling_types.specs.declared.limits.TheConstants.Limits.{NOTICES}
-use Rattle.signalling_types.specs.declared.notice.FailureReason.{FailureReason}
-use Rattle.signalling_types.specs.declared.notice.Notice.{Notice}
 use Rattle.signalling_types.specs.declared.notice.Notice.TheVariants as notices
-use Rattle.exchange_rules.specs.First.{first_state}
-use Rattle.exchange_rules.specs.Lasting.{AreNoted, IsWithinLimits, after_each, new_notices_are_the_last, notices_made_are_counted, notices_keep_their_limits}
-use Rattle.exchange_rules.specs.Noting.{noted, noted_all}
-use Rattle.exchange_rules.specs.Queues.{WholeQueues}
-use Rattle.exchange_rules.specs.State.{Node, Noted}
 use Rattle.exchange_rules.proofs.Asked.{any, IsOfAll, all-of, asked-all}
 use Rattle.exchange_rules.proofs.Naming.{named-append}
 use Rattle.exchange_rules.proofs.Steps.{IsOfSteps}

@@ -1,36 +1,6 @@
 -- Changeovers that are completed, by words of the peer and by timers, and the release: how many user messages go for good.
-use Rattle.std.proofs.Common.{Bool, Err, List, None, Ok, Option, Result, Some, [], ap, arith, false, nat_eq, not, refl, subst, suc, sym, true, zero, ℕ, ◌&&◌, ◌+◌, ◌∙◌, ◌∷◌, ◌≡◌}
-use Rattle.std.proofs.lemmas.List.Elements.{filter_agree}
-use Rattle.std.specs.Prelude.{filter, if◌then◌else◌, is_some}
-use Rattle.changeover.specs.Completion.{accepted_count, behind}
-use Rattle.changeover.specs.Standing.{completed}
-use Rattle.link.specs.Queue.{IsQueue, Queue}
-use Rattle.mtp3_codec.specs.LinkTests.{read_link_test}
-use Rattle.mtp3_codec.specs.Management.{read_management}
-use Rattle.mtp3_codec.specs.declared.fault.MgmtFault.{MgmtFault}
-use Rattle.mtp3_codec.specs.declared.management.Management.{Management}
-use Rattle.mtp3_codec.specs.declared.management.Management.TheVariants.{ChangebackAcknowledgement, ChangebackDeclaration, EmergencyChangeoverAcknowledgement, EmergencyChangeoverOrder, ExtendedChangeoverAcknowledgement, ExtendedChangeoverOrder, RouteSetTestProhibited, RouteSetTestRestricted, TrafficRestartAllowed, TransferAllowed, TransferProhibited, TransferRestricted}
-use Rattle.routes.specs.declared.route.RouteStatus.TheVariants.{Allowed, Prohibited, Restricted}
-use Rattle.settings_rows.specs.Configuration.{Configuration}
-use Rattle.signalling_types.specs.Message.{Message, flow_of, opc_of, service_indicator}
-use Rattle.signalling_types.specs.declared.notice.ChangeoverTimer.{ChangeoverTimer}
-use Rattle.signalling_types.specs.declared.outcome.Outcome.TheVariants.{Handled, Ignored}
-use Rattle.settings.specs.Readings.{destination_place, set_place}
-use Rattle.timers.specs.Timers.{after_due, due_count, due_name, ticked}
-use Rattle.timers.specs.declared.name.TimerName.{TimerName}
-use Rattle.exchange_rules.specs.ChangingOver.{complete_if, concluded, fail_by_order, on_changeover_order, on_changeover_timer, with_changeover_acknowledged, with_expiry}
-use Rattle.exchange_rules.specs.Conserving.{Gone, both_gone, gone_by_answer, gone_by_completion, gone_by_expiry, gone_by_order, gone_by_release, gone_by_tick, gone_by_timer, gone_by_timers, gone_by_word, gone_that, is_stranded, nothing_gone, standing, users_that}
-use Rattle.exchange_rules.specs.Failing.{changeover_of, with_changeover}
-use Rattle.exchange_rules.specs.Holding.{hold, waits}
-use Rattle.exchange_rules.specs.Links.{is_link}
-use Rattle.exchange_rules.specs.Local.{do_acknowledgement, do_management, do_order, do_test, is_adjacent, link_with_code, manage, testing}
-use Rattle.exchange_rules.specs.Points.{entry_of, peer_of, route_about}
-use Rattle.exchange_rules.specs.Queueing.{queue_on}
-use Rattle.exchange_rules.specs.Queues.{WholeQueues, queue_at, whole}
-use Rattle.exchange_rules.specs.Releasing.{go, go_by, go_each, go_on, release}
-use Rattle.exchange_rules.specs.Routing.{link_of}
-use Rattle.exchange_rules.specs.State.{Found, Node, answer, refuse, with_parts}
-use Rattle.exchange_rules.specs.Ticking.{run_due, run_next, run_times, tick, with_timers}
+use Rattle.exchange_rules.proofs.Basics.{Bool, Err, List, None, Ok, Option, Result, Some, [], ap, arith, false, nat_eq, not, refl, subst, suc, sym, true, zero, ℕ, ◌&&◌, ◌+◌, ◌∙◌, ◌∷◌, ◌≡◌, filter_agree, filter, if◌then◌else◌, is_some}
+use Rattle.exchange_rules.proofs.Definitions.{accepted_count, behind, completed, IsQueue, Queue, read_link_test, read_management, MgmtFault, Management, ChangebackAcknowledgement, ChangebackDeclaration, EmergencyChangeoverAcknowledgement, EmergencyChangeoverOrder, ExtendedChangeoverAcknowledgement, ExtendedChangeoverOrder, RouteSetTestProhibited, RouteSetTestRestricted, TrafficRestartAllowed, TransferAllowed, TransferProhibited, TransferRestricted, Allowed, Prohibited, Restricted, Configuration, Message, flow_of, opc_of, service_indicator, ChangeoverTimer, Handled, Ignored, destination_place, set_place, after_due, due_count, due_name, ticked, TimerName, complete_if, concluded, fail_by_order, on_changeover_order, on_changeover_timer, with_changeover_acknowledged, with_expiry, Gone, both_gone, gone_by_answer, gone_by_completion, gone_by_expiry, gone_by_order, gone_by_release, gone_by_tick, gone_by_timer, gone_by_timers, gone_by_word, gone_that, is_stranded, nothing_gone, standing, users_that, changeover_of, with_changeover, hold, waits, is_link, do_acknowledgement, do_management, do_order, do_test, is_adjacent, link_with_code, manage, testing, entry_of, peer_of, route_about, queue_on, WholeQueues, queue_at, whole, go, go_by, go_each, go_on, release, link_of, Found, Node, answer, refuse, with_parts, run_due, run_next, run_times, tick, with_timers}
 use Rattle.exchange_rules.proofs.Changes.{anew-stand, answered_back-stand, ask_again-stand, do_test-stand, fail_by_order-queues, made-stand, on_route_status-stand, on_route_test-stand, run_out-stand, stands}
 use Rattle.exchange_rules.proofs.Fitting.{Fits, fit-steps, handed-fit, next-fit, ticked-fit}
 use Rattle.exchange_rules.proofs.Moves.{completed-lets, queued-more}

@@ -1,19 +1,9 @@
 -- What was known of routes before a link entered service.
-use Rattle.std.proofs.Common.{◌≡◌, ℕ, Bool, true, false, List, refl, ap, ◌∙◌}
-use Rattle.settings_rows.specs.Configuration.{Configuration}
-use Rattle.link.specs.declared.action.Transition.{Transition}
-use Rattle.routes.specs.Facts.{Facts, with_link}
-use Rattle.routes.specs.Statuses.{with_statuses_reset}
-use Rattle.routes.specs.Chosen.{chosen_link}
+use Rattle.exchange_rules.proofs.Basics.{◌≡◌, ℕ, Bool, true, false, List, refl, ap, ◌∙◌}
+use Rattle.exchange_rules.proofs.Definitions.{Configuration, Transition, Facts, with_statuses_reset, chosen_link, stepped, Parts, link_at, in_service, sets_in, facts, set_of, has_other, begun_anew_if, step_on}
+use Rattle.routes.specs.Facts.{with_link}
 use Rattle.routes.proofs.Resetting.{reset_link}
-use Rattle.node_links.specs.LinkState.{stepped}
 use Rattle.node_links.proofs.Serving.{serving_without}
-use Rattle.exchange_rules.specs.State.{Parts}
-use Rattle.exchange_rules.specs.Links.{link_at, in_service}
-use Rattle.exchange_rules.specs.Routing.{sets_in, facts}
-use Rattle.exchange_rules.specs.Points.{set_of}
-use Rattle.exchange_rules.specs.Failing.{has_other}
-use Rattle.exchange_rules.specs.Statuses.{begun_anew_if, step_on}
 
 -- what was known of routes before, once the link that entered is taken out again
 pub known_before : (c : Configuration) (link : ℕ) (step : Transition) (p : Parts) → in_service p link ≡ false

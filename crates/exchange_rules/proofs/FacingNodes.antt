@@ -1,12 +1,8 @@
 -- Two nodes that face each other: the near end's links and codes mean the same at the far end.
-use Rattle.std.proofs.Common.{◌≡◌, ◌<◌, ℕ, zero, suc, List, [], ◌∷◌, Some, length, map, get_or, false, sym, ap, ◌∙◌, arith}
-use Rattle.std.proofs.lemmas.List.{length-map, get_or-map}
-use Rattle.settings_rows.specs.Configuration.{Configuration, LinkEntry}
+use Rattle.exchange_rules.proofs.Basics.{◌≡◌, ◌<◌, ℕ, zero, suc, List, [], ◌∷◌, Some, length, map, get_or, false, sym, ap, ◌∙◌, arith, length-map}
+use Rattle.exchange_rules.proofs.Definitions.{Configuration, LinkEntry, set_place, destination_place, IsWell, entry_of, set_of, adjacent_of, peer_of, point_of, link_with_code}
+use Rattle.std.proofs.lemmas.List.{get_or-map}
 use Rattle.settings.specs.Facing.{IsFacing, LeadsOnlyTo}
-use Rattle.settings.specs.Readings.{set_place, destination_place}
-use Rattle.settings.specs.Well.{IsWell}
-use Rattle.exchange_rules.specs.Points.{entry_of, set_of, adjacent_of, peer_of, point_of}
-use Rattle.exchange_rules.specs.Local.{link_with_code}
 use Rattle.exchange_rules.proofs.Onward.{link-set}
 use Rattle.exchange_rules.proofs.NamedLinks.{set-named, destination-named, link-named}
 

@@ -1,39 +1,8 @@
 -- A failure holds the flows that fail with the link, and nothing behind it touches holds.
-use Rattle.std.proofs.Common.{◌≡◌, ◌<◌, ◌≤◌, ℕ, zero, suc, Bool, true, false, ◌&&◌, ◌||◌, not, List, [], ◌∷◌, length, nat_eq, Option, Some, None, refl, ap, sym, ◌∙◌, arith, inl, inr}
-use Rattle.std.specs.Prelude.{if◌then◌else◌, Contains}
-use Rattle.std.specs.List.{list_any}
-use Rattle.std.specs.Option.{option_eq}
-use Rattle.std.proofs.Math.Logic.{⊎_elim}
-use Rattle.std.proofs.lemmas.Bool.{and_parts, cases_lt, eq-eqb, eqb-true}
-use Rattle.std.proofs.lemmas.Bool.Decides.{nat_tests}
-use Rattle.std.proofs.lemmas.List.{get_or_past}
-use Rattle.signalling_types.specs.Message.{Message, flow_of, is_management}
-use Rattle.signalling_types.specs.declared.cause.Cause.{Cause}
-use Rattle.signalling_types.specs.declared.notice.FailureReason.{FailureReason}
+use Rattle.exchange_rules.proofs.Basics.{◌≡◌, ◌<◌, ◌≤◌, ℕ, zero, suc, Bool, true, false, ◌&&◌, ◌||◌, not, List, [], ◌∷◌, length, nat_eq, Option, Some, None, refl, ap, sym, ◌∙◌, arith, inl, inr, if◌then◌else◌, Contains, list_any, option_eq, ⊎_elim, and_parts, cases_lt, eq-eqb, eqb-true, nat_tests, get_or_past, or_left as in-front, or_right as also-behind, and_from as both}
+use Rattle.exchange_rules.proofs.Definitions.{Message, flow_of, is_management, Cause, FailureReason, Configuration, destination_place, Facts, chosen_link, Link, down_link, is_in_service, Changeover, SELECTIONS, HoldSet, holds, may_hold, with_flows, flows_leave, Parts, Node, with_parts, in_service, facts, goes_by, link_of, no_room, send, WholeQueues, whole, is_of_flow, is_failed, suspended, set_of, without_tests, has_other, changeover_order, changing, fail_link, without_tests_if_last, make_unavailable, begin, change_over, fail, begin_by_peer, fail_by_peer, HasPlacesFor}
 use Rattle.signalling_types.specs.declared.notice.FailureReason.TheVariants as reasons
-use Rattle.settings_rows.specs.Configuration.{Configuration}
-use Rattle.settings.specs.Readings.{destination_place}
-use Rattle.routes.specs.Facts.{Facts}
-use Rattle.routes.specs.Chosen.{chosen_link}
-use Rattle.node_links.specs.Link.{Link}
-use Rattle.node_links.specs.LinkState.{down_link, is_in_service}
-use Rattle.flow_hold.specs.declared.procedure.Procedure.TheVariants.{Changeover}
-use Rattle.signalling_types.specs.declared.limits.TheConstants.Limits.{SELECTIONS}
-use Rattle.flow_hold.specs.Holds.{HoldSet, holds, may_hold}
-use Rattle.flow_hold.specs.Flows.{with_flows}
-use Rattle.flow_hold.proofs.Flows.{flows_leave}
 use Rattle.flow_hold.proofs.FlowPairs.{IsAddedPair, flows_has, flows_keep, flows_was}
-use Rattle.exchange_rules.specs.State.{Parts, Node, with_parts}
-use Rattle.exchange_rules.specs.Links.{in_service}
-use Rattle.exchange_rules.specs.Routing.{facts, goes_by, link_of}
-use Rattle.exchange_rules.specs.Queueing.{no_room}
-use Rattle.exchange_rules.specs.Made.{send}
-use Rattle.exchange_rules.specs.Queues.{WholeQueues, whole}
-use Rattle.exchange_rules.specs.Suspending.{is_of_flow, is_failed, suspended}
-use Rattle.exchange_rules.specs.Points.{set_of}
-use Rattle.exchange_rules.specs.Rerouting.{without_tests}
-use Rattle.exchange_rules.specs.Failing.{has_other, changeover_order, changing, fail_link, without_tests_if_last, make_unavailable, begin, change_over, fail, begin_by_peer, fail_by_peer}
-use Rattle.exchange_rules.specs.Places.{HasPlacesFor}
 use Rattle.exchange_rules.specs.LawsOfFailures.{HasUnconfirmed, FailsWith, IsFailure, failures_hold_their_flows, failures_by_peer_hold_their_flows, idle_failures_hold_nothing, idle_failures_by_peer_hold_nothing}
 
 -- ---- which flows fail with a link
@@ -48,18 +17,6 @@ goes-to None link e = absurd cc
 place-of : (o : Option ℕ) (destination : ℕ) → option_eq nat_eq o (Some destination) ≡ true → o ≡ Some destination
 place-of (Some place) destination e = ap (λ (n : ℕ). Some n) (eqb-true place destination e)
 place-of None destination e = absurd cc
-
-in-front : (b d : Bool) → b ≡ true → (b || d) ≡ true
-in-front true d e = refl
-in-front false d e = absurd cc
-
-also-behind : (b d : Bool) → d ≡ true → (b || d) ≡ true
-also-behind true d e = refl
-also-behind false d e = e
-
-both : (a b : Bool) → a ≡ true → b ≡ true → (a && b) ≡ true
-both true b e f = f
-both false b e f = e
 
 not-so : (b : Bool) → not b ≡ true → b ≡ false
 not-so true e = sym e

@@ -1,34 +1,6 @@
 -- Each user message that comes is queued, held, delivered or refused.
-use Rattle.std.proofs.Common.{Bool, Err, None, Ok, Option, Result, Some, ap, false, nat_eq, not, refl, true, ℕ, ◌&&◌, ◌∙◌, ◌≡◌}
-use Rattle.std.specs.Prelude.{if◌then◌else◌}
-use Rattle.link.specs.Table.{action_at}
-use Rattle.link.specs.declared.action.Action.{Action}
-use Rattle.link.specs.declared.action.Input.TheVariants.{UserData}
-use Rattle.link.specs.declared.fault.SeqFault.{SeqFault}
-use Rattle.m2pa_codec.specs.Frames.{EmptyFrame, FrameValue, MessageFrame, StatusFrame}
-use Rattle.m2pa_codec.specs.Reading.{read_frame}
-use Rattle.mtp3_codec.specs.declared.discrimination.Discrimination.{Discrimination}
-use Rattle.sccp_relay.specs.Relay.{RelayedValue, relay}
-use Rattle.settings_rows.specs.Configuration.{Configuration}
-use Rattle.signalling_types.specs.Message.{Message, dpc_of, flow_of, is_management, service_indicator}
-use Rattle.signalling_types.specs.declared.cause.Cause.{Cause}
-use Rattle.signalling_types.specs.declared.notice.FrameFault.{FrameFault}
-use Rattle.signalling_types.specs.declared.outcome.Outcome.TheVariants.{Ignored, Local}
-use Rattle.exchange_rules.specs.Arrival.{is_destination, offer, transfer}
-use Rattle.exchange_rules.specs.LawsOfMessages.{carried_messages_have_a_fate, has_fate, submissions_have_a_fate}
-use Rattle.exchange_rules.specs.Exchange.{apply}
-use Rattle.exchange_rules.specs.Frames.{Carrying, accept, act_by_data, carry, empty_data, handle_by, message_data, numbers, read}
-use Rattle.exchange_rules.specs.Holding.{waits}
-use Rattle.exchange_rules.specs.Links.{down, is_link, link_at}
-use Rattle.exchange_rules.specs.Local.{distribute, is_user, local, manage, sccp}
-use Rattle.exchange_rules.specs.Messages.{deliver_to, submit_to, whither_goes}
-use Rattle.exchange_rules.specs.Queueing.{no_room}
-use Rattle.exchange_rules.specs.Queues.{WholeQueues, whole}
-use Rattle.exchange_rules.specs.Receiving.{new_at, new_by, new_of}
-use Rattle.exchange_rules.specs.Relaying.{in_place_of, on_unitdata, own_of, relay_by}
-use Rattle.exchange_rules.specs.Routing.{link_of}
-use Rattle.exchange_rules.specs.State.{Done, Node, answer, refuse}
-use Rattle.exchange_rules.specs.Statuses.{advance}
+use Rattle.exchange_rules.proofs.Basics.{Bool, Err, None, Ok, Option, Result, Some, ap, false, nat_eq, not, refl, true, ℕ, ◌&&◌, ◌∙◌, ◌≡◌, if◌then◌else◌}
+use Rattle.exchange_rules.proofs.Definitions.{action_at, Action, UserData, SeqFault, EmptyFrame, FrameValue, MessageFrame, StatusFrame, read_frame, Discrimination, RelayedValue, relay, Configuration, Message, dpc_of, flow_of, is_management, service_indicator, Cause, FrameFault, Ignored, Local, is_destination, offer, transfer, carried_messages_have_a_fate, has_fate, submissions_have_a_fate, apply, Carrying, accept, act_by_data, carry, empty_data, handle_by, message_data, numbers, read, waits, down, is_link, link_at, distribute, is_user, local, manage, sccp, deliver_to, submit_to, whither_goes, no_room, WholeQueues, whole, new_at, new_by, new_of, in_place_of, on_unitdata, own_of, relay_by, link_of, Done, Node, answer, refuse, advance}
 use Rattle.link.specs.declared.action.Action.TheVariants as act
 use Rattle.signalling_types.specs.declared.cause.Cause.TheVariants as causes
 use Rattle.sccp_relay.specs.Relay as relays

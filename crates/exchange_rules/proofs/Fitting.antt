@@ -1,19 +1,6 @@
 -- A node has its places, and the counts of its queues are in order: so it stays through each step.
-use Rattle.std.proofs.Common.{List, refl, subst, sym, ℕ, ◌≡◌}
-use Rattle.link.proofs.Sound.{sound-accepted, sound-appended, sound-emptied, sound-first, sound-sent_one}
-use Rattle.link.specs.Queue.{IsQueue, Queue, emptied, first_queue}
-use Rattle.settings_rows.specs.Configuration.{Configuration}
-use Rattle.signalling_types.specs.Message.{Message}
-use Rattle.timers.proofs.Dues.{counts-after}
-use Rattle.timers.specs.Timers.{after_due, ticked}
-use Rattle.exchange_rules.specs.Exchange.{handle_event}
-use Rattle.exchange_rules.specs.Frames.{carries}
-use Rattle.exchange_rules.specs.Happening.{Happening}
-use Rattle.exchange_rules.specs.Lasting.{HasAllPlaces}
-use Rattle.exchange_rules.specs.Queues.{WholeQueues, queue_at, whole, with_queue}
-use Rattle.exchange_rules.specs.Sound.{AreQueues}
-use Rattle.exchange_rules.specs.State.{Node}
-use Rattle.exchange_rules.specs.Ticking.{run_next, with_timers}
+use Rattle.exchange_rules.proofs.Basics.{List, refl, subst, sym, ℕ, ◌≡◌}
+use Rattle.exchange_rules.proofs.Definitions.{sound-accepted, sound-appended, sound-emptied, sound-first, sound-sent_one, IsQueue, Queue, emptied, first_queue, Configuration, Message, counts-after, after_due, ticked, handle_event, carries, Happening, HasAllPlaces, WholeQueues, queue_at, whole, with_queue, AreQueues, Node, run_next, with_timers}
 use Rattle.exchange_rules.proofs.Asked.{any}
 use Rattle.exchange_rules.proofs.LastingPlaces.{places-steps, timers-keep}
 use Rattle.exchange_rules.proofs.Lists.{each-set}

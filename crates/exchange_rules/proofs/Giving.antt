@@ -1,32 +1,6 @@
 -- Where a rule puts a message on the queue of a link, that link is in service.
-use Rattle.std.proofs.Common.{Bool, List, None, Option, Some, [], ap, false, inl, inr, length, refl, subst, suc, sym, true, zero, ℕ, ◌∙◌, ◌∷◌, ◌≡◌, ◌≢◌, ◌⊎◌}
-use Rattle.std.proofs.Math.Logic.{⊎_elim}
-use Rattle.std.proofs.lemmas.Bool.{cases_eq}
-use Rattle.std.proofs.lemmas.List.{get_or-set_other}
-use Rattle.std.specs.Prelude.{if◌then◌else◌}
-use Rattle.link.specs.declared.action.Transition.{Transition}
-use Rattle.link.specs.Queue.{Queue, appended, emptied, first_queue}
-use Rattle.node_links.specs.Link.{Link}
-use Rattle.node_links.specs.LinkState.{is_in_service}
-use Rattle.route_management.specs.Owed.{Owed, owed}
-use Rattle.routes.specs.Facts.{Facts}
-use Rattle.settings_rows.specs.Configuration.{Configuration}
-use Rattle.signalling_types.specs.Message.{Message, flow_of}
-use Rattle.signalling_types.specs.declared.cause.Cause.{Cause}
-use Rattle.signalling_types.specs.declared.cause.Cause.TheVariants.{LostUnconfirmed}
-use Rattle.exchange_rules.specs.ChangingBack.{code_for, declaration, hold_flows, loses_flows, take_back_each}
-use Rattle.exchange_rules.specs.ChangingOver.{complete_if, concluded, judged, lifted_parts, lose, lose_each, send_each}
-use Rattle.exchange_rules.specs.Holding.{waits}
-use Rattle.exchange_rules.specs.Laws.{GivesInService, declared_in_service, queued_anew_in_service, routed_in_service, settled_in_service}
-use Rattle.exchange_rules.specs.Links.{in_service}
-use Rattle.exchange_rules.specs.Made.{send, send_anew, send_routed}
-use Rattle.exchange_rules.specs.Queueing.{no_room, queue_on}
-use Rattle.exchange_rules.specs.Queues.{WholeQueues, queue_at, whole}
-use Rattle.exchange_rules.specs.Releasing.{go, go_by, go_each, go_on, release}
-use Rattle.exchange_rules.specs.Routing.{facts, link_of}
-use Rattle.exchange_rules.specs.State.{Found, Node, Parts, with_parts}
-use Rattle.exchange_rules.specs.Statuses.{advance, enters, moved_on, return_if}
-use Rattle.exchange_rules.specs.Telling.{may_tell, route_message, tell_each, tell_if, tell_owed, telling, told_parts}
+use Rattle.exchange_rules.proofs.Basics.{Bool, List, None, Option, Some, [], ap, false, inl, inr, length, refl, subst, suc, sym, true, zero, ℕ, ◌∙◌, ◌∷◌, ◌≡◌, ◌≢◌, ◌⊎◌, ⊎_elim, cases_eq, get_or-set_other, if◌then◌else◌}
+use Rattle.exchange_rules.proofs.Definitions.{Transition, Queue, appended, emptied, first_queue, Link, is_in_service, Owed, owed, Facts, Configuration, Message, flow_of, Cause, LostUnconfirmed, code_for, declaration, hold_flows, loses_flows, take_back_each, complete_if, concluded, judged, lifted_parts, lose, lose_each, send_each, waits, GivesInService, declared_in_service, queued_anew_in_service, routed_in_service, settled_in_service, in_service, send, send_anew, send_routed, no_room, queue_on, WholeQueues, queue_at, whole, go, go_by, go_each, go_on, release, facts, link_of, Found, Node, Parts, with_parts, advance, enters, moved_on, return_if, may_tell, route_message, tell_each, tell_if, tell_owed, telling, told_parts}
 use Rattle.exchange_rules.proofs.Combining.{changed}
 use Rattle.exchange_rules.proofs.LeavingMessages.{chosen_serves}
 use Rattle.exchange_rules.proofs.SteppingLinks.{moved-at, stepped-other}

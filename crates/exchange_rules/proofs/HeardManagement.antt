@@ -1,15 +1,9 @@
 -- What the far end of two facing nodes does with management that the near end made.
-use Rattle.std.proofs.Common.{◌≡◌, ap, ◌∙◌, arith}
-use Rattle.signalling_types.specs.Message.{Message}
-use Rattle.settings_rows.specs.Configuration.{Configuration}
+use Rattle.exchange_rules.proofs.Basics.{◌≡◌, ap, ◌∙◌, arith}
+use Rattle.exchange_rules.proofs.Definitions.{Message, Configuration, IsWell, Management, IsManagement, management_to, whither_goes}
 use Rattle.settings.specs.Facing.{IsFacing}
-use Rattle.settings.specs.Well.{IsWell}
 use Rattle.mtp3_codec.specs.declared.discrimination.Discrimination.TheVariants.{Here}
-use Rattle.mtp3_codec.specs.declared.management.Management.{Management}
-use Rattle.mtp3_codec.specs.Management.{IsManagement}
 use Rattle.mtp3_codec.proofs.Reading.{label_of}
-use Rattle.exchange_rules.specs.Made.{management_to}
-use Rattle.exchange_rules.specs.Messages.{whither_goes}
 use Rattle.exchange_rules.proofs.MadeManagement.{made-network, made-long, made-short, made-label, made-dpc, comes-here}
 
 module _ (near far : Configuration) (f : IsFacing near far) (near_well : IsWell near) (far_well : IsWell far) where

@@ -1,32 +1,10 @@
 -- Frames, whole events and what goes out: what is kept of the node that a rule leaves is what the rule leaves of what was kept, and it stays
 -- sound. Over any two kinds of queues P and Q of which h keeps one as the other.
-use Rattle.std.proofs.Common.{◌≡◌, ℕ, Bool, true, false, List, [], ◌∷◌, Option, Some, None, Result, Ok, Err, refl, ap, ◌∙◌}
-use Rattle.std.specs.Prelude.{if◌then◌else◌}
-use Rattle.signalling_types.specs.Message.{Message, flow_of}
-use Rattle.settings_rows.specs.Configuration.{Configuration}
+use Rattle.exchange_rules.proofs.Basics.{◌≡◌, ℕ, Bool, true, false, List, [], ◌∷◌, Option, Some, None, Result, Ok, Err, refl, ap, ◌∙◌, if◌then◌else◌}
+use Rattle.exchange_rules.proofs.Definitions.{Message, flow_of, Configuration, Ignored, FrameFault, FrameValue, EmptyFrame, MessageFrame, StatusFrame, read_frame, Action, UserData, action_at, SeqFault, Parts, Node, Done, QueueKind, keep, answer, refuse, is_link, link_at, down, waits, link_of, tell_owed, whither_goes, go_on, go_by, go, go_each, release, advance, Carrying, carries, owing, timed_parts, numbers, accept, carry, handle_by, handle, act_by_data, receive_data, receive_frame, leave_aside, read, receive, Outgoing, SendsStatus, SendsMessage, Acknowledges, SendsNothing, carried, goes_out, after_sending, frame_taken, after_take, Happening, CameUp, WentDown, FrameCame, Ticked, Submitted, Activated, Deactivated, TitleAdded, TitleRemoved, handle_event, settled, apply}
 use Rattle.signalling_types.specs.declared.cause.Cause.TheVariants as causes
-use Rattle.signalling_types.specs.declared.outcome.Outcome.TheVariants.{Ignored}
-use Rattle.signalling_types.specs.declared.notice.FrameFault.{FrameFault}
 use Rattle.signalling_types.specs.declared.notice.FrameFault.TheVariants as faults
-use Rattle.m2pa_codec.specs.Frames.{FrameValue, EmptyFrame, MessageFrame, StatusFrame}
-use Rattle.m2pa_codec.specs.Reading.{read_frame}
-use Rattle.link.specs.declared.action.Action.{Action}
 use Rattle.link.specs.declared.action.Action.TheVariants as act
-use Rattle.link.specs.declared.action.Input.TheVariants.{UserData}
-use Rattle.link.specs.Table.{action_at}
-use Rattle.link.specs.declared.fault.SeqFault.{SeqFault}
-use Rattle.exchange_rules.specs.State.{Parts, Node, Done, QueueKind, keep, answer, refuse}
-use Rattle.exchange_rules.specs.Links.{is_link, link_at, down}
-use Rattle.exchange_rules.specs.Holding.{waits}
-use Rattle.exchange_rules.specs.Routing.{link_of}
-use Rattle.exchange_rules.specs.Telling.{tell_owed}
-use Rattle.exchange_rules.specs.Messages.{whither_goes}
-use Rattle.exchange_rules.specs.Releasing.{go_on, go_by, go, go_each, release}
-use Rattle.exchange_rules.specs.Statuses.{advance}
-use Rattle.exchange_rules.specs.Frames.{Carrying, carries, owing, timed_parts, numbers, accept, carry, handle_by, handle, act_by_data, receive_data, receive_frame, leave_aside, read, receive}
-use Rattle.exchange_rules.specs.Sending.{Outgoing, SendsStatus, SendsMessage, Acknowledges, SendsNothing, carried, goes_out, after_sending, frame_taken, after_take}
-use Rattle.exchange_rules.specs.Happening.{Happening, CameUp, WentDown, FrameCame, Ticked, Submitted, Activated, Deactivated, TitleAdded, TitleRemoved}
-use Rattle.exchange_rules.specs.Exchange.{handle_event, settled, apply}
 use Rattle.exchange_rules.proofs.Combining.{IsKept, IsKeeping, KeepsNode, Keeps, changed, answered, parted, either, behind_node, behind}
 use Rattle.exchange_rules.proofs.KeepingMessages.{tell_owed-kept}
 use Rattle.exchange_rules.proofs.KeepingChangeover.{fail-kept, advance-kept}

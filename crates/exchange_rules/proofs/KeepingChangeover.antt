@@ -1,28 +1,9 @@
 -- A link fails, a changeover goes on, a link returns: what is kept of the node that a rule leaves is what the rule leaves of what was kept,
 -- and it stays sound. Over any two kinds of queues P and Q of which h keeps one as the other.
-use Rattle.std.proofs.Common.{◌≡◌, ℕ, zero, suc, Bool, true, false, List, Option, Some, None, refl, ap, ◌∙◌}
-use Rattle.std.specs.Prelude.{if◌then◌else◌, nat_eq, length}
-use Rattle.signalling_types.specs.Message.{Message}
-use Rattle.settings_rows.specs.Configuration.{Configuration}
-use Rattle.signalling_types.specs.declared.cause.Cause.{Cause}
-use Rattle.signalling_types.specs.declared.outcome.Outcome.TheVariants.{Handled, Ignored}
-use Rattle.signalling_types.specs.declared.notice.FailureReason.{FailureReason}
+use Rattle.exchange_rules.proofs.Basics.{◌≡◌, ℕ, zero, suc, Bool, true, false, List, Option, Some, None, refl, ap, ◌∙◌, if◌then◌else◌}
+use Rattle.exchange_rules.proofs.Definitions.{Message, Configuration, Cause, Handled, Ignored, FailureReason, Transition, ChangeoverTimer, completed, Facts, free_code, is_outstanding, Node, Found, QueueKind, keep, with_parts, answer, is_link, down, in_service, facts, set_of, send_routed, suspended, fail_link, without_tests_if_last, changeover_order, changeover_of, with_changeover, has_other, changing, make_unavailable, begin, change_over, fail, begin_by_peer, fail_by_peer, concluded, changeover_acknowledgement, with_expiry, with_changeover_acknowledged, send_each, conclude, complete_if, fail_by_order, complete_by_order, acknowledge_changeover, on_changeover_order, on_changeover_acknowledgement, on_changeover_timer, declaration, code_in_use, freed, if_room, procedure_by, loses_flows, with_flows_held, usable, code_for, declare_by, hold_flows, take_back, take_back_each, on_changeback_acknowledgement, enters, moved_on, return_if, advance}
+use Rattle.std.specs.Prelude.{nat_eq, length}
 use Rattle.signalling_types.specs.declared.notice.FailureReason.TheVariants as reasons
-use Rattle.link.specs.declared.action.Transition.{Transition}
-use Rattle.signalling_types.specs.declared.notice.ChangeoverTimer.{ChangeoverTimer}
-use Rattle.changeover.specs.Standing.{completed}
-use Rattle.routes.specs.Facts.{Facts}
-use Rattle.changeback.specs.Codes.{free_code, is_outstanding}
-use Rattle.exchange_rules.specs.State.{Node, Found, QueueKind, keep, with_parts, answer}
-use Rattle.exchange_rules.specs.Links.{is_link, down, in_service}
-use Rattle.exchange_rules.specs.Routing.{facts}
-use Rattle.exchange_rules.specs.Points.{set_of}
-use Rattle.exchange_rules.specs.Made.{send_routed}
-use Rattle.exchange_rules.specs.Suspending.{suspended}
-use Rattle.exchange_rules.specs.Failing.{fail_link, without_tests_if_last, changeover_order, changeover_of, with_changeover, has_other, changing, make_unavailable, begin, change_over, fail, begin_by_peer, fail_by_peer}
-use Rattle.exchange_rules.specs.ChangingOver.{concluded, changeover_acknowledgement, with_expiry, with_changeover_acknowledged, send_each, conclude, complete_if, fail_by_order, complete_by_order, acknowledge_changeover, on_changeover_order, on_changeover_acknowledgement, on_changeover_timer}
-use Rattle.exchange_rules.specs.ChangingBack.{declaration, code_in_use, freed, if_room, procedure_by, loses_flows, with_flows_held, usable, code_for, declare_by, hold_flows, take_back, take_back_each, on_changeback_acknowledgement}
-use Rattle.exchange_rules.specs.Statuses.{enters, moved_on, return_if, advance}
 use Rattle.exchange_rules.proofs.Combining.{IsKeeping, KeepsNode, Keeps, changed, answered, parted, parts-kept, either, either_node, behind_node}
 use Rattle.exchange_rules.proofs.KeepingMessages.{no_room-kept, send_routed-kept, send_each-kept}
 

@@ -1,32 +1,14 @@
 -- Associations and orders, statuses and timers of links: what is kept of the node that a rule leaves is what the rule leaves of what was kept,
 -- and it stays sound. Over any two kinds of queues P and Q of which h keeps one as the other.
-use Rattle.std.proofs.Common.{ℕ, zero, suc, true, false, Option, Some, None, refl, ap}
-use Rattle.std.specs.Prelude.{if◌then◌else◌}
-use Rattle.settings_rows.specs.Configuration.{Configuration}
+use Rattle.exchange_rules.proofs.Basics.{ℕ, zero, suc, true, false, Option, Some, None, refl, ap, if◌then◌else◌}
+use Rattle.exchange_rules.proofs.Definitions.{Configuration, Handled, Ignored, FailureReason, LinkStatus, Action, Status, Expiry, LinkTimer, Transition, action_at, TimerName, ticked, due_name, due_count, after_due, may_restart, Node, Done, QueueKind, keep, with_parts, answer, refuse, is_link, link_at, down, may_open, begun, open_link, association_up, fail_if_up, end_association, association_down, with_active, set_active, activate, deactivate, without_association, changeover_of, fail, advance, end_busy, serve_status, step_by_status, act_by_status, on_link_status, act_by_timer, run_out, with_timers, run_timer, run_due, run_next, run_times, tick}
 use Rattle.signalling_types.specs.declared.cause.Cause.TheVariants as causes
-use Rattle.signalling_types.specs.declared.outcome.Outcome.TheVariants.{Handled, Ignored}
-use Rattle.signalling_types.specs.declared.notice.FailureReason.{FailureReason}
 use Rattle.signalling_types.specs.declared.notice.FailureReason.TheVariants as reasons
-use Rattle.m2pa_codec.specs.declared.status.LinkStatus.{LinkStatus}
 use Rattle.m2pa_codec.specs.declared.status.LinkStatus.TheVariants as says
-use Rattle.link.specs.declared.action.Action.{Action}
 use Rattle.link.specs.declared.action.Action.TheVariants as act
-use Rattle.link.specs.declared.action.Input.TheVariants.{Status, Expiry}
-use Rattle.link.specs.declared.action.LinkTimer.{LinkTimer}
 use Rattle.link.specs.declared.action.LinkTimer.TheVariants as timer
-use Rattle.link.specs.declared.action.Transition.{Transition}
-use Rattle.link.specs.Table.{action_at}
-use Rattle.timers.specs.declared.name.TimerName.{TimerName}
 use Rattle.timers.specs.declared.name.TimerName.TheVariants as name
-use Rattle.timers.specs.Timers.{ticked, due_name, due_count, after_due}
 use Rattle.signalling_types.specs.declared.notice.ChangeoverTimer.TheVariants as changeover
-use Rattle.changeover.specs.Standing.{may_restart}
-use Rattle.exchange_rules.specs.State.{Node, Done, QueueKind, keep, with_parts, answer, refuse}
-use Rattle.exchange_rules.specs.Links.{is_link, link_at, down}
-use Rattle.exchange_rules.specs.Opening.{may_open, begun, open_link, association_up, fail_if_up, end_association, association_down, with_active, set_active, activate, deactivate, without_association}
-use Rattle.exchange_rules.specs.Failing.{changeover_of, fail}
-use Rattle.exchange_rules.specs.Statuses.{advance, end_busy, serve_status, step_by_status, act_by_status, on_link_status, act_by_timer, run_out}
-use Rattle.exchange_rules.specs.Ticking.{with_timers, run_timer, run_due, run_next, run_times, tick}
 use Rattle.exchange_rules.proofs.Combining.{IsKeeping, KeepsNode, Keeps, changed, answered, parted, either, parts-kept, either_node, behind_node}
 use Rattle.exchange_rules.proofs.KeepingMessages.{ask_again-kept}
 use Rattle.exchange_rules.proofs.KeepingChangeover.{fail-kept, on_changeover_timer-kept, advance-kept}

@@ -1,31 +1,11 @@
 -- Messages for this point, and those that are delivered or submitted: what is kept of the node that a rule leaves is what the rule leaves of
 -- what was kept, and it stays sound. Over any two kinds of queues P and Q of which h keeps one as the other.
-use Rattle.std.proofs.Common.{ℕ, Option, Some, None, Result, Ok, Err, ap}
-use Rattle.std.specs.Prelude.{if◌then◌else◌, nat_eq}
-use Rattle.signalling_types.specs.Message.{Message, opc_of, is_management, service_indicator}
-use Rattle.settings_rows.specs.Configuration.{Configuration}
+use Rattle.exchange_rules.proofs.Basics.{ℕ, Option, Some, None, Result, Ok, Err, ap, if◌then◌else◌}
+use Rattle.exchange_rules.proofs.Definitions.{Message, opc_of, is_management, service_indicator, Configuration, Local, MgmtFault, TestKind, Test, Acknowledgement, Management, TrafficRestartAllowed, TransferProhibited, TransferRestricted, TransferAllowed, RouteSetTestProhibited, RouteSetTestRestricted, ChangebackDeclaration, ChangebackAcknowledgement, ExtendedChangeoverOrder, ExtendedChangeoverAcknowledgement, EmergencyChangeoverOrder, EmergencyChangeoverAcknowledgement, LinkTestValue, read_link_test, read_management, Discrimination, set_place, destination_place, Allowed, Restricted, Prohibited, Node, Done, QueueKind, keep, answer, refuse, note_refusal, route_about, transfer, sccp, is_user, is_adjacent, link_with_code, test_answer, local, do_order, do_acknowledgement, do_management, do_kind, do_test, manage, distribute, on_unitdata, whither_goes, deliver_to, deliver, submit_to, changeback_acknowledgement}
+use Rattle.std.specs.Prelude.{nat_eq}
 use Rattle.signalling_types.specs.declared.cause.Cause.TheVariants as causes
-use Rattle.signalling_types.specs.declared.outcome.Outcome.TheVariants.{Local}
-use Rattle.mtp3_codec.specs.declared.fault.MgmtFault.{MgmtFault}
-use Rattle.mtp3_codec.specs.declared.link_test.TestKind.{TestKind}
-use Rattle.mtp3_codec.specs.declared.link_test.TestKind.TheVariants.{Test, Acknowledgement}
-use Rattle.mtp3_codec.specs.declared.management.Management.{Management}
-use Rattle.mtp3_codec.specs.declared.management.Management.TheVariants.{TrafficRestartAllowed, TransferProhibited, TransferRestricted, TransferAllowed, RouteSetTestProhibited, RouteSetTestRestricted, ChangebackDeclaration, ChangebackAcknowledgement, ExtendedChangeoverOrder, ExtendedChangeoverAcknowledgement, EmergencyChangeoverOrder, EmergencyChangeoverAcknowledgement}
-use Rattle.mtp3_codec.specs.LinkTests.{LinkTestValue, read_link_test}
-use Rattle.mtp3_codec.specs.Management.{read_management}
-use Rattle.mtp3_codec.specs.declared.discrimination.Discrimination.{Discrimination}
 use Rattle.mtp3_codec.specs.declared.discrimination.Discrimination.TheVariants as whither
-use Rattle.settings.specs.Readings.{set_place, destination_place}
-use Rattle.routes.specs.declared.route.RouteStatus.TheVariants.{Allowed, Restricted, Prohibited}
 use Rattle.route_management.specs.declared.heard.RouteTest.TheVariants as tests
-use Rattle.exchange_rules.specs.State.{Node, Done, QueueKind, keep, answer, refuse}
-use Rattle.exchange_rules.specs.Noting.{note_refusal}
-use Rattle.exchange_rules.specs.Points.{route_about}
-use Rattle.exchange_rules.specs.Arrival.{transfer}
-use Rattle.exchange_rules.specs.Local.{sccp, is_user, is_adjacent, link_with_code, test_answer, local, do_order, do_acknowledgement, do_management, do_kind, do_test, manage, distribute}
-use Rattle.exchange_rules.specs.Relaying.{on_unitdata}
-use Rattle.exchange_rules.specs.Messages.{whither_goes, deliver_to, deliver, submit_to}
-use Rattle.exchange_rules.specs.ChangingBack.{changeback_acknowledgement}
 use Rattle.exchange_rules.proofs.Combining.{IsKeeping, Keeps, answered, parted, either}
 use Rattle.exchange_rules.proofs.KeepingMessages.{send_on-kept, send_routed-kept, on_route_test-kept, on_route_status-kept, transfer-kept}
 use Rattle.exchange_rules.proofs.KeepingRelaying.{on_unitdata-kept}

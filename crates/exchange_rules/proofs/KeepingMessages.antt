@@ -1,34 +1,13 @@
 -- Messages that are made here or go to other points, and what adjacent points are told and say: what is kept of the node that a rule leaves
 -- is what the rule leaves of what was kept, and it stays sound. Over any two kinds of queues P and Q of which h keeps one as the other.
-use Rattle.std.proofs.Common.{◌≡◌, ℕ, Bool, true, false, List, [], ◌∷◌, Option, Some, None, Result, Ok, Err, refl, ap, ◌∙◌}
+use Rattle.exchange_rules.proofs.Basics.{◌≡◌, ℕ, Bool, true, false, List, [], ◌∷◌, Option, Some, None, Result, Ok, Err, refl, ap, ◌∙◌}
+use Rattle.exchange_rules.proofs.Definitions.{Message, dpc_of, flow_of, Configuration, Cause, Outcome, Handled, Ignored, destination_place, RouteStatus, Allowed, Restricted, Prohibited, status_of, Heard, RouteTest, Owed, owed, Node, QueueKind, keep, with_parts, answer, refuse, waits, facts, link_of, set_of, no_room, is_destination, offer, transfer, told_below, route_message, told_parts, answered_parts, inhibited, is_inhibited, may_tell, tell_if, tell_each, tell_owed, prohibit, prohibit_if, answer_no_route, send_route_status, answer_route_test, on_route_test, with_status_heard, with_next_test, prohibited_test, restricted_test, apply_route_status, on_route_status, ask_by, ask_again, send, send_on, send_routed, send_anew, send_each}
 use Rattle.std.specs.Prelude.{nat_lt, length, ◌&&◌, not}
-use Rattle.signalling_types.specs.Message.{Message, dpc_of, flow_of}
-use Rattle.settings_rows.specs.Configuration.{Configuration}
-use Rattle.signalling_types.specs.declared.cause.Cause.{Cause}
 use Rattle.signalling_types.specs.declared.cause.Cause.TheVariants as causes
-use Rattle.signalling_types.specs.declared.outcome.Outcome.{Outcome}
-use Rattle.signalling_types.specs.declared.outcome.Outcome.TheVariants.{Handled, Ignored}
-use Rattle.settings.specs.Readings.{destination_place}
-use Rattle.routes.specs.declared.route.RouteStatus.{RouteStatus}
-use Rattle.routes.specs.declared.route.RouteStatus.TheVariants.{Allowed, Restricted, Prohibited}
-use Rattle.routes.specs.Statuses.{status_of}
-use Rattle.route_management.specs.declared.heard.Heard.{Heard}
 use Rattle.route_management.specs.declared.heard.Heard.TheVariants as hears
-use Rattle.route_management.specs.declared.heard.RouteTest.{RouteTest}
 use Rattle.route_management.specs.Told as told
-use Rattle.route_management.specs.Owed.{Owed, owed}
 use Rattle.route_management.specs.Hearing as hearing
-use Rattle.exchange_rules.specs.State.{Node, QueueKind, keep, with_parts, answer, refuse}
-use Rattle.exchange_rules.specs.Holding.{waits}
-use Rattle.exchange_rules.specs.Routing.{facts, link_of}
-use Rattle.exchange_rules.specs.Points.{set_of}
-use Rattle.exchange_rules.specs.Queueing.{no_room}
-use Rattle.exchange_rules.specs.Arrival.{is_destination, offer, transfer}
 use Rattle.exchange_rules.specs.Telling as telling
-use Rattle.exchange_rules.specs.Telling.{told_below, route_message, told_parts, answered_parts, inhibited, is_inhibited, may_tell, tell_if, tell_each, tell_owed, prohibit, prohibit_if, answer_no_route, send_route_status, answer_route_test, on_route_test}
-use Rattle.exchange_rules.specs.Rerouting.{with_status_heard, with_next_test, prohibited_test, restricted_test, apply_route_status, on_route_status, ask_by, ask_again}
-use Rattle.exchange_rules.specs.Made.{send, send_on, send_routed, send_anew}
-use Rattle.exchange_rules.specs.ChangingOver.{send_each}
 use Rattle.exchange_rules.proofs.Combining.{IsKeeping, KeepsNode, Keeps, changed, answered, parted, either, either_node, alike_node, behind_node}
 
 module _ {P Q : Type 0} (p : QueueKind P) (q : QueueKind Q) (h : P → Q) (IsFit : P → Type 0) (c : Configuration) (k : IsKeeping p q h IsFit c.window) where

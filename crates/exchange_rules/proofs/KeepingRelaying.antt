@@ -1,20 +1,9 @@
 -- SCCP messages for this point, and translation rows: what is kept of the node that a rule leaves is what the rule leaves of what was kept, and
 -- it stays sound. Over any two kinds of queues P and Q of which h keeps one as the other.
-use Rattle.std.proofs.Common.{ℕ, Bool, List, Option, Some, None, refl, ap, ◌∙◌}
-use Rattle.signalling_types.specs.Message.{Message}
-use Rattle.settings_rows.specs.Configuration.{Configuration, TitleEntry}
-use Rattle.signalling_types.specs.declared.cause.Cause.{Cause}
+use Rattle.exchange_rules.proofs.Basics.{ℕ, Bool, List, Option, Some, None, refl, ap, ◌∙◌}
+use Rattle.exchange_rules.proofs.Definitions.{Message, Configuration, TitleEntry, Cause, Outcome, Queued, Held, Local, Handled, Ignored, Refused, TitleKey, place_of, has_row, without_row, RelayedValue, relay, returned, Node, Done, QueueKind, keep, with_parts, answer, refuse, transfer, own_of, in_place_of, send_udts, return_outcome, return_refusal, relay_by, on_unitdata, with_titles, title_refusal, add_title_unless, add_title, remove_title}
 use Rattle.signalling_types.specs.declared.cause.Cause.TheVariants as causes
-use Rattle.signalling_types.specs.declared.outcome.Outcome.{Outcome}
-use Rattle.signalling_types.specs.declared.outcome.Outcome.TheVariants.{Queued, Held, Local, Handled, Ignored, Refused}
-use Rattle.sccp_codec.specs.declared.title.TitleKey.{TitleKey}
-use Rattle.sccp_relay.specs.Rows.{place_of, has_row, without_row}
-use Rattle.sccp_relay.specs.Relay.{RelayedValue, relay}
 use Rattle.sccp_relay.specs.Relay as relays
-use Rattle.sccp_relay.specs.Return.{returned}
-use Rattle.exchange_rules.specs.State.{Node, Done, QueueKind, keep, with_parts, answer, refuse}
-use Rattle.exchange_rules.specs.Arrival.{transfer}
-use Rattle.exchange_rules.specs.Relaying.{own_of, in_place_of, send_udts, return_outcome, return_refusal, relay_by, on_unitdata, with_titles, title_refusal, add_title_unless, add_title, remove_title}
 use Rattle.exchange_rules.proofs.Combining.{IsKeeping, KeepsNode, Keeps, parted, either}
 use Rattle.exchange_rules.proofs.KeepingMessages.{transfer-kept}
 

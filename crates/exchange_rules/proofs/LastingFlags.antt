@@ -1,9 +1,6 @@
 -- The flags never fall.
-use Rattle.std.proofs.Common.{◌≡◌, true, refl, ◌∙◌}
-use Rattle.settings_rows.specs.Configuration.{Configuration}
-use Rattle.exchange_rules.specs.State.{Node, lost_any, late_any}
-use Rattle.exchange_rules.specs.Queues.{WholeQueues}
-use Rattle.exchange_rules.specs.Lasting.{losses_stay, lateness_stays}
+use Rattle.exchange_rules.proofs.Basics.{◌≡◌, true, refl, ◌∙◌}
+use Rattle.exchange_rules.proofs.Definitions.{Configuration, Node, lost_any, late_any, WholeQueues, losses_stay, lateness_stays}
 use Rattle.exchange_rules.proofs.Steps.{IsOfSteps}
 use Rattle.exchange_rules.proofs.Asked.{any, IsOfAll, all-of, asked-all}
 

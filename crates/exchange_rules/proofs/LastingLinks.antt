@@ -1,26 +1,6 @@
 -- Each link is steady at first, and stays so.
-use Rattle.std.proofs.Common.{◌≡◌, ◌<◌, ◌≤◌, ℕ, Bool, true, false, length, nat_lt, refl, ap, sym, subst, arith}
-use Rattle.std.specs.Prelude.{is_some}
-use Rattle.std.proofs.Math.Logic.{⊎_elim}
-use Rattle.std.proofs.lemmas.Bool.{cases_lt}
-use Rattle.std.proofs.lemmas.Bool.Decides.{nat_tests}
-use Rattle.std.proofs.lemmas.List.{get_or_past}
-use Rattle.settings_rows.specs.Configuration.{Configuration}
-use Rattle.signalling_types.specs.declared.limits.TheConstants.Limits.{WINDOW}
-use Rattle.link.specs.Queue.{Queue, first_queue}
-use Rattle.link.proofs.Sound.{sound-first}
-use Rattle.timers.specs.declared.name.TimerName.TheVariants.{L7}
-use Rattle.timers.proofs.Maps.{left-none}
-use Rattle.node_links.specs.Link.{Link}
-use Rattle.node_links.specs.LinkState.{down_link}
-use Rattle.changeover.specs.Standing.{Standing, no_changeover}
-use Rattle.exchange_rules.specs.State.{Node}
-use Rattle.exchange_rules.specs.Links.{link_at}
-use Rattle.exchange_rules.specs.Failing.{changeover_of}
-use Rattle.exchange_rules.specs.Queues.{WholeQueues, queue_at}
-use Rattle.exchange_rules.specs.First.{counts_in, first_state}
-use Rattle.exchange_rules.specs.Lasting.{HasAllPlaces, after_each}
-use Rattle.exchange_rules.specs.LastingLinks.{IsSteady, is_l7_running, AreLinksSteady, links_first_steady, links_stay_steady, l7_watches}
+use Rattle.exchange_rules.proofs.Basics.{◌≡◌, ◌<◌, ◌≤◌, ℕ, Bool, true, false, length, nat_lt, refl, ap, sym, subst, arith, is_some, ⊎_elim, cases_lt, nat_tests, get_or_past}
+use Rattle.exchange_rules.proofs.Definitions.{Configuration, WINDOW, Queue, first_queue, sound-first, L7, left-none, Link, down_link, Standing, no_changeover, Node, link_at, changeover_of, WholeQueues, queue_at, counts_in, first_state, HasAllPlaces, after_each, IsSteady, is_l7_running, AreLinksSteady, links_first_steady, links_stay_steady, l7_watches}
 use Rattle.exchange_rules.proofs.Lists.{each-replicate}
 use Rattle.exchange_rules.proofs.SteadyLinks.{steady-stands, stands-steady}
 use Rattle.exchange_rules.proofs.SteadySteps.{At, Keeps}

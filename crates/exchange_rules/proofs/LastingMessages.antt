@@ -1,20 +1,10 @@
 -- No message for this point stands in Held, or in a queue: so it is at first, and so it stays.
-use Rattle.std.proofs.Common.{◌≡◌, ℕ, Bool, true, false, ◌&&◌, not, List, [], ◌∷◌, ◌++◌, zero, suc, Option, Some, None, Result, Ok, Err, refl, ap, sym, subst, ◌∙◌}
-use Rattle.std.specs.Prelude.{if◌then◌else◌, filter, drop, slice_set, length}
+use Rattle.exchange_rules.proofs.Basics.{◌≡◌, ℕ, Bool, true, false, ◌&&◌, not, List, [], ◌∷◌, ◌++◌, zero, suc, Option, Some, None, Result, Ok, Err, refl, ap, sym, subst, ◌∙◌, if◌then◌else◌, filter, drop, slice_set, and_from as pair}
+use Rattle.exchange_rules.proofs.Definitions.{Message, is_management, Configuration, IsWell, Queue, Sending, first_queue, emptied, after_answer, accept_answer, to_send, appended, SeqFault, behind, moved, accepted_count, Node, queue_on, declaration, test_answer, carries, WholeQueues, queue_at, whole}
+use Rattle.std.specs.Prelude.{length}
 use Rattle.std.proofs.lemmas.List.Folds.{list_all-append}
-use Rattle.signalling_types.specs.Message.{Message, is_management}
-use Rattle.settings_rows.specs.Configuration.{Configuration}
-use Rattle.settings.specs.Well.{IsWell}
 use Rattle.link.specs.Queue as queue
-use Rattle.link.specs.Queue.{Queue, Sending, first_queue, emptied, after_answer, after_sending, accept_answer, to_send, appended}
-use Rattle.link.specs.declared.fault.SeqFault.{SeqFault}
-use Rattle.changeover.specs.Completion.{behind, moved, accepted_count}
-use Rattle.exchange_rules.specs.State.{Node}
-use Rattle.exchange_rules.specs.Queueing.{queue_on}
-use Rattle.exchange_rules.specs.ChangingBack.{declaration}
-use Rattle.exchange_rules.specs.Local.{test_answer}
-use Rattle.exchange_rules.specs.Frames.{carries}
-use Rattle.exchange_rules.specs.Queues.{WholeQueues, queue_at, whole}
+use Rattle.link.specs.Queue.{after_sending}
 use Rattle.exchange_rules.specs.LastingMessages.{is_onward, all_onward, AreOnward, first_is_onward, messages_stay_onward}
 use Rattle.exchange_rules.proofs.Lists.{each-set, each-replicate}
 use Rattle.exchange_rules.proofs.Onward.{declaration-onward, answer-onward, routed-onward, waiting-onward}
@@ -30,10 +20,6 @@ front false b e = absurd cc
 rest : (a b : Bool) → (a && b) ≡ true → b ≡ true
 rest true b e = e
 rest false b e = absurd cc
-
-pair : (a b : Bool) → a ≡ true → b ≡ true → (a && b) ≡ true
-pair true b e f = f
-pair false b e f = e
 
 module _ (c : Configuration) where
   joined : (ms ks : List Message) → all_onward c ms ≡ true → all_onward c ks ≡ true → all_onward c (ms ++ ks) ≡ true

@@ -1,19 +1,9 @@
 -- While a notice says that a message may have been lost, or gone out of order, the flag is raised.
-use Rattle.std.proofs.Common.{◌≡◌, ℕ, zero, suc, Bool, true, false, ◌||◌, List, [], ◌∷◌, ◌++◌, length, refl, ap, sym, ◌∙◌, ◌⊎◌, inl, inr}
-use Rattle.std.proofs.Math.Logic.{⊎_elim}
-use Rattle.std.specs.Prelude.{drop, ◌-◌}
-use Rattle.std.specs.List.{list_any}
+use Rattle.exchange_rules.proofs.Basics.{◌≡◌, ℕ, zero, suc, Bool, true, false, ◌||◌, List, [], ◌∷◌, ◌++◌, length, refl, ap, sym, ◌∙◌, ◌⊎◌, inl, inr, ⊎_elim, drop, list_any}
+use Rattle.exchange_rules.proofs.Definitions.{NOTICES, Notice, Configuration, Noted, Parts, Node, Found, lost_any, late_any, noted, concluded, first_state, WholeQueues, whole, tells_of_loss, tells_of_lateness, AreFlagsRaised, notices_raise_flags, unreasonable_numbers_raise_it}
+use Rattle.std.specs.Prelude.{◌-◌}
 use Rattle.circular_buffer.specs.Buffer.{keep_last}
-use Rattle.signalling_types.specs.declared.limits.TheConstants.Limits.{NOTICES}
-use Rattle.signalling_types.specs.declared.notice.Notice.{Notice}
 use Rattle.signalling_types.specs.declared.notice.Notice.TheVariants as notices
-use Rattle.settings_rows.specs.Configuration.{Configuration}
-use Rattle.exchange_rules.specs.State.{Noted, Parts, Node, Found, lost_any, late_any}
-use Rattle.exchange_rules.specs.Noting.{noted}
-use Rattle.exchange_rules.specs.ChangingOver.{concluded}
-use Rattle.exchange_rules.specs.First.{first_state}
-use Rattle.exchange_rules.specs.Queues.{WholeQueues, whole}
-use Rattle.exchange_rules.specs.Lasting.{tells_of_loss, tells_of_lateness, AreFlagsRaised, notices_raise_flags, unreasonable_numbers_raise_it}
 use Rattle.exchange_rules.proofs.LastingFlags.{flags-steps}
 use Rattle.exchange_rules.proofs.SteppingMessages.{send_each-steps}
 use Rattle.exchange_rules.proofs.Steps.{IsOfSteps}

@@ -1,37 +1,8 @@
 -- A node keeps a place for all that its settings name.
-use Rattle.std.proofs.Common.{◌≡◌, ℕ, Bool, true, List, length, refl, ap, ◌∙◌, false}
-use Rattle.std.specs.Prelude.{slice_set}
-use Rattle.signalling_types.specs.Message.{Message}
+use Rattle.exchange_rules.proofs.Basics.{◌≡◌, ℕ, Bool, true, List, length, refl, ap, ◌∙◌, false, slice_set, length-set, length-replicate, length-map}
+use Rattle.exchange_rules.proofs.Definitions.{Message, FailureReason, Configuration, TitleEntry, opening, Queue, first_queue, appended, emptied, down_link, after_failure, with_code, HoldSet, NodeCounts, Running, ticked, after_due, counts-after, Route, first_routes, ToldTable, shape_of, first_shape, Link, Standing, no_changeover, Node, Noted, with_parts, link_at, links_with, note, flagged, flagged_late, without_timers, with_changeover, fail_link, declaration, test_answer, carries, WholeQueues, queue_at, whole, with_titles, HasTimersFor, HasAllPlaces, places_at_first, places_stay}
 use Rattle.signalling_types.specs.declared.notice.Notice.TheVariants as notices
-use Rattle.signalling_types.specs.declared.notice.FailureReason.{FailureReason}
-use Rattle.std.proofs.lemmas.List.{length-set, length-replicate, length-map}
-use Rattle.settings_rows.specs.Configuration.{Configuration, TitleEntry}
-use Rattle.link.specs.Table.{opening}
 use Rattle.link.specs.Queue as queue
-use Rattle.link.specs.Queue.{Queue, first_queue, appended, emptied}
-use Rattle.node_links.specs.LinkState.{down_link, after_failure}
-use Rattle.changeback.specs.Codes.{with_code}
-use Rattle.flow_hold.specs.Holds.{HoldSet}
-use Rattle.timers.specs.declared.name.NodeCounts.{NodeCounts}
-use Rattle.timers.specs.Timers.{Running, ticked, after_due}
-use Rattle.timers.proofs.Dues.{counts-after}
-use Rattle.routes.specs.declared.route.Route.{Route}
-use Rattle.routes.specs.Facts.{first_routes}
-use Rattle.route_management.specs.Told.{ToldTable, shape_of}
-use Rattle.route_management.proofs.Shape.{first_shape}
-use Rattle.node_links.specs.Link.{Link}
-use Rattle.changeover.specs.Standing.{Standing, no_changeover}
-use Rattle.exchange_rules.specs.State.{Node, Noted, with_parts}
-use Rattle.exchange_rules.specs.Links.{link_at, links_with}
-use Rattle.exchange_rules.specs.Noting.{note, flagged, flagged_late}
-use Rattle.exchange_rules.specs.Timing.{without_timers}
-use Rattle.exchange_rules.specs.Failing.{with_changeover, fail_link}
-use Rattle.exchange_rules.specs.ChangingBack.{declaration}
-use Rattle.exchange_rules.specs.Local.{test_answer}
-use Rattle.exchange_rules.specs.Frames.{carries}
-use Rattle.exchange_rules.specs.Queues.{WholeQueues, queue_at, whole}
-use Rattle.exchange_rules.specs.Relaying.{with_titles}
-use Rattle.exchange_rules.specs.Lasting.{HasTimersFor, HasAllPlaces, places_at_first, places_stay}
 use Rattle.exchange_rules.proofs.Places.{with_code-fits, no_codes-fits, no_holds-fits}
 use Rattle.exchange_rules.proofs.LinkTimers.{without_timers-for, timed-for, timed_sending-for, timed_confirming-for, timed_busy-for, timed_busy_ended-for}
 use Rattle.exchange_rules.proofs.Steps.{AreHeld, IsOfSteps}

@@ -1,13 +1,6 @@
 -- The routes to adjacent points over their own sets are allowed in each state that comes of the first.
-use Rattle.std.proofs.Common.{◌≡◌, ℕ, false, List, [], Option, None, refl, ap, subst, sym, ◌∙◌}
-use Rattle.std.specs.Prelude.{slice_index_or}
-use Rattle.std.proofs.Math.ListN.{get_or-map}
-use Rattle.settings_rows.specs.Configuration.{Configuration, DestinationEntry}
-use Rattle.routes.specs.Facts.{first_routes}
-use Rattle.route_management.specs.Told.{ToldTable, is_number}
-use Rattle.exchange_rules.specs.State.{Node}
-use Rattle.exchange_rules.specs.Queues.{WholeQueues}
-use Rattle.exchange_rules.specs.First.{first_parts, first_state}
+use Rattle.exchange_rules.proofs.Basics.{◌≡◌, ℕ, false, List, [], Option, None, refl, ap, subst, sym, ◌∙◌, slice_index_or, get_or-map}
+use Rattle.exchange_rules.proofs.Definitions.{Configuration, DestinationEntry, first_routes, ToldTable, is_number, Node, WholeQueues, first_parts, first_state}
 use Rattle.exchange_rules.specs.LastingRoutes.{own_routes_stay_allowed}
 use Rattle.exchange_rules.proofs.Steps.{AreOwnAllowed, IsOfSteps}
 use Rattle.exchange_rules.proofs.Asked.{any, IsOfAll, all-of, asked-all}

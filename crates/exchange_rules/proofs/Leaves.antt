@@ -1,20 +1,8 @@
 -- What a rule leaves where it refuses, by the cause of the refusal, and which link it queues on: said of plain answers, and of tests between two.
-use Rattle.std.proofs.Common.{◌≡◌, ℕ, Bool, true, false, Option, Some, None, refl, ap, ◌∙◌}
-use Rattle.std.specs.Prelude.{if◌then◌else◌, nat_le}
-use Rattle.signalling_types.specs.Message.{Message, is_management}
-use Rattle.settings_rows.specs.Configuration.{Configuration}
-use Rattle.signalling_types.specs.declared.cause.Cause.{Cause}
+use Rattle.exchange_rules.proofs.Basics.{◌≡◌, ℕ, Bool, true, false, Option, Some, None, refl, ap, ◌∙◌, if◌then◌else◌, nat_le}
+use Rattle.exchange_rules.proofs.Definitions.{Message, is_management, Configuration, Cause, MANAGEMENT_MESSAGES, Outcome, Queued, Held, Local, Handled, Ignored, Refused, MgmtFault, Node, Done, answer, refuse, in_service, no_room, cause_of, WholeQueues, whole}
 use Rattle.signalling_types.specs.declared.cause.Cause.TheVariants as causes
-use Rattle.signalling_types.specs.declared.limits.TheConstants.Limits.{MANAGEMENT_MESSAGES}
-use Rattle.signalling_types.specs.declared.outcome.Outcome.{Outcome}
-use Rattle.signalling_types.specs.declared.outcome.Outcome.TheVariants.{Queued, Held, Local, Handled, Ignored, Refused}
-use Rattle.mtp3_codec.specs.declared.fault.MgmtFault.{MgmtFault}
 use Rattle.mtp3_codec.specs.declared.fault.MgmtFault.TheVariants as mgmt
-use Rattle.exchange_rules.specs.State.{Node, Done, answer, refuse}
-use Rattle.exchange_rules.specs.Links.{in_service}
-use Rattle.exchange_rules.specs.Queueing.{no_room}
-use Rattle.exchange_rules.specs.Local.{cause_of}
-use Rattle.exchange_rules.specs.Queues.{WholeQueues, whole}
 
 -- where a rule refuses, it leaves the node of the cause; where it queues a message, it does so on a link in service
 pub record Leaves (d : Done WholeQueues) (by : Cause → Node WholeQueues) : Type 0 where

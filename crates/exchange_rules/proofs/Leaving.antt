@@ -1,42 +1,13 @@
 -- A refused event leaves what it is to leave, and a message is queued on a link in service.
-use Rattle.std.proofs.Common.{◌≡◌, ℕ, Bool, true, false, List, [], ◌∷◌, Option, Some, None, Result, Ok, Err, refl, ap, ◌∙◌}
-use Rattle.std.specs.Prelude.{if◌then◌else◌}
-use Rattle.signalling_types.specs.Message.{Message, flow_of}
-use Rattle.settings_rows.specs.Configuration.{Configuration}
-use Rattle.signalling_types.specs.declared.cause.Cause.{Cause}
+use Rattle.exchange_rules.proofs.Basics.{◌≡◌, ℕ, Bool, true, false, List, [], ◌∷◌, Option, Some, None, Result, Ok, Err, refl, ap, ◌∙◌, if◌then◌else◌}
+use Rattle.exchange_rules.proofs.Definitions.{Message, flow_of, Configuration, Cause, Queued, Ignored, Refused, FrameFault, FrameValue, read_frame, Owed, owed, facts, Action, UserData, action_at, count_confirmed, Node, Done, with_node, with_parts, answer, refuse, is_link, link_at, down, in_service, link_of, no_room, send, route_message, told_parts, may_tell, tell_if, tell_each, tell_owed, whither_goes, submit, advance, Carrying, data_of, numbers, accept, read, CameUp, WentDown, FrameCame, Ticked, Submitted, Activated, Deactivated, TitleAdded, TitleRemoved, WholeQueues, whole, waits, all_wait, go_on, go_by, go, go_each, release, settled, apply, accept_data, accept_frame, accept_text, carried_message, answered, refusals_leave, queued_in_service, Abstract, IsSound}
 use Rattle.signalling_types.specs.declared.cause.Cause.TheVariants as causes
-use Rattle.signalling_types.specs.declared.outcome.Outcome.TheVariants.{Queued, Ignored, Refused}
-use Rattle.signalling_types.specs.declared.notice.FrameFault.{FrameFault}
-use Rattle.m2pa_codec.specs.Frames.{FrameValue}
-use Rattle.m2pa_codec.specs.Reading.{read_frame}
-use Rattle.route_management.specs.Owed.{Owed, owed}
-use Rattle.exchange_rules.specs.Routing.{facts}
-use Rattle.link.specs.declared.action.Action.{Action}
 use Rattle.link.specs.declared.action.Action.TheVariants as act
-use Rattle.link.specs.declared.action.Input.TheVariants.{UserData}
-use Rattle.link.specs.Table.{action_at}
-use Rattle.link.specs.Queue.{count_confirmed}
-use Rattle.exchange_rules.specs.State.{Node, Done, with_node, with_parts, answer, refuse}
-use Rattle.exchange_rules.specs.Links.{is_link, link_at, down, in_service}
-use Rattle.exchange_rules.specs.Routing.{link_of}
-use Rattle.exchange_rules.specs.Queueing.{no_room}
-use Rattle.exchange_rules.specs.Made.{send}
-use Rattle.exchange_rules.specs.Telling.{route_message, told_parts, may_tell, tell_if, tell_each, tell_owed}
 use Rattle.exchange_rules.specs.Telling as telling
-use Rattle.exchange_rules.specs.Messages.{whither_goes, submit}
-use Rattle.exchange_rules.specs.Statuses.{advance}
-use Rattle.exchange_rules.specs.Frames.{Carrying, data_of, numbers, accept, read}
-use Rattle.exchange_rules.specs.Happening.{CameUp, WentDown, FrameCame, Ticked, Submitted, Activated, Deactivated, TitleAdded, TitleRemoved}
-use Rattle.exchange_rules.specs.Queues.{WholeQueues, whole}
-use Rattle.exchange_rules.specs.Holding.{waits, all_wait}
-use Rattle.exchange_rules.specs.Releasing.{go_on, go_by, go, go_each, release}
 use Rattle.exchange_rules.proofs.Settling.{nothing_released}
 use Rattle.exchange_rules.proofs.Answering.{answered-waits, answered-told}
 use Rattle.exchange_rules.proofs.Telling.{told_already}
 use Rattle.exchange_rules.proofs.AddedHolds.{advance-waits}
-use Rattle.exchange_rules.specs.Exchange.{settled, apply}
-use Rattle.exchange_rules.specs.Laws.{accept_data, accept_frame, accept_text, carried_message, answered, refusals_leave, queued_in_service}
-use Rattle.exchange_rules.specs.Sound.{Abstract, IsSound}
 use Rattle.exchange_rules.proofs.Leaves.{Leaves, Stays}
 use Rattle.exchange_rules.proofs.LeavingMessages.{submit_to-leaves, add_title-leaves, remove_title-leaves, association_up-leaves, association_down-leaves, activate-leaves, deactivate-leaves}
 use Rattle.exchange_rules.proofs.LeavingFrames.{left_of_text, up_leaves}

@@ -1,30 +1,9 @@
 -- A frame whose message is refused leaves the node that had accepted it, with its notice; a message in a frame is queued on a link in service.
-use Rattle.std.proofs.Common.{◌≡◌, ℕ, Bool, true, false, Option, Some, None, Result, Ok, Err, refl, ap, ◌∙◌}
-use Rattle.std.specs.Prelude.{if◌then◌else◌}
-use Rattle.signalling_types.specs.Message.{Message}
-use Rattle.settings_rows.specs.Configuration.{Configuration}
-use Rattle.signalling_types.specs.declared.cause.Cause.{Cause}
-use Rattle.signalling_types.specs.declared.outcome.Outcome.{Outcome}
-use Rattle.signalling_types.specs.declared.outcome.Outcome.TheVariants.{Queued, Held, Local, Handled, Ignored, Refused}
-use Rattle.signalling_types.specs.declared.notice.FrameFault.{FrameFault}
+use Rattle.exchange_rules.proofs.Basics.{◌≡◌, ℕ, Bool, true, false, Option, Some, None, Result, Ok, Err, refl, ap, ◌∙◌, if◌then◌else◌}
+use Rattle.exchange_rules.proofs.Definitions.{Message, Configuration, Cause, Outcome, Queued, Held, Local, Handled, Ignored, Refused, FrameFault, FrameValue, EmptyFrame, MessageFrame, StatusFrame, LinkStatus, Action, Status, UserData, action_at, count_confirmed, SeqFault, Parts, Node, Done, with_parts, answer, link_at, in_service, note_outcome, note_refusal, whither_goes, deliver_to, advance, act_by_status, Carrying, data_of, numbers, accept, carry, handle_by, act_by_data, receive_frame, leave_aside, read, WholeQueues, whole, accept_data, accept_frame, accept_text, carried_message, answered, Abstract}
 use Rattle.signalling_types.specs.declared.notice.FrameFault.TheVariants as faults
-use Rattle.m2pa_codec.specs.Frames.{FrameValue, EmptyFrame, MessageFrame, StatusFrame}
-use Rattle.m2pa_codec.specs.declared.status.LinkStatus.{LinkStatus}
-use Rattle.link.specs.declared.action.Action.{Action}
 use Rattle.link.specs.declared.action.Action.TheVariants as act
-use Rattle.link.specs.declared.action.Input.TheVariants.{Status, UserData}
-use Rattle.link.specs.Table.{action_at}
-use Rattle.link.specs.Queue.{count_confirmed}
-use Rattle.link.specs.declared.fault.SeqFault.{SeqFault}
-use Rattle.exchange_rules.specs.State.{Parts, Node, Done, with_parts, answer}
-use Rattle.exchange_rules.specs.Links.{link_at, in_service}
-use Rattle.exchange_rules.specs.Noting.{note_outcome, note_refusal}
-use Rattle.exchange_rules.specs.Messages.{whither_goes, deliver_to}
-use Rattle.exchange_rules.specs.Statuses.{advance, act_by_status}
-use Rattle.exchange_rules.specs.Frames.{Carrying, data_of, numbers, accept, carry, handle_by, act_by_data, receive_frame, leave_aside, read}
-use Rattle.exchange_rules.specs.Queues.{WholeQueues, whole}
-use Rattle.exchange_rules.specs.Laws.{accept_data, accept_frame, accept_text, carried_message, answered, noted}
-use Rattle.exchange_rules.specs.Sound.{Abstract}
+use Rattle.exchange_rules.specs.Laws.{noted}
 use Rattle.exchange_rules.proofs.Leaves.{Leaves, handled, ignored}
 use Rattle.exchange_rules.proofs.LeavingMessages.{deliver_to-leaves}
 

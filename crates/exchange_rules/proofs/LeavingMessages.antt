@@ -1,63 +1,17 @@
 -- A message or a command that is refused leaves what its cause is to leave, and a message is queued on a link in service.
-use Rattle.std.proofs.Common.{◌≡◌, ℕ, Bool, true, false, List, Option, Some, None, Result, Ok, Err, refl, ap, sym, ◌∙◌, arith}
-use Rattle.std.specs.Prelude.{if◌then◌else◌, nat_eq, nat_lt}
-use Rattle.std.proofs.lemmas.Bool.Decides.{nat_tests}
-use Rattle.signalling_types.specs.Message.{Message, dpc_of, opc_of, flow_of, is_management, service_indicator}
+use Rattle.exchange_rules.proofs.Basics.{◌≡◌, ℕ, Bool, true, false, List, Option, Some, None, Result, Ok, Err, refl, ap, sym, ◌∙◌, arith, if◌then◌else◌, nat_tests, option_and_then}
+use Rattle.exchange_rules.proofs.Definitions.{Message, dpc_of, opc_of, flow_of, is_management, service_indicator, Configuration, TitleEntry, Cause, Outcome, Local, Handled, Ignored, destination_place, set_place, RouteStatus, Allowed, Restricted, Prohibited, Heard, RouteTest, chosen_link, facts, MgmtFault, TestKind, Test, Acknowledgement, Management, TrafficRestartAllowed, TransferProhibited, TransferRestricted, TransferAllowed, RouteSetTestProhibited, RouteSetTestRestricted, ChangebackDeclaration, ChangebackAcknowledgement, ExtendedChangeoverOrder, ExtendedChangeoverAcknowledgement, EmergencyChangeoverOrder, EmergencyChangeoverAcknowledgement, LinkTestValue, read_link_test, read_management, label_at, Discrimination, Parts, Node, Done, with_parts, answer, refuse, is_link, link_at, in_service, network_of, link_of, no_room, is_destination, offer, transfer, send_on, send_routed, route_about, apply_route_status, on_route_status, answer_no_route, send_route_status, answer_route_test, on_route_test, changeback_acknowledgement, freed, on_changeback_acknowledgement, is_outstanding, sccp, is_user, is_adjacent, cause_of, test_answer, link_with_code, local, do_order, do_acknowledgement, do_management, do_kind, do_test, manage, distribute, deliver_to, submit_to, TitleKey, place_of, has_row, without_row, RelayedValue, relay, own_of, in_place_of, return_unitdata, return_outcome, relay_by, on_unitdata, with_titles, title_refusal, add_title_unless, add_title, remove_title, answered_by, may_open, open_link, association_up, fail_if_up, end_association, association_down, set_active, activate, deactivate, WholeQueues, whole, waits, on_changeover_acknowledgement, complete_if, with_changeover_acknowledged, fail_by_order, complete_by_order, acknowledge_changeover, changeover_of, may_restart}
+use Rattle.std.specs.Prelude.{nat_eq, nat_lt}
 use Rattle.signalling_types.specs.declared.point.Flow.{Flow}
-use Rattle.std.specs.Option.{option_and_then}
-use Rattle.settings_rows.specs.Configuration.{Configuration, TitleEntry}
-use Rattle.signalling_types.specs.declared.cause.Cause.{Cause}
 use Rattle.signalling_types.specs.declared.cause.Cause.TheVariants as causes
-use Rattle.signalling_types.specs.declared.outcome.Outcome.{Outcome}
-use Rattle.signalling_types.specs.declared.outcome.Outcome.TheVariants.{Local, Handled, Ignored}
-use Rattle.settings.specs.Readings.{destination_place, set_place}
-use Rattle.routes.specs.declared.route.RouteStatus.{RouteStatus}
-use Rattle.routes.specs.declared.route.RouteStatus.TheVariants.{Allowed, Restricted, Prohibited}
-use Rattle.route_management.specs.declared.heard.Heard.{Heard}
 use Rattle.route_management.specs.declared.heard.Heard.TheVariants as hears
-use Rattle.route_management.specs.declared.heard.RouteTest.{RouteTest}
 use Rattle.route_management.specs.declared.heard.RouteTest.TheVariants as tests
 use Rattle.route_management.specs.Hearing as hearing
 use Rattle.route_management.specs.Told as told
-use Rattle.routes.specs.Chosen.{chosen_link}
 use Rattle.node_links.proofs.Chosen.{chosen_serving}
-use Rattle.exchange_rules.specs.Routing.{facts}
-use Rattle.mtp3_codec.specs.declared.fault.MgmtFault.{MgmtFault}
-use Rattle.mtp3_codec.specs.declared.link_test.TestKind.{TestKind}
-use Rattle.mtp3_codec.specs.declared.link_test.TestKind.TheVariants.{Test, Acknowledgement}
-use Rattle.mtp3_codec.specs.declared.management.Management.{Management}
-use Rattle.mtp3_codec.specs.declared.management.Management.TheVariants.{TrafficRestartAllowed, TransferProhibited, TransferRestricted, TransferAllowed, RouteSetTestProhibited, RouteSetTestRestricted, ChangebackDeclaration, ChangebackAcknowledgement, ExtendedChangeoverOrder, ExtendedChangeoverAcknowledgement, EmergencyChangeoverOrder, EmergencyChangeoverAcknowledgement}
-use Rattle.mtp3_codec.specs.LinkTests.{LinkTestValue, read_link_test}
-use Rattle.mtp3_codec.specs.Management.{read_management}
-use Rattle.mtp3_codec.specs.Label.{label_at}
-use Rattle.mtp3_codec.specs.declared.discrimination.Discrimination.{Discrimination}
 use Rattle.mtp3_codec.specs.declared.discrimination.Discrimination.TheVariants as whither
 use Rattle.signalling_types.specs.declared.notice.FailureReason.TheVariants as reasons
-use Rattle.exchange_rules.specs.State.{Parts, Node, Done, with_parts, answer, refuse}
-use Rattle.exchange_rules.specs.Links.{is_link, link_at, in_service}
-use Rattle.exchange_rules.specs.Routing.{network_of, link_of}
-use Rattle.exchange_rules.specs.Queueing.{no_room}
-use Rattle.exchange_rules.specs.Arrival.{is_destination, offer, transfer}
-use Rattle.exchange_rules.specs.Made.{send_on, send_routed}
-use Rattle.exchange_rules.specs.Points.{route_about}
-use Rattle.exchange_rules.specs.Rerouting.{apply_route_status, on_route_status}
-use Rattle.exchange_rules.specs.Telling.{answer_no_route, send_route_status, answer_route_test, on_route_test}
-use Rattle.exchange_rules.specs.ChangingBack.{changeback_acknowledgement, freed, on_changeback_acknowledgement}
-use Rattle.changeback.specs.Codes.{is_outstanding}
-use Rattle.exchange_rules.specs.Local.{sccp, is_user, is_adjacent, cause_of, test_answer, link_with_code, local, do_order, do_acknowledgement, do_management, do_kind, do_test, manage, distribute}
-use Rattle.exchange_rules.specs.Messages.{deliver_to, submit_to}
-use Rattle.sccp_codec.specs.declared.title.TitleKey.{TitleKey}
-use Rattle.sccp_relay.specs.Rows.{place_of, has_row, without_row}
-use Rattle.sccp_relay.specs.Relay.{RelayedValue, relay}
 use Rattle.sccp_relay.specs.Relay as relays
-use Rattle.exchange_rules.specs.Relaying.{own_of, in_place_of, return_unitdata, return_outcome, relay_by, on_unitdata, with_titles, title_refusal, add_title_unless, add_title, remove_title}
-use Rattle.exchange_rules.specs.Laws.{answered_by}
-use Rattle.exchange_rules.specs.Opening.{may_open, open_link, association_up, fail_if_up, end_association, association_down, set_active, activate, deactivate}
-use Rattle.exchange_rules.specs.Queues.{WholeQueues, whole}
-use Rattle.exchange_rules.specs.Holding.{waits}
-use Rattle.exchange_rules.specs.ChangingOver.{on_changeover_acknowledgement, complete_if, with_changeover_acknowledged, fail_by_order, complete_by_order, acknowledge_changeover}
-use Rattle.exchange_rules.specs.Failing.{changeover_of}
-use Rattle.changeover.specs.Standing.{may_restart}
 use Rattle.exchange_rules.proofs.Leaves.{Leaves, queued_on, is_other, refuses_other, room_so, fault_so, Stays, left_by, left_as, stayed, waited, handled, ignored, either, either_by}
 
 -- ---- links

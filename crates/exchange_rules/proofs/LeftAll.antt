@@ -1,22 +1,7 @@
 -- Every event leaves the links that it isn't about, and every take the queues of other links.
-use Rattle.std.proofs.Common.{◌≡◌, ◌≢◌, ℕ, zero, suc, Bool, true, false, ◌||◌, nat_eq, Some, None, refl, ap, sym, subst, ◌∙◌, arith}
-use Rattle.std.specs.List.{list_any}
-use Rattle.std.proofs.lemmas.Bool.Decides.{nat_tests}
-use Rattle.std.proofs.lemmas.List.{get_or-set_other}
-use Rattle.signalling_types.specs.Message.{flow_of}
-use Rattle.settings_rows.specs.Configuration.{Configuration}
-use Rattle.link.specs.declared.action.LinkTimer.{LinkTimer}
+use Rattle.exchange_rules.proofs.Basics.{◌≡◌, ◌≢◌, ℕ, zero, suc, Bool, true, false, ◌||◌, nat_eq, Some, None, refl, ap, sym, subst, ◌∙◌, arith, list_any, nat_tests, get_or-set_other}
+use Rattle.exchange_rules.proofs.Definitions.{flow_of, Configuration, LinkTimer, first_queue, sent_one, TimerName, Running, is_due, no_tick_left, ticked, due_name, after_due, due_count, due-left, after-clear, after-none, Parts, Node, timer_name, with_timers, run_next, run_times, tick, Happening, CameUp, WentDown, FrameCame, Ticked, Submitted, Activated, Deactivated, TitleAdded, TitleRemoved, Outgoing, SendsStatus, SendsMessage, Acknowledges, SendsNothing, goes_out, after_sending, WholeQueues, queue_at, whole}
 use Rattle.link.specs.declared.action.LinkTimer.TheVariants as timer
-use Rattle.link.specs.Queue.{first_queue, sent_one}
-use Rattle.timers.specs.declared.name.TimerName.{TimerName}
-use Rattle.timers.specs.Timers.{Running, is_due, no_tick_left, ticked, due_name, after_due, due_count}
-use Rattle.timers.proofs.Dues.{due-left, after-clear, after-none}
-use Rattle.exchange_rules.specs.State.{Parts, Node}
-use Rattle.exchange_rules.specs.Timing.{timer_name}
-use Rattle.exchange_rules.specs.Ticking.{with_timers, run_next, run_times, tick}
-use Rattle.exchange_rules.specs.Happening.{Happening, CameUp, WentDown, FrameCame, Ticked, Submitted, Activated, Deactivated, TitleAdded, TitleRemoved}
-use Rattle.exchange_rules.specs.Sending.{Outgoing, SendsStatus, SendsMessage, Acknowledges, SendsNothing, goes_out, after_sending}
-use Rattle.exchange_rules.specs.Queues.{WholeQueues, queue_at, whole}
 use Rattle.exchange_rules.specs.Touching.{link_timers, runs_out, some_runs_out, is_about, other_links_are_left, takes_leave_other_queues}
 use Rattle.exchange_rules.proofs.LeavingMessages.{chosen_serves}
 use Rattle.exchange_rules.proofs.SteppingTimers.{due-clear}

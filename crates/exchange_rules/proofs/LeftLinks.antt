@@ -1,24 +1,7 @@
 -- A link that an event isn't about: messages go behind its queue while it is in service, a completion empties it, and nothing else touches it.
-use Rattle.std.proofs.Common.{◌≡◌, ◌≢◌, ◌<◌, ◌≤◌, ◌⊎◌, inl, inr, ℕ, Bool, true, false, List, [], ◌∷◌, ◌++◌, length, Option, refl, ap, sym, subst, ◌∙◌, arith}
-use Rattle.std.specs.Prelude.{slice_set}
-use Rattle.std.proofs.Math.Logic.{⊎_elim}
-use Rattle.std.proofs.lemmas.Bool.{cases_eq, cases_lt}
-use Rattle.std.proofs.lemmas.List.{append-nil, append_assoc, get_or_past, get_or-set_same, length-set}
-use Rattle.signalling_types.specs.Message.{Message}
-use Rattle.signalling_types.specs.declared.notice.FailureReason.{FailureReason}
-use Rattle.settings_rows.specs.Configuration.{Configuration}
+use Rattle.exchange_rules.proofs.Basics.{◌≡◌, ◌≢◌, ◌<◌, ◌≤◌, ◌⊎◌, inl, inr, ℕ, Bool, true, false, List, [], ◌∷◌, ◌++◌, length, Option, refl, ap, sym, subst, ◌∙◌, arith, slice_set, ⊎_elim, cases_eq, cases_lt, append-nil, append_assoc, get_or_past, get_or-set_same, length-set}
+use Rattle.exchange_rules.proofs.Definitions.{Message, FailureReason, Configuration, Queue, first_queue, emptied, TimerName, is_due, Link, down_link, is_in_service, after_failure, Standing, no_changeover, Node, with_parts, link_at, in_service, with_link, queue_on, changeover_of, with_changeover, fail_link, WholeQueues, queue_at, whole}
 use Rattle.link.specs.Queue as queue
-use Rattle.link.specs.Queue.{Queue, first_queue, emptied}
-use Rattle.timers.specs.declared.name.TimerName.{TimerName}
-use Rattle.timers.specs.Timers.{is_due}
-use Rattle.node_links.specs.Link.{Link}
-use Rattle.node_links.specs.LinkState.{down_link, is_in_service, after_failure}
-use Rattle.changeover.specs.Standing.{Standing, no_changeover}
-use Rattle.exchange_rules.specs.State.{Node, with_parts}
-use Rattle.exchange_rules.specs.Links.{link_at, in_service, with_link}
-use Rattle.exchange_rules.specs.Queueing.{queue_on}
-use Rattle.exchange_rules.specs.Failing.{changeover_of, with_changeover, fail_link}
-use Rattle.exchange_rules.specs.Queues.{WholeQueues, queue_at, whole}
 use Rattle.exchange_rules.specs.Touching.{IsGrown, IsEmptied, IsUntouched, IsCompleted, HadChangeover, IsLeft}
 use Rattle.exchange_rules.proofs.Lists.{alike-at}
 use Rattle.exchange_rules.proofs.LinkTimers.{same-for}

@@ -1,3 +1,5 @@
+pub mod Definitions
+pub mod Basics
 pub mod Lists
 pub mod Combining
 pub mod KeepingMessages

@@ -1,16 +1,8 @@
 -- The timers of one link are set and stopped: the same names exist, the L7 of no other link changes, and no timer becomes due.
-use Rattle.std.proofs.Common.{◌≡◌, ◌≢◌, ℕ, Bool, true, false, refl, sym, ap, ◌∙◌}
-use Rattle.std.specs.Prelude.{if◌then◌else◌, nat_eq, Option, Some, None, is_some}
-use Rattle.settings_rows.specs.Configuration.{Configuration}
-use Rattle.link.specs.declared.action.LinkTimer.{LinkTimer}
+use Rattle.exchange_rules.proofs.Basics.{◌≡◌, ◌≢◌, ℕ, Bool, true, false, refl, sym, ap, ◌∙◌, if◌then◌else◌, is_some}
+use Rattle.exchange_rules.proofs.Definitions.{Configuration, LinkTimer, Transition, TimerName, L7, key_of, Running, set_timer, start_unless_running, is_due, is_running, left-set_other, left-clear_other, counts-set, counts-clear, timer_name, ticks_of, without_timer, without_timers, with_timer, without_timer_if, with_timer_if, timed, timed_sending, timed_confirming, timed_busy, timed_busy_ended}
+use Rattle.std.specs.Prelude.{nat_eq, Option, Some, None}
 use Rattle.link.specs.declared.action.LinkTimer.TheVariants as timer
-use Rattle.link.specs.declared.action.Transition.{Transition}
-use Rattle.timers.specs.declared.name.TimerName.{TimerName}
-use Rattle.timers.specs.declared.name.TimerName.TheVariants.{L7}
-use Rattle.timers.specs.Names.{key_of}
-use Rattle.timers.specs.Timers.{Running, set_timer, start_unless_running, is_due, is_running}
-use Rattle.timers.proofs.Maps.{left-set_other, left-clear_other, counts-set, counts-clear}
-use Rattle.exchange_rules.specs.Timing.{timer_name, ticks_of, without_timer, without_timers, with_timer, without_timer_if, with_timer_if, timed, timed_sending, timed_confirming, timed_busy, timed_busy_ended}
 use Rattle.exchange_rules.proofs.SteppingTimers.{due-set, due-clear}
 
 pub record AreTimedFor (link : ℕ) (r s : Running) : Type 0 where

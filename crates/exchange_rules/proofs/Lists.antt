@@ -1,8 +1,5 @@
 -- Lists of which one element changes.
-use Rattle.std.proofs.Common.{◌≡◌, ℕ, List, [], ◌∷◌, get_or, map, sum_by, refl, ap, sym, ◌∙◌, zero, suc, replicate}
-use Rattle.std.proofs.Math.ListN.{set, get_or-map}
-use Rattle.std.proofs.lemmas.List.{map-set, set-get_or}
-use Rattle.std.proofs.lemmas.List.Sums.{sum_by-cons}
+use Rattle.exchange_rules.proofs.Basics.{◌≡◌, ℕ, List, [], ◌∷◌, get_or, map, sum_by, refl, ap, sym, ◌∙◌, zero, suc, replicate, set, get_or-map, map-set, set-get_or, sum_by-cons}
 
 -- an element is replaced by one of which f is as of the old one
 pub map-set_alike : {A B : Type 0} (f : A → B) (xs : List A) (i : ℕ) (x d : A) → f x ≡ f (get_or xs i d) → map f xs ≡ map f (set xs i x)

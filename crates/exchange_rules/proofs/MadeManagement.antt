@@ -1,23 +1,9 @@
 -- What a management message says that a node makes, and what the node does with it that it is for.
-use Rattle.std.proofs.Common.{◌≡◌, ◌<◌, ◌≤◌, ◌^◌, ℕ, true, false, Ok, length, nat_eq, nat_lt, [], refl, ap, arith}
-use Rattle.std.specs.Prelude.{slice_index_or}
-use Rattle.std.proofs.Math.Logic.{⊎_elim}
-use Rattle.std.proofs.lemmas.Bool.{cases_lt}
-use Rattle.std.proofs.lemmas.Bool.Decides.{nat_tests}
-use Rattle.std.proofs.lemmas.List.{get_or_past}
-use Rattle.signalling_types.specs.Message.{Message, dpc_of, opc_of, service_indicator, network_indicator, is_management}
-use Rattle.signalling_types.specs.declared.limits.TheConstants.Limits.{SIF_OCTETS}
-use Rattle.settings_rows.specs.Configuration.{Configuration, LinkEntry}
-use Rattle.settings.specs.Well.{IsWell, IsLink}
+use Rattle.exchange_rules.proofs.Basics.{◌≡◌, ◌<◌, ◌≤◌, ◌^◌, ℕ, true, false, Ok, length, nat_eq, nat_lt, [], refl, ap, arith, slice_index_or, ⊎_elim, cases_lt, nat_tests, get_or_past}
+use Rattle.exchange_rules.proofs.Definitions.{Message, dpc_of, opc_of, service_indicator, network_indicator, is_management, SIF_OCTETS, Configuration, LinkEntry, IsWell, IsLink, label_at, Management, IsManagement, read_management, management_to, entry_of, whither_goes}
 use Rattle.mtp3_codec.specs.declared.label.Label.{Label}
-use Rattle.mtp3_codec.specs.Label.{label_at}
 use Rattle.mtp3_codec.specs.declared.discrimination.Discrimination.TheVariants.{Here}
-use Rattle.mtp3_codec.specs.declared.management.Management.{Management}
-use Rattle.mtp3_codec.specs.Management.{IsManagement, read_management}
 use Rattle.mtp3_codec.proofs.Reading.{label_of, its-label, message-back, octets-fit, octets-long}
-use Rattle.exchange_rules.specs.Made.{management_to}
-use Rattle.exchange_rules.specs.Points.{entry_of}
-use Rattle.exchange_rules.specs.Messages.{whither_goes}
 
 -- ---- what it says
 

@@ -1,38 +1,8 @@
 -- Rules that take user messages in, let them go for good, or move them: how many stand after each.
-use Rattle.std.proofs.Common.{Bool, List, None, Option, Some, [], ap, arith, cond, false, length, nat_eq, nat_lt, refl, sum_by, sym, true, ℕ, ◌++◌, ◌+◌, ◌-◌, ◌<◌, ◌∙◌, ◌∷◌, ◌≡◌, ◌≤◌}
-use Rattle.std.proofs.Math.Logic.{⊎_elim}
-use Rattle.std.proofs.lemmas.Bool.{cases_lt}
-use Rattle.std.proofs.lemmas.Bool.Decides.{nat_tests}
-use Rattle.std.proofs.lemmas.List.{get_or_past}
-use Rattle.std.proofs.lemmas.List.Sums.{sum_by-append}
-use Rattle.std.specs.Prelude.{count_by, if◌then◌else◌, slice_set, take}
+use Rattle.exchange_rules.proofs.Basics.{Bool, List, None, Option, Some, [], ap, arith, cond, false, length, nat_eq, nat_lt, refl, sum_by, sym, true, ℕ, ◌++◌, ◌+◌, ◌-◌, ◌<◌, ◌∙◌, ◌∷◌, ◌≡◌, ◌≤◌, ⊎_elim, cases_lt, nat_tests, get_or_past, sum_by-append, count_by, if◌then◌else◌, slice_set, take}
+use Rattle.exchange_rules.proofs.Definitions.{accepted_count, behind, in_doubt, lost, moved, users_of, unconfirmed-appended, IsQueue, Queue, appended, emptied, first_queue, unconfirmed, Link, down_link, is_in_service, Discrimination, RelayedValue, relay, returned, Configuration, Message, dpc_of, flow_of, is_management, service_indicator, Cause, Outcome, Handled, Held, Ignored, Local, Queued, Refused, destination_place, is_destination, offer, transfer, answered_in, brought_here, brought_to, gone_by_completion, gone_that, relayed_in, returned_in, standing, taken_in, unitdata_in, users_that, waits, in_service, is_user, local, sccp, submit, submit_to, whither_goes, no_room, queue_on, WholeQueues, queue_at, whole, in_place_of, on_unitdata, own_of, relay_by, return_outcome, return_unitdata, send_udts, link_of, Done, Node, Parts, answer, refuse}
 use Rattle.changeover.proofs.Completing.{once}
-use Rattle.changeover.specs.Completion.{accepted_count, behind, in_doubt, lost, moved, users_of}
 use Rattle.changeover.specs.Laws.{count_in_the_end}
-use Rattle.link.proofs.Kept.{unconfirmed-appended}
-use Rattle.link.specs.Queue.{IsQueue, Queue, appended, emptied, first_queue, unconfirmed}
-use Rattle.node_links.specs.Link.{Link}
-use Rattle.node_links.specs.LinkState.{down_link, is_in_service}
-use Rattle.mtp3_codec.specs.declared.discrimination.Discrimination.{Discrimination}
-use Rattle.sccp_relay.specs.Relay.{RelayedValue, relay}
-use Rattle.sccp_relay.specs.Return.{returned}
-use Rattle.settings_rows.specs.Configuration.{Configuration}
-use Rattle.signalling_types.specs.Message.{Message, dpc_of, flow_of, is_management, service_indicator}
-use Rattle.signalling_types.specs.declared.cause.Cause.{Cause}
-use Rattle.signalling_types.specs.declared.outcome.Outcome.{Outcome}
-use Rattle.signalling_types.specs.declared.outcome.Outcome.TheVariants.{Handled, Held, Ignored, Local, Queued, Refused}
-use Rattle.settings.specs.Readings.{destination_place}
-use Rattle.exchange_rules.specs.Arrival.{is_destination, offer, transfer}
-use Rattle.exchange_rules.specs.Conserving.{answered_in, brought_here, brought_to, gone_by_completion, gone_that, relayed_in, returned_in, standing, taken_in, unitdata_in, users_that}
-use Rattle.exchange_rules.specs.Holding.{waits}
-use Rattle.exchange_rules.specs.Links.{in_service}
-use Rattle.exchange_rules.specs.Local.{is_user, local, sccp}
-use Rattle.exchange_rules.specs.Messages.{submit, submit_to, whither_goes}
-use Rattle.exchange_rules.specs.Queueing.{no_room, queue_on}
-use Rattle.exchange_rules.specs.Queues.{WholeQueues, queue_at, whole}
-use Rattle.exchange_rules.specs.Relaying.{in_place_of, on_unitdata, own_of, relay_by, return_outcome, return_unitdata, send_udts}
-use Rattle.exchange_rules.specs.Routing.{link_of}
-use Rattle.exchange_rules.specs.State.{Done, Node, Parts, answer, refuse}
 use Rattle.exchange_rules.proofs.Changes.{answer_no_route-stand, stands}
 use Rattle.exchange_rules.proofs.Fitting.{Fits}
 use Rattle.exchange_rules.proofs.LeavingMessages.{chosen_serves, relay_by-leaves}

@@ -1,14 +1,7 @@
 -- A signalling link code names one link of the set to a point.
-use Rattle.std.proofs.Common.{refl, ◌≡◌, ◌<◌, ℕ, Bool, true, false, ◌&&◌, cond, zero, suc, List, [], ◌∷◌, Option, Some, None, length, nat_eq, nat_lt, get_or, position, ap, ◌∙◌, arith}
-use Rattle.std.specs.List.{AllByRecursion, IsDistinct, position_or_len}
-use Rattle.std.specs.Option.{option_and_then}
-use Rattle.std.proofs.lemmas.Bool.Decides.{nat_tests}
-use Rattle.std.proofs.lemmas.List.Sums.{position_or_len_is}
-use Rattle.settings_rows.specs.Configuration.{Configuration}
-use Rattle.settings.specs.Readings.{set_place, destination_place}
-use Rattle.settings.specs.Well.{IsWell, is_same_code, is_same_point, is_set_to_same_point}
-use Rattle.exchange_rules.specs.Points.{entry_of, set_of, adjacent_of, peer_of, point_of}
-use Rattle.exchange_rules.specs.Local.{link_in_set, link_with_code}
+use Rattle.exchange_rules.proofs.Basics.{refl, ◌≡◌, ◌<◌, ℕ, Bool, true, false, ◌&&◌, cond, zero, suc, List, [], ◌∷◌, Option, Some, None, length, nat_eq, nat_lt, get_or, ap, ◌∙◌, arith, AllByRecursion, IsDistinct, position_or_len, option_and_then, nat_tests, position_or_len_is}
+use Rattle.exchange_rules.proofs.Definitions.{Configuration, set_place, destination_place, IsWell, is_same_code, is_same_point, is_set_to_same_point, entry_of, set_of, adjacent_of, peer_of, point_of, link_in_set, link_with_code}
+use Rattle.std.proofs.Common.{position}
 use Rattle.exchange_rules.proofs.Onward.{link-set}
 
 -- ---- where an element of a list stands whose elements differ

@@ -1,22 +1,6 @@
 -- Completions and releases name each message that they lose.
-use Rattle.std.proofs.Common.{Bool, List, None, Option, Some, [], ap, false, map, not, refl, sym, true, ℕ, ◌&&◌, ◌++◌, ◌∙◌, ◌∷◌, ◌≡◌}
-use Rattle.std.proofs.lemmas.List.Elements.{filter_agree}
-use Rattle.std.specs.Prelude.{filter, if◌then◌else◌, is_some}
-use Rattle.settings_rows.specs.Configuration.{Configuration}
-use Rattle.signalling_types.specs.Message.{Message, dpc_of, flow_of}
-use Rattle.signalling_types.specs.declared.cause.Cause.{Cause}
-use Rattle.signalling_types.specs.declared.cause.Cause.TheVariants.{LostUnconfirmed, NoRoute}
-use Rattle.signalling_types.specs.declared.notice.Notice.{Notice}
-use Rattle.exchange_rules.specs.ChangingOver.{complete_if, concluded, judged, lifted_parts, lose, lose_each, send_each}
-use Rattle.exchange_rules.specs.Conserving.{gone_by_completion, is_stranded}
-use Rattle.exchange_rules.specs.LawsOfMessages.{completions_name_what_they_lose, naming, releases_name_what_they_lose}
-use Rattle.exchange_rules.specs.Noting.{noted, noted_all}
-use Rattle.exchange_rules.specs.Holding.{waits}
-use Rattle.exchange_rules.specs.Made.{send, send_anew}
-use Rattle.exchange_rules.specs.Queues.{WholeQueues, whole}
-use Rattle.exchange_rules.specs.Releasing.{go, go_by, go_each, go_on}
-use Rattle.exchange_rules.specs.Routing.{link_of}
-use Rattle.exchange_rules.specs.State.{Found, Node, Noted, Parts}
+use Rattle.exchange_rules.proofs.Basics.{Bool, List, None, Option, Some, [], ap, false, map, not, refl, sym, true, ℕ, ◌&&◌, ◌++◌, ◌∙◌, ◌∷◌, ◌≡◌, filter_agree, filter, if◌then◌else◌, is_some}
+use Rattle.exchange_rules.proofs.Definitions.{Configuration, Message, dpc_of, flow_of, Cause, LostUnconfirmed, NoRoute, Notice, complete_if, concluded, judged, lifted_parts, lose, lose_each, send_each, gone_by_completion, is_stranded, completions_name_what_they_lose, naming, releases_name_what_they_lose, noted, noted_all, waits, send, send_anew, WholeQueues, whole, go, go_by, go_each, go_on, link_of, Found, Node, Noted, Parts}
 use Rattle.exchange_rules.proofs.Departing.{go_by-strands}
 use Rattle.signalling_types.specs.declared.notice.Notice.TheVariants as notices
 

@@ -1,25 +1,8 @@
 -- A change of one link: each other link keeps its state, its changeover, its queue and its L7.
-use Rattle.std.proofs.Common.{◌≡◌, ◌≢◌, ◌<◌, ℕ, List, length, Option, refl}
-use Rattle.std.specs.Prelude.{get_or, slice_set}
-use Rattle.std.proofs.lemmas.List.{get_or-set_same, get_or-set_other, length-set}
-use Rattle.signalling_types.specs.Message.{Message}
-use Rattle.signalling_types.specs.declared.notice.FailureReason.{FailureReason}
-use Rattle.settings_rows.specs.Configuration.{Configuration}
-use Rattle.link.specs.Table.{opening}
+use Rattle.exchange_rules.proofs.Basics.{◌≡◌, ◌≢◌, ◌<◌, ℕ, List, length, Option, refl, slice_set, get_or-set_same, get_or-set_other, length-set}
+use Rattle.exchange_rules.proofs.Definitions.{Message, FailureReason, Configuration, opening, Queue, Sending, first_queue, emptied, Running, Link, down_link, opened, after_failure, Standing, no_changeover, Node, with_parts, link_at, queue_on, changeover_of, with_changeover, fail_link, Carrying, carries, open_link, SendsMessage, without_owed, after_sending, WholeQueues, queue_at, whole}
+use Rattle.std.specs.Prelude.{get_or}
 use Rattle.link.specs.Queue as queue
-use Rattle.link.specs.Queue.{Queue, Sending, first_queue, emptied}
-use Rattle.timers.specs.Timers.{Running}
-use Rattle.node_links.specs.Link.{Link}
-use Rattle.node_links.specs.LinkState.{down_link, opened, after_failure}
-use Rattle.changeover.specs.Standing.{Standing, no_changeover}
-use Rattle.exchange_rules.specs.State.{Node, with_parts}
-use Rattle.exchange_rules.specs.Links.{link_at}
-use Rattle.exchange_rules.specs.Queueing.{queue_on}
-use Rattle.exchange_rules.specs.Failing.{changeover_of, with_changeover, fail_link}
-use Rattle.exchange_rules.specs.Frames.{Carrying, carries}
-use Rattle.exchange_rules.specs.Opening.{open_link}
-use Rattle.exchange_rules.specs.Sending.{SendsMessage, without_owed, after_sending}
-use Rattle.exchange_rules.specs.Queues.{WholeQueues, queue_at, whole}
 use Rattle.exchange_rules.proofs.LinkTimers.{AreTimedFor, same-for, without_timers-for, timed-for, timed_sending-for, timed_confirming-for}
 use Rattle.exchange_rules.proofs.Steps.{confirming}
 

@@ -1,32 +1,7 @@
 -- A message that has a link, one that waits, and what is made here to an adjacent point are for other points.
-use Rattle.std.proofs.Common.{◌≡◌, ◌≢◌, ◌<◌, ◌≤◌, ℕ, ◌+◌, ◌*◌, ◌/◌, ◌%◌, ◌^◌, Bool, true, false, ◌&&◌, not, List, [], ◌∷◌, ◌++◌, length, nat_eq, Option, Some, None, refl, ap, sym, subst, ◌∙◌, arith}
-use Rattle.std.specs.Prelude.{slice_index_or, is_some}
-use Rattle.std.proofs.Math.Logic.{⊎_elim}
-use Rattle.std.proofs.lemmas.Bool.{cases_lt}
-use Rattle.std.proofs.lemmas.List.{get_or_past}
-use Rattle.std.specs.Option.{option_and_then}
-use Rattle.std.proofs.lemmas.Bool.Decides.{nat_tests}
-use Rattle.std.proofs.lemmas.List.Quantifiers.{position-Some}
-use Rattle.signalling_types.specs.Message.{Message, dpc_of, flow_of, is_management}
-use Rattle.settings_rows.specs.Configuration.{Configuration, DestinationEntry, LinkEntry, SetEntry}
-use Rattle.settings.specs.Well.{IsWell, IsDestination, IsLink, IsSet, IsFarPoint}
-use Rattle.settings.specs.Readings.{destination_place, set_place}
-use Rattle.mtp3_codec.specs.declared.management.Management.{Management}
-use Rattle.mtp3_codec.specs.declared.management.Management.TheVariants.{ChangebackDeclaration}
-use Rattle.mtp3_codec.specs.Management.{link_code_of, field_octets}
+use Rattle.exchange_rules.proofs.Basics.{◌≡◌, ◌≢◌, ◌<◌, ◌≤◌, ℕ, ◌+◌, ◌*◌, ◌/◌, ◌%◌, ◌^◌, Bool, true, false, ◌&&◌, not, List, [], ◌∷◌, ◌++◌, length, nat_eq, Option, Some, None, refl, ap, sym, subst, ◌∙◌, arith, slice_index_or, is_some, ⊎_elim, cases_lt, get_or_past, option_and_then, nat_tests, position-Some}
+use Rattle.exchange_rules.proofs.Definitions.{Message, dpc_of, flow_of, is_management, Configuration, DestinationEntry, LinkEntry, SetEntry, IsWell, IsDestination, IsLink, IsSet, IsFarPoint, destination_place, set_place, Management, ChangebackDeclaration, link_code_of, field_octets, Acknowledgement, LinkTestValue, label_octets, chosen_link, HoldSet, Parts, facts, link_of, waits, is_flow_held, is_held_at, own_sio, management_to, testing, is_adjacent, test_answer, entry_of, set_of, adjacent_of, declaration}
 use Rattle.mtp3_codec.specs.Headings.{management_heading, kind_heading}
-use Rattle.mtp3_codec.specs.declared.link_test.TestKind.TheVariants.{Acknowledgement}
-use Rattle.mtp3_codec.specs.LinkTests.{LinkTestValue}
-use Rattle.mtp3_codec.specs.Label.{label_octets}
-use Rattle.routes.specs.Chosen.{chosen_link}
-use Rattle.flow_hold.specs.Holds.{HoldSet}
-use Rattle.exchange_rules.specs.State.{Parts}
-use Rattle.exchange_rules.specs.Routing.{facts, link_of}
-use Rattle.exchange_rules.specs.Holding.{waits, is_flow_held, is_held_at}
-use Rattle.exchange_rules.specs.Made.{own_sio, management_to}
-use Rattle.exchange_rules.specs.Local.{testing, is_adjacent, test_answer}
-use Rattle.exchange_rules.specs.Points.{entry_of, set_of, adjacent_of}
-use Rattle.exchange_rules.specs.ChangingBack.{declaration}
 use Rattle.exchange_rules.specs.LastingMessages.{is_onward}
 
 -- ---- the label of what is made here

@@ -1,11 +1,6 @@
 -- What a node makes itself is management.
-use Rattle.std.proofs.Common.{ap, arith, nat_lt, true, ℕ, ◌%◌, ◌*◌, ◌+◌, ◌≡◌}
-use Rattle.mtp3_codec.specs.LinkTests.{LinkTestValue}
-use Rattle.mtp3_codec.specs.declared.management.Management.{Management}
-use Rattle.settings_rows.specs.Configuration.{Configuration}
-use Rattle.signalling_types.specs.Message.{is_management}
-use Rattle.exchange_rules.specs.Local.{test_answer}
-use Rattle.exchange_rules.specs.Made.{management_to}
+use Rattle.exchange_rules.proofs.Basics.{ap, arith, nat_lt, true, ℕ, ◌%◌, ◌*◌, ◌+◌, ◌≡◌}
+use Rattle.exchange_rules.proofs.Definitions.{LinkTestValue, Management, Configuration, is_management, test_answer, management_to}
 
 made-indicator : (network : ℕ) → (network * 64 + 0) % 16 ≡ 0
 made-indicator network = omega arith

@@ -1,18 +1,6 @@
 -- The routes to adjacent points over their own sets stay allowed, whatever other statuses change.
-use Rattle.std.proofs.Common.{◌≡◌, ◌≢◌, ◌<◌, ◌≤◌, ℕ, Bool, true, false, List, [], ◌∷◌, length, map, nat_eq, Option, Some, refl, ap, sym, subst, ◌∙◌, arith}
-use Rattle.std.specs.Prelude.{find, if◌then◌else◌, slice_index_or, slice_set}
-use Rattle.std.specs.Option.{option_map}
-use Rattle.std.proofs.Math.ListN.{get_or-map}
-use Rattle.std.proofs.Math.Logic.{⊎_elim}
-use Rattle.std.proofs.lemmas.Bool.{cases_eq, cases_lt}
-use Rattle.std.proofs.lemmas.Bool.Decides.{nat_tests}
-use Rattle.std.proofs.lemmas.List.{get_or_past, get_or-set_other, get_or-set_same, length-map, length-set}
-use Rattle.routes.specs.declared.route.Route.{Route}
-use Rattle.routes.specs.declared.route.RouteStatus.{RouteStatus}
-use Rattle.routes.specs.declared.route.RouteStatus.TheVariants.{Allowed}
-use Rattle.routes.specs.Facts.{first_route, with_second_joined, with_status_over}
-use Rattle.routes.specs.Statuses.{leads_by}
-use Rattle.route_management.specs.Told.{ToldTable, is_own_point}
+use Rattle.exchange_rules.proofs.Basics.{◌≡◌, ◌≢◌, ◌<◌, ◌≤◌, ℕ, Bool, true, false, List, [], ◌∷◌, length, map, nat_eq, Option, Some, refl, ap, sym, subst, ◌∙◌, arith, find, if◌then◌else◌, slice_index_or, slice_set, option_map, get_or-map, ⊎_elim, cases_eq, cases_lt, nat_tests, get_or_past, get_or-set_other, get_or-set_same, length-map, length-set}
+use Rattle.exchange_rules.proofs.Definitions.{Route, RouteStatus, Allowed, first_route, with_second_joined, with_status_over, leads_by, ToldTable, is_own_point}
 use Rattle.exchange_rules.proofs.Lists.{map-set_alike}
 use Rattle.exchange_rules.proofs.Steps.{status_over, AreOwnAllowed, AreRerouted, any_status, ways_of}
 

@@ -1,21 +1,7 @@
 -- As flows are held and lifted, and codes used, each link, set and destination has its places still.
-use Rattle.std.proofs.Common.{◌≡◌, ◌≢◌, ◌<◌, ◌≤◌, ℕ, Bool, true, false, List, [], ◌∷◌, length, replicate, refl, ap, sym, ◌∙◌, subst, arith}
-use Rattle.std.specs.Prelude.{slice_set, if◌then◌else◌}
-use Rattle.std.proofs.Math.Logic.{⊎_elim}
-use Rattle.std.proofs.lemmas.Bool.{cases_lt, cases_eq}
-use Rattle.std.proofs.lemmas.List.{get_or_past, get_or-set_same, get_or-set_other, get_or-replicate, length-set, length-replicate}
-use Rattle.signalling_types.specs.declared.limits.TheConstants.Limits.{CHANGEBACK_CODES}
-use Rattle.settings_rows.specs.Configuration.{Configuration}
-use Rattle.flow_hold.specs.declared.procedure.Procedure.{Procedure}
-use Rattle.flow_hold.specs.declared.procedure.Procedure.TheVariants.{Code, Reroute}
-use Rattle.flow_hold.specs.Holds.{HoldSet, no_holds, with_hold, lifted}
-use Rattle.flow_hold.specs.Flows.{with_flows}
-use Rattle.flow_hold.proofs.Flows.{IsSameNode, flows-same_node, flows_of_node}
-use Rattle.flow_hold.proofs.Pairing.{first_of_node, lifted_of_node}
-use Rattle.flow_hold.proofs.Holding.{hold_of_node}
-use Rattle.changeback.specs.Codes.{Codes, codes_of, with_code, no_codes}
+use Rattle.exchange_rules.proofs.Basics.{◌≡◌, ◌≢◌, ◌<◌, ◌≤◌, ℕ, Bool, true, false, List, [], ◌∷◌, length, replicate, refl, ap, sym, ◌∙◌, subst, arith, slice_set, if◌then◌else◌, ⊎_elim, cases_lt, cases_eq, get_or_past, get_or-set_same, get_or-set_other, get_or-replicate, length-set, length-replicate}
+use Rattle.exchange_rules.proofs.Definitions.{CHANGEBACK_CODES, Configuration, Procedure, Code, Reroute, HoldSet, no_holds, with_hold, lifted, with_flows, IsSameNode, flows-same_node, flows_of_node, first_of_node, lifted_of_node, hold_of_node, Codes, codes_of, with_code, no_codes, HasHoldsFor, HasCodes}
 use Rattle.changeback.specs.Rerouting.{held_for}
-use Rattle.exchange_rules.specs.Places.{HasHoldsFor, HasCodes}
 
 -- ---- codes
 

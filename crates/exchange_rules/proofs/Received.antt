@@ -1,35 +1,11 @@
 -- A frame on a link raises what was received there by one exactly where it newly carries a message; no other event does.
-use Rattle.std.proofs.Common.{◌≡◌, ◌≢◌, ◌<◌, ◌+◌, ℕ, Bool, true, false, ◌&&◌, not, List, length, nat_eq, Option, Some, None, Result, Ok, Err, refl, ap, sym, subst, ◌∙◌, arith}
-use Rattle.std.specs.Prelude.{if◌then◌else◌, is_some}
-use Rattle.std.proofs.lemmas.Bool.Decides.{nat_tests}
-use Rattle.std.proofs.lemmas.List.{get_or-set_same}
-use Rattle.signalling_types.specs.Message.{Message}
+use Rattle.exchange_rules.proofs.Basics.{◌≡◌, ◌≢◌, ◌<◌, ◌+◌, ℕ, Bool, true, false, ◌&&◌, not, List, length, nat_eq, Option, Some, None, Result, Ok, Err, refl, ap, sym, subst, ◌∙◌, arith, if◌then◌else◌, is_some, nat_tests, get_or-set_same}
+use Rattle.exchange_rules.proofs.Definitions.{Message, Ignored, FrameFault, Configuration, FrameValue, EmptyFrame, MessageFrame, StatusFrame, read_frame, LinkStatus, Action, Status, UserData, action_at, Queue, first_queue, after_answer, SeqFault, Node, answer, refuse, is_link, link_at, down, in_service, advance, act_by_status, Carrying, carries, empty_data, message_data, timed_parts, numbers, accept, carry, handle_by, act_by_data, receive_data, leave_aside, read, receive, Happening, CameUp, WentDown, FrameCame, Ticked, Submitted, Activated, Deactivated, TitleAdded, TitleRemoved, apply, WholeQueues, queue_at, whole, Abstract, HasAllPlaces, new_by, new_at, new_in, new_of, new_message, received, received_is_counted, takes_receive_nothing, is_idle, nothing_new_is_delivered}
 use Rattle.signalling_types.specs.declared.cause.Cause.TheVariants as causes
-use Rattle.signalling_types.specs.declared.outcome.Outcome.TheVariants.{Ignored}
-use Rattle.signalling_types.specs.declared.notice.FrameFault.{FrameFault}
 use Rattle.signalling_types.specs.declared.notice.FrameFault.TheVariants as faults
 use Rattle.signalling_types.specs.declared.notice.FailureReason.TheVariants as reasons
-use Rattle.settings_rows.specs.Configuration.{Configuration}
-use Rattle.m2pa_codec.specs.Frames.{FrameValue, EmptyFrame, MessageFrame, StatusFrame}
-use Rattle.m2pa_codec.specs.Reading.{read_frame}
-use Rattle.m2pa_codec.specs.declared.status.LinkStatus.{LinkStatus}
-use Rattle.link.specs.declared.action.Action.{Action}
 use Rattle.link.specs.declared.action.Action.TheVariants as act
-use Rattle.link.specs.declared.action.Input.TheVariants.{Status, UserData}
-use Rattle.link.specs.Table.{action_at}
 use Rattle.link.specs.Queue as queue
-use Rattle.link.specs.Queue.{Queue, first_queue, after_answer}
-use Rattle.link.specs.declared.fault.SeqFault.{SeqFault}
-use Rattle.exchange_rules.specs.State.{Node, answer, refuse}
-use Rattle.exchange_rules.specs.Links.{is_link, link_at, down, in_service}
-use Rattle.exchange_rules.specs.Statuses.{advance, act_by_status}
-use Rattle.exchange_rules.specs.Frames.{Carrying, carries, empty_data, message_data, timed_parts, numbers, accept, carry, handle_by, act_by_data, receive_data, leave_aside, read, receive}
-use Rattle.exchange_rules.specs.Happening.{Happening, CameUp, WentDown, FrameCame, Ticked, Submitted, Activated, Deactivated, TitleAdded, TitleRemoved}
-use Rattle.exchange_rules.specs.Exchange.{apply}
-use Rattle.exchange_rules.specs.Queues.{WholeQueues, queue_at, whole}
-use Rattle.exchange_rules.specs.Sound.{Abstract}
-use Rattle.exchange_rules.specs.Lasting.{HasAllPlaces}
-use Rattle.exchange_rules.specs.Receiving.{new_by, new_at, new_in, new_of, new_message, received, received_is_counted, takes_receive_nothing, is_idle, nothing_new_is_delivered}
 use Rattle.exchange_rules.proofs.Serving.{data-serves}
 use Rattle.exchange_rules.proofs.Receiving.{same-queues, same-steps}
 use Rattle.exchange_rules.proofs.LastingPlaces.{places-steps}

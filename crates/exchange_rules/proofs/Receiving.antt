@@ -1,14 +1,8 @@
 -- What was received on a link is counted: by one for each frame that newly carries a message, and by nothing else.
-use Rattle.std.proofs.Common.{◌≡◌, ◌≢◌, ℕ, List, Option, Some, None, refl, ap, sym, ◌∙◌}
-use Rattle.std.specs.Prelude.{slice_set}
-use Rattle.std.proofs.lemmas.List.{get_or-set_other}
-use Rattle.settings_rows.specs.Configuration.{Configuration}
+use Rattle.exchange_rules.proofs.Basics.{◌≡◌, ◌≢◌, ℕ, List, Option, Some, None, refl, ap, sym, ◌∙◌, slice_set, get_or-set_other}
+use Rattle.exchange_rules.proofs.Definitions.{Configuration, Queue, Sending, first_queue, emptied, appended, after_answer, accept_answer, to_send, Node, carries, WholeQueues, queue_at, received}
 use Rattle.link.specs.Queue as queue
-use Rattle.link.specs.Queue.{Queue, Sending, first_queue, emptied, appended, after_answer, after_sending, accept_answer, to_send}
-use Rattle.exchange_rules.specs.State.{Node}
-use Rattle.exchange_rules.specs.Frames.{carries}
-use Rattle.exchange_rules.specs.Queues.{WholeQueues, queue_at}
-use Rattle.exchange_rules.specs.Receiving.{received}
+use Rattle.link.specs.Queue.{after_sending}
 use Rattle.exchange_rules.proofs.Lists.{alike-at}
 use Rattle.exchange_rules.proofs.Steps.{IsOfSteps}
 use Rattle.exchange_rules.proofs.Asked.{any}

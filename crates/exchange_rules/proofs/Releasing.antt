@@ -1,20 +1,6 @@
 -- A release keeps the order of Held, and a completion touches no other link.
-use Rattle.std.proofs.Common.{◌≡◌, ◌≢◌, ◌⊎◌, ◌<◌, ◌&&◌, ◌++◌, ℕ, Bool, true, false, not, List, [], ◌∷◌, length, refl, ap, sym, subst, ◌∙◌, arith, Option, Some, None, nat_eq}
-use Rattle.std.specs.Prelude.{filter, if◌then◌else◌}
-use Rattle.std.proofs.Math.Logic.{⊎_elim}
-use Rattle.std.proofs.lemmas.Bool.{cases_eq, eq-eqb, ne_eqb}
-use Rattle.std.proofs.lemmas.List.{append-nil, append_assoc, get_or-set_same, get_or-set_other, length-set}
-use Rattle.std.proofs.lemmas.List.Elements.{filter-append}
-use Rattle.signalling_types.specs.Message.{Message, flow_of}
-use Rattle.settings_rows.specs.Configuration.{Configuration}
-use Rattle.link.specs.Queue.{Queue, first_queue, appended, emptied}
-use Rattle.changeover.specs.Completion.{moved}
-use Rattle.exchange_rules.specs.State.{Node}
-use Rattle.exchange_rules.specs.Queues.{WholeQueues, queue_at, whole}
-use Rattle.exchange_rules.specs.Routing.{link_of, goes_by}
-use Rattle.exchange_rules.specs.Holding.{waits}
-use Rattle.exchange_rules.specs.Releasing.{go_on, go_by, go, go_each}
-use Rattle.exchange_rules.specs.Laws.{goes_on_by, completion_leaves_others, release_keeps_order, moved_before_held}
+use Rattle.exchange_rules.proofs.Basics.{◌≡◌, ◌≢◌, ◌⊎◌, ◌<◌, ◌&&◌, ◌++◌, ℕ, Bool, true, false, not, List, [], ◌∷◌, length, refl, ap, sym, subst, ◌∙◌, arith, Option, Some, None, nat_eq, filter, if◌then◌else◌, ⊎_elim, cases_eq, eq-eqb, ne_eqb, append-nil, append_assoc, get_or-set_same, get_or-set_other, length-set, filter-append}
+use Rattle.exchange_rules.proofs.Definitions.{Message, flow_of, Configuration, Queue, first_queue, appended, emptied, moved, Node, WholeQueues, queue_at, whole, link_of, goes_by, waits, go_on, go_by, go, go_each, goes_on_by, completion_leaves_others, release_keeps_order, moved_before_held}
 
 -- ---- a completion
 

@@ -1,28 +1,6 @@
 -- A return, by the procedure of each other link.
-use Rattle.std.proofs.Common.{◌≡◌, ◌≢◌, ◌<◌, ◌≤◌, ◌++◌, ℕ, suc, Bool, true, false, ◌&&◌, not, [], ◌∷◌, length, Option, Some, None, refl, ap, sym, ◌∙◌, subst, arith, inl, inr}
-use Rattle.std.proofs.Math.Logic.{⊎_elim}
-use Rattle.std.proofs.lemmas.Bool.{cases_lt, cases_eq}
-use Rattle.std.proofs.lemmas.List.{get_or-set_same}
-use Rattle.signalling_types.specs.Message.{Message}
-use Rattle.settings_rows.specs.Configuration.{Configuration}
-use Rattle.link.specs.Queue.{Queue, first_queue, appended}
-use Rattle.routes.specs.Facts.{Facts}
-use Rattle.routes.specs.Chosen.{chosen_link}
-use Rattle.flow_hold.specs.declared.procedure.Procedure.{Procedure}
-use Rattle.flow_hold.specs.declared.procedure.Procedure.TheVariants.{Code}
-use Rattle.flow_hold.specs.Holds.{holds}
-use Rattle.flow_hold.specs.Pairs.{IsAnyFlow}
-use Rattle.flow_hold.proofs.Holding.{may_parts}
-use Rattle.changeback.specs.Codes.{is_outstanding}
-use Rattle.exchange_rules.specs.State.{Parts, Node, with_parts}
-use Rattle.exchange_rules.specs.Points.{set_of}
-use Rattle.exchange_rules.specs.Routing.{facts}
-use Rattle.exchange_rules.specs.Queues.{WholeQueues, queue_at, whole}
-use Rattle.exchange_rules.specs.ChangingBack.{declaration, loses_flows, procedure_by, code_for, hold_flows, change_back}
-use Rattle.exchange_rules.specs.Failing.{has_other}
-use Rattle.exchange_rules.specs.Statuses.{enters, moved_on, return_if, advance}
-use Rattle.exchange_rules.specs.Places.{HasPlacesFor}
-use Rattle.exchange_rules.specs.LawsOfReturns.{HasReturned, HasLost, IsChosen, IsReturn, flows_return_by_their_procedures, entries_are_returns}
+use Rattle.exchange_rules.proofs.Basics.{◌≡◌, ◌≢◌, ◌<◌, ◌≤◌, ◌++◌, ℕ, suc, Bool, true, false, ◌&&◌, not, [], ◌∷◌, length, Option, Some, None, refl, ap, sym, ◌∙◌, subst, arith, inl, inr, ⊎_elim, cases_lt, cases_eq, get_or-set_same}
+use Rattle.exchange_rules.proofs.Definitions.{Message, Configuration, Queue, first_queue, appended, Facts, chosen_link, Procedure, Code, holds, IsAnyFlow, may_parts, is_outstanding, Parts, Node, with_parts, set_of, facts, WholeQueues, queue_at, whole, declaration, loses_flows, procedure_by, code_for, hold_flows, change_back, has_other, enters, moved_on, return_if, advance, HasPlacesFor, HasReturned, HasLost, IsChosen, IsReturn, flows_return_by_their_procedures, entries_are_returns}
 use Rattle.exchange_rules.proofs.Belonging.{chosen_listed, chosen_there}
 use Rattle.exchange_rules.proofs.TakenPairs.{IsTakenFrom, pairs_stay, pair_was}
 use Rattle.exchange_rules.proofs.TakenBack.{taken-so, loses-so, went, other_loses, some_lost, taken_flow_held}

@@ -1,23 +1,7 @@
 -- Laws of the exchange at nodes of one link, by computation.
-use Rattle.std.proofs.Common.{◌≡◌, Bool, true, false, refl, ap, sym, ◌∙◌, [], ◌∷◌}
-use Rattle.std.proofs.lemmas.Bool.{true≢false}
-use Rattle.routes.specs.Chosen.{choice_among, link_by}
-use Rattle.routes.specs.Facts.{first_sets}
+use Rattle.exchange_rules.proofs.Basics.{◌≡◌, Bool, true, false, refl, ap, sym, ◌∙◌, [], ◌∷◌, true≢false}
+use Rattle.exchange_rules.proofs.Definitions.{choice_among, link_by, first_sets, Procedure, Changeover, with_flows, holds, is_held, flows_add, holds_its_flow, held_by, none_at_first, Node, WholeQueues, queue_at, whole, apply, tell_owed, go_by, facts, is_failed}
 use Rattle.routes.specs.Members.{links_below}
-use Rattle.flow_hold.specs.declared.procedure.Procedure.{Procedure}
-use Rattle.flow_hold.specs.declared.procedure.Procedure.TheVariants.{Changeover}
-use Rattle.flow_hold.specs.Flows.{with_flows}
-use Rattle.flow_hold.specs.Holds.{holds, is_held}
-use Rattle.flow_hold.proofs.Flows.{flows_add}
-use Rattle.flow_hold.proofs.Holding.{holds_its_flow}
-use Rattle.flow_hold.proofs.Pairing.{held_by, none_at_first}
-use Rattle.exchange_rules.specs.State.{Node}
-use Rattle.exchange_rules.specs.Queues.{WholeQueues, queue_at, whole}
-use Rattle.exchange_rules.specs.Exchange.{apply}
-use Rattle.exchange_rules.specs.Telling.{tell_owed}
-use Rattle.exchange_rules.specs.Releasing.{go_by}
-use Rattle.exchange_rules.specs.Routing.{facts}
-use Rattle.exchange_rules.specs.Suspending.{is_failed}
 use Rattle.exchange_rules.specs.RuleExamples as examples
 use Rattle.exchange_rules.specs.RuleExamples.{settings, message, nothing_held, flow_held, node_with, the_routes}
 

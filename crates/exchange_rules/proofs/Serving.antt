@@ -1,20 +1,11 @@
 -- By the table of the alignment: a step about which the rules of a link in service have something to do leads into service, or stays there; a link in
 -- service leaves it by no step; and no step sets or stops L7.
-use Rattle.std.proofs.Common.{◌≡◌, ℕ, ◌==◌, Bool, true, false, ◌&&◌, not, List, [], ◌∷◌, Option, Some, None, refl, ap, sym, subst, ◌∙◌, arith}
-use Rattle.std.specs.Prelude.{if◌then◌else◌}
-use Rattle.std.specs.List.{list_all}
-use Rattle.std.proofs.lemmas.Bool.Decides.{nat_tests}
-use Rattle.link.specs.declared.alignment.Alignment.{Alignment}
+use Rattle.exchange_rules.proofs.Basics.{◌≡◌, ℕ, Bool, true, false, ◌&&◌, not, List, [], ◌∷◌, Option, Some, None, refl, ap, sym, subst, ◌∙◌, arith, if◌then◌else◌, list_all, nat_tests}
+use Rattle.exchange_rules.proofs.Definitions.{Alignment, Action, Fail, Go, Input, UserData, LinkTimer, Transition, Effect, Fails, Remembers, Enters, EntersServing, Serves, Cell, table, timer_of, state_number, is_same_input, effect_in, action_of, action_at, staying, is_down, is_in_service}
+use Rattle.std.proofs.Common.{◌==◌}
 use Rattle.link.specs.declared.alignment.Alignment.TheVariants.{Down, NotAligned, Aligned, Proving, AlignedReady, InService}
-use Rattle.link.specs.declared.action.Action.{Action}
-use Rattle.link.specs.declared.action.Action.TheVariants.{Ignored, Fail, Go}
-use Rattle.link.specs.declared.action.Input.{Input}
-use Rattle.link.specs.declared.action.Input.TheVariants.{UserData}
-use Rattle.link.specs.declared.action.LinkTimer.{LinkTimer}
+use Rattle.link.specs.declared.action.Action.TheVariants.{Ignored}
 use Rattle.link.specs.declared.action.LinkTimer.TheVariants.{L1, L2, L3, L4, L6, L7}
-use Rattle.link.specs.declared.action.Transition.{Transition}
-use Rattle.link.specs.Table.{Effect, Fails, Remembers, Enters, EntersServing, Serves, Cell, table, timer_of, state_number, is_same_input, effect_in, action_of, action_at, staying}
-use Rattle.node_links.specs.LinkState.{is_down, is_in_service}
 
 -- ---- states by their numbers
 

@@ -1,24 +1,7 @@
 -- What a release leaves: each message of Held waits, and where each did before, nothing changed. What is told leaves that so.
-use Rattle.std.proofs.Common.{◌≡◌, ℕ, Bool, true, false, ◌&&◌, not, List, [], ◌∷◌, ◌++◌, Option, Some, None, refl, ap, sym, ◌∙◌}
-use Rattle.std.specs.Prelude.{if◌then◌else◌}
-use Rattle.std.proofs.lemmas.List.{append-nil, append_assoc}
+use Rattle.exchange_rules.proofs.Basics.{◌≡◌, ℕ, Bool, true, false, ◌&&◌, not, List, [], ◌∷◌, ◌++◌, Option, Some, None, refl, ap, sym, ◌∙◌, if◌then◌else◌, append-nil, append_assoc}
+use Rattle.exchange_rules.proofs.Definitions.{Message, flow_of, Cause, Configuration, Prohibited, Owed, owed, HoldSet, Node, with_parts, WholeQueues, whole, facts, link_of, waits, all_wait, go_on, go_by, go, go_each, release, Outgoing, SendsStatus, SendsMessage, Acknowledges, SendsNothing, goes_out, after_sending, after_take, set_of, no_room, send, send_routed, route_message, told_parts, inhibited, is_inhibited, may_tell, tell, tell_if, tell_each, tell_owed, prohibit, prohibit_if, answer_no_route}
 use Rattle.std.proofs.lemmas.List.Folds.{list_all-append}
-use Rattle.signalling_types.specs.Message.{Message, flow_of}
-use Rattle.signalling_types.specs.declared.cause.Cause.{Cause}
-use Rattle.settings_rows.specs.Configuration.{Configuration}
-use Rattle.routes.specs.declared.route.RouteStatus.TheVariants.{Prohibited}
-use Rattle.route_management.specs.Owed.{Owed, owed}
-use Rattle.flow_hold.specs.Holds.{HoldSet}
-use Rattle.exchange_rules.specs.State.{Node, with_parts}
-use Rattle.exchange_rules.specs.Queues.{WholeQueues, whole}
-use Rattle.exchange_rules.specs.Routing.{facts, link_of}
-use Rattle.exchange_rules.specs.Holding.{waits, all_wait}
-use Rattle.exchange_rules.specs.Releasing.{go_on, go_by, go, go_each, release}
-use Rattle.exchange_rules.specs.Sending.{Outgoing, SendsStatus, SendsMessage, Acknowledges, SendsNothing, goes_out, after_sending, after_take}
-use Rattle.exchange_rules.specs.Points.{set_of}
-use Rattle.exchange_rules.specs.Queueing.{no_room}
-use Rattle.exchange_rules.specs.Made.{send, send_routed}
-use Rattle.exchange_rules.specs.Telling.{route_message, told_parts, inhibited, is_inhibited, may_tell, tell, tell_if, tell_each, tell_owed, prohibit, prohibit_if, answer_no_route}
 
 -- all messages of Held wait for holds that stay as they are
 pub record Waits (c : Configuration) (holds : HoldSet) (n : Node WholeQueues) : Type 0 where

@@ -1,34 +1,13 @@
 -- What holds of the abstract exchange between two events holds after each event and each frame that goes out.
-use Rattle.std.proofs.Common.{◌≡◌, ◌+◌, ◌∷◌, ℕ, Bool, List, [], sum_by, refl, sym, ap, ◌∙◌}
-use Rattle.std.proofs.Math.ListN.{set}
+use Rattle.exchange_rules.proofs.Basics.{◌≡◌, ◌+◌, ◌∷◌, ℕ, Bool, List, [], sum_by, refl, sym, ap, ◌∙◌, set, true, false, ◌&&◌, ◌||◌, not, length, replicate, drop, slice_index_or, if◌then◌else◌, or_right as either-so}
+use Rattle.exchange_rules.proofs.Definitions.{Queue, first_queue, unconfirmed, unconfirmed-sent_one, WholeQueues, queue_at, whole, Configuration, Facts, set_at, Link, is_in_service, network_of, facts, link_at, with_link, Outgoing, SendsStatus, SendsMessage, Acknowledges, SendsNothing, goes_out, without_owed, after_sending, after_take, release, told_below, is_all_told, Node, Happening, handle_event, apply, Abstract, first_state, ToldTable, is_own_point, told_at, is_unlike, status_to_advertise, is_reachable, owed_at, owes_nothing, all_wait}
 use Rattle.cell_pool.specs.Lanes.{managements_in}
 use Rattle.link.specs.Queue as queue
-use Rattle.link.specs.Queue.{Queue, first_queue, unconfirmed}
-use Rattle.link.proofs.Kept.{unconfirmed-sent_one}
-use Rattle.exchange_rules.specs.Queues.{WholeQueues, queue_at, whole}
 use Rattle.exchange_rules.proofs.Lists.{map-set_alike, sum_by-map}
-use Rattle.std.proofs.Common.{true, false, ◌&&◌, ◌||◌, not, length, replicate}
-use Rattle.std.specs.Prelude.{Some, None, nat_lt, drop, slice_index_or, if◌then◌else◌}
-use Rattle.settings_rows.specs.Configuration.{Configuration}
+use Rattle.std.specs.Prelude.{Some, None, nat_lt}
 use Rattle.routes.specs.Preference.{has_link}
-use Rattle.routes.specs.Facts.{Facts, set_at}
-use Rattle.node_links.specs.Link.{Link}
-use Rattle.node_links.specs.LinkState.{is_in_service}
 use Rattle.node_links.proofs.Serving.{facts_alike, serving_none}
-use Rattle.exchange_rules.specs.Routing.{network_of, facts}
-use Rattle.exchange_rules.specs.Links.{link_at, with_link}
-use Rattle.exchange_rules.specs.Sending.{Outgoing, SendsStatus, SendsMessage, Acknowledges, SendsNothing, goes_out, without_owed, after_sending, after_take}
-use Rattle.exchange_rules.specs.Releasing.{release}
-use Rattle.exchange_rules.specs.Telling.{told_below, is_all_told}
-use Rattle.exchange_rules.specs.State.{Node}
-use Rattle.exchange_rules.specs.Happening.{Happening}
-use Rattle.exchange_rules.specs.Exchange.{handle_event, apply}
-use Rattle.exchange_rules.specs.Sound.{Abstract}
-use Rattle.exchange_rules.specs.First.{first_state}
-use Rattle.route_management.specs.Told.{ToldTable, is_own_point, told_at}
-use Rattle.route_management.specs.Owed.{is_unlike, status_to_advertise, is_reachable, owed_at, owes_nothing}
 use Rattle.route_management.proofs.Settled.{nothing_is_listed, owes_nothing_from_none}
-use Rattle.exchange_rules.specs.Holding.{all_wait}
 use Rattle.exchange_rules.proofs.Settling.{release-waits, tell_owed-waits}
 use Rattle.exchange_rules.proofs.Telling.{all_is_told}
 use Rattle.exchange_rules.proofs.Lists.{each-replicate}
@@ -94,10 +73,6 @@ none-owed c t place destination =
     let f : Facts = facts c (first_state c).node.parts in
     ap (λ (b : Bool). if b && (not (is_own_point t place destination) && is_unlike (told_at t place destination) (status_to_advertise f place destination))
     then Some (status_to_advertise f place destination) else None) (none-reached c place)
-
-either-so : (b d : Bool) → d ≡ true → (b || d) ≡ true
-either-so true d e = refl
-either-so false d e = e
 
 pub first-told : (c : Configuration) → is_all_told whole c (first_state c).node ≡ true
 first-told c =

@@ -1,40 +1,12 @@
 -- Whatever an exchange is asked, each link stays steady: a timer L7 that runs out fails its link, so that it is exact again.
-use Rattle.std.proofs.Common.{◌≡◌, ◌<◌, ℕ, ◌-◌, Bool, true, false, ◌&&◌, not, List, length, Option, Some, None, Ok, refl, ap, sym, subst, ◌∙◌}
-use Rattle.std.specs.Prelude.{if◌then◌else◌, is_some}
-use Rattle.std.proofs.lemmas.List.{get_or-set_same}
-use Rattle.settings_rows.specs.Configuration.{Configuration}
-use Rattle.signalling_types.specs.Message.{flow_of}
+use Rattle.exchange_rules.proofs.Basics.{◌≡◌, ◌<◌, ℕ, ◌-◌, Bool, true, false, ◌&&◌, not, List, length, Option, Some, None, Ok, refl, ap, sym, subst, ◌∙◌, if◌then◌else◌, is_some, get_or-set_same}
+use Rattle.exchange_rules.proofs.Definitions.{Configuration, flow_of, Alignment, Action, Expiry, action_at, opening, Queue, Sending, first_queue, NodeCounts, TimerName, L7, is_same, Running, is_running, one_less, ticked, due_name, after_due, left-clear, left-clear_other, left-ticked, counts-after, after-clear, after-none, Link, down_link, is_in_service, opened, after_failure, Standing, Node, link_at, in_service, changeover_of, fail, Carrying, carries, numbers, may_open, open_link, SendsMessage, may_send, next_message, after_sending, act_by_timer, run_out, with_timers, run_due, run_next, WholeQueues, queue_at, whole, is_l7_running}
 use Rattle.signalling_types.specs.declared.notice.FailureReason.TheVariants as reasons
-use Rattle.link.specs.declared.alignment.Alignment.{Alignment}
 use Rattle.link.specs.declared.alignment.Alignment.TheVariants.{Down, NotAligned, Aligned, Proving, AlignedReady, InService}
-use Rattle.link.specs.declared.action.Action.{Action}
 use Rattle.link.specs.declared.action.Action.TheVariants as act
-use Rattle.link.specs.declared.action.Input.TheVariants.{Expiry}
 use Rattle.link.specs.declared.action.LinkTimer.TheVariants as timer
-use Rattle.link.specs.Table.{action_at, opening}
 use Rattle.link.specs.Queue as queue
-use Rattle.link.specs.Queue.{Queue, Sending, first_queue}
-use Rattle.timers.specs.declared.name.NodeCounts.{NodeCounts}
-use Rattle.timers.specs.declared.name.TimerName.{TimerName}
-use Rattle.timers.specs.declared.name.TimerName.TheVariants.{L7}
-use Rattle.timers.specs.Names.{is_same}
-use Rattle.timers.specs.Timers.{Running, is_running, one_less, ticked, due_name, after_due}
 use Rattle.timers.proofs.Same.{same_is, is_itself}
-use Rattle.timers.proofs.Maps.{left-clear, left-clear_other, left-ticked}
-use Rattle.timers.proofs.Dues.{counts-after, after-clear, after-none}
-use Rattle.node_links.specs.Link.{Link}
-use Rattle.node_links.specs.LinkState.{down_link, is_in_service, opened, after_failure}
-use Rattle.changeover.specs.Standing.{Standing}
-use Rattle.exchange_rules.specs.State.{Node}
-use Rattle.exchange_rules.specs.Links.{link_at, in_service}
-use Rattle.exchange_rules.specs.Failing.{changeover_of, fail}
-use Rattle.exchange_rules.specs.Frames.{Carrying, carries, numbers}
-use Rattle.exchange_rules.specs.Opening.{may_open, open_link}
-use Rattle.exchange_rules.specs.Sending.{SendsMessage, may_send, next_message, after_sending}
-use Rattle.exchange_rules.specs.Statuses.{act_by_timer, run_out}
-use Rattle.exchange_rules.specs.Ticking.{with_timers, run_due, run_next}
-use Rattle.exchange_rules.specs.Queues.{WholeQueues, queue_at, whole}
-use Rattle.exchange_rules.specs.LastingLinks.{is_l7_running}
 use Rattle.exchange_rules.proofs.LeavingMessages.{chosen_serves}
 use Rattle.exchange_rules.proofs.WatchedLink.{l7-timed, l7-confirming, l7-sending}
 use Rattle.exchange_rules.proofs.OnLink.{opened-on, accepted-on, sent-on}

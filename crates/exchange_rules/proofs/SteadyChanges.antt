@@ -1,19 +1,8 @@
 -- A link takes a step of its alignment, hears that its peer is busy and that it isn't, accepts User Data and sends: it stays steady.
-use Rattle.std.proofs.Common.{◌≡◌, ◌≤◌, ℕ, ◌-◌, ◌+◌, Bool, true, false, ◌&&◌, not, [], length, nat_lt, nat_eq, Option, Some, Result, Ok, refl, ap, sym, ◌∙◌, arith}
-use Rattle.std.specs.Prelude.{if◌then◌else◌}
-use Rattle.std.proofs.lemmas.Bool.Decides.{nat_tests}
-use Rattle.link.specs.declared.alignment.Alignment.{Alignment}
-use Rattle.link.specs.declared.action.Input.{Input}
-use Rattle.link.specs.declared.action.Action.TheVariants.{Ignored, Go}
-use Rattle.link.specs.declared.action.Transition.{Transition}
-use Rattle.link.specs.Table.{action_at}
-use Rattle.link.specs.Queue.{Queue, IsQueue, Sending, accept_answer, accepted, after_answer, after_sending, to_send, sent_one}
-use Rattle.link.specs.declared.fault.SeqFault.{SeqFault}
-use Rattle.link.proofs.Sound.{sound-accepted, sound-sent_one}
-use Rattle.node_links.specs.Link.{Link}
-use Rattle.node_links.specs.LinkState.{is_down, is_in_service, stepped}
-use Rattle.changeover.specs.Standing.{Standing}
-use Rattle.exchange_rules.specs.Sending.{may_send}
+use Rattle.exchange_rules.proofs.Basics.{◌≡◌, ◌≤◌, ℕ, ◌-◌, ◌+◌, Bool, true, false, ◌&&◌, not, [], length, nat_lt, nat_eq, Option, Some, Result, Ok, refl, ap, sym, ◌∙◌, arith, if◌then◌else◌, nat_tests, false_from_ne_true as both-ways}
+use Rattle.exchange_rules.proofs.Definitions.{Alignment, Input, Go, Transition, action_at, Queue, IsQueue, Sending, accept_answer, accepted, after_answer, to_send, sent_one, SeqFault, sound-accepted, sound-sent_one, Link, is_down, is_in_service, stepped, Standing, may_send}
+use Rattle.link.specs.declared.action.Action.TheVariants.{Ignored}
+use Rattle.link.specs.Queue.{after_sending}
 use Rattle.exchange_rules.proofs.Serving.{down-is, each-step}
 use Rattle.exchange_rules.proofs.SteadyLinks.{Stands}
 
@@ -21,10 +10,6 @@ use Rattle.exchange_rules.proofs.SteadyLinks.{Stands}
 
 no-way : (b : Bool) → b ≡ false → b ≡ true → ⊥
 no-way b e f = (let no : false ≡ true = sym e ∙ f in cc)
-
-both-ways : (b : Bool) → (b ≡ true → ⊥) → b ≡ false
-both-ways true f = absurd (f refl)
-both-ways false f = refl
 
 and-false : (b : Bool) → (b && false) ≡ false
 and-false true = refl

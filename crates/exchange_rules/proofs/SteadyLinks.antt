@@ -1,14 +1,6 @@
 -- A link by its state, its changeover, its queue and its L7: what each step does to these leaves it steady.
-use Rattle.std.proofs.Common.{◌≡◌, ℕ, ◌-◌, Bool, true, false, ◌&&◌, not, [], nat_lt, refl, ap, sym, ◌∙◌}
-use Rattle.signalling_types.specs.Message.{Message}
-use Rattle.link.specs.declared.alignment.Alignment.{Alignment}
-use Rattle.link.specs.Queue.{Queue, IsQueue, first_queue, appended, emptied}
-use Rattle.link.proofs.Sound.{sound-first, sound-appended, sound-emptied}
-use Rattle.node_links.specs.Link.{Link}
-use Rattle.node_links.specs.LinkState.{is_down, is_in_service, opened, after_failure}
-use Rattle.changeover.specs.Standing.{Standing}
-use Rattle.exchange_rules.specs.Sending.{may_send}
-use Rattle.exchange_rules.specs.LastingLinks.{IsSteady}
+use Rattle.exchange_rules.proofs.Basics.{◌≡◌, ℕ, ◌-◌, Bool, true, false, ◌&&◌, not, [], nat_lt, refl, ap, sym, ◌∙◌}
+use Rattle.exchange_rules.proofs.Definitions.{Message, Alignment, Queue, IsQueue, first_queue, appended, emptied, sound-first, sound-appended, sound-emptied, Link, is_down, is_in_service, opened, after_failure, Standing, may_send, IsSteady}
 use Rattle.exchange_rules.proofs.Serving.{down-is}
 
 -- a link is steady, but where its L7 has just run out (then it isn't exact whether that runs): out of service it doesn't run

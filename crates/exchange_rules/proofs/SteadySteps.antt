@@ -1,31 +1,7 @@
 -- Each step leaves each link steady.
-use Rattle.std.proofs.Common.{◌≡◌, ◌≢◌, ◌<◌, ℕ, Bool, true, false, length, Option, refl, sym, subst, arith}
-use Rattle.std.specs.Prelude.{slice_set}
-use Rattle.std.proofs.Math.Logic.{⊎_elim}
-use Rattle.std.proofs.lemmas.Bool.{cases_eq}
-use Rattle.settings_rows.specs.Configuration.{Configuration}
-use Rattle.signalling_types.specs.Message.{Message}
-use Rattle.signalling_types.specs.declared.notice.FailureReason.{FailureReason}
-use Rattle.link.specs.declared.action.Input.{Input}
-use Rattle.link.specs.declared.action.Action.TheVariants.{Go}
-use Rattle.link.specs.declared.action.Transition.{Transition}
-use Rattle.link.specs.Table.{action_at}
+use Rattle.exchange_rules.proofs.Basics.{◌≡◌, ◌≢◌, ◌<◌, ℕ, Bool, true, false, length, Option, refl, sym, subst, arith, slice_set, ⊎_elim, cases_eq}
+use Rattle.exchange_rules.proofs.Definitions.{Configuration, Message, FailureReason, Input, Go, Transition, action_at, Queue, Sending, first_queue, emptied, NodeCounts, L7, Running, is_running, Link, stepped, after_failure, Standing, Node, with_parts, link_at, with_link, down, in_service, queue_on, changeover_of, with_changeover, fail_link, without_association, step_on, WholeQueues, queue_at, whole, is_l7_running}
 use Rattle.link.specs.Queue as queue
-use Rattle.link.specs.Queue.{Queue, Sending, first_queue, emptied}
-use Rattle.timers.specs.declared.name.NodeCounts.{NodeCounts}
-use Rattle.timers.specs.declared.name.TimerName.TheVariants.{L7}
-use Rattle.timers.specs.Timers.{Running, is_running}
-use Rattle.node_links.specs.Link.{Link}
-use Rattle.node_links.specs.LinkState.{stepped, after_failure}
-use Rattle.changeover.specs.Standing.{Standing}
-use Rattle.exchange_rules.specs.State.{Node, with_parts}
-use Rattle.exchange_rules.specs.Links.{link_at, with_link, down, in_service}
-use Rattle.exchange_rules.specs.Queueing.{queue_on}
-use Rattle.exchange_rules.specs.Failing.{changeover_of, with_changeover, fail_link}
-use Rattle.exchange_rules.specs.Opening.{without_association}
-use Rattle.exchange_rules.specs.Statuses.{step_on}
-use Rattle.exchange_rules.specs.Queues.{WholeQueues, queue_at, whole}
-use Rattle.exchange_rules.specs.LastingLinks.{is_l7_running}
 use Rattle.exchange_rules.proofs.Serving.{IsStep, each-step}
 use Rattle.exchange_rules.proofs.LinkTimers.{AreTimedFor, same-for, timed-for, timed_busy-for, timed_busy_ended-for}
 use Rattle.exchange_rules.proofs.WatchedLink.{l7-without_timers, l7-timed, l7-busy, l7-busy_ended}

@@ -1,49 +1,15 @@
 -- Frames, ticks, releases, whole events, and what goes out: each is made of steps.
-use Rattle.std.proofs.Common.{◌≡◌, ℕ, zero, suc, Bool, true, false, List, [], ◌∷◌, Option, Some, None, Result, Ok, Err, refl, ap, ◌∙◌}
-use Rattle.std.specs.Prelude.{if◌then◌else◌, slice_get, drop}
-use Rattle.signalling_types.specs.Message.{Message, flow_of}
-use Rattle.settings_rows.specs.Configuration.{Configuration}
+use Rattle.exchange_rules.proofs.Basics.{◌≡◌, ℕ, zero, suc, Bool, true, false, List, [], ◌∷◌, Option, Some, None, Result, Ok, Err, refl, ap, ◌∙◌, if◌then◌else◌, slice_get, drop}
+use Rattle.exchange_rules.proofs.Definitions.{Message, flow_of, Configuration, Ignored, FrameFault, FrameValue, EmptyFrame, MessageFrame, StatusFrame, read_frame, LinkStatus, Action, UserData, LinkTimer, timer_name, action_at, Sending, SeqFault, TimerName, ticked, due_name, after_due, due_count, Link, down_link, is_in_service, Time, Code, Reroute, Parts, Node, with_parts, answer, refuse, is_link, link_at, down, in_service, link_of, waits, rerouting_ended, late_time, late_code, tell_owed, advance, Carrying, empty_data, message_data, owing, timed_parts, numbers, accept, carry, handle_by, act_by_data, receive_data, receive_frame, leave_aside, read, receive, with_timers, run_timer, run_due, run_next, run_times, tick, go_on, go_by, go, go_each, release, Outgoing, if_owed, message_first, status_first, without_owed, next_message, after_sending, after_take, Happening, CameUp, WentDown, FrameCame, Ticked, Submitted, Activated, Deactivated, TitleAdded, TitleRemoved, handle_event, apply, WholeQueues, whole}
 use Rattle.signalling_types.specs.declared.cause.Cause.TheVariants as causes
-use Rattle.signalling_types.specs.declared.outcome.Outcome.TheVariants.{Ignored}
 use Rattle.signalling_types.specs.declared.notice.Notice.TheVariants as notices
 use Rattle.signalling_types.specs.declared.notice.LateTimer.TheVariants as late_timer
 use Rattle.signalling_types.specs.declared.notice.FailureReason.TheVariants as reasons
-use Rattle.signalling_types.specs.declared.notice.FrameFault.{FrameFault}
 use Rattle.signalling_types.specs.declared.notice.FrameFault.TheVariants as faults
 use Rattle.signalling_types.specs.declared.notice.ChangeoverTimer.TheVariants as changeover
-use Rattle.m2pa_codec.specs.Frames.{FrameValue, EmptyFrame, MessageFrame, StatusFrame}
-use Rattle.m2pa_codec.specs.Reading.{read_frame}
-use Rattle.m2pa_codec.specs.declared.status.LinkStatus.{LinkStatus}
-use Rattle.link.specs.declared.action.Action.{Action}
 use Rattle.link.specs.declared.action.Action.TheVariants as act
-use Rattle.link.specs.declared.action.Input.TheVariants.{UserData}
-use Rattle.link.specs.declared.action.LinkTimer.{LinkTimer}
 use Rattle.link.specs.declared.action.LinkTimer.TheVariants as timer
-use Rattle.exchange_rules.specs.Timing.{timer_name}
-use Rattle.link.specs.Table.{action_at}
-use Rattle.link.specs.Queue.{Sending}
-use Rattle.link.specs.declared.fault.SeqFault.{SeqFault}
-use Rattle.timers.specs.declared.name.TimerName.{TimerName}
 use Rattle.timers.specs.declared.name.TimerName.TheVariants as name
-use Rattle.timers.specs.Timers.{ticked, due_name, after_due, due_count}
-use Rattle.node_links.specs.Link.{Link}
-use Rattle.node_links.specs.LinkState.{down_link, is_in_service}
-use Rattle.flow_hold.specs.declared.procedure.Procedure.TheVariants.{Time, Code, Reroute}
-use Rattle.exchange_rules.specs.State.{Parts, Node, with_parts, answer, refuse}
-use Rattle.exchange_rules.specs.Links.{is_link, link_at, down, in_service}
-use Rattle.exchange_rules.specs.Routing.{link_of}
-use Rattle.exchange_rules.specs.Holding.{waits}
-use Rattle.exchange_rules.specs.Rerouting.{rerouting_ended}
-use Rattle.exchange_rules.specs.ChangingBack.{late_time, late_code}
-use Rattle.exchange_rules.specs.Telling.{tell_owed}
-use Rattle.exchange_rules.specs.Statuses.{advance}
-use Rattle.exchange_rules.specs.Frames.{Carrying, empty_data, message_data, owing, timed_parts, numbers, accept, carry, handle_by, act_by_data, receive_data, receive_frame, leave_aside, read, receive}
-use Rattle.exchange_rules.specs.Ticking.{with_timers, run_timer, run_due, run_next, run_times, tick}
-use Rattle.exchange_rules.specs.Releasing.{go_on, go_by, go, go_each, release}
-use Rattle.exchange_rules.specs.Sending.{Outgoing, if_owed, message_first, status_first, without_owed, next_message, after_sending, after_take}
-use Rattle.exchange_rules.specs.Happening.{Happening, CameUp, WentDown, FrameCame, Ticked, Submitted, Activated, Deactivated, TitleAdded, TitleRemoved}
-use Rattle.exchange_rules.specs.Exchange.{handle_event, apply}
-use Rattle.exchange_rules.specs.Queues.{WholeQueues, whole}
 use Rattle.exchange_rules.proofs.Places.{lifted-fits}
 use Rattle.exchange_rules.proofs.Lists.{alike-at}
 use Rattle.exchange_rules.proofs.Serving.{data-serves}

@@ -1,33 +1,11 @@
 -- A link fails, and its changeover goes on and ends: each rule is made of steps.
-use Rattle.std.proofs.Common.{◌≡◌, ℕ, Bool, true, false, List, [], ◌∷◌, Option, Some, None, refl, ◌∙◌}
-use Rattle.std.specs.Prelude.{if◌then◌else◌}
-use Rattle.signalling_types.specs.Message.{Message, flow_of}
-use Rattle.signalling_types.specs.declared.cause.Cause.{Cause}
-use Rattle.signalling_types.specs.declared.cause.Cause.TheVariants.{LostUnconfirmed}
-use Rattle.node_links.specs.LinkState.{after_failure}
-use Rattle.signalling_types.specs.declared.outcome.Outcome.TheVariants.{Handled, Ignored}
+use Rattle.exchange_rules.proofs.Basics.{◌≡◌, ℕ, Bool, true, false, List, [], ◌∷◌, Option, Some, None, refl, ◌∙◌, if◌then◌else◌}
+use Rattle.exchange_rules.proofs.Definitions.{Message, flow_of, Cause, LostUnconfirmed, after_failure, Handled, Ignored, FailureReason, ChangeoverTimer, Configuration, Running, Standing, completed, acknowledged, failed, begun_by_peer, Changeover, Parts, Node, Found, with_parts, answer, is_link, link_at, links_with, down, in_service, facts, link_of, no_room, send, set_of, is_failed, suspended, without_tests, fail_link, changeover_order, changeover_of, with_changeover, has_other, timed_changeover, changing, make_unavailable, begin, change_over, fail, begin_by_peer, fail_by_peer, lose, lose_each, judged, lifted_parts, concluded, changeover_acknowledgement, with_expiry, with_changeover_acknowledged, complete_if, fail_by_order, complete_by_order, on_changeover_order, on_changeover_acknowledgement, on_changeover_timer, WholeQueues, whole}
 use Rattle.signalling_types.specs.declared.notice.Notice.TheVariants as notices
-use Rattle.signalling_types.specs.declared.notice.FailureReason.{FailureReason}
 use Rattle.signalling_types.specs.declared.notice.FailureReason.TheVariants as reasons
-use Rattle.signalling_types.specs.declared.notice.ChangeoverTimer.{ChangeoverTimer}
 use Rattle.signalling_types.specs.declared.notice.ChangeoverTimer.TheVariants as which
-use Rattle.settings_rows.specs.Configuration.{Configuration}
 use Rattle.timers.specs.declared.name.TimerName.TheVariants as name
 use Rattle.timers.specs.declared.name.RouteTimer.TheVariants as of_set
-use Rattle.timers.specs.Timers.{Running}
-use Rattle.changeover.specs.Standing.{Standing, completed, acknowledged, failed, begun_by_peer}
-use Rattle.flow_hold.specs.declared.procedure.Procedure.TheVariants.{Changeover}
-use Rattle.exchange_rules.specs.State.{Parts, Node, Found, with_parts, answer}
-use Rattle.exchange_rules.specs.Links.{is_link, link_at, links_with, down, in_service}
-use Rattle.exchange_rules.specs.Routing.{facts, link_of}
-use Rattle.exchange_rules.specs.Queueing.{no_room}
-use Rattle.exchange_rules.specs.Made.{send}
-use Rattle.exchange_rules.specs.Points.{set_of}
-use Rattle.exchange_rules.specs.Suspending.{is_failed, suspended}
-use Rattle.exchange_rules.specs.Rerouting.{without_tests}
-use Rattle.exchange_rules.specs.Failing.{fail_link, changeover_order, changeover_of, with_changeover, has_other, timed_changeover, changing, make_unavailable, begin, change_over, fail, begin_by_peer, fail_by_peer}
-use Rattle.exchange_rules.specs.ChangingOver.{lose, lose_each, judged, lifted_parts, concluded, changeover_acknowledgement, with_expiry, with_changeover_acknowledged, complete_if, fail_by_order, complete_by_order, on_changeover_order, on_changeover_acknowledgement, on_changeover_timer}
-use Rattle.exchange_rules.specs.Queues.{WholeQueues, whole}
 use Rattle.exchange_rules.proofs.Places.{with_flows-fits, lifted-fits}
 use Rattle.exchange_rules.proofs.Steps.{AreTimed, AreHeld, IsOfSteps, either-steps, either_done-steps}
 use Rattle.exchange_rules.proofs.SteppingTimers.{set-timed, clear-timed, clear_set-timed}

@@ -1,40 +1,12 @@
 -- Links that open, align, fail and go, and a tick: each rule is made of steps.
-use Rattle.std.proofs.Common.{◌≡◌, ◌≢◌, ◌<◌, ◌≤◌, ℕ, Bool, true, false, ◌&&◌, not, List, length, refl, ap, ◌∙◌, arith}
-use Rattle.std.specs.Prelude.{if◌then◌else◌}
-use Rattle.std.proofs.Math.Logic.{⊎_elim}
-use Rattle.std.proofs.lemmas.Bool.{cases_lt}
-use Rattle.std.proofs.lemmas.List.{get_or_past, get_or-set_same, get_or-set_other, length-set}
-use Rattle.settings_rows.specs.Configuration.{Configuration}
+use Rattle.exchange_rules.proofs.Basics.{◌≡◌, ◌≢◌, ◌<◌, ◌≤◌, ℕ, Bool, true, false, ◌&&◌, not, List, length, refl, ap, ◌∙◌, arith, if◌then◌else◌, ⊎_elim, cases_lt, get_or_past, get_or-set_same, get_or-set_other, length-set}
+use Rattle.exchange_rules.proofs.Definitions.{Configuration, Handled, Ignored, FailureReason, LinkStatus, Action, Input, Status, Expiry, LinkTimer, Transition, action_at, Link, down_link, is_down, is_in_service, stepped, after_failure, clear_set, reset_shape, Standing, may_restart, Facts, may_open, open_link, association_up, fail_if_up, end_association, association_down, set_active, activate, deactivate, Parts, Node, Done, with_parts, answer, refuse, is_link, link_at, links_with, down, in_service, facts, set_of, with_set_reset, has_other, changeover_of, fail, step_on, enters, begun_anew_if, moved_on, return_if, advance, serve_status, act_by_status, on_link_status, act_by_timer, run_out, WholeQueues, whole}
 use Rattle.signalling_types.specs.declared.cause.Cause.TheVariants as causes
-use Rattle.signalling_types.specs.declared.outcome.Outcome.TheVariants.{Handled, Ignored}
-use Rattle.signalling_types.specs.declared.notice.FailureReason.{FailureReason}
 use Rattle.signalling_types.specs.declared.notice.FailureReason.TheVariants as reasons
-use Rattle.m2pa_codec.specs.declared.status.LinkStatus.{LinkStatus}
 use Rattle.m2pa_codec.specs.declared.status.LinkStatus.TheVariants as says
-use Rattle.link.specs.declared.action.Action.{Action}
 use Rattle.link.specs.declared.action.Action.TheVariants as act
-use Rattle.link.specs.declared.action.Input.{Input}
-use Rattle.link.specs.declared.action.Input.TheVariants.{Status, Expiry}
-use Rattle.link.specs.declared.action.LinkTimer.{LinkTimer}
-use Rattle.link.specs.declared.action.Transition.{Transition}
-use Rattle.link.specs.Table.{action_at}
-use Rattle.node_links.specs.Link.{Link}
-use Rattle.node_links.specs.LinkState.{down_link, is_down, is_in_service, stepped, after_failure}
 use Rattle.timers.specs.declared.name.RouteTimer.TheVariants as of_set
-use Rattle.timers.specs.Timers.{clear_set}
-use Rattle.route_management.proofs.Shape.{reset_shape}
-use Rattle.changeover.specs.Standing.{Standing, may_restart}
 use Rattle.node_links.specs.Network.{link_in}
-use Rattle.routes.specs.Facts.{Facts}
-use Rattle.exchange_rules.specs.Opening.{may_open, open_link, association_up, fail_if_up, end_association, association_down, set_active, activate, deactivate}
-use Rattle.exchange_rules.specs.State.{Parts, Node, Done, with_parts, answer, refuse}
-use Rattle.exchange_rules.specs.Links.{is_link, link_at, links_with, down, in_service}
-use Rattle.exchange_rules.specs.Routing.{facts}
-use Rattle.exchange_rules.specs.Points.{set_of}
-use Rattle.exchange_rules.specs.Rerouting.{with_set_reset}
-use Rattle.exchange_rules.specs.Failing.{has_other, changeover_of, fail}
-use Rattle.exchange_rules.specs.Statuses.{step_on, enters, begun_anew_if, moved_on, return_if, advance, serve_status, act_by_status, on_link_status, act_by_timer, run_out}
-use Rattle.exchange_rules.specs.Queues.{WholeQueues, whole}
 use Rattle.exchange_rules.proofs.TakenPairs.{take_back_each-alike}
 use Rattle.exchange_rules.proofs.Serving.{serves-in}
 use Rattle.exchange_rules.proofs.Steps.{IsOfSteps, with_busy, without_busy, either-steps, either_done-steps}

@@ -1,40 +1,12 @@
 -- Messages for this point, and those that frames carry and user parts hand over: each rule is made of steps.
-use Rattle.std.proofs.Common.{◌≡◌, ℕ, Bool, true, false, Option, Some, None, Result, Ok, Err, refl}
-use Rattle.std.specs.Prelude.{if◌then◌else◌, nat_eq}
-use Rattle.signalling_types.specs.Message.{Message, dpc_of, opc_of, service_indicator, is_management}
-use Rattle.settings_rows.specs.Configuration.{Configuration}
-use Rattle.signalling_types.specs.declared.cause.Cause.{Cause}
+use Rattle.exchange_rules.proofs.Basics.{◌≡◌, ℕ, Bool, true, false, Option, Some, None, Result, Ok, Err, refl, if◌then◌else◌}
+use Rattle.exchange_rules.proofs.Definitions.{Message, dpc_of, opc_of, service_indicator, is_management, Configuration, Cause, Outcome, Queued, Held, Local, Handled, Ignored, Refused, set_place, destination_place, MgmtFault, TestKind, Test, Acknowledgement, Management, TrafficRestartAllowed, ExtendedChangeoverOrder, ExtendedChangeoverAcknowledgement, EmergencyChangeoverOrder, EmergencyChangeoverAcknowledgement, ChangebackDeclaration, ChangebackAcknowledgement, TransferProhibited, TransferRestricted, TransferAllowed, RouteSetTestProhibited, RouteSetTestRestricted, LinkTestValue, read_link_test, read_management, Allowed, Restricted, Prohibited, is_outstanding, Code, Discrimination, Node, Done, with_parts, answer, refuse, in_service, note_outcome, route_about, no_room, send, changeback_acknowledgement, freed, on_changeback_acknowledgement, sccp, is_user, is_adjacent, test_answer, link_with_code, local, do_order, do_acknowledgement, do_management, do_kind, do_test, manage, distribute, transfer, on_unitdata, whither_goes, deliver_to, deliver, submit_to, submit, WholeQueues, whole}
+use Rattle.std.specs.Prelude.{nat_eq}
 use Rattle.signalling_types.specs.declared.cause.Cause.TheVariants as causes
 use Rattle.signalling_types.specs.declared.notice.Notice.TheVariants as notices
-use Rattle.signalling_types.specs.declared.outcome.Outcome.{Outcome}
-use Rattle.signalling_types.specs.declared.outcome.Outcome.TheVariants.{Queued, Held, Local, Handled, Ignored, Refused}
-use Rattle.settings.specs.Readings.{set_place, destination_place}
-use Rattle.mtp3_codec.specs.declared.fault.MgmtFault.{MgmtFault}
-use Rattle.mtp3_codec.specs.declared.link_test.TestKind.{TestKind}
-use Rattle.mtp3_codec.specs.declared.link_test.TestKind.TheVariants.{Test, Acknowledgement}
-use Rattle.mtp3_codec.specs.declared.management.Management.{Management}
-use Rattle.mtp3_codec.specs.declared.management.Management.TheVariants.{TrafficRestartAllowed, ExtendedChangeoverOrder, ExtendedChangeoverAcknowledgement, EmergencyChangeoverOrder, EmergencyChangeoverAcknowledgement, ChangebackDeclaration, ChangebackAcknowledgement, TransferProhibited, TransferRestricted, TransferAllowed, RouteSetTestProhibited, RouteSetTestRestricted}
-use Rattle.mtp3_codec.specs.LinkTests.{LinkTestValue, read_link_test}
-use Rattle.mtp3_codec.specs.Management.{read_management}
 use Rattle.timers.specs.declared.name.TimerName.TheVariants as name
-use Rattle.routes.specs.declared.route.RouteStatus.TheVariants.{Allowed, Restricted, Prohibited}
 use Rattle.route_management.specs.declared.heard.RouteTest.TheVariants as tests
-use Rattle.changeback.specs.Codes.{is_outstanding}
-use Rattle.flow_hold.specs.declared.procedure.Procedure.TheVariants.{Code}
-use Rattle.mtp3_codec.specs.declared.discrimination.Discrimination.{Discrimination}
 use Rattle.mtp3_codec.specs.declared.discrimination.Discrimination.TheVariants as whither
-use Rattle.exchange_rules.specs.State.{Node, Done, with_parts, answer, refuse}
-use Rattle.exchange_rules.specs.Links.{in_service}
-use Rattle.exchange_rules.specs.Noting.{note_outcome}
-use Rattle.exchange_rules.specs.Points.{route_about}
-use Rattle.exchange_rules.specs.Queueing.{no_room}
-use Rattle.exchange_rules.specs.Made.{send}
-use Rattle.exchange_rules.specs.ChangingBack.{changeback_acknowledgement, freed, on_changeback_acknowledgement}
-use Rattle.exchange_rules.specs.Local.{sccp, is_user, is_adjacent, test_answer, link_with_code, local, do_order, do_acknowledgement, do_management, do_kind, do_test, manage, distribute}
-use Rattle.exchange_rules.specs.Arrival.{transfer}
-use Rattle.exchange_rules.specs.Relaying.{on_unitdata}
-use Rattle.exchange_rules.specs.Messages.{whither_goes, deliver_to, deliver, submit_to, submit}
-use Rattle.exchange_rules.specs.Queues.{WholeQueues, whole}
 use Rattle.exchange_rules.proofs.Places.{lifted-fits}
 use Rattle.exchange_rules.proofs.Steps.{IsOfSteps, either_done-steps}
 use Rattle.exchange_rules.proofs.SteppingTimers.{clear-timed}

@@ -1,38 +1,14 @@
 -- Messages that are made here or go to other points, and what adjacent points are told and say: each rule is made of steps.
-use Rattle.std.proofs.Common.{◌≡◌, ℕ, Bool, true, false, List, [], ◌∷◌, Option, Some, None, Result, Ok, Err, refl}
-use Rattle.std.specs.Prelude.{if◌then◌else◌, nat_lt, length, ◌&&◌, not}
-use Rattle.signalling_types.specs.Message.{Message, dpc_of, flow_of}
+use Rattle.exchange_rules.proofs.Basics.{◌≡◌, ℕ, Bool, true, false, List, [], ◌∷◌, Option, Some, None, Result, Ok, Err, refl, if◌then◌else◌}
+use Rattle.exchange_rules.proofs.Definitions.{Message, dpc_of, flow_of, Configuration, Cause, Outcome, Handled, Ignored, destination_place, Running, RouteStatus, Allowed, Restricted, Prohibited, status_of, told_shape, Heard, RouteTest, Owed, owed, Parts, Node, with_parts, answer, refuse, waits, facts, link_of, set_of, no_room, is_destination, offer, transfer, timed_telling, route_message, told_parts, answered_parts, inhibited, is_inhibited, may_tell, tell, tell_if, tell_each, tell_owed, prohibit, answer_no_route, send_route_status, on_route_test, timed_status, forced, held_by_rerouting, controlled, rerouted_by, with_next_test, prohibited_test, restricted_test, apply_route_status, on_route_status, ask, ask_by, ask_again, send, send_routed, send_anew, send_each, WholeQueues, whole}
+use Rattle.std.specs.Prelude.{nat_lt, length, ◌&&◌, not}
 use Rattle.signalling_types.specs.declared.notice.Notice.TheVariants as notices
-use Rattle.settings_rows.specs.Configuration.{Configuration}
-use Rattle.signalling_types.specs.declared.cause.Cause.{Cause}
 use Rattle.signalling_types.specs.declared.cause.Cause.TheVariants as causes
-use Rattle.signalling_types.specs.declared.outcome.Outcome.{Outcome}
-use Rattle.signalling_types.specs.declared.outcome.Outcome.TheVariants.{Handled, Ignored}
-use Rattle.settings.specs.Readings.{destination_place}
 use Rattle.timers.specs.declared.name.TimerName.TheVariants as name
-use Rattle.timers.specs.Timers.{Running}
-use Rattle.routes.specs.declared.route.RouteStatus.{RouteStatus}
-use Rattle.routes.specs.declared.route.RouteStatus.TheVariants.{Allowed, Restricted, Prohibited}
-use Rattle.routes.specs.Statuses.{status_of}
 use Rattle.changeback.specs.Rerouting.{rerouted, held_for}
 use Rattle.route_management.specs.Told as told
-use Rattle.route_management.proofs.Shape.{told_shape}
-use Rattle.route_management.specs.declared.heard.Heard.{Heard}
 use Rattle.route_management.specs.declared.heard.Heard.TheVariants as hears
-use Rattle.route_management.specs.declared.heard.RouteTest.{RouteTest}
-use Rattle.route_management.specs.Owed.{Owed, owed}
 use Rattle.route_management.specs.Hearing as hearing
-use Rattle.exchange_rules.specs.State.{Parts, Node, with_parts, answer, refuse}
-use Rattle.exchange_rules.specs.Holding.{waits}
-use Rattle.exchange_rules.specs.Routing.{facts, link_of}
-use Rattle.exchange_rules.specs.Points.{set_of}
-use Rattle.exchange_rules.specs.Queueing.{no_room}
-use Rattle.exchange_rules.specs.Arrival.{is_destination, offer, transfer}
-use Rattle.exchange_rules.specs.Telling.{timed_telling, route_message, told_parts, answered_parts, inhibited, is_inhibited, may_tell, tell, tell_if, tell_each, tell_owed, prohibit, answer_no_route, send_route_status, on_route_test}
-use Rattle.exchange_rules.specs.Rerouting.{timed_status, forced, held_by_rerouting, controlled, rerouted_by, with_next_test, prohibited_test, restricted_test, apply_route_status, on_route_status, ask, ask_by, ask_again}
-use Rattle.exchange_rules.specs.Made.{send, send_routed, send_anew}
-use Rattle.exchange_rules.specs.ChangingOver.{send_each}
-use Rattle.exchange_rules.specs.Queues.{WholeQueues, whole}
 use Rattle.exchange_rules.proofs.Places.{held_for-fits}
 use Rattle.exchange_rules.proofs.Steps.{AreTimed, IsOfSteps, either-steps, either_done-steps}
 use Rattle.exchange_rules.proofs.OwnRoutes.{rerouted-one}

@@ -1,19 +1,7 @@
 -- SCCP messages for this point, and the orders on translation rows: each rule is made of steps.
-use Rattle.std.proofs.Common.{ℕ, Bool, List, Option, Some, None}
-use Rattle.signalling_types.specs.Message.{Message}
-use Rattle.settings_rows.specs.Configuration.{Configuration, TitleEntry}
-use Rattle.signalling_types.specs.declared.cause.Cause.{Cause}
-use Rattle.signalling_types.specs.declared.cause.Cause.TheVariants.{NoSuchName}
-use Rattle.signalling_types.specs.declared.outcome.Outcome.{Outcome}
-use Rattle.signalling_types.specs.declared.outcome.Outcome.TheVariants.{Queued, Held, Local, Handled, Ignored, Refused}
-use Rattle.sccp_codec.specs.declared.title.TitleKey.{TitleKey}
-use Rattle.sccp_relay.specs.Rows.{place_of, has_row, without_row}
-use Rattle.sccp_relay.specs.Relay.{RelayedValue, relay}
+use Rattle.exchange_rules.proofs.Basics.{ℕ, Bool, List, Option, Some, None}
+use Rattle.exchange_rules.proofs.Definitions.{Message, Configuration, TitleEntry, Cause, NoSuchName, Outcome, Queued, Held, Local, Handled, Ignored, Refused, TitleKey, place_of, has_row, without_row, RelayedValue, relay, returned, Node, Done, with_parts, answer, refuse, own_of, in_place_of, send_udts, return_outcome, relay_by, on_unitdata, with_titles, title_refusal, add_title_unless, add_title, remove_title, WholeQueues, whole}
 use Rattle.sccp_relay.specs.Relay as relays
-use Rattle.sccp_relay.specs.Return.{returned}
-use Rattle.exchange_rules.specs.State.{Node, Done, with_parts, answer, refuse}
-use Rattle.exchange_rules.specs.Relaying.{own_of, in_place_of, send_udts, return_outcome, relay_by, on_unitdata, with_titles, title_refusal, add_title_unless, add_title, remove_title}
-use Rattle.exchange_rules.specs.Queues.{WholeQueues, whole}
 use Rattle.exchange_rules.proofs.Steps.{IsOfSteps, either_done-steps}
 use Rattle.exchange_rules.proofs.SteppingMessages.{transfer-steps}
 

@@ -1,23 +1,8 @@
 -- A link that enters service takes its flows back: the rule is made of steps, and each declaration goes out on a link in service.
-use Rattle.std.proofs.Common.{◌≡◌, ◌≢◌, ℕ, zero, suc, Bool, true, false, not, length, nat_eq, Option, Some, None, refl, ap, ◌∙◌, arith}
-use Rattle.std.specs.Prelude.{if◌then◌else◌}
-use Rattle.std.proofs.lemmas.Bool.{and_parts, eqb-true}
-use Rattle.std.proofs.lemmas.Bool.Decides.{nat_tests}
-use Rattle.settings_rows.specs.Configuration.{Configuration}
+use Rattle.exchange_rules.proofs.Basics.{◌≡◌, ◌≢◌, ℕ, zero, suc, Bool, true, false, not, length, nat_eq, Option, Some, None, refl, ap, ◌∙◌, arith, if◌then◌else◌, and_parts, eqb-true, nat_tests}
+use Rattle.exchange_rules.proofs.Definitions.{Configuration, Facts, chosen_link, Procedure, any_flow, IsAnyFlow, some_passes, Parts, Node, with_parts, in_service, network_of, facts, goes_by, set_of, is_taken_back, loses_flows, procedure_by, code_in_use, code_for, declare_by, hold_flows, take_back_each, change_back, WholeQueues, whole}
 use Rattle.timers.specs.declared.name.TimerName.TheVariants as name
 use Rattle.node_links.proofs.Chosen.{chosen_serving}
-use Rattle.routes.specs.Facts.{Facts}
-use Rattle.routes.specs.Chosen.{chosen_link}
-use Rattle.flow_hold.specs.declared.procedure.Procedure.{Procedure}
-use Rattle.flow_hold.specs.Flows.{any_flow}
-use Rattle.flow_hold.specs.Pairs.{IsAnyFlow}
-use Rattle.flow_hold.proofs.Flows.{some_passes}
-use Rattle.exchange_rules.specs.State.{Parts, Node, with_parts}
-use Rattle.exchange_rules.specs.Links.{in_service}
-use Rattle.exchange_rules.specs.Routing.{network_of, facts, goes_by}
-use Rattle.exchange_rules.specs.Points.{set_of}
-use Rattle.exchange_rules.specs.ChangingBack.{is_taken_back, loses_flows, procedure_by, code_in_use, code_for, declare_by, hold_flows, take_back_each, change_back}
-use Rattle.exchange_rules.specs.Queues.{WholeQueues, whole}
 use Rattle.exchange_rules.proofs.Places.{with_flows-fits}
 use Rattle.exchange_rules.proofs.TakenPairs.{IsAlike, take_back_each-alike}
 use Rattle.exchange_rules.proofs.Steps.{IsOfSteps}

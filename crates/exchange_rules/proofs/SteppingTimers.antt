@@ -1,14 +1,9 @@
 -- Timers other than L7 that are set and stopped: no timer that watches a link changes, and none becomes due.
-use Rattle.std.proofs.Common.{◌≡◌, ◌≢◌, ℕ, Bool, true, false, cond, refl, sym, ap, ◌∙◌, arith}
-use Rattle.std.specs.Prelude.{Option, Some, None, max, is_some}
-use Rattle.std.proofs.lemmas.Bool.Decides.{nat_tests}
-use Rattle.timers.specs.declared.name.TimerName.{TimerName}
-use Rattle.timers.specs.declared.name.TimerName.TheVariants.{L7}
+use Rattle.exchange_rules.proofs.Basics.{◌≡◌, ◌≢◌, ℕ, Bool, true, false, cond, refl, sym, ap, ◌∙◌, arith, max, is_some, nat_tests}
+use Rattle.exchange_rules.proofs.Definitions.{TimerName, L7, has_name, is_same, is_of_set, Running, set_timer, clear_timer, clear_set, is_due, no_tick_left, left-set_other, left-clear_other, left-clear_set_other, counts-set, counts-clear, counts-clear_set}
+use Rattle.std.specs.Prelude.{Option, Some, None}
 use Rattle.timers.specs.declared.name.RouteTimer.{RouteTimer}
 use Rattle.timers.specs.declared.name.RouteTimer.TheVariants as route
-use Rattle.timers.specs.Names.{has_name, is_same, is_of_set}
-use Rattle.timers.specs.Timers.{Running, set_timer, clear_timer, clear_set, is_due, no_tick_left}
-use Rattle.timers.proofs.Maps.{left-set_other, left-clear_other, left-clear_set_other, counts-set, counts-clear, counts-clear_set}
 use Rattle.exchange_rules.proofs.Steps.{AreTimed}
 
 -- where a timer that is due is due still, or has what is never due

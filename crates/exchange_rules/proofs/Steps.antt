@@ -1,48 +1,8 @@
 -- The steps that rules are made of: each change of a node that a rule makes, with what stands when it makes it. A relation between two nodes that
 -- holds of each step, and of one behind another, holds of every rule, every event and every take (`Stepping..`).
-use Rattle.std.proofs.Common.{◌≡◌, ℕ, Bool, true, false, List, [], length, Option, Some}
-use Rattle.std.specs.Prelude.{find, if◌then◌else◌, map, slice_index_or, Ok}
-use Rattle.std.specs.Option.{option_map}
-use Rattle.signalling_types.specs.Message.{Message, flow_of}
-use Rattle.signalling_types.specs.declared.notice.Notice.{Notice}
-use Rattle.signalling_types.specs.declared.notice.FailureReason.{FailureReason}
-use Rattle.settings_rows.specs.Configuration.{Configuration, TitleEntry}
-use Rattle.link.specs.declared.action.Input.{Input}
-use Rattle.link.specs.declared.action.Action.TheVariants.{Go}
-use Rattle.link.specs.declared.action.Transition.{Transition}
-use Rattle.link.specs.Table.{action_at}
-use Rattle.link.specs.Queue.{Sending}
-use Rattle.mtp3_codec.specs.LinkTests.{LinkTestValue}
-use Rattle.timers.specs.declared.name.TimerName.{TimerName}
-use Rattle.timers.specs.declared.name.TimerName.TheVariants.{L7}
-use Rattle.timers.specs.Timers.{Running, is_running, is_due}
-use Rattle.routes.specs.declared.route.Route.{Route}
-use Rattle.routes.specs.declared.route.RouteStatus.{RouteStatus}
-use Rattle.routes.specs.declared.route.RouteStatus.TheVariants.{Allowed}
-use Rattle.routes.specs.Statuses.{leads_by}
-use Rattle.route_management.specs.Told.{ToldTable, is_own_point, shape_of}
-use Rattle.node_links.specs.Link.{Link}
-use Rattle.changeover.specs.Standing.{Standing}
-use Rattle.changeback.specs.Codes.{with_code}
-use Rattle.flow_hold.specs.Holds.{HoldSet}
-use Rattle.exchange_rules.specs.State.{Parts, Node, Done, with_parts, lost_any, late_any}
-use Rattle.exchange_rules.specs.Links.{is_link, link_at, links_with, with_link, down, in_service}
-use Rattle.exchange_rules.specs.Noting.{note, flagged, flagged_late}
-use Rattle.exchange_rules.specs.Routing.{link_of}
-use Rattle.exchange_rules.specs.Queueing.{queue_on}
-use Rattle.exchange_rules.specs.Holding.{waits, hold}
-use Rattle.exchange_rules.specs.Local.{is_adjacent, test_answer}
-use Rattle.exchange_rules.specs.Failing.{changeover_of, with_changeover, fail_link}
-use Rattle.exchange_rules.specs.ChangingBack.{declaration}
-use Rattle.exchange_rules.specs.Relaying.{with_titles}
-use Rattle.exchange_rules.specs.Statuses.{step_on}
-use Rattle.exchange_rules.specs.Timing.{timed_busy, timed_busy_ended}
-use Rattle.exchange_rules.specs.Opening.{may_open, without_association, open_link}
-use Rattle.exchange_rules.specs.Frames.{Carrying, carries, numbers, timed_parts}
-use Rattle.exchange_rules.specs.Sending.{SendsMessage, next_message, after_sending}
-use Rattle.exchange_rules.specs.Queues.{WholeQueues, whole}
-use Rattle.exchange_rules.specs.Places.{HasHoldsFor}
-use Rattle.exchange_rules.specs.Lasting.{tells_of_loss, tells_of_lateness}
+use Rattle.exchange_rules.proofs.Basics.{◌≡◌, ℕ, Bool, true, false, List, [], length, Option, Some, find, if◌then◌else◌, slice_index_or, option_map}
+use Rattle.exchange_rules.proofs.Definitions.{Message, flow_of, Notice, FailureReason, Configuration, TitleEntry, Input, Go, Transition, action_at, Sending, LinkTestValue, TimerName, L7, Running, is_running, is_due, Route, RouteStatus, Allowed, leads_by, ToldTable, is_own_point, shape_of, Link, Standing, with_code, HoldSet, Parts, Node, Done, with_parts, lost_any, late_any, is_link, link_at, links_with, with_link, down, in_service, note, flagged, flagged_late, link_of, queue_on, waits, hold, is_adjacent, test_answer, changeover_of, with_changeover, fail_link, declaration, with_titles, step_on, timed_busy, timed_busy_ended, may_open, without_association, open_link, Carrying, carries, numbers, timed_parts, SendsMessage, next_message, after_sending, WholeQueues, whole, HasHoldsFor, tells_of_loss, tells_of_lateness}
+use Rattle.std.specs.Prelude.{map, Ok}
 
 -- timers change, but none that watches a link: the same names exist, each L7 runs that ran, and no timer becomes due
 pub record AreTimed (r s : Running) : Type 0 where

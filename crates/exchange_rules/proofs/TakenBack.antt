@@ -1,27 +1,7 @@
 -- A flow whose link changed by a return is held, and what was held stays held.
-use Rattle.std.proofs.Common.{◌≡◌, ◌≢◌, ◌<◌, ℕ, Bool, true, false, ◌&&◌, not, length, nat_eq, refl, ap, sym, ◌∙◌, arith}
-use Rattle.std.specs.Prelude.{Option, Some, None, if◌then◌else◌}
-use Rattle.std.proofs.lemmas.Bool.{and_parts, eq-eqb, eqb-true, ne_eqb}
-use Rattle.std.proofs.lemmas.Bool.Decides.{nat_tests}
-use Rattle.std.proofs.lemmas.List.Quantifiers.{position-Some}
-use Rattle.signalling_types.specs.declared.cause.Cause.{Cause}
-use Rattle.settings_rows.specs.Configuration.{Configuration}
-use Rattle.routes.specs.Facts.{Facts}
-use Rattle.routes.specs.Chosen.{chosen_link}
-use Rattle.signalling_types.specs.declared.limits.TheConstants.Limits.{SELECTIONS}
-use Rattle.flow_hold.specs.Holds.{HoldSet, holds, may_hold}
-use Rattle.flow_hold.specs.Flows.{any_flow}
-use Rattle.flow_hold.specs.Pairs.{IsAnyFlow}
-use Rattle.flow_hold.proofs.Pairing.{held_by}
-use Rattle.flow_hold.proofs.Flows.{some_passes}
-use Rattle.changeback.specs.Codes.{Codes, codes_of, free_code}
-use Rattle.exchange_rules.specs.State.{QueueKind, Parts, Node}
-use Rattle.exchange_rules.specs.Queues.{WholeQueues, whole}
-use Rattle.exchange_rules.specs.Routing.{facts, goes_by}
-use Rattle.exchange_rules.specs.Points.{set_of}
-use Rattle.exchange_rules.specs.ChangingBack.{is_taken_back, loses_flows, if_room, procedure_by, usable, code_for, take_back_each, change_back}
-use Rattle.exchange_rules.specs.Places.{HasPlacesFor}
-use Rattle.exchange_rules.specs.LawsOfReturns.{changed_flows_are_held, returns_keep_holds}
+use Rattle.exchange_rules.proofs.Basics.{◌≡◌, ◌≢◌, ◌<◌, ℕ, Bool, true, false, not, length, nat_eq, refl, ap, sym, ◌∙◌, arith, if◌then◌else◌, and_parts, eq-eqb, eqb-true, ne_eqb, nat_tests, position-Some, and_from as both}
+use Rattle.exchange_rules.proofs.Definitions.{Cause, Configuration, Facts, chosen_link, SELECTIONS, HoldSet, holds, may_hold, any_flow, IsAnyFlow, held_by, some_passes, Codes, codes_of, free_code, QueueKind, Parts, Node, WholeQueues, whole, facts, goes_by, set_of, is_taken_back, loses_flows, if_room, procedure_by, usable, code_for, take_back_each, change_back, HasPlacesFor, changed_flows_are_held, returns_keep_holds}
+use Rattle.std.specs.Prelude.{Option, Some, None}
 use Rattle.exchange_rules.proofs.Belonging.{IsListed, chosen_listed, chosen_there}
 use Rattle.exchange_rules.proofs.TakenPairs.{take_back_each-alike, holder_of, pair_added, flows_stay_held}
 
@@ -84,10 +64,6 @@ module _ {Q : Type 0} (q : QueueKind Q) (c : Configuration) where
 
 goes-true : (o : Option ℕ) (link : ℕ) → o ≡ Some link → goes_by o link ≡ true
 goes-true o link e = ap (λ (o : Option ℕ). goes_by o link) e ∙ eq-eqb link link refl
-
-both : (a b : Bool) → a ≡ true → b ≡ true → (a && b) ≡ true
-both true b e f = f
-both false b e f = e
 
 -- it is one that the link takes back from another, which so loses flows
 pub taken-so : (before after : Facts) (other link destination sls : ℕ) → chosen_link before destination sls ≡ Some other → chosen_link after destination sls ≡ Some link

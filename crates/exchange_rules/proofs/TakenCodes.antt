@@ -1,23 +1,7 @@
 -- A link takes its flows back from one other link after another: which codes are used, and what goes to the queues.
-use Rattle.std.proofs.Common.{◌≡◌, ◌≢◌, ◌<◌, ◌≤◌, ◌⊎◌, ℕ, zero, suc, Bool, true, false, [], length, nat_eq, nat_le, Option, Some, None, refl, ap, sym, ◌∙◌, subst, arith, inl, inr}
-use Rattle.std.specs.Prelude.{if◌then◌else◌}
-use Rattle.std.proofs.Math.Logic.{⊎_elim}
-use Rattle.std.proofs.lemmas.Bool.{cases_eq, eqb-true, leb-true}
-use Rattle.std.proofs.lemmas.Bool.Decides.{nat_tests}
-use Rattle.std.proofs.lemmas.List.{get_or-set_other, length-set}
-use Rattle.signalling_types.specs.Message.{is_management}
-use Rattle.signalling_types.specs.declared.cause.Cause.{Cause}
-use Rattle.signalling_types.specs.declared.cause.Cause.TheVariants.{ManagementFull}
-use Rattle.signalling_types.specs.declared.limits.TheConstants.Limits.{MANAGEMENT_MESSAGES}
-use Rattle.settings_rows.specs.Configuration.{Configuration}
-use Rattle.link.specs.Queue.{first_queue, appended}
-use Rattle.routes.specs.Facts.{Facts}
-use Rattle.changeback.specs.Codes.{codes_of, free_code, is_outstanding}
-use Rattle.exchange_rules.specs.State.{Node}
-use Rattle.exchange_rules.specs.Points.{set_of}
-use Rattle.exchange_rules.specs.Queueing.{no_room}
-use Rattle.exchange_rules.specs.Queues.{WholeQueues, queue_at, whole}
-use Rattle.exchange_rules.specs.ChangingBack.{declaration, loses_flows, if_room, usable, code_for, hold_flows, take_back_each}
+use Rattle.exchange_rules.proofs.Basics.{◌≡◌, ◌≢◌, ◌<◌, ◌≤◌, ◌⊎◌, ℕ, zero, suc, Bool, true, false, [], length, nat_eq, Option, Some, None, refl, ap, sym, ◌∙◌, subst, arith, inl, inr, if◌then◌else◌, ⊎_elim, cases_eq, eqb-true, leb-true, nat_tests, get_or-set_other, length-set}
+use Rattle.exchange_rules.proofs.Definitions.{is_management, Cause, ManagementFull, MANAGEMENT_MESSAGES, Configuration, first_queue, appended, Facts, codes_of, free_code, is_outstanding, Node, set_of, no_room, WholeQueues, queue_at, whole, declaration, loses_flows, if_room, usable, code_for, hold_flows, take_back_each}
+use Rattle.std.proofs.Common.{nat_le}
 use Rattle.exchange_rules.proofs.AwaitedCodes.{outstanding-other, outstanding-stays, IsFree, is-free}
 
 no : {A : Type 0} → false ≡ true → A

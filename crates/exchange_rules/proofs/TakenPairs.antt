@@ -1,22 +1,7 @@
 -- A link takes its flows back from one other link after another: which pairs are added, and what stays.
-use Rattle.std.proofs.Common.{◌≡◌, ◌≢◌, ◌<◌, ◌⊎◌, ℕ, zero, suc, Bool, true, false, ◌&&◌, not, length, nat_eq, Option, Some, None, refl, ap, sym, ◌∙◌, arith, inl, inr}
-use Rattle.std.specs.Prelude.{if◌then◌else◌}
-use Rattle.std.proofs.Math.Logic.{⊎_elim}
-use Rattle.std.proofs.lemmas.Bool.{cases_eq}
-use Rattle.settings_rows.specs.Configuration.{Configuration}
-use Rattle.routes.specs.Facts.{Facts}
-use Rattle.routes.specs.Chosen.{chosen_link}
-use Rattle.flow_hold.specs.declared.procedure.Procedure.{Procedure}
-use Rattle.flow_hold.specs.Holds.{HoldSet, holds, is_held, may_hold}
-use Rattle.flow_hold.specs.Flows.{any_flow, with_flows}
-use Rattle.flow_hold.proofs.Pairing.{may-alike}
-use Rattle.flow_hold.proofs.Flows.{IsSameNode, flows-same_node}
+use Rattle.exchange_rules.proofs.Basics.{◌≡◌, ◌≢◌, ◌<◌, ◌⊎◌, ℕ, zero, suc, Bool, true, false, ◌&&◌, not, length, nat_eq, Option, Some, None, refl, ap, sym, ◌∙◌, arith, inl, inr, if◌then◌else◌, ⊎_elim, cases_eq}
+use Rattle.exchange_rules.proofs.Definitions.{Configuration, Facts, chosen_link, Procedure, HoldSet, holds, is_held, may_hold, any_flow, with_flows, may-alike, IsSameNode, flows-same_node, codes_of, QueueKind, Node, with_parts, goes_by, set_of, is_taken_back, loses_flows, procedure_by, code_for, declare_by, hold_flows, take_back, take_back_each}
 use Rattle.flow_hold.proofs.FlowPairs.{IsAddedPair, flows_has, flows_keep, flows_was, flows_keep_held}
-use Rattle.changeback.specs.Codes.{codes_of}
-use Rattle.exchange_rules.specs.State.{QueueKind, Node, with_parts}
-use Rattle.exchange_rules.specs.Routing.{goes_by}
-use Rattle.exchange_rules.specs.Points.{set_of}
-use Rattle.exchange_rules.specs.ChangingBack.{is_taken_back, loses_flows, procedure_by, code_for, declare_by, hold_flows, take_back, take_back_each}
 use Rattle.exchange_rules.proofs.Places.{length-codes}
 
 module _ {Q : Type 0} (q : QueueKind Q) (c : Configuration) where

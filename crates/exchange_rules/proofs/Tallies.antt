@@ -1,13 +1,7 @@
 -- Counts of user messages: over lists, and over queues of which one changes.
-use Rattle.std.proofs.Common.{Bool, List, [], ap, arith, cond, drop, false, length, not, refl, suc, sum_by, sym, true, zero, ℕ, ◌++◌, ◌+◌, ◌<◌, ◌∙◌, ◌∷◌, ◌≡◌}
-use Rattle.std.proofs.lemmas.List.Elements.{filter-append}
-use Rattle.std.proofs.lemmas.List.Sums.{sum_by-append, sum_by-cons, sum_by-set}
-use Rattle.std.specs.Prelude.{count_by, if◌then◌else◌, slice_index_or, slice_set}
-use Rattle.changeover.specs.Completion.{users_of}
-use Rattle.link.specs.Queue.{Queue, first_queue, unconfirmed}
-use Rattle.signalling_types.specs.Message.{Message, is_management}
-use Rattle.exchange_rules.specs.Conserving.{standing, users_that}
-use Rattle.exchange_rules.specs.Queues.{WholeQueues, queue_at, whole, with_queue}
+use Rattle.exchange_rules.proofs.Basics.{Bool, List, [], ap, arith, cond, false, length, not, refl, suc, sum_by, sym, true, zero, ℕ, ◌++◌, ◌+◌, ◌<◌, ◌∙◌, ◌∷◌, ◌≡◌, filter-append, sum_by-append, sum_by-cons, sum_by-set, count_by, if◌then◌else◌, slice_index_or, slice_set}
+use Rattle.exchange_rules.proofs.Definitions.{users_of, Queue, first_queue, unconfirmed, Message, is_management, standing, users_that, WholeQueues, queue_at, whole, with_queue}
+use Rattle.std.proofs.Common.{drop}
 
 -- ---- numbers
 

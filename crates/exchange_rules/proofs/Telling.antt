@@ -1,19 +1,8 @@
 -- Adjacent points are told what they are owed, one destination after the other and one set after the other.
-use Rattle.std.proofs.Common.{◌≡◌, ◌≢◌, ℕ, Bool, true, false, ◌||◌, not, List, [], ◌∷◌, Option, Some, None, refl, ap, sym, ◌∙◌}
-use Rattle.std.specs.Prelude.{if◌then◌else◌}
-use Rattle.signalling_types.specs.declared.cause.Cause.{Cause}
-use Rattle.signalling_types.specs.Message.{Message, flow_of}
-use Rattle.settings_rows.specs.Configuration.{Configuration}
-use Rattle.routes.specs.Facts.{Facts}
-use Rattle.route_management.specs.Told.{ToldTable, row_of, with_told}
-use Rattle.route_management.specs.Owed.{Owed, owed, all_told, owes_nothing}
+use Rattle.exchange_rules.proofs.Basics.{◌≡◌, ◌≢◌, ℕ, Bool, true, false, ◌||◌, not, List, [], ◌∷◌, Option, Some, None, refl, ap, sym, ◌∙◌, if◌then◌else◌}
+use Rattle.exchange_rules.proofs.Definitions.{Cause, Message, flow_of, Configuration, Facts, ToldTable, row_of, with_told, Owed, owed, all_told, owes_nothing, QueueKind, Parts, Node, facts, link_of, no_room, send, may_tell, tell, tell_if, tell_each, tell_owed, is_all_told, route_message, told_parts}
 use Rattle.route_management.proofs.Walking.{row_kept, AreTo}
 use Rattle.route_management.proofs.Settled.{none_from_owes_nothing, all_told_owes_nothing}
-use Rattle.exchange_rules.specs.State.{QueueKind, Parts, Node}
-use Rattle.exchange_rules.specs.Routing.{facts, link_of}
-use Rattle.exchange_rules.specs.Queueing.{no_room}
-use Rattle.exchange_rules.specs.Made.{send}
-use Rattle.exchange_rules.specs.Telling.{may_tell, tell, tell_if, tell_each, tell_owed, is_all_told, route_message, told_parts}
 
 -- ---- what a message that is told leaves
 

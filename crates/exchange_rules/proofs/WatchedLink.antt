@@ -1,16 +1,7 @@
 -- What becomes of the L7 of a link as its timers are set and stopped.
-use Rattle.std.proofs.Common.{◌≡◌, ◌≢◌, ◌<◌, ℕ, Bool, true, false, nat_lt, nat_eq, Option, Some, None, refl, ap, sym, subst, ◌∙◌, arith}
-use Rattle.std.specs.Prelude.{if◌then◌else◌, is_some}
-use Rattle.std.proofs.lemmas.Bool.Decides.{nat_tests}
-use Rattle.settings_rows.specs.Configuration.{Configuration}
-use Rattle.link.specs.declared.action.LinkTimer.{LinkTimer}
+use Rattle.exchange_rules.proofs.Basics.{◌≡◌, ◌≢◌, ◌<◌, ℕ, Bool, true, false, nat_lt, nat_eq, Option, Some, None, refl, ap, sym, subst, ◌∙◌, arith, if◌then◌else◌, is_some, nat_tests}
+use Rattle.exchange_rules.proofs.Definitions.{Configuration, LinkTimer, Transition, L6, L7, NodeCounts, Running, set_timer, start_unless_running, clear_timer, is_running, left-set, left-set_other, left-clear, left-clear_other, counts-clear, timer_name, ticks_of, without_timer, without_timers, with_timer, without_timer_if, with_timer_if, timed, timed_sending, timed_confirming, timed_busy, timed_busy_ended}
 use Rattle.link.specs.declared.action.LinkTimer.TheVariants as timer
-use Rattle.link.specs.declared.action.Transition.{Transition}
-use Rattle.timers.specs.declared.name.TimerName.TheVariants.{L6, L7}
-use Rattle.timers.specs.declared.name.NodeCounts.{NodeCounts}
-use Rattle.timers.specs.Timers.{Running, set_timer, start_unless_running, clear_timer, is_running}
-use Rattle.timers.proofs.Maps.{left-set, left-set_other, left-clear, left-clear_other, counts-clear}
-use Rattle.exchange_rules.specs.Timing.{timer_name, ticks_of, without_timer, without_timers, with_timer, without_timer_if, with_timer_if, timed, timed_sending, timed_confirming, timed_busy, timed_busy_ended}
 use Rattle.exchange_rules.proofs.Serving.{is_l7}
 
 module _ (link : ℕ) where
