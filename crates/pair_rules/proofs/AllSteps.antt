@@ -1,25 +1,9 @@
 -- Each step of a pair, at either end, goes by moves; and so does each list of them.
-use Rattle.std.proofs.Common.{◌≡◌, ◌≢◌, ◌<◌, ℕ, Bool, true, false, List, [], ◌∷◌, length, refl, ap, sym, subst, ◌∙◌}
-use Rattle.std.specs.Prelude.{slice_index_or, slice_set}
-use Rattle.std.proofs.lemmas.List.{get_or-set_other, get_or-set_same, length-set}
-use Rattle.std.proofs.Math.Logic.{⊎_elim}
-use Rattle.std.proofs.lemmas.Bool.{cases_eq}
-use Rattle.signalling_types.specs.Message.{Message}
-use Rattle.signalling_types.specs.declared.outcome.Outcome.TheVariants.{Handled}
-use Rattle.settings_rows.specs.Configuration.{Configuration}
-use Rattle.m2pa_codec.specs.Frames.{FrameValue}
+use Rattle.pair_rules.proofs.Basics.{◌≡◌, ◌≢◌, ◌<◌, ℕ, Bool, true, false, List, [], ◌∷◌, length, refl, ap, sym, subst, ◌∙◌, slice_index_or, slice_set, get_or-set_other, get_or-set_same, length-set, ⊎_elim, cases_eq}
+use Rattle.pair_rules.proofs.Definitions.{Message, Handled, Configuration, FrameValue, Nothing, Open, Close, Node, Done, answer, CameUp, WholeQueues, whole, open_link, wanted, apply, settled, done-waits, Saying, Pair, AddsTitle, DeliversStatus, Doing, DoublesStatus, LosesStatus, RemovesTitle, Streams, Submits, Takes, Delivers, Loses, Ticks, Activates, Deactivates, OpensFirst, OpensSecond, PairState, Step, AtNear, AtFar, after_steps, did, may_follow, may_open_at, opens_first, opens_second, turn, turned}
 use Rattle.exchange_rules.specs.declared.wants.Wants.{Wants}
-use Rattle.exchange_rules.specs.declared.wants.Wants.TheVariants.{Nothing, Open, Close}
-use Rattle.exchange_rules.specs.State.{Node, Done, answer}
-use Rattle.exchange_rules.specs.Happening.{CameUp}
-use Rattle.exchange_rules.specs.Queues.{WholeQueues, whole}
-use Rattle.exchange_rules.specs.Opening.{open_link, wanted}
-use Rattle.exchange_rules.specs.Exchange.{apply, settled}
-use Rattle.exchange_rules.proofs.Sound.{done-waits}
-use Rattle.pair_moves.specs.Sayings.{Saying}
-use Rattle.pair_moves.specs.Ends.{Pair}
 use Rattle.pair_moves.specs.Ends as ends
-use Rattle.pair_rules.specs.Pairs.{AddsTitle, DeliversStatus, Doing, DoublesStatus, LosesStatus, RemovesTitle, Streams, Submits, Takes, Delivers, Loses, Ticks, Activates, Deactivates, OpensFirst, OpensSecond, PairState, Step, AtNear, AtFar, after_steps, did, emptied, may_follow, may_open_at, opens_first, opens_second, turn, turned}
+use Rattle.pair_rules.specs.Pairs.{emptied}
 use Rattle.pair_rules.proofs.World.{Flying, World, says_of, shown, turned_world}
 use Rattle.pair_rules.proofs.Good.{AreFlying, Each, IsFlying, IsTelling, IsJoined, Good, Passes, at}
 use Rattle.pair_rules.proofs.Going.{Goes, goes-both}

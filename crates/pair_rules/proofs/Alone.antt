@@ -1,16 +1,7 @@
 -- A node whose only destination is the adjacent point of its only set: the route there stays as it was at first.
-use Rattle.std.proofs.Common.{◌≡◌, ℕ, Bool, true, false, List, [], ◌∷◌, map, zero, suc, refl, ap, sym, subst, ◌∙◌, Option, Some, None, nat_eq}
-use Rattle.std.specs.Prelude.{find, slice_index_or, if◌then◌else◌}
-use Rattle.std.specs.Option.{option_map}
-use Rattle.settings_rows.specs.Configuration.{Configuration}
-use Rattle.routes.specs.declared.route.Route.{Route}
-use Rattle.routes.specs.declared.route.RouteStatus.{RouteStatus}
+use Rattle.pair_rules.proofs.Basics.{◌≡◌, ℕ, Bool, true, false, List, [], ◌∷◌, map, zero, suc, refl, ap, sym, subst, ◌∙◌, Option, Some, None, nat_eq, find, slice_index_or, if◌then◌else◌, option_map}
+use Rattle.pair_rules.proofs.Definitions.{Configuration, Route, RouteStatus, first_route, ToldTable, is_own_point, Node, WholeQueues, IsOfSteps, AreRerouted, AreOwnAllowed, any_status, ways_of, status_over}
 use Rattle.routes.specs.declared.route.RouteStatus.TheVariants.{Allowed}
-use Rattle.routes.specs.Facts.{first_route}
-use Rattle.route_management.specs.Told.{ToldTable, is_own_point}
-use Rattle.exchange_rules.specs.State.{Node}
-use Rattle.exchange_rules.specs.Queues.{WholeQueues}
-use Rattle.exchange_rules.proofs.Steps.{IsOfSteps, AreRerouted, AreOwnAllowed, any_status, ways_of, status_over}
 use Rattle.exchange_rules.proofs.Asked.{any}
 
 abbrev pub only_routes : List (List Route)

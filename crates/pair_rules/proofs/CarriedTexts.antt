@@ -1,19 +1,11 @@
 -- The texts in flight carry what the far end hasn't received.
-use Rattle.std.proofs.Common.{Contains, ◌≡◌, ◌≤◌, ◌-◌, ◌+◌, ◌&&◌, ℕ, zero, suc, Bool, true, false, not, List, [], ◌∷◌, map, Option, Some, None, Ok, length, refl, ap, sym, subst, ◌∙◌, arith}
-use Rattle.std.specs.Prelude.{drop, take, slice_get, if◌then◌else◌}
-use Rattle.std.specs.List.{cons_option}
-use Rattle.signalling_types.specs.Message.{Message}
-use Rattle.settings_rows.specs.Configuration.{Configuration}
-use Rattle.m2pa_codec.specs.Frames.{FrameValue, EmptyFrame, MessageFrame, StatusFrame, spelled}
-use Rattle.m2pa_codec.specs.Reading.{read_frame}
-use Rattle.link.specs.Queue.{Queue}
-use Rattle.exchange_rules.specs.Links.{down, is_link}
+use Rattle.pair_rules.proofs.Basics.{◌≡◌, ◌≤◌, ◌-◌, ◌+◌, ◌&&◌, ℕ, zero, suc, Bool, true, false, not, List, [], ◌∷◌, map, Option, Some, None, Ok, length, refl, ap, sym, subst, ◌∙◌, arith, drop, take, slice_get, if◌then◌else◌, cons_option}
+use Rattle.pair_rules.proofs.Definitions.{Message, Configuration, FrameValue, EmptyFrame, MessageFrame, StatusFrame, spelled, read_frame, Queue, down, is_link, new_message, new_of, messages_in}
+use Rattle.std.proofs.Common.{Contains}
 use Rattle.exchange_rules.specs.Laws.{carried_message}
-use Rattle.exchange_rules.specs.Receiving.{new_message, new_of}
 use Rattle.exchange_rules.specs.Sound.{Abstract}
 use Rattle.pair_moves.specs.Flowing.{Carry}
 use Rattle.pair_moves.proofs.Frames.{carry-below}
-use Rattle.pair_rules.specs.Laws.{messages_in}
 use Rattle.pair_rules.proofs.World.{frame_of}
 use Rattle.pair_rules.proofs.Good as good
 use Rattle.pair_rules.proofs.Good.{Each, IsFlying, IsTelling, no-status}

@@ -1,45 +1,12 @@
 -- The rules by which a changeover goes on and ends: each goes by moves.
-use Rattle.std.proofs.Common.{append-nil}
+use Rattle.pair_rules.proofs.Basics.{append-nil, ⊎_elim, cases_eq, ◌≡◌, ◌≢◌, ◌<◌, ℕ, Bool, true, false, not, List, [], ◌∷◌, length, Option, Some, None, refl, ap, sym, subst, ◌∙◌, if◌then◌else◌, slice_index_or, set-get_or, length-set}
+use Rattle.pair_rules.proofs.Definitions.{link_of, send, appended, answer, Handled, Ignored, without_wait, Message, flow_of, Configuration, Management, ExtendedChangeoverAcknowledgement, Running, clear_timer, Queue, emptied, first_queue, named_count, last_accepted, Standing, acknowledged, completed, no_changeover, behind, managements_of, Link, after_failure, down_link, is_down, Node, Parts, with_parts, down, in_service, link_at, links_with, WholeQueues, queue_at, whole, begin_by_peer, changeover_of, fail_by_peer, make_unavailable, with_changeover, acknowledge_changeover, changeover_acknowledgement, complete_by_order, complete_if, fail_by_order, on_changeover_order, on_changeover_acknowledgement, send_each, with_changeover_acknowledged, without_tests, entry_of, peer_of, set_of, management_to, send_anew, made-management, Fits, fit-steps, alike-at, concluded-steps, Order, Answer}
 use Rattle.signalling_types.specs.Numbers.{previous_number}
-use Rattle.exchange_rules.specs.Routing.{link_of}
-use Rattle.exchange_rules.specs.Made.{send}
-use Rattle.link.specs.Queue.{appended}
 use Rattle.exchange_rules.proofs.SteppingTimers.{clear-timed}
-use Rattle.exchange_rules.specs.State.{answer}
-use Rattle.signalling_types.specs.declared.outcome.Outcome.TheVariants.{Handled, Ignored}
 use Rattle.pair_rules.proofs.World.{line_of, route_of}
 use Rattle.pair_rules.proofs.Lines.{becomes, end-by, end_by, standing-here, standing-other}
-use Rattle.pair_moves.specs.Failing.{without_wait}
-use Rattle.std.proofs.Math.Logic.{⊎_elim}
-use Rattle.std.proofs.lemmas.Bool.{cases_eq}
-use Rattle.std.proofs.Common.{◌≡◌, ◌≢◌, ◌<◌, ℕ, Bool, true, false, not, List, [], ◌∷◌, length, Option, Some, None, refl, ap, sym, subst, ◌∙◌}
-use Rattle.std.specs.Prelude.{if◌then◌else◌, slice_index_or}
-use Rattle.std.proofs.lemmas.List.{set-get_or, length-set}
-use Rattle.signalling_types.specs.Message.{Message, flow_of}
 use Rattle.signalling_types.specs.declared.notice.FailureReason.TheVariants as reasons
-use Rattle.settings_rows.specs.Configuration.{Configuration}
-use Rattle.mtp3_codec.specs.declared.management.Management.{Management}
-use Rattle.mtp3_codec.specs.declared.management.Management.TheVariants.{ExtendedChangeoverAcknowledgement}
-use Rattle.timers.specs.Timers.{Running, clear_timer}
 use Rattle.timers.specs.declared.name.TimerName.TheVariants.{T2}
-use Rattle.link.specs.Queue.{Queue, emptied, first_queue, named_count, last_accepted}
-use Rattle.changeover.specs.Standing.{Standing, acknowledged, completed, no_changeover}
-use Rattle.changeover.specs.Completion.{behind, managements_of}
-use Rattle.node_links.specs.Link.{Link}
-use Rattle.node_links.specs.LinkState.{after_failure, down_link, is_down}
-use Rattle.exchange_rules.specs.State.{Node, Parts, with_parts}
-use Rattle.exchange_rules.specs.Links.{down, in_service, link_at, links_with}
-use Rattle.exchange_rules.specs.Queues.{WholeQueues, queue_at, whole}
-use Rattle.exchange_rules.specs.Failing.{begin_by_peer, changeover_of, fail_by_peer, make_unavailable, with_changeover}
-use Rattle.exchange_rules.specs.ChangingOver.{acknowledge_changeover, changeover_acknowledgement, complete_by_order, complete_if, fail_by_order, on_changeover_order, on_changeover_acknowledgement, send_each, with_changeover_acknowledged}
-use Rattle.exchange_rules.specs.Rerouting.{without_tests}
-use Rattle.exchange_rules.specs.Points.{entry_of, peer_of, set_of}
-use Rattle.exchange_rules.specs.Made.{management_to, send_anew}
-use Rattle.exchange_rules.proofs.OwnManagement.{made-management}
-use Rattle.exchange_rules.proofs.Fitting.{Fits, fit-steps}
-use Rattle.exchange_rules.proofs.Lists.{alike-at}
-use Rattle.exchange_rules.proofs.SteppingFailures.{concluded-steps}
-use Rattle.pair_moves.specs.Sayings.{Order, Answer}
 use Rattle.pair_moves.specs.Moves as moves
 use Rattle.pair_rules.proofs.World.{World, says_of, said_by, unsaid}
 use Rattle.pair_rules.proofs.Good.{Each, IsBetween, IsJoined, IsWord, IsWritable, Passes, passes-none, passes-both, at, previous-fits}

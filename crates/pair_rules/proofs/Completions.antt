@@ -1,37 +1,11 @@
 -- A changeover is completed by the peer's order, by its answer, or by a timer: by moves.
-use Rattle.exchange_rules.specs.Links.{link_at}
-use Rattle.exchange_rules.specs.Made.{send_anew}
-use Rattle.std.proofs.Common.{◌≡◌, ◌≢◌, ◌<◌, ◌&&◌, ℕ, Bool, true, false, not, List, [], ◌∷◌, ◌++◌, length, Option, Some, None, refl, ap, sym, subst, ◌∙◌, nat_eq}
-use Rattle.std.specs.Prelude.{drop, if◌then◌else◌, is_some, slice_set}
-use Rattle.std.proofs.Math.Logic.{⊎_elim}
-use Rattle.std.proofs.lemmas.Bool.{cases_eq}
-use Rattle.signalling_types.specs.Message.{Message, is_management}
-use Rattle.settings_rows.specs.Configuration.{Configuration}
+use Rattle.pair_rules.proofs.Basics.{◌≡◌, ◌≢◌, ◌<◌, ◌&&◌, ℕ, Bool, true, false, not, List, [], ◌∷◌, ◌++◌, length, Option, Some, None, refl, ap, sym, subst, ◌∙◌, nat_eq, drop, if◌then◌else◌, is_some, slice_set, ⊎_elim, cases_eq}
+use Rattle.pair_rules.proofs.Definitions.{link_at, send_anew, Message, is_management, Configuration, Running, clear_timer, ToldTable, Link, link_in, is_down, lifted, leaves_others, Queue, emptied, first_queue, named_count, last_accepted, Standing, standing_at, with_standing, accepted_count, behind, users_of, managements_of, Node, Parts, Found, down, WholeQueues, queue_at, whole, changeover_of, concluded, lose, lose_each, send_each, Fits, StaysFit, each-set, Order, Answer, LinkEnd, Line, Pair, Side, ChangesOnly, with_completion}
 use Rattle.signalling_types.specs.declared.cause.Cause.TheVariants.{LostUnconfirmed}
-use Rattle.timers.specs.Timers.{Running, clear_timer}
 use Rattle.timers.specs.declared.name.TimerName.TheVariants.{T1}
-use Rattle.route_management.specs.Told.{ToldTable}
-use Rattle.node_links.specs.Link.{Link}
-use Rattle.node_links.specs.Network.{link_in}
-use Rattle.node_links.specs.LinkState.{is_down}
-use Rattle.flow_hold.specs.Holds.{lifted}
 use Rattle.flow_hold.specs.declared.procedure.Procedure.TheVariants as held_by
-use Rattle.flow_hold.proofs.Pairing.{leaves_others}
-use Rattle.link.specs.Queue.{Queue, emptied, first_queue, named_count, last_accepted}
-use Rattle.changeover.specs.Standing.{Standing, standing_at, with_standing}
-use Rattle.changeover.specs.Completion.{accepted_count, behind, users_of, managements_of}
 use Rattle.changeover.specs.Completion as completion
-use Rattle.exchange_rules.specs.State.{Node, Parts, Found}
-use Rattle.exchange_rules.specs.Links.{down}
-use Rattle.exchange_rules.specs.Queues.{WholeQueues, queue_at, whole}
-use Rattle.exchange_rules.specs.Failing.{changeover_of}
-use Rattle.exchange_rules.specs.ChangingOver.{concluded, lose, lose_each, send_each}
-use Rattle.exchange_rules.proofs.Fitting.{Fits, StaysFit}
-use Rattle.exchange_rules.proofs.Lists.{each-set}
-use Rattle.pair_moves.specs.Sayings.{Order, Answer}
-use Rattle.pair_moves.specs.Ends.{LinkEnd, Line, Pair, Side}
 use Rattle.pair_moves.specs.Ends as ends
-use Rattle.pair_moves.specs.Failing.{ChangesOnly, with_completion}
 use Rattle.pair_moves.specs.Failing as coarse
 use Rattle.pair_moves.specs.Moves as moves
 use Rattle.pair_rules.proofs.World.{World, says_of, shown, route_of, holds_of, line_of, end_of}

@@ -1,35 +1,12 @@
 -- A link loses its flows to the one that entered service: they are held by a code, whose declaration goes out, or by time. By moves.
-use Rattle.std.proofs.Common.{◌≡◌, ◌≢◌, ◌<◌, ◌&&◌, ℕ, suc, Bool, true, false, List, [], ◌∷◌, length, Option, Some, None, refl, ap, sym, subst, ◌∙◌, nat_eq, nat_lt, arith}
-use Rattle.std.specs.Prelude.{if◌then◌else◌}
-use Rattle.std.proofs.Math.Logic.{⊎_elim}
-use Rattle.std.proofs.Math.Path.{fun_ext}
-use Rattle.std.proofs.lemmas.Bool.{and_from, lt-ltb, ltb-true}
-use Rattle.signalling_types.specs.declared.limits.TheConstants.Limits.{SELECTIONS}
-use Rattle.signalling_types.specs.Message.{Message}
-use Rattle.signalling_types.specs.declared.point.Flow.{Flow}
-use Rattle.settings_rows.specs.Configuration.{Configuration}
-use Rattle.mtp3_codec.specs.declared.management.Management.{Management}
-use Rattle.mtp3_codec.specs.declared.management.Management.TheVariants.{ChangebackDeclaration}
+use Rattle.pair_rules.proofs.Basics.{◌≡◌, ◌≢◌, ◌<◌, ◌&&◌, ℕ, suc, Bool, true, false, List, [], ◌∷◌, length, Option, Some, None, refl, ap, sym, subst, ◌∙◌, nat_eq, nat_lt, arith, if◌then◌else◌, ⊎_elim, fun_ext, and_from, lt-ltb, ltb-true}
+use Rattle.pair_rules.proofs.Definitions.{SELECTIONS, Message, Flow, Configuration, Management, ChangebackDeclaration, Queue, appended, first_queue, Facts, is_outstanding, with_code, Node, Parts, in_service, WholeQueues, queue_at, whole, management_to, entry_of, set_of, facts, network_of, code_for, declaration, hold_flows, loses_flows, Fits, each-set, IsAlike, Declaration}
 use Rattle.flow_hold.specs.Holds as hold
 use Rattle.flow_hold.specs.declared.procedure.Procedure.TheVariants as held_by
-use Rattle.link.specs.Queue.{Queue, appended, first_queue}
 use Rattle.node_links.proofs.Chosen.{chosen_serving}
-use Rattle.routes.specs.Facts.{Facts}
-use Rattle.changeback.specs.Codes.{is_outstanding, with_code}
-use Rattle.exchange_rules.specs.State.{Node, Parts}
-use Rattle.exchange_rules.specs.Links.{in_service}
-use Rattle.exchange_rules.specs.Queues.{WholeQueues, queue_at, whole}
-use Rattle.exchange_rules.specs.Made.{management_to}
-use Rattle.exchange_rules.specs.Points.{entry_of, set_of}
-use Rattle.exchange_rules.specs.Routing.{facts, network_of}
-use Rattle.exchange_rules.specs.ChangingBack.{code_for, declaration, hold_flows, loses_flows}
 use Rattle.exchange_rules.proofs.AwaitedCodes.{codes-there, outstanding-other, outstanding-own}
-use Rattle.exchange_rules.proofs.Fitting.{Fits}
-use Rattle.exchange_rules.proofs.Lists.{each-set}
 use Rattle.exchange_rules.proofs.TakenBack.{loses-so, taken-so}
 use Rattle.exchange_rules.proofs.TakenCodes.{IsUsable, is_usable}
-use Rattle.exchange_rules.proofs.TakenPairs.{IsAlike}
-use Rattle.pair_moves.specs.Sayings.{Declaration}
 use Rattle.pair_moves.specs.Ends as ends
 use Rattle.pair_moves.specs.Moves as moves
 use Rattle.pair_rules.proofs.World.{World, says_of, shown_by, holds_of, line_of, end_of}

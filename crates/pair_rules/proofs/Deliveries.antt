@@ -1,37 +1,10 @@
 -- The first frame in flight on a link is handed in: by moves.
-use Rattle.std.specs.Prelude.{slice_index_or}
-use Rattle.std.proofs.Common.{inl, ◌≡◌, ◌<◌, ℕ, Bool, true, false, not, List, [], ◌∷◌, length, Some, Result, Ok, Err, refl, ap, sym, subst, ◌∙◌}
-use Rattle.std.specs.Prelude.{map, option_to_list}
-use Rattle.signalling_types.specs.Message.{Message}
-use Rattle.signalling_types.specs.declared.notice.FailureReason.{FailureReason}
+use Rattle.pair_rules.proofs.Basics.{slice_index_or, inl, ◌≡◌, ◌<◌, ℕ, Bool, true, false, not, List, [], ◌∷◌, length, Some, Result, Ok, Err, refl, ap, sym, subst, ◌∙◌, option_to_list}
+use Rattle.pair_rules.proofs.Definitions.{Message, FailureReason, Configuration, FrameValue, EmptyFrame, MessageFrame, Alignment, Down, NotAligned, Aligned, Proving, AlignedReady, InService, Action, UserData, Input, action_at, SeqFault, Link, after_failure, down_link, is_down, is_in_service, Node, with_parts, down, in_service, link_at, WholeQueues, whole, fail, Carrying, accept, act_by_data, empty_data, handle_by, message_data, numbers, owing, new_by, new_at, advance, Fits, fit-steps, confirming, owing-steps, fail-links, advance-serves, data-serves, for_users}
+use Rattle.std.specs.Prelude.{map}
 use Rattle.signalling_types.specs.declared.notice.FailureReason.TheVariants as reasons
-use Rattle.settings_rows.specs.Configuration.{Configuration}
-use Rattle.m2pa_codec.specs.Frames.{FrameValue, EmptyFrame, MessageFrame}
-use Rattle.link.specs.declared.alignment.Alignment.{Alignment}
-use Rattle.link.specs.declared.alignment.Alignment.TheVariants.{Down, NotAligned, Aligned, Proving, AlignedReady, InService}
-use Rattle.link.specs.declared.action.Action.{Action}
 use Rattle.link.specs.declared.action.Action.TheVariants as act
-use Rattle.link.specs.declared.action.Input.TheVariants.{UserData}
-use Rattle.link.specs.declared.action.Input.{Input}
-use Rattle.link.specs.Table.{action_at}
-use Rattle.link.specs.declared.fault.SeqFault.{SeqFault}
-use Rattle.node_links.specs.Link.{Link}
-use Rattle.node_links.specs.LinkState.{after_failure, down_link, is_down, is_in_service}
-use Rattle.exchange_rules.specs.State.{Node, with_parts}
-use Rattle.exchange_rules.specs.Links.{down, in_service, link_at}
-use Rattle.exchange_rules.specs.Queues.{WholeQueues, whole}
-use Rattle.exchange_rules.specs.Failing.{fail}
-use Rattle.exchange_rules.specs.Frames.{Carrying, accept, act_by_data, empty_data, handle_by, message_data, numbers, owing}
-use Rattle.exchange_rules.specs.Receiving.{new_by, new_at}
-use Rattle.exchange_rules.specs.Statuses.{advance}
-use Rattle.exchange_rules.proofs.Fitting.{Fits, fit-steps}
-use Rattle.exchange_rules.proofs.Steps.{confirming}
-use Rattle.exchange_rules.proofs.SteppingEvents.{owing-steps}
-use Rattle.exchange_rules.proofs.SteppingFailures.{fail-links}
-use Rattle.exchange_rules.proofs.SteppingLinks.{advance-serves}
-use Rattle.exchange_rules.proofs.Serving.{data-serves}
 use Rattle.pair_moves.specs.Moves as moves
-use Rattle.pair_rules.specs.Pairs.{for_users}
 use Rattle.pair_rules.proofs.World.{World, says_of, line_of, frame_of}
 use Rattle.pair_rules.proofs.Good.{Each, IsBetween, IsFlying, IsJoined, Good, Passes, passes-none, passes-both, at}
 use Rattle.pair_rules.proofs.Good as good

@@ -1,35 +1,12 @@
 -- A link enters service: by the table of the alignment it was up and stays so, and each flow that had a link keeps it or takes the one that entered.
-use Rattle.std.proofs.Common.{◌≡◌, ◌&&◌, ◌⊎◌, inl, inr, ℕ, Bool, true, false, not, List, [], ◌∷◌, Option, Some, None, refl, ap, sym, ◌∙◌, ◌==◌, nat_lt}
-use Rattle.std.specs.Prelude.{find, if◌then◌else◌, is_some}
-use Rattle.std.specs.List.{list_all}
-use Rattle.std.specs.Option.{option_and_then, option_map, option_or}
-use Rattle.std.proofs.Math.Logic.{⊎_elim}
-use Rattle.std.proofs.lemmas.Bool.{and_parts}
-use Rattle.signalling_types.specs.declared.limits.TheConstants.Limits.{SELECTIONS}
-use Rattle.signalling_types.specs.declared.point.Flow.{Flow}
-use Rattle.settings_rows.specs.Configuration.{Configuration}
-use Rattle.settings.specs.Readings.{destination_place}
-use Rattle.link.specs.declared.alignment.Alignment.{Alignment}
-use Rattle.link.specs.declared.alignment.Alignment.TheVariants.{Down, NotAligned, Aligned, Proving, AlignedReady, InService}
-use Rattle.link.specs.declared.action.Action.{Action}
+use Rattle.pair_rules.proofs.Basics.{◌≡◌, ◌&&◌, ◌⊎◌, inl, inr, ℕ, Bool, true, false, not, List, [], ◌∷◌, Option, Some, None, refl, ap, sym, ◌∙◌, ◌==◌, nat_lt, find, if◌then◌else◌, is_some, list_all, option_and_then, option_map, option_or, ⊎_elim, and_parts}
+use Rattle.pair_rules.proofs.Definitions.{SELECTIONS, Flow, Configuration, destination_place, Alignment, Down, NotAligned, Aligned, Proving, AlignedReady, InService, Action, Input, Status, UserData, Expiry, Effect, Fails, Remembers, Enters, EntersServing, Serves, Cell, table, state_number, is_same_input, effect_in, action_of, action_at, is_down, is_in_service, with_link, chosen_link, Parts, facts, link_of, FrameValue, Node, WholeQueues, LinkEnd}
 use Rattle.link.specs.declared.action.Action.TheVariants.{Ignored, Fail, Go}
-use Rattle.link.specs.declared.action.Input.{Input}
-use Rattle.link.specs.declared.action.Input.TheVariants.{Status, UserData, Expiry}
 use Rattle.link.specs.declared.action.LinkTimer.{LinkTimer}
 use Rattle.link.specs.declared.action.LinkTimer.TheVariants as its
 use Rattle.m2pa_codec.specs.declared.status.LinkStatus.TheVariants as says
 use Rattle.link.specs.declared.action.Transition.{Transition}
-use Rattle.link.specs.Table.{Effect, Fails, Remembers, Enters, EntersServing, Serves, Cell, table, state_number, is_same_input, effect_in, action_of, action_at}
-use Rattle.node_links.specs.LinkState.{is_down, is_in_service}
-use Rattle.routes.specs.Facts.{with_link}
-use Rattle.routes.specs.Chosen.{chosen_link}
-use Rattle.exchange_rules.specs.State.{Parts}
-use Rattle.exchange_rules.specs.Routing.{facts, link_of}
 use Rattle.routes.proofs.Leaving.{goes_or_stays, had_has}
-use Rattle.m2pa_codec.specs.Frames.{FrameValue}
-use Rattle.exchange_rules.specs.State.{Node}
-use Rattle.exchange_rules.specs.Queues.{WholeQueues}
-use Rattle.pair_moves.specs.Ends.{LinkEnd}
 use Rattle.pair_rules.proofs.World.{World, end_of, is_heard, route_of}
 use Rattle.pair_rules.proofs.Good.{IsJoined}
 use Rattle.pair_rules.proofs.Routes.{IsRouted}

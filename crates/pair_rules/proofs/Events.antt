@@ -1,49 +1,16 @@
 -- Whole events at the near node: by moves.
-use Rattle.std.proofs.Common.{◌≡◌, ◌<◌, ◌&&◌, ℕ, Bool, true, false, not, List, [], ◌∷◌, ◌++◌, length, map, replicate, Option, Some, None, Result, Ok, refl, ap, sym, subst, ◌∙◌, nat_lt, arith}
-use Rattle.std.specs.Prelude.{if◌then◌else◌, is_some, option_to_list, slice_index_or}
-use Rattle.std.proofs.lemmas.Bool.Decides.{nat_tests}
-use Rattle.signalling_types.specs.Message.{Message, flow_of, is_management, dpc_of, service_indicator}
-use Rattle.signalling_types.specs.declared.cause.Cause.{Cause}
+use Rattle.pair_rules.proofs.Basics.{◌≡◌, ◌<◌, ◌&&◌, ℕ, Bool, true, false, not, List, [], ◌∷◌, ◌++◌, length, map, Option, Some, None, Result, Ok, refl, ap, sym, subst, ◌∙◌, nat_lt, arith, if◌then◌else◌, is_some, option_to_list, slice_index_or, nat_tests, append-nil}
+use Rattle.pair_rules.proofs.Definitions.{Message, flow_of, is_management, dpc_of, service_indicator, Cause, Ignored, Local, Configuration, FrameValue, EmptyFrame, MessageFrame, StatusFrame, read_frame, Discrimination, Label, RouteStatus, Facts, ToldTable, is_own_point, is_user_message, destination_place, is_user, local, on_unitdata, told_at, UserData, action_at, Node, Done, answer, refuse, Happening, down, is_link, link_at, WholeQueues, whole, no_room, all_wait, waits, submit_to, whither_goes, facts, link_of, release, data_of, receive, receive_frame, read, new_in, new_message, new_of, apply, handle_event, settled, Fits, fit-steps, accepted_by, for_users, is_sccp}
+use Rattle.std.proofs.Common.{replicate}
 use Rattle.signalling_types.specs.declared.cause.Cause.TheVariants as causes
-use Rattle.signalling_types.specs.declared.outcome.Outcome.TheVariants.{Ignored, Local}
-use Rattle.settings_rows.specs.Configuration.{Configuration}
-use Rattle.m2pa_codec.specs.Frames.{FrameValue, EmptyFrame, MessageFrame, StatusFrame}
-use Rattle.m2pa_codec.specs.Reading.{read_frame}
 use Rattle.signalling_types.specs.declared.notice.FrameFault.{FrameFault}
-use Rattle.mtp3_codec.specs.declared.discrimination.Discrimination.{Discrimination}
 use Rattle.mtp3_codec.specs.declared.discrimination.Discrimination.TheVariants as whither
-use Rattle.mtp3_codec.specs.declared.label.Label.{Label}
-use Rattle.routes.specs.declared.route.RouteStatus.{RouteStatus}
-use Rattle.routes.specs.Facts.{Facts}
-use Rattle.route_management.specs.Told.{ToldTable, is_own_point}
-use Rattle.std.proofs.Common.{append-nil}
-use Rattle.pair_moves.specs.Sayings.{is_user_message}
-use Rattle.settings.specs.Readings.{destination_place}
-use Rattle.exchange_rules.specs.Local.{is_user, local}
-use Rattle.exchange_rules.specs.Relaying.{on_unitdata}
-use Rattle.route_management.specs.Told.{told_at}
 use Rattle.route_management.specs.Owed.{Owed, owed, owed_at, owed_by_sets, owed_from, is_owed, is_reachable, is_unlike, status_to_advertise}
 use Rattle.route_management.proofs.Listing.{none_of_point}
-use Rattle.link.specs.declared.action.Input.TheVariants.{UserData}
-use Rattle.link.specs.Table.{action_at}
-use Rattle.exchange_rules.specs.State.{Node, Done, answer, refuse}
-use Rattle.exchange_rules.specs.Happening.{Happening}
-use Rattle.exchange_rules.specs.Links.{down, is_link, link_at}
-use Rattle.exchange_rules.specs.Queues.{WholeQueues, whole}
-use Rattle.exchange_rules.specs.Queueing.{no_room}
-use Rattle.exchange_rules.specs.Holding.{all_wait, waits}
 use Rattle.exchange_rules.specs.Arrival.{is_destination, offer, transfer}
-use Rattle.exchange_rules.specs.Messages.{submit_to, whither_goes}
-use Rattle.exchange_rules.specs.Routing.{facts, link_of}
-use Rattle.exchange_rules.specs.Releasing.{release}
 use Rattle.exchange_rules.specs.Telling.{tell_each, tell_owed}
-use Rattle.exchange_rules.specs.Frames.{data_of, receive, receive_frame, read}
-use Rattle.exchange_rules.specs.Receiving.{new_in, new_message, new_of}
-use Rattle.exchange_rules.specs.Exchange.{apply, handle_event, settled}
-use Rattle.exchange_rules.proofs.Fitting.{Fits, fit-steps}
 use Rattle.exchange_rules.proofs.LeavingMessages.{chosen_serves}
 use Rattle.pair_moves.specs.Moves as moves
-use Rattle.pair_rules.specs.Pairs.{accepted_by, for_users, is_sccp}
 use Rattle.pair_rules.proofs.World.{World, says_of}
 use Rattle.pair_rules.proofs.Good.{Each, IsBetween, IsFlying, IsTelling, IsJoined, Good, Passes, passes-none, passes-both, at, no-status}
 use Rattle.pair_rules.proofs.Good as good

@@ -1,26 +1,9 @@
 -- T1 or T2 of a link runs out: by moves.
-use Rattle.exchange_rules.specs.Noting.{flagged}
-use Rattle.std.proofs.Common.{append-nil}
-use Rattle.std.proofs.Common.{◌≡◌, ◌≢◌, ◌<◌, ℕ, Bool, true, false, List, [], length, None, refl, ap, sym, subst, ◌∙◌, nat_lt, arith}
-use Rattle.std.specs.Prelude.{drop, if◌then◌else◌}
-use Rattle.std.proofs.Math.Logic.{⊎_elim}
-use Rattle.std.proofs.lemmas.Bool.{cases_eq}
-use Rattle.std.proofs.lemmas.Bool.Decides.{nat_tests}
-use Rattle.signalling_types.specs.Message.{Message, is_management}
+use Rattle.pair_rules.proofs.Basics.{append-nil, ◌≡◌, ◌≢◌, ◌<◌, ℕ, Bool, true, false, List, [], length, None, refl, ap, sym, subst, ◌∙◌, nat_lt, arith, drop, if◌then◌else◌, ⊎_elim, cases_eq, nat_tests}
+use Rattle.pair_rules.proofs.Definitions.{flagged, Message, is_management, Configuration, Queue, Standing, acknowledged, completed, behind, managements_of, Node, lost_any, with_parts, is_link, WholeQueues, queue_at, whole, changeover_of, with_changeover, complete_if, on_changeover_timer, with_expiry, Fits, fit-steps, concluded-steps}
 use Rattle.signalling_types.specs.declared.notice.ChangeoverTimer.{ChangeoverTimer}
 use Rattle.signalling_types.specs.declared.notice.ChangeoverTimer.TheVariants as timer
 use Rattle.signalling_types.specs.declared.notice.Notice.TheVariants as notices
-use Rattle.settings_rows.specs.Configuration.{Configuration}
-use Rattle.link.specs.Queue.{Queue}
-use Rattle.changeover.specs.Standing.{Standing, acknowledged, completed}
-use Rattle.changeover.specs.Completion.{behind, managements_of}
-use Rattle.exchange_rules.specs.State.{Node, lost_any, with_parts}
-use Rattle.exchange_rules.specs.Links.{is_link}
-use Rattle.exchange_rules.specs.Queues.{WholeQueues, queue_at, whole}
-use Rattle.exchange_rules.specs.Failing.{changeover_of, with_changeover}
-use Rattle.exchange_rules.specs.ChangingOver.{complete_if, on_changeover_timer, with_expiry}
-use Rattle.exchange_rules.proofs.Fitting.{Fits, fit-steps}
-use Rattle.exchange_rules.proofs.SteppingFailures.{concluded-steps}
 use Rattle.pair_rules.proofs.World.{World, says_of}
 use Rattle.pair_rules.proofs.Good.{IsBetween, IsJoined, Passes, passes-none, passes-both, at}
 use Rattle.pair_rules.proofs.Going.{goes-lost}

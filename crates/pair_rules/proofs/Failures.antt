@@ -1,30 +1,9 @@
 -- A link fails, and an order goes out where another link of its set is left: by moves.
 use Rattle.pair_rules.proofs.Lines.{end_by, end-by, link-here, link-other}
-use Rattle.node_links.specs.LinkState.{is_down}
-use Rattle.std.proofs.Common.{◌≡◌, ◌≢◌, ◌<◌, ◌||◌, ℕ, Bool, true, false, not, List, [], length, refl, ap, sym, subst, ◌∙◌}
-use Rattle.std.specs.Prelude.{if◌then◌else◌}
-use Rattle.std.proofs.Math.Logic.{⊎_elim}
-use Rattle.std.proofs.lemmas.Bool.{cases_eq}
-use Rattle.signalling_types.specs.Message.{Message}
-use Rattle.signalling_types.specs.declared.notice.FailureReason.{FailureReason}
+use Rattle.pair_rules.proofs.Basics.{◌≡◌, ◌≢◌, ◌<◌, ◌||◌, ℕ, Bool, true, false, not, List, [], length, refl, ap, sym, subst, ◌∙◌, if◌then◌else◌, ⊎_elim, cases_eq}
+use Rattle.pair_rules.proofs.Definitions.{is_down, Message, FailureReason, Configuration, ExtendedChangeoverOrder, failed, begun_by_peer, Link, after_failure, down_link, each-set, Node, Parts, with_parts, down, in_service, link_at, WholeQueues, queue_at, whole, begin, begin_by_peer, change_over, changeover_of, changeover_order, changing, fail, fail_by_peer, fail_link, has_other, make_unavailable, without_tests, entry_of, peer_of, set_of, made-management, Fits, StaysFit, fit-steps, failing_by_peer-steps, fell-steps, timed_changeover-timed, with_failure}
 use Rattle.signalling_types.specs.declared.notice.FailureReason.TheVariants as reasons
-use Rattle.settings_rows.specs.Configuration.{Configuration}
-use Rattle.mtp3_codec.specs.declared.management.Management.TheVariants.{ExtendedChangeoverOrder}
-use Rattle.changeover.specs.Standing.{failed, begun_by_peer}
-use Rattle.node_links.specs.Link.{Link}
-use Rattle.node_links.specs.LinkState.{after_failure, down_link}
-use Rattle.exchange_rules.proofs.Lists.{each-set}
-use Rattle.exchange_rules.specs.State.{Node, Parts, with_parts}
-use Rattle.exchange_rules.specs.Links.{down, in_service, link_at}
-use Rattle.exchange_rules.specs.Queues.{WholeQueues, queue_at, whole}
 use Rattle.exchange_rules.specs.Suspending.{suspended}
-use Rattle.exchange_rules.specs.Failing.{begin, begin_by_peer, change_over, changeover_of, changeover_order, changing, fail, fail_by_peer, fail_link, has_other, make_unavailable}
-use Rattle.exchange_rules.specs.Rerouting.{without_tests}
-use Rattle.exchange_rules.specs.Points.{entry_of, peer_of, set_of}
-use Rattle.exchange_rules.proofs.OwnManagement.{made-management}
-use Rattle.exchange_rules.proofs.Fitting.{Fits, StaysFit, fit-steps}
-use Rattle.exchange_rules.proofs.SteppingFailures.{failing_by_peer-steps, fell-steps, timed_changeover-timed}
-use Rattle.pair_moves.specs.Failing.{with_failure}
 use Rattle.pair_moves.specs.Moves as moves
 use Rattle.pair_rules.proofs.World.{World, says_of, route_of, holds_of, line_of, end_of}
 use Rattle.pair_rules.proofs.Good.{IsSilent, IsJoined, Passes, passes-both, at}

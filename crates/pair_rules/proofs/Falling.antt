@@ -1,42 +1,12 @@
 -- A link in service fails, with an order or without one: by moves.
-use Rattle.signalling_types.specs.declared.limits.TheConstants.Limits.{SELECTIONS}
-use Rattle.exchange_rules.specs.Routing.{goes_by}
+use Rattle.pair_rules.proofs.Basics.{◌≡◌, ◌≢◌, ◌<◌, ◌&&◌, ℕ, Bool, true, false, not, List, [], ◌∷◌, length, Option, Some, refl, ap, sym, subst, ◌∙◌, nat_eq, nat_lt, arith, ⊎_elim, cases_eq}
+use Rattle.pair_rules.proofs.Definitions.{SELECTIONS, goes_by, is_down, Management, Order, Message, Flow, FailureReason, Configuration, ExtendedChangeoverOrder, Running, HoldSet, with_flows, flows_add, flows_leave, Standing, no_changeover, with_standing, Link, after_failure, down_link, each-set, chosen_link, Node, Parts, with_parts, down, in_service, link_at, WholeQueues, queue_at, whole, changeover_of, changeover_order, fail_link, facts, entry_of, management_to, Fits, StaysFit, LinkEnd, Line, Suspends, with_failure}
 use Rattle.pair_rules.proofs.Lines.{end_by, end-by, link-here, link-other, standing-here, standing-other}
-use Rattle.node_links.specs.LinkState.{is_down}
-use Rattle.mtp3_codec.specs.declared.management.Management.{Management}
 use Rattle.pair_rules.proofs.World.{said_by, unsaid}
-use Rattle.pair_moves.specs.Sayings.{Order}
-use Rattle.std.proofs.Common.{◌≡◌, ◌≢◌, ◌<◌, ◌&&◌, ℕ, Bool, true, false, not, List, [], ◌∷◌, length, Option, Some, refl, ap, sym, subst, ◌∙◌, nat_eq, nat_lt, arith}
-use Rattle.std.proofs.Math.Logic.{⊎_elim}
-use Rattle.std.proofs.lemmas.Bool.{cases_eq}
-use Rattle.signalling_types.specs.Message.{Message}
-use Rattle.signalling_types.specs.declared.point.Flow.{Flow}
-use Rattle.signalling_types.specs.declared.notice.FailureReason.{FailureReason}
-use Rattle.settings_rows.specs.Configuration.{Configuration}
-use Rattle.mtp3_codec.specs.declared.management.Management.TheVariants.{ExtendedChangeoverOrder}
-use Rattle.timers.specs.Timers.{Running}
 use Rattle.flow_hold.specs.Holds as hold
-use Rattle.flow_hold.specs.Holds.{HoldSet}
-use Rattle.flow_hold.specs.Flows.{with_flows}
-use Rattle.flow_hold.proofs.Flows.{flows_add, flows_leave}
 use Rattle.flow_hold.specs.declared.procedure.Procedure.TheVariants as held_by
-use Rattle.changeover.specs.Standing.{Standing, no_changeover, with_standing}
-use Rattle.node_links.specs.Link.{Link}
-use Rattle.node_links.specs.LinkState.{after_failure, down_link}
-use Rattle.exchange_rules.proofs.Lists.{each-set}
-use Rattle.routes.specs.Chosen.{chosen_link}
-use Rattle.exchange_rules.specs.State.{Node, Parts, with_parts}
-use Rattle.exchange_rules.specs.Links.{down, in_service, link_at}
-use Rattle.exchange_rules.specs.Queues.{WholeQueues, queue_at, whole}
 use Rattle.exchange_rules.specs.Suspending.{suspended, is_failed}
-use Rattle.exchange_rules.specs.Failing.{changeover_of, changeover_order, fail_link}
-use Rattle.exchange_rules.specs.Routing.{facts}
-use Rattle.exchange_rules.specs.Points.{entry_of}
-use Rattle.exchange_rules.specs.Made.{management_to}
-use Rattle.exchange_rules.proofs.Fitting.{Fits, StaysFit}
-use Rattle.pair_moves.specs.Ends.{LinkEnd, Line}
 use Rattle.pair_moves.specs.Ends as ends
-use Rattle.pair_moves.specs.Failing.{Suspends, with_failure}
 use Rattle.pair_moves.specs.Moves as moves
 use Rattle.pair_rules.proofs.World.{World, says_of, shown, route_of, holds_of, procedure_of, line_of, end_of}
 use Rattle.pair_rules.proofs.Good.{Each, IsBetween, IsSilent, IsJoined, IsWord, IsWritable, Good, Passes, passes-none, passes-both, at, previous-fits}

@@ -1,38 +1,15 @@
 -- The first world: two nodes as they are booted, and nothing between them.
-use Rattle.std.proofs.Common.{◌≡◌, ◌<◌, ◌≤◌, ℕ, Bool, true, false, not, ◌&&◌, zero, suc, List, [], ◌∷◌, Option, Some, None, length, map, get_or, nat_eq, nat_lt, refl, ap, ◌∙◌, arith}
-use Rattle.std.specs.Prelude.{if◌then◌else◌, find, replicate, slice_index_or, All}
-use Rattle.std.specs.Option.{option_and_then, option_map}
-use Rattle.std.specs.List.{IsDistinct, list_any}
+use Rattle.pair_rules.proofs.Basics.{◌≡◌, ◌<◌, ◌≤◌, ℕ, Bool, true, false, not, ◌&&◌, zero, suc, List, [], ◌∷◌, Option, Some, None, length, map, get_or, nat_eq, nat_lt, refl, ap, ◌∙◌, arith, if◌then◌else◌, find, replicate, slice_index_or, All, option_and_then, option_map, IsDistinct, list_any, nat_tests, and_right as both-false}
+use Rattle.pair_rules.proofs.Definitions.{Flow, CHANGEBACK_CODES, SELECTIONS, Configuration, DestinationEntry, IsFacing, LeadsOnlyTo, destination_place, IsWell, IsDestination, Facts, first_route, first_routes, routes_to, with_second_joined, Choice, choice_among, taken_by, sets_of, members, link_by, chosen_link, adjacent_place, Link, down_link, is_down, serving_none, by_numbers, holds, no_codes, is_outstanding, Standing, no_changeover, Queue, IsQueue, first_queue, Parts, facts, link_of, each-replicate, Fits, LinkEnd, closed_end, first_side}
 use Rattle.std.specs.FinSet.{contains-empty}
-use Rattle.signalling_types.specs.declared.point.Flow.{Flow}
-use Rattle.signalling_types.specs.declared.limits.TheConstants.Limits.{CHANGEBACK_CODES, SELECTIONS}
-use Rattle.std.proofs.lemmas.Bool.Decides.{nat_tests}
-use Rattle.settings_rows.specs.Configuration.{Configuration, DestinationEntry}
-use Rattle.settings.specs.Facing.{IsFacing, LeadsOnlyTo}
-use Rattle.settings.specs.Readings.{destination_place}
-use Rattle.settings.specs.Well.{IsWell, IsDestination}
 use Rattle.routes.specs.declared.link_group.Member.{Member}
 use Rattle.routes.specs.Preference.{preference, is_in_service, serves}
-use Rattle.routes.specs.Facts.{Facts, first_route, first_routes, routes_to, with_second_joined}
-use Rattle.routes.specs.Chosen.{Choice, choice_among, taken_by, sets_of, members, link_by, chosen_link}
-use Rattle.route_management.specs.Told.{adjacent_place}
-use Rattle.node_links.specs.Link.{Link}
-use Rattle.node_links.specs.LinkState.{down_link, is_down}
 use Rattle.node_links.specs.LinkState as state
-use Rattle.node_links.proofs.Serving.{serving_none}
-use Rattle.flow_hold.specs.Holds.{by_numbers, holds}
-use Rattle.changeback.specs.Codes.{no_codes, is_outstanding}
-use Rattle.changeover.specs.Standing.{Standing, no_changeover}
-use Rattle.link.specs.Queue.{Queue, IsQueue, first_queue}
 use Rattle.link.proofs.Sound.{sound-first}
-use Rattle.exchange_rules.specs.State.{Parts}
 use Rattle.exchange_rules.specs.First.{first_state, first_parts}
-use Rattle.exchange_rules.specs.Routing.{facts, link_of}
-use Rattle.exchange_rules.proofs.Lists.{each-replicate}
 use Rattle.exchange_rules.proofs.LastingPlaces.{places-first}
-use Rattle.exchange_rules.proofs.Fitting.{Fits}
 use Rattle.exchange_rules.proofs.FacingNodes.{sets-one, destinations-one, adjacent-sole, destination-found}
-use Rattle.pair_moves.specs.Ends.{LinkEnd, Procedure, closed_end, first_side, first_pair}
+use Rattle.pair_moves.specs.Ends.{Procedure, first_pair}
 use Rattle.pair_rules.proofs.Alone.{IsAlone, only_routes}
 use Rattle.pair_rules.proofs.World.{Flying, Mid, World, is_heard, end_of, side_by, shown, holds_of, route_of, procedure_of}
 use Rattle.pair_rules.proofs.Good.{Each, IsBetween, IsSilent, Good}
@@ -131,10 +108,6 @@ none-found {X = X} p (x ∷ xs) h = ap (λ (b : Bool). if b then Some x else fin
 none-then : {X Y : Type 0} (f : X → Option Y) (o : Option X) → ((x : X) → f x ≡ None) → option_and_then f o ≡ None
 none-then f None h = refl
 none-then f (Some x) h = h x
-
-both-false : (a b : Bool) → b ≡ false → (a && b) ≡ false
-both-false true b e = e
-both-false false b e = refl
 
 either-none : {X : Type 0} (b : Bool) (o : Option X) → o ≡ None → (if b then o else None) ≡ None
 either-none true o e = e

@@ -1,15 +1,7 @@
 -- The frames in flight on a link, by their texts.
-use Rattle.std.proofs.Common.{◌≡◌, ◌≢◌, ◌<◌, ◌≤◌, ℕ, Bool, true, false, List, [], ◌∷◌, ◌++◌, length, map, Some, None, Ok, refl, ap, sym, subst, ◌∙◌, nat_eq, arith}
-use Rattle.std.specs.Prelude.{if◌then◌else◌, drop, slice_get, slice_set}
-use Rattle.std.proofs.Math.Logic.{⊎_elim}
-use Rattle.std.proofs.lemmas.Bool.{cases_eq, cases_lt}
-use Rattle.std.proofs.lemmas.Bool.Decides.{nat_tests}
-use Rattle.std.proofs.lemmas.List.{get_or_past, get_or-set_other, get_or-set_same, length-set}
-use Rattle.settings_rows.specs.Configuration.{Configuration}
-use Rattle.m2pa_codec.specs.Frames.{FrameValue, EmptyFrame, MessageFrame, StatusFrame, spelled}
-use Rattle.m2pa_codec.specs.Reading.{read_frame}
+use Rattle.pair_rules.proofs.Basics.{◌≡◌, ◌≢◌, ◌<◌, ◌≤◌, ℕ, Bool, true, false, List, [], ◌∷◌, ◌++◌, length, map, Some, None, Ok, refl, ap, sym, subst, ◌∙◌, nat_eq, arith, if◌then◌else◌, drop, slice_get, slice_set, ⊎_elim, cases_eq, cases_lt, nat_tests, get_or_past, get_or-set_other, get_or-set_same, length-set}
+use Rattle.pair_rules.proofs.Definitions.{Configuration, FrameValue, EmptyFrame, MessageFrame, StatusFrame, spelled, read_frame, in_flight}
 use Rattle.m2pa_codec.proofs.FrameTexts.{read_frame-spelled}
-use Rattle.pair_rules.specs.Pairs.{in_flight}
 use Rattle.pair_rules.proofs.Good.{IsFlying, IsTelling}
 use Rattle.pair_rules.proofs.Good as good
 use Rattle.pair_rules.proofs.Standing.{AreTexts}

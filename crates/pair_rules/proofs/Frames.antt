@@ -1,42 +1,12 @@
 -- A frame comes: by moves.
-use Rattle.std.proofs.Common.{append-nil, suc}
-use Rattle.pair_rules.specs.Pairs.{for_users, is_sccp}
+use Rattle.pair_rules.proofs.Basics.{append-nil, suc, ⊎_elim, cases_eq, ◌≡◌, ◌≢◌, ◌<◌, ℕ, Bool, true, false, not, ◌&&◌, List, [], ◌∷◌, ◌++◌, length, Option, Some, Result, Ok, Err, refl, ap, sym, subst, ◌∙◌, nat_eq, arith, if◌then◌else◌, is_some, nat_tests}
+use Rattle.pair_rules.proofs.Definitions.{for_users, is_sccp, do_test, Message, is_management, opc_of, service_indicator, Local, Configuration, FrameValue, read_management, Management, MgmtFault, Queue, accept_answer, after_answer, first_queue, SeqFault, Discrimination, Node, Done, answer, refuse, down, in_service, WholeQueues, queue_at, whole, Carrying, carries, numbers, distribute, do_management, do_order, do_acknowledgement, is_adjacent, is_user, local, manage, on_management, sccp, testing, deliver, deliver_to, whither_goes, on_unitdata, on_changeback_acknowledgement, entry_of, Fits, fit-steps, each-set, confirming, UserMessage, Order, Answer, LinkEnd, Line, Pair, Frame, BecomeAt}
 use Rattle.pair_rules.proofs.Good.{AreFlying, IsFlying, IsTelling}
 use Rattle.link.specs.Queue as queue
-use Rattle.std.proofs.Math.Logic.{⊎_elim}
-use Rattle.std.proofs.lemmas.Bool.{cases_eq}
-use Rattle.exchange_rules.specs.Local.{do_test}
 use Rattle.mtp3_codec.specs.LinkTests.{read_link_test}
-use Rattle.std.proofs.Common.{◌≡◌, ◌≢◌, ◌<◌, ℕ, Bool, true, false, not, ◌&&◌, List, [], ◌∷◌, ◌++◌, length, Option, Some, Result, Ok, Err, refl, ap, sym, subst, ◌∙◌, nat_eq, arith}
-use Rattle.std.specs.Prelude.{if◌then◌else◌, is_some, map}
-use Rattle.std.proofs.lemmas.Bool.Decides.{nat_tests}
-use Rattle.signalling_types.specs.Message.{Message, is_management, opc_of, service_indicator}
-use Rattle.signalling_types.specs.declared.outcome.Outcome.TheVariants.{Local}
+use Rattle.std.specs.Prelude.{map}
 use Rattle.signalling_types.specs.declared.cause.Cause.TheVariants as causes
-use Rattle.settings_rows.specs.Configuration.{Configuration}
-use Rattle.m2pa_codec.specs.Frames.{FrameValue}
-use Rattle.mtp3_codec.specs.Management.{read_management}
-use Rattle.mtp3_codec.specs.declared.management.Management.{Management}
-use Rattle.mtp3_codec.specs.declared.fault.MgmtFault.{MgmtFault}
-use Rattle.link.specs.Queue.{Queue, accept_answer, after_answer, first_queue}
-use Rattle.link.specs.declared.fault.SeqFault.{SeqFault}
-use Rattle.mtp3_codec.specs.declared.discrimination.Discrimination.{Discrimination}
-use Rattle.exchange_rules.specs.State.{Node, Done, answer, refuse}
-use Rattle.exchange_rules.specs.Links.{down, in_service}
-use Rattle.exchange_rules.specs.Queues.{WholeQueues, queue_at, whole}
-use Rattle.exchange_rules.specs.Frames.{Carrying, carries, numbers}
-use Rattle.exchange_rules.specs.Local.{distribute, do_management, do_order, do_acknowledgement, is_adjacent, is_user, local, manage, on_management, sccp, testing}
-use Rattle.exchange_rules.specs.Messages.{deliver, deliver_to, whither_goes}
-use Rattle.exchange_rules.specs.Relaying.{on_unitdata}
-use Rattle.exchange_rules.specs.ChangingBack.{on_changeback_acknowledgement}
-use Rattle.exchange_rules.specs.Points.{entry_of}
-use Rattle.exchange_rules.proofs.Fitting.{Fits, fit-steps}
-use Rattle.exchange_rules.proofs.Lists.{each-set}
-use Rattle.exchange_rules.proofs.Steps.{confirming}
-use Rattle.pair_moves.specs.Sayings.{UserMessage, Order, Answer}
-use Rattle.pair_moves.specs.Ends.{LinkEnd, Line, Pair, Frame}
 use Rattle.pair_moves.specs.Ends as ends
-use Rattle.pair_moves.specs.Passing.{BecomeAt}
 use Rattle.pair_moves.specs.Carrying.{with_accepted, with_statuses_left}
 use Rattle.pair_moves.specs.Moves as moves
 use Rattle.pair_rules.proofs.World.{World, says_of, read_says, management_says, said_by, unsaid, shown, line_of, end_of, frame_of}

@@ -1,8 +1,6 @@
 -- Lists of moves, one behind another.
-use Rattle.std.proofs.Common.{◌≡◌, true, List, [], ◌∷◌, ◌++◌, refl, ◌∙◌, ap, subst, sym}
-use Rattle.signalling_types.specs.Message.{Message}
-use Rattle.pair_moves.specs.Sayings.{Saying}
-use Rattle.pair_moves.specs.Ends.{Pair}
+use Rattle.pair_rules.proofs.Basics.{◌≡◌, true, List, [], ◌∷◌, ◌++◌, refl, ◌∙◌, ap, subst, sym}
+use Rattle.pair_rules.proofs.Definitions.{Message, Saying, Pair}
 use Rattle.pair_moves.specs.Moves.{NearMove, Move, Moves, Loses, last_of}
 use Rattle.pair_moves.specs.Moves as moves
 

@@ -1,29 +1,8 @@
 -- What holds of a node at work, and of what is in flight to it; and that a rule goes by moves and keeps that.
-use Rattle.std.proofs.Common.{zero, suc, subst, refl, ◌≡◌, ◌<◌, ◌^◌, ℕ, Bool, true, false, List, [], ◌∷◌, ◌++◌, length, Some, Ok, arith}
-use Rattle.std.specs.Prelude.{slice_get}
-use Rattle.signalling_types.specs.Message.{Message, is_management, service_indicator, dpc_of, opc_of}
-use Rattle.settings_rows.specs.Configuration.{Configuration}
-use Rattle.settings.specs.Readings.{destination_place, set_place}
-use Rattle.mtp3_codec.specs.declared.label.Label.{Label}
+use Rattle.pair_rules.proofs.Basics.{zero, suc, subst, refl, ◌≡◌, ◌<◌, ◌^◌, ℕ, Bool, true, false, List, [], ◌∷◌, ◌++◌, length, Some, Ok, arith, slice_get}
+use Rattle.pair_rules.proofs.Definitions.{Message, is_management, service_indicator, dpc_of, opc_of, Configuration, destination_place, set_place, Label, FrameValue, EmptyFrame, MessageFrame, StatusFrame, IsSayable, LinkStatus, read_management, Management, ExtendedChangeoverOrder, ExtendedChangeoverAcknowledgement, ChangebackDeclaration, ChangebackAcknowledgement, Node, Link, is_down, down, link_at, WholeQueues, queue_at, changeover_of, entry_of, set_of, peer_of, management_to, link_with_code, whither_goes, Fits, is_sccp}
 use Rattle.mtp3_codec.specs.declared.discrimination.Discrimination.TheVariants as whither
-use Rattle.m2pa_codec.specs.Frames.{FrameValue, EmptyFrame, MessageFrame, StatusFrame, IsSayable}
-use Rattle.m2pa_codec.specs.declared.status.LinkStatus.{LinkStatus}
-use Rattle.mtp3_codec.specs.Management.{read_management}
-use Rattle.mtp3_codec.specs.declared.management.Management.{Management}
-use Rattle.mtp3_codec.specs.declared.management.Management.TheVariants.{ExtendedChangeoverOrder, ExtendedChangeoverAcknowledgement, ChangebackDeclaration, ChangebackAcknowledgement}
 use Rattle.signalling_types.specs.Numbers.{previous_number}
-use Rattle.exchange_rules.specs.State.{Node}
-use Rattle.node_links.specs.Link.{Link}
-use Rattle.node_links.specs.LinkState.{is_down}
-use Rattle.exchange_rules.specs.Links.{down, link_at}
-use Rattle.exchange_rules.specs.Queues.{WholeQueues, queue_at}
-use Rattle.exchange_rules.specs.Failing.{changeover_of}
-use Rattle.exchange_rules.specs.Points.{entry_of, set_of, peer_of}
-use Rattle.exchange_rules.specs.Made.{management_to}
-use Rattle.exchange_rules.specs.Local.{link_with_code}
-use Rattle.exchange_rules.specs.Messages.{whither_goes}
-use Rattle.exchange_rules.proofs.Fitting.{Fits}
-use Rattle.pair_rules.specs.Pairs.{is_sccp}
 use Rattle.pair_rules.proofs.Alone.{IsAlone}
 use Rattle.pair_rules.proofs.Going.{Goes, goes-none, goes-both}
 use Rattle.pair_rules.proofs.World.{Flying, World, says_of, management_says, link_of_code, shown}

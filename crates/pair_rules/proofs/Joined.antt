@@ -1,22 +1,14 @@
 -- Two nodes that face each other are joined: what the pass over the rules asks of their settings.
-use Rattle.std.proofs.Common.{◌≡◌, if◌then◌else◌, ◌<◌, ◌^◌, ℕ, Bool, true, false, ◌&&◌, suc, List, [], ◌∷◌, Option, Some, length, map, get_or, nat_eq, position, refl, ap, sym, ◌∙◌, arith}
-use Rattle.std.proofs.lemmas.Bool.Decides.{nat_tests}
-use Rattle.settings_rows.specs.Configuration.{Configuration, LinkEntry}
-use Rattle.settings.specs.Facing.{IsFacing}
-use Rattle.settings.specs.Readings.{destination_place}
-use Rattle.settings.specs.Well.{IsWell}
+use Rattle.pair_rules.proofs.Basics.{◌≡◌, ◌<◌, ◌^◌, ℕ, Bool, true, false, ◌&&◌, suc, List, [], ◌∷◌, Option, Some, length, map, get_or, nat_eq, position, refl, ap, sym, ◌∙◌, arith, nat_tests}
+use Rattle.pair_rules.proofs.Definitions.{Configuration, LinkEntry, IsFacing, destination_place, IsWell, IsManagement, read_management, Management, entry_of, set_of, management_to, made-indicator, made-dpc, made-opc, made-says, code-fits, UserMessage}
+use Rattle.std.proofs.Common.{if◌then◌else◌}
 use Rattle.settings.proofs.Places.{position-map}
-use Rattle.mtp3_codec.specs.Management.{IsManagement, read_management}
-use Rattle.mtp3_codec.specs.declared.management.Management.{Management}
 use Rattle.mtp3_codec.specs.declared.management.Management.TheVariants as says
 use Rattle.mtp3_codec.proofs.Reading.{label_of}
-use Rattle.exchange_rules.specs.Points.{entry_of, set_of}
-use Rattle.exchange_rules.specs.Made.{management_to}
 use Rattle.exchange_rules.proofs.FacingNodes.{facing-turned, sets-one, destinations-one, destination-found, set-sole, peer-sole, set-found, links-alike, codes-alike, code-means}
 use Rattle.exchange_rules.proofs.NamedLinks.{code-named}
-use Rattle.exchange_rules.proofs.MadeManagement.{made-indicator, made-management, made-dpc, made-opc, made-says, code-fits}
+use Rattle.exchange_rules.proofs.MadeManagement.{made-management}
 use Rattle.exchange_rules.proofs.HeardManagement.{made-here}
-use Rattle.pair_moves.specs.Sayings.{UserMessage}
 use Rattle.pair_rules.proofs.World.{link_of_code, management_says, read_says, says_of}
 use Rattle.pair_rules.proofs.Good.{IsBetween, IsJoined, IsWord, IsWritable}
 use Rattle.pair_rules.proofs.Good as good

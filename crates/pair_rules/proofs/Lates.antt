@@ -1,32 +1,10 @@
 -- A declaration is confirmed, the confirmation of one ends its hold, and timers end holds: each rule goes by moves.
-use Rattle.std.proofs.Common.{◌≡◌, ◌≢◌, ◌<◌, ◌≤◌, ◌&&◌, ℕ, Bool, true, false, List, [], ◌∷◌, Some, length, refl, ap, sym, ◌∙◌, nat_eq, arith}
-use Rattle.std.specs.Prelude.{if◌then◌else◌, slice_index_or, slice_set}
-use Rattle.std.proofs.Math.Logic.{⊎_elim}
-use Rattle.std.proofs.Math.Path.{fun_ext}
-use Rattle.std.proofs.lemmas.Bool.{cases_lt}
-use Rattle.std.proofs.lemmas.List.{get_or_past, get_or-set_other, get_or-set_same, length-set}
-use Rattle.signalling_types.specs.Message.{Message}
-use Rattle.signalling_types.specs.declared.point.Flow.{Flow}
-use Rattle.signalling_types.specs.declared.outcome.Outcome.TheVariants.{Handled, Ignored}
-use Rattle.settings_rows.specs.Configuration.{Configuration}
-use Rattle.mtp3_codec.specs.declared.management.Management.TheVariants.{ChangebackAcknowledgement}
+use Rattle.pair_rules.proofs.Basics.{◌≡◌, ◌≢◌, ◌<◌, ◌≤◌, ◌&&◌, ℕ, Bool, true, false, List, [], ◌∷◌, Some, length, refl, ap, sym, ◌∙◌, nat_eq, arith, if◌then◌else◌, slice_index_or, slice_set, ⊎_elim, fun_ext, cases_lt, get_or_past, get_or-set_other, get_or-set_same, length-set}
+use Rattle.pair_rules.proofs.Definitions.{Message, Flow, Handled, Ignored, Configuration, ChangebackAcknowledgement, HoldSet, Procedure, leaves_others, Codes, codes_of, is_outstanding, with_code, Node, Noted, answer, with_parts, flagged_late, WholeQueues, whole, changeback_acknowledgement, freed, late_code, late_time, on_changeback_acknowledgement, on_changeback_declaration, rerouting_ended, made-management, StaysFit, fit-steps, run_timer-steps, Declaration, Confirmation}
 use Rattle.timers.specs.declared.name.TimerName.TheVariants as name
 use Rattle.flow_hold.specs.Holds as hold
-use Rattle.flow_hold.specs.Holds.{HoldSet}
-use Rattle.flow_hold.specs.declared.procedure.Procedure.{Procedure}
 use Rattle.flow_hold.specs.declared.procedure.Procedure.TheVariants as held_by
-use Rattle.flow_hold.proofs.Pairing.{leaves_others}
-use Rattle.changeback.specs.Codes.{Codes, codes_of, is_outstanding, with_code}
-use Rattle.exchange_rules.specs.State.{Node, Noted, answer, with_parts}
-use Rattle.exchange_rules.specs.Noting.{flagged_late}
-use Rattle.exchange_rules.specs.Queues.{WholeQueues, whole}
-use Rattle.exchange_rules.specs.ChangingBack.{changeback_acknowledgement, freed, late_code, late_time, on_changeback_acknowledgement, on_changeback_declaration}
-use Rattle.exchange_rules.specs.Rerouting.{rerouting_ended}
-use Rattle.exchange_rules.proofs.OwnManagement.{made-management}
-use Rattle.exchange_rules.proofs.Fitting.{StaysFit, fit-steps}
-use Rattle.exchange_rules.proofs.SteppingEvents.{run_timer-steps}
 use Rattle.exchange_rules.proofs.SteppingLocal.{freed-steps}
-use Rattle.pair_moves.specs.Sayings.{Declaration, Confirmation}
 use Rattle.pair_moves.specs.Ends as ends
 use Rattle.pair_moves.specs.Moves as moves
 use Rattle.pair_rules.proofs.World.{World, says_of, shown, holds_of, procedure_of}

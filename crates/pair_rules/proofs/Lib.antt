@@ -1,3 +1,5 @@
+pub mod Definitions
+pub mod Basics
 pub mod World
 pub mod Going
 pub mod Alone

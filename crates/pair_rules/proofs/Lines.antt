@@ -1,24 +1,8 @@
 -- Of the lines between two nodes, the near end of one changes.
-use Rattle.std.proofs.Common.{◌≡◌, ◌≢◌, ◌<◌, ◌≤◌, ℕ, true, false, not, List, [], ◌∷◌, length, ap, sym, subst, ◌∙◌}
-use Rattle.std.specs.Prelude.{slice_set, slice_index_or, Option}
-use Rattle.std.proofs.Math.Logic.{⊎_elim}
-use Rattle.std.proofs.lemmas.Bool.{cases_lt}
-use Rattle.std.proofs.lemmas.List.{get_or_past, get_or-set_other, get_or-set_same}
-use Rattle.signalling_types.specs.Message.{Message}
-use Rattle.signalling_types.specs.declared.point.Flow.{Flow}
-use Rattle.settings_rows.specs.Configuration.{Configuration}
-use Rattle.node_links.specs.LinkState.{down_link, is_down, is_in_service}
-use Rattle.node_links.specs.Link.{Link}
-use Rattle.changeover.specs.Standing.{Standing, no_changeover}
-use Rattle.link.specs.Queue.{Queue, first_queue}
-use Rattle.exchange_rules.specs.State.{Node, Parts}
-use Rattle.exchange_rules.specs.Links.{down, in_service, link_at}
-use Rattle.exchange_rules.specs.Queues.{WholeQueues, queue_at, with_queue}
-use Rattle.exchange_rules.specs.Failing.{changeover_of}
-use Rattle.exchange_rules.proofs.Fitting.{Fits}
+use Rattle.pair_rules.proofs.Basics.{◌≡◌, ◌≢◌, ◌<◌, ◌≤◌, ℕ, true, false, not, List, [], ◌∷◌, length, ap, sym, subst, ◌∙◌, slice_set, slice_index_or, ⊎_elim, cases_lt, get_or_past, get_or-set_other, get_or-set_same}
+use Rattle.pair_rules.proofs.Definitions.{Message, Flow, Configuration, down_link, is_down, is_in_service, Link, Standing, no_changeover, Queue, first_queue, Node, Parts, down, in_service, link_at, WholeQueues, queue_at, with_queue, changeover_of, Fits, LinkEnd, BecomeAt}
+use Rattle.std.specs.Prelude.{Option}
 use Rattle.exchange_rules.proofs.Moves.{serving-there}
-use Rattle.pair_moves.specs.Ends.{LinkEnd}
-use Rattle.pair_moves.specs.Passing.{BecomeAt}
 use Rattle.pair_rules.proofs.World.{World, is_heard, end_of, line_of, shown_by}
 use Rattle.pair_rules.proofs.Good.{at}
 

@@ -1,18 +1,7 @@
 -- What the changeover orders and answers that a node makes say to the node that it faces.
-use Rattle.std.proofs.Common.{◌≡◌, ◌<◌, ◌^◌, ℕ, Bool, Some, None, length, ap, ◌∙◌}
-use Rattle.std.specs.Prelude.{if◌then◌else◌}
-use Rattle.std.specs.Option.{option_map}
-use Rattle.signalling_types.specs.Message.{Message, opc_of}
-use Rattle.settings_rows.specs.Configuration.{Configuration}
-use Rattle.mtp3_codec.specs.Management.{IsManagement, read_management}
-use Rattle.mtp3_codec.specs.declared.management.Management.{Management}
-use Rattle.mtp3_codec.specs.declared.management.Management.TheVariants.{ExtendedChangeoverOrder, ExtendedChangeoverAcknowledgement}
-use Rattle.exchange_rules.specs.Points.{entry_of}
-use Rattle.exchange_rules.specs.Made.{management_to}
-use Rattle.exchange_rules.specs.Local.{link_with_code}
-use Rattle.exchange_rules.proofs.MadeManagement.{made-management, made-opc, made-says}
-use Rattle.pair_rules.specs.Promises.{AreJoined}
-use Rattle.pair_rules.specs.Laws.{SayTheirWord, about, word_in, word_of, word_read, words_are_read}
+use Rattle.pair_rules.proofs.Basics.{◌≡◌, ◌<◌, ◌^◌, ℕ, Bool, Some, None, length, ap, ◌∙◌, if◌then◌else◌, option_map}
+use Rattle.pair_rules.proofs.Definitions.{Message, opc_of, Configuration, IsManagement, read_management, Management, ExtendedChangeoverOrder, ExtendedChangeoverAcknowledgement, entry_of, management_to, link_with_code, made-opc, made-says, AreJoined, SayTheirWord, about, word_in, word_of, word_read, words_are_read}
+use Rattle.exchange_rules.proofs.MadeManagement.{made-management}
 use Rattle.pair_rules.proofs.Good.{IsJoined}
 use Rattle.pair_rules.proofs.Joined.{joined}
 use Rattle.pair_rules.proofs.Promised.{joined-turned}

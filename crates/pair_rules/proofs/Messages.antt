@@ -1,43 +1,12 @@
 -- Messages that a node accepts, makes, holds and lets go on: each rule goes by moves.
-use Rattle.std.proofs.Common.{◌≡◌, ◌<◌, ◌%◌, ◌^◌, ◌/◌, ◌&&◌, ℕ, Bool, true, false, not, List, [], ◌∷◌, ◌++◌, length, Option, Some, None, Result, Ok, Err, refl, ap, sym, subst, ◌∙◌, nat_eq, nat_lt, arith}
-use Rattle.std.specs.Prelude.{filter, if◌then◌else◌}
-use Rattle.std.proofs.lemmas.Bool.Decides.{nat_tests}
-use Rattle.signalling_types.specs.Message.{Message, flow_of, is_management, dpc_of, label_number}
-use Rattle.signalling_types.specs.declared.point.Flow.{Flow}
-use Rattle.signalling_types.specs.declared.cause.Cause.{Cause}
-use Rattle.settings_rows.specs.Configuration.{Configuration, LinkEntry}
-use Rattle.settings.specs.Readings.{destination_place}
-use Rattle.mtp3_codec.specs.declared.management.Management.{Management}
-use Rattle.mtp3_codec.specs.declared.fault.MgmtFault.{MgmtFault}
+use Rattle.pair_rules.proofs.Basics.{◌≡◌, ◌<◌, ◌%◌, ◌^◌, ◌/◌, ◌&&◌, ℕ, Bool, true, false, not, List, [], ◌∷◌, ◌++◌, length, Option, Some, None, Result, Ok, Err, refl, ap, sym, subst, ◌∙◌, nat_eq, nat_lt, arith, filter, if◌then◌else◌, nat_tests, and_right as free-false}
+use Rattle.pair_rules.proofs.Definitions.{Message, flow_of, is_management, dpc_of, label_number, Flow, Cause, Configuration, LinkEntry, destination_place, Management, MgmtFault, read_management, HoldSet, is_held, Procedure, held_by, Queue, appended, first_queue, Node, Parts, lost_any, in_service, WholeQueues, queue_at, whole, queue_on, no_room, is_held_at, is_flow_held, waits, all_wait, link_of, send, send_anew, send_routed, go, go_by, go_each, go_on, release, StaysFit, fit-steps, each-set, go_by-steps, ToldTable, Standing, standing_at, Link, link_in, is_down, Saying, UserMessage, Order, Answer, is_user_message, is_of_flow, is_same_flow, MayGo}
 use Rattle.mtp3_codec.specs.declared.management.Management.TheVariants as says
-use Rattle.mtp3_codec.specs.Management.{read_management}
 use Rattle.flow_hold.specs.Holds as hold
-use Rattle.flow_hold.specs.Holds.{HoldSet, is_held}
-use Rattle.flow_hold.specs.declared.procedure.Procedure.{Procedure}
-use Rattle.flow_hold.proofs.Pairing.{held_by}
-use Rattle.link.specs.Queue.{Queue, appended, first_queue}
-use Rattle.exchange_rules.specs.State.{Node, Parts, lost_any}
-use Rattle.exchange_rules.specs.Links.{in_service}
-use Rattle.exchange_rules.specs.Queues.{WholeQueues, queue_at, whole}
-use Rattle.exchange_rules.specs.Queueing.{queue_on, no_room}
-use Rattle.exchange_rules.specs.Holding.{is_held_at, is_flow_held, waits, all_wait}
 use Rattle.exchange_rules.specs.Holding as holding
-use Rattle.exchange_rules.specs.Routing.{link_of}
-use Rattle.exchange_rules.specs.Made.{send, send_anew, send_routed}
-use Rattle.exchange_rules.specs.Releasing.{go, go_by, go_each, go_on, release}
-use Rattle.exchange_rules.proofs.Fitting.{StaysFit, fit-steps}
 use Rattle.exchange_rules.proofs.LeavingMessages.{chosen_serves}
-use Rattle.exchange_rules.proofs.Lists.{each-set}
 use Rattle.exchange_rules.proofs.Settling.{Waits, go-waits, left-true, right-true}
-use Rattle.exchange_rules.proofs.SteppingEvents.{go_by-steps}
 use Rattle.exchange_rules.proofs.SteppingMessages.{by_link-steps}
-use Rattle.route_management.specs.Told.{ToldTable}
-use Rattle.changeover.specs.Standing.{Standing, standing_at}
-use Rattle.node_links.specs.Link.{Link}
-use Rattle.node_links.specs.Network.{link_in}
-use Rattle.node_links.specs.LinkState.{is_down}
-use Rattle.pair_moves.specs.Sayings.{Saying, UserMessage, Order, Answer, is_user_message, is_of_flow, is_same_flow}
-use Rattle.pair_moves.specs.Passing.{MayGo}
 use Rattle.pair_moves.specs.Moves as moves
 use Rattle.pair_rules.proofs.World.{World, says_of, read_says, management_says, said_by, unsaid, link_of_code, shown, route_of, line_of, end_of}
 use Rattle.pair_rules.proofs.Good.{IsSilent, Each, each-behind, IsBetween, IsJoined, Good, Passes, passes-none, passes-both, at}
@@ -87,10 +56,6 @@ small-selection n = grind (arith, nat_tests)
 
 pub flow-routed : (c : Configuration) (p : Parts) (m : Message) → route_of c p (flow_of m) ≡ link_of c p (flow_of m)
 flow-routed c p m = ap (λ (b : Bool). if b then link_of c p (flow_of m) else None) (small-selection (label_number m.sif))
-
-free-false : (a b : Bool) → b ≡ false → (a && b) ≡ false
-free-false true b e = e
-free-false false b e = refl
 
 not-true : (b : Bool) → (b ≡ true → false ≡ true) → b ≡ false
 not-true true f = sym (f refl)

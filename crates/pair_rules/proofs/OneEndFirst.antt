@@ -1,39 +1,16 @@
 -- The run of two exchanges, by computation: but for whether its message waits, which is looked at twice.
-use Rattle.std.proofs.Common.{◌≡◌, ◌≢◌, ℕ, Bool, true, false, not, ◌&&◌, ◌||◌, List, [], ◌∷◌, ◌++◌, refl, sym, ap, ◌∙◌, subst, arith, None, Some}
-use Rattle.std.specs.Prelude.{slice_get, slice_index_or, option_to_list, Option}
-use Rattle.std.proofs.lemmas.Bool.{true≢false}
-use Rattle.signalling_types.specs.Message.{Message, flow_of}
-use Rattle.settings_rows.specs.Configuration.{Configuration}
+use Rattle.pair_rules.proofs.Basics.{◌≡◌, ◌≢◌, ℕ, Bool, true, false, not, ◌&&◌, ◌||◌, List, [], ◌∷◌, ◌++◌, refl, sym, ap, ◌∙◌, subst, arith, None, Some, slice_get, slice_index_or, option_to_list, true≢false, and_left as and-first}
+use Rattle.pair_rules.proofs.Definitions.{Message, flow_of, Configuration, set_timer, start_unless_running, clear_timer, clear_set, due_name, after_due, due_count, first_sets, choice_among, link_by, Procedure, any_flow, flows, with_flows, HoldSet, holds, is_held, is_same, lifted, may_hold, no_holds, flows_add, flows_leave, contains-lifted, held_by, none_at_first, Done, Node, lost_any, late_any, WholeQueues, whole, no_room, waits, link_of, go_by, go_each, FrameCame, new_message, apply, handle_event, settled, take_back_each, PairState, AtNear, Delivers, Loses, OpensFirst, Submits, accepted_by, after_steps, deliver_frame, for_users, in_flight, may_follow, without_data, is_down_at, waiting_on}
+use Rattle.std.specs.Prelude.{Option}
 use Rattle.timers.specs.Names.{names_of}
-use Rattle.timers.specs.Timers.{set_timer, start_unless_running, clear_timer, clear_set, due_name, after_due, due_count}
 use Rattle.routes.specs.Members.{links_below}
-use Rattle.routes.specs.Facts.{first_sets}
-use Rattle.routes.specs.Chosen.{choice_among, link_by}
 use Rattle.route_management.specs.Owed.{owes_nothing}
 use Rattle.m2pa_codec.specs.Statuses.{status_of}
 use Rattle.changeback.specs.Return.{changes_of, changes}
-use Rattle.flow_hold.specs.declared.procedure.Procedure.{Procedure}
 use Rattle.flow_hold.specs.declared.procedure.Procedure.TheVariants.{Changeover, Code}
-use Rattle.flow_hold.specs.Flows.{any_flow, flows, with_flows}
-use Rattle.flow_hold.specs.Holds.{HoldSet, holds, is_held, is_same, lifted, may_hold, no_holds}
-use Rattle.flow_hold.proofs.Flows.{flows_add, flows_leave}
 use Rattle.flow_hold.proofs.Numbers.{same, same-itself}
-use Rattle.flow_hold.proofs.Pairing.{contains-lifted, held_by, none_at_first}
-use Rattle.exchange_rules.specs.State.{Done, Node, lost_any, late_any}
-use Rattle.exchange_rules.specs.Queues.{WholeQueues, whole}
-use Rattle.exchange_rules.specs.Queueing.{no_room}
-use Rattle.exchange_rules.specs.Holding.{waits}
-use Rattle.exchange_rules.specs.Routing.{link_of}
 use Rattle.exchange_rules.specs.Arrival.{offer}
-use Rattle.exchange_rules.specs.Releasing.{go_by, go_each}
-use Rattle.exchange_rules.specs.Happening.{FrameCame}
-use Rattle.exchange_rules.specs.Receiving.{new_message}
-use Rattle.exchange_rules.specs.Exchange.{apply, handle_event, settled}
 use Rattle.exchange_rules.specs.Telling.{tell_owed}
-use Rattle.exchange_rules.specs.ChangingBack.{take_back_each}
-use Rattle.pair_rules.specs.Pairs.{PairState, AtNear, Delivers, Loses, OpensFirst, Submits, accepted_by, after_steps, deliver_frame, for_users, in_flight, may_follow, without_data}
-use Rattle.pair_rules.specs.Laws.{is_down_at}
-use Rattle.pair_rules.specs.Promises.{waiting_on}
 use Rattle.pair_rules.proofs.RunSettings.{joined}
 use Rattle.pair_rules.specs.OneEndFirst.{answering, completed, near_settings, ordering, served, submitted, the_message}
 use Rattle.pair_rules.specs.OneEndFirst as run
@@ -66,10 +43,6 @@ either {A} one other alike unlike = by (is_same one other) refl
 and-false : (b : Bool) → (b && false) ≡ false
 and-false true = refl
 and-false false = refl
-
-and-first : (b c : Bool) → b ≡ false → (b && c) ≡ false
-and-first true c e = absurd (true≢false e)
-and-first false c e = refl
 
 or-second : (a c : Bool) → ((a && false) || c) ≡ c
 or-second true c = refl

@@ -1,33 +1,7 @@
 -- A link opens at one end: by one move.
-use Rattle.std.proofs.Common.{◌≡◌, ◌≢◌, ◌<◌, ◌&&◌, ℕ, Bool, true, false, not, List, [], length, map, Option, refl, ap, sym, subst, ◌∙◌, nat_lt, arith}
-use Rattle.std.specs.Prelude.{if◌then◌else◌}
-use Rattle.std.proofs.Math.Logic.{⊎_elim}
-use Rattle.std.proofs.lemmas.Bool.{and_parts, cases_eq}
-use Rattle.std.proofs.lemmas.Bool.Decides.{nat_tests}
-use Rattle.signalling_types.specs.declared.point.Flow.{Flow}
-use Rattle.signalling_types.specs.declared.outcome.Outcome.TheVariants.{Handled}
-use Rattle.settings_rows.specs.Configuration.{Configuration}
-use Rattle.m2pa_codec.specs.Frames.{FrameValue}
-use Rattle.link.specs.Queue.{Queue, first_queue}
-use Rattle.changeover.specs.Standing.{Standing, may_restart}
-use Rattle.link.specs.declared.alignment.Alignment.{Alignment}
-use Rattle.node_links.specs.Link.{Link}
-use Rattle.node_links.specs.LinkState.{down_link, is_down, is_in_service, opened}
-use Rattle.node_links.proofs.Serving.{serving_alike}
-use Rattle.routes.specs.Facts.{Facts}
-use Rattle.exchange_rules.specs.declared.wants.Wants.TheVariants.{Nothing, Open, Close}
-use Rattle.exchange_rules.specs.State.{Node, Parts, Done, answer}
+use Rattle.pair_rules.proofs.Basics.{◌≡◌, ◌≢◌, ◌<◌, ◌&&◌, ℕ, Bool, true, false, not, List, [], length, map, Option, refl, ap, sym, subst, ◌∙◌, nat_lt, arith, if◌then◌else◌, ⊎_elim, and_parts, cases_eq, nat_tests}
+use Rattle.pair_rules.proofs.Definitions.{Flow, Handled, Configuration, FrameValue, Queue, first_queue, Standing, may_restart, Alignment, Link, down_link, is_down, is_in_service, opened, serving_alike, Facts, Nothing, Open, Close, Node, Parts, Done, answer, down, is_link, link_at, WholeQueues, queue_at, whole, changeover_of, association_up, may_open, open_link, wanted, wanted_down, facts, sets_in, Fits, fit-steps, each-set, LinkEnd, Line, Pair, BecomeAt, MayOpen, opened_end}
 use Rattle.pair_rules.proofs.Deliveries.{serving-up}
-use Rattle.exchange_rules.specs.Links.{down, is_link, link_at}
-use Rattle.exchange_rules.specs.Queues.{WholeQueues, queue_at, whole}
-use Rattle.exchange_rules.specs.Failing.{changeover_of}
-use Rattle.exchange_rules.specs.Opening.{association_up, may_open, open_link, wanted, wanted_down}
-use Rattle.exchange_rules.specs.Routing.{facts, sets_in}
-use Rattle.exchange_rules.proofs.Fitting.{Fits, fit-steps}
-use Rattle.exchange_rules.proofs.Lists.{each-set}
-use Rattle.pair_moves.specs.Ends.{LinkEnd, Line, Pair}
-use Rattle.pair_moves.specs.Passing.{BecomeAt}
-use Rattle.pair_moves.specs.Returning.{MayOpen, opened_end}
 use Rattle.pair_moves.specs.Moves as moves
 use Rattle.pair_rules.proofs.World.{Flying, Mid, World, says_of, shown, shown_by, route_of, line_of, end_of, frame_of}
 use Rattle.pair_rules.proofs.Good.{AreFlying, Each, IsBetween, IsSilent, Good}

@@ -1,42 +1,13 @@
 -- What a frame that is handed in comes to tells what it brought.
-use Rattle.std.proofs.Common.{◌≡◌, ◌≢◌, ◌&&◌, ℕ, Bool, true, false, not, List, [], ◌∷◌, ◌++◌, zero, suc, length, Option, Some, None, Result, Ok, Err, refl, ap, sym, subst, ◌∙◌}
-use Rattle.std.specs.Prelude.{if◌then◌else◌, drop, option_to_list, slice_get}
-use Rattle.signalling_types.specs.Message.{Message, service_indicator}
+use Rattle.pair_rules.proofs.Basics.{◌≡◌, ◌≢◌, ◌&&◌, ℕ, Bool, true, false, not, List, [], ◌∷◌, ◌++◌, zero, suc, length, Option, Some, None, Result, Ok, Err, refl, ap, sym, subst, ◌∙◌, if◌then◌else◌, drop, option_to_list, slice_get}
+use Rattle.pair_rules.proofs.Definitions.{Message, service_indicator, Outcome, Handled, Ignored, Local, Refused, Queued, Held, Configuration, FrameValue, EmptyFrame, MessageFrame, StatusFrame, read_frame, Discrimination, Management, Action, UserData, action_at, SeqFault, is_outstanding, set_place, Node, Done, answer, refuse, FrameCame, down, is_link, link_at, WholeQueues, whole, changeover_of, on_changeover_acknowledgement, on_changeback_acknowledgement, Carrying, accept, act_by_data, carry, data_of, empty_data, handle_by, message_data, numbers, read, receive, receive_frame, distribute, do_order, do_acknowledgement, is_user, link_with_code, local, manage, on_management, sccp, deliver, deliver_to, whither_goes, on_unitdata, is_idle, new_at, new_by, new_in, new_message, new_of, advance, outcome_of, PairState, Streams, Delivers, DeliversStatus, after_steps, deliver_frame, first_pair, for_users, in_flight, is_sccp, turned, without_data, without_status}
 use Rattle.signalling_types.specs.declared.cause.Cause.TheVariants as causes
-use Rattle.signalling_types.specs.declared.outcome.Outcome.{Outcome}
-use Rattle.signalling_types.specs.declared.outcome.Outcome.TheVariants.{Handled, Ignored, Local, Refused, Queued, Held}
-use Rattle.settings_rows.specs.Configuration.{Configuration}
-use Rattle.m2pa_codec.specs.Frames.{FrameValue, EmptyFrame, MessageFrame, StatusFrame}
-use Rattle.m2pa_codec.specs.Reading.{read_frame}
 use Rattle.signalling_types.specs.declared.notice.FrameFault.{FrameFault}
-use Rattle.mtp3_codec.specs.declared.discrimination.Discrimination.{Discrimination}
-use Rattle.mtp3_codec.specs.declared.management.Management.{Management}
-use Rattle.link.specs.declared.action.Action.{Action}
 use Rattle.link.specs.declared.action.Action.TheVariants as act
-use Rattle.link.specs.declared.action.Input.TheVariants.{UserData}
-use Rattle.link.specs.Table.{action_at}
-use Rattle.link.specs.declared.fault.SeqFault.{SeqFault}
-use Rattle.changeback.specs.Codes.{is_outstanding}
-use Rattle.settings.specs.Readings.{set_place}
-use Rattle.exchange_rules.specs.State.{Node, Done, answer, refuse}
-use Rattle.exchange_rules.specs.Happening.{FrameCame}
-use Rattle.exchange_rules.specs.Links.{down, is_link, link_at}
-use Rattle.exchange_rules.specs.Queues.{WholeQueues, whole}
 use Rattle.exchange_rules.specs.Sound.{Abstract}
-use Rattle.exchange_rules.specs.Failing.{changeover_of}
-use Rattle.exchange_rules.specs.ChangingOver.{on_changeover_acknowledgement}
-use Rattle.exchange_rules.specs.ChangingBack.{on_changeback_acknowledgement}
-use Rattle.exchange_rules.specs.Frames.{Carrying, accept, act_by_data, carry, data_of, empty_data, handle_by, message_data, numbers, read, receive, receive_frame}
-use Rattle.exchange_rules.specs.Local.{distribute, do_order, do_acknowledgement, is_user, link_with_code, local, manage, on_management, sccp}
-use Rattle.exchange_rules.specs.Messages.{deliver, deliver_to, whither_goes}
-use Rattle.exchange_rules.specs.Relaying.{on_unitdata}
-use Rattle.exchange_rules.specs.Receiving.{is_idle, new_at, new_by, new_in, new_message, new_of}
-use Rattle.exchange_rules.specs.Statuses.{advance}
-use Rattle.exchange_rules.specs.Exchange.{outcome_of}
 use Rattle.exchange_rules.proofs.Received.{nothing-delivered}
 use Rattle.exchange_rules.specs.Laws.{carried_message}
 use Rattle.exchange_rules.proofs.CarriedMessages.{new-carried}
-use Rattle.pair_rules.specs.Pairs.{PairState, Streams, Delivers, DeliversStatus, after_steps, deliver_frame, first_pair, for_users, in_flight, is_sccp, turned, without_data, without_status}
 use Rattle.pair_rules.specs.Deliveries.{ComesTo, Tells, deliveries_tell}
 use Rattle.pair_rules.proofs.Good.{Each, IsBetween, IsFlying, IsTelling, IsJoined, IsSaid, IsWord}
 use Rattle.pair_rules.proofs.Good as good

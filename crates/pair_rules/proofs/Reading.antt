@@ -1,14 +1,9 @@
 -- Nodes that face each other read each other's messages alike.
-use Rattle.std.proofs.Common.{◌≡◌, if◌then◌else◌, ℕ, List, Option, map, position, nat_eq, Ok, Err, Result, refl, ap, sym, ◌∙◌}
-use Rattle.signalling_types.specs.Message.{Message, is_management}
-use Rattle.settings_rows.specs.Configuration.{Configuration, LinkEntry}
-use Rattle.settings.specs.Facing.{IsFacing}
+use Rattle.pair_rules.proofs.Basics.{◌≡◌, ℕ, List, Option, map, position, nat_eq, Ok, Err, Result, refl, ap, sym, ◌∙◌}
+use Rattle.pair_rules.proofs.Definitions.{Message, is_management, Configuration, LinkEntry, IsFacing, read_management, MgmtFault, Management, Saying, UserMessage, Order, Answer}
+use Rattle.std.proofs.Common.{if◌then◌else◌}
 use Rattle.settings.proofs.Places.{position-map}
-use Rattle.mtp3_codec.specs.Management.{read_management}
-use Rattle.mtp3_codec.specs.declared.fault.MgmtFault.{MgmtFault}
-use Rattle.mtp3_codec.specs.declared.management.Management.{Management}
 use Rattle.mtp3_codec.specs.declared.management.Management.TheVariants as says
-use Rattle.pair_moves.specs.Sayings.{Saying, UserMessage, Order, Answer}
 use Rattle.pair_rules.proofs.World.{link_of_code, said_by, unsaid, management_says, read_says, says_of}
 
 module _ (links others : List LinkEntry) (e : map (λ (l : LinkEntry). l.slc) links ≡ map (λ (l : LinkEntry). l.slc) others) where

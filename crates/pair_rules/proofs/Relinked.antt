@@ -1,32 +1,7 @@
 -- What isn't shown changes: the same pair is shown.
-use Rattle.std.proofs.Common.{◌≡◌, ℕ, Bool, not, List, [], Option, None, ap, sym, ◌∙◌, nat_lt}
-use Rattle.std.specs.Prelude.{if◌then◌else◌, slice_set}
-use Rattle.std.specs.Option.{option_and_then}
-use Rattle.signalling_types.specs.declared.limits.TheConstants.Limits.{SELECTIONS}
-use Rattle.signalling_types.specs.Message.{Message}
-use Rattle.signalling_types.specs.declared.point.Flow.{Flow}
+use Rattle.pair_rules.proofs.Basics.{◌≡◌, ℕ, Bool, not, List, [], Option, None, ap, sym, ◌∙◌, nat_lt, if◌then◌else◌, slice_set, option_and_then}
+use Rattle.pair_rules.proofs.Definitions.{SELECTIONS, Message, Flow, Outcome, Handled, Held, Ignored, Local, Queued, Refused, Configuration, TitleEntry, destination_place, Alignment, Running, Link, down_link, is_down, is_in_service, serving_alike, Facts, chosen_link, Node, Noted, with_parts, link_at, WholeQueues, queue_at, changeover_of, note_outcome, with_titles, facts, sets_in, StaysFit, fit-steps, alike-at, each-set, LinkEnd, Line, Pair}
 use Rattle.signalling_types.specs.declared.notice.Notice.TheVariants as notices
-use Rattle.signalling_types.specs.declared.outcome.Outcome.{Outcome}
-use Rattle.signalling_types.specs.declared.outcome.Outcome.TheVariants.{Handled, Held, Ignored, Local, Queued, Refused}
-use Rattle.settings_rows.specs.Configuration.{Configuration, TitleEntry}
-use Rattle.settings.specs.Readings.{destination_place}
-use Rattle.link.specs.declared.alignment.Alignment.{Alignment}
-use Rattle.timers.specs.Timers.{Running}
-use Rattle.node_links.specs.Link.{Link}
-use Rattle.node_links.specs.LinkState.{down_link, is_down, is_in_service}
-use Rattle.node_links.proofs.Serving.{serving_alike}
-use Rattle.routes.specs.Facts.{Facts}
-use Rattle.routes.specs.Chosen.{chosen_link}
-use Rattle.exchange_rules.specs.State.{Node, Noted, with_parts}
-use Rattle.exchange_rules.specs.Links.{link_at}
-use Rattle.exchange_rules.specs.Queues.{WholeQueues, queue_at}
-use Rattle.exchange_rules.specs.Failing.{changeover_of}
-use Rattle.exchange_rules.specs.Noting.{note_outcome}
-use Rattle.exchange_rules.specs.Relaying.{with_titles}
-use Rattle.exchange_rules.specs.Routing.{facts, sets_in}
-use Rattle.exchange_rules.proofs.Fitting.{StaysFit, fit-steps}
-use Rattle.exchange_rules.proofs.Lists.{alike-at, each-set}
-use Rattle.pair_moves.specs.Ends.{LinkEnd, Line, Pair}
 use Rattle.pair_rules.proofs.World.{World, is_heard, says_of, shown, route_of, line_of, end_of}
 use Rattle.pair_rules.proofs.Good.{IsSilent, Passes, passes-none, at}
 use Rattle.pair_rules.proofs.Going.{goes-same, goes-none}

@@ -1,37 +1,9 @@
 -- A link takes a step of its alignment, and where it enters service it takes its flows back from one link after another: by moves.
-use Rattle.std.proofs.Common.{◌≡◌, ◌≢◌, ◌⊎◌, inl, inr, ◌<◌, ◌&&◌, ℕ, zero, suc, Bool, true, false, not, List, [], ◌∷◌, length, map, Option, refl, ap, sym, subst, ◌∙◌}
-use Rattle.std.proofs.Math.Logic.{⊎_elim}
-use Rattle.std.proofs.Math.Path.{fun_ext}
-use Rattle.std.proofs.lemmas.Bool.{and_parts, cases_eq}
-use Rattle.signalling_types.specs.Message.{Message}
-use Rattle.signalling_types.specs.declared.point.Flow.{Flow}
-use Rattle.settings_rows.specs.Configuration.{Configuration}
+use Rattle.pair_rules.proofs.Basics.{◌≡◌, ◌≢◌, ◌⊎◌, inl, inr, ◌<◌, ◌&&◌, ℕ, zero, suc, Bool, true, false, not, List, [], ◌∷◌, length, map, Option, refl, ap, sym, subst, ◌∙◌, ⊎_elim, fun_ext, and_parts, cases_eq}
+use Rattle.pair_rules.proofs.Definitions.{Message, Flow, Configuration, Input, action_at, Running, Link, down_link, is_down, is_in_service, stepped, FrameValue, each-set, facts_alike, ToldTable, Route, Facts, Node, Parts, with_parts, down, in_service, link_at, WholeQueues, whole, has_other, facts, network_of, change_back, loses_flows, take_back_each, advance, begun_anew_if, enters, return_if, step_on, StaysFit, fit-steps, each-step, anew-steps, stepped-at, stepped-other, stepping-there, IsAlike, take_back_each-alike, LinkEnd}
 use Rattle.link.specs.declared.action.Action.TheVariants.{Go}
-use Rattle.link.specs.declared.action.Input.{Input}
 use Rattle.link.specs.declared.action.Transition.{Transition}
-use Rattle.link.specs.Table.{action_at}
-use Rattle.timers.specs.Timers.{Running}
-use Rattle.node_links.specs.Link.{Link}
-use Rattle.node_links.specs.LinkState.{down_link, is_down, is_in_service, stepped}
-use Rattle.m2pa_codec.specs.Frames.{FrameValue}
-use Rattle.exchange_rules.proofs.Lists.{each-set}
-use Rattle.node_links.proofs.Serving.{facts_alike}
-use Rattle.route_management.specs.Told.{ToldTable}
-use Rattle.routes.specs.declared.route.Route.{Route}
-use Rattle.routes.specs.Facts.{Facts}
-use Rattle.exchange_rules.specs.State.{Node, Parts, with_parts}
-use Rattle.exchange_rules.specs.Links.{down, in_service, link_at}
-use Rattle.exchange_rules.specs.Queues.{WholeQueues, whole}
-use Rattle.exchange_rules.specs.Failing.{has_other}
-use Rattle.exchange_rules.specs.Routing.{facts, network_of}
-use Rattle.exchange_rules.specs.ChangingBack.{change_back, loses_flows, take_back_each}
-use Rattle.exchange_rules.specs.Statuses.{advance, begun_anew_if, enters, return_if, step_on}
 use Rattle.exchange_rules.proofs.Entering.{known_links}
-use Rattle.exchange_rules.proofs.Fitting.{StaysFit, fit-steps}
-use Rattle.exchange_rules.proofs.Serving.{each-step}
-use Rattle.exchange_rules.proofs.SteppingLinks.{anew-steps, stepped-at, stepped-other, stepping-there}
-use Rattle.exchange_rules.proofs.TakenPairs.{IsAlike, take_back_each-alike}
-use Rattle.pair_moves.specs.Ends.{LinkEnd}
 use Rattle.pair_moves.specs.Moves as moves
 use Rattle.pair_rules.proofs.Alone.{StaysAlone, alone-steps}
 use Rattle.pair_rules.proofs.World.{World, heard, is_heard, says_of, shown, shown_by, route_of, line_of, end_of, frame_of}

@@ -1,22 +1,6 @@
 -- The links of flows, once a link is down: a flow on another link stays there.
-use Rattle.std.proofs.Common.{◌≡◌, ◌≢◌, ◌<◌, ◌&&◌, ◌||◌, ℕ, Bool, true, false, List, Option, Some, None, refl, ap, sym, ◌∙◌, nat_eq, nat_lt, arith}
-use Rattle.std.specs.Prelude.{if◌then◌else◌, slice_set}
-use Rattle.std.specs.Option.{option_and_then}
-use Rattle.signalling_types.specs.declared.limits.TheConstants.Limits.{SELECTIONS}
-use Rattle.settings.specs.Readings.{destination_place}
-use Rattle.std.proofs.Math.Logic.{⊎_elim}
-use Rattle.std.proofs.lemmas.Bool.Decides.{nat_tests}
-use Rattle.signalling_types.specs.declared.point.Flow.{Flow}
-use Rattle.settings_rows.specs.Configuration.{Configuration}
-use Rattle.flow_hold.specs.Holds.{HoldSet}
-use Rattle.node_links.specs.Link.{Link}
-use Rattle.node_links.specs.LinkState.{after_failure}
-use Rattle.node_links.proofs.Serving.{serving_set}
-use Rattle.routes.specs.Facts.{Facts, with_link}
-use Rattle.routes.specs.Chosen.{chosen_link}
-use Rattle.exchange_rules.specs.State.{Parts}
-use Rattle.exchange_rules.specs.Links.{link_at}
-use Rattle.exchange_rules.specs.Routing.{facts, link_of, sets_in}
+use Rattle.pair_rules.proofs.Basics.{◌≡◌, ◌≢◌, ◌<◌, ◌&&◌, ◌||◌, ℕ, Bool, true, false, List, Option, Some, None, refl, ap, sym, ◌∙◌, nat_eq, nat_lt, arith, if◌then◌else◌, slice_set, option_and_then, ⊎_elim, nat_tests}
+use Rattle.pair_rules.proofs.Definitions.{SELECTIONS, destination_place, Flow, Configuration, HoldSet, Link, after_failure, serving_set, Facts, with_link, chosen_link, Parts, link_at, facts, link_of, sets_in}
 use Rattle.routes.proofs.Leaving.{goes_or_stays}
 use Rattle.pair_rules.proofs.World.{route_of}
 use Rattle.pair_rules.proofs.Good.{IsJoined}

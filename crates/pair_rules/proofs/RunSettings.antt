@@ -1,15 +1,7 @@
 -- The settings of the run keep every limit, and face each other.
-use Rattle.std.proofs.Common.{◌≡◌, ◌≢◌, ◌≤◌, ◌<◌, ◌^◌, ◌&&◌, ◌||◌, ℕ, zero, suc, Bool, true, false, List, [], ◌∷◌, refl, sym, ap, subst, arith, nat_eq, Some, IsTrue}
-use Rattle.std.specs.Prelude.{slice_get}
-use Rattle.std.specs.List.{IsDistinct, list_any}
-use Rattle.std.proofs.lemmas.Bool.Decides.{nat_tests}
-use Rattle.std.proofs.lemmas.List.Elements.{All-from_recursion}
+use Rattle.pair_rules.proofs.Basics.{◌≡◌, ◌≢◌, ◌≤◌, ◌<◌, ◌^◌, ◌&&◌, ◌||◌, ℕ, zero, suc, Bool, true, false, List, [], ◌∷◌, refl, sym, ap, subst, arith, nat_eq, Some, IsTrue, slice_get, IsDistinct, list_any, nat_tests, All-from_recursion}
+use Rattle.pair_rules.proofs.Definitions.{SetEntry, LinkEntry, DestinationEntry, LINKS, SETS, DESTINATIONS, POOL, WINDOW, TICKS, IsLink, IsSet, IsDestination, IsTitle, IsWell, IsWithin, all_ticks, is_led_first, IsFacing, AreJoined}
 use Rattle.std.proofs.lemmas.List.Sums.{count_by-le-length}
-use Rattle.settings_rows.specs.Configuration.{SetEntry, LinkEntry, DestinationEntry}
-use Rattle.signalling_types.specs.declared.limits.TheConstants.Limits.{LINKS, SETS, DESTINATIONS, POOL, WINDOW, TICKS}
-use Rattle.settings.specs.Well.{IsLink, IsSet, IsDestination, IsTitle, IsWell, IsWithin, all_ticks, is_led_first}
-use Rattle.settings.specs.Facing.{IsFacing}
-use Rattle.pair_rules.specs.Promises.{AreJoined}
 use Rattle.pair_rules.specs.OneEndFirst.{far_settings, near_settings, settings_of, ticks}
 
 within : (low high n : ℕ) → low ≤ n → n ≤ high → IsWithin low high n

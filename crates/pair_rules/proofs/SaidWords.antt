@@ -1,25 +1,12 @@
 -- What stands between two ends, by counts, and what the words among it say.
-use Rattle.std.proofs.Common.{◌≡◌, subst, ◌<◌, ◌≢◌, ◌⊎◌, inl, inr, ◌+◌, ℕ, Bool, true, false, zero, suc, List, [], ◌∷◌, length, Option, Some, None, Ok, refl, ap, sym, ◌∙◌, arith}
-use Rattle.std.specs.Prelude.{Contains, count_by, drop, take, slice_get, if◌then◌else◌}
-use Rattle.std.specs.Option.{option_map}
+use Rattle.pair_rules.proofs.Basics.{◌≡◌, subst, ◌<◌, ◌≢◌, ◌⊎◌, inl, inr, ◌+◌, ℕ, Bool, true, false, zero, suc, List, [], ◌∷◌, length, Option, Some, None, Ok, refl, ap, sym, ◌∙◌, arith, Contains, count_by, drop, take, slice_get, if◌then◌else◌, option_map, ⊎_elim, cases_eq, Contains-append_left, Contains-append_right}
+use Rattle.pair_rules.proofs.Definitions.{Message, is_management, opc_of, Configuration, read_management, Management, ExtendedChangeoverOrder, ExtendedChangeoverAcknowledgement, ChangebackDeclaration, ChangebackAcknowledgement, entry_of, link_with_code, Order, Answer, UserMessage, Word, about, word_in, word_of, word_read}
 use Rattle.std.proofs.lemmas.Option.{slice_get_read}
-use Rattle.std.proofs.Math.Logic.{⊎_elim}
-use Rattle.std.proofs.lemmas.Bool.{cases_eq}
-use Rattle.std.proofs.lemmas.List.Elements.{Contains-append_left, Contains-append_right}
 use Rattle.std.proofs.lemmas.Option.{get_or_from_slice_get, slice_get_within}
 use Rattle.link.proofs.Named.{slice_get-drop}
-use Rattle.signalling_types.specs.Message.{Message, is_management, opc_of}
-use Rattle.settings_rows.specs.Configuration.{Configuration}
-use Rattle.mtp3_codec.specs.Management.{read_management}
-use Rattle.mtp3_codec.specs.declared.management.Management.{Management}
-use Rattle.mtp3_codec.specs.declared.management.Management.TheVariants.{ExtendedChangeoverOrder, ExtendedChangeoverAcknowledgement, ChangebackDeclaration, ChangebackAcknowledgement}
-use Rattle.exchange_rules.specs.Points.{entry_of}
-use Rattle.exchange_rules.specs.Local.{link_with_code}
-use Rattle.pair_moves.specs.Sayings.{Order, Answer, UserMessage}
 use Rattle.pair_moves.specs.Order.{join_to}
 use Rattle.pair_moves.specs.Laws.{one_if}
 use Rattle.pair_moves.proofs.Counts.{count-cons}
-use Rattle.pair_rules.specs.Laws.{Word, about, word_in, word_of, word_read}
 use Rattle.pair_rules.proofs.World.{link_of_code, read_says, said_by, says_of, unsaid}
 use Rattle.pair_rules.proofs.Good.{Each, each-behind, IsBetween, IsJoined, IsSaid, IsWord, each-get}
 use Rattle.pair_rules.proofs.Good as good

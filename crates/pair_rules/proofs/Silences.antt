@@ -1,10 +1,6 @@
 -- What goes out on a link, by what stands and waits there.
-use Rattle.std.proofs.Common.{◌≡◌, ◌&&◌, ◌-◌, ℕ, Bool, true, false, not, Option, Some, None, refl, ap, sym, ◌∙◌, nat_lt}
-use Rattle.std.specs.Prelude.{if◌then◌else◌, slice_get}
-use Rattle.signalling_types.specs.Message.{Message}
-use Rattle.m2pa_codec.specs.declared.status.LinkStatus.{LinkStatus}
-use Rattle.link.specs.Queue.{Queue, Sending, forward_number, numbered, to_send}
-use Rattle.exchange_rules.specs.Sending.{SendsStatus, SendsMessage, Acknowledges, message_first, status_first}
+use Rattle.pair_rules.proofs.Basics.{◌≡◌, ◌&&◌, ◌-◌, ℕ, Bool, true, false, not, Option, Some, None, refl, ap, sym, ◌∙◌, nat_lt, if◌then◌else◌, slice_get}
+use Rattle.pair_rules.proofs.Definitions.{Message, LinkStatus, Queue, Sending, forward_number, numbered, to_send, SendsStatus, SendsMessage, Acknowledges, message_first, status_first}
 
 -- what is sent next stands in the queue
 pub record IsNext (q : Queue) (window : ℕ) (next : Sending) : Type 0 where

@@ -1,17 +1,7 @@
 -- Two exchanges after some steps, as the machine of moves shows them; and what each step at the near end does to that.
-use Rattle.std.proofs.Common.{◌≡◌, ℕ, Bool, true, List, [], length, map, refl}
-use Rattle.signalling_types.specs.Message.{Message}
-use Rattle.settings_rows.specs.Configuration.{Configuration}
-use Rattle.m2pa_codec.specs.Frames.{FrameValue, spelled}
-use Rattle.exchange_rules.specs.State.{Node}
-use Rattle.exchange_rules.specs.Happening.{Happening}
-use Rattle.exchange_rules.specs.Queues.{WholeQueues, whole}
-use Rattle.exchange_rules.specs.Holding.{all_wait}
-use Rattle.exchange_rules.specs.Exchange.{apply, handle_event}
-use Rattle.exchange_rules.proofs.Sound.{done-waits}
-use Rattle.pair_moves.specs.Ends.{Pair}
+use Rattle.pair_rules.proofs.Basics.{◌≡◌, ℕ, Bool, true, List, [], length, map, refl}
+use Rattle.pair_rules.proofs.Definitions.{Message, Configuration, FrameValue, spelled, Node, Happening, WholeQueues, whole, all_wait, apply, handle_event, done-waits, Pair, End, PairState, Streams, happens, in_flight, may_follow}
 use Rattle.pair_moves.specs.Ends as ends
-use Rattle.pair_rules.specs.Pairs.{End, PairState, Streams, happens, in_flight, may_follow}
 use Rattle.pair_rules.proofs.World.{Flying, Mid, World, says_of, shown, turned_world}
 use Rattle.pair_rules.proofs.Good.{IsJoined, Good, Passes, at}
 use Rattle.pair_rules.proofs.Going.{Goes, goes-both}

@@ -1,49 +1,21 @@
 -- Link statuses that come, timers that run out, and what the operator and the association do to a link: by moves.
-use Rattle.std.proofs.Common.{inl, inr, ◌≡◌, ◌&&◌, ℕ, Bool, true, false, List, [], length, zero, suc, Option, Some, None, refl, ap, sym, subst, ◌∙◌, nat_eq, nat_lt}
-use Rattle.std.specs.Prelude.{if◌then◌else◌, find, slice_index_or}
-use Rattle.std.specs.Option.{option_map}
-use Rattle.signalling_types.specs.declared.notice.FailureReason.{FailureReason}
+use Rattle.pair_rules.proofs.Basics.{inl, inr, ◌≡◌, ◌&&◌, ℕ, Bool, true, false, List, [], length, zero, suc, Option, Some, None, refl, ap, sym, subst, ◌∙◌, nat_eq, nat_lt, if◌then◌else◌, find, slice_index_or, option_map}
+use Rattle.pair_rules.proofs.Definitions.{FailureReason, Handled, Ignored, Cause, add_title, add_title_unless, remove_title, title_refusal, with_titles, Configuration, TitleEntry, FrameValue, StatusFrame, LinkStatus, Action, Status, Expiry, action_at, Route, RouteStatus, first_route, ticked, due_name, after_due, due_count, Node, Done, answer, refuse, with_parts, down, is_link, link_at, WholeQueues, whole, fail, activate, association_down, deactivate, end_association, fail_if_up, set_active, ask_by, facts, act_by_status, act_by_timer, advance, on_link_status, run_out, serve_status, in_service, with_busy, without_busy, serves-in, advance-serves, failed_if_up-down, set_active-steps, StaysFit, fit-steps, handed-fit, ticked-fit}
 use Rattle.signalling_types.specs.declared.notice.FailureReason.TheVariants as reasons
 use Rattle.signalling_types.specs.declared.notice.ChangeoverTimer.TheVariants as timer
-use Rattle.signalling_types.specs.declared.outcome.Outcome.TheVariants.{Handled, Ignored}
-use Rattle.signalling_types.specs.declared.cause.Cause.{Cause}
 use Rattle.signalling_types.specs.declared.cause.Cause.TheVariants.{NoSuchName}
 use Rattle.sccp_codec.specs.declared.title.TitleKey.{TitleKey}
 use Rattle.sccp_relay.specs.Rows.{place_of, has_row, with_row, without_row}
-use Rattle.exchange_rules.specs.Relaying.{add_title, add_title_unless, remove_title, title_refusal, with_titles}
-use Rattle.settings_rows.specs.Configuration.{Configuration, TitleEntry}
-use Rattle.m2pa_codec.specs.Frames.{FrameValue, StatusFrame}
-use Rattle.m2pa_codec.specs.declared.status.LinkStatus.{LinkStatus}
 use Rattle.m2pa_codec.specs.declared.status.LinkStatus.TheVariants as says
-use Rattle.link.specs.declared.action.Action.{Action}
 use Rattle.link.specs.declared.action.Action.TheVariants as act
-use Rattle.link.specs.declared.action.Input.TheVariants.{Status, Expiry}
 use Rattle.link.specs.declared.action.LinkTimer.{LinkTimer}
 use Rattle.link.specs.declared.action.LinkTimer.TheVariants as its
-use Rattle.link.specs.Table.{action_at}
-use Rattle.routes.specs.declared.route.Route.{Route}
-use Rattle.routes.specs.declared.route.RouteStatus.{RouteStatus}
 use Rattle.routes.specs.declared.route.RouteStatus.TheVariants.{Allowed}
-use Rattle.routes.specs.Facts.{first_route}
 use Rattle.routes.specs.Statuses.{status_of, leads_by}
 use Rattle.timers.specs.declared.name.TimerName.{TimerName}
 use Rattle.timers.specs.declared.name.TimerName.TheVariants as name
-use Rattle.timers.specs.Timers.{ticked, due_name, after_due, due_count}
-use Rattle.exchange_rules.specs.State.{Node, Done, answer, refuse, with_parts}
-use Rattle.exchange_rules.specs.Links.{down, is_link, link_at}
-use Rattle.exchange_rules.specs.Queues.{WholeQueues, whole}
-use Rattle.exchange_rules.specs.Failing.{fail}
-use Rattle.exchange_rules.specs.Opening.{activate, association_down, deactivate, end_association, fail_if_up, set_active}
-use Rattle.exchange_rules.specs.Rerouting.{ask_by}
-use Rattle.exchange_rules.specs.Routing.{facts}
-use Rattle.exchange_rules.specs.Statuses.{act_by_status, act_by_timer, advance, on_link_status, run_out, serve_status}
 use Rattle.exchange_rules.specs.Ticking.{run_due, run_next, run_timer, run_times, tick, with_timers}
-use Rattle.exchange_rules.specs.Links.{in_service}
 use Rattle.exchange_rules.specs.Timing.{timed_busy, timed_busy_ended}
-use Rattle.exchange_rules.proofs.Steps.{with_busy, without_busy}
-use Rattle.exchange_rules.proofs.Serving.{serves-in}
-use Rattle.exchange_rules.proofs.SteppingLinks.{advance-serves, failed_if_up-down, set_active-steps}
-use Rattle.exchange_rules.proofs.Fitting.{StaysFit, fit-steps, handed-fit, ticked-fit}
 use Rattle.pair_rules.proofs.Alone.{only_routes}
 use Rattle.pair_rules.proofs.World.{World}
 use Rattle.pair_rules.proofs.Good.{IsJoined, Good, Passes, passes-none, passes-both, at}

@@ -1,36 +1,12 @@
 -- Each step of a pair goes by moves.
-use Rattle.std.proofs.Common.{◌≡◌, ◌≢◌, ◌<◌, ◌≤◌, ◌&&◌, ℕ, Bool, true, false, List, [], ◌∷◌, ◌++◌, length, Option, Some, None, refl, ap, sym, subst, ◌∙◌, nat_eq, nat_lt, arith}
-use Rattle.std.specs.Prelude.{if◌then◌else◌, drop, map, option_to_list, slice_get, slice_set, take}
-use Rattle.std.proofs.Math.Logic.{⊎_elim}
-use Rattle.std.proofs.lemmas.Bool.{cases_eq, cases_lt}
-use Rattle.std.proofs.lemmas.Bool.Decides.{nat_tests}
-use Rattle.std.proofs.lemmas.List.{get_or_past}
-use Rattle.signalling_types.specs.Message.{Message, dpc_of, network_indicator}
+use Rattle.pair_rules.proofs.Basics.{◌≡◌, ◌≢◌, ◌<◌, ◌≤◌, ◌&&◌, ℕ, Bool, true, false, List, [], ◌∷◌, ◌++◌, length, Option, Some, None, refl, ap, sym, subst, ◌∙◌, nat_eq, nat_lt, arith, if◌then◌else◌, drop, option_to_list, slice_get, slice_set, take, ⊎_elim, cases_eq, cases_lt, nat_tests, get_or_past}
+use Rattle.pair_rules.proofs.Definitions.{Message, dpc_of, network_indicator, SIF_OCTETS, Outcome, Configuration, FrameValue, EmptyFrame, MessageFrame, StatusFrame, spelled, read_frame, Link, down_link, Discrimination, Label, Node, Happening, FrameCame, Submitted, WholeQueues, whole, whither_goes, after, apply, handle_event, outcome_of, frame_to_take, new_message, after_take, frame_from, frame_taken, may_send, message_first, status_first, Refused, done-waits, comes-here, PairState, Streams, accepted_by, change_statuses, deliver_frame, in_flight, for_users, is_sccp, may_follow, take_frame}
+use Rattle.std.specs.Prelude.{map}
 use Rattle.signalling_types.specs.declared.cause.Cause.TheVariants as causes
-use Rattle.signalling_types.specs.declared.limits.TheConstants.Limits.{SIF_OCTETS}
-use Rattle.signalling_types.specs.declared.outcome.Outcome.{Outcome}
-use Rattle.settings_rows.specs.Configuration.{Configuration}
-use Rattle.m2pa_codec.specs.Frames.{FrameValue, EmptyFrame, MessageFrame, StatusFrame, spelled}
-use Rattle.m2pa_codec.specs.Reading.{read_frame}
-use Rattle.node_links.specs.Link.{Link}
-use Rattle.node_links.specs.LinkState.{down_link}
 use Rattle.mtp3_codec.specs.Label.{label_at}
-use Rattle.mtp3_codec.specs.declared.discrimination.Discrimination.{Discrimination}
 use Rattle.mtp3_codec.specs.declared.discrimination.Discrimination.TheVariants as whither
-use Rattle.mtp3_codec.specs.declared.label.Label.{Label}
-use Rattle.exchange_rules.specs.State.{Node}
-use Rattle.exchange_rules.specs.Happening.{Happening, FrameCame, Submitted}
-use Rattle.exchange_rules.specs.Queues.{WholeQueues, whole}
-use Rattle.exchange_rules.specs.Messages.{whither_goes}
-use Rattle.exchange_rules.specs.Exchange.{after, apply, handle_event, outcome_of, frame_to_take}
-use Rattle.exchange_rules.specs.Receiving.{new_message}
-use Rattle.exchange_rules.specs.Sending.{after_take, frame_from, frame_taken, may_send, message_first, status_first}
 use Rattle.mtp3_codec.specs.Discrimination.{fault_or_destination}
-use Rattle.signalling_types.specs.declared.outcome.Outcome.TheVariants.{Refused}
-use Rattle.exchange_rules.proofs.Sound.{done-waits}
 use Rattle.exchange_rules.proofs.Settling.{take-waits}
-use Rattle.exchange_rules.proofs.MadeManagement.{comes-here}
-use Rattle.pair_rules.specs.Pairs.{PairState, Streams, accepted_by, change_statuses, deliver_frame, in_flight, for_users, is_sccp, may_follow, take_frame}
 use Rattle.pair_rules.specs.Pairs as pairs
 use Rattle.pair_rules.proofs.World.{Flying, World, says_of, turned_world}
 use Rattle.pair_rules.proofs.Good.{AreFlying, Each, each-behind, IsFlying, IsTelling, IsJoined, Good, Passes, at}

@@ -1,19 +1,7 @@
 -- A frame is fetched at the near node, and is in flight to the far one: by moves.
-use Rattle.std.proofs.Common.{suc, ◌-◌, ◌≡◌, ◌≢◌, ◌<◌, ◌≤◌, ◌^◌, ◌+◌, ◌&&◌, ℕ, Bool, true, false, not, List, [], ◌∷◌, ◌++◌, length, map, Option, Some, None, refl, ap, sym, subst, ◌∙◌, nat_lt, arith}
-use Rattle.std.specs.Prelude.{if◌then◌else◌, slice_get}
-use Rattle.signalling_types.specs.Message.{Message}
-use Rattle.signalling_types.specs.declared.limits.TheConstants.Limits.{SIF_OCTETS, WINDOW}
-use Rattle.settings_rows.specs.Configuration.{Configuration}
-use Rattle.m2pa_codec.specs.Frames.{FrameValue, EmptyFrame, MessageFrame, StatusFrame, IsSayable, spelled}
-use Rattle.m2pa_codec.specs.declared.status.LinkStatus.{LinkStatus}
-use Rattle.link.specs.Queue.{Queue, Sending, to_send, forward_number, numbered, sent_one, last_accepted, last_sent}
+use Rattle.pair_rules.proofs.Basics.{suc, ◌-◌, ◌≡◌, ◌≢◌, ◌<◌, ◌≤◌, ◌^◌, ◌+◌, ◌&&◌, ℕ, Bool, true, false, not, List, [], ◌∷◌, ◌++◌, length, map, Option, Some, None, refl, ap, sym, subst, ◌∙◌, nat_lt, arith, if◌then◌else◌, slice_get, length-set, drop, nat_tests}
+use Rattle.pair_rules.proofs.Definitions.{Message, SIF_OCTETS, WINDOW, Configuration, FrameValue, EmptyFrame, MessageFrame, StatusFrame, IsSayable, spelled, LinkStatus, Queue, Sending, to_send, forward_number, numbered, sent_one, last_accepted, last_sent, Node, down, in_service, link_at, WholeQueues, queue_at, whole, Outgoing, SendsStatus, SendsMessage, Acknowledges, SendsNothing, after_sending, after_take, carried, frame_from, goes_out, may_send, next_message, without_owed, Fits, StaysFit, fit-steps, LinkEnd, Frame, each-set, take-steps, frame_taken, message_first, status_first, IsQueue, first_queue, BecomeAt}
 use Rattle.link.specs.Queue as queue
-use Rattle.exchange_rules.specs.State.{Node}
-use Rattle.exchange_rules.specs.Links.{down, in_service, link_at}
-use Rattle.exchange_rules.specs.Queues.{WholeQueues, queue_at, whole}
-use Rattle.exchange_rules.specs.Sending.{Outgoing, SendsStatus, SendsMessage, Acknowledges, SendsNothing, after_sending, after_take, carried, frame_from, goes_out, may_send, next_message, without_owed}
-use Rattle.exchange_rules.proofs.Fitting.{Fits, StaysFit, fit-steps}
-use Rattle.pair_moves.specs.Ends.{LinkEnd, Frame}
 use Rattle.pair_moves.specs.Moves as moves
 use Rattle.pair_rules.proofs.World.{World, says_of, shown, line_of, end_of, frame_of}
 use Rattle.pair_rules.proofs.Good.{AreFlying, Each, each-behind, IsBetween, IsFlying, IsTelling, IsJoined, Good, Passes, passes-none, passes-both, at, previous-fits, each-get}
@@ -25,18 +13,9 @@ use Rattle.pair_rules.proofs.Silences.{IsNext, by-up, is-next, message-is-next, 
 use Rattle.signalling_types.specs.declared.cause.Cause.TheVariants as causes
 use Rattle.mtp3_codec.specs.Discrimination.{discrimination}
 use Rattle.mtp3_codec.specs.declared.discrimination.Discrimination.TheVariants as whither
-use Rattle.exchange_rules.proofs.Lists.{each-set}
-use Rattle.exchange_rules.proofs.SteppingEvents.{take-steps}
-use Rattle.exchange_rules.specs.Sending.{frame_taken, message_first, status_first}
 use Rattle.exchange_rules.specs.Timing.{timed_sending}
-use Rattle.link.specs.Queue.{IsQueue}
 use Rattle.link.proofs.Sound.{sound-sent_one}
-use Rattle.std.proofs.lemmas.List.{length-set}
-use Rattle.std.specs.Prelude.{drop}
-use Rattle.link.specs.Queue.{first_queue}
-use Rattle.pair_moves.specs.Passing.{BecomeAt}
 use Rattle.pair_moves.specs.Carrying.{with_frame, with_sent}
-use Rattle.std.proofs.lemmas.Bool.Decides.{nat_tests}
 
 one-longer : (fs : List FrameValue) (frame : FrameValue) → length (fs ++ frame ∷ []) ≡ suc (length fs)
 one-longer [] frame = refl

@@ -1,9 +1,7 @@
 -- The same, seen from the far node.
-use Rattle.std.proofs.Common.{◌≡◌, ℕ, List, [], ◌∷◌, map, length, refl, ap, ◌∙◌}
-use Rattle.signalling_types.specs.Message.{Message}
-use Rattle.settings_rows.specs.Configuration.{Configuration}
-use Rattle.pair_moves.specs.Sayings.{Saying}
-use Rattle.pair_moves.specs.Ends.{Pair, turned}
+use Rattle.pair_rules.proofs.Basics.{◌≡◌, ℕ, List, [], ◌∷◌, map, length, refl, ap, ◌∙◌}
+use Rattle.pair_rules.proofs.Definitions.{Message, Configuration, Saying, Pair}
+use Rattle.pair_moves.specs.Ends.{turned}
 use Rattle.pair_moves.specs.Moves.{Move, Moves, last_of}
 use Rattle.pair_moves.specs.Moves as moves
 use Rattle.pair_rules.proofs.Going.{Goes}

@@ -1,37 +1,13 @@
 -- A link enters service, and the links lose their flows to it in their order: which link each flow takes meanwhile, and what holds it.
-use Rattle.std.proofs.Common.{◌≡◌, ◌≢◌, ◌<◌, ◌≤◌, ◌&&◌, ◌⊎◌, inl, inr, ℕ, suc, Bool, true, false, List, length, Option, Some, None, refl, ap, sym, subst, ◌∙◌, nat_eq, nat_lt, arith}
-use Rattle.std.specs.Option.{option_and_then}
-use Rattle.std.specs.Prelude.{if◌then◌else◌}
-use Rattle.std.proofs.Math.Logic.{⊎_elim}
-use Rattle.std.proofs.lemmas.Bool.{and_from, cases_order, eq-eqb, le-ltb, lt-ltb}
-use Rattle.signalling_types.specs.declared.limits.TheConstants.Limits.{SELECTIONS}
-use Rattle.signalling_types.specs.declared.point.Flow.{Flow}
-use Rattle.settings_rows.specs.Configuration.{Configuration}
-use Rattle.settings.specs.Readings.{destination_place}
+use Rattle.pair_rules.proofs.Basics.{◌≡◌, ◌≢◌, ◌<◌, ◌≤◌, ◌&&◌, ◌⊎◌, inl, inr, ℕ, suc, Bool, true, false, List, length, Option, Some, None, refl, ap, sym, subst, ◌∙◌, nat_eq, nat_lt, arith, option_and_then, if◌then◌else◌, ⊎_elim, and_from, cases_order, eq-eqb, le-ltb, lt-ltb}
+use Rattle.pair_rules.proofs.Definitions.{SELECTIONS, Flow, Configuration, destination_place, HoldSet, with_flows, Procedure, flows_leave, Link, is_in_service, link_in, Facts, chosen_link, Node, Parts, down, in_service, link_at, WholeQueues, whole, facts, hold_flows, is_taken_back, loses_flows, Fits, StaysFit, fit-steps, IsAlike, AddsOnly, StaysOrIsHeld}
 use Rattle.flow_hold.specs.Holds as hold
-use Rattle.flow_hold.specs.Holds.{HoldSet}
-use Rattle.flow_hold.specs.Flows.{with_flows}
-use Rattle.flow_hold.specs.declared.procedure.Procedure.{Procedure}
 use Rattle.flow_hold.specs.declared.procedure.Procedure.TheVariants as held_by
-use Rattle.flow_hold.proofs.Flows.{flows_leave}
 use Rattle.flow_hold.proofs.FlowPairs.{flows_has, flows_keep}
-use Rattle.node_links.specs.Link.{Link}
-use Rattle.node_links.specs.LinkState.{is_in_service}
-use Rattle.node_links.specs.Network.{link_in}
-use Rattle.routes.specs.Facts.{Facts}
-use Rattle.routes.specs.Chosen.{chosen_link}
-use Rattle.exchange_rules.specs.State.{Node, Parts}
-use Rattle.exchange_rules.specs.Links.{down, in_service, link_at}
-use Rattle.exchange_rules.specs.Queues.{WholeQueues, whole}
-use Rattle.exchange_rules.specs.Routing.{facts}
-use Rattle.exchange_rules.specs.ChangingBack.{hold_flows, is_taken_back, loses_flows}
 use Rattle.exchange_rules.proofs.Belonging.{chosen_listed}
-use Rattle.exchange_rules.proofs.Fitting.{Fits, StaysFit, fit-steps}
 use Rattle.exchange_rules.proofs.SteppingReturns.{Went, all-went, hold_flows-steps}
 use Rattle.exchange_rules.proofs.TakenBack.{taken-so}
-use Rattle.exchange_rules.proofs.TakenPairs.{IsAlike}
 use Rattle.pair_moves.specs.Ends as ends
-use Rattle.pair_moves.specs.Returning.{AddsOnly, StaysOrIsHeld}
 use Rattle.pair_rules.proofs.World.{heard, World, says_of, shown_by, route_of, procedure_of}
 use Rattle.pair_rules.proofs.Good.{IsJoined, Good}
 use Rattle.pair_rules.proofs.Going.{Goes, goes-both}

@@ -1,28 +1,10 @@
 -- Two nodes in the midst of an event at the near one, and the machine of moves as it shows them.
-use Rattle.std.proofs.Common.{ℕ, Bool, true, false, not, nat_eq, nat_lt, List, Option, Some, None, length, Ok, Err, Result, ◌&&◌}
-use Rattle.std.specs.Prelude.{if◌then◌else◌, position, map}
-use Rattle.signalling_types.specs.declared.limits.TheConstants.Limits.{SELECTIONS}
-use Rattle.signalling_types.specs.Message.{Message, is_management}
-use Rattle.signalling_types.specs.declared.point.Flow.{Flow}
-use Rattle.settings_rows.specs.Configuration.{Configuration, LinkEntry}
-use Rattle.m2pa_codec.specs.Frames.{FrameValue, EmptyFrame, MessageFrame, StatusFrame}
-use Rattle.mtp3_codec.specs.Management.{read_management}
-use Rattle.mtp3_codec.specs.declared.fault.MgmtFault.{MgmtFault}
-use Rattle.mtp3_codec.specs.declared.management.Management.{Management}
+use Rattle.pair_rules.proofs.Basics.{ℕ, Bool, true, false, not, nat_eq, nat_lt, List, Option, Some, None, length, Ok, Err, Result, ◌&&◌, if◌then◌else◌}
+use Rattle.pair_rules.proofs.Definitions.{SELECTIONS, Message, is_management, Flow, Configuration, LinkEntry, FrameValue, EmptyFrame, MessageFrame, StatusFrame, read_management, MgmtFault, Management, Procedure, is_outstanding, Node, Parts, lost_any, late_any, Alignment, Down, NotAligned, Aligned, Proving, AlignedReady, InService, down, in_service, link_at, WholeQueues, queue_at, changeover_of, link_of, Saying, UserMessage, Order, Answer, Declaration, Confirmation, LinkEnd, Line, Side, Pair, Frame}
+use Rattle.std.specs.Prelude.{position, map}
 use Rattle.mtp3_codec.specs.declared.management.Management.TheVariants as says
 use Rattle.flow_hold.specs.Holds as hold
-use Rattle.flow_hold.specs.declared.procedure.Procedure.{Procedure}
 use Rattle.flow_hold.specs.declared.procedure.Procedure.TheVariants as held_by
-use Rattle.changeback.specs.Codes.{is_outstanding}
-use Rattle.exchange_rules.specs.State.{Node, Parts, lost_any, late_any}
-use Rattle.link.specs.declared.alignment.Alignment.{Alignment}
-use Rattle.link.specs.declared.alignment.Alignment.TheVariants.{Down, NotAligned, Aligned, Proving, AlignedReady, InService}
-use Rattle.exchange_rules.specs.Links.{down, in_service, link_at}
-use Rattle.exchange_rules.specs.Queues.{WholeQueues, queue_at}
-use Rattle.exchange_rules.specs.Failing.{changeover_of}
-use Rattle.exchange_rules.specs.Routing.{link_of}
-use Rattle.pair_moves.specs.Sayings.{Saying, UserMessage, Order, Answer, Declaration, Confirmation}
-use Rattle.pair_moves.specs.Ends.{LinkEnd, Line, Side, Pair, Frame}
 use Rattle.pair_moves.specs.Ends as ends
 
 -- ---- two nodes, and what is between them
