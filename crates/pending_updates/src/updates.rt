@@ -24,8 +24,8 @@ pub enum Extent {
 
 /// Which updates may be pending: for the adjacent point of which set, about which destination.
 ///
-/// All room is made by `new`, an octet for each destination and one for each 64. `is_any`, `add` and `add_all` take a
-/// fixed number of steps.
+/// All room is made by `new`, an octet for each destination and one for each 64. `is_any`, `add_all`, `add_all_if`
+/// and `clear` take a fixed number of steps, and so does `add` where any was pending before.
 #[derive(Drop)]
 pub struct PendingUpdates {
     extent: Extent,
@@ -65,6 +65,16 @@ impl PendingUpdates {
         ensures { self.new ≡ with_all self.old }
     {
         self.extent = Extent::From(SetId::new(0), 0);
+    }
+
+    /// Any update may be pending if something changed that all of them depend on.
+    #[inline(always)]
+    pub fn add_all_if(&mut self, changed: bool)
+        ensures { self.new ≡ (if changed then with_all self.old else self.old) }
+    {
+        if changed {
+            self.add_all();
+        }
     }
 
     /// Updates about a destination may be pending, for each set, beside those that might be before.
