@@ -69,6 +69,7 @@ impl Marks {
     }
 
     /// The first marked number that isn't less than this one; `None` where there is none.
+    #[inline(never)]
     pub(crate) fn next(&self, from: usize) -> Option<usize>
         ensures some { IfSome result (λ number. IsFirstFrom self.now from number) }
         ensures none { IfNone result (NoneFrom self.now from) }

@@ -109,6 +109,7 @@ impl PendingUpdates {
 
     /// The first destination from this one on of which an update for the point of a set may be pending; `None` where
     /// there is none.
+    #[inline(always)]
     pub fn next(&self, set: SetId, from: usize) -> Option<usize>
         ensures some { IfSome result (λ destination. IsNext self.now set from destination) }
         ensures none { IfNone result (NoneFrom self.now set from) }
@@ -121,6 +122,7 @@ impl PendingUpdates {
     }
 
     /// The same, where all updates from a place on may be pending.
+    #[inline(always)]
     fn next_in(&self, first: SetId, about: usize, set: SetId, from: usize) -> Option<usize>
         requires { self.now.extent ≡ From first about }
         ensures some { IfSome result (λ destination. IsNext self.now set from destination) }
@@ -149,6 +151,7 @@ fn has_all_from(extent: &Extent, set: SetId, destination: usize) -> bool
 }
 
 /// Whether an update stands at a place or behind it, in the order of sets and, for a set, of destinations.
+#[inline(always)]
 fn is_from(first: SetId, about: usize, set: SetId, destination: usize) -> bool
     ensures { result ≡ is_from first about set destination }
 {
