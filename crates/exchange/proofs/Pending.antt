@@ -1,33 +1,144 @@
--- Nothing is owed before the place where a walk over what is owed goes on.
-use Rattle.std.proofs.Common.{◌≡◌, ◌<◌, ◌≤◌, ◌+◌, ◌-◌, ℕ, zero, suc, Bool, true, false, length, List, [], ◌∷◌, ◌++◌, Option, Some, None, refl, ap, sym, subst, ◌∙◌, inl, inr, arith}
-use Rattle.std.specs.Prelude.{if◌then◌else◌, slice_get, slice_index_or}
-use Rattle.std.proofs.lemmas.Bool.Decides.{eqb_tells, leb_tells}
+-- Nothing is owed but what may be pending, nor before the place that a walk over what may be has reached.
+use Rattle.std.proofs.Common.{◌≡◌, ◌≢◌, ◌<◌, ◌≤◌, ◌+◌, ◌-◌, ℕ, zero, suc, Bool, true, false, length, List, [], ◌∷◌, Option, Some, None, refl, ap, sym, subst, ◌∙◌, inl, inr, arith}
+use Rattle.std.proofs.lemmas.Grind.{common_steps}
+use Rattle.std.specs.Prelude.{if◌then◌else◌, ◌||◌, replicate, slice_get, slice_index_or, slice_set}
+use Rattle.std.proofs.lemmas.Bool.Decides.{eqb_tells, leb_tells, nat_tests}
+use Rattle.std.proofs.lemmas.List.{get_or-set_same, get_or-set_other, length-set, length-replicate}
 use Rattle.std.proofs.lemmas.Option.{slice_get_past}
 use Rattle.settings_rows.specs.Configuration.{Configuration}
-use Rattle.routes.specs.Facts.{Facts}
+use Rattle.routes.specs.Facts.{Facts, with_status}
+use Rattle.pending_updates.specs.Marks.{is_marked}
+use Rattle.pending_updates.specs.Updates.{Updates, is_from, is_within, is_some, is_any, has_all_from}
+use Rattle.pending_updates.specs.Updates.{with_all, with_none, with_mark, with_destination, without_before}
+use Rattle.pending_updates.specs.declared.updates.Extent.{Extent}
+use Rattle.pending_updates.specs.declared.updates.Extent.TheVariants.{Nothing, Marked, From}
 use Rattle.routes.specs.declared.route.RouteStatus.{RouteStatus}
 use Rattle.route_management.specs.Told.{ToldTable, is_own_point, row_of, shape_of, told_at, with_told}
-use Rattle.route_management.specs.Owed.{Owed, owed_at, owed_by_sets, status_to_advertise, is_reachable}
+use Rattle.route_management.specs.Owed.{Owed, owed_at, status_to_advertise, is_reachable}
 use Rattle.route_management.proofs.Shape.{told_shape}
-use Rattle.route_management.proofs.Owing.{owed_by, none_owed, once}
-use Rattle.route_management.proofs.Listing.{still, none_of_point}
-use Rattle.route_management.proofs.Walking.{next_is_not_owed, next_set}
+use Rattle.route_management.proofs.Owing.{owed_by, none_owed, once, after_status}
+use Rattle.route_management.proofs.Listing.{still}
+use Rattle.route_management.proofs.Walking.{next_is_not_owed}
 use Rattle.exchange_rules.specs.State.{QueueKind, Node}
 use Rattle.exchange_rules.specs.Routing.{facts}
 use Rattle.exchange_rules.specs.Telling.{may_tell, tell, tell_if, tell_each}
 use Rattle.exchange_rules.proofs.Telling.{tell-facts, tell-told}
-use Rattle.exchange.specs.declared.exchange.pending.Pending.{Pending}
-use Rattle.exchange.specs.declared.exchange.pending.Pending.TheVariants.{Nothing, From}
-use Rattle.exchange.specs.Pending.{all_pending, OwesNoneBefore, OwesNoneBut}
+use Rattle.exchange.specs.Pending.{OwesNone, OwesNoneBefore, OwesNoneBetween, OwesNoneBut}
 use Rattle.exchange.specs.Telling.{tell_at}
-use Rattle.exchange.proofs.Telling.{row_left, sets_left}
+use Rattle.exchange.proofs.Telling.{row_left}
 
--- before the first place nothing is
-pub before_all : (f : Facts) (t : ToldTable) → OwesNoneBut all_pending f t
-before_all f t = record {
-  sets = λ earlier about l. absurd (omega (arith, l));
-  row = λ about l. absurd (omega (arith, l));
+-- ---- places
+
+behind : (set destination other about : ℕ) → set < other → is_from set destination other about ≡ true
+behind set destination other about l = grind (arith, common_steps, nat_tests)
+
+at-or-behind : (set destination about : ℕ) → destination ≤ about → is_from set destination set about ≡ true
+at-or-behind set destination about l = grind (arith, common_steps, nat_tests)
+
+-- ---- all may be pending
+
+all_within : (marks : List Bool) (set destination : ℕ) → is_within (From 0 0) marks set destination ≡ true
+all_within marks zero destination = ap (λ (b : Bool). b || is_marked marks destination) (at-or-behind 0 0 destination (omega arith))
+all_within marks (suc set) destination = ap (λ (b : Bool). b || is_marked marks destination) (behind 0 0 (suc set) destination (omega arith))
+
+pub all_may_be : (destinations : ℕ) (u : Updates) (f : Facts) (t : ToldTable) → length u.marks ≡ destinations → OwesNoneBut destinations (with_all u) f t
+all_may_be destinations u f t many = record {
+  marks = many;
+  none = λ set destination out. let may = sym (all_within u.marks set destination) ∙ out in absurd cc;
 }
+
+-- ---- those about one more destination may be
+
+with_mark-marks : (x : Extent) (marks : List Bool) (destination : ℕ) → length (with_mark destination x marks).marks ≡ length marks
+with_mark-marks Nothing marks destination = length-set (replicate (length marks) false) destination true ∙ length-replicate (length marks) false
+with_mark-marks Marked marks destination = length-set marks destination true
+with_mark-marks (From first about) marks destination = length-set marks destination true
+
+unmarked : (marks : List Bool) (destination about : ℕ) → destination < length marks → is_marked (slice_set marks destination true) about ≡ false
+    → (destination ≢ about) × (is_marked marks about ≡ false)
+unmarked marks destination about there out =
+    elim (eqb_tells about destination) [
+      | inl same ↦
+          let is = sym (get_or-set_same marks destination true false there) ∙ sym (ap (λ (d : ℕ). is_marked (slice_set marks destination true) d) same.1) ∙ out in
+          absurd cc
+      | inr apart ↦ (λ same. apart.1 (sym same), sym (get_or-set_other marks destination about true false apart.1) ∙ out)
+    ]
+
+neither : (a b : Bool) → (a || b) ≡ false → (a ≡ false) × (b ≡ false)
+neither true b e = absurd cc
+neither false b e = (refl, e)
+
+still_within : (x : Extent) (marks : List Bool) (destination set about : ℕ) → destination < length marks
+    → is_within (with_mark destination x marks).extent (with_mark destination x marks).marks set about ≡ false
+    → (destination ≢ about) × (is_within x marks set about ≡ false)
+still_within Nothing marks destination set about there out =
+    let many : length (replicate (length marks) false) ≡ length marks = length-replicate (length marks) false in
+    ((unmarked (replicate (length marks) false) destination about (omega (arith, there, many)) out).0, refl)
+still_within Marked marks destination set about there out = unmarked marks destination about there out
+still_within (From first from) marks destination set about there out =
+    let n = neither (is_from first from set about) (is_marked (slice_set marks destination true) about) out in
+    let m = unmarked marks destination about there n.1 in
+    (m.0, ap (λ (b : Bool). b || is_marked marks about) n.0 ∙ m.1)
+
+-- a status of one destination changes nothing that points are to be told of another
+pub status_owes : (destinations : ℕ) (u : Updates) (f : Facts) (t : ToldTable) (destination set : ℕ) (status : RouteStatus)
+    → destination < destinations → OwesNoneBut destinations u f t
+    → OwesNoneBut destinations (with_destination destination u) (with_status destination set status f) t
+status_owes destinations u f t destination set status there h = record {
+  marks = with_mark-marks u.extent u.marks destination ∙ h.marks;
+  none = λ other about out.
+      let s = still_within u.extent u.marks destination other about (omega (arith, there, h.marks)) out in
+      ap (λ (x : RouteStatus). owed_by (is_reachable f other) (is_own_point t other about) x (told_at t other about))
+      (after_status f destination set other about status s.0)
+      ∙ h.none other about s.1;
+}
+
+-- ---- none may be
+
+none_within : (x : Extent) (marks : List Bool) (set destination : ℕ) → is_some x ≡ false → is_within x marks set destination ≡ false
+none_within Nothing marks set destination none = refl
+none_within Marked marks set destination none = absurd cc
+none_within (From first about) marks set destination none = absurd cc
+
+pub none_is_owed : (destinations : ℕ) (u : Updates) (f : Facts) (t : ToldTable) → is_any u ≡ false → OwesNoneBut destinations u f t → OwesNone f t
+none_is_owed destinations u f t none h = λ set destination. h.none set destination (none_within u.extent u.marks set destination none)
+
+pub none_left : (destinations : ℕ) (u : Updates) (f : Facts) (t : ToldTable) → OwesNoneBut destinations u f t → OwesNone f t → OwesNoneBut destinations (with_none u) f t
+none_left destinations u f t h none = record {
+  marks = h.marks;
+  none = λ set destination out. none set destination;
+}
+
+-- ---- none before a place
+
+owed_before : (f : Facts) (t : ToldTable) (set destination other about : ℕ) → OwesNoneBefore f t set destination
+    → is_from set destination other about ≡ false → owed_at f t other about ≡ None
+owed_before f t set destination other about h out =
+    elim (leb_tells set other) [
+      | inr l ↦ h.sets other about l.1
+      | inl l ↦ elim (eqb_tells other set) [
+        | inr apart ↦ let is = sym (behind set destination other about (omega (arith, l.1, apart.1))) ∙ out in absurd cc
+        | inl same ↦ elim (leb_tells destination about) [
+          | inr m ↦ ap (λ (s : ℕ). owed_at f t s about) same.1 ∙ h.row about m.1
+          | inl m ↦
+              let is = sym (at-or-behind set destination about m.1) ∙ sym (ap (λ (s : ℕ). is_from set destination s about) same.1) ∙ out in
+              absurd cc
+        ]
+      ]
+    ]
+
+left-by : (b : Bool) (destinations : ℕ) (u : Updates) (f : Facts) (t : ToldTable) (set destination : ℕ) → OwesNoneBut destinations u f t → OwesNoneBefore f t set destination
+    → OwesNoneBut destinations (if b then record { extent = From set destination; marks = replicate (length u.marks) false } else u) f t
+left-by true destinations u f t set destination h before = record {
+  marks = length-replicate (length u.marks) false ∙ h.marks;
+  none = λ other about out.
+      owed_before f t set destination other about before (neither (is_from set destination other about) (is_marked (replicate (length u.marks) false) about) out).0;
+}
+left-by false destinations u f t set destination h before = h
+
+pub left_from : (destinations : ℕ) (u : Updates) (f : Facts) (t : ToldTable) (set destination : ℕ) → OwesNoneBut destinations u f t → OwesNoneBefore f t set destination
+    → OwesNoneBut destinations (without_before set destination u) f t
+left_from destinations u f t set destination h before = left-by (has_all_from set destination u.extent) destinations u f t set destination h before
 
 -- ---- as something is told
 
@@ -36,10 +147,16 @@ module _ (f : Facts) (t : ToldTable) (set destination : ℕ) where
   stays other about none =
       still f t (record { set = set; destination = destination; status = status_to_advertise f set destination }) other about refl none
 
-  pub told_owes_no_more : (pending : Pending) → OwesNoneBut pending f t
-      → OwesNoneBut pending f (with_told set destination (status_to_advertise f set destination) t)
-  told_owes_no_more Nothing h = λ other about. stays other about (h other about)
-  told_owes_no_more (From from first) h = record {
+  pub told_owes_no_more : (destinations : ℕ) (u : Updates) → OwesNoneBut destinations u f t
+      → OwesNoneBut destinations u f (with_told set destination (status_to_advertise f set destination) t)
+  told_owes_no_more destinations u h = record {
+    marks = h.marks;
+    none = λ other about out. stays other about (h.none other about out);
+  }
+
+  before_stays : (from first : ℕ) → OwesNoneBefore f t from first
+      → OwesNoneBefore f (with_told set destination (status_to_advertise f set destination) t) from first
+  before_stays from first h = record {
     sets = λ earlier about l. stays earlier about (h.sets earlier about l);
     row = λ about l. stays from about (h.row about l);
   }
@@ -61,7 +178,16 @@ next_place f t set destination h here = record {
   row = λ about l. next_by f t set destination about l here h.row;
 }
 
-due_by : (b : Bool) (s status : RouteStatus) → (if b then Some s else None) ≡ Some status → status ≡ s
+pub next_places : (f : Facts) (t : ToldTable) (set from next : ℕ) → OwesNoneBefore f t set from → OwesNoneBetween f t set from next → OwesNoneBefore f t set next
+next_places f t set from next h between = record {
+  sets = h.sets;
+  row = λ about l. elim (leb_tells from about) [
+    | inl behind ↦ between about behind.1 l
+    | inr before ↦ h.row about before.1
+  ];
+}
+
+pub due_by : (b : Bool) (s status : RouteStatus) → (if b then Some s else None) ≡ Some status → status ≡ s
 due_by true s status e = cc
 due_by false s status e = absurd cc
 
@@ -71,9 +197,15 @@ told_next f t set destination status h e =
     let due : status ≡ status_to_advertise f set destination = due_by _ (status_to_advertise f set destination) status e in
     subst (λ (s : RouteStatus). OwesNoneBefore f (with_told set destination s t) set (destination + 1)) (sym due)
     (next_place f (with_told set destination (status_to_advertise f set destination) t) set destination
-    (told_owes_no_more f t set destination (From set destination) h) (once f t set destination))
+    (before_stays f t set destination set destination h) (once f t set destination))
 
 -- ---- from one set to the next
+
+pub before_all : (f : Facts) (t : ToldTable) → OwesNoneBefore f t 0 0
+before_all f t = record {
+  sets = λ earlier about l. absurd (omega (arith, l));
+  row = λ about l. absurd (omega (arith, l));
+}
 
 next_set_by : (f : Facts) (t : ToldTable) (set destination : ℕ) → OwesNoneBefore f t set destination
     → ((about : ℕ) → owed_at f t set about ≡ None) → OwesNoneBefore f t (set + 1) 0
@@ -114,7 +246,7 @@ no_row (row ∷ rows) zero destination past = absurd (omega (arith, past))
 no_row (row ∷ rows) (suc set) destination past = no_row rows set destination (omega (arith, past))
 
 -- all sets
-pub sets_done : (f : Facts) (t : ToldTable) (set destination : ℕ) → OwesNoneBefore f t set destination → length t.rows ≤ set → OwesNoneBut Nothing f t
+pub sets_done : (f : Facts) (t : ToldTable) (set destination : ℕ) → OwesNoneBefore f t set destination → length t.rows ≤ set → OwesNone f t
 sets_done f t set destination h done =
     λ other about. elim (leb_tells set other) [
       | inl past ↦ not_there f t other about (no_row t.rows other about (omega (arith, done, past.1)))
@@ -134,47 +266,25 @@ module _ {Q : Type 0} (q : QueueKind Q) (c : Configuration) where
       ∙ ap (λ (k : ℕ). row_left q c set k left n) one
       ∙ ap (λ (os : List Owed). tell_each q c os n) (sym (next_is_not_owed (facts c n.parts) n.parts.told set from left none))
 
-  pub row_from : (set first end : ℕ) (n : Node Q)
-      → ((about : ℕ) → about < first → owed_at (facts c n.parts) n.parts.told set about ≡ None)
-      → row_left q c set first (end - first) n ≡ row_left q c set 0 end n
-  row_from set zero end n none =
-      let all : end - 0 ≡ end = omega arith in
-      ap (λ (k : ℕ). row_left q c set 0 k n) all
-  row_from set (suc first) end n none =
-      let next : suc first ≡ first + 1 = omega arith in
-      let less : end - suc first ≡ (end - first) - 1 = omega arith in
-      ap (λ (k : ℕ). row_left q c set k (end - suc first) n) next
-      ∙ ap (λ (k : ℕ). row_left q c set (first + 1) k n) less
-      ∙ row_skipped set first (end - first) n (none first (omega arith))
-      ∙ row_from set first end n (λ about l. none about (omega (arith, l)))
+  row_gap : (set from gap end : ℕ) (n : Node Q) → OwesNoneBetween (facts c n.parts) n.parts.told set from (from + gap)
+      → row_left q c set (from + gap) (end - (from + gap)) n ≡ row_left q c set from (end - from) n
+  row_gap set from zero end n none =
+      let here : from + 0 ≡ from = omega arith in
+      ap (λ (k : ℕ). row_left q c set k (end - k) n) here
+  row_gap set from (suc gap) end n none =
+      let next : from + suc gap ≡ (from + gap) + 1 = omega arith in
+      let less : end - (from + suc gap) ≡ (end - (from + gap)) - 1 = omega arith in
+      ap (λ (k : ℕ). row_left q c set k (end - (from + suc gap)) n) next
+      ∙ ap (λ (k : ℕ). row_left q c set ((from + gap) + 1) k n) less
+      ∙ row_skipped set (from + gap) (end - (from + gap)) n (none (from + gap) (omega arith) (omega arith))
+      ∙ row_gap set from gap end n (λ about least below. none about least (omega (arith, below)))
 
-  set_skipped : (from left : ℕ) (n : Node Q) → ((about : ℕ) → owed_at (facts c n.parts) n.parts.told from about ≡ None)
-      → sets_left q c (from + 1) (left - 1) n ≡ sets_left q c from left n
-  set_skipped from zero n none = refl
-  set_skipped from (suc left) n none =
-      let f : Facts = facts c n.parts in
-      let t : ToldTable = n.parts.told in
-      let one : from + 1 ≡ suc from = omega arith in
-      let less : suc left - 1 ≡ left = omega arith in
-      ap (λ (k : ℕ). sets_left q c (from + 1) k n) less
-      ∙ ap (λ (k : ℕ). sets_left q c k left n) one
-      ∙ ap (λ (os : List Owed). tell_each q c (os ++ owed_by_sets f t (suc from) left) n)
-      (sym (none_of_point f t from 0 (length (row_of t from)) (λ about l k. none about)))
-      ∙ ap (λ (os : List Owed). tell_each q c os n) (sym (next_set f t from left))
-
-  pub sets_from : (first end : ℕ) (n : Node Q)
-      → ((earlier about : ℕ) → earlier < first → owed_at (facts c n.parts) n.parts.told earlier about ≡ None)
-      → sets_left q c first (end - first) n ≡ sets_left q c 0 end n
-  sets_from zero end n none =
-      let all : end - 0 ≡ end = omega arith in
-      ap (λ (k : ℕ). sets_left q c 0 k n) all
-  sets_from (suc first) end n none =
-      let next : suc first ≡ first + 1 = omega arith in
-      let less : end - suc first ≡ (end - first) - 1 = omega arith in
-      ap (λ (k : ℕ). sets_left q c k (end - suc first) n) next
-      ∙ ap (λ (k : ℕ). sets_left q c (first + 1) k n) less
-      ∙ set_skipped first (end - first) n (λ about. none first about (omega arith))
-      ∙ sets_from first end n (λ earlier about l. none earlier about (omega (arith, l)))
+  pub row_from : (set from next end : ℕ) (n : Node Q) → from ≤ next → OwesNoneBetween (facts c n.parts) n.parts.told set from next
+      → row_left q c set next (end - next) n ≡ row_left q c set from (end - from) n
+  row_from set from next end n l none =
+      let gap : from + (next - from) ≡ next = omega (arith, l) in
+      sym (ap (λ (k : ℕ). row_left q c set k (end - k) n) gap)
+      ∙ row_gap set from (next - from) end n (λ about least below. none about least (omega (arith, below, gap)))
 
   -- ---- one place told
 

@@ -22,21 +22,25 @@ use Rattle.exchange_rules.specs.State.{State}
 use Rattle.exchange.specs.KeptQueues.{KeptQueues, held_lane}
 use Rattle.exchange_rules.specs.Holding.{all_wait}
 use Rattle.exchange_rules.specs.Routing.{facts}
-use Rattle.exchange.specs.declared.exchange.pending.Pending.{Pending}
-use Rattle.exchange.specs.Pending.{all_pending, OwesNoneBut}
-use Rattle.exchange.proofs.Pending.{before_all, told_owes_no_more}
+use Rattle.pending_updates.specs.Updates.{Updates, with_all, with_destination}
+use Rattle.exchange.specs.Pending.{OwesNoneBut}
+use Rattle.exchange.proofs.Pending.{all_may_be, status_owes, told_owes_no_more}
 use Rattle.exchange.specs.Room.{HasRoom, kept_in}
 use Rattle.exchange_rules.specs.Places.{HasHoldsFor, HasCodes}
 use Rattle.exchange_rules.proofs.Places.{with_hold-fits}
 use Rattle.settings_rows.specs.Configuration.{Configuration}
 use Rattle.exchange.specs.declared.exchange.Exchange.TheInside.{Inside}
 
+-- nothing is owed but what may be pending
+abbrev Owes : Inside → Updates → Facts → ToldTable → Type 0
+Owes e u f t = OwesNoneBut (length e.settings.destinations) u f t
+
 -- whatever changes but queues, the changeovers and the notices
-pub any_room : (e : Inside) (n : Network) (t : ToldTable) (k : Codes) (u : HoldSet) (r : Running) (release : Bool) (pending : Pending) → HasRoom e
+pub any_room : (e : Inside) (n : Network) (t : ToldTable) (k : Codes) (u : HoldSet) (r : Running) (release : Bool) (pending : Updates) → HasRoom e
     → length n.links ≡ length e.links.links → n.sets ≡ e.links.sets → length n.routes ≡ length e.links.routes → shape_of t ≡ shape_of e.told
     → HasCodes (length e.settings.sets) k → HasHoldsFor e.settings u
     → (release || all_wait e.settings u (lane_at e.lanes.lists held_lane)) ≡ true
-    → OwesNoneBut pending (facts_of n) t
+    → Owes e pending (facts_of n) t
     → HasRoom (record e { links = n; told = t; changeback = k; holds = u; timers = r; release_due = release; pending = pending })
 any_room e n t k u r release pending h many sets routes shape codes holds waiting owes = record {
   lanes = h.lanes ∙ ap (λ (k : ℕ). k + 1) (sym many);
@@ -56,9 +60,9 @@ any_room e n t k u r release pending h many sets routes shape codes holds waitin
 }
 
 -- links, what was told and timers change
-pub changed_room : (e : Inside) (n : Network) (t : ToldTable) (r : Running) (pending : Pending) → HasRoom e
+pub changed_room : (e : Inside) (n : Network) (t : ToldTable) (r : Running) (pending : Updates) → HasRoom e
     → length n.links ≡ length e.links.links → n.sets ≡ e.links.sets → length n.routes ≡ length e.links.routes → shape_of t ≡ shape_of e.told
-    → OwesNoneBut pending (facts_of n) t
+    → Owes e pending (facts_of n) t
     → HasRoom (record e { links = n; told = t; timers = r; pending = pending })
 changed_room e n t r pending h many sets routes shape owes =
     any_room e n t e.changeback e.holds r e.release_due pending h many sets routes shape h.codes h.holds h.waiting owes
@@ -70,7 +74,7 @@ pub held_room : (e : Inside) (n : Network) (k : Codes) (u : HoldSet) (r : Runnin
 held_room e n k u r h same codes holds =
     any_room e n e.told k u r true e.pending h (ap (λ (m : Network). length m.links) same) (ap (λ (m : Network). m.sets) same)
     (ap (λ (m : Network). length m.routes) same) refl codes holds refl
-    (subst (λ (m : Network). OwesNoneBut e.pending (facts_of m) e.told) (sym same) h.pending)
+    (subst (λ (m : Network). Owes e e.pending (facts_of m) e.told) (sym same) h.pending)
 
 -- a status changes no count of routes
 pub status_routes : (n m : Network) (destination set : ℕ) (status : RouteStatus) → m ≡ with_route_status destination set status n → length m.routes ≡ length n.routes
@@ -78,17 +82,35 @@ status_routes n m destination set status e =
     ap (λ (m : Network). length m.routes) e
     ∙ length-set n.routes destination (map (with_status_over set status) (slice_index_or n.routes destination []))
 
--- routes and what is held change, a release is due, and anything may be pending
-pub rerouted_room : (e : Inside) (n : Network) (u : HoldSet) (r : Running) (pending : Pending) → HasRoom e
-    → n.links ≡ e.links.links → n.sets ≡ e.links.sets → length n.routes ≡ length e.links.routes → HasHoldsFor e.settings u
-    → pending ≡ all_pending → HasRoom (record e { links = n; holds = u; timers = r; release_due = true; pending = pending })
-rerouted_room e n u r pending h links sets routes holds all =
-    any_room e n e.told e.changeback u r true pending h (ap (λ (ls : List Link). length ls) links) sets routes refl h.codes holds refl
-    (subst (λ (p : Pending). OwesNoneBut p (facts_of n) e.told) (sym all) (before_all (facts_of n) e.told))
+-- nothing is owed but what was, and what may be about the destination of a route with another status
+status_owes_but : (e : Inside) (n : Network) (destination set : ℕ) (status : RouteStatus) (pending : Updates) → HasRoom e
+    → n ≡ with_route_status destination set status e.links → destination < length e.settings.destinations → pending ≡ with_destination destination e.pending
+    → Owes e pending (facts_of n) e.told
+status_owes_but e n destination set status pending h same there is =
+    subst (λ (p : Updates). Owes e p (facts_of n) e.told) (sym is)
+    (subst (λ (m : Network). Owes e (with_destination destination e.pending) (facts_of m) e.told) (sym same)
+    (status_owes (length e.settings.destinations) e.pending (facts_of e.links) e.told destination set status there h.pending))
+
+-- a route gets another status
+pub forced_room : (e : Inside) (n : Network) (destination set : ℕ) (status : RouteStatus) (pending : Updates) → HasRoom e
+    → n ≡ with_route_status destination set status e.links → destination < length e.settings.destinations → pending ≡ with_destination destination e.pending
+    → HasRoom (record e { links = n; pending = pending })
+forced_room e n destination set status pending h same there is =
+    changed_room e n e.told e.timers pending h (ap (λ (m : Network). length m.links) same) (ap (λ (m : Network). m.sets) same)
+    (status_routes e.links n destination set status same) refl (status_owes_but e n destination set status pending h same there is)
+
+-- besides, what is held changes, and a release is due
+pub rerouted_room : (e : Inside) (n : Network) (u : HoldSet) (r : Running) (destination set : ℕ) (status : RouteStatus) (pending : Updates) → HasRoom e
+    → n ≡ with_route_status destination set status e.links → destination < length e.settings.destinations → pending ≡ with_destination destination e.pending
+    → HasHoldsFor e.settings u
+    → HasRoom (record e { links = n; holds = u; timers = r; release_due = true; pending = pending })
+rerouted_room e n u r destination set status pending h same there is holds =
+    any_room e n e.told e.changeback u r true pending h (ap (λ (m : Network). length m.links) same) (ap (λ (m : Network). m.sets) same)
+    (status_routes e.links n destination set status same) refl h.codes holds refl (status_owes_but e n destination set status pending h same there is)
 
 -- one link changes
-pub link_room : (e : Inside) (n : Network) (link : ℕ) (state : Link) (pending : Pending) → HasRoom e → n ≡ with_state e.links link state
-    → OwesNoneBut pending (facts_of (with_state e.links link state)) e.told
+pub link_room : (e : Inside) (n : Network) (link : ℕ) (state : Link) (pending : Updates) → HasRoom e → n ≡ with_state e.links link state
+    → Owes e pending (facts_of (with_state e.links link state)) e.told
     → HasRoom (record e { links = n; pending = pending })
 link_room e n link state pending h same owes =
     subst (λ (m : Network). HasRoom (record e { links = m; pending = pending })) (sym same)
@@ -96,8 +118,8 @@ link_room e n link state pending h same owes =
 
 -- whatever changes, what was owed nothing is owed nothing
 still : (e : Inside) (link : ℕ) (state : Link) → is_in_service state.alignment ≡ is_in_service (link_in e.links.links link).alignment
-    → HasRoom e → OwesNoneBut e.pending (facts_of (with_state e.links link state)) e.told
-still e link state serves h = subst (λ (f : Facts). OwesNoneBut e.pending f e.told) (sym (facts_alike e.links link state serves)) h.pending
+    → HasRoom e → Owes e e.pending (facts_of (with_state e.links link state)) e.told
+still e link state serves h = subst (λ (f : Facts). Owes e e.pending f e.told) (sym (facts_alike e.links link state serves)) h.pending
 
 -- neither in service before nor now, or both
 pub still_room : (e : Inside) (n : Network) (link : ℕ) (state : Link) → HasRoom e → n ≡ with_state e.links link state
@@ -107,39 +129,39 @@ still_room e n link state h same serves = link_room e n link state e.pending h s
 
 -- where it was in service and is no more, anything may be pending
 left-by : (e : Inside) (link : ℕ) (state : Link) (served : Bool) → is_in_service (link_in e.links.links link).alignment ≡ served → is_in_service state.alignment ≡ false
-    → HasRoom e → OwesNoneBut (if served then all_pending else e.pending) (facts_of (with_state e.links link state)) e.told
-left-by e link state true was out h = before_all (facts_of (with_state e.links link state)) e.told
+    → HasRoom e → Owes e (if served then with_all e.pending else e.pending) (facts_of (with_state e.links link state)) e.told
+left-by e link state true was out h = all_may_be (length e.settings.destinations) e.pending (facts_of (with_state e.links link state)) e.told h.pending.marks
 left-by e link state false was out h = still e link state (out ∙ sym was) h
 
-pub left_room : (e : Inside) (n : Network) (link : ℕ) (state : Link) (served : Bool) (pending : Pending) → HasRoom e → n ≡ with_state e.links link state
+pub left_room : (e : Inside) (n : Network) (link : ℕ) (state : Link) (served : Bool) (pending : Updates) → HasRoom e → n ≡ with_state e.links link state
     → served ≡ is_in_service (link_in e.links.links link).alignment → is_in_service state.alignment ≡ false
-    → pending ≡ (if served then all_pending else e.pending)
+    → pending ≡ (if served then with_all e.pending else e.pending)
     → HasRoom (record e { links = n; pending = pending })
 left_room e n link state served pending h same was out is =
     link_room e n link state pending h same
-    (subst (λ (p : Pending). OwesNoneBut p (facts_of (with_state e.links link state)) e.told) (sym is) (left-by e link state served (sym was) out h))
+    (subst (λ (p : Updates). Owes e p (facts_of (with_state e.links link state)) e.told) (sym is) (left-by e link state served (sym was) out h))
 
 -- where it entered or left service, anything may be pending
 moved-by : (e : Inside) (link : ℕ) (state : Link) (before now : Bool) → is_in_service (link_in e.links.links link).alignment ≡ before → is_in_service state.alignment ≡ now
-    → HasRoom e → OwesNoneBut (if (if before then not now else now) then all_pending else e.pending) (facts_of (with_state e.links link state)) e.told
+    → HasRoom e → Owes e (if (if before then not now else now) then with_all e.pending else e.pending) (facts_of (with_state e.links link state)) e.told
 moved-by e link state true true was is h = still e link state (is ∙ sym was) h
-moved-by e link state true false was is h = before_all (facts_of (with_state e.links link state)) e.told
-moved-by e link state false true was is h = before_all (facts_of (with_state e.links link state)) e.told
+moved-by e link state true false was is h = all_may_be (length e.settings.destinations) e.pending (facts_of (with_state e.links link state)) e.told h.pending.marks
+moved-by e link state false true was is h = all_may_be (length e.settings.destinations) e.pending (facts_of (with_state e.links link state)) e.told h.pending.marks
 moved-by e link state false false was is h = still e link state (is ∙ sym was) h
 
-pub moved_room : (e : Inside) (n : Network) (link : ℕ) (state : Link) (before now changed : Bool) (pending : Pending) → HasRoom e
+pub moved_room : (e : Inside) (n : Network) (link : ℕ) (state : Link) (before now changed : Bool) (pending : Updates) → HasRoom e
     → n ≡ with_state e.links link state
     → before ≡ is_in_service (link_in e.links.links link).alignment → now ≡ is_in_service (link_in n.links link).alignment
-    → changed ≡ (if before then not now else now) → pending ≡ (if changed then all_pending else e.pending) → link < length e.links.links
+    → changed ≡ (if before then not now else now) → pending ≡ (if changed then with_all e.pending else e.pending) → link < length e.links.links
     → HasRoom (record e { links = n; pending = pending })
 moved_room e n link state before now changed pending h same was is differs may there =
     let now_is : now ≡ is_in_service state.alignment =
     is ∙ ap (λ (l : Link). is_in_service l.alignment)
     (ap (λ (m : Network). link_in m.links link) same ∙ get_or-set_same e.links.links link state down_link there) in
-    let whole : pending ≡ (if (if before then not now else now) then all_pending else e.pending) =
-    may ∙ ap (λ (b : Bool). if b then all_pending else e.pending) differs in
+    let whole : pending ≡ (if (if before then not now else now) then with_all e.pending else e.pending) =
+    may ∙ ap (λ (b : Bool). if b then with_all e.pending else e.pending) differs in
     link_room e n link state pending h same
-    (subst (λ (p : Pending). OwesNoneBut p (facts_of (with_state e.links link state)) e.told) (sym whole)
+    (subst (λ (p : Updates). Owes e p (facts_of (with_state e.links link state)) e.told) (sym whole)
     (moved-by e link state before now (sym was) (sym now_is) h))
 
 -- ---- what is said of what an exchange shows
@@ -159,21 +181,20 @@ view_shape e s h view =
     subst (λ (x : State KeptQueues). shape_of x.node.parts.told ≡ replicate (length x.settings.sets) (length x.settings.destinations)) view h.told
 
 -- nothing is owed but what may be pending
-pub view_pending : (e : Inside) (s : State KeptQueues) (pending : Pending) → HasRoom e → kept_in e ≡ s → e.pending ≡ pending
-    → OwesNoneBut pending (facts s.settings s.node.parts) s.node.parts.told
-view_pending e s pending h view is =
-    subst (λ (f : Facts). OwesNoneBut pending f s.node.parts.told) (sym (view_facts e s h view))
-    (subst (OwesNoneBut pending (facts_of e.links)) (sym (view_told e s view))
-    (subst (λ (p : Pending). OwesNoneBut p (facts_of e.links) e.told) is h.pending))
+pub view_pending : (e : Inside) (s : State KeptQueues) → HasRoom e → kept_in e ≡ s
+    → OwesNoneBut (length e.settings.destinations) e.pending (facts s.settings s.node.parts) s.node.parts.told
+view_pending e s h view =
+    subst (λ (f : Facts). Owes e e.pending f s.node.parts.told) (sym (view_facts e s h view))
+    (subst (λ (t : ToldTable). Owes e e.pending (facts_of e.links) t) (sym (view_told e s view)) h.pending)
 
 -- what may be pending is found anew
-pub pending_room : (e : Inside) (s : State KeptQueues) (pending : Pending) → HasRoom e → kept_in e ≡ s
-    → OwesNoneBut pending (facts s.settings s.node.parts) s.node.parts.told
+pub pending_room : (e : Inside) (s : State KeptQueues) (pending : Updates) → HasRoom e → kept_in e ≡ s
+    → OwesNoneBut (length e.settings.destinations) pending (facts s.settings s.node.parts) s.node.parts.told
     → HasRoom (record e { pending = pending })
 pending_room e s pending h view owes =
     changed_room e e.links e.told e.timers pending h refl refl refl refl
-    (subst (λ (f : Facts). OwesNoneBut pending f e.told) (view_facts e s h view)
-    (subst (OwesNoneBut pending (facts s.settings s.node.parts)) (view_told e s view) owes))
+    (subst (λ (f : Facts). Owes e pending f e.told) (view_facts e s h view)
+    (subst (λ (t : ToldTable). Owes e pending (facts s.settings s.node.parts) t) (view_told e s view) owes))
 
 -- what is to be told was told
 pub answered_room : (e : Inside) (s : State KeptQueues) (t : ToldTable) (set destination : ℕ) (status : RouteStatus) → HasRoom e → kept_in e ≡ s
@@ -183,8 +204,8 @@ answered_room e s t set destination status h view is same =
     let all : t ≡ with_told set destination (status_to_advertise (facts_of e.links) set destination) e.told =
     same ∙ ap (λ (x : RouteStatus). with_told set destination x e.told) (is ∙ ap (λ (f : Facts). status_to_advertise f set destination) (view_facts e s h view)) in
     changed_room e e.links t e.timers e.pending h refl refl refl (ap shape_of same ∙ told_shape e.told set destination status)
-    (subst (OwesNoneBut e.pending (facts_of e.links)) (sym all)
-    (told_owes_no_more (facts_of e.links) e.told set destination e.pending h.pending))
+    (subst (λ (x : ToldTable). Owes e e.pending (facts_of e.links) x) (sym all)
+    (told_owes_no_more (facts_of e.links) e.told set destination (length e.settings.destinations) e.pending h.pending))
 
 -- what a link takes over is held by procedures of the node
 with_change-fits : (c : Configuration) (t : HoldSet) (change : FlowChange) (holder : Option Procedure) → HasHoldsFor c t → HasHoldsFor c (with_change t change holder)

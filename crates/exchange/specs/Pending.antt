@@ -1,23 +1,27 @@
 -- Which updates for adjacent points may be pending.
-use Rattle.std.specs.Prelude.{◌≡◌, ◌<◌, ◌+◌, ℕ, Option, None, Some}
+use Rattle.std.specs.Prelude.{◌≡◌, ◌≤◌, ◌<◌, ◌+◌, ℕ, Option, None, Some, false, length}
 use Rattle.routes.specs.Facts.{Facts}
+use Rattle.pending_updates.specs.Updates.{Updates, may_be_pending}
 use Rattle.route_management.specs.Told.{ToldTable}
 use Rattle.route_management.specs.Owed.{owed_at}
-use Rattle.exchange.specs.declared.exchange.pending.Pending.{Pending}
-use Rattle.exchange.specs.declared.exchange.pending.Pending.TheVariants.{Nothing, From}
 
-abbrev pub all_pending : Pending
-all_pending = From 0 0
+-- no adjacent point is owed anything
+abbrev pub OwesNone : Facts → ToldTable → Type 0
+OwesNone f t = (set destination : ℕ) → owed_at f t set destination ≡ None
 
 -- nothing is owed before a place, in the order of sets and then of destinations
 pub record OwesNoneBefore (f : Facts) (t : ToldTable) (set destination : ℕ) : Type 0 where
   pub sets : (earlier about : ℕ) → earlier < set → owed_at f t earlier about ≡ None
   pub row : (about : ℕ) → about < destination → owed_at f t set about ≡ None
 
--- nothing is owed but what may be pending
-abbrev pub OwesNoneBut : Pending → Facts → ToldTable → Type 0
-OwesNoneBut Nothing f t = (set destination : ℕ) → owed_at f t set destination ≡ None
-OwesNoneBut (From set destination) f t = OwesNoneBefore f t set destination
+-- the point of a set is owed nothing of the destinations from one on up to another
+abbrev pub OwesNoneBetween : Facts → ToldTable → (set from end : ℕ) → Type 0
+OwesNoneBetween f t set from end = (about : ℕ) → from ≤ about → about < end → owed_at f t set about ≡ None
+
+-- nothing is owed but what may be pending, which is told of so many destinations
+pub record OwesNoneBut (destinations : ℕ) (u : Updates) (f : Facts) (t : ToldTable) : Type 0 where
+  pub marks : length u.marks ≡ destinations
+  pub none : (set destination : ℕ) → may_be_pending u set destination ≡ false → owed_at f t set destination ≡ None
 
 -- nothing is owed before the place where a walk over the destinations of a set stopped, or else before the next set
 abbrev pub OwesNoneUpTo : Option ℕ → Facts → ToldTable → ℕ → Type 0

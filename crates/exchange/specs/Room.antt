@@ -51,4 +51,4 @@ pub record HasRoom (e : Inside) : Type 0 where
   pub codes : HasCodes (length e.settings.sets) e.changeback
   pub holds : HasHoldsFor e.settings e.holds
   pub waiting : (e.release_due || all_wait e.settings e.holds (lane_at e.lanes.lists held_lane)) ≡ true
-  pub pending : OwesNoneBut e.pending (facts_of e.links) e.told
+  pub pending : OwesNoneBut (length e.settings.destinations) e.pending (facts_of e.links) e.told

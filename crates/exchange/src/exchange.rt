@@ -25,7 +25,6 @@ mod made;
 mod messages;
 mod noting;
 mod opening;
-mod pending;
 mod points;
 mod relaying;
 mod releasing;
@@ -49,7 +48,7 @@ use flow_hold::Holds;
 use link::Sequence;
 use m2pa_codec::BUFFER_OCTETS;
 use node_links::NodeLinks;
-use pending::Pending;
+use pending_updates::PendingUpdates;
 use route_management::Told;
 use sccp_relay::Translations;
 use settings::{LinkId, Notice, Outcome, Settings};
@@ -80,7 +79,7 @@ pub struct Exchange {
     // whether a hold changed since the messages of Held were last gone through
     release_due: bool,
     // which updates for adjacent points may be pending
-    pending: Pending,
+    pending: PendingUpdates,
 }
 
 impl Model for Exchange {

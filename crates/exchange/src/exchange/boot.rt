@@ -8,12 +8,12 @@ ghost use Rattle.route_management.specs.Told.{first_told, shape_of};
 ghost use Rattle.flow_hold.specs.Holds.{no_holds};
 ghost use Rattle.sccp_relay.specs.Rows.{table_of};
 ghost use Rattle.link.specs.Counts.{kept_first};
+ghost use Rattle.pending_updates.specs.Updates.{first_updates};
 ghost use Rattle.exchange.specs.Stands.{StandsFor, kept_of};
 ghost use Rattle.exchange_rules.specs.First.{first_state, counts_in};
 ghost use Rattle.exchange_rules.specs.Routing.{first_network_of};
 
 use super::Exchange;
-use super::pending::Pending;
 use crate::memory::NoMemory;
 use cell_pool::CellPool;
 use changeback::Changeback;
@@ -22,6 +22,7 @@ use circular_buffer::HeapCircularBuffer;
 use flow_hold::Holds;
 use link::Sequence;
 use node_links::NodeLinks;
+use pending_updates::PendingUpdates;
 use route_management::Told;
 use sccp_relay::Translations;
 use settings::{Limits, Settings};
@@ -56,6 +57,7 @@ impl Exchange {
             holds,
             titles,
             timers,
+            pending,
         } = of_network;
         Ok(Exchange {
             settings,
@@ -73,8 +75,7 @@ impl Exchange {
             times_lost: 0,
             times_late: 0,
             release_due: false,
-            // nothing is owed yet, which the first event finds out
-            pending: Pending::all(),
+            pending,
         })
     }
 }
@@ -119,6 +120,8 @@ struct NetworkParts {
     holds: Holds,
     titles: Translations,
     timers: Timers,
+    // nothing is owed yet, which the first event finds out
+    pending: PendingUpdates,
 }
 
 impl NetworkParts {
@@ -133,6 +136,8 @@ impl NetworkParts {
             (length settings.now.sets) (length settings.now.destinations)) }
         ensures titles { IfOk result (λ parts. parts.titles ≡ table_of settings.now.titles) }
         ensures timers { IfOk result (λ parts. parts.timers ≡ none_running (counts_in settings.now)) }
+        ensures pending { IfOk result (λ parts.
+            parts.pending ≡ first_updates (length settings.now.destinations)) }
     {
         Ok(NetworkParts {
             told: nothing_told(alloc, settings)?,
@@ -140,6 +145,7 @@ impl NetworkParts {
             holds: no_holds(alloc, settings)?,
             titles: first_titles(alloc, settings)?,
             timers: Timers::new(alloc, counts_in(settings))?,
+            pending: PendingUpdates::new(alloc, settings.destinations().len())?,
         })
     }
 }

@@ -65,7 +65,8 @@ impl Exchange {
         ensures { self.new ≡ with_node self.old (with_parts self.old.node
             (with_link self.old.node.parts link (opened (link_at self.old.node.parts link)))) }
     {
-        self.pending = self.pending.or_all(self.links.state(link).is_in_service());
+        self.pending
+            .add_all_if(self.links.state(link).is_in_service());
         self.links.open(link);
     }
 
@@ -75,7 +76,8 @@ impl Exchange {
         ensures { self.new ≡ with_node self.old (with_parts self.old.node
             (with_link self.old.node.parts link (after_failure (link_at self.old.node.parts link)))) }
     {
-        self.pending = self.pending.or_all(self.links.state(link).is_in_service());
+        self.pending
+            .add_all_if(self.links.state(link).is_in_service());
         self.links.fail(link);
     }
 
@@ -90,7 +92,7 @@ impl Exchange {
         let served = self.links.state(link).is_in_service();
         let action = self.links.on(link, input);
         let serves = self.links.state(link).is_in_service();
-        self.pending = self.pending.or_all(has_changed(served, serves));
+        self.pending.add_all_if(has_changed(served, serves));
         action
     }
 }

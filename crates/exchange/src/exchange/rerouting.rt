@@ -14,7 +14,6 @@ ghost use Rattle.route_management.specs.Hearing.{heard};
 ghost use Rattle.exchange_rules.specs.Rerouting as rule;
 
 use super::Exchange;
-use super::pending::Pending;
 use changeback::reroute;
 use flow_hold::Procedure;
 use mtp3_codec::Management;
@@ -70,8 +69,7 @@ impl Exchange {
     {
         self.time_status(set, destination, status);
         if status.is(RouteStatus::Prohibited) {
-            self.pending = Pending::all();
-            self.links.set_status(destination, set, status);
+            self.force(set, destination, status);
         } else {
             self.reroute(set, destination, status);
         }
@@ -92,6 +90,16 @@ impl Exchange {
         }
     }
 
+    /// Forced rerouting: the route to a destination over a set gets a status.
+    fn force(&mut self, set: SetId, destination: usize, status: RouteStatus)
+        requires { destination < length self.old.settings.destinations }
+        ensures { self.new ≡ with_node self.old (with_parts self.old.node
+            (rule.forced self.old.settings set destination status self.old.node.parts)) }
+    {
+        self.pending.add(destination);
+        self.links.set_status(destination, set, status);
+    }
+
     /// Controlled rerouting: the route to a destination over a set gets a status. Flows to that destination that move
     /// from one link to another as a result are held, and if there are any, T6 restarts.
     fn reroute(&mut self, set: SetId, destination: usize, status: RouteStatus)
@@ -100,7 +108,7 @@ impl Exchange {
             (rule.controlled self.old.settings set destination status self.old.node.parts)) }
     {
         let timer = TimerName::T6(self.number_of(destination));
-        self.pending = Pending::all();
+        self.pending.add(destination);
         self.release_due = true;
         if reroute(&mut self.links, &mut self.holds, destination, set, status) {
             self.timers.set(timer, self.settings.timers().t6);
@@ -123,7 +131,7 @@ impl Exchange {
         ensures { self.new ≡ with_node self.old
             (with_parts self.old.node (rule.with_set_reset self.old.settings set self.old.node.parts)) }
     {
-        self.pending = Pending::all();
+        self.pending.add_all();
         self.links.reset_statuses(set);
         self.told.reset(set);
         self.timers.clear_set(RouteTimer::T8, set);

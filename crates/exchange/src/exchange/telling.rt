@@ -1,6 +1,6 @@
 //! What adjacent points are told about routes.
 
-ghost use Rattle.std.specs.Prelude.{◌≡◌, ◌<◌, true, false, length, Some, IfSome};
+ghost use Rattle.std.specs.Prelude.{◌≡◌, ◌≤◌, ◌<◌, true, false, length, Some, IfSome, IfNone};
 ghost use Rattle.settings.specs.Readings.{destination_place, set_place};
 ghost use Rattle.route_management.specs.Hearing as hearing;
 ghost use Rattle.route_management.specs.Owed.{status_to_advertise};
@@ -12,10 +12,9 @@ ghost use Rattle.exchange_rules.specs.Routing.{facts};
 ghost use Rattle.exchange_rules.specs.Points.{route_about};
 ghost use Rattle.exchange_rules.specs.Telling as rule;
 ghost use Rattle.exchange.specs.Telling.{known, told_set, told_at_place};
-ghost use Rattle.exchange.specs.Pending.{OwesNoneBefore, OwesNoneBut, OwesNoneUpTo};
+ghost use Rattle.exchange.specs.Pending.{OwesNone, OwesNoneBefore, OwesNoneBetween, OwesNoneUpTo};
 
 use super::Exchange;
-use super::pending::Pending;
 use cell_pool::Lanes;
 use mtp3_codec::Management;
 use route_management::RouteTest;
@@ -32,85 +31,112 @@ impl Exchange {
     pub(super) fn tell_owed(&mut self)
         ensures { self.new ≡ with_node self.old (rule.tell_owed kept self.old.settings self.old.node) }
     {
-        let pending = self.pending;
-        if let Pending::From(set, destination) = pending {
-            self.tell_if_room(set, destination);
+        if self.pending.is_any() {
+            self.tell_if_room();
         }
     }
 
-    /// Queues the pending updates, none of which stands before a place, while there is room.
+    /// Queues the pending updates, if there is room.
     #[inline(always)]
-    fn tell_if_room(&mut self, set: SetId, destination: usize)
-        requires { OwesNoneBefore (known self.old) self.old.node.parts.told set destination }
+    fn tell_if_room(&mut self)
         ensures { self.new ≡ with_node self.old (rule.tell_owed kept self.old.settings self.old.node) }
     {
         if self.may_tell() {
-            self.tell_all(set, destination);
+            self.tell_all();
         }
     }
 
-    /// Queues the pending updates, none of which stands before a place, until there is no room for more. What is left
-    /// stays pending.
+    /// Queues the pending updates until there is no room for more. What is left stays pending.
     #[inline(never)]
-    fn tell_all(&mut self, set: SetId, destination: usize)
-        requires { OwesNoneBefore (known self.old) self.old.node.parts.told set destination }
+    fn tell_all(&mut self)
         ensures { self.new ≡ with_node self.old (rule.tell_owed kept self.old.settings self.old.node) }
     {
-        self.pending = Pending::all();
-        let pending = self.tell_sets(set, destination);
-        self.pending = pending;
-    }
-
-    /// Tells each adjacent point what it is owed, from a place on, before which nothing is. Returns what may still be
-    /// pending. Meanwhile anything may.
-    fn tell_sets(&mut self, from: SetId, destination: usize) -> Pending
-        requires { OwesNoneBefore (known self.old) self.old.node.parts.told from destination }
-        ensures state { self.new ≡ with_node self.old (rule.tell_owed kept self.old.settings self.old.node) }
-        ensures pending { OwesNoneBut result (known self.new) self.new.node.parts.told }
-    {
-        let mut first = destination;
-        for set in from.index()..self.settings.sets().len() {
-            let set = SetId::new(set as u8);
-            if let Some(stopped) = self.tell_set(set, first) {
-                return Pending::From(set, stopped);
-            }
-            first = 0;
+        match self.tell_sets() {
+            Some((set, destination)) => self.stop_telling(set, destination),
+            None => self.end_telling(),
         }
-        Pending::Nothing
     }
 
-    /// Tells the adjacent point of a set what it is owed, from a destination on, before which nothing is. Returns the
+    /// No update before this one is pending.
+    fn stop_telling(&mut self, set: SetId, destination: usize)
+        requires { OwesNoneBefore (known self.old) self.old.node.parts.told set destination }
+        ensures { self.new ≡ self.old }
+    {
+        self.pending.clear_before(set, destination);
+    }
+
+    /// No update is pending.
+    fn end_telling(&mut self)
+        requires { OwesNone (known self.old) self.old.node.parts.told }
+        ensures { self.new ≡ self.old }
+    {
+        self.pending.clear();
+    }
+
+    /// Tells each adjacent point what it is owed. Returns the set and the destination at which there was no more room.
+    fn tell_sets(&mut self) -> Option<(SetId, usize)>
+        ensures state { self.new ≡ with_node self.old (rule.tell_owed kept self.old.settings self.old.node) }
+        ensures some { IfSome result (λ place.
+            OwesNoneBefore (known self.new) self.new.node.parts.told place.0 place.1) }
+        ensures none { IfNone result (OwesNone (known self.new) self.new.node.parts.told) }
+    {
+        for set in 0..self.settings.sets().len() {
+            let set = SetId::new(set as u8);
+            if let Some(stopped) = self.tell_set(set) {
+                return Some((set, stopped));
+            }
+        }
+        None
+    }
+
+    /// Tells the adjacent point of a set what it is owed, where those of earlier sets are owed nothing. Returns the
     /// destination at which there was no more room.
-    fn tell_set(&mut self, set: SetId, first: usize) -> Option<usize>
+    fn tell_set(&mut self, set: SetId) -> Option<usize>
         requires set { set < length self.old.settings.sets }
-        requires before { OwesNoneBefore (known self.old) self.old.node.parts.told set first }
+        requires before { OwesNoneBefore (known self.old) self.old.node.parts.told set 0 }
         ensures state { self.new ≡ told_set set self.old }
         ensures full { IfSome result (λ _. rule.may_tell kept self.new.settings self.new.node ≡ false) }
         ensures pending { OwesNoneUpTo result (known self.new) self.new.node.parts.told set }
     {
         if self.links.has_link(set) {
-            self.tell_row(set, first)
+            self.tell_row(set)
         } else {
             None
         }
     }
 
-    /// Tells the adjacent point of a set with a link in service what it is owed, from a destination on, before which
-    /// nothing is. Returns the destination at which there was no more room.
-    fn tell_row(&mut self, set: SetId, first: usize) -> Option<usize>
+    /// Tells the adjacent point of a set with a link in service what it is owed, where those of earlier sets are owed
+    /// nothing. Returns the destination at which there was no more room.
+    fn tell_row(&mut self, set: SetId) -> Option<usize>
         requires set { set < length self.old.settings.sets }
-        requires before { OwesNoneBefore (known self.old) self.old.node.parts.told set first }
+        requires before { OwesNoneBefore (known self.old) self.old.node.parts.told set 0 }
         ensures state { self.new ≡ told_set set self.old }
         ensures full { IfSome result (λ _. rule.may_tell kept self.new.settings self.new.node ≡ false) }
         ensures pending { OwesNoneUpTo result (known self.new) self.new.node.parts.told set }
     {
-        for destination in first..self.settings.destinations().len() {
+        let end = self.settings.destinations().len();
+        let mut destination = self.next_pending(set, 0);
+        while destination < end {
             if !self.may_tell() {
                 return Some(destination);
             }
             self.tell_at(set, destination);
+            destination = self.next_pending(set, destination + 1);
         }
         None
+    }
+
+    /// The first destination from this one on of which the adjacent point of a set may be owed word; the number of all
+    /// destinations, or this one, where there is none.
+    #[inline(always)]
+    fn next_pending(&self, set: SetId, from: usize) -> usize
+        ensures from { from ≤ result }
+        ensures none { OwesNoneBetween (known self.now) self.now.node.parts.told set from result }
+    {
+        match self.pending.next(set, from) {
+            Some(destination) => destination,
+            None => from.max(self.settings.destinations().len()),
+        }
     }
 
     /// Tells the adjacent point of a set what it is owed of a destination, while there is room for it.
@@ -125,10 +151,11 @@ impl Exchange {
         }
     }
 
-    /// Tells the adjacent point of a set a status that it is owed of a destination. Anything may be pending, then.
+    /// Tells the adjacent point of a set the status that it is to be told of a destination.
     fn tell(&mut self, set: SetId, destination: usize, status: RouteStatus)
         requires set { set < length self.old.settings.sets }
         requires destination { destination < length self.old.settings.destinations }
+        requires status { status ≡ status_to_advertise (known self.old) set destination }
         ensures { self.new ≡ with_node self.old (rule.tell kept self.old.settings
             (record { set = set; destination = destination; status = status }) self.old.node) }
     {
@@ -139,12 +166,12 @@ impl Exchange {
         self.send_status(set, destination, status);
     }
 
-    /// The adjacent point of a set was told a status of a destination. Anything may be pending, then.
+    /// The adjacent point of a set was told what it is to be told of a destination. That makes nothing pending.
     fn record_told(&mut self, set: SetId, destination: usize, status: RouteStatus)
+        requires { status ≡ status_to_advertise (known self.old) set destination }
         ensures { self.new ≡ with_node self.old (with_parts self.old.node
             (rule.answered_parts set destination status self.old.node.parts)) }
     {
-        self.pending = Pending::all();
         self.told.tell(set, destination, status);
     }
 
@@ -244,18 +271,9 @@ impl Exchange {
             .told
             .answer_to_test(&self.links, set, destination, test);
         if let Some(status) = answer {
-            self.record_answer(set, destination, status);
+            self.record_told(set, destination, status);
             self.send_status(set, destination, status);
         }
-    }
-
-    /// The adjacent point of a set was told what it is to be told of a destination. That makes nothing due.
-    fn record_answer(&mut self, set: SetId, destination: usize, status: RouteStatus)
-        requires { status ≡ status_to_advertise (facts self.old.settings self.old.node.parts) set destination }
-        ensures { self.new ≡ with_node self.old (with_parts self.old.node
-            (rule.answered_parts set destination status self.old.node.parts)) }
-    {
-        self.told.tell(set, destination, status);
     }
 
     /// Whether the node has few enough management messages to queue another update.

@@ -1,5 +1,5 @@
 -- The parts are those of the first state.
-use Rattle.std.proofs.Common.{◌≡◌, ◌+◌, ℕ, suc, List, [], length, replicate, ap, sym, subst, refl, ◌∙◌, arith}
+use Rattle.std.proofs.Common.{◌≡◌, ◌+◌, ℕ, suc, false, List, [], length, replicate, ap, sym, subst, refl, ◌∙◌, arith}
 use Rattle.std.proofs.lemmas.List.{length-replicate, length-map}
 use Rattle.signalling_types.specs.Message.{Message}
 use Rattle.link.specs.Counts.{kept_first}
@@ -13,9 +13,9 @@ use Rattle.cell_pool.specs.Stored.{Stored}
 use Rattle.routes.specs.Facts.{first_routes}
 use Rattle.exchange_rules.specs.Places.{HasHoldsFor, HasCodes}
 use Rattle.exchange_rules.proofs.Places.{no_codes-fits, no_holds-fits}
-use Rattle.exchange.specs.declared.exchange.pending.Pending.{Pending}
+use Rattle.pending_updates.specs.Updates.{Updates, first_updates}
 use Rattle.exchange.specs.Pending.{OwesNoneBut}
-use Rattle.exchange.proofs.Pending.{before_all}
+use Rattle.exchange.proofs.Pending.{all_may_be}
 use Rattle.exchange.proofs.Standing.{first-kept, stands-first}
 use Rattle.exchange.proofs.exchange.Exchange.boot.Goals as goal
 
@@ -52,6 +52,8 @@ invariant_of-result c =
       holds = subst (HasHoldsFor c.args.settings) (sym c.in_ok-of_network.ensures.holds) (no_holds-fits c.args.settings);
       waiting = ap (λ (ls : List (List Message)). all_wait c.args.settings c.in_ok-of_network.of_network.holds (lane_at ls held_lane)) lists;
       pending =
-          subst (λ (p : Pending). OwesNoneBut p (facts_of c.in_ok-of_links.of_links.links) c.in_ok-of_network.of_network.told) (sym c.all.ensures)
-          (before_all (facts_of c.in_ok-of_links.of_links.links) c.in_ok-of_network.of_network.told);
+          subst (λ (p : Updates). OwesNoneBut (length c.args.settings.destinations) p (facts_of c.in_ok-of_links.of_links.links) c.in_ok-of_network.of_network.told)
+          (sym c.in_ok-of_network.ensures.pending)
+          (all_may_be (length c.args.settings.destinations) (first_updates (length c.args.settings.destinations)) (facts_of c.in_ok-of_links.of_links.links)
+          c.in_ok-of_network.of_network.told (length-replicate (length c.args.settings.destinations) false));
     }

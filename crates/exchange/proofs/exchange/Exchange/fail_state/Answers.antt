@@ -8,5 +8,5 @@ use Rattle.exchange.proofs.exchange.Exchange.fail_state.Goals as goal
 
 pub invariant_of-self : goal.invariant_of-self
 invariant_of-self c =
-    left_room c.self.inside c.fail.new.self c.args.link (after_failure (link_in c.self.inside.links.links c.args.link)) c.is_in_service.result c.or_all-self-inside.result
-    c.self.invariant c.fail.ensures (c.is_in_service.ensures ∙ ap (λ (l : Link). is_in_service l.alignment) c.state.ensures) refl c.or_all-self-inside.ensures
+    left_room c.self.inside c.fail.new.self c.args.link (after_failure (link_in c.self.inside.links.links c.args.link)) c.is_in_service.result c.add_all_if.new.self
+    c.self.invariant c.fail.ensures (c.is_in_service.ensures ∙ ap (λ (l : Link). is_in_service l.alignment) c.state.ensures) refl c.add_all_if.ensures

@@ -6,17 +6,19 @@ use Rattle.routes.specs.Facts as facts
 use Rattle.node_links.specs.Network.{Network, facts_of}
 use Rattle.route_management.specs.Told.{shape_of}
 use Rattle.route_management.proofs.Shape.{reset_shape}
-use Rattle.exchange.specs.declared.exchange.pending.Pending.{Pending}
+use Rattle.pending_updates.specs.Updates.{Updates}
 use Rattle.exchange.specs.Pending.{OwesNoneBut}
-use Rattle.exchange.proofs.Pending.{before_all}
+use Rattle.exchange.proofs.Pending.{all_may_be}
 use Rattle.exchange.proofs.Rooms.{changed_room}
 use Rattle.exchange.proofs.exchange.Exchange.reset_set.Goals as goal
 
 pub invariant_of-self : goal.invariant_of-self
 invariant_of-self c =
-    changed_room c.self.inside c.reset_statuses.new.self c.reset.new.self c.clear_set-2.new.self c.all-self-inside.result c.self.invariant
+    changed_room c.self.inside c.reset_statuses.new.self c.reset.new.self c.clear_set-2.new.self c.add_all.new.self c.self.invariant
     (ap (λ (n : Network). length n.links) c.reset_statuses.ensures) (ap (λ (n : Network). n.sets) c.reset_statuses.ensures)
     (ap (λ (n : Network). length n.routes) c.reset_statuses.ensures ∙ length-map c.self.inside.links.routes (map (facts.with_status_over c.args.set Allowed)))
     (ap shape_of c.reset.ensures ∙ reset_shape c.self.inside.told c.args.set)
-    (subst (λ (p : Pending). OwesNoneBut p (facts_of c.reset_statuses.new.self) c.reset.new.self) (sym c.all-self-inside.ensures)
-    (before_all (facts_of c.reset_statuses.new.self) c.reset.new.self))
+    (subst (λ (p : Updates). OwesNoneBut (length c.self.inside.settings.destinations) p (facts_of c.reset_statuses.new.self) c.reset.new.self)
+    (sym c.add_all.ensures)
+    (all_may_be (length c.self.inside.settings.destinations) c.self.inside.pending (facts_of c.reset_statuses.new.self) c.reset.new.self
+    c.self.invariant.pending.marks))

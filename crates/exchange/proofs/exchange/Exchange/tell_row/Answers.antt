@@ -1,5 +1,5 @@
--- One destination after the other, while there is room.
-use Rattle.std.proofs.Common.{◌≡◌, ◌<◌, ◌≤◌, ◌+◌, ◌-◌, true, false, length, arith, refl, ap, sym, subst, ◌∙◌}
+-- One destination that may be pending after the other, while there is room.
+use Rattle.std.proofs.Common.{◌≡◌, ◌<◌, ◌≤◌, ◌+◌, ◌-◌, ℕ, true, false, length, arith, refl, ap, sym, subst, ◌∙◌}
 use Rattle.route_management.specs.Told.{row_of, shape_of}
 use Rattle.route_management.specs.Owed.{owed_at, owed_from}
 use Rattle.route_management.proofs.Shape.{row_by_shape}
@@ -9,17 +9,22 @@ use Rattle.exchange_rules.proofs.Telling.{none_told}
 use Rattle.exchange.specs.KeptQueues.{KeptQueues, kept}
 use Rattle.exchange.specs.Pending.{OwesNoneBefore}
 use Rattle.exchange.specs.Telling.{known}
-use Rattle.exchange.proofs.Pending.{row_from, row_done, place_done, place_shape}
-use Rattle.exchange.proofs.Telling.{row_step, row_end, row_whole}
+use Rattle.exchange.proofs.Pending.{row_from, row_done, next_places, place_done, place_shape}
+use Rattle.exchange.proofs.Telling.{row_rest, row_step, row_end, row_whole}
 use Rattle.exchange.proofs.Rooms.{view_shape}
 use Rattle.exchange.proofs.exchange.Exchange.tell_row.Goals as goal
 
 pub loop-destination-init : goal.loop-destination-init
 loop-destination-init c =
-    let s : State KeptQueues = c.args.self.now in (
+    let s : State KeptQueues = c.args.self.now in
+    let end : ℕ = length s.settings.destinations in
+    let whole : end - 0 ≡ end = omega arith in (
       ap (λ (n : Node KeptQueues). with_node s n)
-          (row_from kept s.settings c.args.set c.args.first (length s.settings.destinations) s.node c.requires.before.row),
-      c.requires.before,
+          (row_from kept s.settings c.args.set 0 c.next_pending-destination.result end s.node
+          c.next_pending-destination.ensures.from c.next_pending-destination.ensures.none)
+          ∙ ap (λ (k : ℕ). row_rest c.args.set 0 k s) whole,
+      next_places (known s) s.node.parts.told c.args.set 0 c.next_pending-destination.result c.requires.before
+          c.next_pending-destination.ensures.none,
       refl,
     )
 
@@ -36,24 +41,32 @@ returns-then-not-may_tell-clause-state c =
 pub loop-destination-preserved : goal.loop-destination-preserved
 loop-destination-preserved c =
     let s : State KeptQueues = c.loop-destination.self in
-    let rows : length c.destinations-destination-end.result.now ≡ length c.args.self.now.settings.destinations =
-    ap length c.destinations-destination-end.ensures.rows ∙ ap (λ (s : State KeptQueues). length s.settings.destinations) c.self.view_is in
-    let left : c.loop-destination.destination < length c.args.self.now.settings.destinations = omega (arith, c.loop-destination-test.true, rows) in
+    let told : State KeptQueues = c.tell_at.new.self in
+    let end : ℕ = length c.args.self.now.settings.destinations in
+    let here : ℕ = c.loop-destination.destination in
+    let next : ℕ = c.next_pending-destination-in-loop-destination.result in
+    let rows : length c.destinations-end.result.now ≡ end =
+    ap length c.destinations-end.ensures.rows ∙ ap (λ (s : State KeptQueues). length s.settings.destinations) c.self.view_is in
+    let left : here < end = omega (arith, c.loop-destination-test.true, rows) in
     let room : may_tell kept s.settings s.node ≡ true = sym c.may_tell.ensures ∙ c.if-not-may_tell.false in (
-      row_step s c.tell_at.new.self c.args.set c.loop-destination.destination (length c.args.self.now.settings.destinations) left c.tell_at.ensures
+      ap (λ (n : Node KeptQueues). with_node told n)
+          (row_from kept told.settings c.args.set (here + 1) next end told.node
+          c.next_pending-destination-in-loop-destination.ensures.from c.next_pending-destination-in-loop-destination.ensures.none)
+          ∙ row_step s told c.args.set here end left c.tell_at.ensures
           ∙ c.loop-destination.invariant.0,
-      subst (λ (x : State KeptQueues). OwesNoneBefore (known x) x.node.parts.told c.args.set (c.loop-destination.destination + 1)) (sym c.tell_at.ensures)
-          (place_done kept s.settings c.args.set c.loop-destination.destination s.node room c.loop-destination.invariant.1),
+      next_places (known told) told.node.parts.told c.args.set (here + 1) next
+          (subst (λ (x : State KeptQueues). OwesNoneBefore (known x) x.node.parts.told c.args.set (here + 1)) (sym c.tell_at.ensures)
+          (place_done kept s.settings c.args.set here s.node room c.loop-destination.invariant.1))
+          c.next_pending-destination-in-loop-destination.ensures.none,
       ap (λ (x : State KeptQueues). shape_of x.node.parts.told) c.tell_at.ensures
-          ∙ place_shape kept s.settings c.args.set c.loop-destination.destination
-          (owed_at (known s) s.node.parts.told c.args.set c.loop-destination.destination) s.node
+          ∙ place_shape kept s.settings c.args.set here (owed_at (known s) s.node.parts.told c.args.set here) s.node
           ∙ c.loop-destination.invariant.2,
     )
 
 pub returns-clause-state : goal.returns-clause-state
 returns-clause-state c =
-    let rows : length c.destinations-destination-end.result.now ≡ length c.args.self.now.settings.destinations =
-    ap length c.destinations-destination-end.ensures.rows ∙ ap (λ (s : State KeptQueues). length s.settings.destinations) c.self.view_is in
+    let rows : length c.destinations-end.result.now ≡ length c.args.self.now.settings.destinations =
+    ap length c.destinations-end.ensures.rows ∙ ap (λ (s : State KeptQueues). length s.settings.destinations) c.self.view_is in
     let done : length c.args.self.now.settings.destinations ≤ c.loop-destination.destination = omega (arith, c.loop-destination-test.false, rows) in
     sym (row_end c.loop-destination.self c.args.set c.loop-destination.destination (length c.args.self.now.settings.destinations) done)
     ∙ c.loop-destination.invariant.0
@@ -62,8 +75,8 @@ returns-clause-state c =
 pub returns-clause-pending : goal.returns-clause-pending
 returns-clause-pending c =
     let s : State KeptQueues = c.loop-destination.self in
-    let rows : length c.destinations-destination-end.result.now ≡ length c.args.self.now.settings.destinations =
-    ap length c.destinations-destination-end.ensures.rows ∙ ap (λ (s : State KeptQueues). length s.settings.destinations) c.self.view_is in
+    let rows : length c.destinations-end.result.now ≡ length c.args.self.now.settings.destinations =
+    ap length c.destinations-end.ensures.rows ∙ ap (λ (s : State KeptQueues). length s.settings.destinations) c.self.view_is in
     let whole : length (row_of s.node.parts.told c.args.set) ≡ length c.args.self.now.settings.destinations =
     row_by_shape s.node.parts.told (length c.args.self.now.settings.sets) (length c.args.self.now.settings.destinations) c.args.set
     (c.loop-destination.invariant.2 ∙ view_shape c.self.inside c.args.self.now c.self.invariant c.self.view_is) c.requires.set in

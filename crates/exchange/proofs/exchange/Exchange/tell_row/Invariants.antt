@@ -12,3 +12,6 @@ invariant-loop-destination l =
     ≡ row_rest l.set 0 (length l.fn.self.settings.destinations) l.fn.self)
     × OwesNoneBefore (known l.self) l.self.node.parts.told l.set l.destination
     × (shape_of l.self.node.parts.told ≡ shape_of l.fn.self.node.parts.told)
+
+abbrev pub decreases-loop-destination : goal.decreases-loop-destination
+decreases-loop-destination l = l.end - l.destination

@@ -24,6 +24,6 @@ returns-else-has_link-clause-state c =
 pub returns-else-has_link-clause-pending : goal.returns-else-has_link-clause-pending
 returns-else-has_link-clause-pending c =
     let s : State KeptQueues = c.args.self.now in
-    unreached_done (facts s.settings s.node.parts) s.node.parts.told c.args.set c.args.first c.requires.before
+    unreached_done (facts s.settings s.node.parts) s.node.parts.told c.args.set 0 c.requires.before
     (ap (λ (f : Facts). has_link f.in_service (set_at f c.args.set)) (view_facts c.self.inside s c.self.invariant c.self.view_is)
     ∙ sym c.has_link.ensures ∙ c.if-has_link.false)

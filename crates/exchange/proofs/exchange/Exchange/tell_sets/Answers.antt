@@ -8,18 +8,17 @@ use Rattle.exchange_rules.proofs.Telling.{none_told}
 use Rattle.exchange.specs.KeptQueues.{KeptQueues, kept}
 use Rattle.exchange.specs.Pending.{OwesNoneBefore}
 use Rattle.exchange.specs.Telling.{known, told_set}
-use Rattle.exchange.proofs.Pending.{sets_from, sets_done, each_shape}
-use Rattle.exchange.proofs.Telling.{set_step, sets_end, sets_whole}
+use Rattle.exchange.proofs.Pending.{before_all, sets_done, each_shape}
+use Rattle.exchange.proofs.Telling.{sets_rest, set_step, sets_end, sets_whole}
 use Rattle.exchange.proofs.Rooms.{view_shape}
 use Rattle.exchange.proofs.exchange.Exchange.tell_sets.Goals as goal
 
 pub loop-set-init : goal.loop-set-init
 loop-set-init c =
-    let s : State KeptQueues = c.args.self.now in (
-      ap (λ (n : Node KeptQueues). with_node s n)
-          (sets_from kept s.settings c.index-set.result (length s.settings.sets) s.node
-          (λ earlier about l. c.requires.sets earlier about (omega (arith, l, c.index-set.ensures.value)))),
-      subst (λ (k : ℕ). OwesNoneBefore (known s) s.node.parts.told k c.args.destination) (sym c.index-set.ensures.value) c.requires,
+    let s : State KeptQueues = c.args.self.now in
+    let whole : length s.settings.sets - 0 ≡ length s.settings.sets = omega arith in (
+      ap (λ (k : ℕ). sets_rest 0 k s) whole,
+      before_all (known s) s.node.parts.told,
       refl,
     )
 
@@ -60,13 +59,13 @@ returns-clause-state c =
     ∙ c.loop-set.invariant.0
     ∙ sets_whole c.args.self.now (view_shape c.self.inside c.args.self.now c.self.invariant c.self.view_is)
 
-pub returns-clause-pending : goal.returns-clause-pending
-returns-clause-pending c =
+pub returns-clause-none : goal.returns-clause-none
+returns-clause-none c =
     let s : State KeptQueues = c.loop-set.self in
     let rows : length c.sets-set-end.result.now ≡ length c.args.self.now.settings.sets =
     ap length c.sets-set-end.ensures.rows ∙ ap (λ (s : State KeptQueues). length s.settings.sets) c.self.view_is in
     let whole : length s.node.parts.told.rows ≡ length c.args.self.now.settings.sets =
     rows_by_shape s.node.parts.told (length c.args.self.now.settings.sets) (length c.args.self.now.settings.destinations)
     (c.loop-set.invariant.2 ∙ view_shape c.self.inside c.args.self.now c.self.invariant c.self.view_is) in
-    sets_done (known s) s.node.parts.told c.loop-set.set c.loop-set.first c.loop-set.invariant.1
+    sets_done (known s) s.node.parts.told c.loop-set.set 0 c.loop-set.invariant.1
     (omega (arith, c.loop-set-test.false, rows, whole))

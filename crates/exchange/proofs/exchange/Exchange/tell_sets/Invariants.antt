@@ -10,5 +10,5 @@ abbrev pub invariant-loop-set : goal.invariant-loop-set
 invariant-loop-set l =
     (sets_rest l.set (length l.fn.self.settings.sets - l.set) l.self
     ≡ sets_rest 0 (length l.fn.self.settings.sets) l.fn.self)
-    × OwesNoneBefore (known l.self) l.self.node.parts.told l.set l.first
+    × OwesNoneBefore (known l.self) l.self.node.parts.told l.set 0
     × (shape_of l.self.node.parts.told ≡ shape_of l.fn.self.node.parts.told)

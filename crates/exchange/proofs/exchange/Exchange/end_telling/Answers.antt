@@ -1,0 +1,18 @@
+-- Nothing is owed.
+use Rattle.std.proofs.Common.{length, sym, subst}
+use Rattle.pending_updates.specs.Updates.{Updates}
+use Rattle.exchange_rules.specs.State.{State}
+use Rattle.exchange.specs.KeptQueues.{KeptQueues}
+use Rattle.exchange.specs.Pending.{OwesNoneBut}
+use Rattle.exchange.specs.Telling.{known}
+use Rattle.exchange.proofs.Pending.{none_left}
+use Rattle.exchange.proofs.Rooms.{pending_room, view_pending}
+use Rattle.exchange.proofs.exchange.Exchange.end_telling.Goals as goal
+
+pub invariant_of-self : goal.invariant_of-self
+invariant_of-self c =
+    let s : State KeptQueues = c.args.self.now in
+    pending_room c.self.inside s c.clear.new.self c.self.invariant c.self.view_is
+    (subst (λ (p : Updates). OwesNoneBut (length c.self.inside.settings.destinations) p (known s) s.node.parts.told) (sym c.clear.ensures)
+    (none_left (length c.self.inside.settings.destinations) c.self.inside.pending (known s) s.node.parts.told
+    (view_pending c.self.inside s c.self.invariant c.self.view_is) c.requires))

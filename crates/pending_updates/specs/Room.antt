@@ -1,0 +1,14 @@
+-- How marks are found: a block says whether some number of it may be marked.
+use Rattle.std.specs.Prelude.{◌≡◌, ◌≤◌, ◌<◌, ◌+◌, ◌*◌, ℕ, false, slice_index_or, vec_len}
+use Rattle.pending_updates.specs.Marks.{is_marked}
+use Rattle.pending_updates.specs.declared.marks.TheConstants.{BLOCK}
+use Rattle.pending_updates.specs.declared.marks.Marks.TheInside.{Inside}
+
+-- each number has its block, and no more than one block has none; where a block says that no number of it is marked,
+-- none is, and where it is said of all numbers, none of all
+pub record HasBlocks (s : Inside) : Type 0 where
+  pub enough : vec_len s.marks < BLOCK * vec_len s.blocks
+  pub few : BLOCK * vec_len s.blocks ≤ vec_len s.marks + BLOCK
+  pub unmarked : (block number : ℕ) → slice_index_or s.blocks.items block false ≡ false
+      → BLOCK * block ≤ number → number < BLOCK * block + BLOCK → is_marked s.marks.items number ≡ false
+  pub none : s.any ≡ false → (number : ℕ) → is_marked s.marks.items number ≡ false
