@@ -16,3 +16,4 @@ pub mod TakingOver
 pub mod Returning
 pub mod Serving
 pub mod Accepting
+pub mod Waiting

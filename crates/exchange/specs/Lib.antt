@@ -14,3 +14,4 @@ pub mod Head
 pub mod Draining
 pub mod Relaying
 pub mod Views
+pub mod Counting

@@ -1,5 +1,6 @@
 -- What an exchange shows of its links and its routes.
-use Rattle.std.specs.Prelude.{ℕ, List, [], ◌∷◌, Option, Some, None, codes, length, slice_get, if◌then◌else◌}
+use Rattle.std.specs.Prelude.{ℕ, Bool, ◌&&◌, List, [], ◌∷◌, Option, Some, None, codes, length, slice_get}
+use Rattle.std.specs.Prelude.{if◌then◌else◌}
 use Rattle.std.specs.Option.{option_map}
 use Rattle.link.specs.declared.alignment.Alignment.{Alignment}
 use Rattle.link.specs.declared.alignment.Alignment.TheVariants as alignment
@@ -12,7 +13,9 @@ use Rattle.exchange.specs.declared.view.LinkStanding.TheVariants as standing
 use Rattle.exchange.specs.declared.view.LinkView.{LinkView}
 use Rattle.exchange.specs.declared.view.RouteView.{RouteView}
 use Rattle.exchange_rules.specs.State.{QueueKind, Node, State}
-use Rattle.exchange_rules.specs.Links.{is_link, link_at}
+use Rattle.changeover.specs.Standing.{may_restart}
+use Rattle.exchange_rules.specs.Failing.{changeover_of}
+use Rattle.exchange_rules.specs.Links.{is_link, link_at, down}
 use Rattle.exchange_rules.specs.Routing.{facts}
 
 -- where a link stands; what it remembers in Proving isn't shown
@@ -43,6 +46,12 @@ link_shown q node link = record {
 
 abbrev pub link_view : {Q : Type 0} → QueueKind Q → State Q → ℕ → Option LinkView
 link_view q s link = if is_link s.node.parts link then Some (link_shown q s.node link) else None
+
+-- whether a link may open as far as its changeover goes: it is there and down, its changeover is complete, and no answer
+-- is awaited
+abbrev pub may_restart_at : {Q : Type 0} → State Q → ℕ → Bool
+may_restart_at s link =
+    is_link s.node.parts link && (down s.node.parts link && may_restart (changeover_of s.node.parts link))
 
 -- the status of the routes that messages take
 abbrev pub status_shown : List Route → RouteStatus

@@ -15,6 +15,7 @@ mod arrival;
 mod boot;
 mod changing_back;
 mod changing_over;
+mod counting;
 mod failing;
 mod frames;
 mod head;

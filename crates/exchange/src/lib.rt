@@ -8,6 +8,7 @@ pub mod frame_text;
 pub mod memory;
 pub mod view;
 
+pub use cell_pool::Pick;
 pub use event::{Answer, Call, Event, Order, TitleDigits};
 pub use exchange::Exchange;
 pub use exchange_rules::Wants;

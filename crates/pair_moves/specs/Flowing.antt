@@ -1,4 +1,4 @@
--- What frames in flight carry from one end of a link to the other, and back.
+-- What the User Data in flight carry from one end of a link to the other, and back.
 use Rattle.std.specs.Prelude.{◌≡◌, ℕ, Bool, true, false, not, ◌+◌, ◌≤◌, ◌||◌, ◌&&◌, List, [], ◌∷◌, slice_get, drop}
 use Rattle.std.specs.Prelude.{Some, unwrap_or}
 use Rattle.signalling_types.specs.Message.{Message}
@@ -24,7 +24,7 @@ Name from to (MessageFrame fsn bsn message ∷ frames) =
     (count : ℕ) × (from ≤ count) × (count ≤ to) × (bsn ≡ previous_number count) × Name count to frames
 
 -- the far end accepted the first messages of the near end's queue, as many as it counts; while it
--- is up the frames in flight carry the others that were sent; and while the near end is up those
+-- is up the User Data in flight carry the others that were sent; and while the near end is up those
 -- that come back confirm some of the first
 pub record Flows (z : Line) : Type 0 where
   pub confirmed : z.near.queue.confirmed ≤ z.far.queue.received

@@ -16,9 +16,9 @@ ghost use Rattle.pair_moves.specs.Theorems.{codes_are_outstanding, each_message_
 /// Law (i), of one link and one direction. While either end is up, and until the near end's
 /// changeover is complete, unless an end may follow the other, the far end accepted the first
 /// messages of the near end's queue, as many as it counts (RFC 4165 §2.2). While the far end is up,
-/// the frames in flight carry those from there to the last that was sent, in order. While the near
-/// end is up, the backward numbers that come to it name counts that the far end accepted, never
-/// falling. So a message that comes is the first that its end lacked. While an end may follow, the
+/// the User Data in flight carry those from there to the last that was sent, in order. While the
+/// near end is up, the backward numbers of the User Data that come to it name counts that the far
+/// end accepted, never falling. So a message that comes is the first that its end lacked. While an end may follow, the
 /// one that opened first has an empty queue and isn't in service; nothing is in flight to it, and
 /// no message to the other, which is down and may open. A message stands at an end only while the
 /// end is in service or its changeover isn't complete.
@@ -45,10 +45,11 @@ pub fn orders_and_answers_are_true()
     ensures { words_are_true }
 {}
 
-/// Law (iv). While either end of a link is up, and until its changeover is complete, the number of
-/// the last message that the peer accepted there names the count of all that it received. So the
-/// messages behind that count are those that the peer lacks; and a completion, by an order or by an
-/// answer, moves these and no other (Q.704 §5.4, §5.5).
+/// Law (iv). While either end of a link is up, and until its changeover is complete, unless an end
+/// may follow the other, the number of the last message that the peer accepted there names the count
+/// of all that it received. At all times the messages behind the count that the number names, or
+/// where it names none those that aren't confirmed, are those that the peer lacks; and a completion,
+/// by an order or by an answer, moves these and no other (Q.704 §5.4, §5.5).
 pub fn completions_move_what_the_peer_lacks()
     ensures named { numbers_name_what_was_received }
     ensures waiting { what_waits_is_lacked }

@@ -40,5 +40,6 @@ pub mod SaidWords
 pub mod MadeWords
 pub mod FourLaws
 pub mod Outcomes
+pub mod Accepted
 pub mod RunSettings
 pub mod OneEndFirst

@@ -76,7 +76,7 @@ same-filter q t (m ∷ ms) = by (q m) refl (same-filter q t ms)
     by true e rest = ap (λ (xs : List Message). if q m && t m then m ∷ xs else xs) rest
     by false e rest = rest ∙ sym (ap (λ (b : Bool). if b && t m then m ∷ filter (λ (m : Message). q m && t m) ms else filter (λ (m : Message). q m && t m) ms) e)
 
-count-users : (test : Message → Bool) (ms : List Message) → count_by (user test) (users_of ms) ≡ count_by (user test) ms
+pub count-users : (test : Message → Bool) (ms : List Message) → count_by (user test) (users_of ms) ≡ count_by (user test) ms
 count-users test ms =
     sym (length-filter (user test) (users_of ms)) ∙ ap length (same-filter (λ m. not (is_management m)) test ms) ∙ length-filter (user test) ms
 

@@ -62,7 +62,7 @@ abbrev pub sent_on : PairState → (link : ℕ) → List Message
 sent_on p link = take ((queue_of p.near link).sent - (queue_of p.far link).received) (unreceived_on p link)
 
 -- the far end received no fewer than are confirmed, and no more than were sent; and while the link isn't down there,
--- the frames in flight to it carry those that were sent and not received, each of them once, in order
+-- the User Data in flight to it carry those that were sent and not received, each of them once, in order
 pub record FramesCarry (p : PairState) (link : ℕ) : Type 0 where
   pub confirmed : (queue_of p.near link).confirmed ≤ (queue_of p.far link).received
   pub received : (queue_of p.far link).received ≤ (queue_of p.near link).sent
@@ -145,7 +145,7 @@ pub record IsUnderWay (p : PairState) (word : Word) : Type 0 where
   pub stands : Contains (unreceived p) message
   pub says : word_of p.far.exchange.settings message ≡ Some word
 
--- a frame says it that is in flight to the far end, on a link that isn't down there
+-- User Data says it that is in flight to the far end, on a link that isn't down there
 pub record IsInFlight (p : PairState) (word : Word) : Type 0 where
   pub link : ℕ
   pub up : is_down_at p.far link ≡ false

@@ -2,4 +2,5 @@ pub mod Pairs
 pub mod Promises
 pub mod Laws
 pub mod Deliveries
+pub mod Accepting
 pub mod OneEndFirst

@@ -9,6 +9,7 @@ ghost use Rattle.pair_rules.specs.Promises.{each_message_once, each_flow_in_orde
 ghost use Rattle.pair_rules.specs.Laws.{frames_carry, words_are_read, none_is_left, words_are_final};
 ghost use Rattle.pair_rules.specs.Laws.{moves_are_lacked};
 ghost use Rattle.pair_rules.specs.Deliveries.{deliveries_tell};
+ghost use Rattle.pair_rules.specs.Accepting.{accepted_goes_to_far};
 ghost use Rattle.pair_rules.specs.OneEndFirst.{ComesOnce};
 
 /// "Exactly once", in both directions. While neither exchange may have lost a message, as many user
@@ -28,10 +29,10 @@ pub fn each_flow_keeps_its_order()
 /// Law (i), of a link and either direction. While the link is up at either end, and until the near
 /// end's changeover of it is complete, unless an end may follow the other, the far end received no
 /// fewer messages than are confirmed, and no more than were sent; and while the link isn't down
-/// there, the frames in flight carry those between, in order (RFC 4165 §2.2). While the far end may
-/// follow, the near one isn't in service and has an empty queue; nothing is in flight to it, and no
-/// message to the far end. A message that a frame newly carries is the first that the far end
-/// lacked.
+/// there, the User Data in flight carry those between, in order (RFC 4165 §2.2). No link status
+/// carries a message. While the far end may follow, where the link may open, the near one isn't in
+/// service and has an empty queue; nothing is in flight to it, and no message to the far end. A
+/// message that a frame newly carries is the first that the far end lacked.
 pub fn frames_carry_what_was_not_received()
     ensures { frames_carry }
 {}
@@ -45,8 +46,8 @@ pub fn orders_and_answers_say_their_word()
 
 /// Law (ii). Where an end wants a link to open, and it may open at the other too or the end may
 /// follow the other, no order to change over and no answer about it stands in Held or unreceived in
-/// a queue of either end, and none is in flight to an end on a link that isn't down there (Q.704
-/// §5.4).
+/// a queue of either end, and no User Data with one is in flight to an end on a link that isn't down
+/// there (Q.704 §5.4).
 pub fn links_open_with_no_word_left()
     ensures { none_is_left }
 {}
@@ -73,6 +74,13 @@ pub fn completions_move_what_the_peer_lacks()
 /// be lost.
 pub fn deliveries_tell_what_came()
     ensures { deliveries_tell }
+{}
+
+/// All that an end accepted from its user parts, so that it stood in a queue or in Held, is for the
+/// point of the other end, and none of it is of management, testing or SCCP. This holds whether or
+/// not a message may be lost.
+pub fn accepted_messages_are_for_the_far_point()
+    ensures { accepted_goes_to_far }
 {}
 
 /// These promises aren't empty. By a run of 49 steps of two exchanges a message is accepted, and

@@ -4,3 +4,4 @@ pub mod Rules
 pub mod Turns
 pub mod Promised
 pub mod Telling
+pub mod Waiting

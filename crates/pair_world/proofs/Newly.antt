@@ -1,5 +1,5 @@
 -- The message that a frame newly brings is told by the number of the last message that was accepted on its link.
-use Rattle.std.proofs.Common.{◌≡◌, ◌+◌, ◌&&◌, ℕ, Bool, true, false, List, [], ◌∷◌, Option, Some, None, length, is_some, nat_eq, nat_lt, refl, ap, sym, ◌∙◌, arith}
+use Rattle.std.proofs.Common.{◌≡◌, ◌+◌, ◌&&◌, ℕ, Bool, true, false, List, [], ◌∷◌, Option, Some, None, is_some, nat_eq, nat_lt, refl, ap, sym, ◌∙◌, arith}
 use Rattle.std.specs.Prelude.{if◌then◌else◌, not, option_to_list}
 use Rattle.std.proofs.lemmas.Bool.Decides.{nat_tests}
 use Rattle.signalling_types.specs.Message.{Message}
@@ -17,8 +17,8 @@ use Rattle.exchange_rules.proofs.LastingPlaces.{places-stay}
 use Rattle.exchange_rules.proofs.Received.{received-counted}
 use Rattle.exchange_rules.proofs.CarriedMessages.{new-carried}
 use Rattle.exchange.specs.KeptQueues.{kept}
-use Rattle.exchange.specs.Stands.{Kept, StandsFor, kept_of}
-use Rattle.exchange.specs.Views.{link_view, link_shown}
+use Rattle.exchange.specs.Stands.{StandsFor, kept_of}
+use Rattle.exchange.specs.Views.{link_shown}
 use Rattle.exchange.proofs.Standing.{stands-after}
 use Rattle.exchange.proofs.Showing.{stands-link}
 use Rattle.pair_rules.specs.Pairs.{for_users}
@@ -34,7 +34,7 @@ stands-itself a s = record { sound = s; kept = refl }
 abbrev number_if : Bool → (count : ℕ) → ℕ
 number_if there count = if there then previous_number count else 0
 
-shown-number : (b : Bool) (view : LinkView) → number_shown (if b then Some view else None) ≡ (if b then view.last_accepted else 0)
+pub shown-number : (b : Bool) (view : LinkView) → number_shown (if b then Some view else None) ≡ (if b then view.last_accepted else 0)
 shown-number true view = refl
 shown-number false view = refl
 

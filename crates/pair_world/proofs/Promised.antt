@@ -1,11 +1,14 @@
 -- What the abstract pair promises, that which stands for it promises.
 use Rattle.std.proofs.Common.{◌≡◌, List, refl, ap, sym, subst, ◌∙◌}
+use Rattle.std.specs.Prelude.{All}
 use Rattle.signalling_types.specs.Message.{Message}
 use Rattle.exchange_rules.specs.Sound.{IsSound}
 use Rattle.exchange.specs.Stands as exchanges
 use Rattle.pair_rules.specs.Pairs.{PairState}
-use Rattle.pair_rules.specs.Promises.{BothWays, EachOnce, InOrder, IsPunctual, LostNothing}
+use Rattle.pair_rules.specs.Promises.{Always, BothWays, EachOnce, InOrder, IsPunctual, LostNothing}
 use Rattle.pair_rules.specs.Laws.{WhileNothingIsLost}
+use Rattle.pair_rules.specs.Accepting.{AreForFarPoint, IsUserMessageTo}
+use Rattle.pair_rules.proofs.Accepted.{goes-to-far}
 use Rattle.pair_rules.proofs.Promised.{each-once, each-in-order}
 use Rattle.pair_world.specs.declared.step.End.{End}
 use Rattle.pair_world.specs.declared.step.End.TheVariants.{One, Two}
@@ -19,6 +22,10 @@ use Rattle.pair_world.specs.Promised.{ComeOnce, ComeInOrder, HoldsBothWays}
 reached : (Statement : PairState → Type 0) → WhileNothingIsLost Statement → (p : PairState) → IsReached p → LostNothing p → BothWays Statement p
 reached Statement always p r =
     subst (λ (q : PairState). LostNothing q → BothWays Statement q) (sym r.by) (always r.near r.far r.steps r.joined)
+
+-- the same of what holds whether or not a message may be lost
+pub reached-always : (Statement : PairState → Type 0) → Always (λ p. BothWays Statement p) → (p : PairState) → IsReached p → BothWays Statement p
+reached-always Statement always p r = subst (BothWays Statement) (sym r.by) (always r.near r.far r.steps r.joined)
 
 pub holds-both-ways : (Statement : PairState → Type 0) → WhileNothingIsLost Statement → (k : KeptPair) → HoldsBothWays Statement k
 holds-both-ways Statement always k = λ p s. reached Statement always p s.reached
@@ -36,6 +43,10 @@ come-once Two p r = λ lost. (reached-once p r (record { near = lost.far; far = 
 pub come-in-order : (end : End) (p : PairState) → IsReached p → ComeInOrder (seen_from end p) (seen_from end p).near.accepted (seen_from end p).far.received
 come-in-order One p r = λ lost. (reached-in-order p r lost).there
 come-in-order Two p r = λ lost. (reached-in-order p r (record { near = lost.far; far = lost.near })).back
+
+are-for-far : (end : End) (p : PairState) → IsReached p → All (IsUserMessageTo (seen_from end p).far.exchange.settings.own) (seen_from end p).near.accepted
+are-for-far One p r = (reached-always AreForFarPoint goes-to-far p r).there
+are-for-far Two p r = (reached-always AreForFarPoint goes-to-far p r).back
 
 -- ---- what an end shows
 
@@ -57,6 +68,9 @@ module _ (end : End) (k : KeptPair) (p : PairState) (s : StandsFor k p) where
 
   pub received-same : (kept_at end k).received ≡ (seen_from end p).near.received
   received-same = ap (λ (e : KeptEnd). e.received) (at-same end k p s)
+
+  pub accepted-far : All (IsUserMessageTo (seen_from end p).far.exchange.settings.own) (kept_at end k).accepted
+  accepted-far = subst (All (IsUserMessageTo (seen_from end p).far.exchange.settings.own)) (sym accepted-same) (are-for-far end p s.reached)
 
   pub accepted-once : ComeOnce (seen_from end p) (kept_at end k).accepted (seen_from end p).far.received
   accepted-once =

@@ -11,6 +11,7 @@ use Rattle.signalling_types.specs.declared.outcome.Outcome.TheVariants.{Handled,
 use Rattle.m2pa_codec.specs.Frames.{FrameValue, EmptyFrame, MessageFrame, StatusFrame, spelled}
 use Rattle.exchange_rules.specs.declared.wants.Wants.{Wants}
 use Rattle.exchange_rules.specs.declared.wants.Wants.TheVariants as wants
+use Rattle.exchange_rules.specs.Links.{is_link}
 use Rattle.exchange_rules.specs.State.{Node}
 use Rattle.exchange_rules.specs.Queues.{WholeQueues, whole}
 use Rattle.exchange_rules.specs.Happening.{Happening, CameUp, WentDown, FrameCame, Ticked, Submitted, Activated, Deactivated, TitleAdded, TitleRemoved}
@@ -19,11 +20,11 @@ use Rattle.exchange_rules.specs.Exchange.{after, outcome_of, frame_to_take, take
 use Rattle.exchange_rules.specs.Sound.{Abstract, IsSound}
 use Rattle.exchange.specs.KeptQueues.{kept}
 use Rattle.exchange.specs.Stands.{StandsFor, kept_of}
+use Rattle.exchange.specs.Views.{may_restart_at}
 use Rattle.exchange.proofs.Standing.{stands-after, stands-outcome, stands-frame, stands-taken}
-use Rattle.pair_rules.specs.Pairs.{PairState, Streams, Turn, Doing, Submits, Takes, Delivers, DeliversStatus, LosesStatus, DoublesStatus, Loses, Ticks, Activates, Deactivates, AddsTitle, RemovesTitle, OpensFirst, OpensSecond, accepted_by, change_statuses, deliver_frame, emptied, handed_over, happens, in_flight, is_sccp, launched, may_follow, may_open_at, opens_first, opens_second, take_frame, with_status_twice, without_data, without_status}
-use Rattle.pair_rules.proofs.Opening.{may-open, wants-open}
+use Rattle.pair_rules.specs.Pairs.{PairState, Streams, Turn, Doing, Submits, Takes, Delivers, DeliversStatus, LosesStatus, DoublesStatus, Loses, Ticks, Activates, Deactivates, AddsTitle, RemovesTitle, OpensFirst, OpensSecond, accepted_by, change_statuses, deliver_frame, did, emptied, handed_over, happens, in_flight, is_sccp, launched, may_follow, may_open_at, opens_first, opens_second, take_frame, with_status_twice, without_data, without_status}
+use Rattle.pair_rules.proofs.Opening.{wants-open}
 use Rattle.pair_rules.proofs.Steps.{taken-there}
-use Rattle.pair_world.specs.Told.{did_here, if_wanted}
 use Rattle.pair_world.specs.KeptEnds.{KeptEnd, behind_its, end_changes, end_follows, end_happens, end_hears, kept_end_of}
 use Rattle.pair_world.specs.KeptPairs.{KeptTurn, alone, has_link, kept_did, kept_fetched, kept_ignored, kept_opens_first, kept_pair_of, kept_takes, kept_turn_of}
 use Rattle.pair_world.proofs.Newly.{newly-same, stands-itself}
@@ -218,7 +219,7 @@ module _ (p : PairState) (near : IsSound p.near.exchange) (far : IsSound p.far.e
   abbrev opened-first : (link : ℕ) → Turn
   opened-first link = opens_first wants.Open true link p
 
-  first-same : (link : ℕ) → IsSame (kept_opens_first wants.Open wants.Open link (kept_pair_of p)) (opened-first link)
+  first-same : (link : ℕ) → IsSame (kept_opens_first wants.Open true link (kept_pair_of p)) (opened-first link)
   first-same link =
       let s = stands-after (CameUp link) (kept_of a) a k in
       record {
@@ -245,20 +246,21 @@ module _ (p : PairState) (near : IsSound p.near.exchange) (far : IsSound p.far.e
         far = far;
       }
 
-  -- where both ends want it to, it may open at the far one
-  opens_first-same : (v w : Wants) (link : ℕ) → wants_of p.far.exchange link ≡ w
-      → IsSame (kept_opens_first v w link (kept_pair_of p)) (if_wanted w (opens_first v (may_open_at p.far link) link p) p)
-  opens_first-same wants.Open wants.Open link e =
-      subst (λ (b : Bool). IsSame (kept_opens_first wants.Open wants.Open link (kept_pair_of p)) (opens_first wants.Open b link p))
-      (sym (may-open p.far.exchange.node link (wants-open p.far.exchange.node.parts link e))) (first-same link)
-  opens_first-same wants.Open wants.Nothing link e = record { turn = refl; near = near; far = far }
-  opens_first-same wants.Open wants.Close link e = record { turn = refl; near = near; far = far }
-  opens_first-same wants.Nothing wants.Open link e = record { turn = refl; near = near; far = far }
-  opens_first-same wants.Nothing wants.Nothing link e = record { turn = refl; near = near; far = far }
-  opens_first-same wants.Nothing wants.Close link e = record { turn = refl; near = near; far = far }
-  opens_first-same wants.Close wants.Open link e = record { turn = refl; near = near; far = far }
-  opens_first-same wants.Close wants.Nothing link e = record { turn = refl; near = near; far = far }
-  opens_first-same wants.Close wants.Close link e = record { turn = refl; near = near; far = far }
+  opens_first-same : (v : Wants) (b : Bool) (link : ℕ) → IsSame (kept_opens_first v b link (kept_pair_of p)) (opens_first v b link p)
+  opens_first-same wants.Open true link = first-same link
+  opens_first-same wants.Open false link = record { turn = refl; near = near; far = far }
+  opens_first-same wants.Nothing b link = record { turn = refl; near = near; far = far }
+  opens_first-same wants.Close b link = record { turn = refl; near = near; far = far }
+
+  -- a link that the near end wants to open is there at the far end too
+  first-there : (v : Wants) (link : ℕ) → IsReady p → wants_of p.near.exchange link ≡ v
+      → IsSame (kept_opens_first v (may_restart_at (kept_of p.far.exchange) link) link (kept_pair_of p)) (opens_first v (may_open_at p.far link) link p)
+  first-there wants.Open link ready e =
+      let there : is_link p.far.exchange.node.parts link ≡ true = ap (nat_lt link) ready.links ∙ (wants-open p.near.exchange.node.parts link e).there in
+      subst (λ (b : Bool). IsSame (kept_opens_first wants.Open (b && may_open_at p.far link) link (kept_pair_of p)) (opens_first wants.Open (may_open_at p.far link) link p))
+      (sym there) (opens_first-same wants.Open (may_open_at p.far link) link)
+  first-there wants.Nothing link ready e = opens_first-same wants.Nothing true link
+  first-there wants.Close link ready e = opens_first-same wants.Close true link
 
   opens_second-same : (v : Wants) (b : Bool) (link : ℕ) → IsSame (alone (end_follows v b link (kept_end_of p.near)) (kept_end_of p.far)) (opens_second v b link p)
   opens_second-same wants.Open true link =
@@ -286,7 +288,7 @@ module _ (p : PairState) (near : IsSound p.near.exchange) (far : IsSound p.far.e
 
   -- ---- all that is done at one end
 
-  pub did-same : (what : Doing) → IsReady p → IsSame (kept_did what (kept_pair_of p)) (did_here what p)
+  pub did-same : (what : Doing) → IsReady p → IsSame (kept_did what (kept_pair_of p)) (did what p)
   did-same (Submits m) ready = submit-by (is_sccp m) m
   did-same (Takes link) ready = take-same link ready
   did-same (Delivers link) ready = hear-by link ready (slice_get (in_flight p.near.incoming.user_data link) 0) (without_data link p.near.incoming)
@@ -299,5 +301,5 @@ module _ (p : PairState) (near : IsSound p.near.exchange) (far : IsSound p.far.e
   did-same Ticks ready = happens-same Ticked
   did-same (Activates link) ready = happens-same (Activated link)
   did-same (Deactivates link) ready = happens-same (Deactivated link)
-  did-same (OpensFirst link) ready = opens_first-same (wants_of p.near.exchange link) (wants_of p.far.exchange link) link refl
+  did-same (OpensFirst link) ready = first-there (wants_of p.near.exchange link) link ready refl
   did-same (OpensSecond link) ready = opens_second-same (wants_of p.near.exchange link) (may_follow p.near link) link

@@ -1,38 +1,36 @@
 -- A pair that stood for two abstract exchanges stands for those after each step.
-use Rattle.std.proofs.Common.{◌≡◌, refl, ap, sym, ◌∙◌, subst}
-use Rattle.signalling_types.specs.declared.outcome.Outcome.{Outcome}
+use Rattle.std.proofs.Common.{◌≡◌, refl, ap, sym, subst}
 use Rattle.settings_rows.specs.Configuration.{Configuration}
 use Rattle.exchange_rules.specs.First.{first_state}
 use Rattle.exchange_rules.specs.Sound.{IsSound}
 use Rattle.exchange.specs.Stands.{kept_of}
 use Rattle.exchange.proofs.Standing.{stands-first}
 use Rattle.settings.specs.Well.{IsWell}
-use Rattle.pair_rules.specs.Pairs.{PairState, Step, AtNear, AtFar, first_pair, turned}
+use Rattle.pair_rules.specs.Pairs.{PairState, Step, AtNear, AtFar, first_pair, turn, turned}
 use Rattle.pair_rules.specs.Promises.{AreJoined}
 use Rattle.pair_world.specs.KeptPairs.{KeptPair, KeptTurn, kept_pair_of, kept_turn, turned_back}
 use Rattle.pair_world.specs.Stands.{StandsFor}
-use Rattle.pair_world.proofs.Reached.{AreReady, reached-first, reached-ready, reached-told}
-use Rattle.pair_world.specs.Told.{turn_told}
+use Rattle.pair_world.proofs.Reached.{AreReady, reached-first, reached-ready, reached-more}
 use Rattle.pair_world.proofs.Rules.{IsSame, did-same}
 
-turn-same : (step : Step) (p : PairState) → IsSound p.near.exchange → IsSound p.far.exchange → AreReady p → IsSame (kept_turn step (kept_pair_of p)) (turn_told step p)
+turn-same : (step : Step) (p : PairState) → IsSound p.near.exchange → IsSound p.far.exchange → AreReady p → IsSame (kept_turn step (kept_pair_of p)) (turn step p)
 turn-same (AtNear what) p near far ready = did-same p near far what ready.near
 turn-same (AtFar what) p near far ready =
     let s = did-same (turned p) far near what ready.far in
     record { turn = ap turned_back s.turn; near = s.far; far = s.near }
 
-stood-same : (step : Step) (k : KeptPair) (p : PairState) → StandsFor k p → IsSame (kept_turn step k) (turn_told step p)
+stood-same : (step : Step) (k : KeptPair) (p : PairState) → StandsFor k p → IsSame (kept_turn step k) (turn step p)
 stood-same step k p s =
-    subst (λ (x : KeptPair). IsSame (kept_turn step x) (turn_told step p)) (sym s.kept) (turn-same step p s.near_sound s.far_sound (reached-ready p s.reached))
+    subst (λ (x : KeptPair). IsSame (kept_turn step x) (turn step p)) (sym s.kept) (turn-same step p s.near_sound s.far_sound (reached-ready p s.reached))
 
-pub stands-outcome : (step : Step) (k : KeptPair) (p : PairState) → StandsFor k p → (kept_turn step k).outcome ≡ (turn_told step p).outcome
+pub stands-outcome : (step : Step) (k : KeptPair) (p : PairState) → StandsFor k p → (kept_turn step k).outcome ≡ (turn step p).outcome
 stands-outcome step k p s = ap (λ (t : KeptTurn). t.outcome) (stood-same step k p s).turn
 
-pub stands-turn : (step : Step) (k : KeptPair) (p : PairState) → StandsFor k p → StandsFor (kept_turn step k).left (turn_told step p).left
+pub stands-turn : (step : Step) (k : KeptPair) (p : PairState) → StandsFor k p → StandsFor (kept_turn step k).left (turn step p).left
 stands-turn step k p s =
-    let same : IsSame (kept_turn step k) (turn_told step p) = stood-same step k p s in
+    let same : IsSame (kept_turn step k) (turn step p) = stood-same step k p s in
     record {
-      reached = reached-told step p s.reached;
+      reached = reached-more step p s.reached;
       near_sound = same.near;
       far_sound = same.far;
       kept = ap (λ (t : KeptTurn). t.left) same.turn;

@@ -1,5 +1,5 @@
 -- Both ends of a pair as the code keeps them, and what becomes of a step.
-use Rattle.std.specs.Prelude.{ℕ, Bool, ◌&&◌, nat_lt, List, length, Option, if◌then◌else◌}
+use Rattle.std.specs.Prelude.{ℕ, Bool, true, ◌&&◌, nat_lt, List, length, Option, if◌then◌else◌}
 use Rattle.signalling_types.specs.declared.outcome.Outcome.{Outcome}
 use Rattle.signalling_types.specs.declared.outcome.Outcome.TheVariants.{Handled, Ignored}
 use Rattle.exchange_rules.specs.declared.wants.Wants.{Wants}
@@ -7,6 +7,7 @@ use Rattle.exchange_rules.specs.declared.wants.Wants.TheVariants.{Open}
 use Rattle.exchange_rules.specs.Happening.{WentDown, Ticked, Activated, Deactivated, TitleAdded, TitleRemoved}
 use Rattle.exchange_rules.specs.Exchange.{taken, wants_of}
 use Rattle.exchange.specs.KeptQueues.{kept}
+use Rattle.exchange.specs.Views.{may_restart_at}
 use Rattle.pair_rules.specs.Pairs.{PairState, Streams, Doing, Submits, Takes, Delivers, DeliversStatus, LosesStatus}
 use Rattle.pair_rules.specs.Pairs.{DoublesStatus, Loses, Ticks, Activates, Deactivates, AddsTitle, RemovesTitle}
 use Rattle.pair_rules.specs.Pairs.{OpensFirst, OpensSecond, Step, AtNear, AtFar, Turn}
@@ -67,13 +68,13 @@ kept_takes link p =
     then kept_fetched (text_to_take p.near.exchange link) link p
     else kept_ignored p
 
--- a link opens at the near end first, where both ends want it to
-abbrev pub kept_opens_first : (near far : Wants) → (link : ℕ) → KeptPair → KeptTurn
-kept_opens_first Open Open link p = record {
+-- a link opens at the near end first, where that wants it to, and where it may open at the far one too
+abbrev pub kept_opens_first : Wants → (far_may : Bool) → (link : ℕ) → KeptPair → KeptTurn
+kept_opens_first Open true link p = record {
   outcome = Handled;
   left = both (end_opens_first link p.near) (end_may_follow link p.far);
 }
-kept_opens_first near far link p = kept_ignored p
+kept_opens_first wants far_may link p = kept_ignored p
 
 -- what is done at the near end
 abbrev pub kept_did : Doing → KeptPair → KeptTurn
@@ -90,7 +91,7 @@ kept_did (Deactivates link) p = alone (end_happens (Deactivated link) p.near) p.
 kept_did (AddsTitle row is_memory_refused) p = alone (end_happens (TitleAdded row is_memory_refused) p.near) p.far
 kept_did (RemovesTitle key digits) p = alone (end_happens (TitleRemoved key digits) p.near) p.far
 kept_did (OpensFirst link) p =
-    kept_opens_first (wants_of p.near.exchange link) (wants_of p.far.exchange link) link p
+    kept_opens_first (wants_of p.near.exchange link) (may_restart_at p.far.exchange link) link p
 kept_did (OpensSecond link) p = alone (end_opens_second link p.near) p.far
 
 -- the same step, seen from the far end

@@ -5,3 +5,4 @@ pub mod Told
 pub mod Stands
 pub mod Promised
 pub mod Tells
+pub mod Waiting

@@ -1,5 +1,5 @@
 -- What a pair promises of the messages that its near end accepted and its far end received.
-use Rattle.std.specs.Prelude.{◌≡◌, ◌+◌, Bool, List, ◌++◌, count_by}
+use Rattle.std.specs.Prelude.{◌≡◌, ◌+◌, ℕ, Bool, List, ◌++◌, count_by}
 use Rattle.signalling_types.specs.Message.{Message}
 use Rattle.signalling_types.specs.declared.point.Flow.{Flow}
 use Rattle.pair_rules.specs.Pairs.{PairState}
@@ -20,6 +20,12 @@ abbrev pub ComeInOrder : PairState → (accepted received : List Message) → Ty
 ComeInOrder p accepted received =
     LostNothing p → IsPunctual p → (flow : Flow) →
     of_flow flow accepted ≡ of_flow flow received ++ of_flow flow (waiting p)
+
+-- while neither end may have lost a message: as many of those that a choice takes were accepted as were received and as
+-- wait, which is so many
+abbrev pub ComeOrWait : PairState → (picks : Message → Bool) → (waiting : ℕ) → Type 0
+ComeOrWait p picks waiting =
+    LostNothing p → count_by (user picks) p.near.accepted ≡ count_by (user picks) p.far.received + waiting
 
 -- while neither end may have lost a message, this holds in both directions of every abstract pair that it stands for
 abbrev pub HoldsBothWays : (PairState → Type 0) → KeptPair → Type 0

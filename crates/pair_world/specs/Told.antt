@@ -8,10 +8,7 @@ use Rattle.pair_world.specs.declared.step.Doing.TheVariants as doing
 use Rattle.signalling_types.specs.declared.outcome.Outcome.{Outcome}
 use Rattle.exchange.specs.Calls.{is_memory_refused}
 use Rattle.pair_rules.specs.Pairs as pairs
-use Rattle.pair_rules.specs.Pairs.{PairState, Turn, did, ignored, turned}
-use Rattle.exchange_rules.specs.declared.wants.Wants.{Wants}
-use Rattle.exchange_rules.specs.declared.wants.Wants.TheVariants.{Open}
-use Rattle.exchange_rules.specs.Exchange.{wants_of}
+use Rattle.pair_rules.specs.Pairs.{PairState, turned}
 use Rattle.pair_world.specs.KeptEnds.{KeptEnd}
 use Rattle.pair_world.specs.KeptPairs.{KeptPair}
 
@@ -68,20 +65,3 @@ step_told (step.AddTitle its row) outcome = done_at its (pairs.AddsTitle row (is
 step_told (step.RemoveTitle its key digits) outcome = done_at its (pairs.RemovesTitle key digits.items)
 step_told (step.OpenFirst its link) outcome = done_at its (pairs.OpensFirst link)
 step_told (step.OpenSecond its link) outcome = done_at its (pairs.OpensSecond link)
-
--- what becomes of a step. A link opens at one end first only where the other end wants it to: that it may, which is
--- enough for an abstract pair, an exchange doesn't show
-abbrev pub if_wanted : Wants → Turn → PairState → Turn
-if_wanted Open turn p = turn
-if_wanted wants turn p = ignored p
-
-abbrev pub did_here : pairs.Doing → PairState → Turn
-did_here (pairs.OpensFirst link) p = if_wanted (wants_of p.far.exchange link) (did (pairs.OpensFirst link) p) p
-did_here what p = did what p
-
-abbrev pub turn_told : pairs.Step → PairState → Turn
-turn_told (pairs.AtNear what) p = did_here what p
-turn_told (pairs.AtFar what) p = record {
-  outcome = (did_here what (turned p)).outcome;
-  left = turned (did_here what (turned p)).left;
-}

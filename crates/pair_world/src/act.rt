@@ -40,14 +40,15 @@ pub(crate) fn act(near: &mut Side, far: &mut Side, what: Doing) -> Result<Outcom
     }
 }
 
-/// A link opens at the near end, where both ends want it to, and the far end may follow.
+/// A link opens at the near end, where that wants it to, and where it may open at the far end too, which may then
+/// follow.
 fn open_first(near: &mut Side, far: &mut Side, link: LinkId) -> Outcome
     ensures outcome { result ≡ (kept_did (pairs.OpensFirst link) (both near.old far.old)).outcome }
     ensures near { near.new ≡ (kept_did (pairs.OpensFirst link) (both near.old far.old)).left.near }
     ensures far { far.new ≡ (kept_did (pairs.OpensFirst link) (both near.old far.old)).left.far }
 {
-    match (near.wants(link), far.wants(link)) {
-        (Wants::Open, Wants::Open) => {
+    match (near.wants(link), far.may_restart(link)) {
+        (Wants::Open, true) => {
             near.open_first(link);
             far.let_follow(link);
             Outcome::Handled

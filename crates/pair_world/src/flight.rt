@@ -1,7 +1,7 @@
 //! The frames in flight on one stream of one link, in one direction.
 
 ghost use Rattle.std.specs.Prelude.{◌≡◌, ℕ, List, [], false, ◌++◌, drop, take, slice_get, slice_index_or, slice_set};
-ghost use Rattle.std.specs.Prelude.{IfOk, OnOk, OnErr};
+ghost use Rattle.std.specs.Prelude.{replicate, IfOk, OnOk, OnErr};
 ghost use Rattle.exchange.specs.KeptQueues.{kept};
 ghost use Rattle.exchange_rules.specs.Exchange.{taken};
 ghost use Rattle.pair_rules.specs.Pairs.{in_flight};
@@ -10,7 +10,7 @@ ghost use Rattle.pair_world.specs.KeptEnds.{take_outcome, without_first, with_fi
 
 use exchange::{BUFFER_OCTETS, Exchange, FrameText, NoMemory};
 use settings::{LinkId, Outcome};
-use std::alloc::Global;
+use std::alloc::{AllocError, Global};
 use std::collections::VecDeque;
 use std::marker::Model;
 
@@ -170,4 +170,26 @@ pub(crate) fn note(following: &mut Vec<bool>, link: LinkId, follows: bool)
     if link.index() < following.len() {
         following[link.index()] = follows;
     }
+}
+
+/// Nothing is in flight on so many links.
+pub(crate) fn nothing_in_flight(alloc: Global, links: usize) -> Result<Vec<Flight>, AllocError>
+    ensures { IfOk result (λ incoming. incoming.items ≡ replicate links []) }
+{
+    let mut incoming = Vec::with_capacity(alloc, links)?;
+    for _ in 0..links {
+        incoming.push(Flight::new(alloc))?;
+    }
+    Ok(incoming)
+}
+
+/// No end follows on so many links.
+pub(crate) fn none_follows(alloc: Global, links: usize) -> Result<Vec<bool>, AllocError>
+    ensures { IfOk result (λ following. following.items ≡ replicate links false) }
+{
+    let mut following = Vec::with_capacity(alloc, links)?;
+    for _ in 0..links {
+        following.push(false)?;
+    }
+    Ok(following)
 }

@@ -11,9 +11,6 @@ use exchange::{Event, Exchange, Frame, FrameText, LONGEST_FRAME, decode};
 use settings::{Limits, LinkId, Msu, Outcome};
 use signalling_types::Number24;
 
-/// The first user part: before it are management and testing (Q.704 §14.2.1).
-const FIRST_USER_PART: u8 = 2;
-
 /// The user part that is SCCP (Q.704 §14.2.1).
 pub(crate) const SCCP: u8 = 3;
 
@@ -37,7 +34,7 @@ pub(crate) fn hand_in(
 }
 
 /// The number of the last message that was accepted on a link; 0 where the link isn't there.
-fn last_accepted(exchange: &Exchange, link: LinkId) -> Number24
+pub(crate) fn last_accepted(exchange: &Exchange, link: LinkId) -> Number24
     ensures { result ≡ accepted_number exchange.now link }
 {
     match exchange.link(link) {
@@ -89,9 +86,9 @@ fn for_user_part(sio: u8, sif: &[u8]) -> Option<Msu>
     let Ok(message) = Msu::new(sio, sif) else {
         unreachable!()
     };
-    match message.service_indicator() {
-        SCCP => None,
-        FIRST_USER_PART.. => Some(message),
-        _ => None,
+    if message.is_management() || message.service_indicator() == SCCP {
+        None
+    } else {
+        Some(message)
     }
 }

@@ -9,18 +9,19 @@ use crate::pair::Pair;
 
 /// Law (i). While a link is up at either end, and until the near end's changeover of it is
 /// complete, unless an end may follow the other, the far end received no fewer messages than are
-/// confirmed, and no more than were sent; and while the link isn't down there, the frames in flight
-/// carry those between, in order (RFC 4165 §2.2). While the far end may follow, the near one isn't
-/// in service and has an empty queue; nothing is in flight to it, and no message to the far end. A
-/// message that a frame newly carries is the first that the far end lacked.
+/// confirmed, and no more than were sent; and while the link isn't down there, the User Data in
+/// flight carry those between, in order (RFC 4165 §2.2). No link status carries a message. While the
+/// far end may follow, where the link may open, the near one isn't in service and has an empty
+/// queue; nothing is in flight to it, and no message to the far end. A message that a frame newly
+/// carries is the first that the far end lacked.
 pub fn frames_carry_what_was_not_received(pair: &Pair)
     ensures { HoldsBothWays IsCarried pair.now }
 {}
 
 /// Law (ii). Where an end wants a link to open, and it may open at the other too or the end may
 /// follow the other, no order to change over and no answer about it stands in Held or unreceived in
-/// a queue of either end, and none is in flight to an end on a link that isn't down there (Q.704
-/// §5.4).
+/// a queue of either end, and no User Data with one is in flight to an end on a link that isn't down
+/// there (Q.704 §5.4).
 pub fn links_open_with_no_word_left(pair: &Pair)
     ensures { HoldsBothWays NoneIsLeft pair.now }
 {}

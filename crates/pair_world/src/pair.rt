@@ -1,21 +1,24 @@
 //! Two exchanges that face each other.
 
-ghost use Rattle.std.specs.Prelude.{◌≡◌, ◌↔◌, IfOk, IfErr, OnOk, OnErr};
+ghost use Rattle.std.specs.Prelude.{◌≡◌, ◌↔◌, All, IfOk, IfErr, OnOk, OnErr, count_by};
 ghost use Rattle.settings.specs.Facing.{IsFacing};
 ghost use Rattle.exchange.specs.Stands as exchanges;
 ghost use Rattle.pair_rules.specs.Pairs as pairs;
 ghost use Rattle.pair_rules.specs.Pairs.{PairState, first_pair};
-ghost use Rattle.pair_world.specs.Told.{seen_from, other, told, done_at, step_told, turn_told, kept_at};
+ghost use Rattle.pair_rules.specs.Accepting.{IsUserMessageTo};
+ghost use Rattle.pair_rules.specs.Promises as promises;
+ghost use Rattle.pair_world.specs.Told.{seen_from, other, told, done_at, step_told, kept_at};
 ghost use Rattle.pair_world.specs.KeptPairs.{kept_pair_of, kept_turn};
 ghost use Rattle.pair_world.specs.Stands.{StandsFor};
 ghost use Rattle.pair_world.specs.Tells.{Tells};
-ghost use Rattle.pair_world.specs.Promised.{ComeOnce, ComeInOrder};
+ghost use Rattle.pair_world.specs.Promised.{ComeOnce, ComeInOrder, ComeOrWait};
+ghost use Rattle.pair_world.specs.Waiting.{kept_waiting};
 
 use crate::act::act;
 use crate::fault::PairFault;
 use crate::side::Side;
 use crate::step::{Doing, End, Step};
-use exchange::{Exchange, NoMemory};
+use exchange::{Exchange, NoMemory, Pick};
 use settings::{LinkId, Msu, Outcome, Settings};
 use std::alloc::Global;
 use std::marker::Model;
@@ -89,13 +92,13 @@ impl Pair {
     pub fn turn(&mut self, step: Step) -> Result<Outcome, NoMemory>
         // For every abstract pair that it stood for, the outcome is that of the abstract step,
         ensures outcome { (p : PairState) → StandsFor self.old p →
-            IfOk result (λ outcome. outcome ≡ (turn_told (step_told step outcome) p).outcome) }
+            IfOk result (λ outcome. outcome ≡ (pairs.turn (step_told step outcome) p).outcome) }
         // which for a delivery says what came: Local or NoUserPart exactly if the end received a message,
         ensures told { (p : PairState) → StandsFor self.old p →
             IfOk result (λ outcome. Tells (step_told step outcome) p outcome) }
         // and the pair stands for the one after it.
         ensures state { (p : PairState) → StandsFor self.old p →
-            IfOk result (λ outcome. StandsFor self.new (turn_told (step_told step outcome) p).left) }
+            IfOk result (λ outcome. StandsFor self.new (pairs.turn (step_told step outcome) p).left) }
         ensures unchanged { OnErr result (self.new ≡ self.old) }
     {
         self.apply(step)
@@ -105,6 +108,8 @@ impl Pair {
     /// They are for the other end, and none is of management, testing or SCCP.
     pub fn accepted(&self, end: End) -> &[Msu]
         ensures accepted { (p : PairState) → StandsFor self.now p → result.now ≡ (seen_from end p).near.accepted }
+        ensures destination { (p : PairState) → StandsFor self.now p →
+            All (IsUserMessageTo (seen_from end p).far.exchange.settings.own) result.now }
         // "Exactly once"
         ensures once { (p : PairState) → StandsFor self.now p →
             ComeOnce (seen_from end p) result.now (seen_from end p).far.received }
@@ -128,6 +133,21 @@ impl Pair {
         self.side(end).received()
     }
 
+    /// How many user messages that a choice takes wait at an end for the other: on a link, behind the last message
+    /// that the other end accepted there, or in Held. So while neither end may have lost a message, as many were
+    /// accepted as the other end received and as wait, between any two steps.
+    ///
+    /// It looks at each message that waits once, and copies none. Each link's count has 64 bits, and their sum 128.
+    pub fn waiting<P: Pick>(&mut self, end: End, pick: &P) -> u128
+        ensures waiting { (p : PairState) → StandsFor self.old p →
+            result ≡ count_by (promises.user (P.picks pick.now)) (promises.waiting (seen_from end p)) }
+        ensures once { (p : PairState) → StandsFor self.old p →
+            ComeOrWait (seen_from end p) (P.picks pick.now) result }
+        ensures unchanged { self.new ≡ self.old }
+    {
+        self.count_waiting(end, pick)
+    }
+
     /// Whether an end may follow the other on a link, which opened there first.
     pub fn may_follow(&self, end: End, link: LinkId) -> bool
         ensures { (p : PairState) → StandsFor self.now p → result ≡ pairs.may_follow (seen_from end p).near link }
@@ -141,6 +161,18 @@ impl Pair {
             exchanges.StandsFor result.now (seen_from end p).near.exchange }
     {
         self.side(end).exchange()
+    }
+
+    /// How many user messages that a choice takes wait at an end, by what is kept.
+    fn count_waiting<P: Pick>(&mut self, end: End, pick: &P) -> u128
+        ensures count { result ≡ kept_waiting (P.picks pick.now)
+            (kept_at end self.old).exchange (kept_at (other end) self.old).exchange }
+        ensures unchanged { self.new ≡ self.old }
+    {
+        match end {
+            End::One => self.near.count_waiting(&self.far, pick),
+            End::Two => self.far.count_waiting(&self.near, pick),
+        }
     }
 
     /// An end.

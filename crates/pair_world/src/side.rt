@@ -1,6 +1,6 @@
 //! One end of a pair.
 
-ghost use Rattle.std.specs.Prelude.{◌≡◌, ◌<◌, [], false, ◌&&◌, nat_lt, length, replicate};
+ghost use Rattle.std.specs.Prelude.{◌≡◌, ◌<◌, [], false, ◌&&◌, nat_lt, length};
 ghost use Rattle.std.specs.Prelude.{slice_index_or, option_to_list};
 ghost use Rattle.std.specs.Prelude.{IfOk, OnOk, OnErr};
 ghost use Rattle.exchange_rules.specs.Exchange.{taken, wants_of};
@@ -8,20 +8,24 @@ ghost use Rattle.exchange_rules.specs.First.{first_state};
 ghost use Rattle.exchange.specs.Calls.{happened};
 ghost use Rattle.exchange.specs.KeptQueues.{kept};
 ghost use Rattle.exchange.specs.Stands.{kept_of};
+ghost use Rattle.exchange.specs.Views.{may_restart_at};
 ghost use Rattle.pair_rules.specs.Pairs.{Streams, is_sccp, accepted_by, first_end};
 ghost use Rattle.pair_world.specs.KeptEnds.{kept_end_of, end_happens, end_submits, end_delivers};
 ghost use Rattle.pair_world.specs.KeptEnds.{end_delivers_status, end_loses_status, end_doubles_status};
 ghost use Rattle.pair_world.specs.KeptEnds.{end_opens_first, end_may_follow, end_opens_second};
 ghost use Rattle.pair_world.specs.KeptEnds.{text_to_take, behind_its, take_outcome};
 ghost use Rattle.pair_world.specs.KeptPairs.{has_link};
+ghost use Rattle.pair_world.specs.Waiting.{kept_waiting};
 
+use crate::counting::count_waiting;
 use crate::flight::{
-    Flight, clear_flight, double_in_flight, is_noted, next_in_flight, note, take_behind,
+    Flight, clear_flight, double_in_flight, is_noted, next_in_flight, none_follows, note,
+    nothing_in_flight, take_behind,
 };
 use crate::hearing::{SCCP, add, hand_in};
-use exchange::{Event, Exchange, NoMemory, Wants};
+use exchange::{Event, Exchange, NoMemory, Pick, Wants};
 use settings::{Cause, LinkId, Msu, Outcome, Settings};
-use std::alloc::{AllocError, Global};
+use std::alloc::Global;
 use std::marker::Model;
 
 /// One end: its exchange, the link statuses and the User Data in flight to it on each link, whether it may follow the
@@ -128,6 +132,21 @@ impl Side {
         ensures { result ≡ wants_of self.now.exchange link }
     {
         self.exchange.wants(link)
+    }
+
+    /// Whether a link may open as far as its changeover goes.
+    pub(crate) fn may_restart(&self, link: LinkId) -> bool
+        ensures { result ≡ may_restart_at self.now.exchange link }
+    {
+        self.exchange.may_restart(link)
+    }
+
+    /// How many user messages that a choice takes wait for the other end.
+    pub(crate) fn count_waiting<P: Pick>(&mut self, other: &Side, pick: &P) -> u128
+        ensures count { result ≡ kept_waiting (P.picks pick.now) self.old.exchange other.now.exchange }
+        ensures unchanged { self.new ≡ self.old }
+    {
+        count_waiting(&mut self.exchange, &other.exchange, pick)
     }
 }
 
@@ -258,28 +277,6 @@ impl Side {
             _ => Outcome::Ignored,
         }
     }
-}
-
-/// Nothing is in flight on so many links.
-fn nothing_in_flight(alloc: Global, links: usize) -> Result<Vec<Flight>, AllocError>
-    ensures { IfOk result (λ incoming. incoming.items ≡ replicate links []) }
-{
-    let mut incoming = Vec::with_capacity(alloc, links)?;
-    for _ in 0..links {
-        incoming.push(Flight::new(alloc))?;
-    }
-    Ok(incoming)
-}
-
-/// No end follows on so many links.
-fn none_follows(alloc: Global, links: usize) -> Result<Vec<bool>, AllocError>
-    ensures { IfOk result (λ following. following.items ≡ replicate links false) }
-{
-    let mut following = Vec::with_capacity(alloc, links)?;
-    for _ in 0..links {
-        following.push(false)?;
-    }
-    Ok(following)
 }
 
 /// The message, where it was accepted: where it stands in a queue or in Held.

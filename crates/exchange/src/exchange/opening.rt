@@ -7,6 +7,7 @@ ghost use Rattle.exchange_rules.specs.Exchange.{Ends, wants_of};
 ghost use Rattle.exchange_rules.specs.Sound.{Abstract};
 ghost use Rattle.exchange.specs.Stands.{StandsFor};
 ghost use Rattle.exchange_rules.specs.Opening as rule;
+ghost use Rattle.exchange.specs.Views.{may_restart_at};
 
 use super::Exchange;
 use exchange_rules::Wants;
@@ -35,6 +36,18 @@ impl Exchange {
         } else {
             Wants::Nothing
         }
+    }
+
+    /// Whether a link may open as far as its changeover goes: it is down, its changeover is complete, and no
+    /// acknowledgement of its changeover order is awaited. It may still have its association, or be deactivated. False
+    /// if there is no such link.
+    pub fn may_restart(&self, link: LinkId) -> bool
+        ensures restarts { (a : Abstract) → StandsFor self.now a → result ≡ may_restart_at a link }
+        ensures kept_restarts { result ≡ may_restart_at self.now link }
+    {
+        self.links.has(link)
+            && self.links.state(link).is_down()
+            && self.changeovers.may_restart(link)
     }
 
     /// An association comes up.

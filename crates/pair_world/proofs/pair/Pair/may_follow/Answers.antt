@@ -1,5 +1,5 @@
 -- Where the end may follow is where it may of the abstract pair.
-use Rattle.std.proofs.Common.{ℕ, Bool, false, List, ap, ◌∙◌}
+use Rattle.std.proofs.Common.{Bool, false, List, ap, ◌∙◌}
 use Rattle.std.specs.Prelude.{slice_index_or}
 use Rattle.pair_world.specs.KeptEnds.{KeptEnd}
 use Rattle.pair_world.proofs.Promised.{following-same}

@@ -1,6 +1,5 @@
 -- A pair of settings that face each other stands for their first pair.
-use Rattle.std.proofs.Common.{rules, ◌≡◌, Bool, true, false, refl}
-use Rattle.std.specs.Prelude.{not}
+use Rattle.std.proofs.Common.{rules}
 use Rattle.pair_world.proofs.Turns.{stands-first-pair}
 use Rattle.pair_world.proofs.pair.Pair.new.Goals as goal
 

@@ -1,10 +1,11 @@
 -- What becomes of a step on what is kept is what becomes of it.
-use Rattle.std.proofs.Common.{◌≡◌, sym, subst, ◌∙◌}
+use Rattle.std.proofs.Common.{sym, subst, ◌∙◌}
 use Rattle.std.proofs.lemmas.Result.{IfOk-weaker}
 use Rattle.pair_world.specs.KeptPairs.{KeptPair}
 use Rattle.pair_world.specs.Stands.{StandsFor}
 use Rattle.pair_world.specs.Tells.{Tells}
-use Rattle.pair_world.specs.Told.{step_told, turn_told}
+use Rattle.pair_rules.specs.Pairs.{turn}
+use Rattle.pair_world.specs.Told.{step_told}
 use Rattle.pair_world.proofs.Telling.{tells}
 use Rattle.pair_world.proofs.Turns.{stands-outcome, stands-turn}
 use Rattle.pair_world.proofs.pair.Pair.turn.Goals as goal
@@ -24,5 +25,5 @@ pub returns-clause-state : goal.returns-clause-state
 returns-clause-state c = λ p s.
     IfOk-weaker c.apply.result _ _
     (λ outcome e.
-    subst (λ (k : KeptPair). StandsFor k (turn_told (step_told c.args.step outcome) p).left) (sym e) (stands-turn (step_told c.args.step outcome) c.args.self.now p s))
+    subst (λ (k : KeptPair). StandsFor k (turn (step_told c.args.step outcome) p).left) (sym e) (stands-turn (step_told c.args.step outcome) c.args.self.now p s))
     c.apply.ensures.state

@@ -1,5 +1,5 @@
 use Rattle.std.proofs.Common.{◌≡◌, false, replicate}
-use Rattle.pair_world.proofs.side.none_follows.Given as goal
+use Rattle.pair_world.proofs.flight.none_follows.Given as goal
 
 -- as many as the loop has gone round
 abbrev pub invariant-loop : goal.invariant-loop

@@ -1,5 +1,5 @@
 use Rattle.std.proofs.Common.{◌≡◌, [], replicate}
-use Rattle.pair_world.proofs.side.nothing_in_flight.Given as goal
+use Rattle.pair_world.proofs.flight.nothing_in_flight.Given as goal
 
 -- as many as the loop has gone round
 abbrev pub invariant-loop : goal.invariant-loop

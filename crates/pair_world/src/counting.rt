@@ -1,0 +1,42 @@
+//! How many user messages wait at an end of a pair.
+
+ghost use Rattle.std.specs.Prelude.{◌≡◌, ◌≤◌, ◌*◌, ◌^◌};
+ghost use Rattle.pair_moves.specs.Laws.{sum_to};
+ghost use Rattle.pair_world.specs.Waiting.{kept_waiting, kept_waiting_on};
+
+use crate::hearing::last_accepted;
+use exchange::{Exchange, Pick};
+use settings::LinkId;
+
+/// How many user messages that a choice takes wait at the near exchange: on its links, behind the last message that the
+/// far one accepted there, and in Held.
+pub(crate) fn count_waiting<P: Pick>(near: &mut Exchange, far: &Exchange, pick: &P) -> u128
+    ensures count { result ≡ kept_waiting (P.picks pick.now) near.old far.now }
+    ensures unchanged { near.new ≡ near.old }
+{
+    let links = near.settings().link_count() as u8;
+    let on_links = count_on_links(near, far, links, pick);
+    on_links + near.count_held_picked(pick) as u128
+}
+
+/// The same, on the first so many links. Each link's count has 64 bits, so the sum has room in 128.
+fn count_on_links<P: Pick>(near: &mut Exchange, far: &Exchange, links: u8, pick: &P) -> u128
+    ensures count { result ≡ sum_to (kept_waiting_on (P.picks pick.now) near.old far.now) links }
+    ensures few { result ≤ links * 2 ^ 64 }
+    ensures unchanged { near.new ≡ near.old }
+{
+    let mut count = 0u128;
+    for link in 0..links {
+        count += count_on(near, far, LinkId::new(link), pick) as u128;
+    }
+    count
+}
+
+/// The same, on one link.
+fn count_on<P: Pick>(near: &mut Exchange, far: &Exchange, link: LinkId, pick: &P) -> usize
+    ensures count { result ≡ kept_waiting_on (P.picks pick.now) near.old far.now link }
+    ensures unchanged { near.new ≡ near.old }
+{
+    let number = last_accepted(far, link);
+    near.count_behind(link, number, pick)
+}
