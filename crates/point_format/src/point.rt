@@ -1,9 +1,9 @@
 //! Point codes as an operator writes them.
 
-ghost use Rattle.std.specs.Prelude.{◌≡◌, ℕ, ◌-◌, ◌<◌, ◌^◌, IfSome, Some, decimal};
-ghost use Rattle.trace.specs.Points.{IsPointText, point_text, in_three_parts, digit};
+ghost use Rattle.std.specs.Prelude.{◌≡◌, ℕ, ◌-◌, ◌<◌, ◌^◌, [], IfSome, Some, decimal};
+ghost use Rattle.point_format.specs.Points.{IsPointText, point_text, point_in, in_three_parts, digit};
 
-use arrayvec::ArrayVec;
+use arrayvec::ArrayString;
 use itoa::Buffer;
 use signalling_types::PointCode;
 
@@ -20,30 +20,52 @@ pub enum PointFormat {
 }
 
 /// The text of a point in this format.
-pub fn point_text(point: PointCode, format: PointFormat) -> ArrayVec<u8, POINT_OCTETS>
-    ensures { result.items ≡ point_text format point }
+pub fn point_text(point: PointCode, format: PointFormat) -> ArrayString<POINT_OCTETS>
+    ensures { result.bytes ≡ point_text format point }
 {
-    let mut text = ArrayVec::new();
+    let mut text = ArrayString::new();
     match format {
         PointFormat::Plain => {
             let mut buffer = Buffer::new();
-            let _fits = text.try_extend_from_slice(buffer.format(point.code()).as_bytes());
+            text.push_str(buffer.format(point.code()));
         }
-        PointFormat::ThreeEightThree => {
-            let _fits = text.try_extend_from_slice(&in_three_parts(point));
-        }
+        PointFormat::ThreeEightThree => push_three_parts(&mut text, point),
     }
     text
 }
 
+/// Writes the three parts of a point where nothing is written yet.
+fn push_three_parts(text: &mut ArrayString<POINT_OCTETS>, point: PointCode)
+    requires { text.old.bytes ≡ [] }
+    ensures { text.new.bytes ≡ in_three_parts point }
+{
+    prove!(point.code() < 1 << 14);
+    // Digits and hyphens are text.
+    if let Ok(parts) = str::from_utf8(&in_three_parts(point)) {
+        text.push_str(parts);
+    }
+}
+
 /// The point of a text: its number in decimal digits without leading zeros, or, where the format is in
 /// three parts, also those three parts, the area in three digits. None for any other text.
-#[tactic(auto, using(crate::proofs::Points::short))]
-pub fn parse_point(text: &str, format: PointFormat) -> Option<PointCode>
+pub fn parse_point(text: &[u8], format: PointFormat) -> Option<PointCode>
+    ensures point { result ≡ point_in format text.now }
     ensures value { IfSome result (λ point. IsPointText format text.now point) }
     ensures found { (point : ℕ) → point < 2 ^ 14 → IsPointText format text.now point → result ≡ Some point }
     // What is shown is read back.
     ensures back { (point : ℕ) → point < 2 ^ 14 → text.now ≡ point_text format point → result ≡ Some point }
+{
+    let Ok(text) = str::from_utf8(text) else {
+        return None;
+    };
+    parse_text(text, format)
+}
+
+/// The same, of octets that are text.
+#[tactic(auto, using(crate::proofs::Short::short))]
+fn parse_text(text: &str, format: PointFormat) -> Option<PointCode>
+    ensures value { IfSome result (λ point. (point < 2 ^ 14) × IsPointText format text.now point) }
+    ensures found { (point : ℕ) → point < 2 ^ 14 → IsPointText format text.now point → result ≡ Some point }
 {
     match format {
         PointFormat::ThreeEightThree if text.len() == POINT_OCTETS => {
@@ -55,7 +77,7 @@ pub fn parse_point(text: &str, format: PointFormat) -> Option<PointCode>
 
 /// The point of this number.
 fn parse_plain(text: &str) -> Option<PointCode>
-    ensures value { IfSome result (λ point. text.now ≡ decimal point) }
+    ensures value { IfSome result (λ point. (point < 2 ^ 14) × (text.now ≡ decimal point)) }
     ensures found { (point : ℕ) → point < 2 ^ 14 → text.now ≡ decimal point → result ≡ Some point }
 {
     let point = PointCode::new(number(text)?)?;
@@ -77,7 +99,7 @@ fn number(text: &str) -> Option<u16>
 
 /// The point of these three parts.
 fn parse_three_parts(text: &[u8]) -> Option<PointCode>
-    ensures value { IfSome result (λ point. text.now ≡ in_three_parts point) }
+    ensures value { IfSome result (λ point. (point < 2 ^ 14) × (text.now ≡ in_three_parts point)) }
     ensures found { (point : ℕ) → point < 2 ^ 14 → text.now ≡ in_three_parts point → result ≡ Some point }
 {
     let [zone, b'-', hundreds, tens, ones, b'-', point] = *text else {
@@ -85,6 +107,7 @@ fn parse_three_parts(text: &[u8]) -> Option<PointCode>
     };
     let area = 100 * value(hundreds) + 10 * value(tens) + value(ones);
     let point = PointCode::of_low_bits(2048 * value(zone) + 8 * area + value(point));
+    prove!(point.code() < 1 << 14);
     // Parts out of their range, and octets that aren't digits, are refused.
     if in_three_parts(point).as_slice() == text {
         Some(point)
