@@ -2,7 +2,8 @@
 
 ghost use Rattle.std.specs.Prelude.{◌≡◌};
 ghost use Rattle.program.specs.Explaining.{IsTold, IsToldMade, IsToldOf, usage_text, unread_text, unread_sentence};
-ghost use Rattle.program.specs.Explaining.{IsWarned, IsFaultExplained, IsEndExplained, IsScriptExplained, IsLabEndExplained};
+ghost use Rattle.program.specs.Explaining.{IsWarned, IsFaultExplained};
+ghost use Rattle.program.specs.Explaining.{IsEndExplained, IsScriptExplained, IsLabEndExplained};
 ghost use Rattle.program.specs.Explaining.{strangers_sentence, lab_line_sentence};
 
 use crate::folder::Unread;
