@@ -2,9 +2,10 @@
 
 use crate::rows::{last, word};
 use crate::said::Said;
+use point_format::{PointFormat, parse_point};
 use signalling_types::{Limits, LinkId};
 use std::time::Duration;
-use trace::{Capture, Direction, PointFormat, UntilFailure, frame_words, parse_point};
+use trace::{Capture, Direction, UntilFailure, frame_words};
 
 /// The format in which point 4237 is written so.
 fn format(word: &str) -> PointFormat {
@@ -32,7 +33,7 @@ pub fn say_words(said: &mut Said, row: &str, frame: &[u8]) {
 
 /// Says the point of a text.
 pub fn point(said: &mut Said, row: &str) {
-    said.show(&parse_point(last(row), format(word(row, 1))));
+    said.show(&parse_point(last(row).as_bytes(), format(word(row, 1))));
 }
 
 /// Says whether a capture file of so much room takes a frame so many times, and the octets of the room then.

@@ -1,4 +1,4 @@
--- Orders as an operator writes them.
+-- Orders as an operator writes them, with points in the format that he writes.
 use Rattle.std.specs.Prelude.{ℕ, Bool, not, nat_eq, if◌then◌else◌, List, [], ◌∷◌, length, bytes_eq, codes}
 use Rattle.std.specs.Prelude.{Option, None, Some}
 use Rattle.std.specs.Option.{option_map, option_and_then}
@@ -11,6 +11,7 @@ use Rattle.console.specs.declared.order.OrderText.{OrderText}
 use Rattle.console.specs.declared.order.OrderText.TheVariants as text
 use Rattle.console.specs.declared.order.Parsed.{Parsed}
 use Rattle.console.specs.declared.order.Parsed.TheVariants as parsed
+use Rattle.point_format.specs.declared.point.PointFormat.{PointFormat}
 use Rattle.console.specs.Words.{words}
 use Rattle.console.specs.Commands.{command_named}
 use Rattle.console.specs.TitleWords.{name_written, row_written}
@@ -36,31 +37,33 @@ instructed_about command.Deactivate link = Some (ToDeactivate link)
 instructed_about _ link = None
 
 -- the order about the row of this name: it is removed, or added with the words behind
-abbrev pub title_order_about : RowName → (verb : List ℕ) → List (List ℕ) → Option Instruction
-title_order_about name verb [] =
+abbrev pub title_order_about : PointFormat → RowName → (verb : List ℕ) → List (List ℕ) → Option Instruction
+title_order_about points name verb [] =
     if bytes_eq verb (codes "remove") then Some (ToRemoveTitle name.key name.digits.items) else None
-title_order_about name verb (point ∷ behind) =
-    if bytes_eq verb (codes "add") then option_map (λ row. ToAddTitle row) (row_written name (point ∷ behind)) else None
+title_order_about points name verb (point ∷ behind) =
+    if bytes_eq verb (codes "add")
+    then option_map (λ row. ToAddTitle row) (row_written points name (point ∷ behind))
+    else None
 
 -- the order that the words behind `title` give: `add T P N DIGITS POINT ROUTE SSN` or `remove T P N DIGITS`
-abbrev pub title_order : List (List ℕ) → Option Instruction
-title_order (verb ∷ translation ∷ plan ∷ nature ∷ digits ∷ behind) =
-    option_and_then (λ name. title_order_about name verb behind) (name_written translation plan nature digits)
-title_order _ = None
+abbrev pub title_order : PointFormat → List (List ℕ) → Option Instruction
+title_order points (verb ∷ translation ∷ plan ∷ nature ∷ digits ∷ behind) =
+    option_and_then (λ name. title_order_about points name verb behind) (name_written translation plan nature digits)
+title_order points _ = None
 
 -- the order that a command gives by more words than one
-abbrev pub instructed_by : Command → List (List ℕ) → Option Instruction
-instructed_by command.Title behind = title_order behind
-instructed_by _ behind = None
+abbrev pub instructed_by : PointFormat → Command → List (List ℕ) → Option Instruction
+instructed_by points command.Title behind = title_order points behind
+instructed_by points _ behind = None
 
 -- the order that words give: `activate LINK`, `deactivate LINK`, or one about a translation row
-abbrev pub instructed : List (List ℕ) → Option Instruction
-instructed [] = None
-instructed (word ∷ []) = None
-instructed (word ∷ link ∷ []) =
+abbrev pub instructed : PointFormat → List (List ℕ) → Option Instruction
+instructed points [] = None
+instructed points (word ∷ []) = None
+instructed points (word ∷ link ∷ []) =
     if is_some_word link then option_and_then (λ command. instructed_about command link) (command_named word) else None
-instructed (word ∷ first ∷ second ∷ more) =
-    option_and_then (λ command. instructed_by command (first ∷ second ∷ more)) (command_named word)
+instructed points (word ∷ first ∷ second ∷ more) =
+    option_and_then (λ command. instructed_by points command (first ∷ second ∷ more)) (command_named word)
 
 abbrev pub instruction : OrderText → Instruction
 instruction (text.Activate link) = ToActivate link.now
@@ -88,5 +91,5 @@ parsed_by c None = parsed.Malformed
 parsed_by c (Some instruction) = parsed_named (order_named c instruction)
 
 -- what a text orders a node with these settings to do
-abbrev pub parsed_order : Configuration → List ℕ → Parsed
-parsed_order c octets = parsed_by c (instructed (words octets))
+abbrev pub parsed_order : PointFormat → Configuration → List ℕ → Parsed
+parsed_order points c octets = parsed_by c (instructed points (words octets))

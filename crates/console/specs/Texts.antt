@@ -1,4 +1,4 @@
--- What the console shows, a line at a time, without the line feeds.
+-- What the console shows, a line at a time, without the line feeds. Points are in the format that is asked for.
 use Rattle.std.specs.Prelude.{◌≡◌, ℕ, zero, suc, ◌+◌, Bool, true, false, ◌++◌, List, [], ◌∷◌, map, codes, decimal, slice_get}
 use Rattle.std.specs.Prelude.{nat_lt, if◌then◌else◌}
 use Rattle.std.specs.Prelude.{Option, Some, None}
@@ -17,6 +17,8 @@ use Rattle.signalling_types.specs.declared.notice.ChangeoverTimer.TheVariants.{T
 use Rattle.signalling_types.specs.declared.notice.FailureReason.{FailureReason}
 use Rattle.signalling_types.specs.declared.notice.FrameFault.{FrameFault}
 use Rattle.signalling_types.specs.declared.notice.LateTimer.TheVariants.{T3, T4}
+use Rattle.point_format.specs.Points.{point_text}
+use Rattle.point_format.specs.declared.point.PointFormat.{PointFormat}
 use Rattle.routes.specs.Chosen.{status_name}
 use Rattle.exchange.specs.declared.view.LinkView.{LinkView}
 use Rattle.exchange.specs.declared.view.RouteView.{RouteView}
@@ -49,13 +51,13 @@ sets_text c [] = codes "none"
 sets_text c (set ∷ []) = set_name_in c set
 sets_text c (first ∷ second ∷ rest) = set_name_in c first ++ codes "+" ++ set_name_in c second
 
-abbrev pub route_text : Configuration → RouteView → List ℕ
-route_text c v =
-    codes "route " ++ decimal v.point ++ codes " " ++ sets_text c v.sets.items ++ codes " " ++ status_name v.status
+abbrev pub route_text : PointFormat → Configuration → RouteView → List ℕ
+route_text points c v =
+    codes "route " ++ point_text points v.point ++ codes " " ++ sets_text c v.sets.items ++ codes " " ++ status_name v.status
 
 -- the line of destination k
-abbrev pub route_line : {Q : Type 0} → State Q → ℕ → Option (List ℕ)
-route_line s k = option_map (λ v. route_text s.settings v) (route_view s k)
+abbrev pub route_line : {Q : Type 0} → PointFormat → State Q → ℕ → Option (List ℕ)
+route_line points s k = option_map (λ v. route_text points s.settings v) (route_view s k)
 
 -- ---- notices
 
@@ -76,12 +78,13 @@ abbrev pub failed_text : (name : List ℕ) → FailureReason → List ℕ
 failed_text name reason = codes "failed " ++ name ++ codes " " ++ failure_name reason
 
 -- a message was lost
-abbrev pub lost_text : Cause → (point sls : ℕ) → List ℕ
-lost_text cause point sls = codes "lost " ++ cause_text cause ++ codes " " ++ decimal point ++ codes " " ++ decimal sls
+abbrev pub lost_text : PointFormat → Cause → (point sls : ℕ) → List ℕ
+lost_text points cause point sls =
+    codes "lost " ++ cause_text cause ++ codes " " ++ point_text points point ++ codes " " ++ decimal sls
 
 -- a management message could not go out
-abbrev pub unsent_text : Cause → (point : ℕ) → List ℕ
-unsent_text cause point = codes "unsent " ++ cause_text cause ++ codes " " ++ decimal point
+abbrev pub unsent_text : PointFormat → Cause → (point : ℕ) → List ℕ
+unsent_text points cause point = codes "unsent " ++ cause_text cause ++ codes " " ++ point_text points point
 
 -- T1 or T2 of this link's changeover ran out
 abbrev pub expired_text : (name : List ℕ) → ChangeoverTimer → List ℕ
@@ -95,19 +98,20 @@ late_link_text name = codes "late T3 " ++ name
 abbrev pub late_code_text : (code : ℕ) → List ℕ
 late_code_text code = codes "late T4 " ++ decimal code
 
-abbrev pub notice_text : Configuration → Notice → List ℕ
-notice_text c (Refused cause link) = refused_text (name_in c link) cause
-notice_text c (Frame fault link) = frame_text (name_in c link) fault
-notice_text c (Failed link reason) = failed_text (name_in c link) reason
-notice_text c (Lost cause point sls) = lost_text cause point sls
-notice_text c (Unsent cause point) = unsent_text cause point
-notice_text c (Expired timer link) = expired_text (name_in c link) timer
-notice_text c (Late T3 link) = late_link_text (name_in c link)
-notice_text c (Late T4 code) = late_code_text code
+abbrev pub notice_text : PointFormat → Configuration → Notice → List ℕ
+notice_text points c (Refused cause link) = refused_text (name_in c link) cause
+notice_text points c (Frame fault link) = frame_text (name_in c link) fault
+notice_text points c (Failed link reason) = failed_text (name_in c link) reason
+notice_text points c (Lost cause point sls) = lost_text points cause point sls
+notice_text points c (Unsent cause point) = unsent_text points cause point
+notice_text points c (Expired timer link) = expired_text (name_in c link) timer
+notice_text points c (Late T3 link) = late_link_text (name_in c link)
+notice_text points c (Late T4 code) = late_code_text code
 
 -- the line of notice k, the oldest first
-abbrev pub notice_line : {Q : Type 0} → State Q → ℕ → Option (List ℕ)
-notice_line s k = option_map (λ notice. notice_text s.settings notice) (slice_get s.node.parts.notices.last k)
+abbrev pub notice_line : {Q : Type 0} → PointFormat → State Q → ℕ → Option (List ℕ)
+notice_line points s k =
+    option_map (λ notice. notice_text points s.settings notice) (slice_get s.node.parts.notices.last k)
 
 -- ---- flags
 
@@ -136,11 +140,11 @@ abbrev pub way_text : TitleRoute → List ℕ
 way_text (route.Title ssn) = title_way_text ssn
 way_text (route.Ssn ssn) = codes " ssn " ++ decimal ssn
 
-abbrev pub title_text : TitleEntry → List ℕ
-title_text row =
+abbrev pub title_text : PointFormat → TitleEntry → List ℕ
+title_text points row =
     codes "title " ++ decimal row.translation ++ codes " " ++ decimal row.plan ++ codes " " ++ decimal row.nature
-    ++ codes " " ++ map digit_octet row.digits ++ codes " " ++ decimal row.point ++ way_text row.route
+    ++ codes " " ++ map digit_octet row.digits ++ codes " " ++ point_text points row.point ++ way_text row.route
 
 -- the line of row k, in the order of the rows
-abbrev pub title_line : {Q : Type 0} → State Q → ℕ → Option (List ℕ)
-title_line s k = option_map title_text (slice_get s.node.parts.titles k)
+abbrev pub title_line : {Q : Type 0} → PointFormat → State Q → ℕ → Option (List ℕ)
+title_line points s k = option_map (title_text points) (slice_get s.node.parts.titles k)

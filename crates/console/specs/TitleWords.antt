@@ -10,6 +10,8 @@ use Rattle.settings_rows.specs.declared.title_row.TitleRoute.TheVariants.{Title,
 use Rattle.settings.specs.Checks.{is_digit}
 use Rattle.settings.specs.Meaning.{digit_of}
 use Rattle.sccp_codec.specs.declared.title.TitleKey.{TitleKey}
+use Rattle.point_format.specs.Points.{point_in}
+use Rattle.point_format.specs.declared.point.PointFormat.{PointFormat}
 use Rattle.console.specs.Numbers.{number_within}
 use Rattle.console.specs.declared.title_words.RowName.{RowName}
 
@@ -56,9 +58,9 @@ row_leading name point route = record {
   route = route;
 }
 
--- the row of this name that these words write: `POINT ROUTE SSN`
-abbrev pub row_written : RowName → List (List ℕ) → Option TitleEntry
-row_written name (point ∷ way ∷ ssn ∷ []) =
+-- the row of this name that these words write, with points in this format: `POINT ROUTE SSN`
+abbrev pub row_written : PointFormat → RowName → List (List ℕ) → Option TitleEntry
+row_written points name (point ∷ way ∷ ssn ∷ []) =
     option_and_then (λ p. option_and_then (λ s. option_map (λ route. row_leading name p route) (route_named way s))
-    (ssn_written ssn)) (number_within 0 16383 point)
-row_written name _ = None
+    (ssn_written ssn)) (point_in points point)
+row_written points name _ = None

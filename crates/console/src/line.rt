@@ -2,10 +2,12 @@
 
 ghost use Rattle.std.specs.Prelude.{◌≡◌, ◌+◌, ◌≤◌, ◌++◌, length, decimal};
 ghost use Rattle.console.specs.Texts.{cause_text};
+ghost use Rattle.point_format.specs.Points.{point_text};
 
 use arrayvec::ArrayString;
 use itoa::Buffer;
-use settings::Cause;
+use point_format::{POINT_OCTETS, PointFormat, point_text};
+use settings::{Cause, PointCode};
 
 /// Octets of a line, at most.
 pub const LINE_OCTETS: usize = 128;
@@ -30,6 +32,21 @@ pub(crate) fn push_small(line: &mut ArrayString<LINE_OCTETS>, word: &str, number
     let mut buffer = Buffer::new();
     line.push_str(word);
     line.push_str(buffer.format(number));
+}
+
+/// Puts a word and a point in this format behind what is there.
+pub(crate) fn push_point(
+    line: &mut ArrayString<LINE_OCTETS>,
+    word: &str,
+    point: PointCode,
+    points: PointFormat,
+)
+    requires { length line.old.bytes + length word.now + POINT_OCTETS ≤ LINE_OCTETS }
+    ensures text { line.new.bytes ≡ line.old.bytes ++ word.now ++ point_text points point }
+    ensures short { length line.new.bytes ≤ length line.old.bytes + length word.now + POINT_OCTETS }
+{
+    line.push_str(word);
+    line.push_str(point_text(point, points).as_str());
 }
 
 /// Puts a word and a cause, by number and by name, behind what is there.

@@ -6,29 +6,35 @@ ghost use Rattle.exchange.specs.Stands.{StandsFor};
 ghost use Rattle.console.specs.Texts.{Shows, notice_line, notice_text, refused_text, frame_text, failed_text};
 ghost use Rattle.console.specs.Texts.{lost_text, unsent_text, expired_text, late_link_text, late_code_text};
 
-use crate::line::{LINE_OCTETS, push_cause, push_number};
+use crate::line::{LINE_OCTETS, push_cause, push_number, push_point};
 use crate::names::link_name;
 use arrayvec::ArrayString;
 use exchange::Exchange;
+use point_format::PointFormat;
 use settings::{
     Cause, ChangeoverTimer, FailureReason, FrameFault, LateTimer, Limits, LinkId, Notice,
     PointCode, Settings, Sls,
 };
 
-/// Writes line `k`, from 0, of the text of the notices, the oldest that is kept first.
+/// Writes line `k`, from 0, of the text of the notices, the oldest that is kept first, with points in this format.
 ///
 /// False past the last line, and then nothing is written.
-pub fn show_notices(exchange: &Exchange, k: usize, out: &mut ArrayString<LINE_OCTETS>) -> bool
+pub fn show_notices(
+    exchange: &Exchange,
+    k: usize,
+    points: PointFormat,
+    out: &mut ArrayString<LINE_OCTETS>,
+) -> bool
     // For every abstract state that the exchange stands for, the line is that of the abstract state.
     ensures line { (a : Abstract) → StandsFor exchange.now a →
-        Shows (notice_line a k) result out.old.bytes out.new.bytes }
+        Shows (notice_line points a k) result out.old.bytes out.new.bytes }
 
     // The same on what is kept.
-    ensures kept_line { Shows (notice_line exchange.now k) result out.old.bytes out.new.bytes }
+    ensures kept_line { Shows (notice_line points exchange.now k) result out.old.bytes out.new.bytes }
 {
     match exchange.notices().get(k) {
         Some(notice) => {
-            write_notice(exchange.settings(), notice, out);
+            write_notice(exchange.settings(), notice, points, out);
             true
         }
         None => false,
@@ -36,15 +42,20 @@ pub fn show_notices(exchange: &Exchange, k: usize, out: &mut ArrayString<LINE_OC
 }
 
 /// The line of a notice.
-fn write_notice(settings: &Settings, notice: &Notice, out: &mut ArrayString<LINE_OCTETS>)
-    ensures { out.new.bytes ≡ notice_text settings.now notice.now }
+fn write_notice(
+    settings: &Settings,
+    notice: &Notice,
+    points: PointFormat,
+    out: &mut ArrayString<LINE_OCTETS>,
+)
+    ensures { out.new.bytes ≡ notice_text points settings.now notice.now }
 {
     match notice {
         Notice::Refused(cause, link) => write_refused(link_name(settings, *link), *cause, out),
         Notice::Frame(fault, link) => write_frame(link_name(settings, *link), *fault, out),
         Notice::Failed(link, reason) => write_failed(link_name(settings, *link), *reason, out),
-        Notice::Lost(cause, point, sls) => write_lost(*cause, *point, *sls, out),
-        Notice::Unsent(cause, point) => write_unsent(*cause, *point, out),
+        Notice::Lost(cause, point, sls) => write_lost(*cause, *point, *sls, points, out),
+        Notice::Unsent(cause, point) => write_unsent(*cause, *point, points, out),
         Notice::Expired(timer, link) => write_expired(link_name(settings, *link), *timer, out),
         Notice::Late(LateTimer::T3, number) => {
             write_late_link(link_name(settings, LinkId::new(*number)), out);
@@ -90,22 +101,33 @@ fn write_failed(name: &str, reason: FailureReason, out: &mut ArrayString<LINE_OC
 }
 
 /// A message to this point with this signalling link selection was lost.
-fn write_lost(cause: Cause, point: PointCode, sls: Sls, out: &mut ArrayString<LINE_OCTETS>)
-    ensures { out.new.bytes ≡ lost_text cause point sls }
+fn write_lost(
+    cause: Cause,
+    point: PointCode,
+    sls: Sls,
+    points: PointFormat,
+    out: &mut ArrayString<LINE_OCTETS>,
+)
+    ensures { out.new.bytes ≡ lost_text points cause point sls }
 {
     out.clear();
     push_cause(out, "lost ", cause);
-    push_number(out, " ", u64::from(point.code()));
+    push_point(out, " ", point, points);
     push_number(out, " ", u64::from(sls.number()));
 }
 
 /// A management message to this point could not go out.
-fn write_unsent(cause: Cause, point: PointCode, out: &mut ArrayString<LINE_OCTETS>)
-    ensures { out.new.bytes ≡ unsent_text cause point }
+fn write_unsent(
+    cause: Cause,
+    point: PointCode,
+    points: PointFormat,
+    out: &mut ArrayString<LINE_OCTETS>,
+)
+    ensures { out.new.bytes ≡ unsent_text points cause point }
 {
     out.clear();
     push_cause(out, "unsent ", cause);
-    push_number(out, " ", u64::from(point.code()));
+    push_point(out, " ", point, points);
 }
 
 /// T1 or T2 of the changeover of the link of this name ran out.

@@ -9,6 +9,7 @@ use crate::commands::Command;
 use crate::title_words::{read_name, read_row};
 use crate::words::cut;
 use exchange::{Order, TitleDigits, TitleKey};
+use point_format::PointFormat;
 use settings::{Settings, TitleRow};
 
 /// An order as it was written.
@@ -50,11 +51,12 @@ pub enum Parsed {
 }
 
 /// The order that a text, without its line end, gives to a node with these settings: `activate LINK`, `deactivate
-/// LINK`, `title add T P N DIGITS POINT ROUTE SSN` or `title remove T P N DIGITS`, with one space between the words.
-pub fn parse_order(text: &[u8], settings: &Settings) -> Parsed
-    ensures { result ≡ parsed_order settings.now text.now }
+/// LINK`, `title add T P N DIGITS POINT ROUTE SSN` or `title remove T P N DIGITS`, with one space between the words, and
+/// points in this format.
+pub fn parse_order(text: &[u8], settings: &Settings, points: PointFormat) -> Parsed
+    ensures { result ≡ parsed_order points settings.now text.now }
 {
-    match read_order(text) {
+    match read_order(text, points) {
         Some(order) => match order.named(settings) {
             Some(order) => Parsed::Order(order),
             None => Parsed::NoSuchName,
@@ -65,15 +67,15 @@ pub fn parse_order(text: &[u8], settings: &Settings) -> Parsed
 
 /// The order that a text without a line end is, whether its link has that name or not.
 #[tactic(auto, using(crate::proofs::Ordered::order_steps))]
-fn read_order(text: &[u8]) -> Option<OrderText<'_>>
-    ensures { instruction_of result ≡ instructed (words text.now) }
+fn read_order(text: &[u8], points: PointFormat) -> Option<OrderText<'_>>
+    ensures { instruction_of result ≡ instructed points (words text.now) }
 {
     let (word, rest) = cut(text);
     let behind = rest?;
     match cut(behind) {
         (link, None) if !link.is_empty() => order_about(Command::named(word)?, link),
         (_, None) => None,
-        (_, Some(_)) => order_by(Command::named(word)?, behind),
+        (_, Some(_)) => order_by(Command::named(word)?, behind, points),
     }
 }
 
@@ -88,20 +90,20 @@ fn order_about(command: Command, link: &[u8]) -> Option<OrderText<'_>>
     }
 }
 
-/// The order that a command gives with these words after it, two or more.
-pub fn order_by(command: Command, behind: &[u8]) -> Option<OrderText<'_>>
-    ensures { instruction_of result ≡ instructed_by command (words behind.now) }
+/// The order that a command gives with these words after it, two or more, and points in this format.
+pub fn order_by(command: Command, behind: &[u8], points: PointFormat) -> Option<OrderText<'_>>
+    ensures { instruction_of result ≡ instructed_by points command (words behind.now) }
 {
     match command {
-        Command::Title => title_order(behind),
+        Command::Title => title_order(behind, points),
         _ => None,
     }
 }
 
 /// The order that the words behind `title` give.
 #[tactic(auto, using(crate::proofs::Ordered::order_steps))]
-fn title_order(text: &[u8]) -> Option<OrderText<'_>>
-    ensures { instruction_of result ≡ title_order (words text.now) }
+fn title_order(text: &[u8], points: PointFormat) -> Option<OrderText<'_>>
+    ensures { instruction_of result ≡ title_order points (words text.now) }
 {
     let (verb, rest) = cut(text);
     let (translation, rest) = cut(rest?);
@@ -115,7 +117,7 @@ fn title_order(text: &[u8]) -> Option<OrderText<'_>>
             digits: name.digits,
         }),
         Some(rest) if verb == b"add".as_slice() => {
-            let row = read_row(&name, rest)?;
+            let row = read_row(&name, rest, points)?;
             Some(OrderText::AddTitle { row })
         }
         _ => None,

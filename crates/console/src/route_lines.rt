@@ -5,38 +5,50 @@ ghost use Rattle.exchange_rules.specs.Sound.{Abstract};
 ghost use Rattle.exchange.specs.Stands.{StandsFor};
 ghost use Rattle.console.specs.Texts.{Shows, route_line, route_text, sets_text};
 
-use crate::line::{LINE_OCTETS, push_number};
+use crate::line::{LINE_OCTETS, push_point};
 use crate::names::set_name;
 use arrayvec::ArrayString;
 use exchange::{Exchange, RouteView};
+use point_format::PointFormat;
 use settings::{SetId, Settings};
 
 /// Writes line `k`, from 0, of the text of the routes: `route POINT SET STATUS`, one line for each destination in the
 /// order of the settings. SET is the name of the set that messages take, or those of two joined sets, as `east+west`;
-/// STATUS is `allowed` or `restricted`. Where messages take no set, these are `none` and `prohibited`.
+/// STATUS is `allowed` or `restricted`. Where messages take no set, these are `none` and `prohibited`. Points are shown
+/// in this format.
 ///
 /// False past the last line, and then nothing is written.
-pub fn show_routes(exchange: &Exchange, k: usize, out: &mut ArrayString<LINE_OCTETS>) -> bool
+pub fn show_routes(
+    exchange: &Exchange,
+    k: usize,
+    points: PointFormat,
+    out: &mut ArrayString<LINE_OCTETS>,
+) -> bool
     // For every abstract state that the exchange stands for, the line is that of the abstract state.
     ensures line { (a : Abstract) → StandsFor exchange.now a →
-        Shows (route_line a k) result out.old.bytes out.new.bytes }
+        Shows (route_line points a k) result out.old.bytes out.new.bytes }
 
     // The same on what is kept.
-    ensures kept_line { Shows (route_line exchange.now k) result out.old.bytes out.new.bytes }
+    ensures kept_line { Shows (route_line points exchange.now k) result out.old.bytes out.new.bytes }
 {
     let Some(view) = exchange.route(k) else {
         return false;
     };
-    write_route(exchange.settings(), &view, out);
+    write_route(exchange.settings(), &view, points, out);
     true
 }
 
 /// The line of a destination.
-fn write_route(settings: &Settings, view: &RouteView, out: &mut ArrayString<LINE_OCTETS>)
-    ensures { out.new.bytes ≡ route_text settings.now view.now }
+fn write_route(
+    settings: &Settings,
+    view: &RouteView,
+    points: PointFormat,
+    out: &mut ArrayString<LINE_OCTETS>,
+)
+    ensures { out.new.bytes ≡ route_text points settings.now view.now }
 {
     out.clear();
-    push_number(out, "route ", u64::from(view.point.code()));
+    push_point(out, "route ", view.point, points);
     out.push_str(" ");
     push_sets(out, settings, &view.sets);
     out.push_str(" ");

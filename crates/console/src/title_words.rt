@@ -14,6 +14,7 @@ use crate::numbers::read_number;
 use crate::words::cut;
 use arrayvec::ArrayVec;
 use exchange::{TitleDigits, TitleKey};
+use point_format::{PointFormat, parse_point};
 use settings::{Limits, PointCode, Ssn, TitleRoute, TitleRow};
 
 /// The largest translation type.
@@ -24,9 +25,6 @@ const LAST_PLAN: u16 = 15;
 
 /// The largest nature of address.
 const LAST_NATURE: u16 = 127;
-
-/// The largest point.
-const LAST_POINT: u16 = 16_383;
 
 /// The largest subsystem number.
 const LAST_SUBSYSTEM: u16 = 255;
@@ -55,26 +53,32 @@ pub(crate) fn read_name(
     Some(RowName { key, digits })
 }
 
-/// A row of this name, which these words complete: `POINT ROUTE SSN`.
+/// A row of this name, which these words complete: `POINT ROUTE SSN`, the point in this format.
 #[tactic(auto, using(crate::proofs::TitleWords::row_steps))]
-pub(crate) fn read_row(name: &RowName, text: &[u8]) -> Option<TitleRow>
+pub(crate) fn read_row(name: &RowName, text: &[u8], points: PointFormat) -> Option<TitleRow>
     requires { HasTitleRanges name.now.key.plan name.now.key.nature name.now.digits.items }
-    ensures { result ≡ row_written name.now (words text.now) }
+    ensures { result ≡ row_written points name.now (words text.now) }
 {
     let (point, rest) = cut(text);
     let (route, rest) = cut(rest?);
     match cut(rest?) {
-        (ssn, None) => row_of(name, point, route, ssn),
+        (ssn, None) => row_of(name, point, route, ssn, points),
         (_, Some(_)) => None,
     }
 }
 
 /// A row of this name, with the words of its other values.
-fn row_of(name: &RowName, point: &[u8], route: &[u8], ssn: &[u8]) -> Option<TitleRow>
+fn row_of(
+    name: &RowName,
+    point: &[u8],
+    route: &[u8],
+    ssn: &[u8],
+    points: PointFormat,
+) -> Option<TitleRow>
     requires { HasTitleRanges name.now.key.plan name.now.key.nature name.now.digits.items }
-    ensures { result ≡ row_written name.now (point.now ∷ route.now ∷ ssn.now ∷ []) }
+    ensures { result ≡ row_written points name.now (point.now ∷ route.now ∷ ssn.now ∷ []) }
 {
-    let point = PointCode::new(read_number(point, 0, LAST_POINT)?)?;
+    let point = parse_point(point, points)?;
     let ssn = read_ssn(ssn)?;
     let route = route_named(route, ssn)?;
     row_leading(name, point, route)

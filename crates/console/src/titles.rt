@@ -5,34 +5,40 @@ ghost use Rattle.exchange_rules.specs.Sound.{Abstract};
 ghost use Rattle.exchange.specs.Stands.{StandsFor};
 ghost use Rattle.console.specs.Texts.{Shows, title_line, title_text, digit_octet, way_text, title_way_text};
 
-use crate::line::{LINE_OCTETS, push_small};
+use crate::line::{LINE_OCTETS, push_point, push_small};
 use arrayvec::ArrayString;
 use exchange::Exchange;
+use point_format::PointFormat;
 use settings::{Limits, Ssn, TitleRoute, TitleRow};
 
 /// Writes line `k`, from 0, of the text of the translation rows: `title T P N DIGITS POINT ROUTE SSN`, one line for
 /// each row, by translation type, plan, nature, then digits, a prefix before the longer ones. ROUTE is `title` or
-/// `ssn`, and SSN `-` where the row has none.
+/// `ssn`, and SSN `-` where the row has none. Points are shown in this format.
 ///
 /// False past the last line, and then nothing is written.
-pub fn show_titles(exchange: &Exchange, k: usize, out: &mut ArrayString<LINE_OCTETS>) -> bool
+pub fn show_titles(
+    exchange: &Exchange,
+    k: usize,
+    points: PointFormat,
+    out: &mut ArrayString<LINE_OCTETS>,
+) -> bool
     // For every abstract state that the exchange stands for, the line is that of the abstract state.
     ensures line { (a : Abstract) → StandsFor exchange.now a →
-        Shows (title_line a k) result out.old.bytes out.new.bytes }
+        Shows (title_line points a k) result out.old.bytes out.new.bytes }
 
     // The same on what is kept.
-    ensures kept_line { Shows (title_line exchange.now k) result out.old.bytes out.new.bytes }
+    ensures kept_line { Shows (title_line points exchange.now k) result out.old.bytes out.new.bytes }
 {
     let Some(row) = exchange.title(k) else {
         return false;
     };
-    write_title(&row, out);
+    write_title(&row, points, out);
     true
 }
 
 /// The line of a row.
-fn write_title(row: &TitleRow, out: &mut ArrayString<LINE_OCTETS>)
-    ensures { out.new.bytes ≡ title_text row.now }
+fn write_title(row: &TitleRow, points: PointFormat, out: &mut ArrayString<LINE_OCTETS>)
+    ensures { out.new.bytes ≡ title_text points row.now }
 {
     out.clear();
     push_small(out, "title ", u16::from(row.translation()));
@@ -40,7 +46,7 @@ fn write_title(row: &TitleRow, out: &mut ArrayString<LINE_OCTETS>)
     push_small(out, " ", u16::from(row.nature()));
     out.push_str(" ");
     push_digits(out, row.digits());
-    push_small(out, " ", row.point().code());
+    push_point(out, " ", row.point(), points);
     push_way(out, row.route());
 }
 

@@ -7,7 +7,7 @@ use Rattle.exchange.specs.Stands.{Kept}
 use Rattle.console_session.specs.Callers.{CallerState, EndsNoLine, IsOneLine, without_return}
 use Rattle.console_session.specs.WholeLines.{DoesLine}
 use Rattle.served_link.specs.declared.row.LinkCounters.{LinkCounters}
-use Rattle.trace.specs.declared.point.PointFormat.{PointFormat}
+use Rattle.point_format.specs.declared.point.PointFormat.{PointFormat}
 use Rattle.console_session.specs.declared.caller.Ending.{Ending}
 use Rattle.console_session.specs.declared.caller.TheConstants.{LINE_OCTETS}
 

@@ -2,5 +2,4 @@ pub mod Lines
 pub mod Answers
 pub mod Callers
 pub mod Counters
-pub mod Rewriting
 pub mod WholeLines

@@ -1,6 +1,7 @@
 -- What a caller of the console asks for by a line.
 use Rattle.std.specs.Prelude.{ℕ, Bool, true, false, if◌then◌else◌, List, codes, Option, None, Some, Result, Ok, Err}
 use Rattle.std.specs.Prelude.{bytes_eq}
+use Rattle.point_format.specs.declared.point.PointFormat.{PointFormat}
 use Rattle.script.specs.Asking.{Asked, AskUp, AskDown, AskFrame, AskTick, AskTake, AskWants, AskSubmit, AskOrder}
 use Rattle.script.specs.Asking.{AskShow, Reading, Skips, IsMalformed, Asks, asked_line, parsed_line}
 use Rattle.script.specs.declared.line.Malformed.{Malformed}
@@ -48,13 +49,13 @@ heard_in_script Skips = HearsNothing
 heard_in_script IsMalformed = HearsNoLine
 heard_in_script (Asks asked) = if is_for_callers asked then HearsScript asked else HearsNoLine
 
-abbrev pub heard_unless : Option Heard → List ℕ → Heard
-heard_unless (Some own) text = own
-heard_unless None text = heard_in_script (parsed_line text)
+abbrev pub heard_unless : Option Heard → PointFormat → List ℕ → Heard
+heard_unless (Some own) points text = own
+heard_unless None points text = heard_in_script (parsed_line points text)
 
--- a line without its end
-abbrev pub heard : List ℕ → Heard
-heard text = heard_unless (own_line text) text
+-- a line without its end, with points in this format
+abbrev pub heard : PointFormat → List ℕ → Heard
+heard points text = heard_unless (own_line text) points text
 
 -- what was read says the same
 abbrev pub heard_line : ConsoleLine → Heard

@@ -1,9 +1,7 @@
 -- What a whole line of a caller does.
-use Rattle.std.specs.Prelude.{◌≡◌, ℕ, Bool, List, ◌++◌, take, Some, Result, Ok, Err}
-use Rattle.exchange.specs.KeptQueues.{kept}
+use Rattle.std.specs.Prelude.{◌≡◌, ℕ, List, ◌++◌, take, Some, Result, Ok, Err}
 use Rattle.exchange.specs.Stands.{Kept}
 use Rattle.script.specs.Asking.{Asked}
-use Rattle.script.specs.Doing.{done}
 use Rattle.script.specs.Streams.{Output, counted}
 use Rattle.script.specs.declared.sink.WriteFailed.{WriteFailed}
 use Rattle.console_session.specs.Lines.{Heard, heard, HearsNothing, HearsScript, HearsCounters, HearsHelp, HearsUsers}
@@ -11,12 +9,10 @@ use Rattle.console_session.specs.Lines.{HearsNotices, HearsFrames, HearsStop, He
 use Rattle.console_session.specs.Answers.{Waiting, IsAnswered}
 use Rattle.console_session.specs.Callers.{CallerState, OnlyOutboxChanges, told_of}
 use Rattle.console_session.specs.Counters.{counters_text}
-use Rattle.console_session.specs.Rewriting.{in_numbers}
 use Rattle.console_session.specs.declared.help.TheConstants.{HELP}
 use Rattle.console_session.specs.declared.caller.TheConstants.{MALFORMED, WATCHING, STOPPING}
 use Rattle.served_link.specs.declared.row.LinkCounters.{LinkCounters}
-use Rattle.trace.specs.declared.point.PointFormat.{PointFormat}
-use Rattle.trace.specs.declared.point.PointFormat.TheVariants.{Plain, ThreeEightThree}
+use Rattle.point_format.specs.declared.point.PointFormat.{PointFormat}
 use Rattle.console_session.specs.declared.caller.Ending.{Ending}
 use Rattle.console_session.specs.declared.caller.Ending.TheVariants.{Stays, Closes, Stops}
 use Rattle.console_session.specs.declared.caller.News.TheVariants.{Message, Notice, Frame}
@@ -36,17 +32,6 @@ IsDone asked Stays s after old new = IsAnswered asked s (Ok tt) after (output_of
 IsDone asked Closes s after old new =
     (failed : WriteFailed) × IsAnswered asked s (Err failed) after (output_of old) (output_of new)
 IsDone asked Stops s after old new = ⊥
-
--- it is done, and nothing is said of its answer
-abbrev pub IsHandled : Asked → Ending → (s after : Kept) → Type 0
-IsHandled asked Stays s after = (lacks_memory : Bool) × (after ≡ done kept lacks_memory asked s)
-IsHandled asked Closes s after = (lacks_memory : Bool) × (after ≡ done kept lacks_memory asked s)
-IsHandled asked Stops s after = ⊥
-
--- by how points are shown: what is shown of points in three parts isn't said
-abbrev pub IsDoneBy : PointFormat → Asked → Ending → (s after : Kept) → (old new : Waiting) → Type 0
-IsDoneBy Plain asked ending s after old new = IsDone asked ending s after old new
-IsDoneBy ThreeEightThree asked ending s after old new = IsHandled asked ending s after
 
 -- a text was put behind what waits for the caller
 abbrev pub answered : CallerState → List ℕ → CallerState
@@ -75,24 +60,23 @@ IsShown text Stops old new = ⊥
 
 -- What a line does to the node and to its caller, and what becomes of the caller. Only a line of a script changes the
 -- node, and only `stop` asks it to stop.
-abbrev pub DoesHeard :
-    PointFormat → Heard → List LinkCounters → Ending → (s after : Kept) → (old new : CallerState) → Type 0
-DoesHeard points HearsNothing rows ending s after old new = (ending ≡ Stays) × (after ≡ s) × (new ≡ old)
-DoesHeard points (HearsScript asked) rows ending s after old new =
-    IsDoneBy points asked ending s after old.outbox new.outbox × OnlyOutboxChanges old new
-DoesHeard points HearsCounters rows ending s after old new = (after ≡ s) × IsShown (counters_text s rows) ending old new
-DoesHeard points HearsHelp rows ending s after old new = (after ≡ s) × IsTold HELP.now Stays ending old new
-DoesHeard points HearsUsers rows ending s after old new =
+abbrev pub DoesHeard : Heard → List LinkCounters → Ending → (s after : Kept) → (old new : CallerState) → Type 0
+DoesHeard HearsNothing rows ending s after old new = (ending ≡ Stays) × (after ≡ s) × (new ≡ old)
+DoesHeard (HearsScript asked) rows ending s after old new =
+    IsDone asked ending s after old.outbox new.outbox × OnlyOutboxChanges old new
+DoesHeard HearsCounters rows ending s after old new = (after ≡ s) × IsShown (counters_text s rows) ending old new
+DoesHeard HearsHelp rows ending s after old new = (after ≡ s) × IsTold HELP.now Stays ending old new
+DoesHeard HearsUsers rows ending s after old new =
     (after ≡ s) × IsTold WATCHING.now Stays ending (told_of old Message) new
-DoesHeard points HearsNotices rows ending s after old new =
+DoesHeard HearsNotices rows ending s after old new =
     (after ≡ s) × IsTold WATCHING.now Stays ending (told_of old Notice) new
-DoesHeard points HearsFrames rows ending s after old new =
+DoesHeard HearsFrames rows ending s after old new =
     (after ≡ s) × IsTold WATCHING.now Stays ending (told_of old Frame) new
-DoesHeard points HearsStop rows ending s after old new = (after ≡ s) × IsTold STOPPING.now Stops ending old new
-DoesHeard points HearsNoLine rows ending s after old new = (after ≡ s) × IsTold MALFORMED.now Stays ending old new
+DoesHeard HearsStop rows ending s after old new = (after ≡ s) × IsTold STOPPING.now Stops ending old new
+DoesHeard HearsNoLine rows ending s after old new = (after ≡ s) × IsTold MALFORMED.now Stays ending old new
 
--- what a line of a caller does: what the line does that has its point as a number
+-- what a line of a caller does, with points in this format
 abbrev pub DoesLine :
     PointFormat → List ℕ → List LinkCounters → Ending → (s after : Kept) → (old new : CallerState) → Type 0
 DoesLine points line rows ending s after old new =
-    DoesHeard points (heard (in_numbers points line)) rows ending s after old new
+    DoesHeard (heard points line) rows ending s after old new

@@ -2,9 +2,7 @@
 
 ghost use Rattle.std.specs.Prelude.{◌≡◌, ◌≢◌, ℕ, ◌+◌, ◌<◌, ◌≤◌, Bool, true, false, List, [], ◌∷◌, ◌++◌};
 ghost use Rattle.std.specs.Prelude.{length, take, drop};
-ghost use Rattle.exchange.specs.KeptQueues.{kept};
 ghost use Rattle.script.specs.Asking.{asked_line};
-ghost use Rattle.script.specs.Doing.{done};
 ghost use Rattle.console_session.specs.Answers.{IsAnswered};
 ghost use Rattle.console_session.specs.Callers.{just_came, sees_of, told_of, OnlyOutboxChanges};
 ghost use Rattle.console_session.specs.Callers.{line_feed, without_return, EndsNoLine, IsOneLine};
@@ -16,15 +14,13 @@ use crate::command::{ConsoleLine, parse_console_line};
 use crate::counting::print_counters;
 use crate::help::HELP;
 use crate::outbox::Outbox;
-use crate::pointing::{PointSink, line_in_numbers};
-use arrayvec::ArrayVec;
 use exchange::Exchange;
+use point_format::PointFormat;
 use script::{Grown, Line, Malformed, OpenLine, Sink, WriteFailed};
 use served_link::Counters;
 use std::alloc::Global;
 use std::marker::Model;
 use std::mem;
-use trace::PointFormat;
 
 /// Octets of a line of a caller, at most, without the line feed that ends it: as many as in a script.
 pub const LINE_OCTETS: usize = 8300;
@@ -173,9 +169,7 @@ impl Caller {
         ensures done { DoesLine desk.old.points line.now desk.old.counters.now
             (ending_of result) desk.old.exchange.now desk.new.exchange.now self.old self.new }
     {
-        let mut room = ArrayVec::new();
-        let line = line_in_numbers(line, desk.points, &mut room);
-        match parse_console_line(line) {
+        match parse_console_line(line, desk.points) {
             Ok(ConsoleLine::Skipped) => {}
             Ok(ConsoleLine::Script(line)) => self.do_script(line, desk)?,
             Ok(ConsoleLine::Counters) => {
@@ -199,18 +193,10 @@ impl Caller {
         ensures points { desk.new.points ≡ desk.old.points }
         ensures counters { desk.new.counters.now ≡ desk.old.counters.now }
         ensures same { OnlyOutboxChanges self.old self.new }
-        ensures answer { desk.old.points ≡ PointFormat.Plain → IsAnswered (asked_line line.entry) desk.old.exchange.now
-            result desk.new.exchange.now (output_of self.old.outbox) (output_of self.new.outbox) }
-        ensures done { (lacks_memory : Bool)
-            × (desk.new.exchange.now ≡ done kept lacks_memory (asked_line line.entry) desk.old.exchange.now) }
+        ensures answer { IsAnswered (asked_line line.entry) desk.old.exchange.now result desk.new.exchange.now
+            (output_of self.old.outbox) (output_of self.new.outbox) }
     {
-        match desk.points {
-            PointFormat::Plain => do_script_line(desk.exchange, line, &mut self.outbox),
-            PointFormat::ThreeEightThree => {
-                let mut sink = PointSink::new(&mut self.outbox);
-                do_script_line(desk.exchange, line, &mut sink)
-            }
-        }
+        do_script_line(desk.exchange, line, &mut self.outbox)
     }
 
     /// Answers a text.

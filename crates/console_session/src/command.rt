@@ -4,6 +4,7 @@ ghost use Rattle.std.specs.Prelude.{◌≡◌};
 ghost use Rattle.console_session.specs.Lines.{heard, heard_of, own_line, own_line_of, is_for_callers};
 ghost use Rattle.script.specs.Asking.{asked_line};
 
+use point_format::PointFormat;
 use script::{Line, Malformed, parse_line};
 
 /// What a line of a caller asks for.
@@ -28,14 +29,14 @@ pub enum ConsoleLine<'a> {
 }
 
 /// What a line without its end asks for. What only a script can do, as `up`, `down`, `frame`, `tick`, `take` and
-/// `wants`, is malformed: here the connections and the clock do it.
-pub fn parse_console_line(line: &[u8]) -> Result<ConsoleLine<'_>, Malformed>
-    ensures { heard_of result ≡ heard line.now }
+/// `wants`, is malformed: here the connections and the clock do it. Points are read and shown in this format.
+pub fn parse_console_line(line: &[u8], points: PointFormat) -> Result<ConsoleLine<'_>, Malformed>
+    ensures { heard_of result ≡ heard points line.now }
 {
     if let Some(own) = own_line(line) {
         return Ok(own);
     }
-    match parse_line(line) {
+    match parse_line(line, points) {
         Ok(Some(line)) if is_for_callers(&line) => Ok(ConsoleLine::Script(line)),
         Ok(None) => Ok(ConsoleLine::Skipped),
         Ok(Some(_)) | Err(Malformed) => Err(Malformed),

@@ -7,7 +7,6 @@ mod command;
 mod counting;
 mod help;
 mod outbox;
-mod pointing;
 
 pub use answering::do_script_line;
 pub use caller::{Caller, Desk, Ending, LINE_OCTETS, News};
@@ -15,4 +14,3 @@ pub use command::{ConsoleLine, parse_console_line};
 pub use counting::print_counters;
 pub use help::HELP;
 pub use outbox::{OUTBOX_OCTETS, Outbox};
-pub use pointing::{POINT_LINE_OCTETS, PointSink, line_in_numbers, line_in_parts};

@@ -2,6 +2,7 @@
 
 use console::Command;
 use console::words::cut;
+use point_format::PointFormat;
 use script::{Line, Malformed, is_skipped, line_with_one_word};
 
 /// A node of the lab.
@@ -117,7 +118,7 @@ fn asked_at<'a>(command: &[u8], end: End, last: &'a [u8]) -> Option<LabLine<'a>>
 fn asked_of_node<'a>(command: &[u8], end: End, last: &'a [u8]) -> Option<LabLine<'a>> {
     match Command::named(command)? {
         command @ (Command::Submit | Command::Tick | Command::Show) => {
-            let line = line_with_one_word(command, last)?;
+            let line = line_with_one_word(command, last, PointFormat::Plain)?;
             Some(LabLine::AtNode { end, line })
         }
         _ => None,

@@ -1,4 +1,5 @@
 pub mod BuiltInWell
 pub mod BuiltIn
 pub mod Told
+pub mod Files
 pub mod Labs

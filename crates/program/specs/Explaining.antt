@@ -1,8 +1,11 @@
 -- What standard error is told.
-use Rattle.std.specs.Prelude.{◌≡◌, ◌⊎◌, ℕ, List, ◌++◌, codes, decimal, Result, Ok, Err, String, string_bytes}
+use Rattle.std.specs.Prelude.{◌≡◌, ◌⊎◌, ℕ, List, ◌++◌, codes, decimal, Some, Result, Ok, Err, String, string_bytes}
 use Rattle.std.specs.Global.{Global}
 use Rattle.std.specs.Io.KnownBytes.{Appends}
+use Rattle.settings_rows.specs.declared.key.Key.{Key}
+use Rattle.settings_file.specs.Sentences.{Names, IsAbout, key_of}
 use Rattle.settings_file.specs.Warnings.{AreWarnings}
+use Rattle.settings_file.specs.declared.fault.SettingsFault.{SettingsFault}
 use Rattle.program.specs.Sentences.{IsAboutLine}
 use Rattle.script.specs.Streams.{Output, AppendsFirst, counted}
 use Rattle.program.specs.declared.folder.Unread.{Unread}
@@ -54,6 +57,11 @@ unread_sentence file why = file ++ (codes ": " ++ (unread_text why ++ codes "\n"
 -- the keys of a file that no table knows are warned of
 abbrev pub IsWarned : (file : List ℕ) → Output → Output → Type 0
 IsWarned file errors errors_new = IsToldOf (AreWarnings file) errors errors_new
+
+-- a sentence about a fault of settings names the file, and the key that the fault is at
+pub record IsFaultExplained (file : List ℕ) (why : SettingsFault) (sentence : List ℕ) : Type 0 where
+  pub names : Names file sentence
+  pub key : (k : Key) → key_of why ≡ Some k → IsAbout file k sentence
 
 -- ---- scripts
 

@@ -3,16 +3,16 @@
 ghost use Rattle.std.specs.Prelude.{◌≡◌, ◌≢◌, ◌⊎◌, IfOk, string_bytes, codes};
 ghost use Rattle.std.specs.IoError.{error_kind};
 ghost use Rattle.settings_file.specs.Faults.{no_memory};
-ghost use Rattle.settings_file.specs.Sentences.{Explains};
-ghost use Rattle.program.specs.Explaining.{IsTold, IsToldOf, usage_text};
+ghost use Rattle.program.specs.Explaining.{IsTold, IsToldOf, IsFaultExplained, usage_text};
 ghost use Rattle.program.specs.Program.{told, EndsWith};
 
-use crate::explaining::{explain_fault, explain_words};
+use crate::explaining::{explain_fault, explain_no_document, explain_words};
 use crate::program::Status;
 use script::Sink;
 use settings_file::SettingsFault;
 use std::alloc::{AllocError, Global};
 use std::io::{Error, ErrorKind};
+use toml::Table;
 
 /// Refuses words that couldn't be read: they aren't the program's, unless memory ran out.
 pub fn refuse_words<W: Sink, E: Sink>(error: &Error, writer: &mut W, errors: &mut E) -> Status
@@ -55,23 +55,38 @@ pub(crate) fn tell_no_memory<W: Sink>(writer: &mut W) -> Status
     end_with(Status::Start, b"fault NoMemory\n", writer)
 }
 
-/// Prints what is wrong with the settings in a file, and explains it; or prints that memory ran out.
+/// Prints that a file is no document, and tells this sentence of it.
+pub(crate) fn tell_no_document<W: Sink, E: Sink>(
+    sentence: &str,
+    writer: &mut W,
+    errors: &mut E,
+) -> Status
+    ensures printed { EndsWith Status.Start (told SettingsFault.Text)
+        (W.output writer.old) (W.output writer.new) result }
+    ensures told { IsTold sentence.now (E.output errors.old) (E.output errors.new) }
+{
+    explain_no_document(sentence, errors);
+    end_with(Status::Start, b"fault 1\n", writer)
+}
+
+/// Prints what is wrong with the settings in the document that a file is, and explains it; or prints that memory ran
+/// out.
 pub(crate) fn tell_file_fault<W: Sink, E: Sink>(
     alloc: Global,
     file: &str,
-    octets: &[u8],
+    document: &Table,
     fault: SettingsFault,
     writer: &mut W,
     errors: &mut E,
 ) -> Status
     ensures { (EndsWith Status.Start (told fault) (W.output writer.old) (W.output writer.new) result
-        × IsToldOf (Explains file.now octets.now fault) (E.output errors.old) (E.output errors.new))
+        × IsToldOf (IsFaultExplained file.now fault) (E.output errors.old) (E.output errors.new))
         ⊎ (EndsWith Status.Start (told no_memory) (W.output writer.old) (W.output writer.new) result
         × (E.output errors.new ≡ E.output errors.old)) }
 {
     match told(alloc, fault) {
         Ok(line) => {
-            explain_fault(alloc, file, octets, fault, errors);
+            explain_fault(alloc, file, document, fault, errors);
             end_with(Status::Start, line.as_bytes(), writer)
         }
         Err(_) => tell_no_memory(writer),

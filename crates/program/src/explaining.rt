@@ -2,15 +2,16 @@
 
 ghost use Rattle.std.specs.Prelude.{◌≡◌};
 ghost use Rattle.program.specs.Explaining.{IsTold, IsToldMade, IsToldOf, usage_text, unread_text, unread_sentence};
-ghost use Rattle.program.specs.Explaining.{IsWarned, IsEndExplained, IsScriptExplained, IsLabEndExplained};
+ghost use Rattle.program.specs.Explaining.{IsWarned, IsFaultExplained};
+ghost use Rattle.program.specs.Explaining.{IsEndExplained, IsScriptExplained, IsLabEndExplained};
 ghost use Rattle.program.specs.Explaining.{strangers_sentence, lab_line_sentence};
-ghost use Rattle.settings_file.specs.Sentences.{Explains};
 
 use crate::folder::Unread;
 use crate::sentences::sentence;
 use script::{LineFault, ScriptFault, Sink};
 use settings_file::SettingsFault;
 use std::alloc::{AllocError, Global};
+use toml::Table;
 
 /// The words of the program, and their meaning.
 const USAGE: &[u8] = b"\
@@ -65,24 +66,34 @@ fn unread_text(why: Unread) -> &'static str
     }
 }
 
-/// Warns about unknown keys in a settings file.
-pub(crate) fn warn<E: Sink>(alloc: Global, file: &str, octets: &[u8], errors: &mut E)
+/// Warns about unknown keys in the document that a settings file is.
+pub(crate) fn warn<E: Sink>(alloc: Global, file: &str, document: &Table, errors: &mut E)
     ensures { IsWarned file.now (E.output errors.old) (E.output errors.new) }
 {
-    tell_made(settings_file::warnings(alloc, file, octets), errors);
+    tell_made(settings_file::warnings(alloc, file, document), errors);
 }
 
-/// Tells what is wrong with the settings in a file.
+/// Tells the sentence that says why a settings file is no document.
+pub(crate) fn explain_no_document<E: Sink>(sentence: &str, errors: &mut E)
+    ensures { IsTold sentence.now (E.output errors.old) (E.output errors.new) }
+{
+    tell(sentence.as_bytes(), errors);
+}
+
+/// Tells what is wrong with the settings in the document that a file is.
 pub(crate) fn explain_fault<E: Sink>(
     alloc: Global,
     file: &str,
-    octets: &[u8],
+    document: &Table,
     fault: SettingsFault,
     errors: &mut E,
 )
-    ensures { IsToldOf (Explains file.now octets.now fault) (E.output errors.old) (E.output errors.new) }
+    ensures { IsToldOf (IsFaultExplained file.now fault) (E.output errors.old) (E.output errors.new) }
 {
-    tell_made(settings_file::sentence(alloc, file, octets, fault), errors);
+    tell_made(
+        settings_file::sentence(alloc, file, document, fault),
+        errors,
+    );
 }
 
 /// Tells why a script ended before its end, if it did: of a line that ended it, what is wrong with it.

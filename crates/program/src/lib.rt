@@ -9,6 +9,7 @@ mod machine;
 pub mod program;
 mod sentences;
 mod serving;
+mod settings_files;
 mod two_nodes;
 
 pub use ending::refuse_words;

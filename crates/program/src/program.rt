@@ -1,19 +1,20 @@
 //! The program around scripts: what it does for its words, and how it ends.
 
-ghost use Rattle.std.specs.Prelude.{◌≡◌, ◌⊎◌, IfOk, IfErr, Ok, codes};
+ghost use Rattle.std.specs.Prelude.{◌≡◌, ◌⊎◌, IfOk, IfErr};
 ghost use Rattle.settings_rows.specs.Configuration.{Configuration};
 ghost use Rattle.exchange.specs.Stands.{StandsFor};
 ghost use Rattle.exchange_rules.specs.First.{first_state};
 ghost use Rattle.script.specs.BuiltIn.{built_in_settings};
-ghost use Rattle.program.specs.Folders.{FileRead, AreSettings, IsFault};
+ghost use Rattle.program.specs.Folders.{FileRead};
 ghost use Rattle.settings_file.specs.Faults.{no_memory};
 ghost use Rattle.program.specs.Program.{status_number, status_after, streams, NoText};
 ghost use Rattle.program.specs.Program.{RunsScript, HasNoMemory, RunsNode, RunsFile, ChecksFile, Does};
 
-use crate::ending::{end_with, tell_file_fault, tell_no_memory, tell_usage};
-use crate::explaining::{explain_end, explain_unread, warn};
-use crate::folder::{FileFault, Folder};
+use crate::ending::{end_with, tell_no_memory, tell_usage};
+use crate::explaining::explain_end;
+use crate::folder::Folder;
 use crate::serving::serve_file;
+use crate::settings_files::settings_of;
 use crate::two_nodes::run_files;
 use command_line::{Words, read_words};
 use exchange::{Exchange, NoMemory};
@@ -108,33 +109,9 @@ fn run_file<F: Folder, R: Source, W: Sink, E: Sink>(
         (streams (R.input reader.old) (W.output writer.old) (E.output errors.old))
         (streams (R.input reader.new) (W.output writer.new) (E.output errors.new)) result }
 {
-    match folder.read(alloc, file) {
-        Ok(octets) => run_octets(alloc, file, octets.as_slice(), reader, writer, errors),
-        Err(FileFault::Unread(why)) => {
-            explain_unread(alloc, file, why, errors);
-            Status::Stream
-        }
-        Err(FileFault::NoMemory) => tell_no_memory(writer),
-    }
-}
-
-/// Runs the script on a node with the settings in the octets of a file.
-fn run_octets<R: Source, W: Sink, E: Sink>(
-    alloc: Global,
-    file: &str,
-    octets: &[u8],
-    reader: &mut R,
-    writer: &mut W,
-    errors: &mut E,
-) -> Status
-    ensures { RunsFile file.now (Ok octets.now)
-        (streams (R.input reader.old) (W.output writer.old) (E.output errors.old))
-        (streams (R.input reader.new) (W.output writer.new) (E.output errors.new)) result }
-{
-    warn(alloc, file, octets, errors);
-    match settings_in(alloc, octets) {
+    match settings_of(alloc, folder, file, writer, errors) {
         Ok(settings) => run_on(alloc, settings, reader, writer, errors),
-        Err(fault) => tell_file_fault(alloc, file, octets, fault, writer, errors),
+        Err(status) => status,
     }
 }
 
@@ -149,34 +126,12 @@ fn check_file<F: Folder, W: Sink, E: Sink>(
     ensures { (read : FileRead) × F.reads folder.now file.now read × ChecksFile file.now read
         (W.output writer.old) (W.output writer.new) (E.output errors.old) (E.output errors.new) result }
 {
-    match folder.read(alloc, file) {
-        Ok(octets) => check_octets(alloc, file, octets.as_slice(), writer, errors),
-        Err(FileFault::Unread(why)) => {
-            explain_unread(alloc, file, why, errors);
-            Status::Stream
-        }
-        Err(FileFault::NoMemory) => tell_no_memory(writer),
-    }
-}
-
-/// Tells whether the settings that the octets of a file are have a fault.
-fn check_octets<W: Sink, E: Sink>(
-    alloc: Global,
-    file: &str,
-    octets: &[u8],
-    writer: &mut W,
-    errors: &mut E,
-) -> Status
-    ensures { ChecksFile file.now (Ok octets.now)
-        (W.output writer.old) (W.output writer.new) (E.output errors.old) (E.output errors.new) result }
-{
-    warn(alloc, file, octets, errors);
-    match settings_in(alloc, octets) {
+    match settings_of(alloc, folder, file, writer, errors) {
         Ok(settings) => {
             drop(settings);
             end_with(Status::Done, b"ok\n", writer)
         }
-        Err(fault) => tell_file_fault(alloc, file, octets, fault, writer, errors),
+        Err(status) => status,
     }
 }
 
@@ -231,17 +186,6 @@ fn built_in_settings(alloc: Global) -> Result<Settings, SettingsFault>
     match Settings::check(alloc, draft) {
         Ok(settings) => Ok(settings),
         Err(fault) => Err(SettingsFault::Draft(fault)),
-    }
-}
-
-/// The settings that these octets are.
-pub(crate) fn settings_in(alloc: Global, octets: &[u8]) -> Result<Settings, SettingsFault>
-    ensures settings { IfOk result (AreSettings octets.now) }
-    ensures fault { IfErr result (IsFault octets.now) }
-{
-    match str::from_utf8(octets) {
-        Ok(text) => settings_file::read(alloc, text),
-        Err(_) => Err(SettingsFault::Text),
     }
 }
 

@@ -1,18 +1,21 @@
 //! Serving a node on the network, with the settings of a file.
 
-ghost use Rattle.std.specs.Prelude.{Ok};
+ghost use Rattle.std.specs.Prelude.{ℕ, List, Ok};
+ghost use Rattle.toml.specs.View.{table_view};
+ghost use Rattle.settings_file.specs.Parsed.{AreDocument};
 ghost use Rattle.program.specs.Folders.{FileRead};
 ghost use Rattle.program.specs.Program.{ServesFile};
 
-use crate::ending::{end_with, tell_file_fault, tell_no_memory};
-use crate::explaining::{explain_unread, warn};
-use crate::folder::{FileFault, Folder};
-use crate::program::{Status, settings_in};
+use crate::ending::{end_with, tell_no_memory};
+use crate::folder::Folder;
+use crate::program::Status;
+use crate::settings_files::{document_of, settings_in};
 use script::Sink;
-use serve_settings::{ServeFault, ServeSettings};
+use serve_settings::{ServeFault, ServeSettings, read_server};
 use settings::Settings;
 use std::alloc::Global;
 use stp_server::{OpenFault, ServeFailure};
+use toml::Table;
 
 /// Serves a node with the settings of a file until it is stopped. Faults are found in this order: the file, the
 /// settings of the node, those of the server, memory, and what it opens.
@@ -27,53 +30,47 @@ pub(crate) fn serve_file<F: Folder, W: Sink, E: Sink>(
         (W.output writer.old) (W.output writer.new) (E.output errors.old) (E.output errors.new) result }
 {
     let alloc = rt.alloc();
-    match folder.read(alloc, file) {
-        Ok(octets) => serve_octets(rt, file, octets.as_slice(), writer, errors),
-        Err(FileFault::Unread(why)) => {
-            explain_unread(alloc, file, why, errors);
-            Status::Stream
-        }
-        Err(FileFault::NoMemory) => tell_no_memory(writer),
-    }
+    let document = match document_of(alloc, folder, file, writer, errors) {
+        Ok(document) => document,
+        Err(status) => return status,
+    };
+    let status = serve_document(rt, file, &document, writer, errors);
+    drop(document);
+    status
 }
 
-/// Serves a node with the settings in the octets of a file, if they have no fault. Warnings of unknown keys come first.
-fn serve_octets<W: Sink, E: Sink>(
+/// Serves a node with the settings in the document that a file is, if they have no fault.
+fn serve_document<W: Sink, E: Sink>(
     rt: &HostRuntime,
     file: &str,
-    octets: &[u8],
+    document: &Table,
     writer: &mut W,
     errors: &mut E,
 ) -> Status
-    ensures { ServesFile file.now (Ok octets.now)
+    ensures { (octets : List ℕ) → AreDocument octets (table_view document.now) → ServesFile file.now (Ok octets)
         (W.output writer.old) (W.output writer.new) (E.output errors.old) (E.output errors.new) result }
 {
-    let alloc = rt.alloc();
-    warn(alloc, file, octets, errors);
-    match settings_in(alloc, octets) {
-        Ok(settings) => {
-            drop(settings);
-            serve_checked(rt, file, octets, writer, errors)
-        }
-        Err(fault) => tell_file_fault(alloc, file, octets, fault, writer, errors),
+    match settings_in(rt.alloc(), file, document, writer, errors) {
+        Ok(settings) => serve_checked(rt, file, document, settings, writer, errors),
+        Err(status) => status,
     }
 }
 
-/// Serves a node with the settings in the octets of a file, if those of the server have no fault.
+/// Serves a node with these settings, if those of the server in the document have no fault.
 fn serve_checked<W: Sink, E: Sink>(
     rt: &HostRuntime,
     file: &str,
-    octets: &[u8],
+    document: &Table,
+    settings: Settings,
     writer: &mut W,
     errors: &mut E,
 ) -> Status {
-    let alloc = rt.alloc();
-    let Ok(text) = str::from_utf8(octets) else {
-        return Status::Start;
-    };
-    match serve_settings::read(alloc, text) {
-        Ok((settings, serve)) => serve_with(rt, settings, &serve, writer, errors),
-        Err(fault) => tell_serve_fault(alloc, file, octets, fault, writer, errors),
+    match read_server(rt.alloc(), document) {
+        Ok(serve) => serve_with(rt, settings, &serve, writer, errors),
+        Err(fault) => {
+            drop(settings);
+            tell_serve_fault(rt.alloc(), file, document, fault, writer, errors)
+        }
     }
 }
 
@@ -91,17 +88,17 @@ fn serve_with<W: Sink, E: Sink>(
     }
 }
 
-/// Prints a fault of the server's settings in a file, and tells what is wrong there.
+/// Prints a fault of the server's settings in the document that a file is, and tells what is wrong there.
 fn tell_serve_fault<W: Sink, E: Sink>(
     alloc: Global,
     file: &str,
-    octets: &[u8],
+    document: &Table,
     fault: ServeFault,
     writer: &mut W,
     errors: &mut E,
 ) -> Status {
     let status = print_fault(alloc, fault, writer);
-    if let Ok(sentence) = serve_settings::sentence(alloc, file, octets, fault) {
+    if let Ok(sentence) = serve_settings::sentence(alloc, file, document, fault) {
         let _told = errors.write(sentence.as_bytes());
     }
     status

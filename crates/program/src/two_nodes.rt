@@ -1,18 +1,18 @@
 //! Two nodes that a lab joins, with the settings of two files.
 
-ghost use Rattle.std.specs.Prelude.{◌≡◌, ◌≢◌, ◌⊎◌, IfOk, IfErr, Ok, Err, true, false};
+ghost use Rattle.std.specs.Prelude.{◌≡◌, ◌≢◌, ◌⊎◌, IfOk, Err, true, false};
 ghost use Rattle.settings_file.specs.Faults.{no_memory};
 ghost use Rattle.settings.specs.Facing.{IsFacing};
 ghost use Rattle.settings.specs.Naming.{link_names};
 ghost use Rattle.program.specs.Explaining.{IsLabEndExplained};
-ghost use Rattle.program.specs.Folders.{FileRead};
-ghost use Rattle.program.specs.Program.{streams, told, status_after, EndsWith, HasNoMemory, HasSettings, EndsAtFile};
+ghost use Rattle.program.specs.Program.{streams, told, status_after, EndsWith, HasNoMemory};
 ghost use Rattle.program.specs.Program.{AreJoined, RunsLabScript, RunsNodes, RunsLab};
 
-use crate::ending::{end_with, tell_file_fault, tell_no_memory};
-use crate::explaining::{explain_lab_end, explain_strangers, explain_unread, warn};
-use crate::folder::{FileFault, Folder};
-use crate::program::{Status, settings_in, status_after};
+use crate::ending::{end_with, tell_no_memory};
+use crate::explaining::{explain_lab_end, explain_strangers};
+use crate::folder::Folder;
+use crate::program::{Status, status_after};
+use crate::settings_files::settings_of;
 use exchange::{Exchange, NoMemory};
 use lab::{Joiner, run_lab};
 use script::{ScriptFault, Sink, Source};
@@ -80,51 +80,6 @@ fn can_join(near: &Settings, far: &Settings) -> bool
     ensures strangers { result ≡ false → ¬ (AreJoined near.now far.now) }
 {
     near.faces(far) && near.named_alike(far)
-}
-
-/// The settings of a file, or how the program ends without them.
-fn settings_of<F: Folder, W: Sink, E: Sink>(
-    alloc: Global,
-    folder: &F,
-    file: &str,
-    writer: &mut W,
-    errors: &mut E,
-) -> Result<Settings, Status>
-    ensures settings { IfOk result (λ settings. (read : FileRead) × F.reads folder.now file.now read
-        × HasSettings file.now read settings (E.output errors.old) (E.output errors.new)
-        × (W.output writer.new ≡ W.output writer.old)) }
-    ensures ended { IfErr result (λ ended. (read : FileRead) × F.reads folder.now file.now read
-        × EndsAtFile file.now read (W.output writer.old) (W.output writer.new)
-        (E.output errors.old) (E.output errors.new) ended) }
-{
-    match folder.read(alloc, file) {
-        Ok(octets) => settings_read(alloc, file, octets.as_slice(), writer, errors),
-        Err(FileFault::Unread(why)) => {
-            explain_unread(alloc, file, why, errors);
-            Err(Status::Stream)
-        }
-        Err(FileFault::NoMemory) => Err(tell_no_memory(writer)),
-    }
-}
-
-/// The settings in the octets of a file, or how the program ends without them.
-fn settings_read<W: Sink, E: Sink>(
-    alloc: Global,
-    file: &str,
-    octets: &[u8],
-    writer: &mut W,
-    errors: &mut E,
-) -> Result<Settings, Status>
-    ensures settings { IfOk result (λ settings. HasSettings file.now (Ok octets.now) settings
-        (E.output errors.old) (E.output errors.new) × (W.output writer.new ≡ W.output writer.old)) }
-    ensures ended { IfErr result (EndsAtFile file.now (Ok octets.now) (W.output writer.old) (W.output writer.new)
-        (E.output errors.old) (E.output errors.new)) }
-{
-    warn(alloc, file, octets, errors);
-    match settings_in(alloc, octets) {
-        Ok(settings) => Ok(settings),
-        Err(fault) => Err(tell_file_fault(alloc, file, octets, fault, writer, errors)),
-    }
 }
 
 /// Runs the lab script on two nodes with these settings.

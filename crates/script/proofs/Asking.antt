@@ -1,19 +1,20 @@
 -- What lines of four words and more ask for.
 use Rattle.std.proofs.Common.{◌≡◌, ℕ, List, [], ◌∷◌, Some, refl, ◌<◌, length, arith}
 use Rattle.std.specs.Option.{option_map}
+use Rattle.point_format.specs.declared.point.PointFormat.{PointFormat}
 use Rattle.console.specs.Words.{words}
 use Rattle.console.specs.Orders.{instructed_by}
 use Rattle.console.specs.declared.commands.Command.{Command}
 use Rattle.console.proofs.Parting.{parted-some}
 use Rattle.script.specs.Asking.{AskOrder, asked_behind}
 
-third_word : (command : Command) (first second : List ℕ) (ws : List (List ℕ)) → 0 < length ws
-    → asked_behind (Some command) (first ∷ second ∷ ws) ≡ option_map (λ order. AskOrder order) (instructed_by command (first ∷ second ∷ ws))
-third_word command first second [] h = absurd (omega (arith, h))
-third_word command first second (third ∷ more) h = refl
+third_word : (points : PointFormat) (command : Command) (first second : List ℕ) (ws : List (List ℕ)) → 0 < length ws
+    → asked_behind points (Some command) (first ∷ second ∷ ws) ≡ option_map (λ order. AskOrder order) (instructed_by points command (first ∷ second ∷ ws))
+third_word points command first second [] h = absurd (omega (arith, h))
+third_word points command first second (third ∷ more) h = refl
 
-pub asked_behind-third : (command : Command) (first second line : List ℕ)
-    → asked_behind (Some command) (first ∷ second ∷ words line) ≡ option_map (λ order. AskOrder order) (instructed_by command (first ∷ second ∷ words line))
-asked_behind-third command first second line = third_word command first second (words line) (parted-some 32 line)
+pub asked_behind-third : (points : PointFormat) (command : Command) (first second line : List ℕ)
+    → asked_behind points (Some command) (first ∷ second ∷ words line) ≡ option_map (λ order. AskOrder order) (instructed_by points command (first ∷ second ∷ words line))
+asked_behind-third points command first second line = third_word points command first second (words line) (parted-some 32 line)
 
 pub ruleset asking_steps = (asked_behind-third)

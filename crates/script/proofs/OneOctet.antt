@@ -4,6 +4,7 @@ use Rattle.std.specs.Prelude.{if◌then◌else◌}
 use Rattle.std.proofs.lemmas.Bool.Decides.{nat_tests}
 use Rattle.exchange.specs.Stands.{Kept}
 use Rattle.exchange.specs.KeptQueues.{KeptQueues, kept}
+use Rattle.point_format.specs.declared.point.PointFormat.TheVariants.{Plain}
 use Rattle.script.specs.Asking.{Reading, IsMalformed, parsed_line}
 use Rattle.script.specs.Lines.{lines}
 use Rattle.script.specs.Streams.{AppendsFirst, AppendsAtLeast}
@@ -44,15 +45,15 @@ if-true true x y h = refl
 if-true false x y h = cc h
 
 -- a line that is short enough is read
-whole_line-short : (line : List ℕ) → length line ≤ LINE_OCTETS → whole_line line ≡ parsed_line line
-whole_line-short line h = if-false (nat_lt LINE_OCTETS (length line)) _ (parsed_line line) (test-false LINE_OCTETS (length line) h)
+whole_line-short : (line : List ℕ) → length line ≤ LINE_OCTETS → whole_line line ≡ parsed_line Plain line
+whole_line-short line h = if-false (nat_lt LINE_OCTETS (length line)) _ (parsed_line Plain line) (test-false LINE_OCTETS (length line) h)
 
 -- one that is too long ends the script, whether its line feed is there or not
 stopped-long : (most number : ℕ) (refused : List Bool) (line : List ℕ) (more : List (List ℕ)) (s : Kept) → LINE_OCTETS < length line → most ≤ LINE_OCTETS
     → lines_run kept most number refused (line ∷ more) s ≡ stopped number s
 stopped-long most number refused line [] s h k = if-true (nat_lt most (length line)) (stopped number s) (silent s) (test-true most (length line) (omega (arith, h, k)))
 stopped-long most number refused line (next ∷ more) s h k =
-    let long : whole_line line ≡ IsMalformed = if-true (nat_lt LINE_OCTETS (length line)) _ (parsed_line line) (test-true LINE_OCTETS (length line) h) in
+    let long : whole_line line ≡ IsMalformed = if-true (nat_lt LINE_OCTETS (length line)) _ (parsed_line Plain line) (test-true LINE_OCTETS (length line) h) in
     ap (λ (r : Reading). behind (line_run kept number (first_of refused) r s) (λ (t : Kept). lines_run kept most (number + 1) (behind_first refused) (next ∷ more) t)) long
 
 -- ---- one octet
@@ -135,17 +136,17 @@ next_line line = record { octets = []; number = line.number + 1 }
 
 line-ended : (lacking : Bool) (later : List Bool) (line : LineSoFar) (s : Kept) (most : ℕ) (more : List ℕ) → length line.octets ≤ LINE_OCTETS
     → rest_run most (lacking ∷ later) line (10 ∷ more) s
-    ≡ behind (line_run kept line.number lacking (parsed_line line.octets) s) (rest_run most later (next_line line) more)
+    ≡ behind (line_run kept line.number lacking (parsed_line Plain line.octets) s) (rest_run most later (next_line line) more)
 line-ended lacking later line s most more short =
     ended-first most line.number lacking later (line.octets ++ []) (lines more) s (parted-some 10 more)
     ∙ ap (λ (octets : List ℕ). behind (line_run kept line.number lacking (whole_line octets) s) (rest_run most later (next_line line) more)) (append-nil line.octets)
     ∙ ap (λ (r : Reading). behind (line_run kept line.number lacking r s) (rest_run most later (next_line line) more)) (whole_line-short line.octets short)
 
 feed-done : (lacking : Bool) (line : LineSoFar) (s after : Kept) (x : Unit) (w0 w1 : Option (List ℕ)) → length line.octets ≤ LINE_OCTETS
-    → Does (line_run kept line.number lacking (parsed_line line.octets) s) (Ok x) after w0 w1
+    → Does (line_run kept line.number lacking (parsed_line Plain line.octets) s) (Ok x) after w0 w1
     → HasTaken (10 ∷ []) (Ok tt) line (next_line line) s after w0 w1
 feed-done lacking line s after x w0 w1 short h =
-    let r = line_run kept line.number lacking (parsed_line line.octets) s in
+    let r = line_run kept line.number lacking (parsed_line Plain line.octets) s in
     record {
       text = r.text;
       refused = lacking ∷ [];
@@ -165,10 +166,10 @@ behind-nothing r (Some number) next h e =
     let same = behind-ended r next number h in (ap (λ (x : Reached KeptQueues). x.state) same, ap (λ (x : Reached KeptQueues). x.text) same)
 
 feed-broken : (lacking : Bool) (line next : LineSoFar) (s after : Kept) (fault : ScriptFault) (w0 w1 : Option (List ℕ)) → length line.octets ≤ LINE_OCTETS
-    → Does (line_run kept line.number lacking (parsed_line line.octets) s) (Err fault) after w0 w1
+    → Does (line_run kept line.number lacking (parsed_line Plain line.octets) s) (Err fault) after w0 w1
     → HasTaken (10 ∷ []) (Err fault) line next s after w0 w1
 feed-broken lacking line next s after (Line number) w0 w1 short h =
-    let r = line_run kept line.number lacking (parsed_line line.octets) s in
+    let r = line_run kept line.number lacking (parsed_line Plain line.octets) s in
     record {
       text = r.text;
       refused = lacking ∷ [];
@@ -180,7 +181,7 @@ feed-broken lacking line next s after (Line number) w0 w1 short h =
           ∙ ap (λ (f : Option ℕ). record { text = r.text; state = after; fault = f }) h.0;
     }
 feed-broken lacking line next s after Write w0 w1 short h =
-    let r = line_run kept line.number lacking (parsed_line line.octets) s in
+    let r = line_run kept line.number lacking (parsed_line Plain line.octets) s in
     let run = line-ended lacking [] line s LINE_OCTETS [] short in
     let same = behind-nothing r r.fault (rest_run LINE_OCTETS [] (next_line line) []) refl (λ t. refl) in
     record {
@@ -198,21 +199,21 @@ feed-broken lacking line next s after NoMemory w0 w1 short h = absurd h
 
 pub line-done : (octet : ℕ) (line : LineSoFar) (text : List ℕ) (s after : Kept) (x : Unit) (w0 w1 : Option (List ℕ)) → octet ≡ 10
     → length line.octets ≤ LINE_OCTETS → text ≡ line.octets
-    → DoesLine line.number (parsed_line text) s (Ok x) after w0 w1
+    → DoesLine line.number (parsed_line Plain text) s (Ok x) after w0 w1
     → HasTaken (octet ∷ []) (Ok tt) line (record { octets = []; number = line.number + 1 }) s after w0 w1
 line-done octet line text s after x w0 w1 feed short same (lacking, h) =
     subst (λ (n : ℕ). HasTaken (n ∷ []) (Ok tt) line (record { octets = []; number = line.number + 1 }) s after w0 w1) (sym feed)
     (feed-done lacking line s after x w0 w1 short
-    (subst (λ (octets : List ℕ). Does (line_run kept line.number lacking (parsed_line octets) s) (Ok x) after w0 w1) same h))
+    (subst (λ (octets : List ℕ). Does (line_run kept line.number lacking (parsed_line Plain octets) s) (Ok x) after w0 w1) same h))
 
 pub line-broken : (octet : ℕ) (line next : LineSoFar) (text : List ℕ) (s after : Kept) (fault : ScriptFault) (w0 w1 : Option (List ℕ)) → octet ≡ 10
     → length line.octets ≤ LINE_OCTETS → text ≡ line.octets
-    → DoesLine line.number (parsed_line text) s (Err fault) after w0 w1
+    → DoesLine line.number (parsed_line Plain text) s (Err fault) after w0 w1
     → HasTaken (octet ∷ []) (Err fault) line next s after w0 w1
 line-broken octet line next text s after fault w0 w1 feed short same (lacking, h) =
     subst (λ (n : ℕ). HasTaken (n ∷ []) (Err fault) line next s after w0 w1) (sym feed)
     (feed-broken lacking line next s after fault w0 w1 short
-    (subst (λ (octets : List ℕ). Does (line_run kept line.number lacking (parsed_line octets) s) (Err fault) after w0 w1) same h))
+    (subst (λ (octets : List ℕ). Does (line_run kept line.number lacking (parsed_line Plain octets) s) (Err fault) after w0 w1) same h))
 
 -- ---- the same by what the octet does to the open line
 
@@ -231,19 +232,19 @@ grown-too_long octet line next s result w0 w1 g short d =
 
 pub grown-done : (octet : ℕ) (line next : LineSoFar) (text : List ℕ) (s after : Kept) (x : Unit) (w0 w1 : Option (List ℕ))
     → Grows Whole octet line next → length next.octets ≤ LINE_OCTETS → text ≡ next.octets
-    → DoesLine next.number (parsed_line text) s (Ok x) after w0 w1
+    → DoesLine next.number (parsed_line Plain text) s (Ok x) after w0 w1
     → HasTaken (octet ∷ []) (Ok tt) line (record { octets = []; number = next.number + 1 }) s after w0 w1
 grown-done octet line next text s after x w0 w1 g short same d =
     subst (λ (n : LineSoFar). HasTaken (octet ∷ []) (Ok tt) line (record { octets = []; number = n.number + 1 }) s after w0 w1) (sym g.1)
     (line-done octet line text s after x w0 w1 g.0
     (subst (λ (n : LineSoFar). length n.octets ≤ LINE_OCTETS) g.1 short) (same ∙ ap (λ (n : LineSoFar). n.octets) g.1)
-    (subst (λ (n : LineSoFar). DoesLine n.number (parsed_line text) s (Ok x) after w0 w1) g.1 d))
+    (subst (λ (n : LineSoFar). DoesLine n.number (parsed_line Plain text) s (Ok x) after w0 w1) g.1 d))
 
 pub grown-broken : (octet : ℕ) (line next : LineSoFar) (text : List ℕ) (s after : Kept) (fault : ScriptFault) (w0 w1 : Option (List ℕ))
     → Grows Whole octet line next → length next.octets ≤ LINE_OCTETS → text ≡ next.octets
-    → DoesLine next.number (parsed_line text) s (Err fault) after w0 w1
+    → DoesLine next.number (parsed_line Plain text) s (Err fault) after w0 w1
     → HasTaken (octet ∷ []) (Err fault) line next s after w0 w1
 grown-broken octet line next text s after fault w0 w1 g short same d =
     line-broken octet line next text s after fault w0 w1 g.0
     (subst (λ (n : LineSoFar). length n.octets ≤ LINE_OCTETS) g.1 short) (same ∙ ap (λ (n : LineSoFar). n.octets) g.1)
-    (subst (λ (n : LineSoFar). DoesLine n.number (parsed_line text) s (Err fault) after w0 w1) g.1 d)
+    (subst (λ (n : LineSoFar). DoesLine n.number (parsed_line Plain text) s (Err fault) after w0 w1) g.1 d)

@@ -21,9 +21,9 @@ use Rattle.script.proofs.Appending.{appends-first, appends-nothing}
 line-stands : (what : Show) (k : ℕ) (a : Abstract) → StandsFor (kept_of a) a → line_of kept what (kept_of a) k ≡ line_of whole what a k
 line-stands Links k a s =
     ap (λ (v : Option LinkView). option_and_then (λ row. option_map (λ w. link_text row.name w) v) (slice_get a.settings.links k)) (stands-link k (kept_of a) a s)
-line-stands Routes k a s = refl
-line-stands Titles k a s = refl
-line-stands Notices k a s = refl
+line-stands (Routes points) k a s = refl
+line-stands (Titles points) k a s = refl
+line-stands (Notices points) k a s = refl
 line-stands Flags k a s = refl
 
 lines-alike : (f g : ℕ → Option (List ℕ)) (n : ℕ) → ((k : ℕ) → f k ≡ g k) → first_lines f n ≡ first_lines g n
@@ -33,9 +33,9 @@ lines-alike f g (suc n) e =
 
 most-stands : (what : Show) (a : Abstract) → most_lines what (kept_of a) ≡ most_lines what a
 most-stands Links a = refl
-most-stands Routes a = refl
-most-stands Titles a = refl
-most-stands Notices a = refl
+most-stands (Routes points) a = refl
+most-stands (Titles points) a = refl
+most-stands (Notices points) a = refl
 most-stands Flags a = refl
 
 pub shown-stands : (what : Show) (a : Abstract) → StandsFor (kept_of a) a → shown_text kept what (kept_of a) ≡ shown_text whole what a

@@ -1,10 +1,11 @@
--- What the lines of a script ask for.
+-- What the lines of a script ask for, with points in the format that they are written and shown in.
 use Rattle.std.specs.Prelude.{ℕ, Bool, true, ◌==◌, ◌&&◌, if◌then◌else◌, List, [], ◌∷◌, codes}
 use Rattle.std.specs.Prelude.{Option, None, Some, Result, Ok, Err, bytes_eq}
 use Rattle.std.specs.Option.{option_map}
 use Rattle.console.specs.Commands.{command_named}
 use Rattle.console.specs.Numbers.{number_within}
 use Rattle.console.specs.Orders.{Instruction, ToActivate, ToDeactivate, instruction, instructed_by, is_some_word}
+use Rattle.point_format.specs.declared.point.PointFormat.{PointFormat}
 use Rattle.console.specs.Words.{words}
 use Rattle.console.specs.declared.commands.Command.{Command}
 use Rattle.console.specs.declared.commands.Command.TheVariants as command
@@ -29,28 +30,28 @@ pub data Asked : Type 0 where
   AskShow : (what : Show) → Asked
 
 -- what a word asks to be shown
-abbrev pub show_named : List ℕ → Option Show
-show_named word =
+abbrev pub show_named : PointFormat → List ℕ → Option Show
+show_named points word =
     if bytes_eq word (codes "links") then Some Links
-    else if bytes_eq word (codes "routes") then Some Routes
-    else if bytes_eq word (codes "titles") then Some Titles
-    else if bytes_eq word (codes "notices") then Some Notices
+    else if bytes_eq word (codes "routes") then Some (Routes points)
+    else if bytes_eq word (codes "titles") then Some (Titles points)
+    else if bytes_eq word (codes "notices") then Some (Notices points)
     else if bytes_eq word (codes "flags") then Some Flags
     else None
 
 -- a command with one word behind it
-abbrev pub asked_with_one : Command → List ℕ → Option Asked
-asked_with_one command.Up word = if is_some_word word then Some (AskUp word) else None
-asked_with_one command.Down word = if is_some_word word then Some (AskDown word) else None
-asked_with_one command.Frame word = None
-asked_with_one command.Tick word = option_map (λ ticks. AskTick ticks) (number_within 1 TICKS word)
-asked_with_one command.Take word = if is_some_word word then Some (AskTake word) else None
-asked_with_one command.Wants word = if is_some_word word then Some (AskWants word) else None
-asked_with_one command.Submit word = if is_octets word then Some (AskSubmit (octets_of word)) else None
-asked_with_one command.Activate word = if is_some_word word then Some (AskOrder (ToActivate word)) else None
-asked_with_one command.Deactivate word = if is_some_word word then Some (AskOrder (ToDeactivate word)) else None
-asked_with_one command.Title word = None
-asked_with_one command.Show word = option_map (λ what. AskShow what) (show_named word)
+abbrev pub asked_with_one : PointFormat → Command → List ℕ → Option Asked
+asked_with_one points command.Up word = if is_some_word word then Some (AskUp word) else None
+asked_with_one points command.Down word = if is_some_word word then Some (AskDown word) else None
+asked_with_one points command.Frame word = None
+asked_with_one points command.Tick word = option_map (λ ticks. AskTick ticks) (number_within 1 TICKS word)
+asked_with_one points command.Take word = if is_some_word word then Some (AskTake word) else None
+asked_with_one points command.Wants word = if is_some_word word then Some (AskWants word) else None
+asked_with_one points command.Submit word = if is_octets word then Some (AskSubmit (octets_of word)) else None
+asked_with_one points command.Activate word = if is_some_word word then Some (AskOrder (ToActivate word)) else None
+asked_with_one points command.Deactivate word = if is_some_word word then Some (AskOrder (ToDeactivate word)) else None
+asked_with_one points command.Title word = None
+asked_with_one points command.Show word = option_map (λ what. AskShow what) (show_named points word)
 
 -- a command with two words behind it
 abbrev pub asked_with_two : Command → List ℕ → List ℕ → Option Asked
@@ -59,18 +60,18 @@ asked_with_two command.Frame first second =
 asked_with_two _ first second = None
 
 -- the words behind a command; with three and more it is an order
-abbrev pub asked_behind : Option Command → List (List ℕ) → Option Asked
-asked_behind (Some command) (first ∷ []) = asked_with_one command first
-asked_behind (Some command) (first ∷ second ∷ []) = asked_with_two command first second
-asked_behind (Some command) [] = None
-asked_behind (Some command) (first ∷ second ∷ third ∷ more) =
-    option_map (λ order. AskOrder order) (instructed_by command (first ∷ second ∷ third ∷ more))
-asked_behind None behind = None
+abbrev pub asked_behind : PointFormat → Option Command → List (List ℕ) → Option Asked
+asked_behind points (Some command) (first ∷ []) = asked_with_one points command first
+asked_behind points (Some command) (first ∷ second ∷ []) = asked_with_two command first second
+asked_behind points (Some command) [] = None
+asked_behind points (Some command) (first ∷ second ∷ third ∷ more) =
+    option_map (λ order. AskOrder order) (instructed_by points command (first ∷ second ∷ third ∷ more))
+asked_behind points None behind = None
 
 -- what the words of a line ask for: nothing where they are no line of a script
-abbrev pub asked_by : List (List ℕ) → Option Asked
-asked_by [] = None
-asked_by (word ∷ behind) = asked_behind (command_named word) behind
+abbrev pub asked_by : PointFormat → List (List ℕ) → Option Asked
+asked_by points [] = None
+asked_by points (word ∷ behind) = asked_behind points (command_named word) behind
 
 -- a line is skipped, malformed, or asks for something
 pub data Reading : Type 0 where
@@ -88,8 +89,8 @@ is_skipped [] = true
 is_skipped (octet ∷ rest) = octet == 35
 
 -- a line without its end
-abbrev pub parsed_line : List ℕ → Reading
-parsed_line line = if is_skipped line then Skips else asks_or_malformed (asked_by (words line))
+abbrev pub parsed_line : PointFormat → List ℕ → Reading
+parsed_line points line = if is_skipped line then Skips else asks_or_malformed (asked_by points (words line))
 
 abbrev pub asked_line : Line → Asked
 asked_line (line.Up link) = AskUp link.now

@@ -8,6 +8,7 @@ use Rattle.script.specs.Streams.{AppendsFirst, AppendsAtLeast}
 use Rattle.script.specs.Lines.{lines}
 use Rattle.script.specs.Texts.{line_fault}
 use Rattle.script.specs.Asking.{Reading, Skips, IsMalformed, Asks, parsed_line}
+use Rattle.point_format.specs.declared.point.PointFormat.TheVariants.{Plain}
 use Rattle.script.specs.Doing.{printed, done}
 use Rattle.script.specs.declared.fault.TheConstants.{LINE_OCTETS, READS}
 use Rattle.script.specs.declared.fault.ScriptFault.{ScriptFault}
@@ -27,9 +28,10 @@ silent s = record { text = []; state = s; fault = None }
 abbrev pub stopped : {Q : Type 0} → ℕ → State Q → Reached Q
 stopped number s = record { text = line_fault number; state = s; fault = Some number }
 
--- what is read in a line that has its line feed: one of more than 8,300 octets (LINE_OCTETS) is malformed
+-- what is read in a line that has its line feed, where points are numbers: one of more than 8,300 octets (LINE_OCTETS)
+-- is malformed
 abbrev pub whole_line : List ℕ → Reading
-whole_line line = if nat_lt LINE_OCTETS (length line) then IsMalformed else parsed_line line
+whole_line line = if nat_lt LINE_OCTETS (length line) then IsMalformed else parsed_line Plain line
 
 -- what such a line prints, and the state after it, and where memory is refused for a translation row that it adds, if
 -- it is

@@ -9,17 +9,17 @@ use Rattle.script.specs.declared.line.Show.TheVariants.{Links, Routes, Titles, N
 -- a line of a text by its number, from 0
 abbrev pub line_of : {Q : Type 0} → QueueKind Q → Show → State Q → ℕ → Option (List ℕ)
 line_of q Links s k = link_line q s k
-line_of q Routes s k = route_line s k
-line_of q Titles s k = title_line s k
-line_of q Notices s k = notice_line s k
+line_of q (Routes points) s k = route_line points s k
+line_of q (Titles points) s k = title_line points s k
+line_of q (Notices points) s k = notice_line points s k
 line_of q Flags s k = flag_line s k
 
 -- how many lines it has, at most
 abbrev pub most_lines : {Q : Type 0} → Show → State Q → ℕ
 most_lines Links s = length s.settings.links
-most_lines Routes s = length s.settings.destinations
-most_lines Titles s = length s.node.parts.titles
-most_lines Notices s = length s.node.parts.notices.last
+most_lines (Routes points) s = length s.settings.destinations
+most_lines (Titles points) s = length s.node.parts.titles
+most_lines (Notices points) s = length s.node.parts.notices.last
 most_lines Flags s = FLAGS
 
 -- a line with its line feed, where there is one

@@ -8,6 +8,7 @@ ghost use Rattle.script.specs.Asking.{show_named, asked_of, reading_of};
 use crate::hex_octets::HexOctets;
 use console::words::cut;
 use console::{Command, OrderText, order_by, read_number};
+use point_format::PointFormat;
 
 /// What a skipped line begins with.
 const REMARK: u8 = b'#';
@@ -24,12 +25,12 @@ pub struct Malformed;
 pub enum Show {
     /// The links.
     Links,
-    /// The routes.
-    Routes,
-    /// The translation rows.
-    Titles,
-    /// The notices.
-    Notices,
+    /// The routes, with points in this format.
+    Routes(PointFormat),
+    /// The translation rows, with points in this format.
+    Titles(PointFormat),
+    /// The notices, with points in this format.
+    Notices(PointFormat),
     /// The flags.
     Flags,
 }
@@ -96,14 +97,15 @@ pub fn is_skipped(line: &[u8]) -> bool
     }
 }
 
-/// What a line without its end asks for: nothing if it is empty or begins with `#`.
-pub fn parse_line(line: &[u8]) -> Result<Option<Line<'_>>, Malformed>
-    ensures { reading_of result ≡ parsed_line line.now }
+/// What a line without its end asks for: nothing if it is empty or begins with `#`. Points are read and shown in this
+/// format.
+pub fn parse_line(line: &[u8], points: PointFormat) -> Result<Option<Line<'_>>, Malformed>
+    ensures { reading_of result ≡ parsed_line points line.now }
 {
     if is_skipped(line) {
         return Ok(None);
     }
-    match asked(line) {
+    match asked(line, points) {
         Some(line) => Ok(Some(line)),
         None => Err(Malformed),
     }
@@ -111,28 +113,28 @@ pub fn parse_line(line: &[u8]) -> Result<Option<Line<'_>>, Malformed>
 
 /// What the words of a line ask for.
 #[tactic(auto, using(crate::proofs::Asking::asking_steps))]
-fn asked(line: &[u8]) -> Option<Line<'_>>
-    ensures { asked_of result ≡ asked_by (words line.now) }
+fn asked(line: &[u8], points: PointFormat) -> Option<Line<'_>>
+    ensures { asked_of result ≡ asked_by points (words line.now) }
 {
     let (word, rest) = cut(line);
     let command = Command::named(word)?;
     let behind = rest?;
     let (first, rest) = cut(behind);
     let Some(rest) = rest else {
-        return line_with_one_word(command, first);
+        return line_with_one_word(command, first, points);
     };
     match cut(rest) {
         (second, None) => asked_with_two(command, first, second),
         (_, Some(_)) => {
-            let order = order_by(command, behind)?;
+            let order = order_by(command, behind, points)?;
             Some(Line::Order { order })
         }
     }
 }
 
-/// What a command with one word behind it asks for.
-pub fn line_with_one_word(command: Command, word: &[u8]) -> Option<Line<'_>>
-    ensures { asked_of result ≡ asked_with_one command word.now }
+/// What a command with one word behind it asks for. Points are shown in this format.
+pub fn line_with_one_word(command: Command, word: &[u8], points: PointFormat) -> Option<Line<'_>>
+    ensures { asked_of result ≡ asked_with_one points command word.now }
 {
     match command {
         Command::Up if !word.is_empty() => Some(Line::Up { link: word }),
@@ -156,7 +158,7 @@ pub fn line_with_one_word(command: Command, word: &[u8]) -> Option<Line<'_>>
             Some(Line::Submit { octets })
         }
         Command::Show => {
-            let what = show_named(word)?;
+            let what = show_named(word, points)?;
             Some(Line::Show { what })
         }
         _ => None,
@@ -179,18 +181,18 @@ fn asked_with_two<'a>(command: Command, first: &'a [u8], second: &'a [u8]) -> Op
     }
 }
 
-/// The text of this name.
-fn show_named(word: &[u8]) -> Option<Show>
-    ensures { result ≡ show_named word.now }
+/// The text of this name, with points in this format.
+fn show_named(word: &[u8], points: PointFormat) -> Option<Show>
+    ensures { result ≡ show_named points word.now }
 {
     if word == b"links".as_slice() {
         Some(Show::Links)
     } else if word == b"routes".as_slice() {
-        Some(Show::Routes)
+        Some(Show::Routes(points))
     } else if word == b"titles".as_slice() {
-        Some(Show::Titles)
+        Some(Show::Titles(points))
     } else if word == b"notices".as_slice() {
-        Some(Show::Notices)
+        Some(Show::Notices(points))
     } else if word == b"flags".as_slice() {
         Some(Show::Flags)
     } else {

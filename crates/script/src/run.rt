@@ -19,6 +19,7 @@ use crate::source::Source;
 use crate::text::line_fault;
 use arrayvec::ArrayVec;
 use exchange::Exchange;
+use point_format::PointFormat;
 use std::marker::Model;
 
 /// Octets that one read asks for.
@@ -242,10 +243,10 @@ fn do_line<W: Sink>(
     writer: &mut W,
 ) -> Result<(), ScriptFault>
     ensures writes { (W.output writer.new).failures ≡ writes_failed (W.output writer.old).failures result }
-    ensures run { DoesLine number (parsed_line line.now) exchange.old result exchange.new
+    ensures run { DoesLine number (parsed_line PointFormat.Plain line.now) exchange.old result exchange.new
         (W.output writer.old).written (W.output writer.new).written }
 {
-    match parse_line(line) {
+    match parse_line(line, PointFormat::Plain) {
         Ok(Some(line)) => {
             let reply = perform(exchange, line);
             print(exchange, &reply, writer)?;

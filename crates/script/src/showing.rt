@@ -77,9 +77,9 @@ fn write_line(
 {
     match what {
         Show::Links => show_links(exchange, k, line),
-        Show::Routes => show_routes(exchange, k, line),
-        Show::Titles => show_titles(exchange, k, line),
-        Show::Notices => show_notices(exchange, k, line),
+        Show::Routes(points) => show_routes(exchange, k, points, line),
+        Show::Titles(points) => show_titles(exchange, k, points, line),
+        Show::Notices(points) => show_notices(exchange, k, points, line),
         Show::Flags => show_flags(exchange, k, line),
     }
 }
@@ -90,9 +90,9 @@ fn most_lines(exchange: &Exchange, what: Show) -> usize
 {
     match what {
         Show::Links => exchange.settings().links().len(),
-        Show::Routes => exchange.settings().destinations().len(),
-        Show::Titles => exchange.title_count(),
-        Show::Notices => exchange.notices().len(),
+        Show::Routes(_) => exchange.settings().destinations().len(),
+        Show::Titles(_) => exchange.title_count(),
+        Show::Notices(_) => exchange.notices().len(),
         Show::Flags => FLAGS,
     }
 }

@@ -1,6 +1,8 @@
 -- A sentence about a fault of the node's settings is about the place of that fault.
 use Rattle.std.proofs.Common.{◌≡◌, ℕ, List, Option, None, Some, refl, subst, ap, ◌∙◌, sym}
 use Rattle.std.proofs.lemmas.Option.{none-some, same_Some}
+use Rattle.std.specs.Global.{Global}
+use Rattle.std.specs.Prelude.{Result, Ok, Err, IfOk, String, string_bytes}
 use Rattle.std.specs.Option.{option_map}
 use Rattle.settings_rows.specs.declared.key.Key.{Key}
 use Rattle.settings_file.specs.declared.fault.SettingsFault.{SettingsFault}
@@ -18,10 +20,17 @@ at-place file sentence (Some key) p is about =
     subst Q (same_Some (settings.key_place key) p is) (about key refl)
 at-place file sentence None p is about = absurd (none-some p is)
 
-pub explains : (file octets sentence : List ℕ) (found : SettingsFault) (why : ServeFault) → why ≡ kind.Settings found
-    → settings.Explains file octets found sentence → Explains file octets why sentence
-explains file octets sentence found why is told = record {
-  names = told.names;
-  place = λ p at utf8 toml. at-place file sentence (settings.key_of found) p (sym (ap place_of is) ∙ at)
-      (λ key same. told.key key same utf8 toml);
+pub explains : (file sentence : List ℕ) (found : SettingsFault) (why : ServeFault) → why ≡ kind.Settings found
+    → settings.Names file sentence → ((key : Key) → settings.key_of found ≡ Some key → IsAbout file key sentence) → Explains file why sentence
+explains file sentence found why is names told = record {
+  names = names;
+  place = λ p at. at-place file sentence (settings.key_of found) p (sym (ap place_of is) ∙ at) told;
 }
+
+-- the same of a sentence that may lack memory
+pub explained : {E : Type 0} (r : Result (String Global) E) (file : List ℕ) (found : SettingsFault) (why : ServeFault) → why ≡ kind.Settings found
+    → IfOk r (λ sentence. settings.Names file (string_bytes sentence))
+    → IfOk r (λ sentence. (key : Key) → settings.key_of found ≡ Some key → IsAbout file key (string_bytes sentence))
+    → IfOk r (λ sentence. Explains file why (string_bytes sentence))
+explained (Ok sentence) file found why is names told = explains file (string_bytes sentence) found why is names told
+explained (Err e) file found why is names told = tt

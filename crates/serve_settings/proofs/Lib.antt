@@ -1,4 +1,5 @@
 pub mod Behind
+pub mod Parsed
 pub mod Spelled
 pub mod Exists
 pub mod Explained

@@ -4,8 +4,8 @@ use Rattle.std.specs.Prelude.{Result, Ok, Err, if◌then◌else◌, bytes_eq, co
 use Rattle.std.specs.declared.net.socket_addr.SocketAddr.{SocketAddr}
 use Rattle.std.specs.Net.Socket.{socket_port}
 use Rattle.toml.specs.Data.{Data, Members, get_member}
-use Rattle.serve_settings.specs.declared.server.PointFormat.{PointFormat}
-use Rattle.serve_settings.specs.declared.server.PointFormat.TheVariants.{Plain, ThreeEightThree}
+use Rattle.point_format.specs.declared.point.PointFormat.{PointFormat}
+use Rattle.point_format.specs.declared.point.PointFormat.TheVariants.{Plain, ThreeEightThree}
 use Rattle.serve_settings.specs.declared.key.ServeKey.{ServeKey}
 use Rattle.serve_settings.specs.declared.key.ServeKey.TheVariants as key
 use Rattle.serve_settings.specs.declared.fault.ServeFault.{ServeFault}

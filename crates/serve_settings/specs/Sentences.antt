@@ -1,8 +1,6 @@
 -- Sentences about faults of a server's settings.
-use Rattle.std.specs.Prelude.{◌≡◌, ℕ, List, Option, None, Some, IsSome}
+use Rattle.std.specs.Prelude.{◌≡◌, ℕ, List, Option, None, Some}
 use Rattle.std.specs.Option.{option_map}
-use Rattle.std.specs.Str.{IsUtf8}
-use Rattle.toml.specs.Parse.{parse_document}
 use Rattle.settings_file.specs.Sentences as settings
 use Rattle.settings_file.specs.Sentences.{KeyPlace, Names, IsAboutPlace}
 use Rattle.serve_settings.specs.Keys.{key_front, key_index, key_back}
@@ -23,9 +21,7 @@ place_of (kind.Range key) = Some (key_place key)
 place_of (kind.Duplicate key) = Some (key_place key)
 place_of kind.NoMemory = None
 
--- a sentence about a fault of a file with these octets names the file; and where the file is TOML, it is about the
--- place that the fault is at
-pub record Explains (file octets : List ℕ) (why : ServeFault) (sentence : List ℕ) : Type 0 where
+-- a sentence about a fault of a file names the file, and is about the place that the fault is at
+pub record Explains (file : List ℕ) (why : ServeFault) (sentence : List ℕ) : Type 0 where
   pub names : Names file sentence
-  pub place : (p : KeyPlace) → place_of why ≡ Some p → IsUtf8 octets → IsSome (parse_document octets)
-      → IsAboutPlace file p sentence
+  pub place : (p : KeyPlace) → place_of why ≡ Some p → IsAboutPlace file p sentence

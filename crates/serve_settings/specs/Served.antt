@@ -2,7 +2,7 @@
 use Rattle.std.specs.Prelude.{ℕ, List, Option}
 use Rattle.std.specs.declared.net.socket_addr.SocketAddr.{SocketAddr}
 use Rattle.serve_settings.specs.declared.server.Endpoint.{Endpoint}
-use Rattle.serve_settings.specs.declared.server.PointFormat.{PointFormat}
+use Rattle.point_format.specs.declared.point.PointFormat.{PointFormat}
 
 pub record Served : Type 0 where
   pub tick_ms : ℕ

@@ -1,11 +1,9 @@
 //! Reading the settings of a server.
 
-ghost use Rattle.std.specs.Prelude.{◌≡◌, ◌⊎◌, Ok, IfOk, IfErr};
-ghost use Rattle.std.specs.Option.{ok_or};
+ghost use Rattle.std.specs.Prelude.{◌≡◌, ◌⊎◌, ℕ, List, Some, Ok, IfOk, IfErr};
 ghost use Rattle.toml.specs.Parse.{parse_document};
 ghost use Rattle.toml.specs.View.{table_view};
 ghost use Rattle.settings_file.specs.Reading.{IsReadAs};
-ghost use Rattle.settings_file.specs.declared.fault.SettingsFault.TheVariants as found;
 ghost use Rattle.serve_settings.specs.Addresses.{Spelling};
 ghost use Rattle.serve_settings.specs.Faults.{Answers, AnswersOrNoMemory};
 ghost use Rattle.serve_settings.specs.Reading.{serve_at, document, reading, IsFirstFault};
@@ -17,7 +15,6 @@ use crate::keys::{capture, console, console_open, points, tick_ms};
 use crate::server::ServeSettings;
 use crate::shapes::{table_in, value};
 use settings::Settings;
-use settings_file::SettingsFault;
 use std::alloc::Global;
 use toml::Table;
 
@@ -53,41 +50,31 @@ fn contents(alloc: Global, table: &Table) -> Result<ServeSettings, ServeFault>
     })
 }
 
-/// The table that a text is, where it is TOML.
-fn parse(alloc: Global, text: &str) -> Result<Table, ServeFault>
-    ensures { AnswersOrNoMemory table_view
-        (ok_or (parse_document text.now) (ServeFault.Settings found.Text)) result }
+/// Reads the settings of a server from the document that a settings file is.
+///
+/// Answers the settings, or the first fault of the keys `tick_ms`, `console`, `capture`, `console_open`
+/// and `points` of `[serve]`, then of `listen` and `connect` of each link, from the first on. Want of
+/// memory may stand in place of any other. Keys of other names are ignored.
+pub fn read_server(alloc: Global, document: &Table) -> Result<ServeSettings, ServeFault>
+    ensures { (s : Spelling) (text : List ℕ) → parse_document text ≡ Some (table_view document.now)
+        → AnswersOrNoMemory (λ settings. settings) (reading s text) result }
 {
-    match toml::table_from_str(alloc, text) {
-        Ok(table) => Ok(table),
-        Err(error) if error.is_memory() => Err(ServeFault::NoMemory),
-        Err(_) => Err(ServeFault::Settings(SettingsFault::Text)),
-    }
-}
-
-/// What a text says of its server.
-#[tactic(auto, unfolding(crate::specs::Reading::reading))]
-fn server(alloc: Global, text: &str) -> Result<ServeSettings, ServeFault>
-    ensures { (s : Spelling) → AnswersOrNoMemory (λ settings. settings) (reading s text.now) result }
-{
-    let table = parse(alloc, text)?;
-    contents(alloc, &table)
+    contents(alloc, document)
 }
 
 /// Reads the settings of a node and those of its server from the text of a settings file, and
 /// checks both.
 ///
-/// Answers both, or the first fault: what `settings_file::read` finds; then the keys `tick_ms`,
-/// `console`, `capture`, `console_open` and `points` of `[serve]`; then `listen` and `connect` of
-/// each link, from the first on. Want of memory may stand in place of any other. Keys of other names
-/// are ignored.
+/// Answers both, or the first fault: what `settings_file::read` finds, then what `read_server` finds. Want
+/// of memory may stand in place of any other. Keys of other names are ignored.
 pub fn read(alloc: Global, text: &str) -> Result<(Settings, ServeSettings), ServeFault>
     ensures settings { IfOk result (λ read. IsReadAs text.now read.0) }
     ensures server { (s : Spelling) → IfOk result (λ read. reading s text.now ≡ Ok read.1) }
     ensures fault { (s : Spelling) → IfErr result (λ fault.
         (fault ≡ ServeFault.NoMemory) ⊎ IsFirstFault s text.now fault) }
 {
-    let settings = settings_file::read(alloc, text)?;
-    let server = server(alloc, text)?;
+    let document = settings_file::parse(alloc, text)?;
+    let settings = settings_file::read_document(alloc, &document)?;
+    let server = read_server(alloc, &document)?;
     Ok((settings, server))
 }

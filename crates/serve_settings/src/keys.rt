@@ -10,8 +10,8 @@ ghost use Rattle.serve_settings.specs.Keyed.{tick_ms_at, console_open_at, consol
 use crate::address::{address_in, is_loopback};
 use crate::fault::ServeFault;
 use crate::key::ServeKey;
-use crate::server::PointFormat;
 use crate::shapes::{found, integer_in, text_in, truth_in, value};
+use point_format::PointFormat;
 use std::alloc::Global;
 use std::net::SocketAddr;
 use toml::Table;

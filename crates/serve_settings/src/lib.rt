@@ -1,5 +1,5 @@
-//! The settings of a server: the keys of `[serve]`, and the address of each link, read from the
-//! text of a settings file; and sentences that say what is wrong with them.
+//! The settings of a server: the keys of `[serve]`, and the address of each link, read from a
+//! settings file; and sentences that say what is wrong with them.
 #![tactic(auto)]
 
 mod address;
@@ -14,8 +14,8 @@ mod sentences;
 pub mod server;
 mod shapes;
 
-pub use document::read;
+pub use document::{read, read_server};
 pub use fault::ServeFault;
 pub use key::ServeKey;
 pub use sentences::sentence;
-pub use server::{Endpoint, PointFormat, ServeSettings};
+pub use server::{Endpoint, ServeSettings};

@@ -1,7 +1,6 @@
 //! The sentence that says what is wrong with the settings of a server.
 
 ghost use Rattle.std.specs.Prelude.{◌≡◌, Some, IfOk, string_bytes};
-ghost use Rattle.settings_file.specs.Sentences.{IsAboutPlace};
 ghost use Rattle.serve_settings.specs.Sentences.{Explains, key_place, place_of};
 
 use crate::address::address_in;
@@ -9,9 +8,7 @@ use crate::fault::ServeFault;
 use crate::key::ServeKey;
 use crate::key_rows::key_row;
 use settings::DraftFault;
-use settings_file::{
-    KeyRow, SettingsFault, about, document_in, missing, must_be, value_at, value_is,
-};
+use settings_file::{KeyRow, SettingsFault, about, missing, must_be, value_at, value_is};
 use std::alloc::{AllocError, Global};
 use toml::{Table, Value};
 
@@ -27,29 +24,29 @@ const TAKEN: &str = "where the console or another link listens too";
 /// What is wrong with `connect` of a link that has both keys.
 const BOTH: &str = "but the link has listen too";
 
-/// The sentence that says what is wrong with a settings file of this name and these octets, which has this fault, with
-/// a line feed: `node.toml: serve.tick_ms is 5, must be 10 to 10000`. Of a fault of the node's settings it is what
+/// The sentence that says what is wrong with the document that a settings file of this name is, which has this fault,
+/// with a line feed: `node.toml: serve.tick_ms is 5, must be 10 to 10000`. Of a fault of the node's settings it is what
 /// `settings_file::sentence` says.
 ///
 /// `AllocError` where memory ran out.
 pub fn sentence(
     alloc: Global,
     file: &str,
-    octets: &[u8],
+    document: &Table,
     fault: ServeFault,
 ) -> Result<String, AllocError>
-    ensures { IfOk result (λ sentence. Explains file.now octets.now fault (string_bytes sentence)) }
+    ensures { IfOk result (λ sentence. Explains file.now fault (string_bytes sentence)) }
 {
     match fault {
-        ServeFault::Settings(found) => settings_file::sentence(alloc, file, octets, found),
+        ServeFault::Settings(found) => settings_file::sentence(alloc, file, document, found),
         ServeFault::NoMemory => {
             let found = SettingsFault::Draft(DraftFault::NoMemory);
-            settings_file::sentence(alloc, file, octets, found)
+            settings_file::sentence(alloc, file, document, found)
         }
         ServeFault::Missing(key)
         | ServeFault::Kind(key)
         | ServeFault::Range(key)
-        | ServeFault::Duplicate(key) => at_key(alloc, file, octets, key, fault),
+        | ServeFault::Duplicate(key) => at_key(alloc, file, document, key, fault),
     }
 }
 
@@ -57,28 +54,12 @@ pub fn sentence(
 fn at_key(
     alloc: Global,
     file: &str,
-    octets: &[u8],
-    key: ServeKey,
-    fault: ServeFault,
-) -> Result<String, AllocError>
-    requires { place_of fault ≡ Some (key_place key) }
-    ensures { IfOk result (λ sentence. Explains file.now octets.now fault (string_bytes sentence)) }
-{
-    match document_in(alloc, file, octets)? {
-        Ok(document) => in_document(alloc, file, &document, key, fault),
-        Err(why) => Ok(why),
-    }
-}
-
-/// The sentence about a file that is TOML, with a fault at this key.
-fn in_document(
-    alloc: Global,
-    file: &str,
     document: &Table,
     key: ServeKey,
     fault: ServeFault,
 ) -> Result<String, AllocError>
-    ensures { IfOk result (λ sentence. IsAboutPlace file.now (key_place key) (string_bytes sentence)) }
+    requires { place_of fault ≡ Some (key_place key) }
+    ensures { IfOk result (λ sentence. Explains file.now fault (string_bytes sentence)) }
 {
     let row = key_row(key);
     let wrong = wrong(alloc, &row, value_at(document, &row), fault)?;

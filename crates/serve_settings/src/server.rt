@@ -4,6 +4,7 @@ ghost use Rattle.std.specs.Prelude.{◌≡◌, ◌≤◌};
 ghost use Rattle.std.specs.Option.{option_map};
 ghost use Rattle.serve_settings.specs.Endpoints.{listens_on};
 
+use point_format::PointFormat;
 use std::marker::Model;
 use std::net::SocketAddr;
 
@@ -26,15 +27,6 @@ impl Endpoint {
             Endpoint::Connect(_) => false,
         }
     }
-}
-
-/// How point codes are read and shown.
-#[derive(Clone, Copy, PartialEq, Eq)]
-pub enum PointFormat {
-    /// As a decimal number: `4237`.
-    Plain,
-    /// As three decimal numbers of 3, 8 and 3 bits: `2-017-5`.
-    ThreeEightThree,
 }
 
 /// The settings of a server: how long a tick is, where its console listens, what file it captures

@@ -4,6 +4,7 @@ pub mod Shapes
 pub mod Written
 pub mod Entries
 pub mod Document
+pub mod Parsed
 pub mod Reading
 pub mod Sentences
 pub mod Values

@@ -2,6 +2,7 @@
 use Rattle.std.specs.Prelude.{◌≡◌, ◌⊎◌, ◌||◌, ℕ, ℤ, nat_le, List, [], ◌∷◌, length, Option, None, Some, Result, Ok, Err}
 use Rattle.std.specs.Prelude.{if◌then◌else◌}
 use Rattle.std.specs.Option.{ok_or}
+use Rattle.toml.specs.Data.{Members}
 use Rattle.std.specs.Ordering.{int_eq}
 use Rattle.toml.specs.Parse.{parse_document}
 use Rattle.settings_rows.specs.Configuration.{Configuration}
@@ -24,10 +25,14 @@ abbrev pub of_known_version : Document → Result Document SettingsFault
 of_known_version d =
     if int_eq d.version FIRST_VERSION || int_eq d.version LAST_VERSION then Ok d else Err kind.Version
 
--- the version and the settings that a text has, or its first fault: it isn't TOML, a key of it is missing or has a
--- value of another type, or it is of another version than 1 and 2
+-- the version and the settings that a document has, or its first fault: a key of it is missing or has a value of
+-- another type, or it is of another version than 1 and 2
+unfoldable pub reading_in : Members → Result Document SettingsFault
+reading_in t = and_then (document t) of_known_version
+
+-- the same of a text, which may be no document: it isn't TOML
 unfoldable pub reading : List ℕ → Result Document SettingsFault
-reading text = and_then (ok_or (parse_document text) kind.Text) (λ t. and_then (document t) of_known_version)
+reading text = and_then (ok_or (parse_document text) kind.Text) reading_in
 
 -- the fault of settings that go beyond what a file of the first version may ask for: its window, then its destinations
 abbrev pub first_limits_fault : Configuration → Option DraftFault

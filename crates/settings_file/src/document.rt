@@ -1,16 +1,16 @@
 //! Reading a settings file.
 
-ghost use Rattle.std.specs.Prelude.{◌≡◌, ◌⊎◌, None, Some, IfOk, OnOk, IfErr};
-ghost use Rattle.std.specs.Option.{ok_or};
+ghost use Rattle.std.specs.Prelude.{◌≡◌, ◌⊎◌, ℕ, List, None, Some, IfOk, OnOk, IfErr};
 ghost use Rattle.toml.specs.Parse.{parse_document};
 ghost use Rattle.toml.specs.View.{table_view};
 ghost use Rattle.settings.specs.Meaning.{settings_of};
 ghost use Rattle.settings_file.specs.Faults.{AnswersOrNoMemory, no_memory};
 ghost use Rattle.settings_file.specs.Written.{written};
 ghost use Rattle.settings_file.specs.Document.{numbers_at, document};
-ghost use Rattle.settings_file.specs.Reading.{reading, limits_fault, settings_fault, IsReadAs, IsFirstFault};
+ghost use Rattle.settings_file.specs.Reading.{reading_in, limits_fault, settings_fault, IsReadAs, IsFirstFault};
 
 use crate::arrays::{destinations, links, sets, titles};
+use crate::documents::parse;
 use crate::fault::SettingsFault;
 use crate::limits::FirstLimits;
 use crate::shapes::{integer, integers};
@@ -96,26 +96,13 @@ fn contents(alloc: Global, table: &Table) -> Result<Document, SettingsFault>
     })
 }
 
-/// The table that a text is, where it is TOML.
-fn parse(alloc: Global, text: &str) -> Result<Table, SettingsFault>
-    ensures { AnswersOrNoMemory table_view
-        (ok_or (parse_document text.now) SettingsFault.Text) result }
-{
-    match toml::table_from_str(alloc, text) {
-        Ok(table) => Ok(table),
-        Err(error) if error.is_memory() => Err(SettingsFault::Draft(DraftFault::NoMemory)),
-        Err(_) => Err(SettingsFault::Text),
-    }
-}
-
-/// The document that a text is, where it is of a known version.
-#[tactic(auto, unfolding(crate::specs::Reading::reading))]
-fn known_document(alloc: Global, text: &str) -> Result<Document, SettingsFault>
+/// What a document says, where it is of a known version.
+#[tactic(auto, unfolding(crate::specs::Reading::reading_in))]
+fn known_contents(alloc: Global, table: &Table) -> Result<Document, SettingsFault>
     ensures { AnswersOrNoMemory (λ d. record { version = d.version; settings = written d.draft })
-        (reading text.now) result }
+        (reading_in (table_view table.now)) result }
 {
-    let table = parse(alloc, text)?;
-    let document = contents(alloc, &table)?;
+    let document = contents(alloc, table)?;
     if document.version != FIRST_VERSION && document.version != LAST_VERSION {
         return Err(SettingsFault::Version);
     }
@@ -163,7 +150,20 @@ pub fn read(alloc: Global, text: &str) -> Result<Settings, SettingsFault>
     ensures settings { IfOk result (IsReadAs text.now) }
     ensures fault { IfErr result (λ fault. (fault ≡ no_memory) ⊎ IsFirstFault text.now fault) }
 {
-    let Document { version, draft } = known_document(alloc, text)?;
+    let document = parse(alloc, text)?;
+    read_document(alloc, &document)
+}
+
+/// Reads settings from the document that a settings file is, and checks them.
+///
+/// Answers what `read` answers of each text that was parsed to this document.
+pub fn read_document(alloc: Global, document: &Table) -> Result<Settings, SettingsFault>
+    ensures settings { (text : List ℕ) → parse_document text ≡ Some (table_view document.now)
+        → IfOk result (IsReadAs text) }
+    ensures fault { (text : List ℕ) → parse_document text ≡ Some (table_view document.now)
+        → IfErr result (λ fault. (fault ≡ no_memory) ⊎ IsFirstFault text fault) }
+{
+    let Document { version, draft } = known_contents(alloc, document)?;
     match checked(alloc, version, draft) {
         Ok(settings) => Ok(settings),
         Err(fault) => Err(SettingsFault::Draft(fault)),

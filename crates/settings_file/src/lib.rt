@@ -15,8 +15,8 @@ mod timers;
 mod unknown;
 mod values;
 
-pub use document::read;
-pub use documents::document_in;
+pub use document::{read, read_document};
+pub use documents::{document_in, parse};
 pub use fault::SettingsFault;
 pub use key_rows::{KeyRow, entry_key, lone_key};
 pub use limits::FirstLimits;

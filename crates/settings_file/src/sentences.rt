@@ -2,10 +2,9 @@
 
 ghost use Rattle.std.specs.Prelude.{◌≡◌, Some, IfOk, string_bytes};
 ghost use Rattle.settings_rows.specs.declared.key.Key.{Key};
-ghost use Rattle.settings_file.specs.Sentences.{IsAbout, Names, Explains, key_of};
+ghost use Rattle.settings_file.specs.Sentences.{IsAbout, Names, key_of};
 
 use crate::SettingsFault;
-use crate::documents::document_in;
 use crate::key_rows::{KeyRow, key_row};
 use crate::phrases::{missing, must_be, value_is};
 use crate::places::{about, value_at};
@@ -16,26 +15,11 @@ use toml::{Table, Value};
 /// The first version of the format, which has smaller limits.
 const FIRST_VERSION: i64 = 1;
 
-/// The sentence that says what is wrong with a settings file of this name and these octets, which
+/// The sentence that says what is wrong with the document that a settings file of this name is, which
 /// has this fault, with a line feed: `node.toml: link[2] "e2": slc is 16, must be 0 to 15`.
 ///
 /// `AllocError` where memory ran out.
 pub fn sentence(
-    alloc: Global,
-    file: &str,
-    octets: &[u8],
-    fault: SettingsFault,
-) -> Result<String, AllocError>
-    ensures { IfOk result (λ sentence. Explains file.now octets.now fault (string_bytes sentence)) }
-{
-    match document_in(alloc, file, octets)? {
-        Ok(document) => in_document(alloc, file, &document, fault),
-        Err(why) => Ok(why),
-    }
-}
-
-/// The sentence about a file that is TOML.
-fn in_document(
     alloc: Global,
     file: &str,
     document: &Table,

@@ -81,13 +81,12 @@ struct WarningText<'a> {
     count: usize,
 }
 
-/// A warning for each of the first 20 keys of a settings file of this name and these octets that no
-/// table knows. It names the nearest known key, if one is near: `node.toml: windw is ignored; the
+/// A warning for each of the first 20 keys that no table knows of the document that a settings file of
+/// this name is. It names the nearest known key, if one is near: `node.toml: windw is ignored; the
 /// nearest key is window`, `node.toml: colour is ignored: no such key`. Each ends with a line feed.
-/// There is none of a file that isn't TOML.
 ///
 /// `AllocError` where memory ran out.
-pub fn warnings(alloc: Global, file: &str, octets: &[u8]) -> Result<String, AllocError>
+pub fn warnings(alloc: Global, file: &str, document: &Table) -> Result<String, AllocError>
     ensures { IfOk result (λ text. AreWarnings file.now (string_bytes text)) }
 {
     let mut warnings = WarningText {
@@ -95,11 +94,7 @@ pub fn warnings(alloc: Global, file: &str, octets: &[u8]) -> Result<String, Allo
         text: String::new(alloc),
         count: 0,
     };
-    if let Ok(text) = str::from_utf8(octets) {
-        if let Ok(document) = toml::table_from_str(alloc, text) {
-            warnings.add_document(alloc, &document)?;
-        }
-    }
+    warnings.add_document(alloc, document)?;
     Ok(warnings.text)
 }
 

@@ -4,9 +4,9 @@ use crate::audience::Audience;
 use crate::fault::OpenFault;
 use crate::journal::Journal;
 use crate::noticing::Seen;
-use arrayvec::{ArrayString, ArrayVec};
+use arrayvec::ArrayString;
 use console::{LINE_OCTETS, show_notices};
-use console_session::{Desk, News, line_in_parts};
+use console_session::{Desk, News};
 use exchange::{Event, Exchange, NewNotices, NoMemory};
 use script::Sink;
 use settings::{FailureReason, LinkId, Notice, Settings};
@@ -165,21 +165,17 @@ impl Node {
             self.audience.counters.count_failure(*link, *reason);
         }
         let mut line = ArrayString::<LINE_OCTETS>::new();
-        if show_notices(&self.exchange, k, &mut line) {
-            self.tell_notice(line.as_bytes(), journal);
+        if show_notices(&self.exchange, k, self.audience.points, &mut line) {
+            self.tell_notice(line.as_str(), journal);
         }
     }
 
     /// Tells of a notice by its line.
-    fn tell_notice<W: Sink>(&mut self, line: &[u8], journal: &mut Journal<'_, W>) {
-        let mut room = ArrayVec::new();
-        let shown = match self.audience.points {
-            PointFormat::Plain => line,
-            PointFormat::ThreeEightThree => line_in_parts(line, &mut room),
-        };
-        self.audience.callers.tell_line(News::Notice, shown);
-        let text = str::from_utf8(shown).unwrap_or("");
-        journal.tell(&format_args!("notice {text}"));
+    fn tell_notice<W: Sink>(&mut self, line: &str, journal: &mut Journal<'_, W>) {
+        self.audience
+            .callers
+            .tell_line(News::Notice, line.as_bytes());
+        journal.tell(&format_args!("notice {line}"));
     }
 }
 

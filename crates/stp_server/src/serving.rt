@@ -6,13 +6,13 @@ use crate::fault::{OpenFault, ServeFailure};
 use crate::journal::Journal;
 use crate::server::{FileCapture, Places, Server};
 use script::Sink;
-use serve_settings::{PointFormat as Shown, ServeSettings};
+use serve_settings::ServeSettings;
 use served_link::{MOST_TICKS, TickClock, Unwatched};
 use settings::Settings;
 use std::io::BufWriter;
 use std::time::{Duration, Instant, SystemTime};
 use std::{fs, io};
-use trace::{Capture, PointFormat, UntilFailure};
+use trace::{Capture, UntilFailure};
 
 /// Serves a node with these settings until a caller stops it.
 pub fn serve<W: Sink>(
@@ -150,15 +150,7 @@ fn places_of(serve: &ServeSettings) -> Places<'_> {
     Places {
         links: serve.links(),
         console: serve.console(),
-        points: format_of(serve.points()),
-    }
-}
-
-/// How points are shown.
-fn format_of(shown: Shown) -> PointFormat {
-    match shown {
-        Shown::Plain => PointFormat::Plain,
-        Shown::ThreeEightThree => PointFormat::ThreeEightThree,
+        points: serve.points(),
     }
 }
 

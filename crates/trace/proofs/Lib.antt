@@ -1,4 +1,3 @@
-pub mod Points
 pub mod Joined
 pub mod Written
 pub mod Numbering

@@ -1,4 +1,3 @@
-pub mod Points
 pub mod Words
 pub mod Packets
 pub mod Captures

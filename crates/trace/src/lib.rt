@@ -6,7 +6,6 @@ pub mod capture_file;
 pub mod capture_output;
 pub mod direction;
 mod packet_numbers;
-pub mod point;
 pub mod words;
 mod writing;
 
@@ -14,5 +13,5 @@ pub use capture::{FILE_HEADER_OCTETS, PACKET_OCTETS, file_header, packet};
 pub use capture_file::Capture;
 pub use capture_output::{CaptureOutput, UntilFailure};
 pub use direction::Direction;
-pub use point::{POINT_OCTETS, PointFormat, parse_point, point_text};
+pub use point_format::PointFormat;
 pub use words::{FrameWords, WORDS_OCTETS, frame_words};

@@ -4,16 +4,16 @@ ghost use Rattle.std.specs.Prelude.{◌≡◌, ◌+◌, ◌*◌, ◌≤◌, ◌+
 ghost use Rattle.m2pa_codec.specs.Frames.{sif_of};
 ghost use Rattle.m2pa_codec.specs.Reading.{read_frame};
 ghost use Rattle.m2pa_codec.specs.Values.{value_of};
-ghost use Rattle.trace.specs.Points.{point_text};
+ghost use Rattle.point_format.specs.Points.{point_text};
 ghost use Rattle.trace.specs.Words.{frame_words, numbers_words, status_word, message_words, label_words};
 ghost use Rattle.trace.specs.Words.{said_words, value_words, service_words, octets_words};
 
 use crate::direction::Direction;
-use crate::point::{PointFormat, point_text};
 use arrayvec::ArrayVec;
 use itoa::Buffer;
 use m2pa_codec::{Frame, LinkStatus, decode};
 use mtp3_codec::Label;
+use point_format::{PointFormat, point_text};
 use signalling_types::{Limits, Number24, PointCode};
 use std::marker::Model;
 
@@ -105,7 +105,7 @@ impl FrameWords {
         ensures short { length self.new ≤ length self.old + length word.now + 7 }
     {
         self.push(word);
-        self.push(point_text(point, points).as_slice());
+        self.push(point_text(point, points).as_bytes());
     }
 
     /// Appends what octets say as a frame, or that they are none.

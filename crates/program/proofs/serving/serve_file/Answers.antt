@@ -1,9 +1,13 @@
 use Rattle.std.proofs.Common.{Ok}
+use Rattle.program.proofs.Files.{serves-from, ends-serve}
 use Rattle.program.proofs.serving.serve_file.Goals as goal
 
-pub returns-in-Ok : goal.returns-in-Ok
-returns-in-Ok g c = (
-  Ok c.in-Ok.octets.items,
-  c.in-Ok.ensures,
-  rw (← c.as_slice.ensures.value) c.serve_octets.ensures,
-)
+pub returns : goal.returns
+returns g c =
+    let d = c.in-Ok.ensures.document in
+    (Ok d.0, d.1, serves-from c.args.file.now d.0 _ _ _ _ _ _ _ c.in-Ok.ensures.unwritten c.in-Ok.ensures.untold (c.serve_document-status.ensures d.0 d.2))
+
+pub returns-in-Err : goal.returns-in-Err
+returns-in-Err g c =
+    let ended = c.in-Err.ensures.ended in
+    (ended.0, ended.1, ends-serve c.args.file.now ended.0 _ _ _ _ _ ended.2)

@@ -1,36 +1,15 @@
-use Rattle.std.proofs.Common.{SFits, w64, inl, inr, refl, ap, rules}
-use Rattle.std.proofs.lemmas.Int.{to_z-of_z}
+use Rattle.std.proofs.Common.{inl, inr}
 use Rattle.std.proofs.lemmas.Result.{err_from_is_err_and}
-use Rattle.settings_file.specs.declared.fault.SettingsFault.TheVariants.{Draft}
+use Rattle.settings_file.proofs.Readings.{none-parsed}
 use Rattle.settings_file.proofs.document.read.Goals as goal
 
-pub returns-in_err-version-clause-fault : goal.returns-in_err-version-clause-fault
-returns-in_err-version-clause-fault c =
+pub returns-in_err-document-clause-fault : goal.returns-in_err-document-clause-fault
+returns-in_err-document-clause-fault c =
     let p = err_from_is_err_and c.from_residual.result c.from_residual.ensures.1 in
-    rw (p.1, p.2) (elim c.in_err-version.ensures [ inl memory ↦ inl memory | inr read ↦ inr (inl read) ])
+    rw (p.1, p.2) (elim c.in_err-document.ensures.fault [ inl memory ↦ inl memory | inr none ↦ inr (inl (none-parsed _ _ none)) ])
 
-pub returns-in-Ok-clause-settings : goal.returns-in-Ok-clause-settings
-returns-in-Ok-clause-settings c =
-    let fits : SFits w64 c.in_ok-version.field-0.version = search rules in
-    record {
-      version = c.in_ok-version.field-0.version;
-      draft = c.in_ok-version.field-0.draft;
-      read = c.in_ok-version.ensures;
-      well = rw (to_z-of_z _ _ fits) at c.in-Ok.ensures.well;
-      meant = c.in-Ok.ensures.settings;
-    }
+pub returns-clause-settings : goal.returns-clause-settings
+returns-clause-settings c = c.read_document.ensures.settings c.args.text.now c.in_ok-document.ensures.document
 
-pub returns-in-Err-clause-fault : goal.returns-in-Err-clause-fault
-returns-in-Err-clause-fault c =
-    let fits : SFits w64 c.in_ok-version.field-0.version = search rules in
-    elim c.in-Err.ensures.fault [
-      | inl memory ↦ inl (ap Draft memory)
-      | inr first ↦ inr (inr (record {
-        version = c.in_ok-version.field-0.version;
-        draft = c.in_ok-version.field-0.draft;
-        found = c.in-Err.fault;
-        read = c.in_ok-version.ensures;
-        first = rw (to_z-of_z _ _ fits) at first;
-        named = refl;
-      }))
-    ]
+pub returns-clause-fault : goal.returns-clause-fault
+returns-clause-fault c = c.read_document.ensures.fault c.args.text.now c.in_ok-document.ensures.document

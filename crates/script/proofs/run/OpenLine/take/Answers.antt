@@ -1,5 +1,6 @@
 use Rattle.std.proofs.Common.{◌≡◌, ◌∙◌, ap, subst, Err, Ok}
 use Rattle.std.proofs.lemmas.Result.{err_from_is_err_and}
+use Rattle.point_format.specs.declared.point.PointFormat.TheVariants.{Plain}
 use Rattle.script.specs.Asking.{parsed_line}
 use Rattle.script.specs.Runs.{Does, stopped}
 use Rattle.script.specs.Steps.{LineSoFar, DoesLine}
@@ -28,7 +29,7 @@ returns-in_err-do_line-in-Whole-clause-run g c =
     let w1 = (g.W.Sink.output c.do_line.new.writer).written in
     rw e (grown-broken c.args.octet c.args.self.now c.add.new.self c.octets.result.now s c.do_line.new.exchange fault w0 w1
     c.in-Whole.ensures.line c.add.ensures.short c.octets.ensures
-    (subst (λ (l : LineSoFar). DoesLine l.number (parsed_line c.octets.result.now) s (Err fault) c.do_line.new.exchange w0 w1) c.self-in-Whole.view_is
+    (subst (λ (l : LineSoFar). DoesLine l.number (parsed_line Plain c.octets.result.now) s (Err fault) c.do_line.new.exchange w0 w1) c.self-in-Whole.view_is
     c.in_err-do_line-in-Whole.ensures.run))
 
 pub returns-in_ok-do_line-in-Whole-clause-run : goal.returns-in_ok-do_line-in-Whole-clause-run
@@ -38,5 +39,5 @@ returns-in_ok-do_line-in-Whole-clause-run g c =
     let w1 = (g.W.Sink.output c.do_line.new.writer).written in
     rw c.begin_next.ensures (grown-done c.args.octet c.args.self.now c.add.new.self c.octets.result.now s c.do_line.new.exchange tt w0 w1
     c.in-Whole.ensures.line c.add.ensures.short c.octets.ensures
-    (subst (λ (l : LineSoFar). DoesLine l.number (parsed_line c.octets.result.now) s (Ok tt) c.do_line.new.exchange w0 w1) c.self-in-Whole.view_is
+    (subst (λ (l : LineSoFar). DoesLine l.number (parsed_line Plain c.octets.result.now) s (Ok tt) c.do_line.new.exchange w0 w1) c.self-in-Whole.view_is
     c.in_ok-do_line-in-Whole.ensures.run))

@@ -1,0 +1,95 @@
+-- What the program does with a file of settings, by what its document says.
+use Rattle.std.proofs.Common.{◌≡◌, ◌⊎◌, ℕ, List, Result, Ok, Err, refl, subst, inl, inr, codes}
+use Rattle.std.proofs.lemmas.Option.{none-some}
+use Rattle.std.specs.Str.{IsUtf8}
+use Rattle.settings_rows.specs.Configuration.{Configuration}
+use Rattle.settings_file.specs.Faults.{no_memory}
+use Rattle.settings_file.specs.Parsed.{AreNoDocument}
+use Rattle.settings_file.specs.Reading.{IsFirstFault}
+use Rattle.settings_file.specs.Sentences.{Explains, Names}
+use Rattle.settings_file.specs.declared.fault.SettingsFault.{SettingsFault}
+use Rattle.settings_file.specs.declared.fault.SettingsFault.TheVariants.{Text}
+use Rattle.settings_file.proofs.Readings.{none-parsed}
+use Rattle.script.specs.Streams.{Input, Output}
+use Rattle.program.specs.Explaining.{IsToldOf, IsFaultExplained}
+use Rattle.program.specs.Folders.{FileRead, IsFault}
+use Rattle.program.specs.Program.{Streams, streams, EndsWith, HasNoMemory, RunsScript, RunsFile, ChecksFile, HasSettings, EndsAtFile, ServesFile}
+use Rattle.program.specs.declared.folder.FileFault.TheVariants.{Unread, NoMemory}
+use Rattle.program.specs.declared.program.Status.{Status}
+use Rattle.program.specs.declared.program.Status.TheVariants.{Done}
+
+-- ---- faults
+
+pub file-fault : (octets : List ℕ) (fault : SettingsFault) → IsUtf8 octets → (fault ≡ no_memory) ⊎ IsFirstFault octets fault → IsFault octets fault
+file-fault octets fault utf8 (inl memory) = inl memory
+file-fault octets fault utf8 (inr first) = inr (inr (utf8, first))
+
+pub no-document : (octets : List ℕ) → AreNoDocument octets → IsFault octets Text
+no-document octets (inl not) = inr (inl (not, refl))
+no-document octets (inr none) = inr (inr (none.0, inl (none-parsed octets Text (refl, none.1))))
+
+pub names-explain : (file octets text : List ℕ) → Names file text → Explains file octets Text text
+names-explain file octets text names = record { names = names; key = λ k at utf8 toml. absurd (none-some k at) }
+
+pub told-explains : (file octets : List ℕ) (why : SettingsFault) (errors errors_new : Output)
+    → IsToldOf (IsFaultExplained file why) errors errors_new → IsToldOf (Explains file octets why) errors errors_new
+told-explains file octets why errors errors_new (inl (text, is, told)) =
+    inl (text, record { names = is.names; key = λ k at utf8 toml. is.key k at }, told)
+told-explains file octets why errors errors_new (inr kept) = inr kept
+
+-- ---- a document was found, and nothing was written or told before
+
+pub has-from : (file octets : List ℕ) (settings : Configuration) (mid old new : Output) → mid ≡ old
+    → HasSettings file (Ok octets) settings mid new → HasSettings file (Ok octets) settings old new
+has-from file octets settings mid old new e h = subst (λ (o : Output). HasSettings file (Ok octets) settings o new) e h
+
+pub ends-from : (file octets : List ℕ) (output_mid output output_new errors_mid errors errors_new : Output) (ended : Status) → output_mid ≡ output → errors_mid ≡ errors
+    → EndsAtFile file (Ok octets) output_mid output_new errors_mid errors_new ended → EndsAtFile file (Ok octets) output output_new errors errors_new ended
+ends-from file octets output_mid output output_new errors_mid errors errors_new ended w e h =
+    subst (λ (o : Output). EndsAtFile file (Ok octets) o output_new errors errors_new ended) w
+    (subst (λ (o : Output). EndsAtFile file (Ok octets) output_mid output_new o errors_new ended) e h)
+
+pub serves-from : (file octets : List ℕ) (output_mid output output_new errors_mid errors errors_new : Output) (ended : Status) → output_mid ≡ output → errors_mid ≡ errors
+    → ServesFile file (Ok octets) output_mid output_new errors_mid errors_new ended → ServesFile file (Ok octets) output output_new errors errors_new ended
+serves-from file octets output_mid output output_new errors_mid errors errors_new ended w e h =
+    subst (λ (o : Output). ServesFile file (Ok octets) o output_new errors errors_new ended) w
+    (subst (λ (o : Output). ServesFile file (Ok octets) output_mid output_new o errors_new ended) e h)
+
+-- ---- a file that has settings
+
+pub ran-file : (file : List ℕ) (read : FileRead) (settings : Configuration) (input : Input) (output output_mid errors warned : Output) (new : Streams) (ended : Status)
+    → HasSettings file read settings errors warned → output_mid ≡ output
+    → RunsScript settings (streams input output_mid warned) new ended ⊎ HasNoMemory (streams input output_mid warned) new ended
+    → RunsFile file read (streams input output errors) new ended
+ran-file file (Ok octets) settings input output output_mid errors warned new ended has same (inl ran) =
+    (warned, has.1, inl (settings, has.0, subst (λ (o : Output). RunsScript settings (streams input o warned) new ended) same ran))
+ran-file file (Ok octets) settings input output output_mid errors warned new ended has same (inr lacks) =
+    let told = subst (λ (o : Output). HasNoMemory (streams input o warned) new ended) same lacks in
+    (warned, has.1, inr (no_memory, inl refl, told.0, told.1, inr told.2))
+ran-file file (Err fault) settings input output output_mid errors warned new ended has same ran = absurd has
+
+pub checked-file : (file : List ℕ) (read : FileRead) (settings : Configuration) (output output_mid output_new errors warned : Output) (ended : Status)
+    → HasSettings file read settings errors warned → output_mid ≡ output → EndsWith Done (codes "ok\n") output_mid output_new ended
+    → ChecksFile file read output output_new errors warned ended
+checked-file file (Ok octets) settings output output_mid output_new errors warned ended has same ends =
+    (warned, has.1, inl (settings, has.0, subst (λ (o : Output). EndsWith Done (codes "ok\n") o output_new ended) same ends, refl))
+checked-file file (Err fault) settings output output_mid output_new errors warned ended has same ends = absurd has
+
+-- ---- a file that has none
+
+pub ends-run : (file : List ℕ) (read : FileRead) (input : Input) (output output_new errors errors_new : Output) (ended : Status)
+    → EndsAtFile file read output output_new errors errors_new ended → RunsFile file read (streams input output errors) (streams input output_new errors_new) ended
+ends-run file (Ok octets) input output output_new errors errors_new ended h = (h.3, h.4, inr (h.0, h.1, h.2, refl, h.5))
+ends-run file (Err (Unread why)) input output output_new errors errors_new ended h = (h.0, h.1, refl, h.2)
+ends-run file (Err NoMemory) input output output_new errors errors_new ended h = (h.0, refl, h.1)
+
+pub ends-check : (file : List ℕ) (read : FileRead) (output output_new errors errors_new : Output) (ended : Status)
+    → EndsAtFile file read output output_new errors errors_new ended → ChecksFile file read output output_new errors errors_new ended
+ends-check file (Ok octets) output output_new errors errors_new ended h = (h.3, h.4, inr (h.0, h.1, h.2, h.5))
+ends-check file (Err (Unread why)) output output_new errors errors_new ended h = h
+ends-check file (Err NoMemory) output output_new errors errors_new ended h = h
+
+pub ends-serve : (file : List ℕ) (read : FileRead) (output output_new errors errors_new : Output) (ended : Status)
+    → EndsAtFile file read output output_new errors errors_new ended → ServesFile file read output output_new errors errors_new ended
+ends-serve file (Ok octets) output output_new errors errors_new ended h = inr h
+ends-serve file (Err fault) output output_new errors errors_new ended h = h
