@@ -15,6 +15,9 @@ QUESTIONS = 6000
 HELP_LINES = 17
 ROUTE = f"route {FAR} to-{FAR} allowed"
 
+# What a web page may have a browser write to any port, but for the body.
+POST = "POST / HTTP/1.1\r\nHost: localhost\r\n\r\n"
+
 # Points and how they are written in three parts, of 3, 8 and 3 bits (Q.708): 4237 is 2 * 2048 + 17 * 8 + 5.
 IN_PARTS = {0: "0-000-0", 9: "0-001-1", 4237: "2-017-5", 16383: "7-255-7"}
 
@@ -49,6 +52,7 @@ class Callers(NodeTest):
         self.assertEqual(len(self.near.ask("help")), HELP_LINES)
         self.assertEqual(self.near.ask("# nothing\n"), [])
         caller = self.near.call()
+        self.assertEqual(caller.ask("show routes"), [ROUTE])
         caller.write("up e0\n")
         self.assertEqual(caller.read_line(), MALFORMED, "the network isn't a caller's")
         caller.write("title add 0 1 4 4917 0-000-2 ssn 6\n")
@@ -84,11 +88,26 @@ class Callers(NodeTest):
 
     def test_the_longest_line(self) -> None:
         first, second = self.near.call(), self.near.call()
+        self.assertEqual(first.ask("show routes"), [ROUTE])
         first.write("x" * LINE_OCTETS + "\n")
         self.assertEqual(first.read_line(), MALFORMED)
         second.write("x" * (LINE_OCTETS + 1))
         self.assertTrue(second.sees_end())
         self.assertEqual(first.ask("show routes"), [ROUTE])
+
+    def test_a_web_page_that_posts(self) -> None:
+        """The first line of a request is none of a caller's, so the connection is closed, and the lines behind it do
+        nothing. A caller may write a malformed line later on."""
+        page, caller = self.near.call(), self.near.call()
+        page.write(POST + "deactivate e1\nstop\n")
+        page.sees_end()
+        self.near.await_log("caller .* gone$")
+        self.assertEqual(caller.ask("show routes"), [ROUTE])
+        caller.write(POST.splitlines(keepends=True)[0])
+        self.assertEqual(caller.read_line(), MALFORMED)
+        self.assertEqual(caller.ask("show routes"), [ROUTE])
+        self.assertEqual([state for state, _ in self.near.links().values()], ["InService"] * 3)
+        self.assertEqual(self.near.logged("notice"), 0)
 
     def test_a_caller_that_never_reads(self) -> None:
         # What its sockets hold is less than the answers, which are some 7 MB.
@@ -135,6 +154,7 @@ class Points(NodeTest):
 
     def test_what_is_no_point(self) -> None:
         caller = self.near.call()
+        self.assertEqual(caller.ask("show titles"), [])
         for line in NO_POINTS:
             caller.write(line + "\n")
             self.assertEqual(caller.read_line(), MALFORMED, line)

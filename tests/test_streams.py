@@ -1,9 +1,13 @@
 """Sockets that fill, and streams that fail."""
 
+import contextlib
+import fcntl
 import os
+import re
 import signal
+import struct
 
-from harness import NodeTest, run
+from harness import NodeTest, run, wait_until
 from traffic import Pair
 
 MESSAGES = 200
@@ -11,12 +15,22 @@ MESSAGES = 200
 # A message of the longest kind, and as many as may be unconfirmed on a link: more octets than a socket takes.
 LONGEST_OCTETS, MANY, BURST = 272, 16_000, 1000
 
+# The octets of the smallest pipe, and callers whose lines in the log are more.
+PIPE_OCTETS, CALLERS = 4096, 200
+
+# Messages whose frames have more octets than a capture keeps for a slow reader, which are 1,048,576.
+CAPTURED = 6000
+
+# The headers of a pcap file and of its records, and the longest packet: a frame of 290 octets behind 28, and its padding.
+FILE_HEADER_OCTETS, RECORD_HEADER_OCTETS, LONGEST_PACKET = 24, 16, 320
+
 
 class FullSocket(NodeTest):
     LIMIT = 200
 
     def test_a_node_that_does_not_read(self) -> None:
-        """The socket takes a part of the messages, and the rest once the other node goes on."""
+        """The socket and the buffer in front of it take a part of the messages, and the rest once the other node goes on.
+        Frames count as gone out when they are taken into that buffer."""
         pair = Pair(self, links=1, window=16_384, pool=65_535, octets=LONGEST_OCTETS)
         pair.far.signal(signal.SIGSTOP)
         before, sent, written = pair.near.counters()["e0"]["frames_out"], 0, 0
@@ -31,6 +45,61 @@ class FullSocket(NodeTest):
         pair.await_service()
         self.assertEqual(pair.far.counters()["e0"]["delivered"], sent)
 
+
+class SlowReaders(NodeTest):
+    def test_a_log_that_nobody_reads(self) -> None:
+        """The node goes on; lines that the pipe doesn't take are dropped, and counted once it takes others."""
+        reader, writer = os.pipe()
+        fcntl.fcntl(writer, fcntl.F_SETPIPE_SZ, PIPE_OCTETS)
+        pair = Pair(self, near_streams={"stdout": writer, "stderr": writer})
+        os.close(writer)
+        with open(reader, "rb", buffering=0) as log:
+            for _ in range(CALLERS):
+                pair.near.call().close()
+                self.assertEqual(len(pair.near.ask("show links")), 3)
+            pair.exchange(MESSAGES)
+            os.set_blocking(reader, False)
+            text = b""
+
+            def is_missed() -> bool:
+                nonlocal text
+                pair.near.call().close()
+                pair.near.ask("show links")
+                with contextlib.suppress(BlockingIOError):
+                    text += log.read(1 << 16) or b""
+                return re.search(rb"^\d+\.\d+ missed \d+ lines$", text, re.MULTILINE) is not None
+
+            wait_until(is_missed, "the log tells how many lines were missed")
+            for line in text.splitlines():
+                self.assertRegex(line, rb"^\d+\.\d{3} [a-z]+")
+        pair.exchange(MESSAGES)
+
+    def test_a_capture_that_nobody_reads(self) -> None:
+        """The node goes on; frames for which there is no room are dropped whole, and counted once there is room."""
+        fifo = self.folder / "frames"
+        os.mkfifo(fifo)
+        reader = os.open(fifo, os.O_RDONLY | os.O_NONBLOCK)
+        self.addCleanup(os.close, reader)
+        pair = Pair(self, octets=LONGEST_OCTETS, pool=5000, near_capture=str(fifo))
+        for _ in range(CAPTURED // MESSAGES):
+            pair.forth.exchange(MESSAGES)
+        self.assertEqual(pair.near.logged("capture missed"), 0)
+        captured = bytearray()
+
+        def is_missed() -> bool:
+            with contextlib.suppress(BlockingIOError):
+                captured.extend(os.read(reader, 1 << 20))
+            pair.near.ask("show links")
+            return pair.near.logged(r"capture missed \d+ frames$") > 0
+
+        wait_until(is_missed, "the log tells how many frames were missed")
+        pair.forth.exchange(MESSAGES)
+        at = FILE_HEADER_OCTETS
+        while at + RECORD_HEADER_OCTETS <= len(captured):
+            octets, length = struct.unpack_from("<II", captured, at + 8)
+            self.assertEqual(octets, length, "each record is whole")
+            self.assertLessEqual(octets, LONGEST_PACKET)
+            at += RECORD_HEADER_OCTETS + octets
 
 class FailingStreams(NodeTest):
     def setUp(self) -> None:

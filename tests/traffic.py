@@ -74,10 +74,12 @@ class Pair:
     """Two nodes with three links: the near one listens, and the far one connects, by a proxy or without one."""
 
     def __init__(self, test: NodeTest, *, links: int = 3, beside: Sequence[Link] = (), by_proxy: bool = False,
-                 octets: int = 8, near_streams: dict | None = None, **more: Any) -> None:
+                 octets: int = 8, near_streams: dict | None = None, near_capture: str | None = None,
+                 **more: Any) -> None:
         ports = [free_port() for _ in range(links)]
         self.names = [f"e{number}" for number in range(links)]
-        self.near = test.node(NEAR, [*links_between(ports, FAR, True), *beside], **more)
+        near_more = more if near_capture is None else {**more, "capture": near_capture}
+        self.near = test.node(NEAR, [*links_between(ports, FAR, True), *beside], **near_more)
         if by_proxy:
             self.proxy = Proxy(ports)
             test.addCleanup(self.proxy.close)

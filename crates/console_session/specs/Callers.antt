@@ -5,9 +5,11 @@ use Rattle.console_session.specs.Answers.{Waiting}
 use Rattle.console_session.specs.declared.caller.News.{News}
 use Rattle.console_session.specs.declared.caller.News.TheVariants.{Message, Notice, Frame}
 
--- the octets of its line that isn't whole yet, what waits to be written to it, and what it asked to be told
+-- the octets of its line that isn't whole yet, whether that is its first one, what waits to be written to it, and what
+-- it asked to be told
 pub record CallerState : Type 0 where
   pub line : List ℕ
+  pub is_first : Bool
   pub outbox : Waiting
   pub sees_messages : Bool
   pub sees_notices : Bool
@@ -17,6 +19,7 @@ pub record CallerState : Type 0 where
 abbrev pub just_came : CallerState
 just_came = record {
   line = [];
+  is_first = true;
   outbox = record { octets = []; failures = 0 };
   sees_messages = false;
   sees_notices = false;
@@ -34,6 +37,10 @@ abbrev pub told_of : CallerState → News → CallerState
 told_of caller Message = record caller { sees_messages = true }
 told_of caller Notice = record caller { sees_notices = true }
 told_of caller Frame = record caller { sees_frames = true }
+
+-- its next line isn't its first
+abbrev pub begun : CallerState → CallerState
+begun caller = record caller { is_first = false }
 
 -- nothing of it changes but what waits for it
 abbrev pub OnlyOutboxChanges : (old new : CallerState) → Type 0

@@ -1,5 +1,5 @@
 -- What a whole line of a caller does.
-use Rattle.std.specs.Prelude.{◌≡◌, ℕ, List, ◌++◌, take, Some, Result, Ok, Err}
+use Rattle.std.specs.Prelude.{◌≡◌, ℕ, ◌⊎◌, Bool, true, false, List, ◌++◌, take, Some, Result, Ok, Err}
 use Rattle.exchange.specs.Stands.{Kept}
 use Rattle.script.specs.Asking.{Asked}
 use Rattle.script.specs.Streams.{Output, counted}
@@ -7,7 +7,7 @@ use Rattle.script.specs.declared.sink.WriteFailed.{WriteFailed}
 use Rattle.console_session.specs.Lines.{Heard, heard, HearsNothing, HearsScript, HearsCounters, HearsHelp, HearsUsers}
 use Rattle.console_session.specs.Lines.{HearsNotices, HearsFrames, HearsStop, HearsNoLine}
 use Rattle.console_session.specs.Answers.{Waiting, IsAnswered}
-use Rattle.console_session.specs.Callers.{CallerState, OnlyOutboxChanges, told_of}
+use Rattle.console_session.specs.Callers.{CallerState, begun, OnlyOutboxChanges, told_of}
 use Rattle.console_session.specs.Counters.{counters_text}
 use Rattle.console_session.specs.declared.help.TheConstants.{HELP}
 use Rattle.console_session.specs.declared.caller.TheConstants.{MALFORMED, WATCHING, STOPPING}
@@ -58,25 +58,41 @@ IsShown text Stays old new = new ≡ answered old text
 IsShown text Closes old new = (count : ℕ) × (new ≡ unanswered (answered old (take count text)))
 IsShown text Stops old new = ⊥
 
+-- A line that isn't one of a caller's has one text for its answer. Then the caller stays; if it was its first line, it
+-- is to be closed.
+abbrev pub IsRefused : (is_first : Bool) → Ending → (old new : CallerState) → Type 0
+IsRefused is_first Stays old new = (is_first ≡ false) × (new ≡ answered old MALFORMED.now)
+IsRefused is_first Closes old new =
+    (new ≡ unanswered old) ⊎ ((is_first ≡ true) × (new ≡ answered old MALFORMED.now))
+IsRefused is_first Stops old new = ⊥
+
 -- What a line does to the node and to its caller, and what becomes of the caller. Only a line of a script changes the
 -- node, and only `stop` asks it to stop.
-abbrev pub DoesHeard : Heard → List LinkCounters → Ending → (s after : Kept) → (old new : CallerState) → Type 0
-DoesHeard HearsNothing rows ending s after old new = (ending ≡ Stays) × (after ≡ s) × (new ≡ old)
-DoesHeard (HearsScript asked) rows ending s after old new =
+abbrev pub DoesHeard :
+    Heard → (is_first : Bool) → List LinkCounters → Ending → (s after : Kept) → (old new : CallerState) → Type 0
+DoesHeard HearsNothing is_first rows ending s after old new = (ending ≡ Stays) × (after ≡ s) × (new ≡ old)
+DoesHeard (HearsScript asked) is_first rows ending s after old new =
     IsDone asked ending s after old.outbox new.outbox × OnlyOutboxChanges old new
-DoesHeard HearsCounters rows ending s after old new = (after ≡ s) × IsShown (counters_text s rows) ending old new
-DoesHeard HearsHelp rows ending s after old new = (after ≡ s) × IsTold HELP.now Stays ending old new
-DoesHeard HearsUsers rows ending s after old new =
+DoesHeard HearsCounters is_first rows ending s after old new =
+    (after ≡ s) × IsShown (counters_text s rows) ending old new
+DoesHeard HearsHelp is_first rows ending s after old new = (after ≡ s) × IsTold HELP.now Stays ending old new
+DoesHeard HearsUsers is_first rows ending s after old new =
     (after ≡ s) × IsTold WATCHING.now Stays ending (told_of old Message) new
-DoesHeard HearsNotices rows ending s after old new =
+DoesHeard HearsNotices is_first rows ending s after old new =
     (after ≡ s) × IsTold WATCHING.now Stays ending (told_of old Notice) new
-DoesHeard HearsFrames rows ending s after old new =
+DoesHeard HearsFrames is_first rows ending s after old new =
     (after ≡ s) × IsTold WATCHING.now Stays ending (told_of old Frame) new
-DoesHeard HearsStop rows ending s after old new = (after ≡ s) × IsTold STOPPING.now Stops ending old new
-DoesHeard HearsNoLine rows ending s after old new = (after ≡ s) × IsTold MALFORMED.now Stays ending old new
+DoesHeard HearsStop is_first rows ending s after old new = (after ≡ s) × IsTold STOPPING.now Stops ending old new
+DoesHeard HearsNoLine is_first rows ending s after old new = (after ≡ s) × IsRefused is_first ending old new
 
--- what a line of a caller does, with points in this format
+-- what a line of a caller does that is its first or isn't, with points in this format
+abbrev pub DoesLineAt : PointFormat → (is_first : Bool) → List ℕ → List LinkCounters → Ending → (s after : Kept)
+    → (old new : CallerState) → Type 0
+DoesLineAt points is_first line rows ending s after old new =
+    DoesHeard (heard points line) is_first rows ending s after old new
+
+-- what a line of a caller does. Behind it no line is the caller's first
 abbrev pub DoesLine :
     PointFormat → List ℕ → List LinkCounters → Ending → (s after : Kept) → (old new : CallerState) → Type 0
 DoesLine points line rows ending s after old new =
-    DoesHeard (heard points line) rows ending s after old new
+    DoesLineAt points old.is_first line rows ending s after (begun old) new

@@ -6,11 +6,11 @@ ghost use Rattle.script.specs.Asking.{asked_line};
 ghost use Rattle.console_session.specs.Answers.{IsAnswered};
 ghost use Rattle.console_session.specs.Callers.{just_came, sees_of, told_of, OnlyOutboxChanges};
 ghost use Rattle.console_session.specs.Callers.{line_feed, without_return, EndsNoLine, IsOneLine};
-ghost use Rattle.console_session.specs.WholeLines.{DoesLine, IsAnsweredBy, ending_of, output_of};
+ghost use Rattle.console_session.specs.WholeLines.{DoesLine, DoesLineAt, IsAnsweredBy, ending_of, output_of};
 ghost use Rattle.console_session.specs.declared.outbox.TheConstants.{OUTBOX_OCTETS};
 
 use crate::answering::do_script_line;
-use crate::command::{ConsoleLine, parse_console_line};
+use crate::command::{ConsoleLine, parse_console_line, without_return};
 use crate::counting::print_counters;
 use crate::help::HELP;
 use crate::outbox::Outbox;
@@ -24,9 +24,6 @@ use std::mem;
 
 /// Octets of a line of a caller, at most, without the line feed that ends it: as many as in a script.
 pub const LINE_OCTETS: usize = 8300;
-
-/// What may stand in front of the line feed.
-const CARRIAGE_RETURN: u8 = b'\r';
 
 /// The answer to a line that isn't one of a caller's.
 const MALFORMED: &[u8] = b"malformed: help lists the lines\n";
@@ -53,7 +50,7 @@ pub enum News {
 pub enum Ending {
     /// Its connection stays open.
     Stays,
-    /// Its connection is to be closed: a line was too long, or there was no room for what it is told.
+    /// Its connection is to be closed: a line was too long or its first line malformed, or what it is told had no room.
     Closes,
     /// It asked the node to stop.
     Stops,
@@ -71,9 +68,12 @@ pub struct Desk<'a> {
 }
 
 /// A caller of the console: the line that it is writing, what waits to be written to it, and what it is told.
+///
+/// One whose first line is malformed is closed, so a web page that posts to the console's port does nothing.
 #[derive(Drop)]
 pub struct Caller {
     line: OpenLine,
+    is_first: bool,
     outbox: Outbox,
     sees_messages: bool,
     sees_notices: bool,
@@ -87,6 +87,7 @@ impl Model for Caller {
 
     ghost view = { λ c. record {
       line = c.line.octets;
+      is_first = c.is_first;
       outbox = c.outbox;
       sees_messages = c.sees_messages;
       sees_notices = c.sees_notices;
@@ -101,6 +102,7 @@ impl Caller {
     {
         Caller {
             line: OpenLine::first(),
+            is_first: true,
             outbox: Outbox::new(alloc),
             sees_messages: false,
             sees_notices: false,
@@ -156,17 +158,23 @@ impl Caller {
             (record self.old { line = [] }) self.new }
     {
         let line = mem::replace(&mut self.line, OpenLine::first());
-        match self.do_line(without_return(line.octets()), desk) {
+        let is_first = mem::replace(&mut self.is_first, false);
+        match self.do_line(without_return(line.octets()), is_first, desk) {
             Ok(ending) => ending,
             Err(WriteFailed) => Ending::Closes,
         }
     }
 
-    /// Does a whole line. The error means that there is no room for its answer.
-    fn do_line(&mut self, line: &[u8], desk: &mut Desk<'_>) -> Result<Ending, WriteFailed>
+    /// Does a whole line, the caller's first one or a later one. The error means that there is no room for its answer.
+    fn do_line(
+        &mut self,
+        line: &[u8],
+        is_first: bool,
+        desk: &mut Desk<'_>,
+    ) -> Result<Ending, WriteFailed>
         ensures points { desk.new.points ≡ desk.old.points }
         ensures counters { desk.new.counters.now ≡ desk.old.counters.now }
-        ensures done { DoesLine desk.old.points line.now desk.old.counters.now
+        ensures done { DoesLineAt desk.old.points is_first line.now desk.old.counters.now
             (ending_of result) desk.old.exchange.now desk.new.exchange.now self.old self.new }
     {
         match parse_console_line(line, desk.points) {
@@ -183,7 +191,12 @@ impl Caller {
                 self.answer(STOPPING)?;
                 return Ok(Ending::Stops);
             }
-            Err(Malformed) => self.answer(MALFORMED)?,
+            Err(Malformed) => {
+                self.answer(MALFORMED)?;
+                if is_first {
+                    return Ok(Ending::Closes);
+                }
+            }
         }
         Ok(Ending::Stays)
     }
@@ -265,15 +278,5 @@ impl Caller {
     {
         let waiting = self.outbox.pending().len();
         self.outbox.written(count.min(waiting));
-    }
-}
-
-/// A line without the carriage return at its end, where it has one.
-fn without_return(line: &[u8]) -> &[u8]
-    ensures { result.now ≡ without_return line.now }
-{
-    match line {
-        [front @ .., CARRIAGE_RETURN] => front,
-        _ => line,
     }
 }

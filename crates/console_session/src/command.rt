@@ -2,10 +2,14 @@
 
 ghost use Rattle.std.specs.Prelude.{◌≡◌};
 ghost use Rattle.console_session.specs.Lines.{heard, heard_of, own_line, own_line_of, is_for_callers};
+ghost use Rattle.console_session.specs.Callers.{without_return};
 ghost use Rattle.script.specs.Asking.{asked_line};
 
 use point_format::PointFormat;
 use script::{Line, Malformed, parse_line};
+
+/// What may stand in front of the line feed.
+const CARRIAGE_RETURN: u8 = b'\r';
 
 /// What a line of a caller asks for.
 #[derive(Drop)]
@@ -76,5 +80,15 @@ fn is_for_callers(line: &Line<'_>) -> bool
         | Line::Tick { .. }
         | Line::Take { .. }
         | Line::Wants { .. } => false,
+    }
+}
+
+/// A line without the carriage return at its end, where it has one.
+pub(crate) fn without_return(line: &[u8]) -> &[u8]
+    ensures { result.now ≡ without_return line.now }
+{
+    match line {
+        [front @ .., CARRIAGE_RETURN] => front,
+        _ => line,
     }
 }

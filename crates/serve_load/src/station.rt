@@ -1,24 +1,17 @@
 //! One node: what came to it, and what it submits to the other point.
 
+use crate::FRONT_OCTETS;
 use crate::arrivals::Arrivals;
+use crate::opening::{RECEIVER, SENDER};
 use exchange::{Event, Label, LinkStanding};
 use script::{Sink, WriteFailed};
 use serve_settings::ServeSettings;
-use settings::{LinkId, MsuRef, Outcome, PointCode, Settings, Sls};
+use settings::{Limits, LinkId, MsuRef, Outcome, PointCode, Settings, Sls};
 use std::io;
 use std::marker::Model;
 use std::time::Duration;
 use stp_server::{Places, Server};
 use trace::PointFormat;
-
-/// Links between the two nodes.
-const LINKS: u8 = 3;
-
-/// Octets of the signalling information field of a message.
-const FIELD_OCTETS: usize = 100;
-
-/// Octets of its front: a label and a number.
-const FRONT_OCTETS: usize = 8;
 
 /// The service information octet of the ISDN user part in the international network (Q.704 §14.2).
 const ISUP: u8 = 0x85;
@@ -41,6 +34,8 @@ impl Sink for Unlogged {
 #[derive(Drop)]
 pub(crate) struct Station {
     server: Server,
+    field: [u8; Limits::SIF_OCTETS],
+    octets: usize,
     /// What came.
     pub(crate) arrivals: Arrivals,
     /// How many messages its node took.
@@ -55,11 +50,12 @@ impl Model for Station {
 }
 
 impl Station {
-    /// A node with these settings. None where a socket or memory can't be had.
+    /// A node with these settings, whose messages have so many octets. None where a socket or memory can't be had.
     pub(crate) fn open(
         rt: &HostRuntime,
         settings: Settings,
         serve: &ServeSettings,
+        octets: usize,
     ) -> Option<Station> {
         let places = Places {
             links: serve.links(),
@@ -69,6 +65,8 @@ impl Station {
         let server = Server::open(rt, rt.alloc(), settings, places, &mut Unlogged).ok()?;
         Some(Station {
             server,
+            field: [0; Limits::SIF_OCTETS],
+            octets,
             arrivals: Arrivals::new(),
             taken: 0,
         })
@@ -81,13 +79,14 @@ impl Station {
 
     /// Submits the next message. False where the node doesn't take it.
     pub(crate) fn submit(&mut self, now: Duration) -> bool {
-        let Some(field) = field_of(self.taken) else {
+        let Some(front) = front_of(self.taken) else {
             return false;
         };
-        let message = MsuRef {
-            sio: ISUP,
-            sif: &field,
+        self.field[..FRONT_OCTETS].copy_from_slice(&front);
+        let Some(sif) = self.field.get(..self.octets) else {
+            return false;
         };
+        let message = MsuRef { sio: ISUP, sif };
         let outcome = self
             .server
             .step(&Event::Submit(message), now, &mut Unlogged);
@@ -111,32 +110,45 @@ impl Station {
 
     /// Whether each link is in service, and no message waits on any.
     pub(crate) fn is_at_rest(&self) -> bool {
-        (0..LINKS).all(|link| match self.server.exchange().link(LinkId::new(link)) {
-            Some(view) => view.standing == LinkStanding::InService && view.waiting == 0,
-            None => false,
-        })
+        let mut are_at_rest = true;
+        for link in 0..self.links() {
+            are_at_rest = are_at_rest
+                && match self.server.exchange().link(LinkId::new(link)) {
+                    Some(view) => view.standing == LinkStanding::InService && view.waiting == 0,
+                    None => false,
+                };
+        }
+        are_at_rest
+    }
+
+    /// How many links its node has.
+    fn links(&self) -> u8 {
+        u8::try_from(self.server.exchange().settings().link_count()).unwrap_or(u8::MAX)
     }
 
     /// Whether no link is in service.
     pub(crate) fn is_cut_off(&self) -> bool {
-        (0..LINKS).all(|link| match self.server.exchange().link(LinkId::new(link)) {
-            Some(view) => view.standing != LinkStanding::InService,
-            None => true,
-        })
+        let mut are_cut_off = true;
+        for link in 0..self.links() {
+            are_cut_off = are_cut_off
+                && match self.server.exchange().link(LinkId::new(link)) {
+                    Some(view) => view.standing != LinkStanding::InService,
+                    None => true,
+                };
+        }
+        are_cut_off
     }
 }
 
-/// The signalling information field of the message from point 1 to point 2 behind so many others: one of each flow in
-/// turn, with its number in the flow.
-fn field_of(others: u32) -> Option<[u8; FIELD_OCTETS]> {
+/// The front of the signalling information field of the message behind so many others: one of each flow in turn, with
+/// its number in the flow.
+fn front_of(others: u32) -> Option<[u8; FRONT_OCTETS]> {
     let label = Label {
-        dpc: PointCode::new(2)?,
-        opc: PointCode::new(1)?,
+        dpc: PointCode::new(u16::from(RECEIVER))?,
+        opc: PointCode::new(u16::from(SENDER))?,
         sls: Sls::new((others % 16) as u8)?,
     };
     let [l0, l1, l2, l3] = label.write();
     let [n3, n2, n1, n0] = (others / 16).to_be_bytes();
-    let mut field = [0; FIELD_OCTETS];
-    field[..FRONT_OCTETS].copy_from_slice(&[l0, l1, l2, l3, n3, n2, n1, n0]);
-    Some(field)
+    Some([l0, l1, l2, l3, n3, n2, n1, n0])
 }

@@ -1,5 +1,5 @@
 -- What is read and taken is that of the abstract exchange.
-use Rattle.std.proofs.Common.{◌≡◌, ◌∙◌, ℕ, Bool, true, false, List, [], ◌∷◌, Option, refl, sym, ap, subst, if◌then◌else◌}
+use Rattle.std.proofs.Common.{◌≡◌, ◌∙◌, ℕ, Bool, true, false, List, [], ◌∷◌, ◌++◌, Option, refl, sym, ap, subst, if◌then◌else◌}
 use Rattle.std.specs.Prelude.{Result}
 use Rattle.std.specs.Option.{option_map}
 use Rattle.signalling_types.specs.declared.outcome.Outcome.{Outcome}
@@ -12,7 +12,7 @@ use Rattle.exchange.specs.KeptQueues.{kept}
 use Rattle.exchange.specs.Stands.{Kept, StandsFor}
 use Rattle.exchange.proofs.Standing.{stands-after, stands-outcome, stands-frame, stands-taken}
 use Rattle.served_link.specs.Watching.{Sight, CameIn, SeesEach}
-use Rattle.served_link.specs.Connections.{Connection, Outgoing, text_to_take, after_fill, filled, is_pending}
+use Rattle.served_link.specs.Connections.{text_to_take, has_room, TakesEach, after_last, Fills}
 use Rattle.served_link.specs.Reading.{after_texts, sights_of, Reads}
 use Rattle.served_link.specs.declared.association.Broken.{Broken}
 
@@ -48,7 +48,7 @@ reads-stands sees link octets answer held held_new k t a w x s r = record {
   };
 }
 
--- ---- a frame that is taken
+-- ---- frames that are taken
 
 stands-text : (link : ℕ) (k : Kept) (a : Abstract) → StandsFor k a → text_to_take kept k link ≡ text_to_take whole a link
 stands-text link k a s = ap (λ (f : Option FrameValue). option_map spelled f) (stands-frame link k a s)
@@ -57,12 +57,37 @@ either-stands : (b : Bool) (k t : Kept) (a c : Abstract) → StandsFor k a → S
 either-stands true k t a c s r = s
 either-stands false k t a c s r = r
 
-pub filled-stands : (old new : Connection) (k : Kept) (a : Abstract) → new ≡ record old { outgoing = filled old.outgoing (text_to_take kept k old.link) } → StandsFor k a
-    → new ≡ record old { outgoing = filled old.outgoing (text_to_take whole a old.link) }
-filled-stands old new k a e s =
-    e ∙ (λ i. record { link = old.link; is_up = old.is_up; held = old.held; outgoing = filled old.outgoing (stands-text old.link k a s i) })
+record TakesAbstract (link : ℕ) (frames : List (List ℕ)) (pending next : List ℕ) (t : Kept) (a : Abstract) : Type 0 where
+  after : Abstract
+  stands : StandsFor t after
+  each : TakesEach whole link frames pending next a after
 
-pub fill-stands : (o : Outgoing) (link : ℕ) (k t : Kept) (a : Abstract) → t ≡ after_fill kept o link k → StandsFor k a → StandsFor t (after_fill whole o link a)
-fill-stands o link k t a e s =
-    subst (λ (u : Kept). StandsFor u (after_fill whole o link a)) (sym e)
-    (either-stands (is_pending o) k (taken kept k link) a (taken whole a link) s (stands-taken link k a s))
+takes-stands : (link : ℕ) (frames : List (List ℕ)) (pending next : List ℕ) (k t : Kept) (a : Abstract) → StandsFor k a → TakesEach kept link frames pending next k t
+    → TakesAbstract link frames pending next t a
+takes-stands link [] pending next k t a s h = record { after = a; stands = subst (λ (u : Kept). StandsFor u a) (sym h.1) s; each = (h.0, refl) }
+takes-stands link (frame ∷ frames) pending next k t a s h =
+    let r = takes-stands link frames (pending ++ frame) next (taken kept k link) t (taken whole a link) (stands-taken link k a s) h.2 in
+    record { after = r.after; stands = r.stands; each = (h.0, sym (stands-text link k a s) ∙ h.1, r.each) }
+
+pub record FillsAbstract {W : Type 0} (sees : W → Sight → W → Type 0) (link : ℕ) (pending next : List ℕ) (t : Kept) (a : Abstract) (w x : W) : Type 0 where
+  pub after : Abstract
+  pub stands : StandsFor t after
+  pub fills : Fills sees whole link pending next a after w x
+
+pub fills-stands : {W : Type 0} (sees : W → Sight → W → Type 0) (link : ℕ) (pending next : List ℕ) (k t : Kept) (a : Abstract) (w x : W) → StandsFor k a
+    → Fills sees kept link pending next k t w x → FillsAbstract sees link pending next t a w x
+fills-stands sees link pending next k t a w x s f =
+    let r = takes-stands link f.takes.frames pending next k f.last a s f.takes.each in
+    let c = r.after in
+    record {
+      after = after_last whole link next c;
+      stands =
+          subst (λ (u : Kept). StandsFor u (after_last whole link next c)) (sym f.state)
+          (either-stands (has_room next) (taken kept f.last link) f.last (taken whole c link) c (stands-taken link f.last c r.stands) r.stands);
+      fills = record {
+        last = c;
+        takes = record { frames = f.takes.frames; each = r.each; seen = f.takes.seen };
+        all = λ room. sym (stands-text link f.last c r.stands) ∙ f.all room;
+        state = refl;
+      };
+    }

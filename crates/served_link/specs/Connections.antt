@@ -1,20 +1,17 @@
 -- One connection of a link: whether the association is up over it, and what it holds of the octets that came and of
--- the frame that goes out.
-use Rattle.std.specs.Prelude.{ℕ, Bool, true, false, ◌&&◌, List, [], ◌∷◌, ◌++◌, length, take, drop, nat_lt, nat_le}
+-- those that go out.
+use Rattle.std.specs.Prelude.{◌≡◌, ℕ, ◌-◌, Bool, true, false, List, [], ◌∷◌, ◌++◌, length, map, nat_lt, nat_le}
 use Rattle.std.specs.Prelude.{Option, Some, None, if◌then◌else◌}
 use Rattle.std.specs.Option.{option_map}
 use Rattle.signalling_types.specs.declared.outcome.Outcome.{Outcome}
 use Rattle.signalling_types.specs.declared.outcome.Outcome.TheVariants.{Queued, Held, Local, Handled, Ignored, Refused}
 use Rattle.m2pa_codec.specs.Frames.{spelled}
+use Rattle.exchange.specs.declared.frame_text.TheConstants.{LONGEST_FRAME}
 use Rattle.exchange_rules.specs.State.{QueueKind, State}
 use Rattle.exchange_rules.specs.Happening.{CameUp, WentDown}
 use Rattle.exchange_rules.specs.Exchange.{outcome_of, after, frame_to_take, taken}
-use Rattle.served_link.specs.Watching.{Sight, WentOut}
-
--- a frame that was taken: its octets that are written, and those that aren't yet. Both are none between two frames
-pub record Outgoing : Type 0 where
-  pub written : List ℕ
-  pub pending : List ℕ
+use Rattle.served_link.specs.Watching.{Sight, WentOut, SeesEach}
+use Rattle.served_link.specs.declared.outgoing.TheConstants.{OUTPUT_OCTETS}
 
 pub record Connection : Type 0 where
   pub link : ℕ
@@ -22,26 +19,12 @@ pub record Connection : Type 0 where
   pub is_up : Bool
   -- the octets that came and aren't handed in yet
   pub held : List ℕ
-  pub outgoing : Outgoing
-
--- no frame is going out
-abbrev pub nothing : Outgoing
-nothing = record { written = []; pending = [] }
-
--- a frame is going out, and none of it is written yet
-abbrev pub begun : List ℕ → Outgoing
-begun frame = record { written = []; pending = frame }
+  -- the octets of the frames that were taken, one after another, but for those that are written
+  pub pending : List ℕ
 
 -- a new connection, over which the association isn't up yet
 abbrev pub silent : ℕ → Connection
-silent link = record { link = link; is_up = false; held = []; outgoing = nothing }
-
-abbrev pub frame_in : Outgoing → List ℕ
-frame_in o = o.written ++ o.pending
-
--- octets of the frame are left to write
-abbrev pub is_pending : Outgoing → Bool
-is_pending o = nat_lt 0 (length o.pending)
+silent link = record { link = link; is_up = false; held = []; pending = [] }
 
 -- ---- the association comes up over a connection, and goes down with it
 
@@ -71,30 +54,43 @@ after_fall q c s = if c.is_up then after q (WentDown c.link) s else s
 abbrev pub text_to_take : {Q : Type 0} → QueueKind Q → State Q → (link : ℕ) → Option (List ℕ)
 text_to_take q s link = option_map spelled (frame_to_take q s link)
 
--- the frame that is going out, where that one is offered
-abbrev pub begun_with : Option (List ℕ) → Outgoing
-begun_with None = nothing
-begun_with (Some frame) = begun frame
+-- octets are left to write
+abbrev pub is_pending : List ℕ → Bool
+is_pending pending = nat_lt 0 (length pending)
 
--- while octets of a frame are left, nothing is taken
-abbrev pub filled : Outgoing → Option (List ℕ) → Outgoing
-filled o offered = if is_pending o then o else begun_with offered
+-- the longest frame finds room behind those that aren't written
+abbrev pub has_room : (pending : List ℕ) → Bool
+has_room pending = nat_le (length pending) (OUTPUT_OCTETS - LONGEST_FRAME)
 
-abbrev pub after_fill : {Q : Type 0} → QueueKind Q → Outgoing → (link : ℕ) → State Q → State Q
-after_fill q o link s = if is_pending o then s else taken q s link
+-- These frames were taken of a link, one after another, each while the longest would have found room: each was the next
+-- of the link, and its octets stand behind those before.
+abbrev pub TakesEach : {Q : Type 0} → QueueKind Q → (link : ℕ) → (frames : List (List ℕ))
+    → (pending pending_new : List ℕ) → (s s_new : State Q) → Type 0
+TakesEach q link [] pending pending_new s s_new = (pending_new ≡ pending) × (s_new ≡ s)
+TakesEach q link (frame ∷ frames) pending pending_new s s_new =
+    (has_room pending ≡ true) × (text_to_take q s link ≡ Some frame)
+    × TakesEach q link frames (pending ++ frame) pending_new (taken q s link) s_new
 
--- ---- octets that are written
+-- what is seen of it: each frame
+abbrev pub sights_of_frames : (link : ℕ) → List (List ℕ) → List Sight
+sights_of_frames link frames = map (WentOut link) frames
 
--- so many octets complete the frame
-abbrev pub completes : Outgoing → (count : ℕ) → Bool
-completes o count = is_pending o && nat_le (length o.pending) count
+-- frames were taken, and the watch saw them
+pub record Takes {W Q : Type 0} (sees : W → Sight → W → Type 0) (q : QueueKind Q) (link : ℕ)
+    (pending pending_new : List ℕ) (s s_new : State Q) (w w_new : W) : Type 0 where
+  pub frames : List (List ℕ)
+  pub each : TakesEach q link frames pending pending_new s s_new
+  pub seen : SeesEach sees (sights_of_frames link frames) w w_new
 
-abbrev pub after_write : Outgoing → (count : ℕ) → Outgoing
-after_write o count =
-    if completes o count
-    then nothing
-    else record { written = o.written ++ take count o.pending; pending = drop count o.pending }
+-- a take that gives nothing ends it, unless there is no more room
+abbrev pub after_last : {Q : Type 0} → QueueKind Q → (link : ℕ) → (pending : List ℕ) → State Q → State Q
+after_last q link pending s = if has_room pending then taken q s link else s
 
--- what is seen of it: the whole frame, once it is complete
-abbrev pub sights_of_write : (link : ℕ) → Outgoing → (count : ℕ) → List Sight
-sights_of_write link o count = if completes o count then WentOut link (frame_in o) ∷ [] else []
+-- Frames were taken and seen until there was no more room, or the link had no further one.
+pub record Fills {W Q : Type 0} (sees : W → Sight → W → Type 0) (q : QueueKind Q) (link : ℕ)
+    (pending pending_new : List ℕ) (s s_new : State Q) (w w_new : W) : Type 0 where
+  -- the state after the last of them
+  pub last : State Q
+  pub takes : Takes sees q link pending pending_new s last w w_new
+  pub all : has_room pending_new ≡ true → text_to_take q last link ≡ None
+  pub state : s_new ≡ after_last q link pending_new last

@@ -1,12 +1,11 @@
--- What an association keeps, and how.
-use Rattle.std.specs.Prelude.{◌≤◌, length, take, slice_range}
-use Rattle.served_link.specs.declared.outgoing.Outgoing.TheInside.{Inside}
-use Rattle.served_link.specs.Connections.{Outgoing}
+-- What an association keeps of the octets that go out.
+use Rattle.std.specs.Prelude.{ℕ, ◌-◌, List, slice_range}
+use Rattle.served_link.specs.declared.outgoing.Outgoing.{Outgoing}
+use Rattle.served_link.specs.declared.outgoing.TheConstants.{OUTPUT_OCTETS}
 
--- the octets in front of the buffer are the frame
-abbrev pub outgoing_in : Inside → Outgoing
-outgoing_in o = record { written = take o.written o.buffer; pending = slice_range o.buffer o.written o.end }
+abbrev pub pending_in : Outgoing → List ℕ
+pending_in o = slice_range o.buffer o.start o.end
 
-pub record IsWithin (o : Inside) : Type 0 where
-  pub ordered : o.written ≤ o.end
-  pub within : o.end ≤ length o.buffer
+-- how much room there is behind them
+abbrev pub room_behind : Outgoing → ℕ
+room_behind o = OUTPUT_OCTETS - o.end

@@ -1,6 +1,6 @@
 //! One connection of a link.
 
-ghost use Rattle.std.specs.Prelude.{◌≡◌, ◌≤◌, ◌<◌, false, true, length};
+ghost use Rattle.std.specs.Prelude.{◌≡◌, ◌≤◌, ◌<◌, false, true, length, drop};
 ghost use Rattle.exchange.specs.KeptQueues.{kept};
 ghost use Rattle.exchange.specs.Stands.{StandsFor};
 ghost use Rattle.exchange_rules.specs.Queues.{whole};
@@ -8,16 +8,15 @@ ghost use Rattle.exchange_rules.specs.Sound.{Abstract};
 ghost use Rattle.exchange_rules.specs.Exchange.{outcome_of, after};
 ghost use Rattle.exchange_rules.specs.Happening.{CameUp};
 ghost use Rattle.served_link.specs.Connections.{silent, is_handled, risen, after_rise, after_fall};
-ghost use Rattle.served_link.specs.Connections.{text_to_take, is_pending, filled, after_fill};
-ghost use Rattle.served_link.specs.Connections.{after_write, sights_of_write};
-ghost use Rattle.served_link.specs.Watching.{SeesEach};
+ghost use Rattle.served_link.specs.Connections.{is_pending, Fills};
 ghost use Rattle.served_link.specs.Reading.{Reads};
 
+use crate::filling::fill_all;
 use crate::outgoing::Outgoing;
 use crate::reading::read_all;
 use crate::watch::Watch;
 use exchange::{Event, Exchange, Framer};
-use settings::{LinkId, Outcome};
+use settings::{Limits, LinkId, Outcome};
 use std::marker::Model;
 
 /// The octets that came begin, where a frame is due, with a length field that no frame has: under 8, or above 4,096.
@@ -25,10 +24,11 @@ use std::marker::Model;
 pub struct Broken;
 
 /// One connection of a link: whether the link's association is up over it, the octets that came and aren't a whole
-/// frame yet, and the frame that is being written.
+/// frame yet, and the frames that were taken and aren't written yet, in a buffer of 65,536 octets.
 ///
-/// It begins when the connection is there, and ends with it: octets that are held then, and the rest of a frame that
-/// isn't written whole, are gone. It allocates no memory.
+/// It begins when the connection is there, and ends with it: octets that are held then, and frames that aren't written,
+/// are gone. No message is lost with them: one that was taken stays in the node until it is confirmed. It allocates no
+/// memory.
 ///
 /// The association comes up at one end first. The end that accepted the connection is the first. The system tells the
 /// other end that it is connected before that, or though its connection is then refused. So there the association comes
@@ -39,6 +39,8 @@ pub struct Association {
     is_up: bool,
     framer: Framer,
     outgoing: Outgoing,
+    // Where a frame lies while it is handed in.
+    text: [u8; Limits::FRAME_OCTETS],
 }
 
 impl Model for Association {
@@ -46,7 +48,14 @@ impl Model for Association {
 
     ghost Value = { Connection };
 
-    ghost view = { λ a. record { link = a.link; is_up = a.is_up; held = a.framer; outgoing = a.outgoing } };
+    ghost use Rattle.served_link.specs.Room.{pending_in};
+
+    ghost view = { λ a. record {
+      link = a.link;
+      is_up = a.is_up;
+      held = a.framer;
+      pending = pending_in a.outgoing;
+    } };
 }
 
 impl Association {
@@ -59,6 +68,7 @@ impl Association {
             is_up: false,
             framer: Framer::new(),
             outgoing: Outgoing::new(),
+            text: [0; Limits::FRAME_OCTETS],
         }
     }
 
@@ -79,6 +89,7 @@ impl Association {
             is_up,
             framer: Framer::new(),
             outgoing: Outgoing::new(),
+            text: [0; Limits::FRAME_OCTETS],
         }
     }
 
@@ -153,66 +164,49 @@ impl Association {
             self.old.held self.new.held exchange.old exchange.new watch.old watch.new }
         ensures same { self.new ≡ record self.old { held = self.new.held } }
     {
-        read_all(self.link, &mut self.framer, exchange, octets, watch)
+        read_all(
+            self.link,
+            &mut self.framer,
+            exchange,
+            octets,
+            &mut self.text,
+            watch,
+        )
     }
 
-    /// Takes the next frame of the link, unless octets of one are left to write: so at most one frame is taken and not
-    /// written whole, and the others stay in the node, for a changeover. Returns whether octets are left to write.
-    pub fn fill(&mut self, exchange: &mut Exchange) -> bool
+    /// Takes frames of the link, one after another, while the longest would find room behind those that aren't written
+    /// yet; the others stay in the node, for a changeover. The watch is told of each. Returns whether octets are left
+    /// to write.
+    pub fn fill<W: Watch>(&mut self, exchange: &mut Exchange, watch: &mut W) -> bool
         requires up { self.old.is_up ≡ true }
 
-        // For every abstract state that the exchange stood for, the frame is that of the abstract take,
-        ensures frame { (a : Abstract) → StandsFor exchange.old a → self.new ≡ record self.old {
-          outgoing = filled self.old.outgoing (text_to_take whole a self.old.link);
-        } }
-        // and the exchange stands for the state after it.
-        ensures state { (a : Abstract) → StandsFor exchange.old a →
-            StandsFor exchange.new (after_fill whole self.old.outgoing self.old.link a) }
+        // For every abstract state that the exchange stood for, the frames are those of the abstract takes.
+        ensures fill { (a : Abstract) → StandsFor exchange.old a → (b : Abstract) × StandsFor exchange.new b
+            × Fills W.sees whole self.old.link self.old.pending self.new.pending a b watch.old watch.new }
 
         // The same on what is kept.
-        ensures kept_frame { self.new ≡ record self.old {
-          outgoing = filled self.old.outgoing (text_to_take kept exchange.old self.old.link);
-        } }
-        ensures kept_state { exchange.new ≡ after_fill kept self.old.outgoing self.old.link exchange.old }
-        ensures pending { result ≡ is_pending self.new.outgoing }
+        ensures kept_fill { Fills W.sees kept self.old.link
+            self.old.pending self.new.pending exchange.old exchange.new watch.old watch.new }
+        ensures same { self.new ≡ record self.old { pending = self.new.pending } }
+        ensures pending { result ≡ is_pending self.new.pending }
     {
-        self.fill_kept(exchange)
-    }
-
-    /// The same, on what is kept.
-    fn fill_kept(&mut self, exchange: &mut Exchange) -> bool
-        ensures frame { self.new ≡ record self.old {
-          outgoing = filled self.old.outgoing (text_to_take kept exchange.old self.old.link);
-        } }
-        ensures state { exchange.new ≡ after_fill kept self.old.outgoing self.old.link exchange.old }
-        ensures pending { result ≡ is_pending self.new.outgoing }
-    {
-        if !self.outgoing.is_pending() {
-            self.outgoing.take_from(exchange, self.link);
-        }
+        fill_all(self.link, &mut self.outgoing, exchange, watch);
         self.outgoing.is_pending()
     }
 
-    /// The octets of the taken frame that aren't written yet; none where no frame is going out.
+    /// The octets of the frames that were taken, one after another, but for those that are written.
     pub fn pending(&self) -> &[u8]
-        ensures { result.now ≡ self.now.outgoing.pending }
+        ensures { result.now ≡ self.now.pending }
     {
         self.outgoing.pending()
     }
 
-    /// So many of the pending octets were written, from the first on. Where none is left, the watch is told of the
-    /// frame, which went out whole.
-    pub fn written<W: Watch>(&mut self, count: usize, watch: &mut W)
-        requires { count ≤ length self.old.outgoing.pending }
-        ensures state { self.new ≡ record self.old { outgoing = after_write self.old.outgoing count } }
-        ensures seen { SeesEach W.sees (sights_of_write self.old.link self.old.outgoing count) watch.old watch.new }
+    /// So many of the pending octets were written, from the first on.
+    pub fn written(&mut self, count: usize)
+        requires { count ≤ length self.old.pending }
+        ensures { self.new ≡ record self.old { pending = drop count self.old.pending } }
     {
-        if self.outgoing.is_completed_by(count) {
-            watch.went_out(self.link, self.outgoing.frame());
-            self.outgoing.clear();
-        } else {
-            self.outgoing.advance(count);
-        }
+        self.outgoing.advance(count);
     }
 }
 

@@ -4,23 +4,30 @@ ghost use Rattle.std.specs.Prelude.{◌≡◌, List, true};
 ghost use Rattle.m2pa_codec.specs.Frames.{FrameValue, spelled};
 ghost use Rattle.exchange.specs.KeptQueues.{kept};
 ghost use Rattle.exchange_rules.specs.Queues.{whole};
-ghost use Rattle.served_link.specs.Connections.{begun, is_pending};
+ghost use Rattle.served_link.specs.Connections.{is_pending};
 ghost use Rattle.served_link.specs.ManyReads.{broken_stays_broken, cuts_do_not_matter, last_reads_are_one};
 ghost use Rattle.served_link.specs.ManyReads.{reads_are_one};
-ghost use Rattle.served_link.specs.Sending.{Call, GoesOutInOrder, sent_by};
+ghost use Rattle.served_link.specs.Sending.{Call, GoesOutInOrder, sent_by, taken_frames_go_behind};
 ghost use Rattle.served_link.specs.Laws.{counters_are_sums, counters_of_links_are_sums};
 
 use crate::watch::Watch;
 
-/// Whatever frames are offered and however many octets are written at a time: what goes out is the frames that were
-/// taken, in order, each whole but for the one that is going out.
+/// Whatever frames are taken and however many octets are written at a time: what goes out is the frames that were
+/// taken, in order, up to the octets that aren't written yet.
 pub fn frames_go_out_in_order()
     ensures { (calls : List Call) → GoesOutInOrder (sent_by calls) }
 {}
 
+/// Frames that are taken stand, in order, behind the octets that aren't written yet.
+pub fn taken_frames_go_behind<W: Watch>()
+    ensures whole { taken_frames_go_behind W.sees whole }
+    // The same on what is kept.
+    ensures kept { taken_frames_go_behind W.sees kept }
+{}
+
 /// Octets are left to write of each frame that was just taken.
 pub fn every_frame_has_octets()
-    ensures { (frame : FrameValue) → is_pending (begun (spelled frame)) ≡ true }
+    ensures { (frame : FrameValue) → is_pending (spelled frame) ≡ true }
 {}
 
 /// For every way in which octets are cut into pieces, reads of these by a new association, one after another, are

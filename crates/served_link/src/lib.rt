@@ -1,15 +1,16 @@
-//! A served link without its socket: octets that come are cut into frames, which are handed in; frames are taken one
-//! at a time, and written in as many pieces as it takes; when ticks are due, when a connection is tried again, and the
-//! counters of the link.
+//! A served link without its socket: octets that come are cut into frames, which are handed in; frames are taken while
+//! there is room, and written in as many pieces as it takes; when ticks are due, when a connection is tried again, and
+//! the counters of the link.
 #![tactic(auto)]
 
 pub mod association;
 pub mod counter;
 pub mod counters;
+mod filling;
 mod frame;
 pub mod laws;
 pub mod line;
-mod outgoing;
+pub mod outgoing;
 mod reading;
 pub mod retrying;
 pub mod row;
@@ -20,6 +21,7 @@ pub use association::{Association, Broken};
 pub use counter::Counter;
 pub use counters::Counters;
 pub use line::{LINE_OCTETS, write_counter};
+pub use outgoing::OUTPUT_OCTETS;
 pub use retrying::{LONGEST_WAIT, Retry};
 pub use row::LinkCounters;
 pub use ticking::{MOST_TICKS, TickClock};

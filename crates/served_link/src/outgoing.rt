@@ -1,113 +1,97 @@
-//! The frame that is being written.
+//! The octets that go out.
 
-ghost use Rattle.std.specs.Prelude.{◌≡◌, ◌≤◌, ◌++◌, length, take, drop};
-ghost use Rattle.exchange.specs.KeptQueues.{kept};
-ghost use Rattle.exchange_rules.specs.Exchange.{taken};
-ghost use Rattle.served_link.specs.Connections.{nothing, begun, begun_with, completes, frame_in, is_pending};
-ghost use Rattle.served_link.specs.Connections.{text_to_take};
+ghost use Rattle.std.specs.Prelude.{◌≡◌, ◌+◌, ◌≤◌, [], ◌++◌, length, drop};
+ghost use Rattle.served_link.specs.Connections.{has_room, is_pending};
 
-use exchange::{BUFFER_OCTETS, Exchange};
-use settings::LinkId;
-use std::marker::Model;
+use exchange::LONGEST_FRAME;
 
-/// A frame that was taken: its octets that are written, and those that aren't yet. Both are none between two frames.
+/// Octets of frames that are taken and aren't written yet, at most.
+pub const OUTPUT_OCTETS: usize = 65_536;
+
+/// The octets of the frames that were taken, one after another, but for those that are written: they lie from `start`
+/// to `end` of the buffer.
 #[derive(Drop)]
 pub(crate) struct Outgoing {
-    buffer: [u8; BUFFER_OCTETS],
-    written: usize,
+    buffer: [u8; OUTPUT_OCTETS],
+    start: usize,
     end: usize,
-}
-
-impl Model for Outgoing {
-    ghost use Rattle.served_link.specs.Connections.{Outgoing};
-
-    ghost Value = { Outgoing };
-
-    ghost use Rattle.served_link.specs.Room.{outgoing_in, IsWithin};
-
-    ghost view = { outgoing_in };
-
-    ghost invariant = { IsWithin };
+    ghost ordered: { start ≤ end },
+    ghost within: { end ≤ 65536 },
 }
 
 impl Outgoing {
-    /// No frame is going out.
+    ghost use Rattle.served_link.specs.Room.{pending_in, room_behind};
+
+    /// Nothing goes out.
     pub(crate) fn new() -> Outgoing
-        ensures { result ≡ nothing }
+        ensures { pending_in result ≡ [] }
     {
         Outgoing {
-            buffer: [0; BUFFER_OCTETS],
-            written: 0,
+            buffer: [0; OUTPUT_OCTETS],
+            start: 0,
             end: 0,
         }
     }
 
+    /// The octets that are left to write.
+    pub(crate) fn pending(&self) -> &[u8]
+        ensures { result.now ≡ pending_in self.now }
+    {
+        &self.buffer[self.start..self.end]
+    }
+
     /// Whether octets are left to write.
     pub(crate) fn is_pending(&self) -> bool
-        ensures { result ≡ is_pending self.now }
+        ensures { result ≡ is_pending (pending_in self.now) }
     {
         !self.pending().is_empty()
     }
 
-    /// The octets that are left to write.
-    pub(crate) fn pending(&self) -> &[u8]
-        ensures { result.now ≡ self.now.pending }
+    /// Whether the longest frame finds room.
+    pub(crate) fn has_room(&self) -> bool
+        ensures { result ≡ has_room (pending_in self.now) }
     {
-        &self.buffer[self.written..self.end]
+        self.pending().len() <= OUTPUT_OCTETS - LONGEST_FRAME
     }
 
-    /// The whole frame.
-    pub(crate) fn frame(&self) -> &[u8]
-        ensures { result.now ≡ frame_in self.now }
+    /// Puts a frame behind those before it. What is left moves to the front of the buffer first where the room behind
+    /// it is too little.
+    pub(crate) fn push(&mut self, frame: &[u8])
+        requires { length (pending_in self.old) + length frame.now ≤ OUTPUT_OCTETS }
+        ensures { pending_in self.new ≡ pending_in self.old ++ frame.now }
     {
-        &self.buffer[..self.end]
-    }
-
-    /// Whether so many more octets complete the frame.
-    pub(crate) fn is_completed_by(&self, count: usize) -> bool
-        ensures { result ≡ completes self.now count }
-    {
-        let left = self.pending().len();
-        0 < left && left <= count
-    }
-
-    /// The next frame of a link, where there is one, takes the place of the one that is written.
-    pub(crate) fn take_from(&mut self, exchange: &mut Exchange, link: LinkId)
-        ensures frame { self.new ≡ begun_with (text_to_take kept exchange.old link) }
-        ensures state { exchange.new ≡ taken kept exchange.old link }
-    {
-        self.end = write_next(exchange, link, &mut self.buffer);
-        self.written = 0;
+        if OUTPUT_OCTETS - self.end < frame.len() {
+            self.move_to_front();
+        }
+        self.write_behind(frame);
     }
 
     /// So many more octets are written.
     pub(crate) fn advance(&mut self, count: usize)
-        requires { count ≤ length self.old.pending }
-        ensures { self.new ≡ record {
-          written = self.old.written ++ take count self.old.pending;
-          pending = drop count self.old.pending;
-        } }
+        requires { count ≤ length (pending_in self.old) }
+        ensures { pending_in self.new ≡ drop count (pending_in self.old) }
     {
-        self.written += count;
+        self.start += count;
     }
 
-    /// No frame is going out any more.
-    pub(crate) fn clear(&mut self)
-        ensures { self.new ≡ nothing }
+    /// Moves what is left to the front of the buffer.
+    fn move_to_front(&mut self)
+        ensures octets { pending_in self.new ≡ pending_in self.old }
+        ensures room { room_behind self.new + length (pending_in self.new) ≡ OUTPUT_OCTETS }
     {
-        self.written = 0;
-        self.end = 0;
+        let (start, end) = (self.start, self.end);
+        self.buffer.copy_within(start..end, 0);
+        self.start = 0;
+        self.end = end - start;
     }
-}
 
-/// Writes the next frame of a link to the front of the buffer, and returns its length in octets: 0 where there is none.
-fn write_next(exchange: &mut Exchange, link: LinkId, buffer: &mut [u8; BUFFER_OCTETS]) -> usize
-    ensures frame { begun (take result buffer.new) ≡ begun_with (text_to_take kept exchange.old link) }
-    ensures fits { result ≤ BUFFER_OCTETS }
-    ensures state { exchange.new ≡ taken kept exchange.old link }
-{
-    match exchange.take(link, buffer) {
-        Some(count) => count,
-        None => 0,
+    /// Writes octets into the room behind those that are left.
+    fn write_behind(&mut self, more: &[u8])
+        requires { length more.now ≤ room_behind self.old }
+        ensures { pending_in self.new ≡ pending_in self.old ++ more.now }
+    {
+        let end = self.end;
+        self.buffer[end..end + more.len()].copy_from_slice(more);
+        self.end = end + more.len();
     }
 }

@@ -13,22 +13,23 @@ use crate::watch::Watch;
 use exchange::{Event, Exchange, Framer, Next};
 use settings::{Limits, LinkId};
 
-/// Takes octets that came, and hands in each frame that is whole.
+/// Takes octets that came, and hands in each frame that is whole. It lies in `text` meanwhile.
 pub(crate) fn read_all<W: Watch>(
     link: LinkId,
     framer: &mut Framer,
     exchange: &mut Exchange,
     octets: &[u8],
+    text: &mut [u8; Limits::FRAME_OCTETS],
     watch: &mut W,
 ) -> Result<(), Broken>
     ensures { Reads W.sees kept link octets.now result
         framer.old framer.new exchange.old exchange.new watch.old watch.new }
 {
     let mut rest = octets;
-    hand_in_held(link, framer, exchange, watch)?;
+    hand_in_held(link, framer, exchange, text, watch)?;
     while !rest.is_empty() {
         rest = feed(framer, rest);
-        hand_in_held(link, framer, exchange, watch)?;
+        hand_in_held(link, framer, exchange, text, watch)?;
     }
     Ok(())
 }
@@ -49,14 +50,14 @@ fn hand_in_held<W: Watch>(
     link: LinkId,
     framer: &mut Framer,
     exchange: &mut Exchange,
+    text: &mut [u8; Limits::FRAME_OCTETS],
     watch: &mut W,
 ) -> Result<(), Broken>
     ensures handed_in { HandsIn W.sees kept link framer.old framer.new exchange.old exchange.new watch.old watch.new }
     ensures answer { Stops result framer.new }
 {
-    let mut text = [0; Limits::FRAME_OCTETS];
     loop {
-        match framer.next(&mut text) {
+        match framer.next(text) {
             Next::Whole(count) => hand_in(link, &text[..count], exchange, watch),
             Next::Wait => return Ok(()),
             Next::Broken => return Err(Broken),

@@ -13,7 +13,7 @@ pub trait Watch {
     fn came_in(&mut self, link: LinkId, frame: &[u8], outcome: &Outcome)
         ensures { sees self.old (CameIn link frame.now outcome.now) self.new };
 
-    /// A frame went out on the link, whole.
+    /// A frame was taken to go out on the link, behind those before it.
     fn went_out(&mut self, link: LinkId, frame: &[u8])
         ensures { sees self.old (WentOut link frame.now) self.new };
 }

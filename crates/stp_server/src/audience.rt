@@ -4,10 +4,12 @@ ghost use Rattle.std.specs.Prelude.{◌≡◌, ◌≤◌, length};
 ghost use Rattle.stp_server.specs.Audience.{counted_sight};
 
 use crate::callers::Callers;
+use crate::journal::Journal;
 use crate::server::FileCapture;
 use arrayvec::ArrayString;
 use console_session::News;
 use exchange::{Frame, decode};
+use script::Sink;
 use served_link::{Counters, Watch};
 use settings::{Limits, LinkId, Outcome, Settings};
 use std::alloc::{AllocError, Global};
@@ -25,6 +27,7 @@ pub(crate) struct Audience {
     pub(crate) names: Vec<String>,
     pub(crate) counters: Counters,
     pub(crate) capture: Option<FileCapture>,
+    missed_frames: u64,
     pub(crate) callers: Callers,
     pub(crate) points: PointFormat,
     pub(crate) now: Duration,
@@ -43,6 +46,7 @@ impl Audience {
             names: names_of(alloc, settings)?,
             counters,
             capture: None,
+            missed_frames: 0,
             callers,
             points,
             now: Duration::ZERO,
@@ -63,11 +67,41 @@ impl Audience {
     fn passed(&mut self, link: LinkId, direction: Direction, frame: &[u8])
         ensures { self.new.counters ≡ self.old.counters }
     {
-        if let Some(capture) = &mut self.capture {
-            capture.write(self.now, link, direction, frame);
-        }
-        if self.callers.any_sees(News::Frame) {
+        self.capture_frame(link, direction, frame);
+        if self.callers.any_sees_frames() {
             self.tell_frame(link, direction, frame);
+        }
+    }
+
+    /// The capture has a frame, if there is one and it has room for it. Else the frame is counted as missed.
+    fn capture_frame(&mut self, link: LinkId, direction: Direction, frame: &[u8])
+        ensures { self.new.counters ≡ self.old.counters }
+    {
+        let Some(capture) = &mut self.capture else {
+            return;
+        };
+        if capture.output().writer().has_room() {
+            capture.write(self.now, link, direction, frame);
+        } else {
+            self.missed_frames = self.missed_frames.saturating_add(1);
+        }
+    }
+
+    /// What was captured goes out, as far as its file takes it. The log is told where that fails, which ends the
+    /// capture, and how many frames were missed once there is room for others.
+    pub(crate) fn flush_capture<W: Sink>(&mut self, journal: &mut Journal<'_, W>) {
+        let Some(capture) = &mut self.capture else {
+            return;
+        };
+        capture.flush();
+        let has_room = capture.output().writer().has_room();
+        if capture.has_failed() {
+            journal.tell(&"capture failed");
+            self.capture = None;
+        } else if self.missed_frames > 0 && has_room {
+            let missed = self.missed_frames;
+            journal.tell(&format_args!("capture missed {missed} frames"));
+            self.missed_frames = 0;
         }
     }
 
@@ -87,7 +121,7 @@ impl Audience {
     fn delivered(&mut self, link: LinkId, frame: &[u8])
         ensures { self.new.counters ≡ self.old.counters }
     {
-        if self.callers.any_sees(News::Message) {
+        if self.callers.any_sees_messages() {
             self.tell_message(link, frame);
         }
     }

@@ -70,6 +70,14 @@ pub(crate) struct Callers {
     listener: Option<TcpListener>,
     can_accept: bool,
     places: Vec<Option<CallerSocket>>,
+    asked: Asked,
+}
+
+/// Which news any caller asked for, so that nobody has to be asked for each frame.
+#[derive(Clone, Copy)]
+struct Asked {
+    messages: bool,
+    frames: bool,
 }
 
 impl Callers {
@@ -83,6 +91,10 @@ impl Callers {
             listener: None,
             can_accept: false,
             places,
+            asked: Asked {
+                messages: false,
+                frames: false,
+            },
         })
     }
 
@@ -167,7 +179,23 @@ impl Callers {
                 stops = socket.read(desk) || stops;
             }
         }
+        self.asked = self.asked_now();
         stops
+    }
+
+    /// Which news any caller asked for by now.
+    fn asked_now(&self) -> Asked {
+        let mut asked = Asked {
+            messages: false,
+            frames: false,
+        };
+        for place in self.places.iter() {
+            if let Some(socket) = place {
+                asked.messages = asked.messages || socket.sees(News::Message);
+                asked.frames = asked.frames || socket.sees(News::Frame);
+            }
+        }
+        asked
     }
 
     /// Writes what waits for the callers, and closes the connections that are over.
@@ -192,15 +220,14 @@ impl Callers {
         is_busy
     }
 
-    /// Whether any caller asked for such news.
-    pub(crate) fn any_sees(&self, news: News) -> bool {
-        let mut any_sees = false;
-        for place in self.places.iter() {
-            if let Some(socket) = place {
-                any_sees = any_sees || socket.sees(news);
-            }
-        }
-        any_sees
+    /// Whether any caller asked for the messages for this point.
+    pub(crate) fn any_sees_messages(&self) -> bool {
+        self.asked.messages
+    }
+
+    /// Whether any caller asked for the frames.
+    pub(crate) fn any_sees_frames(&self) -> bool {
+        self.asked.frames
     }
 
     /// Tells the callers that asked for such news a line, which is given without its line feed.

@@ -1,6 +1,7 @@
 //! The connection of a link: what comes on it is handed in, and frames are taken and written.
 
-ghost use Rattle.std.specs.Prelude.{◌≡◌, ◌≤◌, ◌<◌, true, length};
+ghost use Rattle.std.specs.Prelude.{◌≡◌, ◌<◌, true, length};
+ghost use Rattle.served_link.specs.Connections.{is_pending};
 
 use crate::audience::Watching;
 use crate::journal::Journal;
@@ -14,11 +15,9 @@ use served_link::{Association, Broken, Watch};
 use settings::{FailureReason, LinkId};
 use std::net::SocketAddr;
 
-/// Octets that one read asks for.
-const PIECE_OCTETS: usize = 4096;
-
-/// Octets that are handed in before the notices are looked at: they are no more frames than notices are kept.
-const LOOK_OCTETS: usize = 512;
+/// Octets that are handed in before it is asked whether there are new notices: they are no more frames than notices are
+/// kept.
+const LOOK_OCTETS: usize = 1024;
 
 /// The connection of a link, from the moment it begins to be made.
 #[derive(Drop)]
@@ -144,12 +143,14 @@ impl Connection {
             node.audience.name(self.association.link()),
             self.peer,
         );
+        node.note_up();
         node.look(FailureReason::Association, journal);
     }
 
-    /// Makes one read, and hands in what came.
+    /// Makes one read, to the front of the buffer, and hands in what came.
     pub(crate) fn read<W: Sink, U: Watch>(
         &mut self,
+        buffer: &mut [u8],
         node: &mut Node,
         journal: &mut Journal<'_, W>,
         user: &mut U,
@@ -157,9 +158,8 @@ impl Connection {
         if !self.is_made || !self.can_read {
             return Progress::None;
         }
-        let mut piece = [0; PIECE_OCTETS];
-        match read_some(&mut self.stream, &mut piece) {
-            Moved::Octets(count) => self.take_in(&piece[..count], node, journal, user),
+        match read_some(&mut self.stream, buffer) {
+            Moved::Octets(count) => self.take_in(&buffer[..count], node, journal, user),
             Moved::Later => {
                 self.can_read = false;
                 Progress::None
@@ -246,17 +246,15 @@ impl Connection {
             .read(&mut node.exchange, part, &mut watching)
     }
 
-    /// Takes a frame where none is unwritten, and makes one write. Nothing is taken before the association is up.
+    /// Takes frames while there is room for them, and makes one write. Nothing is taken before the association is up,
+    /// nor while the socket takes nothing.
     pub(crate) fn write<U: Watch>(&mut self, node: &mut Node, user: &mut U) -> Progress {
-        if !self.can_write
-            || !self.association.is_up()
-            || !self.association.fill(&mut node.exchange)
-        {
+        if !self.can_write || !self.association.is_up() || !self.fill(node, user) {
             return Progress::None;
         }
         match write_some(&mut self.stream, self.association.pending()) {
             Moved::Octets(count) => {
-                self.tell_written(count, node, user);
+                self.association.written(count);
                 Progress::Some
             }
             Moved::Later => {
@@ -268,15 +266,16 @@ impl Connection {
         }
     }
 
-    /// So many of the octets of the frame that goes out were written.
-    fn tell_written<U: Watch>(&mut self, count: usize, node: &mut Node, user: &mut U)
-        requires { count ≤ length self.old.association.outgoing.pending }
+    /// Takes frames while there is room for them. Returns whether octets are left to write.
+    fn fill<U: Watch>(&mut self, node: &mut Node, user: &mut U) -> bool
+        requires { self.old.association.is_up ≡ true }
+        ensures { result ≡ is_pending self.new.association.pending }
     {
         let mut watching = Watching {
             audience: &mut node.audience,
             user,
         };
-        self.association.written(count, &mut watching);
+        self.association.fill(&mut node.exchange, &mut watching)
     }
 }
 

@@ -20,9 +20,9 @@ use std::time::Duration;
 /// Reads of a link in one round, at most.
 const READS: usize = 16;
 
-/// Writes of a link in one round, at most: the reads of another link bring fewer frames, so what goes on from one link
+/// Writes of a link in one round, at most: the reads of another link bring fewer octets, so what goes on from one link
 /// to another doesn't pile up while the socket takes it.
-const WRITES: usize = 4096;
+const WRITES: usize = 64;
 
 /// Connections that are taken in one round, at most.
 const ACCEPTS: usize = 64;
@@ -221,9 +221,11 @@ impl Gate {
         self.next_try = now.saturating_add(Duration::from_secs(seconds));
     }
 
-    /// Reads what came, and hands it in. Where something came, the next wait for a try is the first one again.
+    /// Reads what came, each time to the front of the buffer, and hands it in. Where something came, the next wait for
+    /// a try is the first one again.
     pub(crate) fn read<W: Sink, U: Watch>(
         &mut self,
+        buffer: &mut [u8],
         node: &mut Node,
         journal: &mut Journal<'_, W>,
         user: &mut U,
@@ -232,7 +234,7 @@ impl Gate {
             let Some(connection) = &mut self.connection else {
                 return;
             };
-            match connection.read(node, journal, user) {
+            match connection.read(buffer, node, journal, user) {
                 Progress::Some => self.retry.start_again(),
                 Progress::None => return,
                 Progress::Over(why) => self.end(why, node, journal),

@@ -90,15 +90,26 @@ impl Node {
         callers.read(&mut desk)
     }
 
-    /// Looks for new notices: the log and the callers that watch them are told, and failures are counted. A failure
-    /// whose notice was dropped for those behind it is counted as one for this reason.
+    /// An association came up, and its link perhaps with it.
+    pub(crate) fn note_up(&mut self) {
+        self.seen.note_up(&self.exchange);
+    }
+
+    /// Tells of new notices, where there are any.
     pub(crate) fn look<W: Sink>(&mut self, dropped: FailureReason, journal: &mut Journal<'_, W>) {
-        let new = self.seen.look(&self.exchange);
-        if new.kept > 0 {
-            self.tell_new(new, journal);
-            self.count_dropped_failures(new.kept, dropped);
-            self.tell_flags(journal);
+        if !self.seen.has_all(&self.exchange) {
+            self.look_at_new(dropped, journal);
         }
+    }
+
+    /// Tells the log and the callers that watch them of the new notices, and counts failures. A failure whose notice
+    /// was dropped for those behind it is counted as one for this reason.
+    #[inline(never)]
+    fn look_at_new<W: Sink>(&mut self, dropped: FailureReason, journal: &mut Journal<'_, W>) {
+        let new = self.seen.look(&self.exchange);
+        self.tell_new(new, journal);
+        self.count_dropped_failures(new.kept, dropped);
+        self.tell_flags(journal);
     }
 
     /// Tells how many notices were missed, and then of the new ones that are kept.

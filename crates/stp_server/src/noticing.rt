@@ -26,6 +26,19 @@ impl Seen {
         }
     }
 
+    /// Whether no notice is new since the last look.
+    pub fn has_all(&self, exchange: &Exchange) -> bool {
+        exchange.notice_count() == self.notices
+    }
+
+    /// A link is up now, which the next look counts as failed if it is down by then.
+    pub fn note_up(&mut self, exchange: &Exchange) {
+        let links = exchange.settings().link_count();
+        for (k, up) in self.up.iter_mut().enumerate().take(links) {
+            *up = *up || is_up(exchange, LinkId::new(k as u8));
+        }
+    }
+
     /// The notices that are new since the last look.
     pub fn look(&mut self, exchange: &Exchange) -> NewNotices {
         let new = exchange.notices_since(self.notices);

@@ -3,6 +3,7 @@
 mod opening;
 
 use crate::gate::Gate;
+use crate::held_file::HeldFile;
 use crate::journal::Journal;
 use crate::naming::SocketName;
 use crate::node::Node;
@@ -13,9 +14,7 @@ use serve_settings::Endpoint;
 use served_link::Watch;
 use settings::{FailureReason, Outcome};
 use std::alloc::Global;
-use std::fs::File;
 use std::io;
-use std::io::BufWriter;
 use std::marker::Model;
 use std::net::{Net, SocketAddr};
 use std::time::Duration;
@@ -24,8 +23,11 @@ use trace::{Capture, PointFormat, UntilFailure};
 /// Sockets that one wait tells of, at most. Further ones are told of by the next.
 const EVENTS: usize = 128;
 
+/// Octets that one read of a link asks for.
+const READ_OCTETS: usize = 65_536;
+
 /// A capture into a file.
-pub type FileCapture = Capture<UntilFailure<BufWriter<File>>>;
+pub type FileCapture = Capture<UntilFailure<HeldFile>>;
 
 /// Where a server is reached, and how it shows points.
 #[derive(Clone, Copy)]
@@ -46,6 +48,7 @@ pub struct Server {
     alloc: Global,
     node: Node,
     gates: Vec<Gate>,
+    buffer: Vec<u8>,
     poll: Poll,
     events: Events,
     is_busy: bool,
@@ -171,7 +174,7 @@ impl Server {
     /// Reads what came on the links.
     fn read<W: Sink, U: Watch>(&mut self, journal: &mut Journal<'_, W>, user: &mut U) {
         for gate in self.gates.iter_mut() {
-            gate.read(&mut self.node, journal, user);
+            gate.read(&mut self.buffer, &mut self.node, journal, user);
         }
     }
 
@@ -201,16 +204,9 @@ impl Server {
         self.is_busy = self.is_busy || self.node.audience.callers.is_busy();
     }
 
-    /// Ends a round: what was captured goes out, and the log is told where that fails.
+    /// Ends a round: what was captured goes out, as far as the file takes it.
     fn finish<W: Sink>(&mut self, journal: &mut Journal<'_, W>) {
-        let Some(capture) = &mut self.node.audience.capture else {
-            return;
-        };
-        capture.flush();
-        if capture.has_failed() {
-            journal.tell(&"capture failed");
-            self.node.audience.capture = None;
-        }
+        self.node.audience.flush_capture(journal);
     }
 }
 

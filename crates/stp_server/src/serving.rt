@@ -2,20 +2,33 @@
 
 ghost use Rattle.std.specs.Prelude.{◌≤◌};
 
+use crate::dropping::DroppingLog;
 use crate::fault::{OpenFault, ServeFailure};
+use crate::held_file::HeldFile;
 use crate::journal::Journal;
 use crate::server::{FileCapture, Places, Server};
 use script::Sink;
 use serve_settings::ServeSettings;
 use served_link::{MOST_TICKS, TickClock, Unwatched};
 use settings::Settings;
-use std::io::BufWriter;
 use std::time::{Duration, Instant, SystemTime};
 use std::{fs, io};
 use trace::{Capture, UntilFailure};
 
-/// Serves a node with these settings until a caller stops it.
+/// Serves a node with these settings until a caller stops it. The log writes to standard output; lines that it doesn't
+/// take at once are dropped.
 pub fn serve<W: Sink>(
+    rt: &HostRuntime,
+    settings: Settings,
+    serve: &ServeSettings,
+    log: &mut W,
+) -> Result<(), ServeFailure> {
+    let mut log = DroppingLog::new(rt, rt.alloc(), log);
+    serve_logged(rt, settings, serve, &mut log)
+}
+
+/// Serves a node with these settings, with this log.
+fn serve_logged<W: Sink>(
     rt: &HostRuntime,
     settings: Settings,
     serve: &ServeSettings,
@@ -56,8 +69,8 @@ fn capture(rt: &HostRuntime, file: &str) -> Result<FileCapture, ServeFailure> {
     let Ok(file) = fs::create(rt, file) else {
         return Err(ServeFailure::Capture);
     };
-    match BufWriter::new(rt.alloc(), file) {
-        Ok(writer) => Ok(Capture::begin(UntilFailure::new(writer), started)),
+    match HeldFile::new(rt, rt.alloc(), file) {
+        Ok(file) => Ok(Capture::begin(UntilFailure::new(file), started)),
         Err(_) => Err(ServeFailure::Open(OpenFault::NoMemory)),
     }
 }

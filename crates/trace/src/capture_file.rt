@@ -48,6 +48,13 @@ impl<O: CaptureOutput> Capture<O> {
         }
     }
 
+    /// What it is written to, as it is now.
+    pub fn output(&self) -> &O
+        ensures { result.now ≡ self.now.output }
+    {
+        &self.output
+    }
+
     /// What it is written to.
     pub fn into_output(self) -> O
         ensures { result ≡ self.output }

@@ -52,6 +52,13 @@ impl<W: Write> UntilFailure<W> {
         }
     }
 
+    /// The writer, as it is now.
+    pub fn writer(&self) -> &W
+        ensures { W.contents result.now ≡ ⟦<UntilFailure<W> as CaptureOutput>⟧.written self.now }
+    {
+        &self.writer
+    }
+
     /// The writer, with what was written.
     pub fn into_writer(self) -> W
         ensures { W.contents result ≡ ⟦<UntilFailure<W> as CaptureOutput>⟧.written self }

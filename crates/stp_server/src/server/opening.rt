@@ -1,6 +1,6 @@
 //! Opening a server: its sockets that listen.
 
-use super::{EVENTS, Places, Server};
+use super::{EVENTS, Places, READ_OCTETS, Server};
 use crate::fault::{OpenFault, listen_fault};
 use crate::gate::Gate;
 use crate::journal::Journal;
@@ -56,7 +56,7 @@ impl Server {
     ) -> Result<Server, OpenFault> {
         let node = Node::boot(alloc, settings, points)?;
         match polled(net, alloc) {
-            Ok((poll, events)) => Ok(Server::around(alloc, node, poll, events)),
+            Ok((poll, events, buffer)) => Ok(Server::around(alloc, node, buffer, poll, events)),
             Err(fault) => {
                 node.close();
                 Err(fault)
@@ -65,11 +65,12 @@ impl Server {
     }
 
     /// A server of a node.
-    fn around(alloc: Global, node: Node, poll: Poll, events: Events) -> Server {
+    fn around(alloc: Global, node: Node, buffer: Vec<u8>, poll: Poll, events: Events) -> Server {
         Server {
             alloc,
             node,
             gates: Vec::new(alloc),
+            buffer,
             poll,
             events,
             is_busy: true,
@@ -172,11 +173,12 @@ impl Server {
     }
 }
 
-/// A poll, and room for what it tells.
-fn polled<N: Net>(net: &N, alloc: Global) -> Result<(Poll, Events), OpenFault> {
+/// A poll, and room for what it tells and for what is read.
+fn polled<N: Net>(net: &N, alloc: Global) -> Result<(Poll, Events, Vec<u8>), OpenFault> {
     let events = Events::with_capacity(alloc, EVENTS)?;
+    let buffer = vec![in alloc; 0; READ_OCTETS]?;
     match Poll::new(net) {
-        Ok(poll) => Ok((poll, events)),
+        Ok(poll) => Ok((poll, events, buffer)),
         Err(_) => Err(OpenFault::Poll),
     }
 }

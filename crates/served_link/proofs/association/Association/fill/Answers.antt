@@ -1,8 +1,20 @@
-use Rattle.served_link.proofs.Standing.{filled-stands, fill-stands}
+use Rattle.std.proofs.Common.{subst}
+use Rattle.exchange.specs.KeptQueues.{kept}
+use Rattle.served_link.specs.Connections.{Connection, Fills}
+use Rattle.served_link.specs.Room.{pending_in}
+use Rattle.served_link.proofs.Standing.{fills-stands}
 use Rattle.served_link.proofs.association.Association.fill.Goals as goal
 
-pub returns-clause-frame : goal.returns-clause-frame
-returns-clause-frame c = λ a s. filled-stands c.args.self.now c.fill_kept.new.self c.args.exchange.now a c.fill_kept.ensures.frame s
+pub returns-clause-kept_fill : goal.returns-clause-kept_fill
+returns-clause-kept_fill g c =
+    subst
+    (λ (a : Connection). Fills g.W.Watch.sees kept a.link a.pending (pending_in c.fill_all.new.outgoing) c.args.exchange.now c.fill_all.new.exchange c.args.watch.now c.fill_all.new.watch)
+    c.self.view_is c.fill_all.ensures
 
-pub returns-clause-state : goal.returns-clause-state
-returns-clause-state c = λ a s. fill-stands c.args.self.now.outgoing c.args.self.now.link c.args.exchange.now c.fill_kept.new.exchange a c.fill_kept.ensures.state s
+pub returns-clause-fill : goal.returns-clause-fill
+returns-clause-fill g c = λ a s.
+    let h =
+    fills-stands g.W.Watch.sees c.args.self.now.link c.args.self.now.pending (pending_in c.fill_all.new.outgoing) c.args.exchange.now c.fill_all.new.exchange a c.args.watch.now c.fill_all.new.watch s
+    (returns-clause-kept_fill g c)
+    in
+    (h.after, h.stands, h.fills)

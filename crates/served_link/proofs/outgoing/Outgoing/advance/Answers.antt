@@ -1,7 +1,9 @@
-use Rattle.served_link.proofs.Pieces.{advanced}
+use Rattle.std.proofs.Common.{ℕ, arith}
+use Rattle.std.proofs.lemmas.List.{length-take, length-drop}
+use Rattle.m2pa_codec.proofs.Windows.{consumed}
 use Rattle.served_link.proofs.outgoing.Outgoing.advance.Goals as goal
 
 pub returns : goal.returns
 returns c =
-    let o = c.self.inside in
-    advanced o.buffer o.written o.end c.args.count c.args.self.now c.self.invariant.ordered c.self.invariant.within c.self.view_is c.requires
+    let o = c.args.self.now in
+    consumed o.buffer o.start o.end c.args.count (omega (arith, length-take {A = ℕ}, length-drop {A = ℕ}))

@@ -1,0 +1,68 @@
+//! Whether a descriptor takes octets at once.
+
+use mio::unix::SourceFd;
+use mio::{Events, Interest, Poll, Token};
+use std::alloc::Global;
+use std::net::Net;
+use std::os::fd::RawFd;
+use std::time::Duration;
+
+/// Octets that a pipe takes at once where it is ready, at most (pipe(7)).
+pub(crate) const AT_ONCE: usize = 4096;
+
+/// The one token of the poll.
+const TOKEN: Token = Token(0);
+
+/// A poll of one descriptor.
+#[derive(Drop)]
+pub(crate) struct Readiness {
+    descriptor: RawFd,
+    poll: Poll,
+    events: Events,
+}
+
+impl Readiness {
+    /// A poll of this descriptor. None of one that has nothing to wait for, as a file, and where there is no poll to be
+    /// had.
+    pub(crate) fn of<N: Net>(net: &N, alloc: Global, descriptor: RawFd) -> Option<Readiness> {
+        let events = Events::with_capacity(alloc, 1).ok()?;
+        let poll = Poll::new(net).ok()?;
+        let mut source = SourceFd(&descriptor);
+        poll.registry()
+            .register(&mut source, TOKEN, Interest::WRITABLE)
+            .ok()?;
+        Some(Readiness {
+            descriptor,
+            poll,
+            events,
+        })
+    }
+
+    /// Whether it is ready now, or says that it failed.
+    pub(crate) fn is_there(&mut self) -> bool {
+        let mut source = SourceFd(&self.descriptor);
+        let asked = self
+            .poll
+            .registry()
+            .reregister(&mut source, TOKEN, Interest::WRITABLE);
+        if asked.is_err() || !self.is_polled() {
+            return true;
+        }
+        self.events.iter().next().is_some()
+    }
+
+    /// Asks the poll. False where that fails.
+    fn is_polled(&mut self) -> bool {
+        self.poll
+            .poll(&mut self.events, Some(Duration::ZERO))
+            .is_ok()
+    }
+}
+
+/// Whether octets are taken at once, by what tells so where anything does.
+pub(crate) fn is_ready(readiness: &mut Option<Readiness>) -> bool {
+    match readiness {
+        Some(readiness) => readiness.is_there(),
+        None => true,
+    }
+}
