@@ -3,7 +3,7 @@
 ghost use Rattle.std.specs.Prelude.{◌≡◌, ◌<◌, ◌≤◌, ◌^◌, length, IfOk};
 ghost use Rattle.sctp_sending.specs.Outgoing.{octets_of, outgoing_at, tsn_at};
 ghost use Rattle.sctp_sending.specs.Cells.{given_as};
-ghost use Rattle.sctp_sending.specs.RoundTrips.{after_measured, backed_off};
+ghost use Rattle.sctp_sending.specs.RoundTrips.{first_round_trips, after_measured, backed_off};
 ghost use Rattle.sctp_sending.specs.Sending.{
   first_sending,
   given,
@@ -82,9 +82,13 @@ impl Sender {
         })
     }
 
-    /// An association begins: the TSN of the first message, and how many octets the peer takes.
-    pub fn begin(&mut self, first: u32, peer_window: u32)
-        ensures { self.new ≡ first_sending self.old.round_trips.bounds first peer_window }
+    /// An association begins: the bounds of the timeout, the TSN of the first message, and how many octets the peer
+    /// takes.
+    pub fn begin(&mut self, bounds: Bounds, first: u32, peer_window: u32)
+        requires initial { bounds.initial ≤ bounds.most }
+        requires least { bounds.least ≤ bounds.most }
+        requires most { bounds.most ≤ 2 ^ 24 }
+        ensures { self.new ≡ first_sending bounds first peer_window }
     {
         self.outbox.clear();
         self.first = first;
@@ -92,7 +96,7 @@ impl Sender {
         self.peer_window = peer_window;
         self.burst = 0;
         self.congestion = Congestion::new(peer_window);
-        self.round_trips.restart();
+        self.round_trips = RoundTrips::new(bounds);
         self.timed = None;
         self.t3 = None;
     }
@@ -165,6 +169,16 @@ impl Sender {
         ensures { result ≡ self.now.round_trips.timeout }
     {
         self.round_trips.timeout()
+    }
+
+    /// Forgets what was measured: the timeout is the first one again.
+    pub fn forget_round_trips(&mut self, bounds: Bounds)
+        requires initial { bounds.initial ≤ bounds.most }
+        requires least { bounds.least ≤ bounds.most }
+        requires most { bounds.most ≤ 2 ^ 24 }
+        ensures { self.new ≡ record self.old { round_trips = first_round_trips bounds } }
+    {
+        self.round_trips = RoundTrips::new(bounds);
     }
 
     /// Takes a round trip of so many milliseconds into account, as that of a heartbeat.
