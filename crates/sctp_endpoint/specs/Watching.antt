@@ -26,6 +26,7 @@ told_of (events.Down why) = Down why
 told_of (events.Failed why) = Failed why
 
 -- what a watch was given by a rule
-pub record Gives {W : Type 0} (sent : W → List Sent) (told : W → List Told) (before after : W) (done : Done) : Type 0 where
+pub record Gives {W : Type 0} (sent : W → List Sent) (told : W → List Told) (before after : W) (done : Done) :
+    Type 0 where
   pub sent_is : sent after ≡ sent before ++ map sent_as done.sent
   pub told_is : told after ≡ told before ++ done.told

@@ -4,6 +4,8 @@ ghost use Rattle.std.specs.Prelude.{◌≡◌, ◌≤◌, ◌^◌, IfOk};
 ghost use Rattle.sctp_rules.specs.State.{first_state, no_association, with_association};
 ghost use Rattle.sctp_endpoint.specs.Settings.{settings_of};
 
+mod answering;
+mod echoing;
 mod ending;
 mod opening;
 

@@ -26,3 +26,14 @@ pub struct Beat {
     /// When it went out, in milliseconds.
     pub sent: u64,
 }
+
+/// What both ends of an association go by: the tags of both, and the first TSN of this one.
+#[derive(Clone, Copy)]
+pub struct Names {
+    /// The tag of this end.
+    pub own_tag: u32,
+    /// The tag of the peer.
+    pub far_tag: u32,
+    /// The TSN of the first DATA that this end sends.
+    pub own_first: u32,
+}

@@ -3,7 +3,7 @@
 ghost use Rattle.std.specs.Prelude.{◌≡◌, ◌<◌, ◌≤◌, ◌^◌, ◌+◌, ◌-◌, [], ◌∷◌, is_some, if◌then◌else◌};
 ghost use Rattle.sctp_cookie.specs.Tags.{next_tag};
 ghost use Rattle.sctp_rules.specs.State.{put};
-ghost use Rattle.sctp_rules.specs.Opening.{opening, may_open, begun, trying_with, tag_of_try};
+ghost use Rattle.sctp_rules.specs.Opening.{opening, may_open, begun, begun_anew, trying_with, tag_of_try};
 ghost use Rattle.sctp_codec.specs.Writing.{IsChunk};
 ghost use Rattle.sctp_endpoint.specs.Settings.{address_of};
 ghost use Rattle.sctp_endpoint.specs.Replies.{chunk_of, size_of};
@@ -64,6 +64,28 @@ impl Endpoint {
     {
         match self.draw() {
             Some(tag) => self.begin_by(tag, failures, address, now, watch),
+            None => self.end_with(Loss::NoTag, None, watch),
+        }
+    }
+
+    /// A try begins anew, and the generation grows; where no tag is left it ends.
+    pub(super) fn begin_anew<W: Watch>(
+        &mut self,
+        failures: u32,
+        address: &Address,
+        now: u64,
+        watch: &mut W,
+    )
+        requires generation { self.old.state.generation < 2 ^ 64 - 1 }
+        requires now { now ≤ 2 ^ 63 }
+        ensures { Does W.sent W.told watch.old watch.new self.old self.new
+            (begun_anew self.old.settings (secrets_of self.old) now failures (address_of address.now) self.old.state) }
+    {
+        match self.draw() {
+            Some(tag) => {
+                self.generation += 1;
+                self.begin_by(tag, failures, address, now, watch);
+            }
             None => self.end_with(Loss::NoTag, None, watch),
         }
     }
