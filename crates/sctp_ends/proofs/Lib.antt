@@ -1,0 +1,5 @@
+pub mod Said
+pub mod Alike
+pub mod Steps
+pub mod Pass
+pub mod World
