@@ -1,4 +1,5 @@
 pub mod Said
 pub mod Shown
+pub mod Told
 pub mod Worlds
 pub mod Theorems
