@@ -1,5 +1,5 @@
 -- What each rule does, as moves; and changes that no move sees.
-use Rattle.std.proofs.Common.{◌≡◌, ◌≤◌, ◌<◌, inl, inr, ℕ, zero, suc, ◌+◌, ◌%◌, arith, Bool, true, false, List, [], ◌∷◌, ◌++◌, Option, Some, None, length, map, refl, ap, sym, ◌∙◌, subst}
+use Rattle.std.proofs.Common.{◌≡◌, ◌≤◌, ◌<◌, inl, inr, ℕ, suc, ◌+◌, ◌%◌, arith, Bool, true, false, List, [], ◌∷◌, ◌++◌, Option, Some, None, length, map, refl, ap, sym, ◌∙◌, subst}
 use Rattle.std.specs.Prelude.{slice_get, slice_index_or}
 use Rattle.std.specs.List.{Contains}
 use Rattle.sctp_codec.specs.Packets as packets
@@ -9,20 +9,20 @@ use Rattle.sctp_receiving.specs.Pieces.{Piece}
 use Rattle.sctp_receiving.specs.Receiver.{Receiver}
 use Rattle.sctp_sending.specs.Sending.{Sending}
 use Rattle.sctp_rules.specs.Settings.{Secrets}
-use Rattle.sctp_rules.specs.State.{Association, State, Datagram, Told, Up, Heard, Down, Failed, Done, Try, silent, followed_by}
+use Rattle.sctp_rules.specs.State.{Association, State, Datagram, Told, Up, Heard, Down, Failed, Done, Try, followed_by}
 use Rattle.sctp_rules.specs.Sending.{is_established}
 use Rattle.sctp_rules.specs.GivenMessages.{message_of}
 use Rattle.sctp_moves.specs.Numbers.{modulus, cumulative}
 use Rattle.sctp_moves.specs.Ends.{Message, Name, Epoch, CookieWait, CookieEchoed, End}
-use Rattle.sctp_moves.specs.Moves.{EndMove, EndMoves, last_end, ack_of}
+use Rattle.sctp_moves.specs.Moves.{EndMoves, last_end, ack_of}
 use Rattle.sctp_moves.proofs.Members.{In, in-from}
 use Rattle.sctp_moves.proofs.Keeping.{IsSound, sound-move}
 use Rattle.sctp_moves.proofs.Concluded.{far-differ}
-use Rattle.sctp_ends.specs.Said.{Each, named, load, since, never, Bundles, IsAck, ack_in, IsSaid, AreSaid}
-use Rattle.sctp_ends.specs.Shown.{Stage, Off, Waiting, Echoing, There, stage_of, own_name, far_name, IsIn, IsOff, IsWaiting, IsEchoing, IsPresent}
+use Rattle.sctp_ends.specs.Said.{Each, load, since, never, IsAck, ack_in, IsSaid, AreSaid}
+use Rattle.sctp_ends.specs.Shown.{Stage, Off, Waiting, Echoing, There, stage_of, own_name, far_name, IsIn, IsPresent}
 use Rattle.sctp_ends.specs.Shown.{SendsOut, TakesIn, IsPlain, Waits, Shows, IsDrawn}
 use Rattle.sctp_ends.specs.Told.{with_last, text_told, told_by, opened_by}
-use Rattle.sctp_ends.proofs.Said.{each-append, each-weaker, IsMore, more-same, more-behind, more-all-said}
+use Rattle.sctp_ends.proofs.Said.{each-append, IsMore, more-same, more-behind, more-all-said}
 
 -- ---- lists of moves
 
@@ -146,9 +146,19 @@ pub record Alike (s left : State) : Type 1 where
 
 pub itself : (s : State) → Alike s s
 itself s = record {
-  generation = refl; beginnings = refl; wanted = refl; stage = refl; established = λ e. e; own_tag = refl; own_first = refl; far_tag = refl; peer = refl;
-  sender = out-same s.association.sender; receiver = in-same s.association.receiver;
-  control = λ P h g. g; trying = λ P h. h;
+  generation = refl;
+  beginnings = refl;
+  wanted = refl;
+  stage = refl;
+  established = λ e. e;
+  own_tag = refl;
+  own_first = refl;
+  far_tag = refl;
+  peer = refl;
+  sender = out-same s.association.sender;
+  receiver = in-same s.association.receiver;
+  control = λ P h g. g;
+  trying = λ P h. h;
 }
 
 pub alike-behind : (s middle left : State) → Alike s middle → Alike middle left → Alike s left
@@ -347,7 +357,13 @@ module _ (own far : Secrets) (mark : ℕ) (other : End) where
       Goes own far mark other s (record { sent = sent; told = []; left = left })
   alike-goes s left sent a says = record {
     result = λ e sound h. record {
-      list = []; moves = tt; shows = alike-shows e s left sound a h; more = more-same e; sent = says e sound h; told = refl; given = refl;
+      list = [];
+      moves = tt;
+      shows = alike-shows e s left sound a h;
+      more = more-same e;
+      sent = says e sound h;
+      told = refl;
+      given = refl;
     };
     tagged = λ tag t on. sym a.own_tag ∙ t (ap hears a.stage ∙ on);
   }
@@ -358,26 +374,26 @@ module _ (own far : Secrets) (mark : ℕ) (other : End) where
   also-does s d rule g h e sound shown =
       together e (g e sound shown)
       (h (last_end e (g e sound shown).list) (sound-on other e (g e sound shown).list (g e sound shown).moves sound) (g e sound shown).shows) where
-    together : (e : End) (r : Result own far mark other e d) → Result own far mark other (last_end e r.list) (rule d.left) →
-        Result own far mark other e (followed_by d rule)
-    together e r q =
-        let f : End = last_end e r.list in
-        let l : End = last_end f q.list in
-        let more : IsMore e l = more-behind e f l r.more q.more in
-        let is : last_end e (r.list ++ q.list) ≡ l = last-append e r.list q.list in
-        record {
-          list = r.list ++ q.list;
-          moves = moves-append other e r.list q.list r.moves q.moves;
-          shows = subst (λ (x : End). Shows own far mark x (rule d.left).left) (sym is) q.shows;
-          more = subst (IsMore e) (sym is) more;
-          sent = subst (λ (x : End). AreSaid own far mark x (d.sent ++ (rule d.left).sent)) (sym is)
-              (each-append (λ (x : Datagram). IsSaid own far (since mark l) l x.packet.tag x.packet.chunks) d.sent (rule d.left).sent
-              (more-all-said own far mark f l q.more r.shows.later d.sent r.sent) q.sent);
-          told = ap receipts is ∙ q.told ∙ ap (λ (lists : List (List Message)). told_by lists (rule d.left).told) r.told
-              ∙ sym (told-append (receipts e) d.told (rule d.left).told);
-          given = ap gifts is ∙ q.given ∙ ap (λ (lists : List (List Message)). opened_by lists (rule d.left).told) r.given
-              ∙ sym (opened-append (gifts e) d.told (rule d.left).told);
-        }
+        together : (e : End) (r : Result own far mark other e d) → Result own far mark other (last_end e r.list) (rule d.left) →
+            Result own far mark other e (followed_by d rule)
+        together e r q =
+            let f : End = last_end e r.list in
+            let l : End = last_end f q.list in
+            let more : IsMore e l = more-behind e f l r.more q.more in
+            let is : last_end e (r.list ++ q.list) ≡ l = last-append e r.list q.list in
+            record {
+              list = r.list ++ q.list;
+              moves = moves-append other e r.list q.list r.moves q.moves;
+              shows = subst (λ (x : End). Shows own far mark x (rule d.left).left) (sym is) q.shows;
+              more = subst (IsMore e) (sym is) more;
+              sent = subst (λ (x : End). AreSaid own far mark x (d.sent ++ (rule d.left).sent)) (sym is)
+                  (each-append (λ (x : Datagram). IsSaid own far (since mark l) l x.packet.tag x.packet.chunks) d.sent (rule d.left).sent
+                  (more-all-said own far mark f l q.more r.shows.later d.sent r.sent) q.sent);
+              told = ap receipts is ∙ q.told ∙ ap (λ (lists : List (List Message)). told_by lists (rule d.left).told) r.told
+                  ∙ sym (told-append (receipts e) d.told (rule d.left).told);
+              given = ap gifts is ∙ q.given ∙ ap (λ (lists : List (List Message)). opened_by lists (rule d.left).told) r.given
+                  ∙ sym (opened-append (gifts e) d.told (rule d.left).told);
+            }
 
   pub also : (s : State) (d : Done) (rule : State → Done) → Goes own far mark other s d → Goes own far mark other d.left (rule d.left) →
       Goes own far mark other s (followed_by d rule)

@@ -1,14 +1,13 @@
 -- The rules of messages, as moves: one is given, DATA comes, an acknowledgement comes.
-use Rattle.std.proofs.Common.{◌≡◌, ◌⊎◌, inl, inr, ℕ, zero, suc, ◌+◌, ◌-◌, ◌%◌, ◌^◌, ◌<◌, ◌≤◌, arith, Bool, true, false, List, [], ◌∷◌, ◌++◌, Option, Some, None, length, map, take, refl, ap, sym, ◌∙◌, subst}
+use Rattle.std.proofs.Common.{◌≡◌, ℕ, ◌+◌, ◌-◌, ◌<◌, ◌≤◌, arith, Bool, true, false, List, [], ◌∷◌, ◌++◌, Some, length, map, take, refl, ap, sym, ◌∙◌, subst}
 use Rattle.std.proofs.Common.{nat_lt, nat_le, length-append, append_assoc}
-use Rattle.std.specs.Prelude.{◌&&◌, if◌then◌else◌, slice_get}
+use Rattle.std.specs.Prelude.{◌&&◌, slice_get}
 use Rattle.std.specs.List.{Contains}
 use Rattle.std.proofs.lemmas.Bool.Decides.{nat_tests}
-use Rattle.sctp_codec.specs.Packets.{ChunkValue, DataValue}
+use Rattle.sctp_codec.specs.Packets.{DataValue}
 use Rattle.sctp_receiving.specs.Consuming as consuming
-use Rattle.sctp_receiving.specs.Receiver.{Receiver, Steps, received}
-use Rattle.sctp_sending.specs.declared.confirmation.Confirmation.{Confirmation}
-use Rattle.sctp_sending.specs.declared.confirmation.Confirmation.TheVariants.{Old, Beyond, Of}
+use Rattle.sctp_receiving.specs.Receiver.{Steps, received}
+use Rattle.sctp_sending.specs.declared.confirmation.Confirmation.TheVariants.{Of}
 use Rattle.sctp_sending.specs.Outgoing as outgoing
 use Rattle.sctp_sending.specs.Outgoing.{ahead_of, tsn_at}
 use Rattle.sctp_sending.specs.Sending.{Sending, given, confirmation, most_messages, most_octets}
@@ -22,17 +21,16 @@ use Rattle.sctp_rules.specs.Confirming.{can_take}
 use Rattle.sctp_rules.specs.GivenMessages.{IsInOrder}
 use Rattle.sctp_rules.specs.Data.{piece_of, told_each}
 use Rattle.sctp_rules.specs.Sending.{is_established}
-use Rattle.sctp_moves.specs.Numbers.{modulus, window, number_of, cumulative, steps_between}
-use Rattle.sctp_moves.specs.Ends.{Message, Name, Answer, Cookie, Chunk, Acknowledgement, Epoch, End}
+use Rattle.sctp_moves.specs.Numbers.{window, number_of, cumulative, steps_between}
+use Rattle.sctp_moves.specs.Ends.{Message, Name, Answer, Cookie, Chunk, Epoch, End}
 use Rattle.sctp_moves.specs.Moves as moves
 use Rattle.sctp_moves.specs.Moves.{EndMove, EndMoves, last_end, chunk_of, ack_of}
 use Rattle.sctp_moves.proofs.Keeping.{IsSound}
-use Rattle.sctp_ends.specs.Said.{Each, load, since, never, young, IsData, IsAck, ack_in, IsSaid}
-use Rattle.sctp_ends.specs.Shown.{Stage, Off, Waiting, Echoing, There, stage_of, own_name, far_name, IsIn, IsPresent, SendsOut, TakesIn, IsTaken, course_of, Waits, Shows, IsDrawn}
+use Rattle.sctp_ends.specs.Said.{young, IsData, IsAck, ack_in}
+use Rattle.sctp_ends.specs.Shown.{Stage, There, stage_of, IsIn, IsPresent, SendsOut, course_of, Waits, Shows}
 use Rattle.sctp_ends.specs.Told.{with_last, text_told, text_given, told_by, opened_by}
 use Rattle.sctp_ends.proofs.Said.{each-weaker, first-in, more-in, IsMore, replaced-more, more-never, more-waits}
-use Rattle.sctp_ends.proofs.Alike.{receipts, gifts, Outcome, Result, Does, Goes, sends-same}
-use Rattle.sctp_ends.proofs.Steps.{sends-more, takes-more}
+use Rattle.sctp_ends.proofs.Alike.{gifts, Outcome, Result, Does, Goes}
 use Rattle.sctp_ends.proofs.Sent.{with_sent, last-there, given-sends, out-length, with_acked, Confirms, count-is, distance-is, confirmed-young}
 use Rattle.sctp_ends.proofs.Taken.{heard_in, AreFine, IsKept, IsSameEpoch, Takes, received-so}
 
@@ -223,20 +221,23 @@ module _ (own far : Secrets) (mark : ℕ) (other : End) where
         } in
         record {
           list = f ∷ [];
-          moves = (moves.hears_ack (record {
-            up = was.up;
-            epoch = epoch;
-            past = was.past;
-            now = was.now;
-            ack = ack_in tag number came.count;
-            there = came.there;
-            to = sym own-tag;
-            young = confirmed-young e other sound epoch here tag own-tag (ack_in tag number came.count) refl came.aged;
-            ahead = count;
-            distance = distance;
-            within = c.within;
-            after = refl;
-          }), tt);
+          moves = (
+            moves.hears_ack (record {
+              up = was.up;
+              epoch = epoch;
+              past = was.past;
+              now = was.now;
+              ack = ack_in tag number came.count;
+              there = came.there;
+              to = sym own-tag;
+              young = confirmed-young e other sound epoch here tag own-tag (ack_in tag number came.count) refl came.aged;
+              ahead = count;
+              distance = distance;
+              within = c.within;
+              after = refl;
+            }),
+            tt,
+          );
           shows = record {
             generation = h.generation;
             stage = subst (λ (stage : Stage). IsIn stage f s.is_wanted (record a { sender = t; failures = failures })) (sym there) now-there;
@@ -301,17 +302,22 @@ module _ (own far : Secrets) (mark : ℕ) (other : End) where
       } in
       record {
         list = taken ∷ f ∷ [];
-        moves = (moves.takes (record { up = was.up; epoch = epoch; past = was.past; now = was.now; message = text; room = room; after = refl }),
-        (moves.sends_chunk (record {
-          up = was.up;
-          epoch = later;
-          past = was.past;
-          now = refl;
-          place = length epoch.sent;
-          message = text;
-          taken = last-there epoch.sent text;
-          after = refl;
-        }), tt));
+        moves = (
+          moves.takes (record { up = was.up; epoch = epoch; past = was.past; now = was.now; message = text; room = room; after = refl }),
+          (
+            moves.sends_chunk (record {
+              up = was.up;
+              epoch = later;
+              past = was.past;
+              now = refl;
+              place = length epoch.sent;
+              message = text;
+              taken = last-there epoch.sent text;
+              after = refl;
+            }),
+            tt,
+          ),
+        );
         shows = record {
           generation = h.generation;
           stage = subst (λ (stage : Stage). IsIn stage f s.is_wanted (record a { sender = given a.sender m })) (sym there) now-there;

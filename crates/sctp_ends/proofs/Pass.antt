@@ -6,7 +6,6 @@ use Rattle.std.specs.Str.{bytes_eq}
 use Rattle.std.specs.List.{list_any, Contains}
 use Rattle.std.proofs.lemmas.Bool.Decides.{nat_tests}
 use Rattle.sctp_receiving.specs.Consuming as consuming
-use Rattle.sctp_receiving.specs.declared.violation.Violation.{Violation}
 use Rattle.sctp_receiving.specs.declared.violation.Violation.TheVariants as violations
 use Rattle.sctp_receiving.specs.Receiver.{received}
 use Rattle.sctp_receiving.specs.Receiver as receiving
@@ -49,14 +48,14 @@ use Rattle.sctp_moves.specs.Ends.{End}
 use Rattle.sctp_moves.specs.Moves.{MayOpen}
 use Rattle.sctp_ends.specs.Told.{with_last, text_given, told_by, opened_by, given_by}
 use Rattle.sctp_ends.specs.Theorems.{Heeds}
-use Rattle.sctp_ends.specs.Said.{Each, named, since, young, never, name_in, cookie_of, IsAnswer, IsEcho, IsData, IsAck, Bundles, Begins, IsSaid, AreSaid}
-use Rattle.sctp_ends.specs.Shown.{Stage, Off, Waiting, Echoing, There, stage_of, own_name, far_name, IsIn, IsOff, IsWaiting, IsEchoing, IsPresent}
+use Rattle.sctp_ends.specs.Said.{Each, since, young, never, cookie_of, IsAnswer, IsEcho, IsData, IsAck, Bundles, Begins, IsSaid, AreSaid}
+use Rattle.sctp_ends.specs.Shown.{Stage, Off, Waiting, Echoing, There, stage_of, IsIn, IsOff, IsWaiting, IsEchoing, IsPresent}
 use Rattle.sctp_ends.specs.Shown.{AreGood, IsPlain, Waits, Shows}
-use Rattle.sctp_ends.proofs.Said.{each-append, each-weaker, each-contains, more-same}
-use Rattle.sctp_ends.proofs.Said.{plain-bundled, waits-bundled, said-bundled, never-any}
+use Rattle.sctp_ends.proofs.Said.{each-append, each-weaker, more-same}
+use Rattle.sctp_ends.proofs.Said.{waits-bundled, said-bundled, never-any}
 use Rattle.sctp_ends.proofs.Sent.{sack-confirms, shutdown-confirms, gone-only, going-same, going-said, timed-same}
 use Rattle.sctp_ends.proofs.Messages.{data-does, confirmed-goes, given-goes}
-use Rattle.sctp_ends.proofs.Alike.{receipts, gifts, Outcome, out-same, in-same, ack-said, Result, Does, Goes, Alike, Stands, itself, alike-behind, plain-stands, alike-shows, alike-goes, also-does, also, hears, IsTagged}
+use Rattle.sctp_ends.proofs.Alike.{receipts, gifts, Outcome, out-same, in-same, ack-said, Does, Goes, Alike, Stands, itself, alike-behind, plain-stands, alike-shows, alike-goes, also-does, also, hears, IsTagged}
 use Rattle.sctp_ends.proofs.Steps.{puts, ended-goes, wants-goes, begun-goes, renewed-goes, answered-anew-goes, answered-alike-goes}
 use Rattle.sctp_ends.proofs.Steps.{echoed-goes, opened-by-ack-goes, opened-by-cookie-does}
 
@@ -179,9 +178,17 @@ with-answer : (chunk : ChunkValue) (s : State) (a : Association) → Stands (sta
 with-answer chunk s a stands l =
     choice (ending.has_place a.control chunk) s a (a.control ++ chunk ∷ []) l
     (record {
-      generation = l.generation; beginnings = l.beginnings; wanted = l.wanted; stage = l.stage; established = l.established;
-      sender = l.sender; receiver = l.receiver;
-      own_tag = l.own_tag; own_first = l.own_first; far_tag = l.far_tag; peer = l.peer;
+      generation = l.generation;
+      beginnings = l.beginnings;
+      wanted = l.wanted;
+      stage = l.stage;
+      established = l.established;
+      sender = l.sender;
+      receiver = l.receiver;
+      own_tag = l.own_tag;
+      own_first = l.own_first;
+      far_tag = l.far_tag;
+      peer = l.peer;
       control = λ P h g. each-append P a.control (chunk ∷ []) (l.control P h g) (h chunk stands, tt);
       trying = l.trying;
     })
@@ -194,9 +201,17 @@ first-alike : (chunk : ChunkValue) (s : State) → Stands (stage_of s.associatio
 first-alike chunk s stands =
     choice (ending.has_place s.association.control chunk) s s.association (chunk ∷ s.association.control) (itself s)
     (record {
-      generation = refl; beginnings = refl; wanted = refl; stage = refl; established = λ e. e;
-      own_tag = refl; own_first = refl; far_tag = refl; peer = refl;
-      sender = out-same s.association.sender; receiver = in-same s.association.receiver;
+      generation = refl;
+      beginnings = refl;
+      wanted = refl;
+      stage = refl;
+      established = λ e. e;
+      own_tag = refl;
+      own_first = refl;
+      far_tag = refl;
+      peer = refl;
+      sender = out-same s.association.sender;
+      receiver = in-same s.association.receiver;
       control = λ P h g. (h chunk stands, g);
       trying = λ P h. h;
     })
@@ -623,9 +638,11 @@ module _ (own far : Secrets) (mark : ℕ) (other : End) (good : AreGood own) whe
       echo-either-so (opening.is_own cookie s.association) tag s (opening.opened_by c now source cookie s) (nothing s)
       (λ w. opened-by c now tag source cookie s fits same present came
       (λ e h.
-      let was : IsWaiting e s.is_wanted s.association = subst (λ (phase : Phase). IsIn (stage_of phase) e s.is_wanted s.association) p h.stage in
-      (was.wants, subst (λ (phase : ends.Phase). MayOpen phase (cookie_of cookie)) (sym was.phase)
-      (eq-from cookie.own_tag s.association.own_tag w))))
+      let was : IsWaiting e s.is_wanted s.association = subst (λ (phase : Phase). IsIn (stage_of phase) e s.is_wanted s.association) p h.stage in (
+        was.wants,
+        subst (λ (phase : ends.Phase). MayOpen phase (cookie_of cookie)) (sym was.phase)
+            (eq-from cookie.own_tag s.association.own_tag w),
+      )))
       (λ w. echo-stops tag s (silent s) (stays s))
   good-echo CookieEchoed c now tag source cookie s p fits same present came =
       echo-either-so (opening.is_own cookie s.association && opening.is_far cookie s.association) tag s
@@ -633,9 +650,11 @@ module _ (own far : Secrets) (mark : ℕ) (other : End) (good : AreGood own) whe
       (λ w. opened-by c now tag source cookie s fits same present came
       (λ e h.
       let was : IsEchoing e s.is_wanted s.association = subst (λ (phase : Phase). IsIn (stage_of phase) e s.is_wanted s.association) p h.stage in
-      let parts = both-true (opening.is_own cookie s.association) (opening.is_far cookie s.association) w in
-      (was.wants, subst (λ (phase : ends.Phase). MayOpen phase (cookie_of cookie)) (sym was.phase)
-      (eq-from cookie.own_tag s.association.own_tag parts.0, eq-from cookie.peer_tag s.association.far_tag parts.1))))
+      let parts = both-true (opening.is_own cookie s.association) (opening.is_far cookie s.association) w in (
+        was.wants,
+        subst (λ (phase : ends.Phase). MayOpen phase (cookie_of cookie)) (sym was.phase)
+            (eq-from cookie.own_tag s.association.own_tag parts.0, eq-from cookie.peer_tag s.association.far_tag parts.1),
+      )))
       (λ w. echo-stops tag s (silent s) (stays s))
   good-echo Established c now tag source cookie s p fits same present came = echo-in Established c tag source cookie s
   good-echo ShutdownPending c now tag source cookie s p fits same present came = echo-in ShutdownPending c tag source cookie s
@@ -741,8 +760,14 @@ module _ (own far : Secrets) (mark : ℕ) (other : End) (good : AreGood own) whe
       let shown : Shows own far mark e left = record {
         generation = h.generation;
         stage = record {
-          up = was.up; epoch = was.epoch; past = was.past; now = was.now; own = was.own; far = was.far;
-          confirmed = was.confirmed; takes = was.takes;
+          up = was.up;
+          epoch = was.epoch;
+          past = was.past;
+          now = was.now;
+          own = was.own;
+          far = was.far;
+          confirmed = was.confirmed;
+          takes = was.takes;
           sends = gone-only e was.epoch (is_established s.association.phase) s.association.sender was.sends;
         };
         drawn = h.drawn;

@@ -1,5 +1,5 @@
 -- What was said stays said, and lists of chunks.
-use Rattle.std.proofs.Common.{◌≡◌, ◌≤◌, ◌⊎◌, inl, inr, ℕ, ◌+◌, arith, List, [], ◌∷◌, ◌++◌, length, refl, ap, sym, ◌∙◌, subst}
+use Rattle.std.proofs.Common.{◌≡◌, ◌≤◌, inl, inr, ℕ, ◌+◌, arith, List, [], ◌∷◌, ◌++◌, length, refl, ap, sym, ◌∙◌, subst}
 use Rattle.std.specs.List.{Contains}
 use Rattle.std.proofs.lemmas.List.Elements.{Contains-append_right}
 use Rattle.sctp_codec.specs.Packets as packets
@@ -9,7 +9,7 @@ use Rattle.sctp_rules.specs.State.{Datagram}
 use Rattle.sctp_moves.specs.Numbers.{window}
 use Rattle.sctp_moves.specs.Ends.{Name, Answer, Cookie, Chunk, Acknowledgement, Epoch, End}
 use Rattle.sctp_moves.proofs.Members.{contains-from, in-from, In}
-use Rattle.sctp_ends.specs.Said.{Each, load, Age, since, never, Bundles, Begins, IsAnswer, IsEcho, IsData, IsAck, IsSaid, AreSaid}
+use Rattle.sctp_ends.specs.Said.{Each, load, Age, since, never, Bundles, Begins, IsData, IsAck, IsSaid, AreSaid}
 use Rattle.sctp_ends.specs.Shown.{IsPlain, Stage, Off, Waiting, Echoing, There, Waits}
 
 -- ---- lists
@@ -221,16 +221,28 @@ module _ (own far : Secrets) where
   more-never e f m tag chunks h =
       said-older never never e f
       (record {
-        inits = m.inits; answers = m.answers; echoes = m.echoes; cookie_acks = m.cookie_acks; chunks = m.chunks; acks = m.acks;
-        chunk = λ d b. b; ack = λ a b. b;
+        inits = m.inits;
+        answers = m.answers;
+        echoes = m.echoes;
+        cookie_acks = m.cookie_acks;
+        chunks = m.chunks;
+        acks = m.acks;
+        chunk = λ d b. b;
+        ack = λ a b. b;
       }) own far tag chunks h
 
   pub never-any : (age : Age) (e : End) (tag : ℕ) (chunks : List ChunkValue) → IsSaid own far never e tag chunks → IsSaid own far age e tag chunks
   never-any age e tag chunks h =
       said-older never age e e
       (record {
-        inits = λ n i. i; answers = λ n i. i; echoes = λ n i. i; cookie_acks = λ n i. i; chunks = λ n i. i; acks = λ n i. i;
-        chunk = λ d b. absurd b; ack = λ a b. absurd b;
+        inits = λ n i. i;
+        answers = λ n i. i;
+        echoes = λ n i. i;
+        cookie_acks = λ n i. i;
+        chunks = λ n i. i;
+        acks = λ n i. i;
+        chunk = λ d b. absurd b;
+        ack = λ a b. absurd b;
       }) own far tag chunks h
 
   pub begins-bundled : (age : Age) (e : End) (tag : ℕ) (chunk : ChunkValue) → Bundles age e tag chunk → Begins own far age e tag chunk

@@ -1,36 +1,34 @@
 -- Messages that are given, go out, and are confirmed, as moves.
 use Rattle.std.proofs.Common.{◌≡◌, ◌⊎◌, inl, inr, ℕ, zero, suc, ◌+◌, ◌-◌, ◌%◌, ◌^◌, ◌<◌, ◌≤◌, arith, Bool, true, false, List, [], ◌∷◌, ◌++◌, Option, Some, None, length, map, take, drop, refl, ap, sym, ◌∙◌, subst}
 use Rattle.std.proofs.Common.{nat_lt, nat_le, length-append}
-use Rattle.std.specs.Prelude.{◌&&◌, if◌then◌else◌, slice_get}
+use Rattle.std.specs.Prelude.{if◌then◌else◌, slice_get}
 use Rattle.std.specs.List.{Contains}
 use Rattle.std.proofs.lemmas.Grind.{common_steps}
 use Rattle.std.proofs.lemmas.Bool.Decides.{nat_tests}
 use Rattle.std.proofs.lemmas.List.{map-append, length-map, length-set}
 use Rattle.std.proofs.lemmas.List.Elements.{All-nil}
-use Rattle.sctp_codec.specs.Packets as packets
-use Rattle.sctp_codec.specs.Packets.{ChunkValue, DataValue, SackValue}
+use Rattle.sctp_codec.specs.Packets.{DataValue}
 use Rattle.sctp_sending.specs.declared.confirmation.Confirmation.{Confirmation}
 use Rattle.sctp_sending.specs.declared.confirmation.Confirmation.TheVariants.{Old, Beyond, Of}
 use Rattle.sctp_sending.specs.Outgoing as outgoing
 use Rattle.sctp_sending.specs.Outgoing.{Outgoing, new_outgoing, no_message, outgoing_at, tsn_at, ahead_of}
-use Rattle.sctp_sending.specs.Sending.{Sending, given, next_place, next_of, gone_next, gone_again, gone_first, confirmation, after_sack, after_cumulative, after_t3, most_octets}
+use Rattle.sctp_sending.specs.Sending.{Sending, given, next_place, gone_next, gone_again, gone_first, confirmation, after_sack, after_cumulative, after_t3}
 use Rattle.sctp_sending.specs.Outgoing.{gone_out, lost_from}
-use Rattle.sctp_rules.specs.Confirming.{can_take, data_at, going, gone_from, only_gone}
+use Rattle.sctp_rules.specs.Confirming.{data_at, going, gone_from, only_gone}
 use Rattle.sctp_rules.specs.GivenMessages as courses
 use Rattle.sctp_rules.specs.GivenMessages.{Course, IsInOrder, IsGiven, message_of, counted}
-use Rattle.sctp_rules.proofs.GivenMessages.{IsCourse, call-so, kept-at, next-within, timed-alike, again-alike, left-over, drop-on}
+use Rattle.sctp_rules.proofs.GivenMessages.{IsCourse, call-so, kept-at, next-within, timed-alike, left-over}
 use Rattle.sctp_moves.specs.Numbers.{modulus, window, number_of, cumulative, steps_between}
-use Rattle.sctp_moves.specs.Ends.{Message, Name, Chunk, Acknowledgement, Epoch, End}
-use Rattle.sctp_moves.specs.Moves as moves
-use Rattle.sctp_moves.specs.Moves.{EndMove, EndMoves, chunk_of, ack_of}
+use Rattle.sctp_moves.specs.Ends.{Message, Chunk, Acknowledgement, Epoch, End}
+use Rattle.sctp_moves.specs.Moves.{chunk_of}
 use Rattle.sctp_moves.specs.Theorems.{HasOther}
-use Rattle.sctp_moves.proofs.Members.{In, in-from, contains-from}
+use Rattle.sctp_moves.proofs.Members.{In, in-from}
 use Rattle.sctp_moves.proofs.Keeping.{IsSound}
 use Rattle.sctp_moves.proofs.Concluded.{has-other}
-use Rattle.sctp_ends.specs.Said.{Each, load, since, young, IsData, chunk_in, text_in, IsAck}
+use Rattle.sctp_ends.specs.Said.{Each, load, since, young, IsData, chunk_in, text_in}
 use Rattle.sctp_ends.specs.Shown.{SendsOut, IsTaken, given_as, texts, course_of}
 use Rattle.sctp_ends.specs.Told.{text_given}
-use Rattle.sctp_ends.proofs.Said.{first-in, more-in}
+use Rattle.sctp_ends.proofs.Said.{first-in}
 use Rattle.sctp_ends.proofs.Alike.{SameOut, out-same, sends-same, only-one}
 
 -- ---- lists
@@ -376,13 +374,14 @@ module _ (mark : ℕ) (e other : End) (sound : IsSound e other) (late : mark ≤
   going-said zero now b s h = tt
   going-said (suc many) now b s h =
       by (next_place s) refl (λ left g. going-said many now b left g) where
-    by : (found : Option ℕ) → next_place s ≡ found →
-        ((left : Sending) → SendsOut e epoch b left → Each (IsData (since mark e) e tag) (going many now left).chunks) →
-        Each (IsData (since mark e) e tag) (gone_from (λ left. going many now left) now found s).chunks
-    by None q rest = tt
-    by (Some place) q rest =
-        (data-said b s place (place-within s place q) h,
-        rest (gone_next s now (Some place)) (sends-same e epoch b b s (gone_next s now (Some place)) (λ x. x) (next-same (Some place) s now q) h))
+        by : (found : Option ℕ) → next_place s ≡ found →
+            ((left : Sending) → SendsOut e epoch b left → Each (IsData (since mark e) e tag) (going many now left).chunks) →
+            Each (IsData (since mark e) e tag) (gone_from (λ left. going many now left) now found s).chunks
+        by None q rest = tt
+        by (Some place) q rest = (
+          data-said b s place (place-within s place q) h,
+          rest (gone_next s now (Some place)) (sends-same e epoch b b s (gone_next s now (Some place)) (λ x. x) (next-same (Some place) s now q) h),
+        )
 
 pub going-same : (many now : ℕ) (s : Sending) → SameOut s (going many now s).left
 unfolding going

@@ -1,18 +1,16 @@
 -- The rules that make moves: tries, answers, openings and ends.
-use Rattle.std.proofs.Common.{◌≡◌, ◌≢◌, ◌⊎◌, inl, inr, ℕ, ◌+◌, ◌%◌, ◌<◌, ◌≤◌, arith, Bool, true, false, List, [], ◌∷◌, ◌++◌, Option, Some, None, length, replicate, get_or, refl, ap, sym, ◌∙◌, subst}
+use Rattle.std.proofs.Common.{◌≡◌, ◌⊎◌, inl, inr, ℕ, ◌+◌, ◌%◌, ◌<◌, ◌≤◌, arith, Bool, true, false, List, [], ◌∷◌, ◌++◌, Option, Some, None, length, replicate, get_or, refl, ap, sym, ◌∙◌, subst}
 use Rattle.std.proofs.lemmas.Grind.{common_steps}
 use Rattle.std.proofs.lemmas.List.{length-replicate, get_or-replicate}
 use Rattle.std.proofs.lemmas.List.Elements.{All-nil}
 use Rattle.std.specs.Prelude.{slice_get}
-use Rattle.std.specs.Prelude.{nat_eq, if◌then◌else◌}
+use Rattle.std.specs.Prelude.{if◌then◌else◌}
 use Rattle.std.specs.List.{Contains}
 use Rattle.sctp_codec.specs.Items.{ItemValue}
 use Rattle.sctp_codec.specs.Packets as packets
 use Rattle.sctp_codec.specs.Packets.{ChunkValue, InitValue, DataValue}
-use Rattle.sctp_codec.specs.Parameters.{cookie_in, answering, complained_of, unrecognized_parameters}
+use Rattle.sctp_codec.specs.Parameters.{cookie_in, complained_of}
 use Rattle.sctp_cookie.specs.declared.cookie.Cookie.{Cookie}
-use Rattle.sctp_rules.specs.declared.phase.Phase.{Phase}
-use Rattle.sctp_rules.specs.declared.phase.Phase.TheVariants as phases
 use Rattle.sctp_rules.specs.declared.loss.Loss.{Loss}
 use Rattle.sctp_rules.specs.Settings.{Settings, Secrets, Beginning, Address}
 use Rattle.sctp_rules.specs.State as state
@@ -35,12 +33,12 @@ use Rattle.sctp_moves.specs.Moves as moves
 use Rattle.sctp_moves.proofs.Members.{In, in-from, contains-from}
 use Rattle.sctp_moves.proofs.Keeping.{IsSound}
 use Rattle.sctp_ends.specs.Told.{told_by, opened_by}
-use Rattle.sctp_ends.specs.Said.{Each, named, load, Age, since, young, never, name_in, cookie_of, IsAnswer, IsEcho, Bundles, Begins, IsSaid, AreSaid}
-use Rattle.sctp_ends.specs.Shown.{Stage, Off, Waiting, Echoing, There, stage_of, own_name, far_name, IsIn, IsOff, IsWaiting, IsEchoing, IsPresent}
+use Rattle.sctp_ends.specs.Said.{Each, named, load, Age, since, young, never, name_in, cookie_of, IsEcho, Bundles, Begins, IsSaid, AreSaid}
+use Rattle.sctp_ends.specs.Shown.{Stage, Off, Waiting, Echoing, There, stage_of, own_name, far_name, IsIn, IsOff, IsWaiting, IsEchoing}
 use Rattle.sctp_ends.specs.Shown.{SendsOut, TakesIn, AreGood, IsPlain, Waits, Shows, IsDrawn}
-use Rattle.sctp_ends.proofs.Said.{each-append, each-weaker, first-in, more-in, IsMore, IsGrown, grows_from, grows_new, more-same, more-of, more-behind, more-bundles, more-never, more-waits}
-use Rattle.sctp_ends.proofs.Said.{plain-waits, plain-bundled, waits-bundled, said-bundled}
-use Rattle.sctp_ends.proofs.Alike.{receipts, gifts, Result, Does, Goes, Alike, itself, alike-goes, hears, IsTagged}
+use Rattle.sctp_ends.proofs.Said.{each-append, each-weaker, first-in, more-in, IsMore, IsGrown, grows_from, grows_new, more-of, more-bundles, more-never, more-waits}
+use Rattle.sctp_ends.proofs.Said.{plain-bundled, waits-bundled, said-bundled}
+use Rattle.sctp_ends.proofs.Alike.{receipts, gifts, Result, Does, Goes, itself, alike-goes, hears}
 
 -- ---- ends that differ in what was put out alone
 
@@ -263,17 +261,21 @@ module _ (own far : Secrets) (mark : ℕ) (other : End) where
       begun-so : (e : End) → IsSound e other → Shows own far mark e s → Result own far mark other e (opening.begun_with c now failures address (Some b) s)
       begun-so e sound h =
           let was : IsOff e s.is_wanted = subst (λ (stage : Stage). IsIn stage e s.is_wanted s.association) off h.stage in
-          let mv : EndMoves other e (record e { wanted = true } ∷ tries e e.generation (named b.tag b.first) ∷ []) =
-          (moves.wants (record { after = refl }),
-          (moves.begins (record {
-            closed = was.phase;
-            wanted = refl;
-            own = named b.tag b.first;
-            fresh = is-fresh own good (record e { wanted = true }) s.beginnings b is h.drawn;
-            generation = e.generation;
-            later = omega arith;
-            after = refl;
-          }), tt)) in
+          let mv : EndMoves other e (record e { wanted = true } ∷ tries e e.generation (named b.tag b.first) ∷ []) = (
+            moves.wants (record { after = refl }),
+            (
+              moves.begins (record {
+                closed = was.phase;
+                wanted = refl;
+                own = named b.tag b.first;
+                fresh = is-fresh own good (record e { wanted = true }) s.beginnings b is h.drawn;
+                generation = e.generation;
+                later = omega arith;
+                after = refl;
+              }),
+              tt,
+            ),
+          ) in
           let r : Result own far mark other e (opening.begun_with c now failures address (Some b) (record s { generation = s.generation + 0 })) =
           tries-so good c now failures address b s is e h e.generation 0 (omega (arith, h.generation)) mv in
           let zero-more : s.generation + 0 ≡ s.generation = omega arith in
@@ -287,17 +289,21 @@ module _ (own far : Secrets) (mark : ℕ) (other : End) where
       renewed-so e sound h =
           let was : IsEchoing e s.is_wanted s.association = subst (λ (stage : Stage). IsIn stage e s.is_wanted s.association) echoing h.stage in
           let trying : IsTrying e.phase (own_name s.association) = subst (λ (p : ends.Phase). IsTrying p (own_name s.association)) (sym was.phase) refl in
-          let mv : EndMoves other e (record e { wanted = true } ∷ tries e (e.generation + 1) (named b.tag b.first) ∷ []) =
-          (moves.wants (record { after = refl }),
-          (moves.renews (record {
-            old = own_name s.association;
-            trying = trying;
-            own = named b.tag b.first;
-            fresh = is-fresh own good (record e { wanted = true }) s.beginnings b is h.drawn;
-            generation = e.generation + 1;
-            later = omega arith;
-            after = refl;
-          }), tt)) in
+          let mv : EndMoves other e (record e { wanted = true } ∷ tries e (e.generation + 1) (named b.tag b.first) ∷ []) = (
+            moves.wants (record { after = refl }),
+            (
+              moves.renews (record {
+                old = own_name s.association;
+                trying = trying;
+                own = named b.tag b.first;
+                fresh = is-fresh own good (record e { wanted = true }) s.beginnings b is h.drawn;
+                generation = e.generation + 1;
+                later = omega arith;
+                after = refl;
+              }),
+              tt,
+            ),
+          ) in
           tries-so good c now failures address b s is e h (e.generation + 1) 1 (omega (arith, h.generation)) mv
 
   -- ---- INIT is answered
@@ -415,14 +421,17 @@ module _ (own far : Secrets) (mark : ℕ) (other : End) where
         } in
         record {
           list = f ∷ [];
-          moves = (moves.echoes (record {
-            own = own_name s.association;
-            waits = was.phase;
-            answer = record { to = tag; own = name_in init; cookie = cookie_of came.cookie };
-            there = came.there;
-            to = sym tag_is;
-            after = refl;
-          }), tt);
+          moves = (
+            moves.echoes (record {
+              own = own_name s.association;
+              waits = was.phase;
+              answer = record { to = tag; own = name_in init; cookie = cookie_of came.cookie };
+              there = came.there;
+              to = sym tag_is;
+              after = refl;
+            }),
+            tt,
+          );
           shows = record {
             generation = h.generation;
             stage = record { phase = refl; fits = was.fits; wants = was.wants; wanted_is = was.wanted_is };
@@ -519,8 +528,13 @@ module _ (own far : Secrets) (mark : ℕ) (other : End) where
       } in
       record {
         list = opens e name away ∷ confirms e name away ∷ f ∷ [];
-        moves = (mv, (moves.sends_cookie_ack (record { up = refl; epoch = first; past = e.epochs; now = refl; after = refl }),
-        (moves.sends_ack (record { up = refl; epoch = first; past = e.epochs; now = refl; after = refl }), tt)));
+        moves = (
+          mv,
+          (
+            moves.sends_cookie_ack (record { up = refl; epoch = first; past = e.epochs; now = refl; after = refl }),
+            (moves.sends_ack (record { up = refl; epoch = first; past = e.epochs; now = refl; after = refl }), tt),
+          ),
+        );
         shows = record {
           generation = omega (arith, h.generation);
           stage = record {

@@ -1,7 +1,7 @@
 -- DATA that comes, as moves.
-use Rattle.std.proofs.Common.{◌≡◌, ◌≢◌, ◌⊎◌, inl, inr, ℕ, zero, suc, ◌+◌, ◌-◌, ◌%◌, ◌^◌, ◌<◌, ◌≤◌, arith, Bool, true, false, List, [], ◌∷◌, ◌++◌, Option, Some, None, length, set, get_or, refl, ap, sym, ◌∙◌, subst}
-use Rattle.std.proofs.Common.{nat_lt, nat_le, length-append, append_assoc}
-use Rattle.std.specs.Prelude.{is_some, if◌then◌else◌, map}
+use Rattle.std.proofs.Common.{◌≡◌, inl, inr, ℕ, zero, suc, ◌+◌, ◌-◌, ◌%◌, ◌^◌, ◌<◌, ◌≤◌, arith, Bool, true, false, List, [], ◌∷◌, ◌++◌, Option, Some, None, length, set, get_or, refl, ap, sym, ◌∙◌, subst}
+use Rattle.std.proofs.Common.{nat_lt, length-append, append_assoc}
+use Rattle.std.specs.Prelude.{is_some, if◌then◌else◌}
 use Rattle.std.specs.List.{Contains}
 use Rattle.std.proofs.lemmas.Bool.{cases_lt}
 use Rattle.std.proofs.lemmas.Bool.Decides.{nat_tests}
@@ -19,13 +19,13 @@ use Rattle.sctp_receiving.specs.declared.limits.TheConstants.{CHUNKS, MESSAGE_OC
 use Rattle.sctp_receiving.proofs.Courses.{IsNext, stands-next, IsEarly, stands-early, apart}
 use Rattle.sctp_rules.specs.declared.limits.TheConstants.{STREAMS}
 use Rattle.sctp_rules.specs.Data.{piece_of}
-use Rattle.sctp_moves.specs.Numbers.{modulus, window, number_of, cumulative}
+use Rattle.sctp_moves.specs.Numbers.{number_of, cumulative}
 use Rattle.sctp_moves.specs.Ends.{Message, Name, Answer, Cookie, Chunk, Acknowledgement, Epoch, Phase, Established, End}
 use Rattle.sctp_moves.specs.Ends as ends
 use Rattle.sctp_moves.specs.Moves as moves
 use Rattle.sctp_moves.specs.Moves.{EndMove, EndMoves, last_end, chunk_of, ack_of}
 use Rattle.sctp_moves.proofs.Keeping.{IsSound}
-use Rattle.sctp_ends.specs.Said.{Each, load, young, IsData, chunk_in, text_in}
+use Rattle.sctp_ends.specs.Said.{young, IsData, chunk_in}
 use Rattle.sctp_ends.specs.Shown.{TakesIn, IsWhole, IsHeard, text_of}
 use Rattle.sctp_ends.specs.Told.{text_told}
 use Rattle.sctp_ends.proofs.Said.{first-in, more-in}
@@ -92,8 +92,16 @@ pub record IsKept (e f : End) : Type 0 where
 
 kept-itself : (e : End) → IsKept e e
 kept-itself e = record {
-  generation = refl; wanted = refl; drawn = refl; phase = refl; inits = refl; answers = refl; echoes = refl; cookie_acks = refl;
-  chunks = refl; acks = λ a i. i;
+  generation = refl;
+  wanted = refl;
+  drawn = refl;
+  phase = refl;
+  inits = refl;
+  answers = refl;
+  echoes = refl;
+  cookie_acks = refl;
+  chunks = refl;
+  acks = λ a i. i;
 }
 
 kept-on : (e f g : End) → IsKept e f → IsKept f g → IsKept e g
@@ -321,12 +329,22 @@ module _ (other : End) (past : List Epoch) where
       let counted : length (epoch.received ++ m ∷ []) ≡ length epoch.received + 1 = length-append epoch.received (m ∷ []) in
       record {
         list = told ∷ f ∷ [];
-        moves = (moves.hands_up (record { up = up; epoch = epoch; past = past; now = now; message = m; next = heard; after = refl }),
-        (moves.sends_ack (record { up = up; epoch = later; past = past; now = refl; after = refl }), tt));
+        moves = (
+          moves.hands_up (record { up = up; epoch = epoch; past = past; now = now; message = m; next = heard; after = refl }),
+          (moves.sends_ack (record { up = up; epoch = later; past = past; now = refl; after = refl }), tt),
+        );
         after = later;
         kept = record {
-          generation = refl; wanted = refl; drawn = refl; phase = refl; inits = refl; answers = refl; echoes = refl; cookie_acks = refl;
-          chunks = refl; acks = λ a i. more-in (ack_of later) e.acks a i;
+          generation = refl;
+          wanted = refl;
+          drawn = refl;
+          phase = refl;
+          inits = refl;
+          answers = refl;
+          echoes = refl;
+          cookie_acks = refl;
+          chunks = refl;
+          acks = λ a i. more-in (ack_of later) e.acks a i;
         };
         epochs = refl;
         same = record { own = refl; far = refl; sent = refl; acked = refl };
@@ -358,37 +376,37 @@ module _ (other : End) (past : List Epoch) where
   drained-so zero e epoch r up now h = idle e epoch (record { left = r; told = [] }) now refl tt h
   drained-so (suc many) e epoch r up now h =
       by (next_held r) refl (λ f later q u n t. drained-so many f later q u n t) where
-    by : (found : Option Piece) → next_held r ≡ found →
-        ((f : End) (later : Epoch) (q : Receiver) → f.phase ≡ Established → f.epochs ≡ later ∷ past → TakesIn f later q →
-        Takes other f later past (drained many q)) →
-        Takes other e epoch past
-        (if is_some found then and_then (λ left. drained many left) (taken_next found r) else record { left = r; told = [] })
-    by None q rest = idle e epoch (record { left = r; told = [] }) now refl tt h
-    by (Some p) q rest =
-        let cum : ℕ = r.cumulative in
-        let place : ℕ = (cum + 1) % 2 ^ 32 % 256 in
-        let held : List (Option Piece) = set r.held place None in
-        let in-turn : (cum + 1) % 256 ≡ place = omega arith in
-        let there : get_or r.held ((cum + 1) % 256) None ≡ Some p = ap (λ (i : ℕ). get_or r.held i None) in-turn ∙ q in
-        let was : IsHeard epoch 1 p = h.held 1 p (omega arith) (omega arith) there in
-        let first : length epoch.received + (1 - 1) ≡ length epoch.received = omega arith in
-        let heard : Contains epoch.heard (record { place = length epoch.received; message = text_of p }) =
-        subst (λ (n : ℕ). Contains epoch.heard (record { place = n; message = text_of p })) first was.heard in
-        let long : length held ≡ 256 = length-set r.held place None ∙ h.places in
-        let one : Takes other e epoch past
-        (record {
-          left = record r { held = held; cumulative = next_tsn cum; partial = None };
-          told = consuming.Tells (consuming.message_of (consuming.begun p)) ∷ [];
-        }) =
-        hands e epoch r held p up now h was.whole heard long (cleared epoch r.held cum place h.places (omega arith) h.held)
-        (get_or-set_same r.held place None None (omega (arith, h.places))) in
-        let left : Receiver = record r { held = held; cumulative = next_tsn cum; partial = None } in
-        let told : consuming.Told = consuming.Tells (consuming.message_of (consuming.begun p)) in
-        let all : Takes other e epoch past (receiving.followed_by told (drained many left)) =
-        behind e epoch left told (drained many left) one
-        (rest (last_end e one.list) one.after left (one.kept.phase ∙ up) one.epochs one.takes) in
-        let is : taken_next (Some p) r ≡ record { left = left; told = told } = taken-is (with_piece r (next_tsn cum) None) p h.streams h.partial was.whole in
-        subst (λ (step : Step). Takes other e epoch past (and_then (λ x. drained many x) step)) (sym is) all
+        by : (found : Option Piece) → next_held r ≡ found →
+            ((f : End) (later : Epoch) (q : Receiver) → f.phase ≡ Established → f.epochs ≡ later ∷ past → TakesIn f later q →
+            Takes other f later past (drained many q)) →
+            Takes other e epoch past
+            (if is_some found then and_then (λ left. drained many left) (taken_next found r) else record { left = r; told = [] })
+        by None q rest = idle e epoch (record { left = r; told = [] }) now refl tt h
+        by (Some p) q rest =
+            let cum : ℕ = r.cumulative in
+            let place : ℕ = (cum + 1) % 2 ^ 32 % 256 in
+            let held : List (Option Piece) = set r.held place None in
+            let in-turn : (cum + 1) % 256 ≡ place = omega arith in
+            let there : get_or r.held ((cum + 1) % 256) None ≡ Some p = ap (λ (i : ℕ). get_or r.held i None) in-turn ∙ q in
+            let was : IsHeard epoch 1 p = h.held 1 p (omega arith) (omega arith) there in
+            let first : length epoch.received + (1 - 1) ≡ length epoch.received = omega arith in
+            let heard : Contains epoch.heard (record { place = length epoch.received; message = text_of p }) =
+            subst (λ (n : ℕ). Contains epoch.heard (record { place = n; message = text_of p })) first was.heard in
+            let long : length held ≡ 256 = length-set r.held place None ∙ h.places in
+            let one : Takes other e epoch past
+            (record {
+              left = record r { held = held; cumulative = next_tsn cum; partial = None };
+              told = consuming.Tells (consuming.message_of (consuming.begun p)) ∷ [];
+            }) =
+            hands e epoch r held p up now h was.whole heard long (cleared epoch r.held cum place h.places (omega arith) h.held)
+            (get_or-set_same r.held place None None (omega (arith, h.places))) in
+            let left : Receiver = record r { held = held; cumulative = next_tsn cum; partial = None } in
+            let told : consuming.Told = consuming.Tells (consuming.message_of (consuming.begun p)) in
+            let all : Takes other e epoch past (receiving.followed_by told (drained many left)) =
+            behind e epoch left told (drained many left) one
+            (rest (last_end e one.list) one.after left (one.kept.phase ∙ up) one.epochs one.takes) in
+            let is : taken_next (Some p) r ≡ record { left = left; told = told } = taken-is (with_piece r (next_tsn cum) None) p h.streams h.partial was.whole in
+            subst (λ (step : Step). Takes other e epoch past (and_then (λ x. drained many x) step)) (sym is) all
 
   -- ---- a chunk comes
 
@@ -430,12 +448,20 @@ module _ (other : End) (past : List Epoch) where
     heard-so Beyond e epoch r sound up now t h st =
         (record { left = r; told = consuming.Nothing }, refl, tt, idle e epoch (record { left = r; told = consuming.Nothing ∷ [] }) now refl tt h)
     heard-so Again e epoch r sound up now t h st =
-        let left : Receiver = receiving.repeated r d.tsn in
-        (record { left = left; told = consuming.Nothing }, refl, tt,
-        idle e epoch (record { left = left; told = consuming.Nothing ∷ [] }) now refl tt (noted (nat_lt (length r.duplicates) _) (r.duplicates ++ d.tsn ∷ []) h)) where
+        let left : Receiver = receiving.repeated r d.tsn in (
+          record { left = left; told = consuming.Nothing },
+          refl,
+          tt,
+          idle e epoch (record { left = left; told = consuming.Nothing ∷ [] }) now refl tt (noted (nat_lt (length r.duplicates) _) (r.duplicates ++ d.tsn ∷ []) h),
+        ) where
           noted : (b : Bool) (more : List ℕ) → TakesIn e epoch r → TakesIn e epoch (if b then record r { duplicates = more } else r)
           noted true more h = record {
-            streams = h.streams; partial = h.partial; cumulative_is = h.cumulative_is; places = h.places; held = h.held; acknowledged = h.acknowledged;
+            streams = h.streams;
+            partial = h.partial;
+            cumulative_is = h.cumulative_is;
+            places = h.places;
+            held = h.held;
+            acknowledged = h.acknowledged;
           }
           noted false more h = h
     heard-so Early e epoch r sound up now t h st =
@@ -444,29 +470,40 @@ module _ (other : End) (past : List Epoch) where
         let k : ends.Piece = record { place = length epoch.received + (ahead r d.tsn - 1); message = text_of p } in
         let later : Epoch = with_heard epoch k in
         let f : End = record e { epochs = later ∷ past } in
-        let left : Receiver = with_piece r d.tsn (Some p) in
-        (record { left = left; told = consuming.Nothing }, refl, tt,
-        record {
-          list = f ∷ [];
-          moves = (hearing e epoch r sound up now t h early.above early.within, tt);
-          after = later;
-          kept = record {
-            generation = refl; wanted = refl; drawn = refl; phase = refl; inits = refl; answers = refl; echoes = refl; cookie_acks = refl;
-            chunks = refl; acks = λ a i. i;
-          };
-          epochs = refl;
-          same = record { own = refl; far = refl; sent = refl; acked = refl };
-          received = sym (nothing-behind epoch.received);
-          fine = tt;
-          takes = record {
-            streams = h.streams;
-            partial = h.partial;
-            cumulative_is = h.cumulative_is;
-            places = length-set r.held (d.tsn % 256) (Some p) ∙ h.places;
-            held = placed epoch r.held r.cumulative d.tsn p h.places (cum-fits e epoch r h) early.above early.within whole h.held;
-            acknowledged = h.acknowledged;
-          };
-        }) where
+        let left : Receiver = with_piece r d.tsn (Some p) in (
+          record { left = left; told = consuming.Nothing },
+          refl,
+          tt,
+          record {
+            list = f ∷ [];
+            moves = (hearing e epoch r sound up now t h early.above early.within, tt);
+            after = later;
+            kept = record {
+              generation = refl;
+              wanted = refl;
+              drawn = refl;
+              phase = refl;
+              inits = refl;
+              answers = refl;
+              echoes = refl;
+              cookie_acks = refl;
+              chunks = refl;
+              acks = λ a i. i;
+            };
+            epochs = refl;
+            same = record { own = refl; far = refl; sent = refl; acked = refl };
+            received = sym (nothing-behind epoch.received);
+            fine = tt;
+            takes = record {
+              streams = h.streams;
+              partial = h.partial;
+              cumulative_is = h.cumulative_is;
+              places = length-set r.held (d.tsn % 256) (Some p) ∙ h.places;
+              held = placed epoch r.held r.cumulative d.tsn p h.places (cum-fits e epoch r h) early.above early.within whole h.held;
+              acknowledged = h.acknowledged;
+            };
+          },
+        ) where
           nothing-behind : (ms : List Message) → ms ++ [] ≡ ms
           nothing-behind [] = refl
           nothing-behind (m ∷ ms) = ap (λ xs. m ∷ xs) (nothing-behind ms)
@@ -480,8 +517,12 @@ module _ (other : End) (past : List Epoch) where
         let told : consuming.Told = consuming.Tells (consuming.message_of (consuming.begun p)) in
         let left : Receiver = record r { cumulative = next_tsn r.cumulative; partial = None } in
         let here : TakesIn f later r = record {
-          streams = h.streams; partial = h.partial; cumulative_is = h.cumulative_is; places = h.places;
-          held = heard-more epoch k r.held r.cumulative h.held; acknowledged = h.acknowledged;
+          streams = h.streams;
+          partial = h.partial;
+          cumulative_is = h.cumulative_is;
+          places = h.places;
+          held = heard-more epoch k r.held r.cumulative h.held;
+          acknowledged = h.acknowledged;
         } in
         let first : length epoch.received + (ahead r d.tsn - 1) ≡ length epoch.received = omega (arith, one) in
         let heard : Contains later.heard (record { place = length epoch.received; message = text_of p }) =
@@ -489,23 +530,34 @@ module _ (other : End) (past : List Epoch) where
         let free : get_or r.held ((r.cumulative + 1) % 2 ^ 32 % 256) None ≡ None =
         ap (λ (i : ℕ). get_or r.held i None) (sym (next-place r.cumulative d.tsn (cum-fits e epoch r h) one)) ∙ next.free in
         let u : Takes other f later past (record { left = left; told = told ∷ [] }) =
-        hands f later r r.held p up refl here whole heard h.places here.held free in
-        (record { left = left; told = told }, taken-is r p h.streams h.partial whole, tt,
-        record {
-          list = f ∷ u.list;
-          moves = (hearing e epoch r sound up now t h (omega (arith, one)) (omega (arith, one)), u.moves);
-          after = u.after;
-          kept = kept-on e f (last_end f u.list)
-              (record {
-                generation = refl; wanted = refl; drawn = refl; phase = refl; inits = refl; answers = refl; echoes = refl; cookie_acks = refl;
-                chunks = refl; acks = λ a i. i;
-              }) u.kept;
-          epochs = u.epochs;
-          same = record { own = u.same.own; far = u.same.far; sent = u.same.sent; acked = u.same.acked };
-          received = u.received;
-          fine = u.fine;
-          takes = u.takes;
-        })
+        hands f later r r.held p up refl here whole heard h.places here.held free in (
+          record { left = left; told = told },
+          taken-is r p h.streams h.partial whole,
+          tt,
+          record {
+            list = f ∷ u.list;
+            moves = (hearing e epoch r sound up now t h (omega (arith, one)) (omega (arith, one)), u.moves);
+            after = u.after;
+            kept = kept-on e f (last_end f u.list)
+                (record {
+                  generation = refl;
+                  wanted = refl;
+                  drawn = refl;
+                  phase = refl;
+                  inits = refl;
+                  answers = refl;
+                  echoes = refl;
+                  cookie_acks = refl;
+                  chunks = refl;
+                  acks = λ a i. i;
+                }) u.kept;
+            epochs = u.epochs;
+            same = record { own = u.same.own; far = u.same.far; sent = u.same.sent; acked = u.same.acked };
+            received = u.received;
+            fine = u.fine;
+            takes = u.takes;
+          },
+        )
 
     pub received-so : (e : End) (epoch : Epoch) (r : Receiver) → IsSound e other → e.phase ≡ Established → e.epochs ≡ epoch ∷ past →
         epoch.own.tag ≡ tag → TakesIn e epoch r → Takes other e epoch past (received r d.tsn (piece_of d))

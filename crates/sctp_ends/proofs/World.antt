@@ -1,28 +1,27 @@
 -- Runs of two endpoints as moves of two ends.
-use Rattle.std.proofs.Common.{◌≡◌, ◌≢◌, ◌⊎◌, inl, inr, ◌<◌, ◌≤◌, ℕ, zero, suc, ◌+◌, ◌*◌, arith, List, [], ◌∷◌, ◌++◌, Option, Some, None, map, length, take, refl, ap, sym, ◌∙◌, subst}
-use Rattle.std.specs.Prelude.{slice_get, sum_by}
+use Rattle.std.proofs.Common.{◌≡◌, inl, inr, ◌<◌, ◌≤◌, ℕ, zero, suc, ◌+◌, ◌*◌, arith, List, [], ◌∷◌, ◌++◌, Some, map, length, take, refl, ap, sym, ◌∙◌, subst}
+use Rattle.std.specs.Prelude.{slice_get}
 use Rattle.std.specs.List.{Contains}
 use Rattle.std.proofs.lemmas.Grind.{common_steps}
 use Rattle.sctp_codec.specs.Packets.{PacketValue}
 use Rattle.sctp_rules.specs.Settings.{Settings, Secrets}
-use Rattle.sctp_rules.specs.State.{State, Datagram, Done, Told, first_state}
+use Rattle.sctp_rules.specs.State.{State, Datagram, Done}
 use Rattle.sctp_rules.specs.Endpoint.{Happening, Opens, Came, Ticked, Sends, Aborts, ShutsDown, Flushes, after}
 use Rattle.sctp_moves.specs.Numbers.{modulus, window}
-use Rattle.sctp_moves.specs.Ends.{Message, Name, Chunk, Acknowledgement, Epoch, Closed, End, new_end, Ends, new_ends, turned}
-use Rattle.sctp_moves.specs.Moves.{EndMoves, last_end, Moves, last_of}
+use Rattle.sctp_moves.specs.Ends.{Message, Epoch, End, new_end, Ends, new_ends, turned}
+use Rattle.sctp_moves.specs.Moves.{last_end, Moves, last_of}
 use Rattle.sctp_moves.specs.Theorems.{both, AreMoves, BothWays, AreOne, CarriesOver, Carries, HasOther, OwnTagsDiffer, FarTagsDiffer, AreInOrder}
-use Rattle.sctp_moves.specs.Theorems as theorems
 use Rattle.sctp_moves.proofs.Joining.{near-moves, far-moves, moves-join}
 use Rattle.sctp_moves.proofs.Concluded.{prefix-always, received-always, own-always, far-always, order-always, first-always, second-always}
 use Rattle.sctp_moves.proofs.Keeping.{IsSound, turned-sound, sound-always}
 use Rattle.sctp_moves.proofs.Members.{In, in-from, contains-from, in-place}
-use Rattle.sctp_ends.specs.Said.{Each, load, Age, since, young, IsSaid, AreSaid}
-use Rattle.sctp_ends.specs.Shown.{AreGood, Waits, stage_of, Shows, IsDrawn}
+use Rattle.sctp_ends.specs.Said.{Each, load, since, young, IsSaid}
+use Rattle.sctp_ends.specs.Shown.{AreGood, Waits, stage_of, Shows}
 use Rattle.sctp_ends.specs.Told.{told_by, opened_by, given_by}
-use Rattle.sctp_ends.specs.Worlds.{Emitted, Site, new_site, count, messages_at, marked_by, emitted, with_done, World, Make, new_world, Arrives, MayHappen, happened, Step, at_near, at_far, Steps, last_world}
-use Rattle.sctp_ends.specs.Theorems.{Heeds, received_in, sent_in, AreMovesOf, AreReached, steps_are_moves, IsEmitted, ShowsSite, IsShown, Always, worlds_are_shown}
-use Rattle.sctp_ends.specs.Theorems.{AreGiven, IsGiven, Delivers, DeliverBoth, told_messages_were_given, OpensInTurn, AreAssociated, associations_have_the_laws}
-use Rattle.sctp_ends.proofs.Said.{each-append, each-weaker, each-contains, more-said, said-older, Older, IsMore}
+use Rattle.sctp_ends.specs.Worlds.{Site, new_site, count, messages_at, marked_by, emitted, with_done, World, Make, new_world, MayHappen, Step, at_near, at_far, Steps, last_world}
+use Rattle.sctp_ends.specs.Theorems.{Heeds, received_in, sent_in, AreReached, steps_are_moves, IsEmitted, ShowsSite, IsShown, worlds_are_shown}
+use Rattle.sctp_ends.specs.Theorems.{Delivers, told_messages_were_given, OpensInTurn, associations_have_the_laws}
+use Rattle.sctp_ends.proofs.Said.{each-append, each-weaker, each-contains, more-said, said-older, Older}
 use Rattle.sctp_ends.proofs.Alike.{Outcome, told-append}
 use Rattle.sctp_ends.proofs.Pass.{happens}
 
@@ -61,15 +60,20 @@ each-map f P [] h = tt
 each-map f P (x ∷ xs) h = (h.0, each-map f P xs h.1)
 
 -- once packets were asked for, nothing waits
-unfolded-empty : (c : Settings) (own : Secrets) (now : ℕ) (s : State) → (after c own (Flushes now) s).left.association.control ≡ []
+nothing-waits : (c : Settings) (own : Secrets) (now : ℕ) (s : State) → (after c own (Flushes now) s).left.association.control ≡ []
 unfolding after
-unfolded-empty c own now s = refl
+nothing-waits c own now s = refl
 
 module _ (own far : Secrets) where
   -- what was made not long ago is young
   since-young : (e : End) (made : ℕ) → load e.epochs + 2 * window ≤ made + modulus → Older (since made e) (young e) e e
   since-young e made l = record {
-    inits = λ n i. i; answers = λ n i. i; echoes = λ n i. i; cookie_acks = λ n i. i; chunks = λ n i. i; acks = λ n i. i;
+    inits = λ n i. i;
+    answers = λ n i. i;
+    echoes = λ n i. i;
+    cookie_acks = λ n i. i;
+    chunks = λ n i. i;
+    acks = λ n i. i;
     chunk = λ d h g i t. let a : length g.sent + made ≤ d.place + window + load e.epochs = h g i t in omega (arith, a, l);
     ack = λ a h g i t. let b : length g.received + made ≤ a.count + load e.epochs = h g i t in omega (arith, b, l);
   }
@@ -99,15 +103,16 @@ module _ (own far : Secrets) where
     later = l;
   }
 
-  marked : (c : Settings) (what : Happening) (s : State) (mark now-at : ℕ) (site : Site) (f : End) → site.mark ≡ mark → messages_at site ≤ load f.epochs →
-      Shows own far mark f (after c own what s).left → Shows own far (marked_by what site) f (after c own what s).left
-  marked c (Flushes now) s mark now-at site f is l h = remarked mark (messages_at site) f (after c own (Flushes now) s).left (unfolded-empty c own now s) l h
-  marked c (Opens now is_active) s mark now-at site f is l h = subst (λ (n : ℕ). Shows own far n f (after c own (Opens now is_active) s).left) (sym is) h
-  marked c (Came now source packet) s mark now-at site f is l h = subst (λ (n : ℕ). Shows own far n f (after c own (Came now source packet) s).left) (sym is) h
-  marked c (Ticked now) s mark now-at site f is l h = subst (λ (n : ℕ). Shows own far n f (after c own (Ticked now) s).left) (sym is) h
-  marked c (Sends message) s mark now-at site f is l h = subst (λ (n : ℕ). Shows own far n f (after c own (Sends message) s).left) (sym is) h
-  marked c Aborts s mark now-at site f is l h = subst (λ (n : ℕ). Shows own far n f (after c own Aborts s).left) (sym is) h
-  marked c (ShutsDown now) s mark now-at site f is l h = subst (λ (n : ℕ). Shows own far n f (after c own (ShutsDown now) s).left) (sym is) h
+  marked : (c : Settings) (what : Happening) (s : State) (site : Site) (f : End) → messages_at site ≤ load f.epochs →
+      Shows own far site.mark f (after c own what s).left → Shows own far (marked_by what site) f (after c own what s).left
+  marked c (Flushes now) s site f l h =
+      remarked site.mark (messages_at site) f (after c own (Flushes now) s).left (nothing-waits c own now s) l h
+  marked c (Opens now is_active) s site f l h = h
+  marked c (Came now source packet) s site f l h = h
+  marked c (Ticked now) s site f l h = h
+  marked c (Sends message) s site f l h = h
+  marked c Aborts s site f l h = h
+  marked c (ShutsDown now) s site f l h = h
 
   site-after : (c : Settings) (other e : End) (what : Happening) (site : Site) → ShowsSite own far e site →
       (r : Outcome own far site.mark other e (given_by what site.state (sent_in e)) (after c own what site.state)) →
@@ -117,7 +122,7 @@ module _ (own far : Secrets) where
       let f : End = last_end e r.list in
       let heavy : messages_at site ≤ load f.epochs = let q : load e.epochs ≡ messages_at site = site-load own far e site shown in omega (arith, q, r.more.heavier) in
       record {
-        state = marked c what site.state site.mark 0 site f refl heavy r.shows;
+        state = marked c what site.state site f heavy r.shows;
         packets = each-append (IsEmitted own far f) (map (emitted site.mark) d.sent) site.packets
             (each-map (emitted site.mark) (IsEmitted own far f) d.sent
             (each-weaker (λ (x : Datagram). IsSaid own far (since site.mark f) f x.packet.tag x.packet.chunks) (λ (x : Datagram). IsEmitted own far f (emitted site.mark x))

@@ -1,6 +1,6 @@
 -- What an end of `sctp_moves` shows of a state of the endpoint.
-use Rattle.std.specs.Prelude.{◌≡◌, ◌<◌, ◌≤◌, ◌^◌, ℕ, ◌+◌, ◌-◌, ◌%◌, Bool, true, List, [], ◌∷◌, Some, None, length, map, nat_lt}
-use Rattle.std.specs.Prelude.{slice_get, slice_index_or, take}
+use Rattle.std.specs.Prelude.{◌≡◌, ◌<◌, ◌≤◌, ℕ, ◌+◌, ◌-◌, ◌%◌, Bool, true, List, [], ◌∷◌, Some, None}
+use Rattle.std.specs.Prelude.{length, map, nat_lt, slice_get, slice_index_or, take}
 use Rattle.std.specs.List.{Contains}
 use Rattle.sctp_codec.specs.Packets.{ChunkValue, DataChunk, InitChunk, InitAckChunk, SackChunk, ShutdownChunk}
 use Rattle.sctp_codec.specs.Packets.{CookieEchoChunk, CookieAckChunk}
@@ -31,7 +31,8 @@ pub record AreGood (own : Secrets) : Type 0 where
   pub opens : (signed opened : Cookie) → own.cookie_in (own.signed signed) ≡ Some opened → opened ≡ signed
   -- TSNs have 32 bits
   pub beginnings_fit : (i : ℕ) (a : Beginning) → own.beginning i ≡ Some a → a.first < modulus
-  pub cookies_fit : (octets : List ℕ) (opened : Cookie) → own.cookie_in octets ≡ Some opened → opened.own_first_tsn < modulus
+  pub cookies_fit :
+      (octets : List ℕ) (opened : Cookie) → own.cookie_in octets ≡ Some opened → opened.own_first_tsn < modulus
 
 -- a tag that was drawn
 pub record IsDrawn (own : Secrets) (beginnings tag : ℕ) : Type 0 where
@@ -175,8 +176,8 @@ Waits There mark e tag chunk = Bundles (since mark e) e tag chunk
 
 -- ---- an end shows a state
 
--- `own` are the secrets of this endpoint, `far` those of its peer; `mark` is the load of the end when packets were asked
--- for last
+-- `own` are the secrets of this endpoint, `far` those of its peer; `mark` is the load of the end when packets were
+-- asked for last
 pub record Shows (own far : Secrets) (mark : ℕ) (e : End) (s : State) : Type 0 where
   pub generation : e.generation ≡ s.generation
   pub stage : IsIn (stage_of s.association.phase) e s.is_wanted s.association

@@ -1,13 +1,13 @@
--- Each step of an endpoint is a list of moves of the end that it shows; and what holds of two endpoints after every list
--- of steps.
-use Rattle.std.specs.Prelude.{◌≡◌, ◌≢◌, ◌<◌, ◌≤◌, ℕ, List, [], ◌∷◌, ◌++◌, length, map, slice_get, take, Some}
+-- Each step of an endpoint is a list of moves of the end that it shows; and what holds of two endpoints after every
+-- list of steps.
+use Rattle.std.specs.Prelude.{◌≡◌, ◌<◌, ◌≤◌, ℕ, List, [], ◌++◌, length, map, slice_get, take, Some}
 use Rattle.std.specs.List.{Contains}
 use Rattle.sctp_rules.specs.Settings.{Settings, Secrets}
 use Rattle.sctp_rules.specs.State.{State, Done}
 use Rattle.sctp_rules.specs.Endpoint.{Happening, Came, after}
 use Rattle.sctp_moves.specs.Ends.{Message, Epoch, End, Ends, new_ends}
 use Rattle.sctp_moves.specs.Moves.{EndMoves, last_end, Moves, last_of}
-use Rattle.sctp_moves.specs.Theorems.{BothWays, AreOne, CarriesOver, HasOther, OwnTagsDiffer, FarTagsDiffer, AreInOrder}
+use Rattle.sctp_moves.specs.Theorems.{BothWays, AreOne, CarriesOver, OwnTagsDiffer, FarTagsDiffer, AreInOrder}
 use Rattle.sctp_moves.specs.Theorems.{Opens, Awaits}
 use Rattle.sctp_ends.specs.Said.{Each, load, since, young, IsSaid, AreSaid}
 use Rattle.sctp_ends.specs.Shown.{AreGood, Shows}
@@ -30,7 +30,8 @@ sent_in e = map (λ epoch. epoch.sent) e.epochs
 
 -- what a rule does are moves: they lead to an end that shows the state that it leaves, and that put out what it puts
 -- out. Its epochs are what the user was told and gave: Up begins one, and the messages behind it are those it received
-pub record AreMovesOf (own far : Secrets) (mark : ℕ) (other e : End) (what : Happening) (s : State) (d : Done) : Type 0 where
+pub record AreMovesOf (own far : Secrets) (mark : ℕ) (other e : End) (what : Happening) (s : State) (d : Done) :
+    Type 0 where
   pub list : List End
   pub moves : EndMoves other e list
   pub shows : Shows own far mark (last_end e list) d.left

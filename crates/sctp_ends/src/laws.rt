@@ -1,10 +1,11 @@
 //! Laws of the abstract endpoint over moves, and of two such endpoints, whatever the network does with their packets.
 //! The statements are those of `specs/Theorems.antt`.
 
-ghost use Rattle.sctp_ends.specs.Theorems.{associations_have_the_laws, steps_are_moves, told_messages_were_given, worlds_are_shown};
+ghost use Rattle.sctp_ends.specs.Theorems.{associations_have_the_laws, steps_are_moves};
+ghost use Rattle.sctp_ends.specs.Theorems.{told_messages_were_given, worlds_are_shown};
 
-/// Each step of an endpoint is a list of moves of `sctp_moves`, if what comes was put out by the other end and isn't too
-/// old.
+/// Each step of an endpoint is a list of moves of `sctp_moves`, if what comes was put out by the other end and isn't
+/// too old.
 pub fn steps_of_an_endpoint_are_moves()
     ensures { steps_are_moves }
 {}
@@ -21,8 +22,8 @@ pub fn told_messages_come_in_order()
     ensures { told_messages_were_given }
 {}
 
-/// The associations of two endpoints have the laws of `sctp_moves`: "prefix" and "confirmed", "one", "order", and at each
-/// opening "first" and "second".
+/// The associations of two endpoints have the laws of `sctp_moves`: "prefix" and "confirmed", "one", "order", and at
+/// each opening "first" and "second".
 pub fn associations_of_two_endpoints_have_the_laws()
     ensures { associations_have_the_laws }
 {}
