@@ -6,3 +6,4 @@ pub mod Taken
 pub mod Messages
 pub mod Pass
 pub mod World
+pub mod Happening
