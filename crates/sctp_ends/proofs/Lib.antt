@@ -7,3 +7,4 @@ pub mod Messages
 pub mod Pass
 pub mod World
 pub mod Happening
+pub mod Keyed

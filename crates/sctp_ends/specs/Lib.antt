@@ -4,3 +4,4 @@ pub mod Told
 pub mod Worlds
 pub mod Theorems
 pub mod Example
+pub mod Keyed
