@@ -28,8 +28,9 @@ use Rattle.sctp_ends.proofs.Pass.{happens}
 -- ---- one endpoint
 
 reached-sound : (e other : End) → AreReached e other → IsSound e other
-reached-sound e other r =
-    subst (λ (p : Ends). IsSound p.near p.far) r.last (sound-always r.list r.moves)
+reached-sound e other (inl r) = subst (λ (p : Ends). IsSound p.near p.far) r.last (sound-always r.list r.moves)
+reached-sound e other (inr r) =
+    turned-sound other e (subst (λ (p : Ends). IsSound p.near p.far) r.last (sound-always r.list r.moves))
 
 pub are-moves : steps_are_moves
 are-moves c own far mark other e what s good reached h shown =

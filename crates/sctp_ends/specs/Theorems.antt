@@ -1,6 +1,6 @@
 -- Each step of an endpoint is a list of moves of the end that it shows; and what holds of two endpoints after every
 -- list of steps.
-use Rattle.std.specs.Prelude.{◌≡◌, ◌<◌, ◌≤◌, ℕ, List, [], ◌++◌, length, map, slice_get, take, Some}
+use Rattle.std.specs.Prelude.{◌≡◌, ◌⊎◌, ◌<◌, ◌≤◌, ℕ, List, [], ◌++◌, length, map, slice_get, take, Some}
 use Rattle.std.specs.List.{Contains}
 use Rattle.sctp_rules.specs.Settings.{Settings, Secrets}
 use Rattle.sctp_rules.specs.State.{State, Done}
@@ -8,7 +8,7 @@ use Rattle.sctp_rules.specs.Endpoint.{Happening, Came, after}
 use Rattle.sctp_moves.specs.Ends.{Message, Epoch, End, Ends, new_ends}
 use Rattle.sctp_moves.specs.Moves.{EndMoves, last_end, Moves, last_of}
 use Rattle.sctp_moves.specs.Theorems.{BothWays, AreOne, CarriesOver, OwnTagsDiffer, FarTagsDiffer, AreInOrder}
-use Rattle.sctp_moves.specs.Theorems.{Opens, Awaits}
+use Rattle.sctp_moves.specs.Theorems.{Opens, Awaits, both}
 use Rattle.sctp_ends.specs.Said.{Each, load, since, young, IsSaid, AreSaid}
 use Rattle.sctp_ends.specs.Shown.{AreGood, Shows}
 use Rattle.sctp_ends.specs.Told.{told_by, opened_by, given_by}
@@ -40,10 +40,14 @@ pub record AreMovesOf (own far : Secrets) (mark : ℕ) (other e : End) (what : H
   pub given : sent_in (last_end e list) ≡ opened_by (given_by what s (sent_in e)) d.told
 
 -- two ends to which moves lead
-pub record AreReached (near far : End) : Type 0 where
+pub record IsReached (p : Ends) : Type 0 where
   pub list : List Ends
   pub moves : Moves new_ends list
-  pub last : last_of new_ends list ≡ record { near = near; far = far }
+  pub last : last_of new_ends list ≡ p
+
+-- whichever of them is the near one
+abbrev pub AreReached : (e other : End) → Type 0
+AreReached e other = IsReached (both e other) ⊎ IsReached (both other e)
 
 -- whatever happens, and whatever comes that the other end put out
 abbrev pub steps_are_moves : Type 0

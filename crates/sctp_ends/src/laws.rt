@@ -30,8 +30,8 @@ pub fn associations_of_two_endpoints_have_the_laws()
     ensures { associations_have_the_laws }
 {}
 
-/// What is drawn and signed under keys, by `sctp_cookie`, is as these laws assume: no tag comes twice, and a cookie that
-/// was signed opens as itself.
+/// What is drawn and signed under keys, by `sctp_cookie`, is as these laws assume: no tag comes twice, and a cookie
+/// that was signed opens as itself.
 pub fn secrets_under_keys_are_good()
     ensures { keyed_secrets_are_good }
 {}
