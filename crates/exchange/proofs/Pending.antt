@@ -7,11 +7,11 @@ use Rattle.std.proofs.lemmas.List.{get_or-set_same, get_or-set_other, length-set
 use Rattle.std.proofs.lemmas.Option.{slice_get_past}
 use Rattle.settings_rows.specs.Configuration.{Configuration}
 use Rattle.routes.specs.Facts.{Facts, with_status}
-use Rattle.pending_updates.specs.Marks.{is_marked}
-use Rattle.pending_updates.specs.Updates.{Updates, is_from, is_within, is_some, is_any, has_all_from}
-use Rattle.pending_updates.specs.Updates.{with_all, with_none, with_mark, with_destination, without_before}
-use Rattle.pending_updates.specs.declared.updates.Extent.{Extent}
-use Rattle.pending_updates.specs.declared.updates.Extent.TheVariants.{Nothing, Marked, From}
+use Rattle.route_management.specs.Marks.{is_marked}
+use Rattle.route_management.specs.Updates.{Updates, is_from, is_within, is_some, is_any, has_all_from}
+use Rattle.route_management.specs.Updates.{with_all, with_none, with_mark, with_destination, without_before}
+use Rattle.route_management.specs.declared.updates.Extent.{Extent}
+use Rattle.route_management.specs.declared.updates.Extent.TheVariants.{Nothing, Marked, From}
 use Rattle.routes.specs.declared.route.RouteStatus.{RouteStatus}
 use Rattle.route_management.specs.Told.{ToldTable, is_own_point, row_of, shape_of, told_at, with_told}
 use Rattle.route_management.specs.Owed.{Owed, owed_at, status_to_advertise, is_reachable}

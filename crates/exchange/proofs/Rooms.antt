@@ -22,7 +22,7 @@ use Rattle.exchange_rules.specs.State.{State}
 use Rattle.exchange.specs.KeptQueues.{KeptQueues, held_lane}
 use Rattle.exchange_rules.specs.Holding.{all_wait}
 use Rattle.exchange_rules.specs.Routing.{facts}
-use Rattle.pending_updates.specs.Updates.{Updates, with_all, with_destination}
+use Rattle.route_management.specs.Updates.{Updates, with_all, with_destination}
 use Rattle.exchange.specs.Pending.{OwesNoneBut}
 use Rattle.exchange.proofs.Pending.{all_may_be, status_owes, told_owes_no_more}
 use Rattle.exchange.specs.Room.{HasRoom, kept_in}

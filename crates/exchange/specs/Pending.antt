@@ -1,7 +1,7 @@
 -- Which updates for adjacent points may be pending.
 use Rattle.std.specs.Prelude.{◌≡◌, ◌≤◌, ◌<◌, ◌+◌, ℕ, Option, None, Some, false, length}
 use Rattle.routes.specs.Facts.{Facts}
-use Rattle.pending_updates.specs.Updates.{Updates, may_be_pending}
+use Rattle.route_management.specs.Updates.{Updates, may_be_pending}
 use Rattle.route_management.specs.Told.{ToldTable}
 use Rattle.route_management.specs.Owed.{owed_at}
 

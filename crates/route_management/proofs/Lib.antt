@@ -4,3 +4,4 @@ pub mod Listing
 pub mod Walking
 pub mod Settled
 pub mod Shape
+pub mod Finding

@@ -3,3 +3,6 @@ pub mod Owed
 pub mod Hearing
 pub mod Room
 pub mod Laws
+pub mod Marks
+pub mod MarksRoom
+pub mod Updates

@@ -3,8 +3,11 @@
 
 pub mod heard;
 pub mod laws;
+mod marks;
 mod row;
 pub mod told;
+pub mod updates;
 
 pub use heard::{Heard, RouteTest};
 pub use told::{Told, status_to_advertise};
+pub use updates::PendingUpdates;

@@ -13,7 +13,7 @@ use Rattle.cell_pool.specs.Stored.{Stored}
 use Rattle.routes.specs.Facts.{first_routes}
 use Rattle.exchange_rules.specs.Places.{HasHoldsFor, HasCodes}
 use Rattle.exchange_rules.proofs.Places.{no_codes-fits, no_holds-fits}
-use Rattle.pending_updates.specs.Updates.{Updates, first_updates}
+use Rattle.route_management.specs.Updates.{Updates, first_updates}
 use Rattle.exchange.specs.Pending.{OwesNoneBut}
 use Rattle.exchange.proofs.Pending.{all_may_be}
 use Rattle.exchange.proofs.Standing.{first-kept, stands-first}

@@ -6,7 +6,7 @@ use Rattle.routes.specs.Facts as facts
 use Rattle.node_links.specs.Network.{Network, facts_of}
 use Rattle.route_management.specs.Told.{shape_of}
 use Rattle.route_management.proofs.Shape.{reset_shape}
-use Rattle.pending_updates.specs.Updates.{Updates}
+use Rattle.route_management.specs.Updates.{Updates}
 use Rattle.exchange.specs.Pending.{OwesNoneBut}
 use Rattle.exchange.proofs.Pending.{all_may_be}
 use Rattle.exchange.proofs.Rooms.{changed_room}

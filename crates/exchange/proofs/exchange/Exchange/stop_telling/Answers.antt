@@ -1,6 +1,6 @@
 -- Nothing is owed before the place where the walk stopped.
 use Rattle.std.proofs.Common.{length, sym, subst}
-use Rattle.pending_updates.specs.Updates.{Updates}
+use Rattle.route_management.specs.Updates.{Updates}
 use Rattle.exchange_rules.specs.State.{State}
 use Rattle.exchange.specs.KeptQueues.{KeptQueues}
 use Rattle.exchange.specs.Pending.{OwesNoneBut}

@@ -1,9 +1,9 @@
 -- Which updates may be pending: each is for the adjacent point of a set, about a destination.
 use Rattle.std.specs.Prelude.{◌≡◌, ◌≤◌, ◌<◌, ◌||◌, ◌&&◌, ℕ, Bool, true, false, List, length, replicate, slice_set}
 use Rattle.std.specs.Prelude.{nat_eq, nat_le, nat_lt, if◌then◌else◌}
-use Rattle.pending_updates.specs.Marks.{is_marked}
-use Rattle.pending_updates.specs.declared.updates.Extent.{Extent}
-use Rattle.pending_updates.specs.declared.updates.Extent.TheVariants.{Nothing, Marked, From}
+use Rattle.route_management.specs.Marks.{is_marked}
+use Rattle.route_management.specs.declared.updates.Extent.{Extent}
+use Rattle.route_management.specs.declared.updates.Extent.TheVariants.{Nothing, Marked, From}
 
 -- how far they are looked for, and of each destination whether it is marked
 pub record Updates : Type 0 where

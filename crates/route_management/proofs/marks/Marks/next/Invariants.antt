@@ -1,7 +1,7 @@
 -- None of the blocks that were looked at has a marked number, from that one on.
 use Rattle.std.proofs.Common.{◌*◌}
-use Rattle.pending_updates.specs.Marks.{NoneBetween}
-use Rattle.pending_updates.proofs.marks.Marks.next.Given as goal
+use Rattle.route_management.specs.Marks.{NoneBetween}
+use Rattle.route_management.proofs.marks.Marks.next.Given as goal
 
 abbrev pub invariant-loop-block : goal.invariant-loop-block
 invariant-loop-block l = NoneBetween l.self-inside.marks.items l.from (64 * l.block)

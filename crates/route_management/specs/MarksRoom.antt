@@ -1,8 +1,8 @@
 -- How marks are found: a block says whether some number of it may be marked.
 use Rattle.std.specs.Prelude.{◌≡◌, ◌≤◌, ◌<◌, ◌+◌, ◌*◌, ℕ, false, slice_index_or, vec_len}
-use Rattle.pending_updates.specs.Marks.{is_marked}
-use Rattle.pending_updates.specs.declared.marks.TheConstants.{BLOCK}
-use Rattle.pending_updates.specs.declared.marks.Marks.TheInside.{Inside}
+use Rattle.route_management.specs.Marks.{is_marked}
+use Rattle.route_management.specs.declared.marks.TheConstants.{BLOCK}
+use Rattle.route_management.specs.declared.marks.Marks.TheInside.{Inside}
 
 -- each number has its block, and no more than one block has none; where a block says that no number of it is marked,
 -- none is, and where it is said of all numbers, none of all

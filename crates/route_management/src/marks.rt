@@ -2,7 +2,7 @@
 
 ghost use Rattle.std.specs.Prelude.{◌≡◌, ◌≤◌, ◌<◌, ◌+◌, ◌*◌, ℕ, true, false, length, replicate, slice_set};
 ghost use Rattle.std.specs.Prelude.{IfOk, IfSome, IfNone};
-ghost use Rattle.pending_updates.specs.Marks.{NoneFrom, IsFirstFrom, is_marked, NoneBetween};
+ghost use Rattle.route_management.specs.Marks.{NoneFrom, IsFirstFrom, is_marked, NoneBetween};
 
 use std::alloc::{AllocError, Global};
 use std::marker::Model;
@@ -31,7 +31,7 @@ impl Model for Marks {
 
     ghost view = { λ s. s.marks.items };
 
-    ghost use Rattle.pending_updates.specs.Room.{HasBlocks};
+    ghost use Rattle.route_management.specs.MarksRoom.{HasBlocks};
 
     ghost invariant = { HasBlocks };
 }

@@ -1,9 +1,9 @@
 //! Updates that may be pending: each is for the adjacent point of a set, about a destination.
 
 ghost use Rattle.std.specs.Prelude.{◌≡◌, ◌<◌, length, IfOk, IfSome, IfNone, if◌then◌else◌};
-ghost use Rattle.pending_updates.specs.Updates.{first_updates, is_any, is_from, with_all, with_destination, with_none};
-ghost use Rattle.pending_updates.specs.Updates.{without_before, has_all_from, IsNext, NoneFrom};
-ghost use Rattle.pending_updates.specs.declared.updates.Extent.TheVariants.{From};
+ghost use Rattle.route_management.specs.Updates.{first_updates, is_any, is_from, with_all, with_destination, with_none};
+ghost use Rattle.route_management.specs.Updates.{without_before, has_all_from, IsNext, NoneFrom};
+ghost use Rattle.route_management.specs.declared.updates.Extent.TheVariants.{From};
 
 use crate::marks::Marks;
 use signalling_types::SetId;
@@ -33,7 +33,7 @@ pub struct PendingUpdates {
 }
 
 impl Model for PendingUpdates {
-    ghost use Rattle.pending_updates.specs.Updates.{Updates};
+    ghost use Rattle.route_management.specs.Updates.{Updates};
 
     ghost Value = { Updates };
 

@@ -1,6 +1,6 @@
 -- None of those that were looked at is marked.
-use Rattle.pending_updates.specs.Marks.{NoneBetween}
-use Rattle.pending_updates.proofs.marks.next_below.Given as goal
+use Rattle.route_management.specs.Marks.{NoneBetween}
+use Rattle.route_management.proofs.marks.next_below.Given as goal
 
 abbrev pub invariant-loop-number : goal.invariant-loop-number
 invariant-loop-number l = NoneBetween l.marks l.from l.number

@@ -1,7 +1,0 @@
-//! Which updates for adjacent points may be pending.
-#![tactic(auto)]
-
-mod marks;
-pub mod updates;
-
-pub use updates::PendingUpdates;
