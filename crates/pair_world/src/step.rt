@@ -42,8 +42,9 @@ pub enum Step {
     /// The operator of an end removes the translation row of this key and these digits.
     RemoveTitle(End, TitleKey, TitleDigits),
     /// A link opens at an end, before it opens at the other: nothing is in flight on it then, and from now on the other
-    /// end may follow. Ignored unless the end wants the link to open, and it may open at the other end: it is down there,
-    /// its changeover is complete, and no answer is awaited. It may be deactivated there, or still have its association.
+    /// end may follow. Ignored unless the end wants the link to open, and it may open at the other end: it is down
+    /// there, its changeover is complete, and no answer is awaited. It may be deactivated there, or still have its
+    /// association.
     OpenFirst(End, LinkId),
     /// A link opens at an end that may follow the other. The other may have failed since it opened; but if it opened
     /// first again, this is about that. Ignored unless the end may follow, and wants the link to open.

@@ -26,8 +26,8 @@ impl Exchange {
     }
 
     /// How many user messages of a link a choice takes, among those behind the count that a number names (RFC 4165
-    /// §2.2); where it names none, among all that aren't confirmed. 0 if there is no such link. It looks at each of these
-    /// messages once, with a step for each one before them, and copies none; nothing changes.
+    /// §2.2); where it names none, among all that aren't confirmed. 0 if there is no such link. It looks at each of
+    /// these messages once, with a step for each one before them, and copies none; nothing changes.
     pub fn count_behind<P: Pick>(&mut self, link: LinkId, number: Number24, pick: &P) -> usize
         ensures count { (a : Abstract) → StandsFor self.old a →
             result ≡ count_by (is_user_picked (P.picks pick.now))
