@@ -6,8 +6,9 @@
 //! wait. So what came until then is judged. Where no end said so to the last, nothing may be
 //! waiting any more.
 
+use crate::book::Book;
 use crate::marking::{FLOWS, Mark, counts_up, mark_of, place_of};
-use crate::world::{Book, World};
+use crate::world::World;
 use exchange::Msu;
 use pair_world::End;
 use std::alloc::Global;

@@ -15,11 +15,15 @@
 //!   flow are the first that were accepted of it, in order, with none left out. If that isn't so, the line says how
 //!   many `flows` were `out of order`.
 //! - `lost_any`, `late_any`: in how many runs an end set the flag.
+//! - `sums compared`: while no end had set `lost_any`, before each 16th step, the sums of both ends were compared: as
+//!   many messages were accepted as the other end received and as `Pair::waiting` counts, of all messages and of one of
+//!   them. That is done in every group; only the lines of the groups by chance say how often. If a sum is wrong, the
+//!   line says how many `sums` were `wrong`.
 //! - `unended`: in how many runs a link that was to open didn't, rounds never came to rest, or not all messages came
 //!   while one of several links was down, though no end had set `lost_any`.
 //!
-//! That is what `Pair::accepted` and `Pair::received` promise, and no more. Nothing is promised after `lost_any`, so
-//! what comes then isn't judged; the numbers in brackets show how much was.
+//! That is what `Pair::accepted`, `Pair::received` and `Pair::waiting` promise, and no more. Nothing is promised after
+//! `lost_any`, so what comes then isn't judged; the numbers in brackets show how much was.
 //!
 //! # The groups
 //!
@@ -37,9 +41,11 @@
 //! - An answer late: both ends lose a link. The answer to one end's order stays behind, the link opens if it may,
 //!   carries messages and is lost again, and only then the answer comes: for each end and each link, with 0 to 3
 //!   messages that come before and 1 to 4 that are lost.
-//! - By chance: 400 steps from a seed. Of 256 steps 80 submit a message, 86 take a frame, 75 deliver one, 3 lose a
-//!   link at an end, 3 let a tick pass, 1 closes a link by an operator's order and lets it open, 5 open a link again at
-//!   one end, and 3 let an end follow. Of link statuses and User Data either may come first. Then the links come back three times, and rounds pass until nothing is left.
+//! - By chance: 400 steps from a seed. Of 256 steps 80 submit a message, 86 take a frame, 67 deliver one, 4 lose a link
+//!   status, 4 double one, 3 lose a link at an end, 3 let a tick pass, 1 keeps a link from opening by an operator's
+//!   order or lets it open, 5 open a link at one end, and 3 let an end follow. The dice say whether a link status or
+//!   User Data comes next, and whether the other end loses the link before it opens at this one. Then all links are let
+//!   open, those that aren't in service come back, three times, and rounds pass until nothing is left.
 //!
 //! A link that fails while no other is left loses what waits for it when T1 runs out, and doesn't open before that.
 //! So in each run over one link an end sets `lost_any`: what is left to judge is that nothing comes twice or out of
@@ -54,6 +60,7 @@
 #![tactic(auto)]
 
 mod again;
+mod book;
 mod epochs;
 mod firsts;
 mod ledger;
@@ -61,6 +68,7 @@ mod marking;
 mod random;
 mod rounds;
 mod stops;
+mod sums;
 mod total;
 mod world;
 
@@ -169,18 +177,26 @@ fn try_chance(rt: &HostRuntime) -> io::Result<()> {
 /// Random schedules over so many links.
 fn throw(rt: &HostRuntime, name: &str, links: u8) -> io::Result<()> {
     let total = schedules(rt.alloc(), links, SCHEDULES);
-    report(rt, name, &total)
+    print_group(rt, name, &total)?;
+    println!(rt; ", sums compared {}", total.sums.compared)
 }
 
 /// Prints what became of a group.
 fn report(rt: &HostRuntime, name: &str, total: &Total) -> io::Result<()> {
+    print_group(rt, name, total)?;
+    println!(rt;)
+}
+
+/// Prints the same without the end of the line.
+fn print_group(rt: &HostRuntime, name: &str, total: &Total) -> io::Result<()> {
     if total.starved {
-        return println!(rt; "{name}: memory ran out");
+        return print!(rt; "{name}: memory ran out");
     }
     print_counts(rt, name, total)?;
     print_once(rt, &total.verdict)?;
     print_in_order(rt, &total.verdict)?;
-    print_flags(rt, total)
+    print_flags(rt, total)?;
+    print_wrong(rt, total.sums.wrong)
 }
 
 /// Prints how many runs, frames and messages there were.
@@ -221,8 +237,16 @@ fn print_in_order(rt: &HostRuntime, verdict: &Verdict) -> io::Result<()> {
 
 /// Prints in how many runs an end set a flag, and how many didn't end as they were to.
 fn print_flags(rt: &HostRuntime, total: &Total) -> io::Result<()> {
-    println!(rt;
+    print!(rt;
         "; lost_any {}, late_any {}, unended {}",
         total.lost_any, total.late_any, total.unended
     )
+}
+
+/// Prints how many sums were wrong, if any was.
+fn print_wrong(rt: &HostRuntime, wrong: u64) -> io::Result<()> {
+    match wrong {
+        0 => Ok(()),
+        _ => print!(rt; ", {wrong} sums wrong"),
+    }
 }

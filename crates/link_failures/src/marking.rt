@@ -13,7 +13,7 @@ pub(crate) const FLOWS: u8 = Limits::SELECTIONS as u8;
 
 /// What no two messages that a node accepted have in common: their flow, and their number in it. The accepted messages
 /// of a flow have the numbers 1, 2, 3 and so on.
-#[derive(Clone, Copy)]
+#[derive(Clone, Copy, PartialEq, Eq)]
 pub(crate) struct Mark {
     /// The flow: the signalling link selection (Q.704 §2.2.4).
     pub flow: u8,
@@ -53,6 +53,28 @@ pub(crate) fn count_of_flow(flow: u8, marks: &[Mark]) -> u16 {
     let mut count = 0u16;
     for mark in marks {
         if mark.flow == flow {
+            count = count.wrapping_add(1);
+        }
+    }
+    count
+}
+
+/// How many of these marks are this one.
+pub(crate) fn count_of(mark: Mark, marks: &[Mark]) -> usize {
+    let mut count = 0usize;
+    for other in marks {
+        if *other == mark {
+            count = count.wrapping_add(1);
+        }
+    }
+    count
+}
+
+/// How many of these messages have this mark.
+pub(crate) fn count_received(mark: Mark, messages: &[Msu]) -> usize {
+    let mut count = 0usize;
+    for message in messages {
+        if mark_of(message) == Some(mark) {
             count = count.wrapping_add(1);
         }
     }

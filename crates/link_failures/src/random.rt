@@ -51,10 +51,10 @@ fn step(world: &mut World, dice: &mut Dice) {
     let end = thrown_end(dice);
     match chance {
         0..=39 => world.submit(end, dice.octet() % FLOWS),
-        40..=187 => frame_or_loss(world, chance, end, link),
+        40..=187 => frame_or_loss(world, dice, chance, (end, link)),
         188..=190 => world.tick(end, 1),
-        191 => world.reset(end, link),
-        192..=196 => reopen(world, end, link),
+        191 => operate(world, dice, end, link),
+        192..=196 => reopen(world, dice, end, link),
         _ => follow(world, end, link),
     }
 }
@@ -68,29 +68,41 @@ fn thrown_end(dice: &mut Dice) -> End {
     }
 }
 
-/// A frame is sent or comes, or a link is lost.
-fn frame_or_loss(world: &mut World, chance: u8, end: End, link: LinkId) {
-    if chance <= 109 {
-        world.take(end, link);
-    } else if chance <= 146 {
-        world.deliver(end, link);
-    } else if chance <= 184 {
-        deliver_data_first(world, end, link);
+/// A frame is sent or comes, a link status is lost or comes twice, or a link is lost.
+fn frame_or_loss(world: &mut World, dice: &mut Dice, chance: u8, at: (End, LinkId)) {
+    let (end, link) = at;
+    match chance {
+        0..=109 => world.take(end, link),
+        110..=176 => deliver(world, dice, end, link),
+        177..=180 => world.lose_status(end, link),
+        181..=184 => world.double_status(end, link),
+        _ => world.lose(end, link),
+    };
+}
+
+/// The next frame of one of the two streams comes, as the dice say; where there is none, of the other.
+fn deliver(world: &mut World, dice: &mut Dice, end: End, link: LinkId) -> bool {
+    if dice.one_in(2) {
+        world.deliver(end, link)
     } else {
-        world.lose(end, link);
+        world.deliver_data_first(end, link)
     }
 }
 
-/// User Data comes before the link statuses on its link; where there is none, one of these.
-fn deliver_data_first(world: &mut World, end: End, link: LinkId) {
-    if !world.deliver_data(end, link) {
-        world.deliver(end, link);
+/// An operator keeps a link from opening, or lets it open.
+fn operate(world: &mut World, dice: &mut Dice, end: End, link: LinkId) {
+    if dice.one_in(2) {
+        world.deactivate(end, link);
+    } else {
+        world.activate(end, link);
     }
 }
 
-/// A link that is down at one end is lost at the other, and opens at an end where both want it.
-fn reopen(world: &mut World, end: End, link: LinkId) {
-    lose_halves(world, link);
+/// A link opens at an end, where it may. As the dice say, where it is down at one end it is lost at the other before.
+fn reopen(world: &mut World, dice: &mut Dice, end: End, link: LinkId) {
+    if dice.one_in(2) {
+        lose_halves(world, link);
+    }
     world.open_first(end, link);
 }
 
@@ -111,6 +123,7 @@ fn lose_halves(world: &mut World, link: LinkId) {
 
 /// All links that can come back do, several times. Says whether all came to rest behind that.
 fn bring_back(world: &mut World) -> bool {
+    activate_all(world);
     let mut settled = false;
     for _ in 0..RETURNS {
         settled = bring_back_once(world);
@@ -118,9 +131,17 @@ fn bring_back(world: &mut World) -> bool {
     settled
 }
 
+/// Each operator lets all links open.
+fn activate_all(world: &mut World) {
+    for link in 0..world.links() {
+        world.activate(End::One, LinkId::new(link));
+        world.activate(End::Two, LinkId::new(link));
+    }
+}
+
 /// All links that can come back do, and rounds pass until one does nothing. Says whether one did nothing.
 fn bring_back_once(world: &mut World) -> bool {
-    lose_all_halves(world);
+    lose_all_others(world);
     settle(world, Clock::STILL);
     open_all(world);
     settle(world, Clock::STILL);
@@ -128,9 +149,17 @@ fn bring_back_once(world: &mut World) -> bool {
     settle(world, Clock::STILL)
 }
 
-/// Each link that is down at one end is lost at the other.
-fn lose_all_halves(world: &mut World) {
+/// Each link that isn't in service at both ends is lost at both.
+fn lose_all_others(world: &mut World) {
     for link in 0..world.links() {
-        lose_halves(world, LinkId::new(link));
+        lose_unless_served(world, LinkId::new(link));
+    }
+}
+
+/// A link that isn't in service at both ends is lost at both.
+fn lose_unless_served(world: &mut World, link: LinkId) {
+    if !(world.serves(End::One, link) && world.serves(End::Two, link)) {
+        world.lose(End::One, link);
+        world.lose(End::Two, link);
     }
 }

@@ -1,6 +1,7 @@
 //! What became of a group of runs.
 
 use crate::ledger::{Verdict, judge};
+use crate::sums::Sums;
 use crate::world::World;
 use std::alloc::Global;
 
@@ -13,6 +14,8 @@ pub(crate) struct Total {
     pub frames: u64,
     /// What became of the messages.
     pub verdict: Verdict,
+    /// The sums that were compared between steps.
+    pub sums: Sums,
     /// How many runs there were in which an end said that a message may be lost.
     pub lost_any: u64,
     /// How many runs there were in which an end said that a message may be late.
@@ -30,6 +33,7 @@ impl Total {
         runs: 0,
         frames: 0,
         verdict: Verdict::NOTHING,
+        sums: Sums::NONE,
         lost_any: 0,
         late_any: 0,
         unended: 0,
@@ -54,6 +58,7 @@ impl Total {
         let verdict = judge(alloc, world);
         self.starved |= world.is_starved() || verdict.is_none();
         self.verdict = self.verdict.and(verdict.unwrap_or(Verdict::NOTHING));
+        self.sums = self.sums.and(world.sums());
         self.runs = self.runs.wrapping_add(1);
         self.frames = self.frames.wrapping_add(world.frames());
         self.lost_any = plus(self.lost_any, world.may_have_lost());

@@ -1,6 +1,8 @@
 //! Two nodes, what is done to them, and what they accepted.
 
-use crate::marking::{Mark, count_of_flow, message_of};
+use crate::book::Book;
+use crate::marking::{Mark, message_of};
+use crate::sums::{Sums, compare};
 use exchange::{LinkId, LinkStanding, Msu, Outcome};
 use pair_world::{End, Step};
 use std::alloc::Global;
@@ -13,6 +15,9 @@ const POINT_ONE: u16 = 1;
 /// The point of the second node.
 const POINT_TWO: u16 = 2;
 
+/// Before one of so many steps the sums are compared.
+const COMPARED_EVERY: u64 = 16;
+
 /// Two nodes with some links between them. Most of what changes it says whether something came of it.
 #[derive(Drop)]
 pub(crate) struct World {
@@ -20,27 +25,19 @@ pub(crate) struct World {
     links: u8,
     /// How many frames were taken.
     frames: u64,
+    /// How many steps there were.
+    steps: u64,
     /// Whether memory ran out: then not each step was taken.
     starved: bool,
     one: Book,
     two: Book,
+    sums: Sums,
 }
 
 impl Model for World {
     ghost Value = { Unit {0} };
 
     ghost view = { λ _. tt };
-}
-
-/// What an end submitted, and how much of it came.
-#[derive(Drop)]
-pub(crate) struct Book {
-    /// The messages that were accepted, in order.
-    pub accepted: Vec<Mark>,
-    /// So many messages had come to the other end when neither end had yet said that one may be lost.
-    pub once: usize,
-    /// So many had come when, besides, this end hadn't yet said that one may be late.
-    pub in_order: usize,
 }
 
 impl World {
@@ -50,9 +47,11 @@ impl World {
             nodes: linked(alloc, links)?,
             links,
             frames: 0,
+            steps: 0,
             starved: false,
             one: Book::new(alloc),
             two: Book::new(alloc),
+            sums: Sums::NONE,
         })
     }
 
@@ -64,6 +63,11 @@ impl World {
     /// How many frames were taken.
     pub(crate) fn frames(&self) -> u64 {
         self.frames
+    }
+
+    /// The sums that were compared between steps.
+    pub(crate) fn sums(&self) -> Sums {
+        self.sums
     }
 
     /// Whether memory ran out.
@@ -102,6 +106,14 @@ impl World {
         }
     }
 
+    /// Whether a link is in service at an end.
+    pub(crate) fn serves(&self, end: End, link: LinkId) -> bool {
+        match self.nodes.shown(end).link(link) {
+            Some(view) => view.standing == LinkStanding::InService,
+            None => false,
+        }
+    }
+
     /// Whether as many messages came as were accepted, or an end says that one may be lost.
     pub(crate) fn has_brought_all(&self) -> bool {
         self.may_have_lost()
@@ -113,6 +125,7 @@ impl World {
 impl World {
     /// Takes a step. It is ignored where memory runs out.
     fn turn(&mut self, step: Step) -> Outcome {
+        self.compare_now_and_then();
         let outcome = self.nodes.turn(step);
         self.note_received();
         match outcome {
@@ -143,9 +156,19 @@ impl World {
         self.act(Step::DeliverStatus(end, link)) || self.act(Step::Deliver(end, link))
     }
 
-    /// The next User Data on a link to an end comes, before the link statuses there.
-    pub(crate) fn deliver_data(&mut self, end: End, link: LinkId) -> bool {
-        self.act(Step::Deliver(end, link))
+    /// The next User Data on a link to an end comes, or where there is none a link status.
+    pub(crate) fn deliver_data_first(&mut self, end: End, link: LinkId) -> bool {
+        self.act(Step::Deliver(end, link)) || self.act(Step::DeliverStatus(end, link))
+    }
+
+    /// The next link status on a link to an end is lost on its way.
+    pub(crate) fn lose_status(&mut self, end: End, link: LinkId) -> bool {
+        self.act(Step::LoseStatus(end, link))
+    }
+
+    /// The next link status on a link to an end comes twice.
+    pub(crate) fn double_status(&mut self, end: End, link: LinkId) -> bool {
+        self.act(Step::DoubleStatus(end, link))
     }
 
     /// An end loses the association of a link.
@@ -175,9 +198,13 @@ impl World {
         }
     }
 
-    /// An operator keeps a link from opening, and lets it open again.
-    pub(crate) fn reset(&mut self, end: End, link: LinkId) {
+    /// An operator keeps a link from opening.
+    pub(crate) fn deactivate(&mut self, end: End, link: LinkId) {
         self.act(Step::Deactivate(end, link));
+    }
+
+    /// An operator lets a link open.
+    pub(crate) fn activate(&mut self, end: End, link: LinkId) {
         self.act(Step::Activate(end, link));
     }
 
@@ -204,6 +231,33 @@ impl World {
         self.starved |= !noted;
     }
 
+    /// Before one of so many steps the sums are compared, while each message is promised to come once.
+    fn compare_now_and_then(&mut self) {
+        self.steps = self.steps.wrapping_add(1);
+        if self.steps % COMPARED_EVERY == 0 && !self.may_have_lost() {
+            self.compare_sums();
+        }
+    }
+
+    /// Compares what either end accepted with what the other received and what waits.
+    fn compare_sums(&mut self) {
+        let there = compare(
+            &mut self.nodes,
+            (End::One, POINT_ONE),
+            (End::Two, POINT_TWO),
+            &self.one,
+            self.steps,
+        );
+        let back = compare(
+            &mut self.nodes,
+            (End::Two, POINT_TWO),
+            (End::One, POINT_ONE),
+            &self.two,
+            self.steps,
+        );
+        self.sums = self.sums.and(there).and(back);
+    }
+
     /// Notes how much came by now, while each message is promised to come once.
     fn note_received(&mut self) {
         if self.may_have_lost() {
@@ -213,39 +267,6 @@ impl World {
         let back = self.received(End::One).len();
         self.one.note(there, self.nodes.shown(End::One).late_any());
         self.two.note(back, self.nodes.shown(End::Two).late_any());
-    }
-}
-
-impl Book {
-    /// Nothing was submitted.
-    fn new(alloc: Global) -> Book {
-        Book {
-            accepted: Vec::new(alloc),
-            once: 0,
-            in_order: 0,
-        }
-    }
-
-    /// The mark of the next message on a flow.
-    fn next_mark(&self, flow: u8) -> Mark {
-        let before = count_of_flow(flow, self.accepted.as_slice());
-        Mark {
-            flow,
-            number: before.wrapping_add(1),
-        }
-    }
-
-    /// A message was accepted. Says whether there was memory for it.
-    fn accept(&mut self, mark: Mark) -> bool {
-        self.accepted.push(mark).is_ok()
-    }
-
-    /// So many messages came by now, and one may be late.
-    fn note(&mut self, count: usize, late: bool) {
-        self.once = count;
-        if !late {
-            self.in_order = count;
-        }
     }
 }
 

@@ -1,6 +1,6 @@
 //! Two nodes that face each other.
 
-use exchange::{Draft, DraftFault, Exchange, LinkDraft, Msu, NoMemory, Outcome, Settings};
+use exchange::{Draft, DraftFault, Exchange, LinkDraft, Msu, NoMemory, Outcome, Pick, Settings};
 use pair_world::{End, Pair, PairFault, Step};
 use script::built_in;
 use std::alloc::{AllocError, Global};
@@ -69,6 +69,11 @@ impl LinkedNodes {
         turn(&mut self.pair, step)
     }
 
+    /// How many user messages that a choice takes wait at an end for the other.
+    pub fn waiting<P: Pick>(&mut self, end: End, pick: &P) -> u128 {
+        waiting(&mut self.pair, end, pick)
+    }
+
     /// The user messages that an end received.
     pub fn received(&self, end: End) -> &[Msu] {
         self.pair.received(end)
@@ -80,7 +85,12 @@ impl LinkedNodes {
     }
 }
 
-/// Takes a step. What calls this sees no clause of `Pair`.
+/// Takes a step. What calls this and the next one sees no clause of `Pair`.
 fn turn(pair: &mut Pair, step: Step) -> Result<Outcome, NoMemory> {
     pair.turn(step)
+}
+
+/// How many user messages wait at an end.
+fn waiting<P: Pick>(pair: &mut Pair, end: End, pick: &P) -> u128 {
+    pair.waiting(end, pick)
 }

@@ -1,0 +1,111 @@
+//! The sums that a pair keeps between any two steps, while no end says that a message may be lost: of whatever
+//! messages, as many were accepted at an end as the other received and as wait.
+
+ghost use Rattle.std.specs.Prelude.{true};
+ghost use Rattle.std.specs.Str.{bytes_eq};
+
+use crate::book::Book;
+use crate::marking::{Mark, count_of, count_received, message_of};
+use exchange::{Msu, Pick};
+use pair_world::End;
+use test_nodes::LinkedNodes;
+
+/// Sums that were compared.
+#[derive(Clone, Copy)]
+pub(crate) struct Sums {
+    /// How many.
+    pub compared: u64,
+    /// How many of them had two sides that weren't the same.
+    pub wrong: u64,
+}
+
+/// The choice of all messages.
+#[derive(Clone, Copy)]
+struct AllMessages;
+
+impl Pick for AllMessages {
+    ghost picks = { λ choice message. true };
+
+    fn picks(&self, _message: &Msu) -> bool {
+        true
+    }
+}
+
+/// The choice of the messages with the same octets as this one.
+#[derive(Clone, Copy)]
+struct SameMessage {
+    message: Msu,
+}
+
+impl Pick for SameMessage {
+    ghost picks = { λ choice message. bytes_eq message.sif choice.message.sif };
+
+    fn picks(&self, message: &Msu) -> bool {
+        message.sif() == self.message.sif()
+    }
+}
+
+/// Compares the sum of all messages from an end to the other, and that of one message, by the number of the step.
+pub(crate) fn compare(
+    nodes: &mut LinkedNodes,
+    from: (End, u16),
+    to: (End, u16),
+    book: &Book,
+    step: u64,
+) -> Sums {
+    let all = compare_all(nodes, from.0, to.0, book);
+    match book.mark_by(step) {
+        Some(mark) => all.and(compare_one(nodes, from, to, book, mark)),
+        None => all,
+    }
+}
+
+/// Compares the sum of all messages.
+fn compare_all(nodes: &mut LinkedNodes, from: End, to: End, book: &Book) -> Sums {
+    let accepted = book.accepted.len() as u128;
+    let received = nodes.received(to).len() as u128;
+    let waiting = nodes.waiting(from, &AllMessages);
+    Sums::of(accepted, received, waiting)
+}
+
+/// Compares the sum of the message of a mark.
+fn compare_one(
+    nodes: &mut LinkedNodes,
+    from: (End, u16),
+    to: (End, u16),
+    book: &Book,
+    mark: Mark,
+) -> Sums {
+    let Some(message) = message_of(mark, from.1, to.1) else {
+        return Sums::NONE;
+    };
+    let accepted = count_of(mark, book.accepted.as_slice()) as u128;
+    let received = count_received(mark, nodes.received(to.0)) as u128;
+    let waiting = nodes.waiting(from.0, &SameMessage { message });
+    Sums::of(accepted, received, waiting)
+}
+
+impl Sums {
+    /// None was compared.
+    pub(crate) const NONE: Sums = Sums {
+        compared: 0,
+        wrong: 0,
+    };
+
+    /// One sum.
+    fn of(accepted: u128, received: u128, waiting: u128) -> Sums {
+        let same = accepted == received.wrapping_add(waiting);
+        Sums {
+            compared: 1,
+            wrong: if same { 0 } else { 1 },
+        }
+    }
+
+    /// These and others.
+    pub(crate) fn and(self, others: Sums) -> Sums {
+        Sums {
+            compared: self.compared.wrapping_add(others.compared),
+            wrong: self.wrong.wrapping_add(others.wrong),
+        }
+    }
+}
