@@ -212,8 +212,10 @@ impl World {
     pub(crate) fn submit(&mut self, end: End, flow: u8) {
         let mark = self.book(end).next_mark(flow);
         let (own, adjacent) = points(end);
+        // The point that a message says it comes from isn't checked: on every other flow it is the far one.
+        let from = if flow % 2 == 0 { own } else { adjacent };
         // There is one of each mark, since the points and the flow are in range.
-        let Some(message) = message_of(mark, own, adjacent) else {
+        let Some(message) = message_of(mark, from, adjacent) else {
             return;
         };
         let outcome = self.turn(Step::Submit(end, message));
