@@ -1,6 +1,6 @@
 //! The end of an association, or of the try of one (RFC 9260 §9.1).
 
-ghost use Rattle.std.specs.Prelude.{◌≡◌, ◌<◌, ◌≤◌, ◌^◌, ◌-◌, ◌++◌, [], ◌∷◌, map};
+ghost use Rattle.std.specs.Prelude.{◌≡◌, ◌<◌, ◌≤◌, ◌^◌, ◌-◌, ◌++◌, [], ◌∷◌, ◌+◌, map, sum_by};
 ghost use Rattle.sctp_rules.specs.State.{put};
 ghost use Rattle.sctp_rules.specs.Ending.{ended, ended_with, aborted, abort, told_of_end, last_words, has_peer};
 ghost use Rattle.sctp_endpoint.specs.Settings.{address_of};
@@ -9,6 +9,7 @@ ghost use Rattle.sctp_endpoint.specs.Watching.{Gives, sent_as};
 ghost use Rattle.sctp_endpoint.specs.Endpoints.{Does};
 
 use crate::address::Address;
+use crate::chunks::Chunks;
 use crate::endpoint::Endpoint;
 use crate::packets::{blank, write_packet};
 use crate::reply::Reply;
@@ -25,6 +26,24 @@ impl Endpoint {
     {
         let mut out = blank();
         let end = write_packet(&mut out, &self.settings, tag, &[], Some(chunk));
+        watch.send(&out[..end], to);
+    }
+
+    /// A packet with some chunks, and one behind them, goes out at once.
+    pub(super) fn put_behind<W: Watch>(
+        &self,
+        to: &Address,
+        tag: u32,
+        front: &Chunks,
+        last: &Reply<'_>,
+        watch: &mut W,
+    )
+        requires { sum_by size_of front.now + size_of (chunk_of last.now) ≤ 1188 }
+        ensures { Gives W.sent W.told watch.old watch.new
+            (put self.now.settings (address_of to.now) tag (front.now ++ chunk_of last.now ∷ []) self.now.state) }
+    {
+        let mut out = blank();
+        let end = write_packet(&mut out, &self.settings, tag, front.octets(), Some(last));
         watch.send(&out[..end], to);
     }
 
