@@ -1,11 +1,11 @@
 -- Cookies that come, and what a watch is given by one rule after another.
-use Rattle.std.proofs.Common.{◌≡◌, ◌<◌, ◌-◌, ℕ, Bool, false, List, ◌++◌, map, refl, sym, ap, subst, ◌∙◌, nat_eq}
+use Rattle.std.proofs.Common.{◌≡◌, ◌<◌, ◌-◌, ℕ, false, List, ◌++◌, map, refl, sym, ap, subst, ◌∙◌, nat_eq}
 use Rattle.std.proofs.lemmas.Bool.{lt-ltb}
 use Rattle.std.proofs.lemmas.List.{append_assoc, map-append}
 use Rattle.sctp_cookie.specs.declared.cookie.Cookie.{Cookie}
 use Rattle.sctp_rules.specs.declared.loss.Loss.TheVariants.{Restart}
 use Rattle.sctp_rules.specs.Settings.{Address}
-use Rattle.sctp_rules.specs.State.{State, Told, Done, followed_by}
+use Rattle.sctp_rules.specs.State.{Told, Done, followed_by}
 use Rattle.sctp_rules.specs.Ending.{ended}
 use Rattle.sctp_rules.specs.Opening.{stale, staleness}
 use Rattle.sctp_endpoint.specs.Watching.{Sent, sent_as, Gives}

@@ -1,10 +1,10 @@
 -- Chunks one after another, as octets, and read from them.
-use Rattle.std.proofs.Common.{◌≡◌, ℕ, ◌+◌, ◌^◌, ◌<◌, ◌≤◌, List, [], ◌∷◌, ◌++◌, length, take, map, Option, Some, refl, sym, ap, ◌∙◌, length-append, arith}
+use Rattle.std.proofs.Common.{◌≡◌, ℕ, ◌+◌, ◌^◌, ◌<◌, ◌≤◌, List, [], ◌∷◌, ◌++◌, length, take, map, Option, refl, sym, ap, ◌∙◌, length-append, arith}
 use Rattle.std.specs.Prelude.{All, sum_by, unwrap_or}
 use Rattle.std.proofs.lemmas.List.{length-take-le, append_assoc, append-nil, map-append}
 use Rattle.std.proofs.lemmas.List.Sums.{sum_by-cons}
 use Rattle.std.proofs.lemmas.List.Elements.{All-append, All-cons, All-nil}
-use Rattle.sctp_codec.specs.Items.{ItemValue, IsItem, padded_item, padded_items, read_items}
+use Rattle.sctp_codec.specs.Items.{ItemValue, IsItem, padded_item, padded_items}
 use Rattle.sctp_codec.specs.Packets.{ChunkValue, InitChunk, CookieAckChunk}
 use Rattle.sctp_codec.specs.Reading.{chunk_in}
 use Rattle.sctp_codec.specs.Writing.{IsChunk, chunk_item, chunk_octets, headed}

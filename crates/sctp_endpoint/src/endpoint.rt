@@ -11,6 +11,7 @@ mod ending;
 mod opening;
 mod replying;
 mod sending;
+mod ties;
 
 use crate::address::Address;
 use crate::beginnings::Beginnings;

@@ -35,8 +35,8 @@ pub fn write_packet(
     end
 }
 
-/// Writes a packet with INIT ACK: what is offered, the cookie, and the parameters of the INIT that are reported; answers
-/// how many octets it has.
+/// Writes a packet with INIT ACK: what is offered, the cookie, and the parameters of the INIT that are reported;
+/// answers how many octets it has.
 pub fn write_init_answer(
     out: &mut PacketBuffer,
     settings: &Settings,

@@ -1,6 +1,6 @@
 //! COOKIE ECHO that comes (RFC 9260 §5.1.5, §5.2.4).
 
-ghost use Rattle.std.specs.Prelude.{◌≡◌, ◌<◌, ◌≤◌, ◌^◌, ◌-◌, ◌&&◌, [], ◌∷◌};
+ghost use Rattle.std.specs.Prelude.{◌≡◌, ◌<◌, ◌≤◌, ◌^◌, ◌-◌, [], ◌∷◌};
 ghost use Rattle.sctp_codec.specs.Packets.{ShutdownAckChunk, ErrorChunk};
 ghost use Rattle.sctp_codec.specs.Parameters.{CookieInShutdown, cause_item};
 ghost use Rattle.sctp_rules.specs.State.{put, followed_by};
@@ -15,11 +15,6 @@ ghost use Rattle.sctp_rules.specs.Opening.{
   good_echo_in,
   heard_cookie,
   heard_cookie_echo,
-  is_own,
-  is_far,
-  is_tied,
-  is_there,
-  staleness,
 };
 ghost use Rattle.sctp_endpoint.specs.Settings.{address_of};
 ghost use Rattle.sctp_endpoint.specs.Watching.{Gives};
@@ -29,15 +24,13 @@ ghost use Rattle.sctp_endpoint.specs.Hearing.{heard_another, heard_in_time};
 use crate::address::Address;
 use crate::chunks::Chunks;
 use crate::endpoint::Endpoint;
+use crate::endpoint::ties::staleness;
 use crate::peer::{Names, Peer};
 use crate::reply::Reply;
 use crate::watch::Watch;
 use sctp_codec::Cause;
 use sctp_cookie::Cookie;
 use sctp_rules::{Loss, Phase};
-
-/// Of a millisecond.
-const MICROSECONDS: u64 = 1_000;
 
 impl Endpoint {
     /// COOKIE ECHO came; answers whether the chunks behind it belong to the association. A cookie that this end didn't
@@ -139,14 +132,6 @@ impl Endpoint {
             self.tell_stale(source, 1, cookie, watch);
             false
         }
-    }
-
-    /// Whether a cookie is that of the association.
-    fn is_of_association(&self, cookie: &Cookie) -> bool
-        ensures { result ≡ (is_there self.now.state.association.phase && is_own cookie.now self.now.state.association
-            && is_far cookie.now self.now.state.association) }
-    {
-        is_there(self.phase) && self.is_own(cookie) && self.is_far(cookie)
     }
 
     /// A good cookie came, by the state.
@@ -300,46 +285,4 @@ impl Endpoint {
             watch,
         );
     }
-
-    /// Whether a cookie has the tag of this end.
-    fn is_own(&self, cookie: &Cookie) -> bool
-        ensures { result ≡ is_own cookie.now self.now.state.association }
-    {
-        cookie.own_tag == self.own_tag
-    }
-
-    /// Whether a cookie has the tag of the peer.
-    fn is_far(&self, cookie: &Cookie) -> bool
-        ensures { result ≡ is_far cookie.now self.now.state.association }
-    {
-        cookie.peer_tag == self.far_tag
-    }
-
-    /// Whether a cookie was made in this association.
-    fn is_tied(&self, cookie: &Cookie) -> bool
-        ensures { result ≡ is_tied cookie.now self.now.state.association }
-    {
-        cookie.tie_own_tag == self.own_tag && cookie.tie_peer_tag == self.far_tag
-    }
-}
-
-/// Whether there is an association.
-fn is_there(phase: Phase) -> bool
-    ensures { result ≡ is_there phase }
-{
-    !matches!(
-        phase,
-        Phase::Closed | Phase::CookieWait | Phase::CookieEchoed
-    )
-}
-
-/// How long a cookie was too old, in microseconds, as far as there is a number for it.
-fn staleness(now: u64, cookie: &Cookie) -> u32
-    requires { now ≤ 2 ^ 63 }
-    ensures { result ≡ staleness now cookie.now }
-{
-    let late = now
-        .saturating_sub(cookie.made)
-        .saturating_sub(u64::from(cookie.life));
-    late.saturating_mul(MICROSECONDS).min(u64::from(u32::MAX)) as u32
 }
