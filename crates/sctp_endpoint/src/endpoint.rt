@@ -10,6 +10,7 @@ mod echoing;
 mod ending;
 mod opening;
 mod replying;
+mod retrying;
 mod sending;
 mod ties;
 

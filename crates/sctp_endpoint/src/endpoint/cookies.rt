@@ -256,15 +256,10 @@ impl Endpoint {
             (put self.now.settings (address_of source.now) cookie.now.peer_tag
             (ShutdownAckChunk ∷ ErrorChunk (cause_item CookieInShutdown ∷ []) ∷ []) self.now.state) }
     {
-        let mut front = Chunks::new();
-        front.add(&Reply::ShutdownAck);
-        self.put_behind(
-            source,
-            cookie.peer_tag,
-            &front,
-            &Reply::Error(Cause::CookieInShutdown),
-            watch,
-        );
+        let mut chunks = Chunks::new();
+        chunks.add(&Reply::ShutdownAck);
+        chunks.add(&Reply::Error(Cause::CookieInShutdown));
+        self.put_all(source, cookie.peer_tag, &chunks, watch);
     }
 
     /// The peer is told that a cookie is stale.

@@ -1,6 +1,6 @@
 //! The end of an association, or of the try of one (RFC 9260 §9.1).
 
-ghost use Rattle.std.specs.Prelude.{◌≡◌, ◌<◌, ◌≤◌, ◌^◌, ◌-◌, ◌++◌, [], ◌∷◌, ◌+◌, map, sum_by};
+ghost use Rattle.std.specs.Prelude.{◌≡◌, ◌<◌, ◌≤◌, ◌^◌, ◌-◌, ◌++◌, [], ◌∷◌, map};
 ghost use Rattle.sctp_rules.specs.State.{put};
 ghost use Rattle.sctp_rules.specs.Ending.{ended, ended_with, aborted, abort, told_of_end, last_words, has_peer};
 ghost use Rattle.sctp_endpoint.specs.Settings.{address_of};
@@ -29,21 +29,13 @@ impl Endpoint {
         watch.send(&out[..end], to);
     }
 
-    /// A packet with some chunks, and one behind them, goes out at once.
-    pub(super) fn put_behind<W: Watch>(
-        &self,
-        to: &Address,
-        tag: u32,
-        front: &Chunks,
-        last: &Reply<'_>,
-        watch: &mut W,
-    )
-        requires { sum_by size_of front.now + size_of (chunk_of last.now) ≤ 1188 }
+    /// A packet with these chunks goes out at once.
+    pub(super) fn put_all<W: Watch>(&self, to: &Address, tag: u32, chunks: &Chunks, watch: &mut W)
         ensures { Gives W.sent W.told watch.old watch.new
-            (put self.now.settings (address_of to.now) tag (front.now ++ chunk_of last.now ∷ []) self.now.state) }
+            (put self.now.settings (address_of to.now) tag chunks.now self.now.state) }
     {
         let mut out = blank();
-        let end = write_packet(&mut out, &self.settings, tag, front.octets(), Some(last));
+        let end = write_packet(&mut out, &self.settings, tag, chunks.octets(), None);
         watch.send(&out[..end], to);
     }
 
