@@ -154,10 +154,10 @@ number-fits (ShutdownCompleteChunk set) h = let f = one_bit set in omega (arith,
 number-fits (UnknownChunk kind flags value) h = let f = h.fields.flags_fit in let k = h.fields.fits in omega (arith, f, k)
 number-fits (MalformedChunk kind) h = absurd h.fields
 
-chunk-item : (chunk : ChunkValue) → IsChunk chunk → IsItem (chunk_item chunk)
+pub chunk-item : (chunk : ChunkValue) → IsChunk chunk → IsItem (chunk_item chunk)
 chunk-item chunk h = record { kind = number-fits chunk h; fits = h.fits }
 
-chunk-items : (chunks : List ChunkValue) → All IsChunk chunks → All IsItem (map chunk_item chunks)
+pub chunk-items : (chunks : List ChunkValue) → All IsChunk chunks → All IsItem (map chunk_item chunks)
 chunk-items [] h = All-nil IsItem
 chunk-items (chunk ∷ chunks) h =
     All-cons IsItem (chunk_item chunk) (map chunk_item chunks) (chunk-item chunk (All-head IsChunk chunk chunks h)) (chunk-items chunks (All-tail IsChunk chunk chunks h))

@@ -1,11 +1,13 @@
 -- The octets of a cookie say its fields.
-use Rattle.std.proofs.Common.{◌≡◌, ℕ, ◌+◌, List, ◌++◌, length, take, drop, refl, sym, ap, ◌∙◌, length-append, arith}
+use Rattle.std.proofs.Common.{◌≡◌, ℕ, ◌+◌, Bool, true, false, cond, Option, Some, None, List, ◌++◌, length, take, drop, refl, sym, ap, ◌∙◌, length-append, arith}
 use Rattle.std.proofs.lemmas.Nat.{from_be_bytes-to_be_bytes_2, from_be_bytes-to_be_bytes_4, from_be_bytes-to_be_bytes_8}
 use Rattle.std.proofs.lemmas.List.{drop_at, drop-drop}
+use Rattle.std.proofs.lemmas.Slice.Eq.{bytes_eq-Decides}
+use Rattle.std.specs.Str.{bytes_eq}
 use Rattle.sha2.proofs.Facts256.{length-sha256}
 use Rattle.sctp_cookie.specs.declared.cookie.Cookie.{Cookie}
 use Rattle.sctp_cookie.specs.Hmac.{hmac}
-use Rattle.sctp_cookie.specs.Cookies.{Fits, body_of, signed, IsSigned, cookie_in}
+use Rattle.sctp_cookie.specs.Cookies.{Fits, body_of, signed, IsSigned, cookie_in, opened}
 
 pub length-hmac : (key text : List ℕ) → length (hmac key text) ≡ 32
 unfolding hmac
@@ -63,3 +65,21 @@ only_read key octets array c found h same e =
 -- one more piece was written
 pub grown : (out old front octets piece : List ℕ) (n m : ℕ) → take n out ≡ take m old ++ octets → take m old ≡ front → octets ≡ piece → take n out ≡ front ++ piece
 grown out old front octets piece n m text before same = cc
+
+-- ---- what octets open as
+
+not_so : (b : Bool) → (b ≡ true → ⊥) → b ≡ false
+not_so true never = absurd (never refl)
+not_so false never = refl
+
+pub unlike : (xs ys : List ℕ) → (xs ≡ ys → ⊥) → bytes_eq xs ys ≡ false
+unlike xs ys never = not_so (bytes_eq xs ys) (λ e. never ((bytes_eq-Decides xs ys).0 e))
+
+pub opened-other : (key octets : List ℕ) → (octets ≡ signed key (cookie_in octets) → ⊥) → None ≡ opened key octets
+unfolding opened
+opened-other key octets never = ap (λ (b : Bool). cond b (Some (cookie_in octets)) None) (sym (unlike octets (signed key (cookie_in octets)) never))
+
+pub opened-same : (key octets : List ℕ) (found : Cookie) → found ≡ cookie_in octets → octets ≡ signed key (cookie_in octets) → Some found ≡ opened key octets
+unfolding opened
+opened-same key octets found e same =
+    ap Some e ∙ ap (λ (b : Bool). cond b (Some (cookie_in octets)) None) (sym ((bytes_eq-Decides octets (signed key (cookie_in octets))).1 same))

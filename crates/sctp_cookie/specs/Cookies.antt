@@ -1,5 +1,7 @@
 -- The state cookie: what it says, and the 88 octets that say it (RFC 9260 §5.1.3).
-use Rattle.std.specs.Prelude.{◌≡◌, ℕ, ◌<◌, ◌^◌, List, [], ◌∷◌, ◌++◌, take, drop}
+use Rattle.std.specs.Prelude.{◌≡◌, ℕ, ◌<◌, ◌^◌, List, [], ◌∷◌, ◌++◌, take, drop, Option, Some, None}
+use Rattle.std.specs.Prelude.{if◌then◌else◌}
+use Rattle.std.specs.Str.{bytes_eq}
 use Rattle.std.specs.Int.{w16, w32, w64, to_be_bytes, from_be_bytes}
 use Rattle.sctp_cookie.specs.declared.cookie.Cookie.{Cookie}
 use Rattle.sctp_cookie.specs.Hmac.{hmac}
@@ -75,3 +77,7 @@ cookie_in octets = record {
   life = number32 octets 80;
   peer_port = number16 octets 84;
 }
+
+-- the cookie that octets are under a key, where they are those of one
+unfoldable pub opened : (key octets : List ℕ) → Option Cookie
+opened key octets = if bytes_eq octets (signed key (cookie_in octets)) then Some (cookie_in octets) else None

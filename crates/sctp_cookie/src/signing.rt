@@ -1,7 +1,7 @@
 //! Cookies signed, and opened again.
 
 ghost use Rattle.std.specs.Prelude.{◌≡◌, ◌↔◌, ◌+◌, ◌≤◌, ◌++◌, length, take, Some, IfSome, IsTrue};
-ghost use Rattle.sctp_cookie.specs.Cookies.{Fits, body_of, signed, IsSigned, number64, number32, number16, cookie_in};
+ghost use Rattle.sctp_cookie.specs.Cookies.{Fits, body_of, signed, IsSigned, number64, number32, number16, cookie_in, opened};
 ghost use Rattle.sctp_cookie.specs.declared.cookie.Cookie.{Cookie};
 
 use crate::cookie::{BODY_OCTETS, COOKIE_KEY_OCTETS, COOKIE_OCTETS, Cookie};
@@ -27,6 +27,7 @@ impl Cookie {
         ensures signed { IfSome result (λ cookie. IsSigned key.now octets.now cookie) }
         // What was signed opens.
         ensures only { (cookie : Cookie) → IsSigned key.now octets.now cookie → result ≡ Some cookie }
+        ensures exact { result ≡ opened key.now octets.now }
     {
         let octets = octets.as_array::<COOKIE_OCTETS>()?;
         let cookie = read(octets);

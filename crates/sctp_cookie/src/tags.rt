@@ -1,6 +1,6 @@
 //! The tags of an endpoint.
 
-ghost use Rattle.std.specs.Prelude.{◌≡◌, ◌≤◌, ◌-◌, ◌^◌, ◌∷◌, ◌++◌, [], length, IfSome, IfNone};
+ghost use Rattle.std.specs.Prelude.{◌≡◌, ◌<◌, ◌≤◌, ◌-◌, ◌^◌, ◌∷◌, ◌++◌, [], length, IfSome, IfNone};
 ghost use Rattle.sctp_cookie.specs.Tags.{first_drawing, next_given, after_one, next_tag, after_draw, drawn, numbers};
 
 use crate::permutation::permuted;
@@ -46,9 +46,23 @@ impl Tags {
         ensures tag { result ≡ next_tag self.old }
         ensures drawing { self.new ≡ after_draw self.old }
         ensures drawn { IfSome result (λ tag. drawn self.new ≡ drawn self.old ++ tag ∷ []) }
+        ensures key { self.new.key ≡ self.old.key }
+        ensures used { IfSome result (λ tag. self.old.used < self.new.used) }
+        ensures most { self.new.used ≤ numbers }
         ensures end { IfNone result (length (drawn self.new) ≡ 2 ^ 32 - 1) }
     {
         self.next_tag()
+    }
+
+    /// The next tag, where one is left; it isn't drawn by that.
+    pub fn peek(&self) -> Option<u32>
+        ensures { result ≡ next_tag self.now }
+    {
+        let mut same = Tags {
+            key: self.key,
+            used: self.used,
+        };
+        same.next_tag()
     }
 
     /// The next tag: a number that gives 0 is passed over.

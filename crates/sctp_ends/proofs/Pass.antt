@@ -12,7 +12,7 @@ use Rattle.sctp_receiving.specs.Receiver as receiving
 use Rattle.sctp_codec.specs.Items.{ItemValue}
 use Rattle.sctp_codec.specs.Packets as packets
 use Rattle.sctp_codec.specs.Packets.{ChunkValue, InitValue, SackValue, DataValue, PacketValue}
-use Rattle.sctp_codec.specs.Parameters.{CauseValue, UnresolvableAddress, InvalidParameter, EndedByUser, NoUserData, StaleCookie}
+use Rattle.sctp_codec.specs.Parameters.{CauseValue, InvalidParameter, EndedByUser, NoUserData, StaleCookie}
 use Rattle.sctp_codec.specs.Parameters.{UnrecognizedChunk, cause_item, cookie_in, host_name_in, has_stale_cookie}
 use Rattle.sctp_codec.specs.Parameters.{information_of}
 use Rattle.sctp_sending.specs.Outgoing.{Message}
@@ -474,7 +474,7 @@ module _ (own far : Secrets) (mark : ℕ) (other : End) (good : AreGood own) whe
   judged-init : (name : Option (List ℕ)) (c : Settings) (now : ℕ) (source : Address) (tag : ℕ) (init : InitValue) (s : State) →
       Begins far own (young other) other tag (packets.InitChunk init) → Can s (opening.judged_init name c own now source init s)
   judged-init (Some name) c now source tag init s came =
-      putting c source init.tag (ending.abort_for (UnresolvableAddress name) ∷ []) s (tt, tt)
+      putting c source init.tag (ending.abort_for (opening.no_address name) ∷ []) s (tt, tt)
   judged-init None c now source tag init s came =
       let invalid : Done = state.put c source init.tag (ending.abort_for InvalidParameter ∷ []) s in
       let taken : Done = opening.init_in s.association.phase c own now source init s in
@@ -519,7 +519,7 @@ module _ (own far : Secrets) (mark : ℕ) (other : End) (good : AreGood own) whe
       stage_of s.association.phase ≡ Waiting → cookie_in init.parameters ≡ octets → s.association.own_tag ≡ tag → IsTagged tag s →
       Begins far own (young other) other tag (packets.InitAckChunk init) → Hears tag s (opening.echoed_if c now init t octets s)
   echoed-if c now tag init (Some t) (Some octets) s waiting inside same tagged came =
-      hears-either (opening.is_usable init) tag s (opening.echoed c now t.failures init octets s) (opening.refused c init s)
+      hears-either (opening.is_usable init && opening.fits_echo octets) tag s (opening.echoed c now t.failures init octets s) (opening.refused c init s)
       (record { result = echoed-goes own far mark other c now t.failures init octets s waiting inside tag same came; tagged = λ on. same })
       (hearing tag s (opening.refused c init s) tagged (refused c init s))
   echoed-if c now tag init None (Some octets) s waiting inside same tagged came = hearing tag s (silent s) tagged (stays s)

@@ -11,7 +11,7 @@ use Rattle.sctp_receiving.specs.Receiver as receiving
 use Rattle.sctp_codec.specs.Items.{ItemValue}
 use Rattle.sctp_codec.specs.Packets as packets
 use Rattle.sctp_codec.specs.Packets.{ChunkValue, InitValue, SackValue, DataValue, PacketValue}
-use Rattle.sctp_codec.specs.Parameters.{CauseValue, UnresolvableAddress, InvalidParameter, EndedByUser, NoUserData}
+use Rattle.sctp_codec.specs.Parameters.{CauseValue, InvalidParameter, EndedByUser, NoUserData}
 use Rattle.sctp_codec.specs.Parameters.{UnrecognizedChunk, cause_item, cookie_in, host_name_in, has_stale_cookie}
 use Rattle.sctp_codec.specs.Parameters.{information_of}
 use Rattle.sctp_sending.specs.Outgoing.{Message}
@@ -444,7 +444,7 @@ module _ {IsCome : DataValue → Type 0} {R : State → Done → Type 0} (steps 
   judged-init : (name : Option (List ℕ)) (c : Settings) (k : Secrets) (now : ℕ) (source : Address) (init : InitValue) (s : State) →
       Right s → Passes R s (opening.judged_init name c k now source init s)
   judged-init (Some name) c k now source init s r =
-      putting c source init.tag (ending.abort_for (UnresolvableAddress name) ∷ []) s r
+      putting c source init.tag (ending.abort_for (opening.no_address name) ∷ []) s r
   judged-init None c k now source init s r =
       let invalid : Done = state.put c source init.tag (ending.abort_for InvalidParameter ∷ []) s in
       let taken : Done = opening.init_in s.association.phase c k now source init s in
@@ -478,7 +478,7 @@ module _ {IsCome : DataValue → Type 0} {R : State → Done → Type 0} (steps 
   echoed-if : (c : Settings) (now : ℕ) (init : InitValue) (t : Option Try) (cookie : Option (List ℕ)) (s : State) →
       s.association.is_up ≡ false → Right s → Passes R s (opening.echoed_if c now init t cookie s)
   echoed-if c now init (Some t) (Some cookie) s d r =
-      either (opening.is_usable init) s (opening.echoed c now t.failures init cookie s) (opening.refused c init s)
+      either (opening.is_usable init && opening.fits_echo cookie) s (opening.echoed c now t.failures init cookie s) (opening.refused c init s)
       (echoed c now t.failures init cookie s d)
       (refused c init s r)
   echoed-if c now init None (Some cookie) s d r = stays s [] r

@@ -1,14 +1,14 @@
 -- What goes out of the sending half, and what a SACK or a SHUTDOWN does to it (RFC 9260 §6.1, §6.2.1).
 use Rattle.std.specs.Prelude.{ℕ, zero, suc, Bool, true, false, ◌&&◌, ◌||◌, List, [], ◌∷◌, Option, Some, None}
 use Rattle.std.specs.Prelude.{length, take, nat_lt, nat_le}
-use Rattle.std.specs.List.{list_any}
 use Rattle.sctp_sending.specs.Outgoing.{Message, Outgoing, outgoing_at, tsn_at}
 use Rattle.sctp_sending.specs.Sending.{Sending, most_messages, most_octets, next_place, gone_next, confirmation}
 use Rattle.sctp_sending.specs.Sending.{confirmed}
 use Rattle.sctp_sending.specs.Sending.{naming_of, after_sack}
+use Rattle.sctp_sending.specs.Gaps.{names_in}
 use Rattle.sctp_sending.specs.declared.confirmation.Confirmation.{Confirmation}
 use Rattle.sctp_sending.specs.declared.confirmation.Confirmation.TheVariants.{Old, Beyond, Of}
-use Rattle.sctp_codec.specs.Packets.{DataValue, BlockValue, SackValue}
+use Rattle.sctp_codec.specs.Packets.{DataValue, SackValue}
 use Rattle.sctp_rules.specs.declared.limits.TheConstants.{STREAMS}
 
 -- ---- a message is taken
@@ -79,14 +79,6 @@ abbrev pub is_old : Confirmation → Bool
 is_old Old = true
 is_old Beyond = false
 is_old (Of count) = false
-
--- a block counts if it lies within what isn't confirmed, and the message behind the cumulative TSN isn't in it
-abbrev pub is_block : (many : ℕ) → BlockValue → Bool
-is_block many b = nat_le 2 b.start && nat_le b.start b.end && nat_le b.end many
-
--- whether blocks name the message that is so far ahead of the cumulative TSN
-abbrev pub names_in : List BlockValue → (many ahead : ℕ) → Bool
-names_in blocks many ahead = list_any (λ b. is_block many b && nat_le b.start ahead && nat_le ahead b.end) blocks
 
 -- the sending half after a SACK
 abbrev pub with_sack_of : Confirmation → (now : ℕ) → SackValue → Sending → Sending

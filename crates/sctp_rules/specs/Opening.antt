@@ -1,15 +1,15 @@
 -- How an association begins: the handshake of four ways (RFC 9260 §5).
 use Rattle.std.specs.Prelude.{ℕ, Bool, true, false, not, ◌+◌, ◌-◌, ◌*◌, ◌^◌, ◌&&◌, ◌||◌, List, [], ◌∷◌, Option}
-use Rattle.std.specs.Prelude.{Some, None, is_none, min, nat_eq, nat_lt, if◌then◌else◌}
+use Rattle.std.specs.Prelude.{Some, None, is_none, length, min, nat_eq, nat_lt, nat_le, if◌then◌else◌}
 use Rattle.sctp_receiving.specs.Receiver.{first_receiver}
 use Rattle.sctp_codec.specs.Items.{ItemValue}
 use Rattle.sctp_codec.specs.Packets.{ChunkValue, InitValue, InitChunk, InitAckChunk, ErrorChunk, CookieEchoChunk}
 use Rattle.sctp_codec.specs.Packets.{CookieAckChunk, ShutdownAckChunk}
-use Rattle.sctp_codec.specs.Parameters.{StaleCookie, UnresolvableAddress, InvalidParameter}
+use Rattle.sctp_codec.specs.Parameters.{CauseValue, StaleCookie, UnresolvableAddress, InvalidParameter}
 use Rattle.sctp_codec.specs.Parameters.{CookieInShutdown}
 use Rattle.sctp_codec.specs.Parameters.{cause_item, unrecognized_parameters, cookie_in, host_name_in, has_stale_cookie}
 use Rattle.sctp_codec.specs.Parameters.{answering, complained_of}
-use Rattle.sctp_rules.specs.declared.limits.TheConstants.{STREAMS}
+use Rattle.sctp_rules.specs.declared.limits.TheConstants.{STREAMS, COOKIE_OCTETS, HOST_NAME_OCTETS}
 use Rattle.sctp_receiving.specs.declared.limits.TheConstants.{WINDOW}
 use Rattle.sctp_rules.specs.declared.phase.Phase.{Phase}
 use Rattle.sctp_rules.specs.declared.phase.Phase.TheVariants.{Closed, CookieWait, CookieEchoed, Established}
@@ -204,9 +204,13 @@ init_in ShutdownReceived c k now source init s = answered_anew c k now source in
 init_in ShutdownAckSent c k now source init s =
     put c s.association.address s.association.far_tag (ShutdownAckChunk ∷ []) s
 
+-- a host name gives no address; one that is too long isn't sent back
+abbrev pub no_address : List ℕ → CauseValue
+no_address name = if nat_le (length name) HOST_NAME_OCTETS then UnresolvableAddress name else InvalidParameter
+
 -- one with a host name, or with too few streams, is refused
 abbrev pub judged_init : Option (List ℕ) → Settings → Secrets → (now : ℕ) → Address → InitValue → State → Done
-judged_init (Some name) c k now source init s = put c source init.tag (abort_for (UnresolvableAddress name) ∷ []) s
+judged_init (Some name) c k now source init s = put c source init.tag (abort_for (no_address name) ∷ []) s
 judged_init None c k now source init s =
     if has_few_streams init
     then put c source init.tag (abort_for InvalidParameter ∷ []) s
@@ -250,9 +254,13 @@ refused c init s =
 abbrev pub is_usable : InitValue → Bool
 is_usable init = not (nat_eq init.tag 0) && not (has_few_streams init) && is_none (host_name_in init.parameters)
 
+-- there is a packet for the cookie, and an ERROR behind it
+abbrev pub fits_echo : List ℕ → Bool
+fits_echo cookie = nat_le (length cookie) COOKIE_OCTETS
+
 abbrev pub echoed_if : Settings → (now : ℕ) → InitValue → Option Try → Option (List ℕ) → State → Done
 echoed_if c now init (Some t) (Some cookie) s =
-    if is_usable init then echoed c now t.failures init cookie s else refused c init s
+    if is_usable init && fits_echo cookie then echoed c now t.failures init cookie s else refused c init s
 echoed_if c now init None cookie s = silent s
 echoed_if c now init (Some t) None s = refused c init s
 

@@ -2,3 +2,4 @@ pub mod Windows
 pub mod Tallying
 pub mod Leaving
 pub mod Timing
+pub mod Naming

@@ -10,4 +10,7 @@ pub mod Outbox
 pub mod Tallies
 pub mod Tallied
 pub mod Sending
+pub mod Gaps
+pub mod Naming
+pub mod Acknowledging
 pub mod Inside

@@ -251,6 +251,15 @@ abbrev pub is_timed_named : List Outgoing → Option Timed → Bool
 is_timed_named out None = false
 is_timed_named out (Some t) = (outgoing_at out t.place).named
 
+-- where a SACK named it, its round trip is measured
+abbrev pub with_named_measured : Sending → (now : ℕ) → Sending
+with_named_measured s now =
+    let measured = is_timed_named s.out s.timed in
+    record s {
+      round_trips = if measured then measured_in s.round_trips s.timed s.went now else s.round_trips;
+      timed = if measured then None else s.timed;
+    }
+
 -- ---- a SACK comes
 
 -- what it makes of the congestion window: a message was lost, or some were confirmed
@@ -282,6 +291,10 @@ acknowledged s now window count names =
       timed = if measured then None else left.timed;
     } in
     settled (record after { peer_window = window - under_way after }) count now
+
+-- whether it confirms some, or names one for the first time
+abbrev pub makes_progress : Sending → (now count : ℕ) → (ℕ → Bool) → Bool
+makes_progress s now count names = nat_lt 0 count || nat_lt 0 (naming_of names (confirmed s count now)).octets
 
 abbrev pub after_sack : Sending → (now window : ℕ) → (ℕ → Bool) → Confirmation → Sending
 after_sack s now window names Old = s

@@ -16,6 +16,8 @@ ghost use Rattle.sctp_sending.specs.Outbox.{changed, put_out_first, without_firs
 ghost use Rattle.sctp_sending.specs.Cells.{given_as};
 ghost use Rattle.sctp_sending.specs.Tallies.{named_of, tally_of};
 
+mod naming;
+
 use crate::cell::Cell;
 use crate::message::Message;
 use crate::ring::Ring;
@@ -137,7 +139,8 @@ impl Outbox {
 
     /// Whether the peer named one of them.
     pub fn is_any_named(&self) -> bool
-        ensures { IsTrue result ↔ (0 < sum_by named_of (take self.now.went self.now.out)) }
+        ensures named { IsTrue result ↔ (0 < sum_by named_of (take self.now.went self.now.out)) }
+        ensures went { self.now.went ≤ length self.now.out }
     {
         self.tally.named > 0
     }
@@ -215,6 +218,7 @@ impl Outbox {
     pub fn confirm(&mut self, count: usize) -> u32
         requires { count ≤ self.old.went }
         ensures octets { result ≡ newly_confirmed_in self.old count }
+        ensures most { result ≤ 256 * 290 }
         ensures outbox { self.new ≡ without_first self.old count }
     {
         let (octets, tally) = self.leaving(count);
@@ -228,6 +232,7 @@ impl Outbox {
     fn leaving(&self, count: usize) -> (u32, Tally)
         requires { count ≤ self.now.went }
         ensures octets { result.0 ≡ newly_confirmed_in self.now count }
+        ensures most { result.0 ≤ 256 * 290 }
         ensures tally { result.1 ≡ tally_of (drop count (take self.now.went self.now.out)) }
     {
         let (mut octets, mut tally) = (0, self.tally);

@@ -47,14 +47,6 @@ impl RoundTrips {
         }
     }
 
-    /// Forgets what was measured.
-    pub fn restart(&mut self)
-        ensures { self.new ≡ first_round_trips self.old.bounds }
-    {
-        self.measured = None;
-        self.timeout = self.bounds.initial;
-    }
-
     /// The timeout, in milliseconds: RTO.
     pub fn timeout(&self) -> u32
         ensures timeout { result ≡ self.now.timeout }

@@ -1,0 +1,30 @@
+-- How a try begins, once its tag was drawn.
+use Rattle.std.specs.Prelude.{ℕ, ◌+◌, true, List, [], ◌∷◌, Some}
+use Rattle.sctp_codec.specs.Packets.{ChunkValue, InitChunk}
+use Rattle.sctp_rules.specs.declared.phase.Phase.TheVariants.{CookieWait}
+use Rattle.sctp_rules.specs.Settings.{Settings, Address}
+use Rattle.sctp_rules.specs.State.{State, Done, no_association, with_association}
+use Rattle.sctp_rules.specs.Opening.{init_of, trying_with}
+
+-- COOKIE-WAIT, with this tag and a first TSN that is the same
+abbrev pub in_try : Settings → Address → (tag : ℕ) → State → State
+in_try c address tag s = record s {
+  is_wanted = true;
+  association = record (no_association c) { phase = CookieWait; own_tag = tag; own_first = tag; address = address };
+}
+
+abbrev pub begun_by : Settings → (now failures : ℕ) → Address → (tag : ℕ) → State → Done
+begun_by c now failures address tag s =
+    trying_with c now failures (InitChunk (init_of (record { tag = tag; first = tag }) []) ∷ [])
+    (in_try c address tag s)
+
+-- these chunks go out until they are answered
+abbrev pub with_try : (now failures : ℕ) → List ChunkValue → State → State
+with_try now failures chunks s =
+    with_association s (record s.association {
+      trying = Some (record {
+        chunks = chunks;
+        failures = failures;
+        t1 = now + s.association.sender.round_trips.timeout;
+      });
+    })

@@ -1,0 +1,9 @@
+pub mod Settings
+pub mod Replies
+pub mod ChunkRows
+pub mod Written
+pub mod Watching
+pub mod Endpoints
+pub mod Drawn
+pub mod Beginning
+pub mod Inside

@@ -1,0 +1,54 @@
+//! The tags that an endpoint draws.
+
+ghost use Rattle.std.specs.Prelude.{◌≡◌, ◌+◌, is_some, if◌then◌else◌};
+ghost use Rattle.sctp_cookie.specs.Tags.{next_tag};
+ghost use Rattle.sctp_endpoint.specs.Endpoints.{drawing_after};
+
+use sctp_cookie::Tags;
+use std::marker::Model;
+
+/// The tags that an endpoint draws, and how many it drew.
+#[derive(Drop)]
+pub struct Beginnings {
+    tags: Tags,
+    count: u64,
+}
+
+impl Model for Beginnings {
+    ghost use Rattle.sctp_endpoint.specs.Drawn.{Drawn};
+
+    ghost Value = { Drawn };
+
+    ghost use Rattle.sctp_endpoint.specs.Drawn.{drawn_in, IsDrawn};
+
+    ghost view = { drawn_in };
+
+    ghost invariant = { IsDrawn };
+}
+
+impl Beginnings {
+    /// None is drawn yet. The key is to be drawn at random.
+    #[tactic(auto, unfolding(crate::specs::Endpoints::drawing_after))]
+    pub fn new(key: [u8; 32]) -> Beginnings
+        ensures { result ≡ record { key = key; count = 0 } }
+    {
+        Beginnings {
+            tags: Tags::new(key),
+            count: 0,
+        }
+    }
+
+    /// Draws the next tag, where one is left.
+    pub fn draw(&mut self) -> Option<u32>
+        ensures tag { result ≡ next_tag (drawing_after self.old.key self.old.count) }
+        ensures drawn { self.new ≡ record {
+          key = self.old.key;
+          count = if is_some result then self.old.count + 1 else self.old.count;
+        } }
+    {
+        let tag = self.tags.peek()?;
+        self.tags.draw();
+        self.count += 1;
+        Some(tag)
+    }
+}

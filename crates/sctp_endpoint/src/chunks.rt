@@ -1,0 +1,76 @@
+//! Chunks that wait for a packet.
+
+ghost use Rattle.std.specs.Prelude.{◌≡◌, ◌+◌, ◌≤◌, [], ◌∷◌, ◌++◌, length, sum_by};
+ghost use Rattle.sctp_codec.specs.Writing.{IsChunk};
+ghost use Rattle.sctp_endpoint.specs.Replies.{chunk_of, size_of};
+ghost use Rattle.sctp_endpoint.specs.ChunkRows.{row_of};
+
+use crate::packets::blank;
+use crate::reply::Reply;
+use sctp_codec::PacketBuffer;
+use std::marker::Model;
+
+/// Chunks in the order in which they go out, 1,188 octets at most: those of a packet behind its header.
+#[derive(Drop)]
+pub struct Chunks {
+    octets: PacketBuffer,
+    end: usize,
+}
+
+impl Model for Chunks {
+    ghost use Rattle.std.specs.Prelude.{List};
+    ghost use Rattle.sctp_codec.specs.Packets.{ChunkValue};
+
+    ghost Value = { List ChunkValue };
+
+    ghost use Rattle.sctp_endpoint.specs.Written.{chunks_in, IsWritten};
+
+    ghost view = { chunks_in };
+
+    ghost invariant = { IsWritten };
+}
+
+impl Chunks {
+    /// No chunks.
+    pub fn new() -> Chunks
+        ensures { result ≡ [] }
+    {
+        Chunks {
+            octets: blank(),
+            end: 0,
+        }
+    }
+
+    /// Drops all chunks.
+    pub fn clear(&mut self)
+        ensures { self.new ≡ [] }
+    {
+        self.end = 0;
+    }
+
+    /// How many octets they have, each padded.
+    pub fn size(&self) -> usize
+        ensures size { result ≡ sum_by size_of self.now }
+        ensures most { result ≤ 1188 }
+    {
+        self.end
+    }
+
+    /// Their octets, each padded.
+    pub fn octets(&self) -> &[u8]
+        ensures octets { result.now ≡ row_of self.now }
+        ensures size { length result.now ≡ sum_by size_of self.now }
+        ensures most { length result.now ≤ 1188 }
+    {
+        &self.octets[..self.end]
+    }
+
+    /// Appends a chunk.
+    pub fn add(&mut self, chunk: &Reply<'_>)
+        requires room { sum_by size_of self.old + size_of (chunk_of chunk.now) ≤ 1188 }
+        requires chunk { IsChunk (chunk_of chunk.now) }
+        ensures { self.new ≡ self.old ++ chunk_of chunk.now ∷ [] }
+    {
+        self.end = chunk.write(&mut self.octets, self.end);
+    }
+}

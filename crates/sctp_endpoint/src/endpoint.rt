@@ -1,0 +1,148 @@
+//! The endpoint.
+
+ghost use Rattle.std.specs.Prelude.{◌≡◌, ◌≤◌, ◌^◌, IfOk};
+ghost use Rattle.sctp_rules.specs.State.{first_state, no_association, with_association};
+ghost use Rattle.sctp_endpoint.specs.Settings.{settings_of};
+
+mod answering;
+mod echoing;
+mod ending;
+mod opening;
+
+use crate::address::Address;
+use crate::beginnings::Beginnings;
+use crate::chunks::Chunks;
+use crate::peer::{Attempt, Beat, Peer};
+use crate::settings::Settings;
+use sctp_receiving::Receiver;
+use sctp_rules::Phase;
+use sctp_sending::Sender;
+use std::alloc::{AllocError, Global};
+use std::marker::Model;
+
+/// Nothing is known of a peer.
+const NO_PEER: Peer = Peer {
+    first: 0,
+    window: 0,
+};
+
+/// Without an association there are no streams.
+const NO_STREAMS: u16 = 0;
+
+/// Octets of the keys of an endpoint.
+pub const KEY_OCTETS: usize = 32;
+
+/// One end of an association (RFC 9260): it has no socket, no clock and no thread. What comes and what the time is is
+/// handed in; what goes out and what the user is told is handed to a `Watch`. `new` allocates all memory.
+#[derive(Drop)]
+pub struct Endpoint {
+    settings: Settings,
+    beginnings: Beginnings,
+    cookie_key: [u8; KEY_OCTETS],
+    is_wanted: bool,
+    generation: u64,
+    nonces: u64,
+    phase: Phase,
+    is_up: bool,
+    own_tag: u32,
+    far_tag: u32,
+    own_first: u32,
+    peer: Peer,
+    address: Address,
+    control: Chunks,
+    sender: Sender,
+    receiver: Receiver,
+    is_sack_due: bool,
+    tried: Chunks,
+    attempt: Option<Attempt>,
+    t2: Option<u64>,
+    t5: Option<u64>,
+    beat_due: Option<u64>,
+    beat: Option<Beat>,
+    failures: u32,
+}
+
+impl Model for Endpoint {
+    ghost use Rattle.sctp_endpoint.specs.Endpoints.{Endpoint};
+
+    ghost Value = { Endpoint };
+
+    ghost use Rattle.sctp_endpoint.specs.Inside.{endpoint_in, IsEndpoint};
+
+    ghost view = { endpoint_in };
+
+    ghost invariant = { IsEndpoint };
+}
+
+impl Endpoint {
+    /// A new endpoint, without an association. The keys, under which tags are drawn and cookies are signed, are to be
+    /// drawn at random, and no two of them may be the same. The error means that memory ran out.
+    pub fn new(
+        alloc: Global,
+        settings: Settings,
+        tag_key: [u8; KEY_OCTETS],
+        cookie_key: [u8; KEY_OCTETS],
+    ) -> Result<Endpoint, AllocError>
+        requires initial { settings.bounds.initial ≤ settings.bounds.most }
+        requires least { settings.bounds.least ≤ settings.bounds.most }
+        requires most { settings.bounds.most ≤ 2 ^ 24 }
+        ensures { IfOk result (λ e. e ≡ record {
+          settings = settings_of settings;
+          tag_key = tag_key;
+          cookie_key = cookie_key;
+          state = first_state (settings_of settings);
+        }) }
+    {
+        Ok(Endpoint {
+            settings,
+            beginnings: Beginnings::new(tag_key),
+            cookie_key,
+            is_wanted: false,
+            generation: 0,
+            nonces: 0,
+            phase: Phase::Closed,
+            is_up: false,
+            own_tag: 0,
+            far_tag: 0,
+            own_first: 0,
+            peer: NO_PEER,
+            address: settings.address,
+            control: Chunks::new(),
+            sender: Sender::new(alloc, settings.bounds)?,
+            receiver: Receiver::new(alloc, NO_STREAMS, 0)?,
+            is_sack_due: false,
+            tried: Chunks::new(),
+            attempt: None,
+            t2: None,
+            t5: None,
+            beat_due: None,
+            beat: None,
+            failures: 0,
+        })
+    }
+
+    /// There is no association any more, nor the try of one.
+    fn forget(&mut self)
+        ensures { self.new ≡ record self.old {
+          state = with_association self.old.state (no_association self.old.settings);
+        } }
+    {
+        self.phase = Phase::Closed;
+        self.is_up = false;
+        self.own_tag = 0;
+        self.far_tag = 0;
+        self.own_first = 0;
+        self.peer = NO_PEER;
+        self.address = self.settings.address;
+        self.control.clear();
+        self.sender.begin(self.settings.bounds, 0, 0);
+        self.receiver.begin(NO_STREAMS, 0);
+        self.is_sack_due = false;
+        self.attempt = None;
+        self.t2 = None;
+        self.t5 = None;
+        self.beat_due = None;
+        self.beat = None;
+        self.failures = 0;
+    }
+}

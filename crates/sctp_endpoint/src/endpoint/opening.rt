@@ -1,0 +1,189 @@
+//! How an association begins: the tries of this end (RFC 9260 §5.1).
+
+ghost use Rattle.std.specs.Prelude.{◌≡◌, ◌<◌, ◌≤◌, ◌^◌, ◌+◌, ◌-◌, [], ◌∷◌, is_some, if◌then◌else◌};
+ghost use Rattle.sctp_cookie.specs.Tags.{next_tag};
+ghost use Rattle.sctp_rules.specs.State.{put};
+ghost use Rattle.sctp_rules.specs.Opening.{opening, may_open, begun, begun_anew, trying_with, tag_of_try};
+ghost use Rattle.sctp_codec.specs.Writing.{IsChunk};
+ghost use Rattle.sctp_endpoint.specs.Settings.{address_of};
+ghost use Rattle.sctp_endpoint.specs.Replies.{chunk_of, size_of};
+ghost use Rattle.sctp_endpoint.specs.Watching.{Gives};
+ghost use Rattle.sctp_endpoint.specs.Endpoints.{Does, secrets_of, drawing_after};
+ghost use Rattle.sctp_endpoint.specs.Beginning.{begun_by, in_try, with_try};
+
+use crate::address::Address;
+use crate::chunks::Chunks;
+use crate::endpoint::Endpoint;
+use crate::peer::Attempt;
+use crate::reply::Reply;
+use crate::watch::Watch;
+use sctp_codec::Offer;
+use sctp_receiving::limits::WINDOW;
+use sctp_rules::limits::STREAMS;
+use sctp_rules::{Loss, Phase};
+
+impl Endpoint {
+    /// The user wants an association from now on. An active end begins to try, by INIT; another one waits for its peer.
+    /// Where there is an association, or the try of one, nothing changes; an end that waits may begin to try.
+    pub fn open<W: Watch>(&mut self, is_active: bool, now: u64, watch: &mut W)
+        requires generation { self.old.state.generation < 2 ^ 63 }
+        requires now { now ≤ 2 ^ 63 }
+        ensures { Does W.sent W.told watch.old watch.new self.old self.new
+            (opening self.old.settings (secrets_of self.old) now is_active self.old.state) }
+    {
+        if !self.may_open(is_active) {
+            return;
+        }
+        if is_active {
+            let address = self.settings.address;
+            self.begin(0, &address, now, watch);
+        } else {
+            self.is_wanted = true;
+        }
+    }
+
+    /// Whether the user may want one.
+    fn may_open(&self, is_active: bool) -> bool
+        ensures { result ≡ may_open is_active self.now.state }
+    {
+        matches!(self.phase, Phase::Closed) && (is_active || !self.is_wanted)
+    }
+
+    /// A try begins, with a tag of its own; where no tag is left it fails.
+    pub(super) fn begin<W: Watch>(
+        &mut self,
+        failures: u32,
+        address: &Address,
+        now: u64,
+        watch: &mut W,
+    )
+        requires generation { self.old.state.generation < 2 ^ 64 - 1 }
+        requires now { now ≤ 2 ^ 63 }
+        ensures { Does W.sent W.told watch.old watch.new self.old self.new
+            (begun self.old.settings (secrets_of self.old) now failures (address_of address.now) self.old.state) }
+    {
+        match self.draw() {
+            Some(tag) => self.begin_by(tag, failures, address, now, watch),
+            None => self.end_with(Loss::NoTag, None, watch),
+        }
+    }
+
+    /// A try begins anew, and the generation grows; where no tag is left it ends.
+    pub(super) fn begin_anew<W: Watch>(
+        &mut self,
+        failures: u32,
+        address: &Address,
+        now: u64,
+        watch: &mut W,
+    )
+        requires generation { self.old.state.generation < 2 ^ 64 - 1 }
+        requires now { now ≤ 2 ^ 63 }
+        ensures { Does W.sent W.told watch.old watch.new self.old self.new
+            (begun_anew self.old.settings (secrets_of self.old) now failures (address_of address.now) self.old.state) }
+    {
+        match self.draw() {
+            Some(tag) => {
+                self.generation += 1;
+                self.begin_by(tag, failures, address, now, watch);
+            }
+            None => self.end_with(Loss::NoTag, None, watch),
+        }
+    }
+
+    /// Draws the next tag, where one is left.
+    pub(super) fn draw(&mut self) -> Option<u32>
+        ensures tag { result ≡ next_tag (drawing_after self.old.tag_key self.old.state.beginnings) }
+        ensures drawn { self.new ≡ record self.old {
+          state = record self.old.state {
+            beginnings = if is_some result then self.old.state.beginnings + 1 else self.old.state.beginnings;
+          };
+        } }
+    {
+        self.beginnings.draw()
+    }
+
+    /// A try begins with a tag that was drawn for it, which is also its first TSN.
+    fn begin_by<W: Watch>(
+        &mut self,
+        tag: u32,
+        failures: u32,
+        address: &Address,
+        now: u64,
+        watch: &mut W,
+    )
+        requires now { now ≤ 2 ^ 63 }
+        ensures { Does W.sent W.told watch.old watch.new self.old self.new
+            (begun_by self.old.settings now failures (address_of address.now) tag self.old.state) }
+    {
+        self.wait_for_cookie(tag, address);
+        self.try_with(&Reply::Init(offer(tag, tag)), failures, now, watch);
+    }
+
+    /// The state of a try that has begun: COOKIE-WAIT.
+    fn wait_for_cookie(&mut self, tag: u32, address: &Address)
+        ensures { self.new ≡ record self.old {
+          state = in_try self.old.settings (address_of address.now) tag self.old.state;
+        } }
+    {
+        self.forget();
+        self.is_wanted = true;
+        self.phase = Phase::CookieWait;
+        self.own_tag = tag;
+        self.own_first = tag;
+        self.address = *address;
+    }
+
+    /// A chunk of a try goes out, and will again until it is answered.
+    fn try_with<W: Watch>(&mut self, chunk: &Reply<'_>, failures: u32, now: u64, watch: &mut W)
+        requires size { size_of (chunk_of chunk.now) ≤ 1188 }
+        requires chunk { IsChunk (chunk_of chunk.now) }
+        requires now { now ≤ 2 ^ 63 }
+        ensures { Does W.sent W.told watch.old watch.new self.old self.new
+            (trying_with self.old.settings now failures (chunk_of chunk.now ∷ []) self.old.state) }
+    {
+        let address = self.address;
+        self.put(&address, self.tag_of_try(), chunk, watch);
+        self.keep_trying(chunk, failures, now);
+    }
+
+    /// The tag of a packet of a try: 0 before the peer's is known.
+    pub(super) fn tag_of_try(&self) -> u32
+        ensures { result ≡ tag_of_try self.now.state.association }
+    {
+        if self.far_tag == 0 { 0 } else { self.far_tag }
+    }
+
+    /// A chunk is kept as that of the try, and T1 runs.
+    fn keep_trying(&mut self, chunk: &Reply<'_>, failures: u32, now: u64)
+        requires size { size_of (chunk_of chunk.now) ≤ 1188 }
+        requires chunk { IsChunk (chunk_of chunk.now) }
+        requires now { now ≤ 2 ^ 63 }
+        ensures { self.new ≡ record self.old {
+          state = with_try now failures (chunk_of chunk.now ∷ []) self.old.state;
+        } }
+    {
+        self.tried.clear();
+        self.tried.add(chunk);
+        let t1 = now + u64::from(self.sender.timeout());
+        self.attempt = Some(Attempt { failures, t1 });
+    }
+}
+
+/// What this end offers with a tag and a first TSN.
+pub(super) fn offer(tag: u32, first_tsn: u32) -> Offer
+    ensures { result ≡ record {
+      tag = tag;
+      window = 65536;
+      outgoing = 2;
+      incoming = 2;
+      first_tsn = first_tsn;
+    } }
+{
+    Offer {
+        tag,
+        window: WINDOW as u32,
+        outgoing: STREAMS,
+        incoming: STREAMS,
+        first_tsn,
+    }
+}

@@ -1,0 +1,169 @@
+//! Messages that go out.
+
+ghost use Rattle.std.specs.Prelude.{◌≡◌, ◌<◌, ◌≤◌, ◌^◌, length, IfSome};
+ghost use Rattle.sctp_sending.specs.Sending.{
+  may_repeat,
+  may_begin,
+  next_place,
+  gone,
+  gone_again,
+  gone_first,
+  gone_next,
+  chunk_octets,
+  burst_left,
+  timed_without,
+  timed_from,
+  running,
+};
+
+use crate::sender::Sender;
+use crate::timed::Timed;
+
+/// Octets of the header and the fields of a DATA chunk (RFC 9260 §3.3.1).
+const DATA_HEADER_OCTETS: u32 = 16;
+
+impl Sender {
+    /// The place of the message that goes out next.
+    #[tactic(auto, unfolding(crate::specs::Sending::next_place))]
+    fn next_place(&self) -> Option<usize>
+        ensures place { result ≡ next_place self.now }
+        ensures within { IfSome result (λ place. place < length self.now.out) }
+        ensures next { IfSome result (λ place. place ≤ self.now.went) }
+    {
+        match self.outbox.first_lost() {
+            Some(place) => self.may_repeat(place).then_some(place),
+            None => self.may_begin().then_some(self.outbox.went()),
+        }
+    }
+
+    /// Whether the lost message at a place may go out.
+    fn may_repeat(&self, place: usize) -> bool
+        requires { place < length self.now.out }
+        ensures { result ≡ may_repeat self.now place }
+    {
+        chunk_octets(self.outbox.get(place).octets()) <= self.burst || self.has_credit()
+    }
+
+    /// Whether the first new message may go out, if there is one.
+    fn may_begin(&self) -> bool
+        ensures { result ≡ may_begin self.now }
+    {
+        let place = self.outbox.went();
+        place < self.outbox.len()
+            && self.has_credit()
+            && self.finds_window(self.outbox.get(place).octets())
+    }
+
+    /// The next message goes out, where one may: answers its place, which `data` takes. Where none may, a burst of
+    /// lost ones is over.
+    pub fn put_out(&mut self, now: u64) -> Option<usize>
+        requires { now ≤ 2 ^ 63 }
+        ensures place { result ≡ next_place self.old }
+        ensures sending { self.new ≡ gone_next self.old now result }
+    {
+        match self.next_place() {
+            Some(place) => {
+                self.put_out_at(place, now);
+                Some(place)
+            }
+            None => {
+                self.burst = 0;
+                None
+            }
+        }
+    }
+
+    /// The message at a place goes out: a lost one, or the first new one.
+    fn put_out_at(&mut self, place: usize, now: u64)
+        requires within { place < length self.old.out }
+        requires next { place ≤ self.old.went }
+        requires now { now ≤ 2 ^ 63 }
+        ensures { self.new ≡ gone self.old place now }
+    {
+        if place < self.outbox.went() {
+            self.put_out_again(place, now);
+        } else {
+            self.put_out_first(now);
+        }
+    }
+
+    /// The lost message at a place goes out again.
+    #[tactic(auto, unfolding(crate::specs::Sending::gone_again))]
+    fn put_out_again(&mut self, place: usize, now: u64)
+        requires place { place < self.old.went }
+        requires within { place < length self.old.out }
+        requires now { now ≤ 2 ^ 63 }
+        ensures { self.new ≡ gone_again self.old place now }
+    {
+        let octets = self.outbox.get(place).octets();
+        self.outbox.put_out_again(place);
+        self.peer_window = self.peer_window.saturating_sub(octets);
+        self.burst = burst_left(self.burst, chunk_octets(octets));
+        self.timed = timed_without(self.timed, place);
+        self.t3 = running(self.t3, now + u64::from(self.round_trips.timeout()));
+    }
+
+    /// The first new message goes out.
+    #[tactic(auto, unfolding(crate::specs::Sending::gone_first))]
+    fn put_out_first(&mut self, now: u64)
+        requires within { self.old.went < length self.old.out }
+        requires now { now ≤ 2 ^ 63 }
+        ensures { self.new ≡ gone_first self.old now }
+    {
+        let place = self.outbox.went();
+        let octets = self.outbox.get(place).octets();
+        self.outbox.put_out_first();
+        self.peer_window = self.peer_window.saturating_sub(octets);
+        self.timed = timed_from(self.timed, place, now);
+        self.t3 = running(self.t3, now + u64::from(self.round_trips.timeout()));
+    }
+}
+
+/// The octets that are left of a burst after a chunk.
+fn burst_left(burst: u32, octets: u32) -> u32
+    ensures { result ≡ burst_left burst octets }
+{
+    if octets <= burst {
+        burst - octets
+    } else {
+        burst
+    }
+}
+
+/// What is timed once the message at a place goes out again.
+fn timed_without(timed: Option<Timed>, place: usize) -> Option<Timed>
+    ensures { result ≡ timed_without timed place }
+{
+    match timed {
+        Some(timed) if timed.place != place => Some(timed),
+        _ => None,
+    }
+}
+
+/// What is timed once the message at a place goes out for the first time.
+fn timed_from(timed: Option<Timed>, place: usize, now: u64) -> Option<Timed>
+    ensures { result ≡ timed_from timed place now }
+{
+    match timed {
+        Some(timed) => Some(timed),
+        None => Some(Timed { place, since: now }),
+    }
+}
+
+/// When a timer runs out that is to run out at a moment, unless it runs already.
+fn running(timer: Option<u64>, moment: u64) -> Option<u64>
+    ensures { result ≡ running timer moment }
+{
+    match timer {
+        Some(earlier) => Some(earlier),
+        None => Some(moment),
+    }
+}
+
+/// The octets of the chunk of a message of so many octets.
+fn chunk_octets(octets: u32) -> u32
+    requires { octets ≤ 290 }
+    ensures { result ≡ chunk_octets octets }
+{
+    DATA_HEADER_OCTETS + (octets + 3) / 4 * 4
+}
