@@ -1,5 +1,5 @@
 -- Runs of two endpoints as moves of two ends.
-use Rattle.std.proofs.Common.{◌≡◌, inl, inr, ◌<◌, ◌≤◌, ℕ, zero, suc, ◌+◌, ◌*◌, arith, List, [], ◌∷◌, ◌++◌, Some, map, length, take, refl, ap, sym, ◌∙◌, subst}
+use Rattle.std.proofs.Common.{◌≡◌, inl, inr, ◌<◌, ◌≤◌, ℕ, zero, suc, ◌+◌, ◌*◌, arith, List, [], ◌∷◌, ◌++◌, Option, Some, None, map, length, take, refl, ap, sym, ◌∙◌, subst}
 use Rattle.std.specs.Prelude.{slice_get}
 use Rattle.std.specs.List.{Contains}
 use Rattle.std.proofs.lemmas.Grind.{common_steps}
@@ -315,32 +315,55 @@ found p carries other place messages e l =
       prefix = subst (λ (ms : List Message). ms ≡ take (length ms) o.other.sent) u.2 c.prefix;
     }
 
-delivers : (p : Ends) → CarriesOver (turned p) → ((e : Epoch) → Contains p.near.epochs e → 0 < length e.received → HasOther p.far.epochs e) →
-    AreInOrder p → Delivers (received_in p.near) (sent_in p.far)
-delivers p carries other order = record {
-  each = λ place messages e l.
-      let f : Found p.near p.far place messages = found p carries other place messages e l in
-      record {
-        place = f.other_place;
-        whole = f.from.sent;
-        is = remap (λ (x : Epoch). x.sent) p.far.epochs f.other_place f.from f.other_at;
-        prefix = f.prefix;
-      };
-  order = λ place sooner_place messages sooner e g less l k.
-      let f : Found p.near p.far place messages = found p carries other place messages e l in
-      let s : Found p.near p.far sooner_place sooner = found p carries other sooner_place sooner g k in
-      record {
-        later_place = f.other_place;
-        sooner_place = s.other_place;
-        given_later = f.from.sent;
-        given_sooner = s.from.sent;
-        later_is = remap (λ (x : Epoch). x.sent) p.far.epochs f.other_place f.from f.other_at;
-        sooner_is = remap (λ (x : Epoch). x.sent) p.far.epochs s.other_place s.from s.other_at;
-        order = order place sooner_place f.other_place s.other_place f.to s.to f.from s.from f.at s.at f.other_at s.other_at f.one s.one less;
-        later_prefix = f.prefix;
-        sooner_prefix = s.prefix;
-      };
-}
+some-long : (m : Message) (ms : List Message) → 0 < length (m ∷ ms)
+some-long m ms = grind (arith, common_steps)
+
+none-below : 0 < 0 → ⊥
+none-below l = omega (arith, l)
+
+module _ (p : Ends) (carries : CarriesOver (turned p))
+    (other : (e : Epoch) → Contains p.near.epochs e → 0 < length e.received → HasOther p.far.epochs e) where
+  -- the place of the epoch in which messages were given, if some were told
+  matched-of : (place : ℕ) (o : Option (List Message)) → slice_get (received_in p.near) place ≡ o → ℕ
+  matched-of place None e = 0
+  matched-of place (Some []) e = 0
+  matched-of place (Some (m ∷ ms)) e = (found p carries other place (m ∷ ms) e (some-long m ms)).other_place
+
+  matches : (place : ℕ) (o : Option (List Message)) (at : slice_get (received_in p.near) place ≡ o) (messages : List Message) →
+      o ≡ Some messages → 0 < length messages → (f : Found p.near p.far place messages) × (f.other_place ≡ matched-of place o at)
+  unfolding matched-of
+  matches place None at messages e l = absurd (cc)
+  matches place (Some []) at messages e l =
+      absurd (none-below (subst (λ (ms : List Message). 0 < length ms) (sym (some-is [] messages e)) l))
+  matches place (Some (m ∷ ms)) at messages e l =
+      let f : Found p.near p.far place (m ∷ ms) = found p carries other place (m ∷ ms) at (some-long m ms) in
+      subst (λ (xs : List Message). (g : Found p.near p.far place xs) × (g.other_place ≡ f.other_place))
+      (some-is (m ∷ ms) messages e) (f, refl)
+
+  abbrev matched-at : ℕ → ℕ
+  matched-at place = matched-of place (slice_get (received_in p.near) place) refl
+
+  delivers : AreInOrder p → Delivers (received_in p.near) (sent_in p.far)
+  delivers order = record {
+    matched = matched-at;
+    each = λ place messages e l.
+        let r = matches place (slice_get (received_in p.near) place) refl messages e l in
+        let f : Found p.near p.far place messages = r.0 in
+        record {
+          whole = f.from.sent;
+          is = subst (λ (n : ℕ). slice_get (sent_in p.far) n ≡ Some f.from.sent) r.1
+              (remap (λ (x : Epoch). x.sent) p.far.epochs f.other_place f.from f.other_at);
+          prefix = f.prefix;
+        };
+    order = λ place sooner_place messages sooner e g l k less.
+        let r = matches place (slice_get (received_in p.near) place) refl messages e l in
+        let t = matches sooner_place (slice_get (received_in p.near) sooner_place) refl sooner g k in
+        let f : Found p.near p.far place messages = r.0 in
+        let s : Found p.near p.far sooner_place sooner = t.0 in
+        let before : f.other_place < s.other_place =
+        order place sooner_place f.other_place s.other_place f.to s.to f.from s.from f.at s.at f.other_at s.other_at f.one s.one less in
+        subst (λ (n : ℕ). n < matched-at sooner_place) r.1 (subst (λ (n : ℕ). f.other_place < n) t.1 before);
+  }
 
 pub were-given : told_messages_were_given
 were-given near far good fine list m =

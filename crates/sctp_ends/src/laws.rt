@@ -1,7 +1,7 @@
 //! Laws of the abstract endpoint over moves, and of two such endpoints, whatever the network does with their packets.
 //! The statements are those of `specs/Theorems.antt`.
 
-ghost use Rattle.sctp_ends.specs.Example.{Happens};
+ghost use Rattle.sctp_ends.specs.Example.{Happens, given_twice_told_thrice};
 ghost use Rattle.sctp_ends.specs.Keyed.{keyed_secrets_are_good};
 ghost use Rattle.sctp_ends.specs.Theorems.{associations_have_the_laws, steps_are_moves, steps_go_on};
 ghost use Rattle.sctp_ends.specs.Theorems.{told_messages_were_given, worlds_are_shown};
@@ -23,8 +23,9 @@ pub fn steps_of_two_endpoints_go_on()
     ensures { steps_go_on }
 {}
 
-/// What one user was told in an association is the beginning of what the other gave in it, each message once, in order,
-/// whole; and associations in which something was told follow one another in the order of those in which it was given.
+/// Each association in which one user was told something is matched with one of the other user, no two with the same one
+/// and in the same order; and what was told in it is the beginning of what the other gave in that one. So each message
+/// is told once, in order, whole.
 pub fn told_messages_come_in_order()
     ensures { told_messages_were_given }
 {}
@@ -42,7 +43,9 @@ pub fn secrets_under_keys_are_good()
 {}
 
 /// These laws aren't empty: in a run of 14 steps an association opens at both endpoints, the packet of a second message
-/// overtakes that of the first, which comes twice, and both messages are told in order.
+/// overtakes that of the first, which comes twice, and both messages are told in order. Nor do they allow too much: a
+/// message that was given in two associations isn't told in three.
 pub fn two_messages_are_told_in_order()
-    ensures { Happens }
+    ensures run { Happens }
+    ensures once { given_twice_told_thrice }
 {}
