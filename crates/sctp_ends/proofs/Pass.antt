@@ -387,6 +387,12 @@ module _ (own far : Secrets) (mark : ℕ) (other : End) (good : AreGood own) whe
   ended : (c : Settings) (why : Loss) (chunks : List ChunkValue) (s : State) → Each IsPlain chunks → Can s (ending.ended_with c why chunks s)
   ended c why chunks s p = ended-goes own far mark other c why chunks s p
 
+  ended-alone : (c : Settings) (why : Loss) (chunks : List ChunkValue) (s : State) → Each IsPlain chunks → Can s (ending.ended_alone c why chunks s)
+  ended-alone c why chunks s p =
+      moved s (ending.without_answers s) (ending.ended_alone c why chunks s)
+      (record { generation = refl; beginnings = refl; wanted = refl; stage = refl; established = λ q. q; own_tag = refl; own_first = refl; far_tag = refl; peer = refl; sender = record { out = refl; first = refl; went = λ l. l }; receiver = record { streams = refl; partial = refl; cumulative = refl; held = refl }; control = λ P h g. tt; trying = λ P h. h })
+      (ended c why chunks (ending.without_answers s) p)
+
   putting : (c : Settings) (source : Address) (tag : ℕ) (chunks : List ChunkValue) (s : State) → Each IsPlain chunks →
       Can s (state.put c source tag chunks s)
   putting c source tag chunks s p = puts own far mark other c source tag chunks s p
@@ -842,8 +848,8 @@ module _ (own far : Secrets) (mark : ℕ) (other : End) (good : AreGood own) whe
       (shutdown.heard_shutdown_in s.association.phase c now cumulative s)
       (aborted c losses.Protocol ending.violation s) (heard-shutdown-in s.association.phase c now tag cumulative s refl t came)
 
-  completed : (c : Settings) (s : State) → Can s (ending.ended_with c losses.Shutdown (packets.ShutdownCompleteChunk false ∷ []) s)
-  completed c s = ended c losses.Shutdown (packets.ShutdownCompleteChunk false ∷ []) s (tt, tt)
+  completed : (c : Settings) (s : State) → Can s (ending.ended_alone c losses.Shutdown (packets.ShutdownCompleteChunk false ∷ []) s)
+  completed c s = ended-alone c losses.Shutdown (packets.ShutdownCompleteChunk false ∷ []) s (tt, tt)
 
   shutdown-ack-in : (phase : Phase) (c : Settings) (s : State) → Can s (shutdown.heard_shutdown_ack_in phase c s)
   shutdown-ack-in Closed c s = stays s
@@ -863,7 +869,7 @@ module _ (own far : Secrets) (mark : ℕ) (other : End) (good : AreGood own) whe
   shutdown-complete-in ShutdownPending c s = stays s
   shutdown-complete-in ShutdownSent c s = stays s
   shutdown-complete-in ShutdownReceived c s = stays s
-  shutdown-complete-in ShutdownAckSent c s = ended c losses.Shutdown [] s tt
+  shutdown-complete-in ShutdownAckSent c s = ended-alone c losses.Shutdown [] s tt
 
   -- ---- DATA, SACK and HEARTBEAT
 
@@ -938,7 +944,7 @@ module _ (own far : Secrets) (mark : ℕ) (other : End) (good : AreGood own) whe
   heard-abort : (c : Settings) (tag : ℕ) (chunk : ChunkValue) (s : State) → Can s (arriving.heard_abort c tag chunk s).does
   heard-abort c tag chunk s =
       let why : Loss = arriving.loss_by_abort s.association.phase in
-      either (arriving.has_tag s.association tag chunk) s (ending.ended c why s) (silent s) (ended c why [] s tt) (stays s)
+      either (arriving.has_tag s.association tag chunk) s (ending.ended_alone c why [] s) (silent s) (ended-alone c why [] s tt) (stays s)
 
   handled-either : (b : Bool) (s : State) (x y : arriving.Handled) → Can s x.does → Can s y.does → Can s (if b then x else y).does
   handled-either true s x y t u = t
