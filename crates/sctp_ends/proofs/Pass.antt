@@ -283,10 +283,10 @@ emptied : (b : Bool) (now : ℕ) (s : State) →
 emptied true now s = record { generation = refl; beginnings = refl; wanted = refl; stage = refl; established = λ e. e; own_tag = refl; own_first = refl; far_tag = refl; peer = refl; sender = going-same 257 now s.association.sender; receiver = record { streams = refl; partial = refl; cumulative = refl; held = refl }; control = λ P h g. tt; trying = λ P h. h }
 emptied false now s = record { generation = refl; beginnings = refl; wanted = refl; stage = refl; established = λ e. e; own_tag = refl; own_first = refl; far_tag = refl; peer = refl; sender = record { out = refl; first = refl; went = λ l. l }; receiver = record { streams = refl; partial = refl; cumulative = refl; held = refl }; control = λ P h g. tt; trying = λ P h. h }
 
-acknowledges : (b : Bool) (s : State) →
-    Alike s (state.with_association s (if b then data_rules.sacked s.association else s.association))
-acknowledges true s = record { generation = refl; beginnings = refl; wanted = refl; stage = refl; established = λ e. e; own_tag = refl; own_first = refl; far_tag = refl; peer = refl; sender = record { out = refl; first = refl; went = λ l. l }; receiver = record { streams = refl; partial = refl; cumulative = refl; held = refl }; control = λ P h g. g; trying = λ P h. h }
-acknowledges false s = itself s
+acknowledges : (b : Bool) (t2 : Option ℕ) (s : State) →
+    Alike s (state.with_association s (if b then record (data_rules.sacked s.association) { t2 = t2 } else s.association))
+acknowledges true t2 s = record { generation = refl; beginnings = refl; wanted = refl; stage = refl; established = λ e. e; own_tag = refl; own_first = refl; far_tag = refl; peer = refl; sender = record { out = refl; first = refl; went = λ l. l }; receiver = record { streams = refl; partial = refl; cumulative = refl; held = refl }; control = λ P h g. g; trying = λ P h. h }
+acknowledges false t2 s = itself s
 
 -- ---- packets that go out
 
@@ -1283,8 +1283,8 @@ module _ (own far : Secrets) (mark : ℕ) (other : End) (good : AreGood own) whe
   flushed : (c : Settings) (now : ℕ) (s : State) → Can s (sending.flush c now s)
   flushed c now s =
       let a : Association = s.association in
-      let acked : State = state.with_association s (sending.with_acknowledged a) in
-      let f : Alike s acked = acknowledges (sending.is_acknowledging a) s in
+      let acked : State = state.with_association s (sending.with_acknowledged now a) in
+      let f : Alike s acked = acknowledges (sending.is_acknowledging a) (sending.t2_in a.phase now a) s in
       let g : Alike acked (sending.flush c now s).left = emptied (data_rules.takes_sack acked.association.phase) now acked in
       alike-goes own far mark other s (sending.flush c now s).left (sending.flush c now s).sent
       (alike-behind s acked (sending.flush c now s).left f g)

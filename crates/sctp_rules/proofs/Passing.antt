@@ -981,15 +981,19 @@ module _ {IsCome : DataValue → Type 0} {R : State → Done → Type 0} (steps 
       (record { same = itself s; right = r }))
 
   -- what is acknowledged is reported, and then DATA goes out
-  acknowledges : (b : Bool) (s : State) → Right s →
-      Passes R s (silent (state.with_association s (if b then data_rules.sacked s.association else s.association)))
-  acknowledges true s r = record { kept = steps.reports s; left = record { right = r.right } }
-  acknowledges false s r = then-silent s s (record { same = itself s; right = r })
+  acknowledges : (b : Bool) (t2 : Option ℕ) (s : State) → Right s →
+      Passes R s (silent (state.with_association s (if b then record (data_rules.sacked s.association) { t2 = t2 } else s.association)))
+  acknowledges true t2 s r =
+      let reported : State = state.with_association s (data_rules.sacked s.association) in
+      let left : State = state.with_association s (record (data_rules.sacked s.association) { t2 = t2 }) in
+      next-there s (silent reported) (λ x. silent left) (record { kept = steps.reports s; left = record { right = r.right } })
+      (then-silent reported left (record { same = record { generation = refl; up = refl; own_tag = refl; peer = refl; receiver = refl; takes = λ e. e }; right = record { right = r.right } }))
+  acknowledges false t2 s r = then-silent s s (record { same = itself s; right = r })
 
   flushed : (c : Settings) (now : ℕ) (s : State) → Right s → Passes R s (sending.flush c now s)
   flushed c now s r =
-      let acked : State = state.with_association s (sending.with_acknowledged s.association) in
-      let t : Passes R s (silent acked) = acknowledges (sending.is_acknowledging s.association) s r in
+      let acked : State = state.with_association s (sending.with_acknowledged now s.association) in
+      let t : Passes R s (silent acked) = acknowledges (sending.is_acknowledging s.association) (sending.t2_in s.association.phase now s.association) s r in
       let f : Follows acked (sending.flush c now s).left = data-goes (data_rules.takes_sack acked.association.phase) now acked t.left in
       next-there s (silent acked) (λ left. sending.flush c now s) t
       (plainly acked (sending.flush c now s).left (sending.flush c now s).sent f.same f.right)

@@ -248,3 +248,11 @@ completion_stands_alone = record { phase_is = refl; sent_is = refl; told_is = re
 pub completion_is_not_answered : rows.completion_is_not_answered
 unfolding after going drained run_from blocks_from lost_from named_below passed_below given next_place gone_again gone_first confirmation confirmed settled acknowledged after_t3
 completion_is_not_answered = record { phase_is = refl; sent_is = refl; told_is = refl }
+
+pub data_meets_shutdown : rows.data_meets_shutdown
+unfolding after going drained run_from blocks_from lost_from named_below passed_below given next_place gone_again gone_first confirmation confirmed settled acknowledged after_t3
+data_meets_shutdown = record { phase_is = refl; sent_is = refl; told_is = refl }
+
+pub t2_begins_anew : rows.t2_begins_anew
+unfolding after going drained run_from blocks_from lost_from named_below passed_below given next_place gone_again gone_first confirmation confirmed settled acknowledged after_t3
+t2_begins_anew = refl

@@ -484,6 +484,19 @@ abbrev pub shutdown_goes_out_again : Type 0
 shutdown_goes_out_again =
     Does (near (Flushes 310) (near (Ticked 310) shutdown_goes_out.left).left) ShutdownSent ((7 ∷ []) ∷ []) []
 
+-- DATA that comes meanwhile is answered by SHUTDOWN and SACK, and T2 begins anew
+abbrev pub far_sends : Done
+far_sends = far (Flushes 5) (far (Sends given) acknowledges.left).left
+
+abbrev pub acknowledges_data : Done
+acknowledges_data = near (Flushes 50) (near (comes 50 (packet far_sends)) shutdown_goes_out.left).left
+
+abbrev pub data_meets_shutdown : Type 0
+data_meets_shutdown = Does acknowledges_data ShutdownSent ((7 ∷ 3 ∷ []) ∷ []) []
+
+abbrev pub t2_begins_anew : Type 0
+t2_begins_anew = acknowledges_data.left.association.t2 ≡ Some 350
+
 -- T5
 abbrev pub shutdown_guard_ends_it : Type 0
 shutdown_guard_ends_it = Does (near (Ticked 5010) shutdown_goes_out.left) Closed ((6 ∷ []) ∷ []) (Down NoAnswer ∷ [])
