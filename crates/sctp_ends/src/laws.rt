@@ -6,8 +6,8 @@ ghost use Rattle.sctp_ends.specs.Keyed.{keyed_secrets_are_good};
 ghost use Rattle.sctp_ends.specs.Theorems.{associations_have_the_laws, steps_are_moves, steps_go_on};
 ghost use Rattle.sctp_ends.specs.Theorems.{told_messages_were_given, worlds_are_shown};
 
-/// Each step of an endpoint is a list of moves of `sctp_moves`, if what comes was put out by the other end and isn't
-/// too old.
+/// Each step of an endpoint is a list of moves of `sctp_moves`, if its secrets are good, moves lead to the end that it
+/// shows and to the other one, and what comes was put out by the other one and isn't too old.
 pub fn steps_of_an_endpoint_are_moves()
     ensures { steps_are_moves }
 {}
