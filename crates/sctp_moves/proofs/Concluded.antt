@@ -32,7 +32,7 @@ prefix-always = always CarriesOver carries where
       let g : IsFlow e f = h.carrying.0.flows e f (in-from p.near.epochs e i) (in-from p.far.epochs f j) o in
       record { prefix = g.received; confirmed = g.acked }
 
-has-other : (x y : End) → IsSound x y → (e : Epoch) → In e x.epochs → HasFar (map tie y.epochs) e.own.tag → HasOther y.epochs e
+pub has-other : (x y : End) → IsSound x y → (e : Epoch) → In e x.epochs → HasFar (map tie y.epochs) e.own.tag → HasOther y.epochs e
 has-other x y h e i far =
     let f : (k : Epoch) × In k y.epochs × (tie k ≡ far.0) = in-unmap tie y.epochs far.0 far.1 in
     let there : e.own.tag ≡ f.0.far.tag = sym (ap (λ (t : Tie). t.far.tag) f.2 ∙ far.2) in
@@ -60,7 +60,7 @@ own-differ : (p : Ends) → IsSound p.near p.far → OwnTagsDiffer p
 own-differ p h i j e f a b q =
     one-place (map tie p.near.epochs) h.sides.near.apart i j (tie e) (tie f) (place-map tie p.near.epochs i e a) (place-map tie p.near.epochs j f b) q
 
-far-differ : (p : Ends) → IsSound p.near p.far → FarTagsDiffer p
+pub far-differ : (p : Ends) → IsSound p.near p.far → FarTagsDiffer p
 far-differ p h i j e f a b q =
     let t : slice_get (map tie p.near.epochs) i ≡ Some (tie e) = place-map tie p.near.epochs i e a in
     let u : slice_get (map tie p.near.epochs) j ≡ Some (tie f) = place-map tie p.near.epochs j f b in

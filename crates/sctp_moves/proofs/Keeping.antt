@@ -72,7 +72,7 @@ sound-by_ack x y z h m =
       carrying = keeps-opened x y m.own m.far h.carrying (none x y h t m.generation s o.new);
     })
 
-sound-move : (x y z : End) → EndMove y x z → IsSound x y → IsSound z y
+pub sound-move : (x y z : End) → EndMove y x z → IsSound x y → IsSound z y
 sound-move x y z (moves.wants m) h =
     subst (λ (w : End). IsSound w y) (sym m.after) (record { sides = keeps-wants (side_of x) (side_of y) h.sides; carrying = h.carrying })
 sound-move x y z (moves.begins m) h =
@@ -183,7 +183,7 @@ side-first = record {
   none-bound t (inl b) = b.1
   none-bound t (inr i) = i
 
-sound-first : IsSound new_end new_end
+pub sound-first : IsSound new_end new_end
 sound-first = record {
   sides = record {
     near = side-first;

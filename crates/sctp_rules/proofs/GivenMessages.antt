@@ -30,7 +30,7 @@ drop-none : {A : Type 0} → (n : ℕ) → drop {A = A} n [] ≡ []
 drop-none zero = refl
 drop-none (suc n) = refl
 
-drop-on : {A : Type 0} → (n m : ℕ) (xs : List A) → drop m (drop n xs) ≡ drop (n + m) xs
+pub drop-on : {A : Type 0} → (n m : ℕ) (xs : List A) → drop m (drop n xs) ≡ drop (n + m) xs
 drop-on {A} zero m xs = ap (λ (k : ℕ). drop {A = A} k xs) (omega arith)
 drop-on {A} (suc n) m [] = drop-none {A = A} m ∙ sym (drop-none {A = A} (suc n + m))
 drop-on {A} (suc n) m (x ∷ xs) =
@@ -47,7 +47,7 @@ beyond (x ∷ xs) (suc i) d l = beyond xs i d (omega (arith, l))
 no-outgoing : Outgoing
 no-outgoing = new_outgoing no_message 0
 
-kept-at : (f : Outgoing → Outgoing) → ((o : Outgoing) → message_of (f o) ≡ message_of o) → (out : List Outgoing) (place : ℕ) →
+pub kept-at : (f : Outgoing → Outgoing) → ((o : Outgoing) → message_of (f o) ≡ message_of o) → (out : List Outgoing) (place : ℕ) →
     map message_of (set out place (f (outgoing_at out place))) ≡ map message_of out
 kept-at f h out place =
     map-set_same message_of out place (f (outgoing_at out place)) (new_outgoing no_message 0) (h (outgoing_at out place))
@@ -103,7 +103,7 @@ pub record Alike (s t : Sending) : Type 0 where
   pub first : s.first ≡ t.first
   pub went : s.went ≡ t.went
 
-alike-so : (first : ℕ) (c : Course) (s : Sending) → Alike s c.half → IsCourse first c → IsCourse first (record c { half = s })
+pub alike-so : (first : ℕ) (c : Course) (s : Sending) → Alike s c.half → IsCourse first c → IsCourse first (record c { half = s })
 alike-so first c s a h = record {
   order = record { out = a.out ∙ h.order.out; tsn = a.first ∙ h.order.tsn; chunks = h.order.chunks };
   went = omega (arith, h.went, a.went, same-length s.out c.half.out a.out);
@@ -139,7 +139,7 @@ confirmed-within s cumulative count e =
 on-wire : (first before more : ℕ) → ((first + before) % 2 ^ 32 + more) % 2 ^ 32 ≡ (first + (before + more)) % 2 ^ 32
 on-wire first before more = omega arith
 
-left-over : (first : ℕ) (c : Course) → IsCourse first c → length c.half.out ≡ length c.messages - c.confirmed
+pub left-over : (first : ℕ) (c : Course) → IsCourse first c → length c.half.out ≡ length c.messages - c.confirmed
 left-over first c h =
     sym (length-map c.half.out message_of) ∙ ap (λ (ms : List Message). length ms) h.order.out ∙ length-drop c.confirmed c.messages
 
@@ -242,7 +242,7 @@ both-parts : (x y : Bool) → (x && y) ≡ true → x ≡ true
 both-parts true y e = refl
 both-parts false y e = absurd (cc)
 
-next-within : (lost : Option ℕ) (s : Sending) (p : ℕ) → lost_from s.out 0 s.went ≡ lost → next_of s lost ≡ Some p → p < length s.out
+pub next-within : (lost : Option ℕ) (s : Sending) (p : ℕ) → lost_from s.out 0 s.went ≡ lost → next_of s lost ≡ Some p → p < length s.out
 next-within (Some q) s p f e =
     let parts = if-some (may_repeat s q) q p e in
     let there : (outgoing_at s.out p).lost ≡ true =
@@ -272,7 +272,7 @@ chunk-given first c p h l = record {
       ∙ get_or-map message_of c.half.out p (new_outgoing no_message 0);
 }
 
-again-alike : (s : Sending) (p now : ℕ) → Alike (gone_again s p now) s
+pub again-alike : (s : Sending) (p now : ℕ) → Alike (gone_again s p now) s
 unfolding gone_again
 again-alike s p now = record { out = kept-at (λ o. gone_out true o) (λ o. refl) s.out p; first = refl; went = refl }
 
@@ -355,11 +355,11 @@ gives-so first c m h =
 
 -- ---- all calls
 
-timed-alike : (s : Sending) (now : ℕ) → Alike (after_t3 s now) s
+pub timed-alike : (s : Sending) (now : ℕ) → Alike (after_t3 s now) s
 unfolding after_t3
 timed-alike s now = record { out = timed-messages s.went s.out; first = refl; went = refl }
 
-call-so : (call : Call) (first : ℕ) (c : Course) → IsCourse first c → IsCourse first (after_call call c)
+pub call-so : (call : Call) (first : ℕ) (c : Course) → IsCourse first c → IsCourse first (after_call call c)
 call-so (Gives m) first c h = gives-so first c m h
 call-so (PutsOut now) first c h = puts-so (next_place c.half) first c now refl h
 call-so (Hears now window cumulative names) first c h =
