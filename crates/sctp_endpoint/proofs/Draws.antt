@@ -1,5 +1,5 @@
 -- Tags that are drawn one after another.
-use Rattle.std.proofs.Common.{◌≡◌, ℕ, suc, ◌+◌, List, Option, Some, None, refl, sym, ap, subst, ◌∙◌, arith}
+use Rattle.std.proofs.Common.{◌≡◌, ℕ, suc, ◌+◌, List, Option, Some, sym, ap, subst, ◌∙◌, arith}
 use Rattle.std.specs.Prelude.{IfSome}
 use Rattle.sctp_cookie.specs.Tags.{Drawing, after_draw}
 use Rattle.sctp_endpoint.specs.Endpoints.{drawing_after}

@@ -1,3 +1,4 @@
 pub mod Rows
 pub mod Draws
 pub mod Answering
+pub mod Hearing

@@ -1,11 +1,11 @@
 -- Chunks one after another, as octets, and read from them.
-use Rattle.std.proofs.Common.{◌≡◌, ℕ, ◌+◌, ◌^◌, ◌<◌, ◌≤◌, List, [], ◌∷◌, ◌++◌, length, take, map, Option, Some, refl, sym, ap, ◌∙◌, length-append, arith}
+use Rattle.std.proofs.Common.{◌≡◌, ℕ, ◌+◌, ◌^◌, ◌<◌, ◌≤◌, List, [], ◌∷◌, ◌++◌, length, take, map, Option, refl, sym, ap, ◌∙◌, length-append, arith}
 use Rattle.std.specs.Prelude.{All, sum_by, unwrap_or}
 use Rattle.std.proofs.lemmas.List.{length-take-le, append_assoc, append-nil, map-append}
 use Rattle.std.proofs.lemmas.List.Sums.{sum_by-cons}
 use Rattle.std.proofs.lemmas.List.Elements.{All-append, All-cons, All-nil}
-use Rattle.sctp_codec.specs.Items.{ItemValue, IsItem, padded_item, padded_items, read_items}
-use Rattle.sctp_codec.specs.Packets.{ChunkValue, InitChunk}
+use Rattle.sctp_codec.specs.Items.{ItemValue, IsItem, padded_item, padded_items}
+use Rattle.sctp_codec.specs.Packets.{ChunkValue, InitChunk, CookieAckChunk}
 use Rattle.sctp_codec.specs.Reading.{chunk_in}
 use Rattle.sctp_codec.specs.Writing.{IsChunk, chunk_item, chunk_octets, headed}
 use Rattle.sctp_codec.proofs.ItemTexts.{read_items-nil, read_items-padded_items}
@@ -106,3 +106,16 @@ init-said tag first t f = record {
   };
   fits = omega arith;
 }
+
+-- one chunk in front
+row-first : (chunk : ChunkValue) (chunks : List ChunkValue) → row_of (chunk ∷ chunks) ≡ chunk_octets chunk ++ row_of chunks
+unfolding row_of
+row-first chunk chunks = refl
+
+pub are_first : (old new : List ℕ) (chunk : ChunkValue) → old ≡ row_of (chunks_read old) → All IsChunk (chunks_read old) → IsChunk chunk → new ≡ chunk_octets chunk ++ old
+    → Are new (chunk ∷ chunks_read old)
+are_first old new chunk e h k m =
+    are new (chunk ∷ chunks_read old) (m ∙ ap (λ (t : List ℕ). chunk_octets chunk ++ t) e ∙ sym (row-first chunk (chunks_read old))) (All-cons IsChunk chunk (chunks_read old) k h)
+
+pub cookie_ack-said : IsChunk CookieAckChunk
+cookie_ack-said = record { fields = tt; fits = omega arith }

@@ -1,10 +1,10 @@
 -- How a try begins, once its tag was drawn.
-use Rattle.std.specs.Prelude.{ℕ, ◌+◌, true, List, [], ◌∷◌, Some}
+use Rattle.std.specs.Prelude.{ℕ, ◌+◌, true, List, [], ◌∷◌, Option, Some, None}
 use Rattle.sctp_codec.specs.Packets.{ChunkValue, InitChunk}
 use Rattle.sctp_rules.specs.declared.phase.Phase.TheVariants.{CookieWait}
 use Rattle.sctp_rules.specs.Settings.{Settings, Address}
-use Rattle.sctp_rules.specs.State.{State, Done, no_association, with_association}
-use Rattle.sctp_rules.specs.Opening.{init_of, trying_with}
+use Rattle.sctp_rules.specs.State.{Try, State, Done, silent, no_association, with_association}
+use Rattle.sctp_rules.specs.Opening.{init_of, trying_with, tried_again}
 
 -- COOKIE-WAIT, with this tag and a first TSN that is the same
 abbrev pub in_try : Settings → Address → (tag : ℕ) → State → State
@@ -28,3 +28,13 @@ with_try now failures chunks s =
         t1 = now + s.association.sender.round_trips.timeout;
       });
     })
+
+-- a try goes out again, or ends
+abbrev pub again : Option Try → Settings → (now : ℕ) → State → Done
+again None c now s = silent s
+again (Some t) c now s = tried_again c now t s
+
+-- its chunks go out again
+abbrev pub trying_on : Option Try → Settings → (now failures : ℕ) → State → Done
+trying_on None c now failures s = silent s
+trying_on (Some t) c now failures s = trying_with c now failures t.chunks s

@@ -1,5 +1,5 @@
 -- An endpoint as a value: its settings and keys, and the state of the abstract endpoint.
-use Rattle.std.specs.Prelude.{◌≡◌, ◌<◌, ◌^◌, ℕ, zero, suc, List, Option, Some, None}
+use Rattle.std.specs.Prelude.{◌≡◌, ℕ, zero, suc, List, Option, Some, None}
 use Rattle.sctp_cookie.specs.Cookies.{signed, opened}
 use Rattle.sctp_cookie.specs.Tags.{Drawing, first_drawing, next_tag, after_draw}
 use Rattle.sctp_rules.specs.Settings.{Settings, Secrets, Beginning}

@@ -6,4 +6,5 @@ pub mod Watching
 pub mod Endpoints
 pub mod Drawn
 pub mod Beginning
+pub mod Hearing
 pub mod Inside

@@ -1,5 +1,5 @@
 -- How chunks are kept in a buffer.
-use Rattle.std.specs.Prelude.{◌≡◌, ◌≤◌, List, length, take, All}
+use Rattle.std.specs.Prelude.{◌≡◌, ◌≤◌, List, take, All}
 use Rattle.sctp_codec.specs.Packets.{ChunkValue}
 use Rattle.sctp_codec.specs.Writing.{IsChunk}
 use Rattle.sctp_endpoint.specs.declared.chunks.Chunks.TheInside.{Inside}

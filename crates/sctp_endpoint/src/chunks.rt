@@ -1,13 +1,14 @@
 //! Chunks that wait for a packet.
 
 ghost use Rattle.std.specs.Prelude.{◌≡◌, ◌+◌, ◌≤◌, [], ◌∷◌, ◌++◌, length, sum_by};
+ghost use Rattle.sctp_codec.specs.Packets.{CookieAckChunk};
 ghost use Rattle.sctp_codec.specs.Writing.{IsChunk};
 ghost use Rattle.sctp_endpoint.specs.Replies.{chunk_of, size_of};
 ghost use Rattle.sctp_endpoint.specs.ChunkRows.{row_of};
 
-use crate::packets::blank;
+use crate::packets::{blank, write_at};
 use crate::reply::Reply;
-use sctp_codec::PacketBuffer;
+use sctp_codec::{PacketBuffer, write_cookie_ack};
 use std::marker::Model;
 
 /// Chunks in the order in which they go out, 1,188 octets at most: those of a packet behind its header.
@@ -72,5 +73,16 @@ impl Chunks {
         ensures { self.new ≡ self.old ++ chunk_of chunk.now ∷ [] }
     {
         self.end = chunk.write(&mut self.octets, self.end);
+    }
+
+    /// Puts COOKIE ACK in front of them.
+    pub fn add_cookie_ack_first(&mut self)
+        requires { sum_by size_of self.old + 4 ≤ 1188 }
+        ensures { self.new ≡ CookieAckChunk ∷ self.old }
+    {
+        let mut octets = blank();
+        let at = write_cookie_ack(&mut octets, 0);
+        self.end = write_at(&mut octets, at, &self.octets[..self.end]);
+        self.octets = octets;
     }
 }

@@ -5,9 +5,14 @@ ghost use Rattle.sctp_rules.specs.State.{first_state, no_association, with_assoc
 ghost use Rattle.sctp_endpoint.specs.Settings.{settings_of};
 
 mod answering;
+mod cookies;
 mod echoing;
 mod ending;
 mod opening;
+mod replying;
+mod retrying;
+mod sending;
+mod ties;
 
 use crate::address::Address;
 use crate::beginnings::Beginnings;

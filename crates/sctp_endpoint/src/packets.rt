@@ -35,8 +35,8 @@ pub fn write_packet(
     end
 }
 
-/// Writes a packet with INIT ACK: what is offered, the cookie, and the parameters of the INIT that are reported; answers
-/// how many octets it has.
+/// Writes a packet with INIT ACK: what is offered, the cookie, and the parameters of the INIT that are reported;
+/// answers how many octets it has.
 pub fn write_init_answer(
     out: &mut PacketBuffer,
     settings: &Settings,
@@ -68,7 +68,7 @@ fn write_last(out: &mut PacketBuffer, at: usize, last: Option<&Reply<'_>>) -> us
 }
 
 /// Writes octets from a place on, and answers the place behind them.
-fn write_at(out: &mut PacketBuffer, at: usize, octets: &[u8]) -> usize
+pub fn write_at(out: &mut PacketBuffer, at: usize, octets: &[u8]) -> usize
     requires { at + length octets.now ≤ 1200 }
     ensures count { result ≡ at + length octets.now }
     ensures text { take result out.new ≡ take at out.old ++ octets.now }

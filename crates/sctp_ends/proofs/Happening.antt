@@ -1,6 +1,7 @@
 -- The run of two endpoints, by computation.
-use Rattle.std.proofs.Common.{◌≡◌, ◌<◌, ◌≤◌, ℕ, ◌+◌, arith, Bool, true, false, Option, Some, None, length, refl, ap, sym, ◌∙◌, subst}
-use Rattle.std.specs.Prelude.{nat_lt, slice_index_or, if◌then◌else◌}
+use Rattle.std.proofs.Common.{◌≡◌, ◌<◌, ◌≤◌, ℕ, zero, suc, ◌+◌, arith, Bool, true, false, List, [], ◌∷◌, Option, Some, None, length, refl, ap, sym, ◌∙◌, subst}
+use Rattle.std.specs.Prelude.{nat_lt, slice_get, slice_index_or, if◌then◌else◌}
+use Rattle.std.proofs.lemmas.Grind.{common_steps}
 use Rattle.std.proofs.lemmas.Bool.Decides.{nat_tests}
 use Rattle.std.proofs.lemmas.List.Elements.{Contains-get_or}
 use Rattle.sctp_cookie.specs.declared.cookie.Cookie.{Cookie}
@@ -14,10 +15,11 @@ use Rattle.sctp_rules.specs.Confirming.{going}
 use Rattle.sctp_rules.specs.Endpoint.{Opens, Came, Sends, Flushes, after}
 use Rattle.sctp_rules.specs.Rows.{address, fields, cookie_of}
 use Rattle.sctp_moves.specs.Numbers.{modulus}
+use Rattle.sctp_moves.specs.Ends.{Message}
 use Rattle.sctp_ends.specs.Shown.{AreGood}
 use Rattle.sctp_ends.specs.Worlds.{Emitted, Site, messages_at, Arrives, at_near, at_far}
 use Rattle.sctp_ends.specs.Example as run
-use Rattle.sctp_ends.specs.Example.{fitting, make_from, packet_at, no_packet, Happens}
+use Rattle.sctp_ends.specs.Example.{fitting, make_from, packet_at, no_packet, Happens, given_twice_told_thrice}
 
 arrives : (s : Site) (place many messages : ℕ) → length s.packets ≡ many → place < many → messages_at s ≡ messages → messages ≤ 1000 →
     Arrives s (packet_at s place)
@@ -112,3 +114,20 @@ happens = record {
   nothing_yet = refl;
   told = refl;
 }
+
+-- ---- the statement isn't too weak
+
+one-long : (m : Message) → 0 < length (m ∷ [])
+one-long m = grind (arith, common_steps)
+
+beyond : (m : Message) (n : ℕ) (whole : List Message) → slice_get ((m ∷ []) ∷ (m ∷ []) ∷ []) n ≡ Some whole → 2 ≤ n → ⊥
+beyond m zero whole e l = omega (arith, l)
+beyond m (suc zero) whole e l = omega (arith, l)
+beyond m (suc (suc n)) whole e l = absurd (grind (arith, common_steps))
+
+pub told-thrice : given_twice_told_thrice
+told-thrice m d =
+    let a : d.matched 0 < d.matched 1 = d.order 0 1 (m ∷ []) (m ∷ []) refl refl (one-long m) (one-long m) (omega arith) in
+    let b : d.matched 1 < d.matched 2 = d.order 1 2 (m ∷ []) (m ∷ []) refl refl (one-long m) (one-long m) (omega arith) in
+    let g = d.each 2 (m ∷ []) refl (one-long m) in
+    beyond m (d.matched 2) g.whole g.is (omega (arith, a, b))

@@ -12,7 +12,7 @@ use Rattle.sctp_receiving.specs.Receiver as receiving
 use Rattle.sctp_codec.specs.Items.{ItemValue}
 use Rattle.sctp_codec.specs.Packets as packets
 use Rattle.sctp_codec.specs.Packets.{ChunkValue, InitValue, SackValue, DataValue, PacketValue}
-use Rattle.sctp_codec.specs.Parameters.{CauseValue, UnresolvableAddress, InvalidParameter, EndedByUser, NoUserData, StaleCookie}
+use Rattle.sctp_codec.specs.Parameters.{CauseValue, InvalidParameter, EndedByUser, NoUserData, StaleCookie}
 use Rattle.sctp_codec.specs.Parameters.{UnrecognizedChunk, cause_item, cookie_in, host_name_in, has_stale_cookie}
 use Rattle.sctp_codec.specs.Parameters.{information_of}
 use Rattle.sctp_sending.specs.Outgoing.{Message}
@@ -283,10 +283,10 @@ emptied : (b : Bool) (now : ℕ) (s : State) →
 emptied true now s = record { generation = refl; beginnings = refl; wanted = refl; stage = refl; established = λ e. e; own_tag = refl; own_first = refl; far_tag = refl; peer = refl; sender = going-same 257 now s.association.sender; receiver = record { streams = refl; partial = refl; cumulative = refl; held = refl }; control = λ P h g. tt; trying = λ P h. h }
 emptied false now s = record { generation = refl; beginnings = refl; wanted = refl; stage = refl; established = λ e. e; own_tag = refl; own_first = refl; far_tag = refl; peer = refl; sender = record { out = refl; first = refl; went = λ l. l }; receiver = record { streams = refl; partial = refl; cumulative = refl; held = refl }; control = λ P h g. tt; trying = λ P h. h }
 
-acknowledges : (b : Bool) (s : State) →
-    Alike s (state.with_association s (if b then data_rules.sacked s.association else s.association))
-acknowledges true s = record { generation = refl; beginnings = refl; wanted = refl; stage = refl; established = λ e. e; own_tag = refl; own_first = refl; far_tag = refl; peer = refl; sender = record { out = refl; first = refl; went = λ l. l }; receiver = record { streams = refl; partial = refl; cumulative = refl; held = refl }; control = λ P h g. g; trying = λ P h. h }
-acknowledges false s = itself s
+acknowledges : (b : Bool) (t2 : Option ℕ) (s : State) →
+    Alike s (state.with_association s (if b then record (data_rules.sacked s.association) { t2 = t2 } else s.association))
+acknowledges true t2 s = record { generation = refl; beginnings = refl; wanted = refl; stage = refl; established = λ e. e; own_tag = refl; own_first = refl; far_tag = refl; peer = refl; sender = record { out = refl; first = refl; went = λ l. l }; receiver = record { streams = refl; partial = refl; cumulative = refl; held = refl }; control = λ P h g. g; trying = λ P h. h }
+acknowledges false t2 s = itself s
 
 -- ---- packets that go out
 
@@ -387,6 +387,12 @@ module _ (own far : Secrets) (mark : ℕ) (other : End) (good : AreGood own) whe
   ended : (c : Settings) (why : Loss) (chunks : List ChunkValue) (s : State) → Each IsPlain chunks → Can s (ending.ended_with c why chunks s)
   ended c why chunks s p = ended-goes own far mark other c why chunks s p
 
+  ended-alone : (c : Settings) (why : Loss) (chunks : List ChunkValue) (s : State) → Each IsPlain chunks → Can s (ending.ended_alone c why chunks s)
+  ended-alone c why chunks s p =
+      moved s (ending.without_answers s) (ending.ended_alone c why chunks s)
+      (record { generation = refl; beginnings = refl; wanted = refl; stage = refl; established = λ q. q; own_tag = refl; own_first = refl; far_tag = refl; peer = refl; sender = record { out = refl; first = refl; went = λ l. l }; receiver = record { streams = refl; partial = refl; cumulative = refl; held = refl }; control = λ P h g. tt; trying = λ P h. h })
+      (ended c why chunks (ending.without_answers s) p)
+
   putting : (c : Settings) (source : Address) (tag : ℕ) (chunks : List ChunkValue) (s : State) → Each IsPlain chunks →
       Can s (state.put c source tag chunks s)
   putting c source tag chunks s p = puts own far mark other c source tag chunks s p
@@ -474,7 +480,7 @@ module _ (own far : Secrets) (mark : ℕ) (other : End) (good : AreGood own) whe
   judged-init : (name : Option (List ℕ)) (c : Settings) (now : ℕ) (source : Address) (tag : ℕ) (init : InitValue) (s : State) →
       Begins far own (young other) other tag (packets.InitChunk init) → Can s (opening.judged_init name c own now source init s)
   judged-init (Some name) c now source tag init s came =
-      putting c source init.tag (ending.abort_for (UnresolvableAddress name) ∷ []) s (tt, tt)
+      putting c source init.tag (ending.abort_for (opening.no_address name) ∷ []) s (tt, tt)
   judged-init None c now source tag init s came =
       let invalid : Done = state.put c source init.tag (ending.abort_for InvalidParameter ∷ []) s in
       let taken : Done = opening.init_in s.association.phase c own now source init s in
@@ -519,7 +525,7 @@ module _ (own far : Secrets) (mark : ℕ) (other : End) (good : AreGood own) whe
       stage_of s.association.phase ≡ Waiting → cookie_in init.parameters ≡ octets → s.association.own_tag ≡ tag → IsTagged tag s →
       Begins far own (young other) other tag (packets.InitAckChunk init) → Hears tag s (opening.echoed_if c now init t octets s)
   echoed-if c now tag init (Some t) (Some octets) s waiting inside same tagged came =
-      hears-either (opening.is_usable init) tag s (opening.echoed c now t.failures init octets s) (opening.refused c init s)
+      hears-either (opening.is_usable init && opening.fits_echo octets) tag s (opening.echoed c now t.failures init octets s) (opening.refused c init s)
       (record { result = echoed-goes own far mark other c now t.failures init octets s waiting inside tag same came; tagged = λ on. same })
       (hearing tag s (opening.refused c init s) tagged (refused c init s))
   echoed-if c now tag init None (Some octets) s waiting inside same tagged came = hearing tag s (silent s) tagged (stays s)
@@ -842,8 +848,8 @@ module _ (own far : Secrets) (mark : ℕ) (other : End) (good : AreGood own) whe
       (shutdown.heard_shutdown_in s.association.phase c now cumulative s)
       (aborted c losses.Protocol ending.violation s) (heard-shutdown-in s.association.phase c now tag cumulative s refl t came)
 
-  completed : (c : Settings) (s : State) → Can s (ending.ended_with c losses.Shutdown (packets.ShutdownCompleteChunk false ∷ []) s)
-  completed c s = ended c losses.Shutdown (packets.ShutdownCompleteChunk false ∷ []) s (tt, tt)
+  completed : (c : Settings) (s : State) → Can s (ending.ended_alone c losses.Shutdown (packets.ShutdownCompleteChunk false ∷ []) s)
+  completed c s = ended-alone c losses.Shutdown (packets.ShutdownCompleteChunk false ∷ []) s (tt, tt)
 
   shutdown-ack-in : (phase : Phase) (c : Settings) (s : State) → Can s (shutdown.heard_shutdown_ack_in phase c s)
   shutdown-ack-in Closed c s = stays s
@@ -863,7 +869,7 @@ module _ (own far : Secrets) (mark : ℕ) (other : End) (good : AreGood own) whe
   shutdown-complete-in ShutdownPending c s = stays s
   shutdown-complete-in ShutdownSent c s = stays s
   shutdown-complete-in ShutdownReceived c s = stays s
-  shutdown-complete-in ShutdownAckSent c s = ended c losses.Shutdown [] s tt
+  shutdown-complete-in ShutdownAckSent c s = ended-alone c losses.Shutdown [] s tt
 
   -- ---- DATA, SACK and HEARTBEAT
 
@@ -938,7 +944,7 @@ module _ (own far : Secrets) (mark : ℕ) (other : End) (good : AreGood own) whe
   heard-abort : (c : Settings) (tag : ℕ) (chunk : ChunkValue) (s : State) → Can s (arriving.heard_abort c tag chunk s).does
   heard-abort c tag chunk s =
       let why : Loss = arriving.loss_by_abort s.association.phase in
-      either (arriving.has_tag s.association tag chunk) s (ending.ended c why s) (silent s) (ended c why [] s tt) (stays s)
+      either (arriving.has_tag s.association tag chunk) s (ending.ended_alone c why [] s) (silent s) (ended-alone c why [] s tt) (stays s)
 
   handled-either : (b : Bool) (s : State) (x y : arriving.Handled) → Can s x.does → Can s y.does → Can s (if b then x else y).does
   handled-either true s x y t u = t
@@ -1277,8 +1283,8 @@ module _ (own far : Secrets) (mark : ℕ) (other : End) (good : AreGood own) whe
   flushed : (c : Settings) (now : ℕ) (s : State) → Can s (sending.flush c now s)
   flushed c now s =
       let a : Association = s.association in
-      let acked : State = state.with_association s (sending.with_acknowledged a) in
-      let f : Alike s acked = acknowledges (sending.is_acknowledging a) s in
+      let acked : State = state.with_association s (sending.with_acknowledged now a) in
+      let f : Alike s acked = acknowledges (sending.is_acknowledging a) (sending.t2_in a.phase now a) s in
       let g : Alike acked (sending.flush c now s).left = emptied (data_rules.takes_sack acked.association.phase) now acked in
       alike-goes own far mark other s (sending.flush c now s).left (sending.flush c now s).sent
       (alike-behind s acked (sending.flush c now s).left f g)

@@ -1,5 +1,5 @@
 -- Runs of two endpoints as moves of two ends.
-use Rattle.std.proofs.Common.{◌≡◌, inl, inr, ◌<◌, ◌≤◌, ℕ, zero, suc, ◌+◌, ◌*◌, arith, List, [], ◌∷◌, ◌++◌, Some, map, length, take, refl, ap, sym, ◌∙◌, subst}
+use Rattle.std.proofs.Common.{◌≡◌, inl, inr, ◌<◌, ◌≤◌, ℕ, zero, suc, ◌+◌, ◌*◌, arith, List, [], ◌∷◌, ◌++◌, Option, Some, None, map, length, take, refl, ap, sym, ◌∙◌, subst}
 use Rattle.std.specs.Prelude.{slice_get}
 use Rattle.std.specs.List.{Contains}
 use Rattle.std.proofs.lemmas.Grind.{common_steps}
@@ -18,7 +18,8 @@ use Rattle.sctp_moves.proofs.Members.{In, in-from, contains-from, in-place}
 use Rattle.sctp_ends.specs.Said.{Each, load, since, young, IsSaid}
 use Rattle.sctp_ends.specs.Shown.{AreGood, Waits, stage_of, Shows}
 use Rattle.sctp_ends.specs.Told.{told_by, opened_by, given_by}
-use Rattle.sctp_ends.specs.Worlds.{Site, new_site, count, messages_at, marked_by, emitted, with_done, World, Make, new_world, MayHappen, Step, at_near, at_far, Steps, last_world}
+use Rattle.sctp_ends.specs.Theorems.{GoesOn, steps_go_on}
+use Rattle.sctp_ends.specs.Worlds.{Site, new_site, count, messages_at, marked_by, emitted, with_done, World, Make, new_world, MayHappen, at_near, at_far, Steps, last_world}
 use Rattle.sctp_ends.specs.Theorems.{Heeds, received_in, sent_in, AreReached, steps_are_moves, IsEmitted, ShowsSite, IsShown, worlds_are_shown}
 use Rattle.sctp_ends.specs.Theorems.{Delivers, told_messages_were_given, OpensInTurn, associations_have_the_laws}
 use Rattle.sctp_ends.proofs.Said.{each-append, each-weaker, each-contains, more-said, said-older, Older}
@@ -160,8 +161,16 @@ started p list m e = record { moves = m; last = e }
 shown-sound : (near far : Make) (w : World) → (h : IsShown near far w) → IsSound h.ends.near h.ends.far
 shown-sound near far w h = subst (λ (p : Ends). IsSound p.near p.far) h.last (sound-always h.list h.moves)
 
-step-shown : (near far : Make) → AreGood near.secrets → AreGood far.secrets → (w v : World) → Step near far w v → IsShown near far w → IsShown near far v
-step-shown near far good fine w v (at_near what may is) h =
+far-stays : (y : End) (list : List End) → Each (λ (p : Ends). p.far ≡ y) (map (λ (e : End). both e y) list)
+far-stays y [] = tt
+far-stays y (e ∷ list) = (refl, far-stays y list)
+
+near-stays : (y : End) (list : List End) → Each (λ (p : Ends). p.near ≡ y) (map (λ (e : End). both y e) list)
+near-stays y [] = tt
+near-stays y (e ∷ list) = (refl, near-stays y list)
+
+pub goes-on : steps_go_on
+goes-on near far w v h good fine (at_near what may is) =
     let k : Secrets = near.secrets in
     let l : Secrets = far.secrets in
     let x : End = h.ends.near in
@@ -171,16 +180,21 @@ step-shown near far good fine w v (at_near what may is) h =
     let m : AreMoves h.ends (map (λ (e : End). both e y) r.list) (both (last_end x r.list) y) = near-moves x y r.list r.moves in
     let all : AreMoves new_ends (h.list ++ map (λ (e : End). both e y) r.list) (both (last_end x r.list) y) =
     moves-join new_ends h.ends (both (last_end x r.list) y) h.list (map (λ (e : End). both e y) r.list) (started h.ends h.list h.moves h.last) m in
-    subst (λ (u : World). IsShown near far u) (sym is)
+    subst (λ (u : World). GoesOn near far w u h) (sym is)
     (record {
-      ends = both (last_end x r.list) y;
-      list = h.list ++ map (λ (e : End). both e y) r.list;
-      moves = all.moves;
-      last = all.last;
-      near_end = site-after k l near.settings y x what w.near h.near_end r;
-      far_end = h.far_end;
+      shown = record {
+        ends = both (last_end x r.list) y;
+        list = h.list ++ map (λ (e : End). both e y) r.list;
+        moves = all.moves;
+        last = all.last;
+        near_end = site-after k l near.settings y x what w.near h.near_end r;
+        far_end = h.far_end;
+      };
+      more = map (λ (e : End). both e y) r.list;
+      list = refl;
+      alone = inl (far-stays y r.list);
     })
-step-shown near far good fine w v (at_far what may is) h =
+goes-on near far w v h good fine (at_far what may is) =
     let k : Secrets = far.secrets in
     let l : Secrets = near.secrets in
     let x : End = h.ends.far in
@@ -191,20 +205,25 @@ step-shown near far good fine w v (at_far what may is) h =
     let m : AreMoves h.ends (map (λ (e : End). both y e) r.list) (both y (last_end x r.list)) = far-moves y x r.list r.moves in
     let all : AreMoves new_ends (h.list ++ map (λ (e : End). both y e) r.list) (both y (last_end x r.list)) =
     moves-join new_ends h.ends (both y (last_end x r.list)) h.list (map (λ (e : End). both y e) r.list) (started h.ends h.list h.moves h.last) m in
-    subst (λ (u : World). IsShown near far u) (sym is)
+    subst (λ (u : World). GoesOn near far w u h) (sym is)
     (record {
-      ends = both y (last_end x r.list);
-      list = h.list ++ map (λ (e : End). both y e) r.list;
-      moves = all.moves;
-      last = all.last;
-      near_end = h.near_end;
-      far_end = site-after k l far.settings y x what w.far h.far_end r;
+      shown = record {
+        ends = both y (last_end x r.list);
+        list = h.list ++ map (λ (e : End). both y e) r.list;
+        moves = all.moves;
+        last = all.last;
+        near_end = h.near_end;
+        far_end = site-after k l far.settings y x what w.far h.far_end r;
+      };
+      more = map (λ (e : End). both y e) r.list;
+      list = refl;
+      alone = inr (near-stays y r.list);
     })
 
 steps-shown : (near far : Make) → AreGood near.secrets → AreGood far.secrets → (w : World) (list : List World) → Steps near far w list →
     IsShown near far w → IsShown near far (last_world w list)
 steps-shown near far good fine w [] m h = h
-steps-shown near far good fine w (v ∷ list) m h = steps-shown near far good fine v list m.1 (step-shown near far good fine w v m.0 h)
+steps-shown near far good fine w (v ∷ list) m h = steps-shown near far good fine v list m.1 (goes-on near far w v h good fine m.0).shown
 
 pub all-shown : worlds_are_shown
 all-shown near far good fine list m =
@@ -296,32 +315,55 @@ found p carries other place messages e l =
       prefix = subst (λ (ms : List Message). ms ≡ take (length ms) o.other.sent) u.2 c.prefix;
     }
 
-delivers : (p : Ends) → CarriesOver (turned p) → ((e : Epoch) → Contains p.near.epochs e → 0 < length e.received → HasOther p.far.epochs e) →
-    AreInOrder p → Delivers (received_in p.near) (sent_in p.far)
-delivers p carries other order = record {
-  each = λ place messages e l.
-      let f : Found p.near p.far place messages = found p carries other place messages e l in
-      record {
-        place = f.other_place;
-        whole = f.from.sent;
-        is = remap (λ (x : Epoch). x.sent) p.far.epochs f.other_place f.from f.other_at;
-        prefix = f.prefix;
-      };
-  order = λ place sooner_place messages sooner e g less l k.
-      let f : Found p.near p.far place messages = found p carries other place messages e l in
-      let s : Found p.near p.far sooner_place sooner = found p carries other sooner_place sooner g k in
-      record {
-        later_place = f.other_place;
-        sooner_place = s.other_place;
-        given_later = f.from.sent;
-        given_sooner = s.from.sent;
-        later_is = remap (λ (x : Epoch). x.sent) p.far.epochs f.other_place f.from f.other_at;
-        sooner_is = remap (λ (x : Epoch). x.sent) p.far.epochs s.other_place s.from s.other_at;
-        order = order place sooner_place f.other_place s.other_place f.to s.to f.from s.from f.at s.at f.other_at s.other_at f.one s.one less;
-        later_prefix = f.prefix;
-        sooner_prefix = s.prefix;
-      };
-}
+some-long : (m : Message) (ms : List Message) → 0 < length (m ∷ ms)
+some-long m ms = grind (arith, common_steps)
+
+none-below : 0 < 0 → ⊥
+none-below l = omega (arith, l)
+
+module _ (p : Ends) (carries : CarriesOver (turned p))
+    (other : (e : Epoch) → Contains p.near.epochs e → 0 < length e.received → HasOther p.far.epochs e) where
+  -- the place of the epoch in which messages were given, if some were told
+  matched-of : (place : ℕ) (o : Option (List Message)) → slice_get (received_in p.near) place ≡ o → ℕ
+  matched-of place None e = 0
+  matched-of place (Some []) e = 0
+  matched-of place (Some (m ∷ ms)) e = (found p carries other place (m ∷ ms) e (some-long m ms)).other_place
+
+  matches : (place : ℕ) (o : Option (List Message)) (at : slice_get (received_in p.near) place ≡ o) (messages : List Message) →
+      o ≡ Some messages → 0 < length messages → (f : Found p.near p.far place messages) × (f.other_place ≡ matched-of place o at)
+  unfolding matched-of
+  matches place None at messages e l = absurd (cc)
+  matches place (Some []) at messages e l =
+      absurd (none-below (subst (λ (ms : List Message). 0 < length ms) (sym (some-is [] messages e)) l))
+  matches place (Some (m ∷ ms)) at messages e l =
+      let f : Found p.near p.far place (m ∷ ms) = found p carries other place (m ∷ ms) at (some-long m ms) in
+      subst (λ (xs : List Message). (g : Found p.near p.far place xs) × (g.other_place ≡ f.other_place))
+      (some-is (m ∷ ms) messages e) (f, refl)
+
+  abbrev matched-at : ℕ → ℕ
+  matched-at place = matched-of place (slice_get (received_in p.near) place) refl
+
+  delivers : AreInOrder p → Delivers (received_in p.near) (sent_in p.far)
+  delivers order = record {
+    matched = matched-at;
+    each = λ place messages e l.
+        let r = matches place (slice_get (received_in p.near) place) refl messages e l in
+        let f : Found p.near p.far place messages = r.0 in
+        record {
+          whole = f.from.sent;
+          is = subst (λ (n : ℕ). slice_get (sent_in p.far) n ≡ Some f.from.sent) r.1
+              (remap (λ (x : Epoch). x.sent) p.far.epochs f.other_place f.from f.other_at);
+          prefix = f.prefix;
+        };
+    order = λ place sooner_place messages sooner e g l k less.
+        let r = matches place (slice_get (received_in p.near) place) refl messages e l in
+        let t = matches sooner_place (slice_get (received_in p.near) sooner_place) refl sooner g k in
+        let f : Found p.near p.far place messages = r.0 in
+        let s : Found p.near p.far sooner_place sooner = t.0 in
+        let before : f.other_place < s.other_place =
+        order place sooner_place f.other_place s.other_place f.to s.to f.from s.from f.at s.at f.other_at s.other_at f.one s.one less in
+        subst (λ (n : ℕ). n < matched-at sooner_place) r.1 (subst (λ (n : ℕ). f.other_place < n) t.1 before);
+  }
 
 pub were-given : told_messages_were_given
 were-given near far good fine list m =

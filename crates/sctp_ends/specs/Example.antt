@@ -11,6 +11,7 @@ use Rattle.sctp_moves.specs.Numbers.{modulus}
 use Rattle.sctp_moves.specs.Ends.{Message}
 use Rattle.sctp_ends.specs.Shown.{AreGood}
 use Rattle.sctp_ends.specs.Told.{told_by, text_given}
+use Rattle.sctp_ends.specs.Theorems.{Delivers}
 use Rattle.sctp_ends.specs.Worlds.{Emitted, Site, World, Make, new_world, happened, Steps}
 
 -- a cookie with a number that doesn't fit opens nothing
@@ -120,3 +121,8 @@ pub record Happens : Type 0 where
   pub given : heard_again.near.given ≡ both_messages ∷ []
   pub nothing_yet : told_by [] overtaken.far.told ≡ [] ∷ []
   pub told : told_by [] heard_again.far.told ≡ both_messages ∷ []
+
+-- a message that was given in two associations isn't told in three
+abbrev pub given_twice_told_thrice : Type 0
+given_twice_told_thrice =
+    (m : Message) → Delivers ((m ∷ []) ∷ (m ∷ []) ∷ (m ∷ []) ∷ []) ((m ∷ []) ∷ (m ∷ []) ∷ []) → ⊥

@@ -12,7 +12,7 @@ use Rattle.sctp_moves.specs.Theorems.{Opens, Awaits, both}
 use Rattle.sctp_ends.specs.Said.{Each, load, since, young, IsSaid, AreSaid}
 use Rattle.sctp_ends.specs.Shown.{AreGood, Shows}
 use Rattle.sctp_ends.specs.Told.{told_by, opened_by, given_by}
-use Rattle.sctp_ends.specs.Worlds.{Emitted, Site, World, Make, new_world, Steps, last_world}
+use Rattle.sctp_ends.specs.Worlds.{Emitted, Site, World, Make, new_world, Step, Steps, last_world}
 
 -- ---- one endpoint
 
@@ -84,46 +84,48 @@ Always near far Statement =
     AreGood near.secrets → AreGood far.secrets →
     (list : List World) → Steps near far (new_world near far) list → Statement (last_world (new_world near far) list)
 
+-- after a step the moves go on, and all of them are those of one end
+pub record GoesOn (near far : Make) (w v : World) (before : IsShown near far w) : Type 0 where
+  pub shown : IsShown near far v
+  pub more : List Ends
+  pub list : shown.list ≡ before.list ++ more
+  pub alone : Each (λ p. p.far ≡ before.ends.far) more ⊎ Each (λ p. p.near ≡ before.ends.near) more
+
+abbrev pub steps_go_on : Type 0
+steps_go_on =
+    (near far : Make) (w v : World) (before : IsShown near far w) → AreGood near.secrets → AreGood far.secrets →
+    Step near far w v → GoesOn near far w v before
+
 abbrev pub worlds_are_shown : Type 0
 worlds_are_shown = (near far : Make) → Always near far (IsShown near far)
 
 -- ---- what was told was given
 
--- of two associations of one end in which messages were told, the later and the earlier: what was told in each is the
--- beginning of what the other end was given in one, and these follow one another in the same order
-pub record AreGiven (given : List (List Message)) (told sooner : List Message) : Type 0 where
-  pub later_place : ℕ
-  pub sooner_place : ℕ
-  pub given_later : List Message
-  pub given_sooner : List Message
-  pub later_is : slice_get given later_place ≡ Some given_later
-  pub sooner_is : slice_get given sooner_place ≡ Some given_sooner
-  pub order : later_place < sooner_place
-  pub later_prefix : told ≡ take (length told) given_later
-  pub sooner_prefix : sooner ≡ take (length sooner) given_sooner
-
-pub record IsGiven (given : List (List Message)) (told : List Message) : Type 0 where
-  pub place : ℕ
+-- what was told is the beginning of what was given in the association in this place
+pub record IsGiven (given : List (List Message)) (place : ℕ) (told : List Message) : Type 0 where
   pub whole : List Message
   pub is : slice_get given place ≡ Some whole
   pub prefix : told ≡ take (length told) whole
 
--- lists of messages by associations, the latest first: what one end was told, and what the other was given
+-- lists of messages by associations, the latest first: what one end was told, and what the other was given. Each
+-- association in which something was told is matched with one of the other end, no two with the same one, and in the
+-- same order
 pub record Delivers (told given : List (List Message)) : Type 0 where
+  pub matched : (place : ℕ) → ℕ
   pub each :
       (place : ℕ) (messages : List Message) → slice_get told place ≡ Some messages → 0 < length messages →
-      IsGiven given messages
+      IsGiven given (matched place) messages
   pub order :
       (place sooner_place : ℕ) (messages sooner : List Message) → slice_get told place ≡ Some messages →
-      slice_get told sooner_place ≡ Some sooner → place < sooner_place → 0 < length messages → 0 < length sooner →
-      AreGiven given messages sooner
+      slice_get told sooner_place ≡ Some sooner → 0 < length messages → 0 < length sooner → place < sooner_place →
+      matched place < matched sooner_place
 
 pub record DeliverBoth (w : World) : Type 0 where
   pub there : Delivers (told_by [] w.near.told) w.far.given
   pub back : Delivers (told_by [] w.far.told) w.near.given
 
--- what one end was told in an association is the beginning of what the other was given in it, each message once, in
--- order; and associations follow one another in the same order
+-- what one end was told in an association is the beginning of what the other was given in one, which is matched with no
+-- other: so each message is told once, in order
 abbrev pub told_messages_were_given : Type 0
 told_messages_were_given = (near far : Make) → Always near far DeliverBoth
 

@@ -1,13 +1,13 @@
 //! Laws of the abstract endpoint over moves, and of two such endpoints, whatever the network does with their packets.
 //! The statements are those of `specs/Theorems.antt`.
 
-ghost use Rattle.sctp_ends.specs.Example.{Happens};
+ghost use Rattle.sctp_ends.specs.Example.{Happens, given_twice_told_thrice};
 ghost use Rattle.sctp_ends.specs.Keyed.{keyed_secrets_are_good};
-ghost use Rattle.sctp_ends.specs.Theorems.{associations_have_the_laws, steps_are_moves};
+ghost use Rattle.sctp_ends.specs.Theorems.{associations_have_the_laws, steps_are_moves, steps_go_on};
 ghost use Rattle.sctp_ends.specs.Theorems.{told_messages_were_given, worlds_are_shown};
 
-/// Each step of an endpoint is a list of moves of `sctp_moves`, if what comes was put out by the other end and isn't
-/// too old.
+/// Each step of an endpoint is a list of moves of `sctp_moves`, if its secrets are good, moves lead to the end that it
+/// shows and to the other one, and what comes was put out by the other one and isn't too old.
 pub fn steps_of_an_endpoint_are_moves()
     ensures { steps_are_moves }
 {}
@@ -18,8 +18,14 @@ pub fn runs_of_two_endpoints_are_moves()
     ensures { worlds_are_shown }
 {}
 
-/// What one user was told in an association is the beginning of what the other gave in it, each message once, in order,
-/// whole; and associations in which something was told follow one another in the order of those in which it was given.
+/// And a step of a run goes on from where it was: the moves behind it are those of the one end.
+pub fn steps_of_two_endpoints_go_on()
+    ensures { steps_go_on }
+{}
+
+/// Each association in which one user was told something is matched with one of the other user, no two with the same one
+/// and in the same order; and what was told in it is the beginning of what the other gave in that one. So each message
+/// is told once, in order, whole.
 pub fn told_messages_come_in_order()
     ensures { told_messages_were_given }
 {}
@@ -37,7 +43,9 @@ pub fn secrets_under_keys_are_good()
 {}
 
 /// These laws aren't empty: in a run of 14 steps an association opens at both endpoints, the packet of a second message
-/// overtakes that of the first, which comes twice, and both messages are told in order.
+/// overtakes that of the first, which comes twice, and both messages are told in order. Nor do they allow too much: a
+/// message that was given in two associations isn't told in three.
 pub fn two_messages_are_told_in_order()
-    ensures { Happens }
+    ensures run { Happens }
+    ensures once { given_twice_told_thrice }
 {}

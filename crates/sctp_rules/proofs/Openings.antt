@@ -98,15 +98,18 @@ growing-steps = record {
   also = also-grows;
 }
 
-all-grow : (c : Settings) (k : Secrets) (whats : List Happening) (s : State) → Right s → Grows s (after_all c k whats s)
-all-grow c k [] s r = record { grows = omega arith }
+all-grow : (c : Settings) (k : Secrets) (whats : List Happening) (s : State) → Right s → Passes Grows s (after_all c k whats s)
+all-grow c k [] s r = record { kept = record { grows = omega arith }; left = r }
 all-grow c k (what ∷ more) s r =
     let t : Passes Grows s (after c k what s) = happens growing-steps c k what s (any-happening what) r in
-    also-grows s (after c k what s) (λ left. after_all c k more left) t.kept (all-grow c k more (after c k what s).left t.left)
+    let left : State = (after c k what s).left in
+    let u : Passes Grows left (after_all c k more left) = all-grow c k more left t.left in
+    record { kept = also-grows s (after c k what s) (λ x. after_all c k more x) t.kept u.kept; left = u.left }
 
 pub generations-grow : generations_grow
-generations-grow c k happenings =
-    let g = (all-grow c k happenings (first_state c) (record { right = off })).grows in
+generations-grow c k before happenings =
+    let start : Passes Grows (first_state c) (after_all c k before (first_state c)) = all-grow c k before (first_state c) (record { right = off }) in
+    let g = (all-grow c k happenings (after_all c k before (first_state c)).left start.left).kept.grows in
     omega (arith, g)
 
 -- ---- cookies

@@ -333,6 +333,12 @@ module _ {IsCome : DataValue → Type 0} {R : State → Done → Type 0} (steps 
   ended : (c : Settings) (why : Loss) (chunks : List ChunkValue) (s : State) → Passes R s (ending.ended_with c why chunks s)
   ended c why chunks s = record { kept = steps.ended c why chunks s; left = record { right = off } }
 
+  ended-alone : (c : Settings) (why : Loss) (chunks : List ChunkValue) (s : State) → Right s → Passes R s (ending.ended_alone c why chunks s)
+  ended-alone c why chunks s r =
+      moved s (ending.without_answers s) (ending.ended_alone c why chunks s)
+      (record { same = record { generation = refl; up = refl; own_tag = refl; peer = refl; receiver = refl; takes = λ e. e }; right = record { right = r.right } })
+      (ended c why chunks (ending.without_answers s))
+
   -- ---- opening
 
   begun : (c : Settings) (now failures : ℕ) (address : Address) (b : Option Beginning) (s : State) →
@@ -694,12 +700,13 @@ module _ {IsCome : DataValue → Type 0} {R : State → Done → Type 0} (steps 
       (shutdown.heard_shutdown_in s.association.phase c now cumulative s)
       (aborted c losses.Protocol ending.violation s) (heard-shutdown-in s.association.phase c now cumulative s r)
 
-  completed : (c : Settings) (s : State) → Passes R s (ending.ended_with c losses.Shutdown (packets.ShutdownCompleteChunk false ∷ []) s)
-  completed c s = ended c losses.Shutdown (packets.ShutdownCompleteChunk false ∷ []) s
+  completed : (c : Settings) (s : State) → Right s →
+      Passes R s (ending.ended_alone c losses.Shutdown (packets.ShutdownCompleteChunk false ∷ []) s)
+  completed c s r = ended-alone c losses.Shutdown (packets.ShutdownCompleteChunk false ∷ []) s r
 
   shutdown-ack-in : (phase : Phase) (c : Settings) (s : State) → Right s → Passes R s (shutdown.heard_shutdown_ack_in phase c s)
-  shutdown-ack-in ShutdownSent c s r = completed c s
-  shutdown-ack-in ShutdownAckSent c s r = completed c s
+  shutdown-ack-in ShutdownSent c s r = completed c s r
+  shutdown-ack-in ShutdownAckSent c s r = completed c s r
   shutdown-ack-in Closed c s r = stays s [] r
   shutdown-ack-in CookieWait c s r = stays s [] r
   shutdown-ack-in CookieEchoed c s r = stays s [] r
@@ -709,7 +716,7 @@ module _ {IsCome : DataValue → Type 0} {R : State → Done → Type 0} (steps 
 
   shutdown-complete-in : (phase : Phase) (c : Settings) (s : State) → Right s →
       Passes R s (shutdown.heard_shutdown_complete_in phase c s)
-  shutdown-complete-in ShutdownAckSent c s r = ended c losses.Shutdown [] s
+  shutdown-complete-in ShutdownAckSent c s r = ended-alone c losses.Shutdown [] s r
   shutdown-complete-in Closed c s r = stays s [] r
   shutdown-complete-in CookieWait c s r = stays s [] r
   shutdown-complete-in CookieEchoed c s r = stays s [] r
@@ -777,7 +784,7 @@ module _ {IsCome : DataValue → Type 0} {R : State → Done → Type 0} (steps 
   heard-abort : (c : Settings) (tag : ℕ) (chunk : ChunkValue) (s : State) → Right s → Passes R s (arriving.heard_abort c tag chunk s).does
   heard-abort c tag chunk s r =
       let why : Loss = arriving.loss_by_abort s.association.phase in
-      either (arriving.has_tag s.association tag chunk) s (ending.ended c why s) (silent s) (ended c why [] s) (stays s [] r)
+      either (arriving.has_tag s.association tag chunk) s (ending.ended_alone c why [] s) (silent s) (ended-alone c why [] s r) (stays s [] r)
 
   handled-either : (b : Bool) (s : State) (x y : arriving.Handled) → Passes R s x.does → Passes R s y.does →
       Passes R s (if b then x else y).does
@@ -974,15 +981,19 @@ module _ {IsCome : DataValue → Type 0} {R : State → Done → Type 0} (steps 
       (record { same = itself s; right = r }))
 
   -- what is acknowledged is reported, and then DATA goes out
-  acknowledges : (b : Bool) (s : State) → Right s →
-      Passes R s (silent (state.with_association s (if b then data_rules.sacked s.association else s.association)))
-  acknowledges true s r = record { kept = steps.reports s; left = record { right = r.right } }
-  acknowledges false s r = then-silent s s (record { same = itself s; right = r })
+  acknowledges : (b : Bool) (t2 : Option ℕ) (s : State) → Right s →
+      Passes R s (silent (state.with_association s (if b then record (data_rules.sacked s.association) { t2 = t2 } else s.association)))
+  acknowledges true t2 s r =
+      let reported : State = state.with_association s (data_rules.sacked s.association) in
+      let left : State = state.with_association s (record (data_rules.sacked s.association) { t2 = t2 }) in
+      next-there s (silent reported) (λ x. silent left) (record { kept = steps.reports s; left = record { right = r.right } })
+      (then-silent reported left (record { same = record { generation = refl; up = refl; own_tag = refl; peer = refl; receiver = refl; takes = λ e. e }; right = record { right = r.right } }))
+  acknowledges false t2 s r = then-silent s s (record { same = itself s; right = r })
 
   flushed : (c : Settings) (now : ℕ) (s : State) → Right s → Passes R s (sending.flush c now s)
   flushed c now s r =
-      let acked : State = state.with_association s (sending.with_acknowledged s.association) in
-      let t : Passes R s (silent acked) = acknowledges (sending.is_acknowledging s.association) s r in
+      let acked : State = state.with_association s (sending.with_acknowledged now s.association) in
+      let t : Passes R s (silent acked) = acknowledges (sending.is_acknowledging s.association) (sending.t2_in s.association.phase now s.association) s r in
       let f : Follows acked (sending.flush c now s).left = data-goes (data_rules.takes_sack acked.association.phase) now acked t.left in
       next-there s (silent acked) (λ left. sending.flush c now s) t
       (plainly acked (sending.flush c now s).left (sending.flush c now s).sent f.same f.right)

@@ -236,3 +236,23 @@ shutdown_meets_shutdown = record { phase_is = refl; sent_is = refl; told_is = re
 pub data_with_the_peers_tag_is_dropped : rows.data_with_the_peers_tag_is_dropped
 unfolding after going drained run_from blocks_from lost_from named_below passed_below given next_place gone_again gone_first confirmation confirmed settled acknowledged after_t3
 data_with_the_peers_tag_is_dropped = record { phase_is = refl; sent_is = refl; told_is = refl }
+
+pub abort_is_not_answered : rows.abort_is_not_answered
+unfolding after going drained run_from blocks_from lost_from named_below passed_below given next_place gone_again gone_first confirmation confirmed settled acknowledged after_t3
+abort_is_not_answered = record { phase_is = refl; sent_is = refl; told_is = refl }
+
+pub completion_stands_alone : rows.completion_stands_alone
+unfolding after going drained run_from blocks_from lost_from named_below passed_below given next_place gone_again gone_first confirmation confirmed settled acknowledged after_t3
+completion_stands_alone = record { phase_is = refl; sent_is = refl; told_is = refl }
+
+pub completion_is_not_answered : rows.completion_is_not_answered
+unfolding after going drained run_from blocks_from lost_from named_below passed_below given next_place gone_again gone_first confirmation confirmed settled acknowledged after_t3
+completion_is_not_answered = record { phase_is = refl; sent_is = refl; told_is = refl }
+
+pub data_meets_shutdown : rows.data_meets_shutdown
+unfolding after going drained run_from blocks_from lost_from named_below passed_below given next_place gone_again gone_first confirmation confirmed settled acknowledged after_t3
+data_meets_shutdown = record { phase_is = refl; sent_is = refl; told_is = refl }
+
+pub t2_begins_anew : rows.t2_begins_anew
+unfolding after going drained run_from blocks_from lost_from named_below passed_below given next_place gone_again gone_first confirmation confirmed settled acknowledged after_t3
+t2_begins_anew = refl

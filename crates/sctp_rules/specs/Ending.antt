@@ -75,6 +75,14 @@ ended_with c why chunks s = record {
 abbrev pub ended : Settings → Loss → State → Done
 ended c why s = ended_with c why [] s
 
+-- the same without the answers that wait: SHUTDOWN COMPLETE stands alone (§6.10), and a packet that ends the
+-- association isn't answered (§9.1)
+abbrev pub without_answers : State → State
+without_answers s = with_association s (record s.association { control = [] })
+
+abbrev pub ended_alone : Settings → Loss → List ChunkValue → State → Done
+ended_alone c why chunks s = ended_with c why chunks (without_answers s)
+
 -- it ends by ABORT, for a cause (§9.1)
 abbrev pub abort_for : CauseValue → ChunkValue
 abort_for cause = AbortChunk false (item_octets (cause_item cause))

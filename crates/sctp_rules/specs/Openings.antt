@@ -16,12 +16,13 @@ openings (Heard message ∷ more) = openings more
 openings (Down why ∷ more) = openings more
 openings (Failed why ∷ more) = openings more
 
--- the generation grows with each association that opens, and never falls
+-- from any moment on, the generation grows by as many as associations open at least: so it never falls, and it is
+-- another one behind each that opened
 abbrev pub generations_grow : Type 0
 generations_grow =
-    (c : Settings) (k : Secrets) (happenings : List Happening) →
-    openings (after_all c k happenings (first_state c)).told
-    ≤ (after_all c k happenings (first_state c)).left.generation
+    (c : Settings) (k : Secrets) (before happenings : List Happening) →
+    let s = (after_all c k before (first_state c)).left in
+    s.generation + openings (after_all c k happenings s).told ≤ (after_all c k happenings s).left.generation
 
 -- and a cookie opens in its own generation alone
 abbrev pub cookies_open_in_their_generation : Type 0

@@ -13,7 +13,7 @@ use Rattle.sctp_rules.specs.declared.loss.Loss.{Loss}
 use Rattle.sctp_rules.specs.declared.loss.Loss.TheVariants.{Aborted, Refused}
 use Rattle.sctp_rules.specs.Settings.{Settings, Address, Secrets}
 use Rattle.sctp_rules.specs.State.{Association, State, Done, silent, followed_by, with_association, put}
-use Rattle.sctp_rules.specs.Ending.{answered, ended}
+use Rattle.sctp_rules.specs.Ending.{answered, ended_alone}
 use Rattle.sctp_rules.specs.Opening.{Echo, is_closed, is_waiting, is_echoed, heard_init, heard_init_ack}
 use Rattle.sctp_rules.specs.Opening.{heard_cookie_ack, heard_cookie_echo, heard_error}
 use Rattle.sctp_rules.specs.Data.{heard_data, heard_sack_chunk, heard_heartbeat, heard_heartbeat_ack}
@@ -49,7 +49,9 @@ loss_by_abort phase = if is_waiting phase then Refused else Aborted
 
 abbrev pub heard_abort : Settings → (tag : ℕ) → ChunkValue → State → Handled
 heard_abort c tag chunk s = record {
-  does = if has_tag s.association tag chunk then ended c (loss_by_abort s.association.phase) s else silent s;
+  does = if has_tag s.association tag chunk
+      then ended_alone c (loss_by_abort s.association.phase) [] s
+      else silent s;
   goes_on = false;
 }
 

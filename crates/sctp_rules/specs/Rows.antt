@@ -310,6 +310,14 @@ abort_is_sent = Does aborts Closed ((6 ∷ []) ∷ []) (Down Local ∷ [])
 abbrev pub abort_is_a_loss : Type 0
 abort_is_a_loss = Does (far (comes 9 (packet aborts)) acknowledges.left) Closed [] (Down Aborted ∷ [])
 
+-- and isn't answered, nor is what stands in front of it
+abbrev pub behind_heartbeat : PacketValue → PacketValue
+behind_heartbeat p = record p { chunks = HeartbeatChunk (1 ∷ []) ∷ p.chunks }
+
+abbrev pub abort_is_not_answered : Type 0
+abort_is_not_answered =
+    Does (far (comes 9 (behind_heartbeat (packet aborts))) acknowledges.left) Closed [] (Down Aborted ∷ [])
+
 abbrev pub shuts_down : Done
 shuts_down = near (ShutsDown 10) opens_second.left
 
@@ -339,6 +347,16 @@ shutdown_is_complete = Does shutdown_completes Closed ((14 ∷ []) ∷ []) (Down
 
 abbrev pub completion_ends : Type 0
 completion_ends = Does (far (comes 13 (packet shutdown_completes)) shutdown_answered.left) Closed [] []
+
+-- it stands alone, and isn't answered
+abbrev pub completion_stands_alone : Type 0
+completion_stands_alone =
+    Does (near (comes 12 (behind_heartbeat (packet shutdown_answered))) shutdown_goes_out.left) Closed ((14 ∷ []) ∷ [])
+    (Down Shutdown ∷ [])
+
+abbrev pub completion_is_not_answered : Type 0
+completion_is_not_answered =
+    Does (far (comes 13 (behind_heartbeat (packet shutdown_completes))) shutdown_answered.left) Closed [] []
 
 -- ---- both ends begin at once (§5.2.1)
 
@@ -465,6 +483,19 @@ shutdown_follows_confirmation =
 abbrev pub shutdown_goes_out_again : Type 0
 shutdown_goes_out_again =
     Does (near (Flushes 310) (near (Ticked 310) shutdown_goes_out.left).left) ShutdownSent ((7 ∷ []) ∷ []) []
+
+-- DATA that comes meanwhile is answered by SHUTDOWN and SACK, and T2 begins anew
+abbrev pub far_sends : Done
+far_sends = far (Flushes 5) (far (Sends given) acknowledges.left).left
+
+abbrev pub acknowledges_data : Done
+acknowledges_data = near (Flushes 50) (near (comes 50 (packet far_sends)) shutdown_goes_out.left).left
+
+abbrev pub data_meets_shutdown : Type 0
+data_meets_shutdown = Does acknowledges_data ShutdownSent ((7 ∷ 3 ∷ []) ∷ []) []
+
+abbrev pub t2_begins_anew : Type 0
+t2_begins_anew = acknowledges_data.left.association.t2 ≡ Some 350
 
 -- T5
 abbrev pub shutdown_guard_ends_it : Type 0

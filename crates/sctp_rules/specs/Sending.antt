@@ -1,5 +1,5 @@
 -- Messages that are taken, and packets that go out (RFC 9260 §6.1, §6.10).
-use Rattle.std.specs.Prelude.{ℕ, Bool, true, false, ◌+◌, ◌&&◌, List, [], ◌∷◌, ◌++◌, map, nat_lt, if◌then◌else◌}
+use Rattle.std.specs.Prelude.{ℕ, Bool, true, false, ◌+◌, ◌&&◌, List, [], ◌∷◌, ◌++◌, Option, Some, map, nat_lt, if◌then◌else◌}
 use Rattle.sctp_sending.specs.Outgoing.{Message}
 use Rattle.sctp_sending.specs.Sending.{given}
 use Rattle.sctp_sending.specs.Sending as half
@@ -62,8 +62,13 @@ acknowledgement_in phase a = sack_of a.receiver ∷ []
 abbrev pub acknowledgement : Association → List ChunkValue
 acknowledgement a = if is_acknowledging a then acknowledgement_in a.phase a else []
 
-abbrev pub with_acknowledged : Association → Association
-with_acknowledged a = if is_acknowledging a then sacked a else a
+-- a SHUTDOWN that goes out so starts T2-shutdown anew
+abbrev pub t2_in : Phase → (now : ℕ) → Association → Option ℕ
+t2_in ShutdownSent now a = Some (now + a.sender.round_trips.timeout)
+t2_in phase now a = a.t2
+
+abbrev pub with_acknowledged : (now : ℕ) → Association → Association
+with_acknowledged now a = if is_acknowledging a then record (sacked a) { t2 = t2_in a.phase now a } else a
 
 -- answers stand in front of SACK, and SACK in front of DATA (§6.1)
 abbrev pub due_chunks : (now : ℕ) → Association → List ChunkValue
@@ -94,7 +99,7 @@ datagrams c now a =
     map (λ chunks. datagram_to c a.address a.far_tag chunks) (packets_of (due_chunks now a))
 
 abbrev pub flushed : (now : ℕ) → Association → Association
-flushed now a = record (with_data_sent now (with_acknowledged a)) { control = [] }
+flushed now a = record (with_data_sent now (with_acknowledged now a)) { control = [] }
 
 abbrev pub flush : Settings → (now : ℕ) → State → Done
 flush c now s = record {

@@ -11,7 +11,7 @@ use Rattle.sctp_rules.specs.Settings.{Settings}
 use Rattle.sctp_sending.specs.Sending.{confirmation, after_cumulative}
 use Rattle.sctp_rules.specs.Confirming.{confirms_beyond, only_gone}
 use Rattle.sctp_rules.specs.State.{Association, State, Down, Done, silent, with_association}
-use Rattle.sctp_rules.specs.Ending.{with_answer, ended_with, aborted, abort, violation}
+use Rattle.sctp_rules.specs.Ending.{with_answer, ended_alone, aborted, abort, violation}
 
 -- SHUTDOWN, with the cumulative TSN of now; or SHUTDOWN ACK
 abbrev pub shutdown_of : Association → ChunkValue
@@ -109,8 +109,8 @@ heard_shutdown c now cumulative s =
 
 -- SHUTDOWN ACK comes: SHUTDOWN COMPLETE
 abbrev pub heard_shutdown_ack_in : Phase → Settings → State → Done
-heard_shutdown_ack_in ShutdownSent c s = ended_with c Shutdown (ShutdownCompleteChunk false ∷ []) s
-heard_shutdown_ack_in ShutdownAckSent c s = ended_with c Shutdown (ShutdownCompleteChunk false ∷ []) s
+heard_shutdown_ack_in ShutdownSent c s = ended_alone c Shutdown (ShutdownCompleteChunk false ∷ []) s
+heard_shutdown_ack_in ShutdownAckSent c s = ended_alone c Shutdown (ShutdownCompleteChunk false ∷ []) s
 heard_shutdown_ack_in phase c s = silent s
 
 abbrev pub heard_shutdown_ack : Settings → State → Done
@@ -118,7 +118,7 @@ heard_shutdown_ack c s = heard_shutdown_ack_in s.association.phase c s
 
 -- SHUTDOWN COMPLETE comes: only in SHUTDOWN-ACK-SENT
 abbrev pub heard_shutdown_complete_in : Phase → Settings → State → Done
-heard_shutdown_complete_in ShutdownAckSent c s = ended_with c Shutdown [] s
+heard_shutdown_complete_in ShutdownAckSent c s = ended_alone c Shutdown [] s
 heard_shutdown_complete_in phase c s = silent s
 
 abbrev pub heard_shutdown_complete : Settings → State → Done

@@ -56,7 +56,7 @@ pub record Association : Type 0 where
 pub record State : Type 0 where
   -- whether the user wants an association
   pub is_wanted : Bool
-  -- how often an association, or the try of one, began or ended
+  -- how often an association opened or ended, and a try of one began anew or ended
   pub generation : ℕ
   -- how many beginnings and heartbeat numbers were drawn
   pub beginnings : ℕ

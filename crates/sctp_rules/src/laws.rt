@@ -22,8 +22,8 @@ pub fn what_goes_out_was_given()
     ensures { given_messages_go_out }
 {}
 
-/// Up is told at most as often as the generation counts; and a cookie of another generation than that of now opens
-/// nothing.
+/// From any moment on, the generation grows by as many as associations open at least; and a cookie of another
+/// generation than that of now opens nothing. So a cookie opens once at most.
 pub fn a_cookie_opens_once()
     ensures generations { generations_grow }
     ensures cookies { cookies_open_in_their_generation }

@@ -34,7 +34,7 @@ impl Endpoint {
     }
 
     /// The association is there: all but its names begins anew, and the user is told.
-    fn open_with<W: Watch>(
+    pub(super) fn open_with<W: Watch>(
         &mut self,
         names: Names,
         peer: Peer,

@@ -9,6 +9,7 @@ ghost use Rattle.sctp_endpoint.specs.Watching.{Gives, sent_as};
 ghost use Rattle.sctp_endpoint.specs.Endpoints.{Does};
 
 use crate::address::Address;
+use crate::chunks::Chunks;
 use crate::endpoint::Endpoint;
 use crate::packets::{blank, write_packet};
 use crate::reply::Reply;
@@ -25,6 +26,16 @@ impl Endpoint {
     {
         let mut out = blank();
         let end = write_packet(&mut out, &self.settings, tag, &[], Some(chunk));
+        watch.send(&out[..end], to);
+    }
+
+    /// A packet with these chunks goes out at once.
+    pub(super) fn put_all<W: Watch>(&self, to: &Address, tag: u32, chunks: &Chunks, watch: &mut W)
+        ensures { Gives W.sent W.told watch.old watch.new
+            (put self.now.settings (address_of to.now) tag chunks.now self.now.state) }
+    {
+        let mut out = blank();
+        let end = write_packet(&mut out, &self.settings, tag, chunks.octets(), None);
         watch.send(&out[..end], to);
     }
 

@@ -4,9 +4,7 @@ ghost use Rattle.std.specs.Prelude.{◌≡◌, ◌<◌, ◌≤◌, ◌^◌, ◌+
 ghost use Rattle.sctp_cookie.specs.Tags.{next_tag};
 ghost use Rattle.sctp_rules.specs.State.{put};
 ghost use Rattle.sctp_rules.specs.Opening.{opening, may_open, begun, begun_anew, trying_with, tag_of_try};
-ghost use Rattle.sctp_codec.specs.Writing.{IsChunk};
 ghost use Rattle.sctp_endpoint.specs.Settings.{address_of};
-ghost use Rattle.sctp_endpoint.specs.Replies.{chunk_of, size_of};
 ghost use Rattle.sctp_endpoint.specs.Watching.{Gives};
 ghost use Rattle.sctp_endpoint.specs.Endpoints.{Does, secrets_of, drawing_after};
 ghost use Rattle.sctp_endpoint.specs.Beginning.{begun_by, in_try, with_try};
@@ -116,7 +114,9 @@ impl Endpoint {
             (begun_by self.old.settings now failures (address_of address.now) tag self.old.state) }
     {
         self.wait_for_cookie(tag, address);
-        self.try_with(&Reply::Init(offer(tag, tag)), failures, now, watch);
+        let mut chunks = Chunks::new();
+        chunks.add(&Reply::Init(offer(tag, tag)));
+        self.try_with(chunks, failures, now, watch);
     }
 
     /// The state of a try that has begun: COOKIE-WAIT.
@@ -133,17 +133,21 @@ impl Endpoint {
         self.address = *address;
     }
 
-    /// A chunk of a try goes out, and will again until it is answered.
-    fn try_with<W: Watch>(&mut self, chunk: &Reply<'_>, failures: u32, now: u64, watch: &mut W)
-        requires size { size_of (chunk_of chunk.now) ≤ 1188 }
-        requires chunk { IsChunk (chunk_of chunk.now) }
-        requires now { now ≤ 2 ^ 63 }
+    /// The chunks of a try go out, and will again until they are answered.
+    pub(super) fn try_with<W: Watch>(
+        &mut self,
+        chunks: Chunks,
+        failures: u32,
+        now: u64,
+        watch: &mut W,
+    )
+        requires { now ≤ 2 ^ 63 }
         ensures { Does W.sent W.told watch.old watch.new self.old self.new
-            (trying_with self.old.settings now failures (chunk_of chunk.now ∷ []) self.old.state) }
+            (trying_with self.old.settings now failures chunks self.old.state) }
     {
         let address = self.address;
-        self.put(&address, self.tag_of_try(), chunk, watch);
-        self.keep_trying(chunk, failures, now);
+        self.put_all(&address, self.tag_of_try(), &chunks, watch);
+        self.keep_trying(chunks, failures, now);
     }
 
     /// The tag of a packet of a try: 0 before the peer's is known.
@@ -153,17 +157,12 @@ impl Endpoint {
         if self.far_tag == 0 { 0 } else { self.far_tag }
     }
 
-    /// A chunk is kept as that of the try, and T1 runs.
-    fn keep_trying(&mut self, chunk: &Reply<'_>, failures: u32, now: u64)
-        requires size { size_of (chunk_of chunk.now) ≤ 1188 }
-        requires chunk { IsChunk (chunk_of chunk.now) }
-        requires now { now ≤ 2 ^ 63 }
-        ensures { self.new ≡ record self.old {
-          state = with_try now failures (chunk_of chunk.now ∷ []) self.old.state;
-        } }
+    /// Chunks are kept as those of the try, and T1 runs.
+    fn keep_trying(&mut self, chunks: Chunks, failures: u32, now: u64)
+        requires { now ≤ 2 ^ 63 }
+        ensures { self.new ≡ record self.old { state = with_try now failures chunks self.old.state } }
     {
-        self.tried.clear();
-        self.tried.add(chunk);
+        self.tried = chunks;
         let t1 = now + u64::from(self.sender.timeout());
         self.attempt = Some(Attempt { failures, t1 });
     }

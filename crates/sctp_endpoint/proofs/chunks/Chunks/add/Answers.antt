@@ -1,4 +1,4 @@
-use Rattle.std.proofs.Common.{◌≡◌, ◌+◌, ◌≤◌, ℕ, List, ◌∷◌, [], ◌++◌, take, length, sum_by, sym, ap, ◌∙◌, arith}
+use Rattle.std.proofs.Common.{◌≡◌, ◌+◌, ◌≤◌, List, ◌∷◌, [], ◌++◌, take, sum_by, ap, ◌∙◌, arith}
 use Rattle.sctp_codec.specs.Packets.{ChunkValue}
 use Rattle.sctp_endpoint.proofs.Rows.{are_long, are_more}
 use Rattle.sctp_endpoint.specs.Replies.{chunk_of, size_of}

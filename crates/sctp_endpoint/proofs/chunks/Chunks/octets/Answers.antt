@@ -1,6 +1,5 @@
-use Rattle.std.proofs.Common.{length, sym, ap, ◌∙◌, arith}
+use Rattle.std.proofs.Common.{length, ap, ◌∙◌}
 use Rattle.sctp_endpoint.proofs.Rows.{row-length}
-use Rattle.sctp_endpoint.specs.ChunkRows.{row_of}
 use Rattle.sctp_endpoint.specs.Written.{chunks_in}
 use Rattle.sctp_endpoint.proofs.chunks.Chunks.octets.Goals as goal
 

@@ -1,0 +1,43 @@
+-- Cookies that come, and what a watch is given by one rule after another.
+use Rattle.std.proofs.Common.{◌≡◌, ◌<◌, ◌-◌, ℕ, false, List, ◌++◌, map, refl, sym, ap, subst, ◌∙◌, nat_eq}
+use Rattle.std.proofs.lemmas.Bool.{lt-ltb}
+use Rattle.std.proofs.lemmas.List.{append_assoc, map-append}
+use Rattle.sctp_cookie.specs.declared.cookie.Cookie.{Cookie}
+use Rattle.sctp_rules.specs.declared.loss.Loss.TheVariants.{Restart}
+use Rattle.sctp_rules.specs.Settings.{Address}
+use Rattle.sctp_rules.specs.State.{Told, Done, followed_by}
+use Rattle.sctp_rules.specs.Ending.{ended}
+use Rattle.sctp_rules.specs.Opening.{stale, staleness}
+use Rattle.sctp_endpoint.specs.Watching.{Sent, sent_as, Gives}
+use Rattle.sctp_endpoint.specs.Endpoints.{Endpoint, Does}
+use Rattle.sctp_endpoint.specs.Hearing.{heard_another, heard_in_time}
+
+pub stale-in-time : {W : Type 0} (sent : W → List Sent) (told : W → List Told) (w v : W) (e : Endpoint) (source : Address) (now : ℕ) (cookie : Cookie)
+    → nat_eq cookie.generation e.state.generation ≡ false → Gives sent told w v (stale e.settings source 1 cookie e.state)
+    → Does sent told w v e e (heard_in_time e.settings now source cookie e.state).does
+stale-in-time sent told w v e source now cookie other g = rw other (record { gives = g; left_is = refl })
+
+pub stale-late : {W : Type 0} (sent : W → List Sent) (told : W → List Told) (w v : W) (e : Endpoint) (source : Address) (now : ℕ) (cookie : Cookie) (n : ℕ)
+    → n ≡ staleness now cookie → cookie.life < now - cookie.made → Gives sent told w v (stale e.settings source n cookie e.state)
+    → Does sent told w v e e (heard_another e.settings now source cookie e.state).does
+stale-late sent told w v e source now cookie n same late g =
+    rw (lt-ltb cookie.life (now - cookie.made) late) (record {
+      gives = subst (λ (m : ℕ). Gives sent told w v (stale e.settings source m cookie e.state)) same g;
+      left_is = refl;
+    })
+
+pub lost-restarted : {W : Type 0} (sent : W → List Sent) (told : W → List Told) (w v u : W) (e f : Endpoint) (source : Address) (cookie : Cookie)
+    → Does sent told w v e f (ended e.settings Restart e.state) → Gives sent told v u (stale f.settings source 1 cookie f.state)
+    → Does sent told w u e f (followed_by (ended e.settings Restart e.state) (stale e.settings source 1 cookie))
+lost-restarted sent told w v u e f source cookie d g =
+    let first : Done = ended e.settings Restart e.state in
+    let second : Done = stale e.settings source 1 cookie first.left in
+    let h : Gives sent told v u second = subst (λ (x : Endpoint). Gives sent told v u (stale x.settings source 1 cookie x.state)) d.left_is g in
+    record {
+      gives = record {
+        sent_is = h.sent_is ∙ ap (λ (xs : List Sent). xs ++ map sent_as second.sent) d.gives.sent_is ∙ append_assoc (sent w) (map sent_as first.sent) (map sent_as second.sent)
+            ∙ ap (λ (xs : List Sent). sent w ++ xs) (sym (map-append sent_as first.sent second.sent));
+        told_is = h.told_is ∙ ap (λ (xs : List Told). xs ++ second.told) d.gives.told_is ∙ append_assoc (told w) first.told second.told;
+      };
+      left_is = d.left_is;
+    }

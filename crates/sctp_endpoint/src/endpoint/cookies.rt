@@ -1,0 +1,283 @@
+//! COOKIE ECHO that comes (RFC 9260 §5.1.5, §5.2.4).
+
+ghost use Rattle.std.specs.Prelude.{◌≡◌, ◌<◌, ◌≤◌, ◌^◌, ◌-◌, [], ◌∷◌};
+ghost use Rattle.sctp_codec.specs.Packets.{ShutdownAckChunk, ErrorChunk};
+ghost use Rattle.sctp_codec.specs.Parameters.{CookieInShutdown, cause_item};
+ghost use Rattle.sctp_rules.specs.State.{put, followed_by};
+ghost use Rattle.sctp_rules.specs.Ending.{ended};
+ghost use Rattle.sctp_rules.specs.declared.loss.Loss.TheVariants.{Restart};
+ghost use Rattle.sctp_rules.specs.Opening.{
+  opened_by,
+  acknowledged_again,
+  stale,
+  restarted,
+  echo_in_association,
+  good_echo_in,
+  heard_cookie,
+  heard_cookie_echo,
+};
+ghost use Rattle.sctp_endpoint.specs.Settings.{address_of};
+ghost use Rattle.sctp_endpoint.specs.Watching.{Gives};
+ghost use Rattle.sctp_endpoint.specs.Endpoints.{Does, secrets_of};
+ghost use Rattle.sctp_endpoint.specs.Hearing.{heard_another, heard_in_time};
+
+use crate::address::Address;
+use crate::chunks::Chunks;
+use crate::endpoint::Endpoint;
+use crate::endpoint::ties::staleness;
+use crate::peer::{Names, Peer};
+use crate::reply::Reply;
+use crate::watch::Watch;
+use sctp_codec::Cause;
+use sctp_cookie::Cookie;
+use sctp_rules::{Loss, Phase};
+
+impl Endpoint {
+    /// COOKIE ECHO came; answers whether the chunks behind it belong to the association. A cookie that this end didn't
+    /// sign, or that is another packet's, is dropped.
+    pub(super) fn hear_cookie_echo<W: Watch>(
+        &mut self,
+        source: &Address,
+        tag: u32,
+        octets: &[u8],
+        now: u64,
+        watch: &mut W,
+    ) -> bool
+        requires generation { self.old.state.generation < 2 ^ 64 - 1 }
+        requires now { now ≤ 2 ^ 63 }
+        ensures does { Does W.sent W.told watch.old watch.new self.old self.new
+            (heard_cookie_echo self.old.settings (secrets_of self.old) now tag (address_of source.now) octets.now
+            self.old.state).does }
+        ensures goes_on { result
+            ≡ (heard_cookie_echo self.old.settings (secrets_of self.old) now tag (address_of source.now) octets.now
+            self.old.state).goes_on }
+    {
+        match Cookie::open(octets, &self.cookie_key) {
+            Some(cookie) => {
+                if cookie.own_tag == tag && cookie.peer_port == self.settings.far_port {
+                    self.hear_cookie(source, &cookie, now, watch)
+                } else {
+                    false
+                }
+            }
+            None => false,
+        }
+    }
+
+    /// A cookie that this end signed came. One of the association is acknowledged again; any other opens within its
+    /// life, and in its generation alone. Else the peer is told that it is stale.
+    fn hear_cookie<W: Watch>(
+        &mut self,
+        source: &Address,
+        cookie: &Cookie,
+        now: u64,
+        watch: &mut W,
+    ) -> bool
+        requires generation { self.old.state.generation < 2 ^ 64 - 1 }
+        requires now { now ≤ 2 ^ 63 }
+        ensures does { Does W.sent W.told watch.old watch.new self.old self.new
+            (heard_cookie self.old.settings now (address_of source.now) cookie.now self.old.state).does }
+        ensures goes_on { result
+            ≡ (heard_cookie self.old.settings now (address_of source.now) cookie.now self.old.state).goes_on }
+    {
+        if self.is_of_association(cookie) {
+            self.acknowledge_first();
+            true
+        } else {
+            self.hear_another_cookie(source, cookie, now, watch)
+        }
+    }
+
+    /// A cookie came that isn't that of the association: one that is too old opens nothing.
+    fn hear_another_cookie<W: Watch>(
+        &mut self,
+        source: &Address,
+        cookie: &Cookie,
+        now: u64,
+        watch: &mut W,
+    ) -> bool
+        requires generation { self.old.state.generation < 2 ^ 64 - 1 }
+        requires now { now ≤ 2 ^ 63 }
+        ensures does { Does W.sent W.told watch.old watch.new self.old self.new
+            (heard_another self.old.settings now (address_of source.now) cookie.now self.old.state).does }
+        ensures goes_on { result
+            ≡ (heard_another self.old.settings now (address_of source.now) cookie.now self.old.state).goes_on }
+    {
+        if u64::from(cookie.life) < now.saturating_sub(cookie.made) {
+            self.tell_stale(source, staleness(now, cookie), cookie, watch);
+            false
+        } else {
+            self.hear_timely_cookie(source, cookie, now, watch)
+        }
+    }
+
+    /// A cookie came within its life: it opens in its generation alone.
+    fn hear_timely_cookie<W: Watch>(
+        &mut self,
+        source: &Address,
+        cookie: &Cookie,
+        now: u64,
+        watch: &mut W,
+    ) -> bool
+        requires generation { self.old.state.generation < 2 ^ 64 - 1 }
+        requires now { now ≤ 2 ^ 63 }
+        ensures does { Does W.sent W.told watch.old watch.new self.old self.new
+            (heard_in_time self.old.settings now (address_of source.now) cookie.now self.old.state).does }
+        ensures goes_on { result
+            ≡ (heard_in_time self.old.settings now (address_of source.now) cookie.now self.old.state).goes_on }
+    {
+        if cookie.generation == self.generation {
+            self.hear_good_cookie(source, cookie, now, watch)
+        } else {
+            self.tell_stale(source, 1, cookie, watch);
+            false
+        }
+    }
+
+    /// A good cookie came, by the state.
+    fn hear_good_cookie<W: Watch>(
+        &mut self,
+        source: &Address,
+        cookie: &Cookie,
+        now: u64,
+        watch: &mut W,
+    ) -> bool
+        requires generation { self.old.state.generation < 2 ^ 64 - 1 }
+        requires now { now ≤ 2 ^ 63 }
+        ensures does { Does W.sent W.told watch.old watch.new self.old self.new
+            (good_echo_in self.old.state.association.phase self.old.settings now (address_of source.now) cookie.now
+            self.old.state).does }
+        ensures goes_on { result
+            ≡ (good_echo_in self.old.state.association.phase self.old.settings now (address_of source.now) cookie.now
+            self.old.state).goes_on }
+    {
+        match self.phase {
+            Phase::Closed => {
+                if self.is_wanted {
+                    self.open_by(source, cookie, now, watch);
+                    true
+                } else {
+                    false
+                }
+            }
+            Phase::CookieWait => {
+                if self.is_own(cookie) {
+                    self.open_by(source, cookie, now, watch);
+                    true
+                } else {
+                    false
+                }
+            }
+            Phase::CookieEchoed => {
+                if self.is_own(cookie) && self.is_far(cookie) {
+                    self.open_by(source, cookie, now, watch);
+                    true
+                } else {
+                    false
+                }
+            }
+            Phase::Established
+            | Phase::ShutdownPending
+            | Phase::ShutdownSent
+            | Phase::ShutdownReceived
+            | Phase::ShutdownAckSent => {
+                self.hear_other_cookie(source, cookie, watch);
+                false
+            }
+        }
+    }
+
+    /// The association opens: the peer is to hear COOKIE ACK, and the user is told.
+    fn open_by<W: Watch>(&mut self, source: &Address, cookie: &Cookie, now: u64, watch: &mut W)
+        requires generation { self.old.state.generation < 2 ^ 64 - 1 }
+        requires now { now ≤ 2 ^ 63 }
+        ensures { Does W.sent W.told watch.old watch.new self.old self.new
+            (opened_by self.old.settings now (address_of source.now) cookie.now self.old.state).does }
+    {
+        let names = Names {
+            own_tag: cookie.own_tag,
+            far_tag: cookie.peer_tag,
+            own_first: cookie.own_first_tsn,
+        };
+        let peer = Peer {
+            first: cookie.peer_first_tsn,
+            window: cookie.peer_window,
+        };
+        self.open_with(names, peer, source, now, watch);
+        self.acknowledge_cookie();
+    }
+
+    /// A cookie that isn't that of the association came: where it is one of a peer that has begun anew, the association
+    /// is lost (case A).
+    fn hear_other_cookie<W: Watch>(&mut self, source: &Address, cookie: &Cookie, watch: &mut W)
+        requires { self.old.state.generation < 2 ^ 64 - 1 }
+        ensures { Does W.sent W.told watch.old watch.new self.old self.new
+            (echo_in_association self.old.state.association.phase self.old.settings (address_of source.now) cookie.now
+            self.old.state).does }
+    {
+        if !self.is_own(cookie) && !self.is_far(cookie) && self.is_tied(cookie) {
+            self.hear_restart(source, cookie, watch);
+        }
+    }
+
+    /// The peer has begun anew.
+    fn hear_restart<W: Watch>(&mut self, source: &Address, cookie: &Cookie, watch: &mut W)
+        requires { self.old.state.generation < 2 ^ 64 - 1 }
+        ensures { Does W.sent W.told watch.old watch.new self.old self.new
+            (restarted self.old.state.association.phase self.old.settings (address_of source.now) cookie.now
+            self.old.state) }
+    {
+        match self.phase {
+            Phase::ShutdownAckSent => self.refuse_in_shutdown(source, cookie, watch),
+            Phase::Closed
+            | Phase::CookieWait
+            | Phase::CookieEchoed
+            | Phase::Established
+            | Phase::ShutdownPending
+            | Phase::ShutdownSent
+            | Phase::ShutdownReceived => self.lose_restarted(source, cookie, watch),
+        }
+    }
+
+    /// The association is lost, and the peer is to begin anew once more: the user must want the next one first.
+    fn lose_restarted<W: Watch>(&mut self, source: &Address, cookie: &Cookie, watch: &mut W)
+        requires { self.old.state.generation < 2 ^ 64 - 1 }
+        ensures { Does W.sent W.told watch.old watch.new self.old self.new
+            (followed_by (ended self.old.settings Restart self.old.state)
+            (stale self.old.settings (address_of source.now) 1 cookie.now)) }
+    {
+        self.end_with(Loss::Restart, None, watch);
+        self.tell_stale(source, 1, cookie, watch);
+    }
+
+    /// In SHUTDOWN-ACK-SENT a peer that has begun anew is told so, behind another SHUTDOWN ACK.
+    fn refuse_in_shutdown<W: Watch>(&self, source: &Address, cookie: &Cookie, watch: &mut W)
+        ensures { Gives W.sent W.told watch.old watch.new
+            (put self.now.settings (address_of source.now) cookie.now.peer_tag
+            (ShutdownAckChunk ∷ ErrorChunk (cause_item CookieInShutdown ∷ []) ∷ []) self.now.state) }
+    {
+        let mut chunks = Chunks::new();
+        chunks.add(&Reply::ShutdownAck);
+        chunks.add(&Reply::Error(Cause::CookieInShutdown));
+        self.put_all(source, cookie.peer_tag, &chunks, watch);
+    }
+
+    /// The peer is told that a cookie is stale.
+    fn tell_stale<W: Watch>(
+        &self,
+        source: &Address,
+        microseconds: u32,
+        cookie: &Cookie,
+        watch: &mut W,
+    )
+        ensures { Gives W.sent W.told watch.old watch.new
+            (stale self.now.settings (address_of source.now) microseconds cookie.now self.now.state) }
+    {
+        self.put(
+            source,
+            cookie.peer_tag,
+            &Reply::Error(Cause::StaleCookie { microseconds }),
+            watch,
+        );
+    }
+}
