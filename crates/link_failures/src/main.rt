@@ -16,11 +16,12 @@
 //!   many `flows` were `out of order`.
 //! - `lost_any`, `late_any`: in how many runs an end set the flag.
 //! - `sums compared`: while no end had set `lost_any`, before each 16th step, the sums of both ends were compared: as
-//!   many messages were accepted as the other end received and as `Pair::waiting` counts, of all messages and of one of
-//!   them. That is done in every group; only the lines of the groups by chance say how often. If a sum is wrong, the
-//!   line says how many `sums` were `wrong`.
-//! - `unended`: in how many runs a link that was to open didn't, rounds never came to rest, or not all messages came
-//!   while one of several links was down, though no end had set `lost_any`.
+//!   many messages were accepted, by the outcomes and by `Pair::accepted`, as the other end received and as
+//!   `Pair::waiting` counts; and of one message as many. That is done in every group; only the lines of the groups by
+//!   chance say how often. If a sum is wrong, the line says how many `sums` were `wrong`.
+//! - `unended`: in how many runs a link that was to open didn't, rounds never came to rest, not all messages came
+//!   while one of several links was down, though no end had set `lost_any`, or an order to add or remove a translation
+//!   row didn't.
 //!
 //! That is what `Pair::accepted`, `Pair::received` and `Pair::waiting` promise, and no more. Nothing is promised after
 //! `lost_any`, so what comes then isn't judged; the numbers in brackets show how much was.
@@ -41,11 +42,12 @@
 //! - An answer late: both ends lose a link. The answer to one end's order stays behind, the link opens if it may,
 //!   carries messages and is lost again, and only then the answer comes: for each end and each link, with 0 to 3
 //!   messages that come before and 1 to 4 that are lost.
-//! - By chance: 400 steps from a seed. Of 256 steps 80 submit a message, 86 take a frame, 67 deliver one, 4 lose a link
+//! - By chance: 400 steps from a seed. Of 256 steps 78 submit a message, 86 take a frame, 67 deliver one, 4 lose a link
 //!   status, 4 double one, 3 lose a link at an end, 3 let a tick pass, 1 keeps a link from opening by an operator's
-//!   order or lets it open, 5 open a link at one end, and 3 let an end follow. The dice say whether a link status or
-//!   User Data comes next, and whether the other end loses the link before it opens at this one. Then all links are let
-//!   open, those that aren't in service come back, three times, and rounds pass until nothing is left.
+//!   order or lets it open, 2 add or remove a translation row by one, 5 open a link at one end, and 3 let an end
+//!   follow. The dice say whether a link status or User Data comes next, and whether the other end loses the link
+//!   before it opens at this one. Then all links are let open, those that aren't in service come back, three times, and
+//!   rounds pass until nothing is left.
 //!
 //! A link that fails while no other is left loses what waits for it when T1 runs out, and doesn't open before that.
 //! So in each run over one link an end sets `lost_any`: what is left to judge is that nothing comes twice or out of
@@ -65,10 +67,13 @@ mod epochs;
 mod firsts;
 mod ledger;
 mod marking;
+mod outcomes;
+mod points;
 mod random;
 mod rounds;
 mod stops;
 mod sums;
+mod titles;
 mod total;
 mod world;
 

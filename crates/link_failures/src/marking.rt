@@ -21,11 +21,13 @@ pub(crate) struct Mark {
     pub number: u16,
 }
 
-/// The message of a mark that says it is from a point, to another: two octets behind the label have its number.
-pub(crate) fn message_of(mark: Mark, from: u16, adjacent: u16) -> Option<Msu> {
+/// The message of a mark, from a point to another: two octets behind the label have its number.
+pub(crate) fn message_of(mark: Mark, own: u16, adjacent: u16) -> Option<Msu> {
+    // The point that a message says it comes from isn't checked: on every other flow it is the far one.
+    let origin = if mark.flow % 2 == 0 { own } else { adjacent };
     let label = Label {
         dpc: PointCode::new(adjacent)?,
-        opc: PointCode::new(from)?,
+        opc: PointCode::new(origin)?,
         sls: Sls::new(mark.flow)?,
     };
     let [a, b, c, d] = label.write();

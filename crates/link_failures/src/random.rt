@@ -50,7 +50,8 @@ fn step(world: &mut World, dice: &mut Dice) {
     let link = LinkId::new(dice.octet() % world.links().max(1));
     let end = thrown_end(dice);
     match chance {
-        0..=39 => world.submit(end, dice.octet() % FLOWS),
+        0..=38 => world.submit(end, dice.octet() % FLOWS),
+        39 => world.translate(end),
         40..=187 => frame_or_loss(world, dice, chance, (end, link)),
         188..=190 => world.tick(end, 1),
         191 => operate(world, dice, end, link),

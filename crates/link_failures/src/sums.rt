@@ -6,6 +6,7 @@ ghost use Rattle.std.specs.Str.{bytes_eq};
 
 use crate::book::Book;
 use crate::marking::{Mark, count_of, count_received, message_of};
+use crate::points::{other, points};
 use exchange::{Msu, Pick};
 use pair_world::End;
 use test_nodes::LinkedNodes;
@@ -45,43 +46,33 @@ impl Pick for SameMessage {
     }
 }
 
-/// Compares the sum of all messages from an end to the other, and that of one message, by the number of the step.
-pub(crate) fn compare(
-    nodes: &mut LinkedNodes,
-    from: (End, u16),
-    to: (End, u16),
-    book: &Book,
-    step: u64,
-) -> Sums {
-    let all = compare_all(nodes, from.0, to.0, book);
-    match book.mark_by(step) {
-        Some(mark) => all.and(compare_one(nodes, from, to, book, mark)),
+/// Compares the sums of all messages from an end to the other, and that of one message, which the number of this
+/// comparison chooses.
+pub(crate) fn compare(nodes: &mut LinkedNodes, from: End, book: &Book, count: u64) -> Sums {
+    let all = compare_all(nodes, from, book);
+    match book.mark_by(count) {
+        Some(mark) => all.and(compare_one(nodes, from, book, mark)),
         None => all,
     }
 }
 
-/// Compares the sum of all messages.
-fn compare_all(nodes: &mut LinkedNodes, from: End, to: End, book: &Book) -> Sums {
-    let accepted = book.accepted.len() as u128;
-    let received = nodes.received(to).len() as u128;
+/// Compares the sums of all messages: of those in the book, and of those that the pair says were accepted.
+fn compare_all(nodes: &mut LinkedNodes, from: End, book: &Book) -> Sums {
+    let received = nodes.received(other(from)).len() as u128;
     let waiting = nodes.waiting(from, &AllMessages);
-    Sums::of(accepted, received, waiting)
+    let booked = Sums::of(book.accepted.len() as u128, received, waiting);
+    booked.and(Sums::of(nodes.accepted(from).len() as u128, received, waiting))
 }
 
 /// Compares the sum of the message of a mark.
-fn compare_one(
-    nodes: &mut LinkedNodes,
-    from: (End, u16),
-    to: (End, u16),
-    book: &Book,
-    mark: Mark,
-) -> Sums {
-    let Some(message) = message_of(mark, from.1, to.1) else {
+fn compare_one(nodes: &mut LinkedNodes, from: End, book: &Book, mark: Mark) -> Sums {
+    let (own, adjacent) = points(from);
+    let Some(message) = message_of(mark, own, adjacent) else {
         return Sums::NONE;
     };
     let accepted = count_of(mark, book.accepted.as_slice()) as u128;
-    let received = count_received(mark, nodes.received(to.0)) as u128;
-    let waiting = nodes.waiting(from.0, &SameMessage { message });
+    let received = count_received(mark, nodes.received(other(from))) as u128;
+    let waiting = nodes.waiting(from, &SameMessage { message });
     Sums::of(accepted, received, waiting)
 }
 

@@ -20,8 +20,8 @@ pub(crate) struct Total {
     pub lost_any: u64,
     /// How many runs there were in which an end said that a message may be late.
     pub late_any: u64,
-    /// How many runs didn't end as they were to: a link didn't open, frames were carried for ever, or not all messages
-    /// came while the link was down, though another was left.
+    /// How many runs didn't end as they were to: a link didn't open, frames were carried for ever, not all messages
+    /// came while the link was down, though another was left, or a translation row wasn't added or removed.
     pub unended: u64,
     /// Whether memory ran out: then not all was done.
     pub starved: bool,
@@ -63,7 +63,7 @@ impl Total {
         self.frames = self.frames.wrapping_add(world.frames());
         self.lost_any = plus(self.lost_any, world.may_have_lost());
         self.late_any = plus(self.late_any, world.may_be_late());
-        self.unended = plus(self.unended, !ended);
+        self.unended = plus(self.unended, !(ended && world.kept_titles()));
     }
 }
 

@@ -2,18 +2,15 @@
 
 use crate::book::Book;
 use crate::marking::{Mark, message_of};
+use crate::outcomes::{is_accepted, is_ignored};
+use crate::points::{linked, points};
 use crate::sums::{Sums, compare};
+use crate::titles::title_step;
 use exchange::{LinkId, LinkStanding, Msu, Outcome};
 use pair_world::{End, Step};
 use std::alloc::Global;
 use std::marker::Model;
-use test_nodes::{LinkedNodes, settings_to};
-
-/// The point of the first node.
-const POINT_ONE: u16 = 1;
-
-/// The point of the second node.
-const POINT_TWO: u16 = 2;
+use test_nodes::LinkedNodes;
 
 /// Before one of so many steps the sums are compared.
 const COMPARED_EVERY: u64 = 16;
@@ -29,6 +26,8 @@ pub(crate) struct World {
     steps: u64,
     /// Whether memory ran out: then not each step was taken.
     starved: bool,
+    /// Whether each step about a translation row added or removed it.
+    kept_titles: bool,
     one: Book,
     two: Book,
     sums: Sums,
@@ -49,6 +48,7 @@ impl World {
             frames: 0,
             steps: 0,
             starved: false,
+            kept_titles: true,
             one: Book::new(alloc),
             two: Book::new(alloc),
             sums: Sums::NONE,
@@ -73,6 +73,11 @@ impl World {
     /// Whether memory ran out.
     pub(crate) fn is_starved(&self) -> bool {
         self.starved
+    }
+
+    /// Whether each step about a translation row added or removed it.
+    pub(crate) fn kept_titles(&self) -> bool {
+        self.kept_titles
     }
 
     /// What an end submitted.
@@ -208,14 +213,27 @@ impl World {
         self.act(Step::Activate(end, link));
     }
 
+    /// An operator adds a translation row, or removes it where it is there.
+    pub(crate) fn translate(&mut self, end: End) {
+        let was_there = self.has_title(end);
+        let (_, adjacent) = points(end);
+        if let Some(step) = title_step(end, was_there, adjacent) {
+            self.act(step);
+        }
+        self.kept_titles &= self.has_title(end) != was_there;
+    }
+
+    /// Whether an end has a translation row.
+    fn has_title(&self, end: End) -> bool {
+        self.nodes.shown(end).title_count() != 0
+    }
+
     /// An end submits its next message on a flow.
     pub(crate) fn submit(&mut self, end: End, flow: u8) {
         let mark = self.book(end).next_mark(flow);
         let (own, adjacent) = points(end);
-        // The point that a message says it comes from isn't checked: on every other flow it is the far one.
-        let from = if flow % 2 == 0 { own } else { adjacent };
         // There is one of each mark, since the points and the flow are in range.
-        let Some(message) = message_of(mark, from, adjacent) else {
+        let Some(message) = message_of(mark, own, adjacent) else {
             return;
         };
         let outcome = self.turn(Step::Submit(end, message));
@@ -243,20 +261,9 @@ impl World {
 
     /// Compares what either end accepted with what the other received and what waits.
     fn compare_sums(&mut self) {
-        let there = compare(
-            &mut self.nodes,
-            (End::One, POINT_ONE),
-            (End::Two, POINT_TWO),
-            &self.one,
-            self.steps,
-        );
-        let back = compare(
-            &mut self.nodes,
-            (End::Two, POINT_TWO),
-            (End::One, POINT_ONE),
-            &self.two,
-            self.steps,
-        );
+        let count = self.steps / COMPARED_EVERY;
+        let there = compare(&mut self.nodes, End::One, &self.one, count);
+        let back = compare(&mut self.nodes, End::Two, &self.two, count);
         self.sums = self.sums.and(there).and(back);
     }
 
@@ -269,36 +276,5 @@ impl World {
         let back = self.received(End::One).len();
         self.one.note(there, self.nodes.shown(End::One).late_any());
         self.two.note(back, self.nodes.shown(End::Two).late_any());
-    }
-}
-
-/// Two nodes with so many links. None where memory ran out.
-fn linked(alloc: Global, links: u8) -> Option<LinkedNodes> {
-    let one = settings_to(alloc, POINT_ONE, POINT_TWO, links).ok()?;
-    let two = settings_to(alloc, POINT_TWO, POINT_ONE, links).ok()?;
-    LinkedNodes::new(alloc, one, two).ok()
-}
-
-/// Whether a message that was submitted was accepted: it is queued or held.
-fn is_accepted(outcome: &Outcome) -> bool {
-    match outcome {
-        Outcome::Queued(_) | Outcome::Held => true,
-        _ => false,
-    }
-}
-
-/// Whether nothing came of a step.
-fn is_ignored(outcome: &Outcome) -> bool {
-    match outcome {
-        Outcome::Ignored => true,
-        _ => false,
-    }
-}
-
-/// The point of an end, and that of the other.
-fn points(end: End) -> (u16, u16) {
-    match end {
-        End::One => (POINT_ONE, POINT_TWO),
-        End::Two => (POINT_TWO, POINT_ONE),
     }
 }

@@ -44,12 +44,12 @@ opens_with_nothing-always = always _ (λ read p h link near far.
     omega (arith, h.sound.there.orders link, h.sound.back.orders link, none-said (p.line link).near.awaited near.unawaited, none-said (p.line link).far.awaited far.unawaited))
 
 pub follows_with_nothing-always : follows_with_nothing_under_way
-follows_with_nothing-always = always _ (λ read p h link follows near.
+follows_with_nothing-always = always _ (λ read p h link follows.
     omega (
       arith,
       h.sound.there.orders link,
       h.sound.back.orders link,
-      none-said (p.line link).near.awaited near.unawaited,
+      none-said (p.line link).near.awaited ((h.sound.lines link).second follows).far_may.unawaited,
       none-said (p.line link).far.awaited ((h.sound.lines link).second follows).unawaited,
     ))
 

@@ -43,8 +43,8 @@ messages_come_in_order =
     (q : Pair) (m : TakesMessage read p q) →
     slice_get (p.line m.link).far.queue.all (p.line m.link).near.queue.received ≡ Some m.message)
 
--- law (ii); and so nothing about a link is under way when it may open at both ends, or where one may
--- follow the other
+-- law (ii); and so nothing about a link is under way from either node when it may open at both ends, or
+-- where one may follow the other
 abbrev pub orders_are_awaited : Type 0
 orders_are_awaited = Always OrdersAreAwaited
 
@@ -57,8 +57,10 @@ opens_with_nothing_under_way =
 abbrev pub follows_with_nothing_under_way : Type 0
 follows_with_nothing_under_way =
     Always (λ read p.
-    (link : ℕ) → (p.line link).near_may_follow ≡ true → MayOpen (p.line link).near →
-    under_way (saying read (is_order link)) p + under_way (saying read (is_answer link)) p ≡ 0)
+    (link : ℕ) → (p.line link).near_may_follow ≡ true →
+    (under_way (saying read (is_order link)) p + under_way (saying read (is_answer link)) p)
+    + (under_way (saying read (is_order link)) (turned p) + under_way (saying read (is_answer link)) (turned p))
+    ≡ 0)
 
 -- law (iii)
 abbrev pub words_are_true : Type 0

@@ -31,7 +31,7 @@ pub fn frames_carry_what_was_not_received()
 
 /// Law (ii). Of a node's changeover orders about a link and the peer's answers about it, one
 /// message at most is under way, and only while the node awaits that answer (Q.704 §5.4). So none
-/// is when the link may open at both ends, nor where an end may follow the other.
+/// is from either node when the link may open at both ends, nor where an end may follow the other.
 pub fn orders_and_answers_are_awaited()
     ensures awaited { orders_are_awaited }
     ensures opening { opens_with_nothing_under_way }

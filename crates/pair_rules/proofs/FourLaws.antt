@@ -7,6 +7,7 @@ use Rattle.pair_moves.specs.Flowing.{Flows, IsFlowing, NamesReceived, OpensAlone
 use Rattle.pair_moves.specs.Flowing as moves
 use Rattle.pair_moves.specs.Laws.{WordsAreTrue, saying, sum_to, under_way}
 use Rattle.pair_moves.specs.Order.{join_to}
+use Rattle.pair_moves.specs.Theorems as theorems
 use Rattle.pair_moves.proofs.Concluded.{first_ends_are_alone-always, follows_with_nothing-always, lines_flow-always, numbers_name-always, opens_with_nothing-always, words_are_true-always}
 use Rattle.pair_moves.proofs.Counts.{count-append}
 use Rattle.pair_moves.proofs.Lines.{or-third, unless-true, used-by}
@@ -159,21 +160,36 @@ module _ (c z : Configuration) (a : AreFacing c z) (p : PairState) (s : Stands c
   second-none : (m n : ℕ) → m + n ≡ 0 → n ≡ 0
   second-none m n e = omega (arith, e)
 
+  opens-both : theorems.BothWays (λ q. (link : ℕ) → MayOpen (q.line link).near → MayOpen (q.line link).far
+      → under_way (saying read (is_order link)) q + under_way (saying read (is_answer link)) q ≡ 0) (shown c z w)
+  opens-both =
+      of-shown c z a p s kept (λ read q. (link : ℕ) → MayOpen (q.line link).near → MayOpen (q.line link).far
+      → under_way (saying read (is_order link)) q + under_way (saying read (is_answer link)) q ≡ 0) opens_with_nothing-always
+
+  follows-both : theorems.BothWays (λ q. (link : ℕ) → (q.line link).near_may_follow ≡ true
+      → (under_way (saying read (is_order link)) q + under_way (saying read (is_answer link)) q)
+      + (under_way (saying read (is_order link)) (ends.turned q) + under_way (saying read (is_answer link)) (ends.turned q)) ≡ 0) (shown c z w)
+  follows-both =
+      of-shown c z a p s kept (λ read q. (link : ℕ) → (q.line link).near_may_follow ≡ true
+      → (under_way (saying read (is_order link)) q + under_way (saying read (is_answer link)) q)
+      + (under_way (saying read (is_order link)) (ends.turned q) + under_way (saying read (is_answer link)) (ends.turned q)) ≡ 0) follows_with_nothing-always
+
   none-said-there : (link : ℕ) → wants_of p.near.exchange link ≡ Open → (may_open_at p.far link ≡ true) ⊎ (may_follow p.near link ≡ true)
       → under_way (saying read (is_order link)) (shown c z w) + under_way (saying read (is_answer link)) (shown c z w) ≡ 0
   none-said-there link near (inl far) =
-      (of-shown c z a p s kept (λ read q. (link : ℕ) → MayOpen (q.line link).near → MayOpen (q.line link).far
-      → under_way (saying read (is_order link)) q + under_way (saying read (is_answer link)) q ≡ 0) opens_with_nothing-always).there link
-      (may_open-end c z p.near.exchange.node link (wants-open p.near.exchange.node.parts link near))
-      (may_open-at p.far.exchange.node link far)
-  none-said-there link near (inr follows) =
-      (of-shown c z a p s kept (λ read q. (link : ℕ) → (q.line link).near_may_follow ≡ true → MayOpen (q.line link).near
-      → under_way (saying read (is_order link)) q + under_way (saying read (is_answer link)) q ≡ 0) follows_with_nothing-always).there link
-      follows (may_open-end c z p.near.exchange.node link (wants-open p.near.exchange.node.parts link near))
+      opens-both.there link (may_open-end c z p.near.exchange.node link (wants-open p.near.exchange.node.parts link near)) (may_open-at p.far.exchange.node link far)
+  none-said-there link near (inr follows) = first-none _ _ (follows-both.there link follows)
 
-  none-left-there : (link : ℕ) → wants_of p.near.exchange link ≡ Open → (may_open_at p.far link ≡ true) ⊎ (may_follow p.near link ≡ true) → (word : Word) → IsUnderWay p word → word.link ≢ link
-  none-left-there link near next word u same =
-      let none : under_way (saying read (is_order link)) (shown c z w) + under_way (saying read (is_answer link)) (shown c z w) ≡ 0 = none-said-there link near next in
+  -- the same, where it is the far end that wants to open
+  none-said-back : (link : ℕ) → wants_of p.far.exchange link ≡ Open → (may_open_at p.near link ≡ true) ⊎ (may_follow p.far link ≡ true)
+      → under_way (saying read (is_order link)) (shown c z w) + under_way (saying read (is_answer link)) (shown c z w) ≡ 0
+  none-said-back link far (inl near) =
+      opens-both.there link (may_open-at p.near.exchange.node link near) (may_open-end z c p.far.exchange.node link (wants-open p.far.exchange.node.parts link far))
+  none-said-back link far (inr follows) = second-none _ _ (follows-both.back link follows)
+
+  none-left-there : (link : ℕ) → under_way (saying read (is_order link)) (shown c z w) + under_way (saying read (is_answer link)) (shown c z w) ≡ 0
+      → (word : Word) → IsUnderWay p word → word.link ≢ link
+  none-left-there link none word u same =
       let no : true ≡ false =
       ⊎_elim
       (λ (e : read u.message ≡ Order word.link word.number).
@@ -186,9 +202,16 @@ module _ (c z : Configuration) (a : AreFacing c z) (p : PairState) (s : Stands c
       is-here : nat_eq word.link link ≡ true
       is-here = ap (λ (k : ℕ). nat_eq word.link k) (sym same) ∙ same-link word.link
 
-  pub left-there : NoneIsLeft p
-  left-there link near next word u =
-      none-left-there link near next word (⊎_elim (λ (h : IsUnderWay p word). h) (λ (h : IsInFlight p word). flying-stands word h) u)
+  stands-there : (word : Word) → IsUnderWay p word ⊎ IsInFlight p word → IsUnderWay p word
+  stands-there word u = ⊎_elim (λ (h : IsUnderWay p word). h) (λ (h : IsInFlight p word). flying-stands word h) u
+
+  pub near-left : (link : ℕ) → wants_of p.near.exchange link ≡ Open → (may_open_at p.far link ≡ true) ⊎ (may_follow p.near link ≡ true)
+      → (word : Word) → IsUnderWay p word ⊎ IsInFlight p word → word.link ≢ link
+  near-left link near next word u = none-left-there link (none-said-there link near next) word (stands-there word u)
+
+  pub back-left : (link : ℕ) → wants_of p.far.exchange link ≡ Open → (may_open_at p.near link ≡ true) ⊎ (may_follow p.far link ≡ true)
+      → (word : Word) → IsUnderWay p word ⊎ IsInFlight p word → word.link ≢ link
+  back-left link far next word u = none-left-there link (none-said-back link far next) word (stands-there word u)
 
   -- ---- (iii)
 
@@ -225,6 +248,14 @@ module _ (c z : Configuration) (a : AreFacing c z) (p : PairState) (s : Stands c
 
   pub named-there : (link : ℕ) → is_in_use p link ≡ true → named_count (queue_of p.near link) (last_accepted (queue_of p.far link)) ≡ Some (queue_of p.far link).received
   named-there = (of-shown c z a p s kept (λ read q. (link : ℕ) → NamesReceived (q.line link)) numbers_name-always).there
+
+pub left-there : (c z : Configuration) (a : AreFacing c z) (p : PairState) → Stands c z p → LostNothing p → NoneIsLeft p
+left-there c z a p s kept link near next word u =
+    ⊎_elim (λ (h : IsUnderWay p word). near-left c z a p s kept link near next word (inl h))
+    (⊎_elim (λ (h : IsInFlight p word). near-left c z a p s kept link near next word (inr h))
+    (λ (h : IsUnderWay (turned p) word ⊎ IsInFlight (turned p) word).
+    back-left z c (facing-back c z a) (turned p) (stands-turned c z a p s) (record { near = kept.far; far = kept.near }) link near next word h))
+    u
 
 pub lacked-there : (c z : Configuration) (a : AreFacing c z) (p : PairState) → Stands c z p → LostNothing p → MovesLacked p
 lacked-there c z a p s kept = record {

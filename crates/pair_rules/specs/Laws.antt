@@ -75,8 +75,8 @@ NextIsFirst p link =
     slice_get (in_flight p.far.incoming.user_data link) 0 ≡ Some text → new_message link text p.far.exchange ≡ Some message →
     slice_get (queue_of p.near link).all (queue_of p.far link).received ≡ Some message
 
--- while the far end may follow, the near one, which opened first, isn't in service and has the queue with which it
--- began; nothing is in flight to it, and no message to the far end, where the link may open
+-- while the far end may follow, the link may open there, and the near one, which opened first, isn't in service and has
+-- the queue with which it began; nothing is in flight to it, and no message to the far end
 pub record OpenedAlone (p : PairState) (link : ℕ) : Type 0 where
   pub alone : may_follow p.near link ≡ false
   pub far_may : may_open_at p.far link ≡ true
@@ -154,12 +154,14 @@ pub record IsInFlight (p : PairState) (word : Word) : Type 0 where
   pub says : word_of p.far.exchange.settings message ≡ Some word
 
 -- where the near end wants a link to open, and it may open at the far end too, or the near end may follow that, no word
--- about it is under way or in flight
+-- about it is under way or in flight, from either end
 abbrev pub NoneIsLeft : PairState → Type 0
 NoneIsLeft p =
     (link : ℕ) → wants_of p.near.exchange link ≡ Open →
     (may_open_at p.far link ≡ true) ⊎ (may_follow p.near link ≡ true) →
-    (word : Word) → IsUnderWay p word ⊎ IsInFlight p word → word.link ≢ link
+    (word : Word) →
+    IsUnderWay p word ⊎ IsInFlight p word ⊎ IsUnderWay (turned p) word ⊎ IsInFlight (turned p) word →
+    word.link ≢ link
 
 abbrev pub none_is_left : Type 0
 none_is_left = WhileNothingIsLost NoneIsLeft

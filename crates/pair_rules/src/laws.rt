@@ -30,7 +30,7 @@ pub fn each_flow_keeps_its_order()
 /// end's changeover of it is complete, unless an end may follow the other, the far end received no
 /// fewer messages than are confirmed, and no more than were sent; and while the link isn't down
 /// there, the User Data in flight carry those between, in order (RFC 4165 §2.2). No link status
-/// carries a message. While the far end may follow, where the link may open, the near one isn't in
+/// carries a message. While the far end may follow, the link may open there, and the near one isn't in
 /// service and has an empty queue; nothing is in flight to it, and no message to the far end. A
 /// message that a frame newly carries is the first that the far end lacked.
 pub fn frames_carry_what_was_not_received()

@@ -137,7 +137,8 @@ impl Pair {
     /// that the other end accepted there, or in Held. So while neither end may have lost a message, as many were
     /// accepted as the other end received and as wait, between any two steps.
     ///
-    /// It looks at each message that waits once, and copies none. Each link's count has 64 bits, and their sum 128.
+    /// Nothing changes. It steps over the messages that the other end accepted and that aren't confirmed yet, looks at
+    /// each message behind them and in Held once, and copies none. Each link's count has 64 bits, and their sum 128.
     pub fn waiting<P: Pick>(&mut self, end: End, pick: &P) -> u128
         ensures waiting { (p : PairState) → StandsFor self.old p →
             result ≡ count_by (promises.user (P.picks pick.now)) (promises.waiting (seen_from end p)) }

@@ -37,7 +37,8 @@ pub enum Step {
     Activate(End, LinkId),
     /// The operator of an end keeps a link from opening; it fails there if it isn't down.
     Deactivate(End, LinkId),
-    /// The operator of an end adds a translation row.
+    /// The operator of an end adds a translation row. Refused DuplicateRow where there is one with its key and digits,
+    /// else TableFull, else NoMemory where memory for it is refused.
     AddTitle(End, TitleRow),
     /// The operator of an end removes the translation row of this key and these digits.
     RemoveTitle(End, TitleKey, TitleDigits),

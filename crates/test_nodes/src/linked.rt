@@ -74,6 +74,11 @@ impl LinkedNodes {
         waiting(&mut self.pair, end, pick)
     }
 
+    /// The user messages that an end accepted.
+    pub fn accepted(&self, end: End) -> &[Msu] {
+        self.pair.accepted(end)
+    }
+
     /// The user messages that an end received.
     pub fn received(&self, end: End) -> &[Msu] {
         self.pair.received(end)
