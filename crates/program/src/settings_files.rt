@@ -13,7 +13,7 @@ use crate::program::Status;
 use script::Sink;
 use settings::Settings;
 use settings_file::{document_in, read_document};
-use std::alloc::{AllocError, Global};
+use std::alloc::Global;
 use toml::Table;
 
 /// The settings of a node in a file, after warnings of unknown keys; or how the program ends without them.
@@ -80,10 +80,12 @@ fn parsed<W: Sink, E: Sink>(
     ensures ended { IfErr result (EndsAtFile file.now (Ok octets.now) (W.output writer.old) (W.output writer.new)
         (E.output errors.old) (E.output errors.new)) }
 {
-    match document_in(alloc, file, octets) {
-        Ok(Ok(document)) => Ok(document),
-        Ok(Err(why)) => Err(tell_no_document(why.as_str(), writer, errors)),
-        Err(AllocError) => Err(tell_no_memory(writer)),
+    let Ok(read) = document_in(alloc, file, octets) else {
+        return Err(tell_no_memory(writer));
+    };
+    match read {
+        Ok(document) => Ok(document),
+        Err(why) => Err(tell_no_document(why.as_str(), writer, errors)),
     }
 }
 
