@@ -135,7 +135,8 @@ told_messages_were_given = (near far : Make) → Always near far DeliverBoth
 pub record AreTogether (opened other : State) : Type 0 where
   pub there :
       stage_of other.association.phase ≡ There →
-      (other.association.own_tag ≡ opened.association.far_tag) × (other.association.far_tag ≡ opened.association.own_tag)
+      (other.association.own_tag ≡ opened.association.far_tag)
+      × (other.association.far_tag ≡ opened.association.own_tag)
   pub echoing :
       stage_of other.association.phase ≡ Echoing → other.association.own_tag ≡ opened.association.far_tag →
       (other.association.far_tag ≡ opened.association.own_tag) × (other.is_wanted ≡ true)
