@@ -2,3 +2,4 @@ pub mod Rows
 pub mod Draws
 pub mod Answering
 pub mod Hearing
+pub mod Complaining

@@ -1,10 +1,10 @@
 -- The chunks that an endpoint sends, as values.
 use Rattle.std.specs.Prelude.{ℕ, false, true, List, [], ◌∷◌, length, Option, Some, None}
 use Rattle.std.specs.Borrow.{Bor}
-use Rattle.sctp_codec.specs.Items.{item_octets}
+use Rattle.sctp_codec.specs.Items.{ItemValue, item_octets}
 use Rattle.sctp_codec.specs.Packets as value
 use Rattle.sctp_codec.specs.Packets.{ChunkValue}
-use Rattle.sctp_codec.specs.Parameters.{cause_item}
+use Rattle.sctp_codec.specs.Parameters.{cause_item, unrecognized_parameters}
 use Rattle.sctp_codec.specs.Causes.{cause_of}
 use Rattle.sctp_codec.specs.Values.{offer_with}
 use Rattle.sctp_codec.specs.Writing.{chunk_octets}
@@ -38,3 +38,8 @@ last_of (Some chunk) = chunk_of chunk.now ∷ []
 abbrev pub size_of_last : Option (Bor Reply) → ℕ
 size_of_last None = 0
 size_of_last (Some chunk) = size_of (chunk_of chunk.now)
+
+-- ERROR with parameters that are to be reported, where there are any
+abbrev pub complaint_of : List ItemValue → List ChunkValue
+complaint_of [] = []
+complaint_of (item ∷ items) = value.ErrorChunk (unrecognized_parameters (item ∷ items) ∷ []) ∷ []

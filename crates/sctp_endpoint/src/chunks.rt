@@ -3,13 +3,19 @@
 ghost use Rattle.std.specs.Prelude.{◌≡◌, ◌+◌, ◌≤◌, [], ◌∷◌, ◌++◌, length, sum_by};
 ghost use Rattle.sctp_codec.specs.Packets.{CookieAckChunk};
 ghost use Rattle.sctp_codec.specs.Writing.{IsChunk};
-ghost use Rattle.sctp_endpoint.specs.Replies.{chunk_of, size_of};
+ghost use Rattle.sctp_codec.specs.Parameters.{complained_of};
+ghost use Rattle.sctp_codec.specs.Values.{items_of};
+ghost use Rattle.sctp_rules.specs.Opening.{echo_of};
+ghost use Rattle.sctp_endpoint.specs.Replies.{chunk_of, size_of, complaint_of};
 ghost use Rattle.sctp_endpoint.specs.ChunkRows.{row_of};
 
 use crate::packets::{blank, write_at};
 use crate::reply::Reply;
-use sctp_codec::{PacketBuffer, write_cookie_ack};
+use sctp_codec::{Items, PacketBuffer, write_cookie_ack, write_unrecognized_parameters};
 use std::marker::Model;
+
+/// Octets of an ERROR whose cause has no parameters.
+const EMPTY_ERROR_OCTETS: usize = 8;
 
 /// Chunks in the order in which they go out, 1,188 octets at most: those of a packet behind its header.
 #[derive(Drop)]
@@ -84,5 +90,28 @@ impl Chunks {
         let at = write_cookie_ack(&mut octets, 0);
         self.end = write_at(&mut octets, at, &self.octets[..self.end]);
         self.octets = octets;
+    }
+
+    /// Appends an ERROR with the parameters of an INIT ACK that are to be reported, where there are any.
+    pub fn complain(&mut self, parameters: Items<'_>)
+        requires { sum_by size_of self.old + 520 ≤ 1188 }
+        ensures { self.new ≡ self.old ++ complaint_of (complained_of (items_of parameters.entry)) }
+    {
+        let mut error = blank();
+        let end = write_unrecognized_parameters(&mut error, 0, parameters);
+        if EMPTY_ERROR_OCTETS < end {
+            self.end = write_at(&mut self.octets, self.end, &error[..end]);
+        }
+    }
+
+    /// The echo of a cookie, and behind it what INIT ACK had that isn't known.
+    pub fn echoing(cookie: &[u8], parameters: Items<'_>) -> Chunks
+        requires { length cookie.now ≤ 660 }
+        ensures { result ≡ echo_of cookie.now (complained_of (items_of parameters.entry)) }
+    {
+        let mut chunks = Chunks::new();
+        chunks.add(&Reply::CookieEcho(cookie));
+        chunks.complain(parameters);
+        chunks
     }
 }

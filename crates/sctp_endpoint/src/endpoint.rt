@@ -4,10 +4,13 @@ ghost use Rattle.std.specs.Prelude.{◌≡◌, ◌≤◌, ◌^◌, IfOk};
 ghost use Rattle.sctp_rules.specs.State.{first_state, no_association, with_association};
 ghost use Rattle.sctp_endpoint.specs.Settings.{settings_of};
 
+mod aborts;
 mod answering;
+mod beating;
 mod cookies;
 mod echoing;
 mod ending;
+mod init_acks;
 mod opening;
 mod replying;
 mod retrying;
