@@ -1,5 +1,5 @@
 -- What the program does with a file of settings, by what its document says.
-use Rattle.std.proofs.Common.{◌≡◌, ◌⊎◌, ℕ, List, Result, Ok, Err, refl, subst, inl, inr, codes}
+use Rattle.std.proofs.Common.{◌≡◌, ◌⊎◌, ℕ, List, Ok, Err, refl, subst, inl, inr, codes}
 use Rattle.std.proofs.lemmas.Option.{none-some}
 use Rattle.std.specs.Str.{IsUtf8}
 use Rattle.settings_rows.specs.Configuration.{Configuration}
