@@ -5,23 +5,26 @@ use Rattle.std.specs.List.{Contains}
 use Rattle.std.proofs.lemmas.Grind.{common_steps}
 use Rattle.sctp_codec.specs.Packets.{PacketValue}
 use Rattle.sctp_rules.specs.Settings.{Settings, Secrets}
-use Rattle.sctp_rules.specs.State.{State, Datagram, Done}
+use Rattle.sctp_rules.specs.State.{Association, State, Datagram, Told, Up, Heard, Down, Failed, Done}
+use Rattle.sctp_rules.specs.Openings.{openings}
 use Rattle.sctp_rules.specs.Endpoint.{Happening, Opens, Came, Ticked, Sends, Aborts, ShutsDown, Flushes, after}
 use Rattle.sctp_moves.specs.Numbers.{modulus, window}
-use Rattle.sctp_moves.specs.Ends.{Message, Epoch, End, new_end, Ends, new_ends, turned}
-use Rattle.sctp_moves.specs.Moves.{last_end, Moves, last_of}
+use Rattle.sctp_moves.specs.Ends.{Message, Name, Epoch, End, new_end, Ends, new_ends, turned}
+use Rattle.sctp_moves.specs.Moves.{EndMoves, last_end, Moves, last_of}
 use Rattle.sctp_moves.specs.Theorems.{both, AreMoves, BothWays, AreOne, CarriesOver, Carries, HasOther, OwnTagsDiffer, FarTagsDiffer, AreInOrder}
 use Rattle.sctp_moves.proofs.Joining.{near-moves, far-moves, moves-join}
-use Rattle.sctp_moves.proofs.Concluded.{prefix-always, received-always, own-always, far-always, order-always, first-always, second-always}
+use Rattle.sctp_moves.proofs.Concluded.{prefix-always, received-always, own-always, far-always, order-always}
 use Rattle.sctp_moves.proofs.Keeping.{IsSound, turned-sound, sound-always}
+use Rattle.sctp_moves.proofs.Sides.{Tie, tie}
+use Rattle.sctp_moves.proofs.Turns.{LastOpened, last-opened}
 use Rattle.sctp_moves.proofs.Members.{In, in-from, contains-from, in-place}
 use Rattle.sctp_ends.specs.Said.{Each, load, since, young, IsSaid}
-use Rattle.sctp_ends.specs.Shown.{AreGood, Waits, stage_of, Shows}
-use Rattle.sctp_ends.specs.Told.{told_by, opened_by, given_by}
+use Rattle.sctp_ends.specs.Shown.{AreGood, Waits, Stage, stage_of, own_name, far_name, IsIn, IsPresent, IsEchoing, IsWaiting, Shows}
+use Rattle.sctp_ends.specs.Told.{with_last, text_told, told_by, opened_by, given_by}
 use Rattle.sctp_ends.specs.Theorems.{GoesOn, steps_go_on}
-use Rattle.sctp_ends.specs.Worlds.{Site, new_site, count, messages_at, marked_by, emitted, with_done, World, Make, new_world, MayHappen, at_near, at_far, Steps, last_world}
+use Rattle.sctp_ends.specs.Worlds.{Site, new_site, count, messages_at, marked_by, emitted, with_done, World, Make, new_world, MayHappen, at_near, at_far, Step, Steps, last_world}
 use Rattle.sctp_ends.specs.Theorems.{Heeds, received_in, sent_in, AreReached, steps_are_moves, IsEmitted, ShowsSite, IsShown, worlds_are_shown}
-use Rattle.sctp_ends.specs.Theorems.{Delivers, told_messages_were_given, OpensInTurn, associations_have_the_laws}
+use Rattle.sctp_ends.specs.Theorems.{Delivers, told_messages_were_given, AreTogether, HasOpened, OpensTogether, associations_have_the_laws}
 use Rattle.sctp_ends.proofs.Said.{each-append, each-weaker, each-contains, more-said, said-older, Older}
 use Rattle.sctp_ends.proofs.Alike.{Outcome, told-append}
 use Rattle.sctp_ends.proofs.Pass.{happens}
@@ -239,29 +242,109 @@ all-shown near far good fine list m =
 
 -- ---- the laws of associations
 
-moves-before : (p : Ends) (before more : List Ends) → Moves p (before ++ more) → Moves p before
-moves-before p [] more m = tt
-moves-before p (q ∷ before) more m = (m.0, moves-before q before more m.1)
+with-last-long : (m : Message) (lists : List (List Message)) → length (with_last m lists) ≡ length lists
+with-last-long m [] = refl
+with-last-long m (latest ∷ past) = refl
 
-openings-so : (before : List Ends) → Moves new_ends before → BothWays OpensInTurn (last_of new_ends before)
-openings-so before m =
-    let a = first-always before m in
-    let b = second-always before m in
+opened-many : (lists : List (List Message)) (tolds : List Told) → length (told_by lists tolds) ≡ length lists + openings tolds
+opened-many lists [] = omega arith
+opened-many lists (Up ∷ more) =
+    let r : length (told_by ([] ∷ lists) more) ≡ length ([] ∷ lists) + openings more = opened-many ([] ∷ lists) more in
+    grind (arith, common_steps, r)
+opened-many lists (Heard m ∷ more) =
+    let r : length (told_by (with_last (text_told m) lists) more) ≡ length (with_last (text_told m) lists) + openings more =
+    opened-many (with_last (text_told m) lists) more in
+    omega (arith, r, with-last-long (text_told m) lists)
+opened-many lists (Down why ∷ more) = opened-many lists more
+opened-many lists (Failed why ∷ more) = opened-many lists more
+
+received-long : (epochs : List Epoch) → length (map (λ (x : Epoch). x.received) epochs) ≡ length epochs
+received-long [] = refl
+received-long (e ∷ epochs) = ap suc (received-long epochs)
+
+epochs-many : (own far : Secrets) (e : End) (site : Site) → ShowsSite own far e site → length e.epochs ≡ openings site.told
+epochs-many own far e site h =
+    let a : length (told_by [] site.told) ≡ 0 + openings site.told = opened-many [] site.told in
+    let b : length (received_in e) ≡ length (told_by [] site.told) = ap (λ (lists : List (List Message)). length lists) h.told in
+    omega (arith, a, b, received-long e.epochs)
+
+not-more : (n : ℕ) → n < n → ⊥
+not-more n l = omega (arith, l)
+
+first-of : (t u : Tie) (ts us : List Tie) → t ∷ ts ≡ u ∷ us → t ≡ u
+first-of t u ts us e = cc
+
+-- an endpoint whose moves open an association, and the other one
+together : (own far : Secrets) (x y : End) (list : List End) → EndMoves y x list → IsSound x y → (before site other : Site) →
+    ShowsSite own far x before → ShowsSite own far (last_end x list) site → ShowsSite far own y other → HasOpened before site →
+    AreTogether site.state other.state
+together own far x y list m sound before site other was now h opened =
+    let f : End = last_end x list in
+    let a : Association = site.state.association in
+    let b : Association = other.state.association in
+    let l : LastOpened y f =
+    last-opened x y list m sound (omega (arith, opened.told, epochs-many own far x before was, epochs-many own far f site now)) in
+    let e : Epoch = l.epoch in
+    let here : IsPresent f a = subst (λ (stage : Stage). IsIn stage f site.state.is_wanted a) opened.there now.state.stage in
+    let same : tie here.epoch ≡ tie e =
+    first-of (tie here.epoch) (tie e) (map tie here.past) l.past (sym (ap (λ (es : List Epoch). map tie es) here.now) ∙ l.latest) in
+    let own-is : e.own.tag ≡ a.own_tag = sym (ap (λ (t : Tie). t.own.tag) same) ∙ ap (λ (n : Name). n.tag) here.own in
+    let far-is : e.far.tag ≡ a.far_tag = sym (ap (λ (t : Tie). t.far.tag) same) ∙ ap (λ (n : Name). n.tag) here.far in
     record {
-      there = record { first = a.there; second = b.there };
-      back = record { first = a.back; second = b.back };
+      there = λ q.
+          let o : IsPresent y b = subst (λ (stage : Stage). IsIn stage y other.state.is_wanted b) q h.state.stage in
+          let one : AreOne e o.epoch = l.meets.latest o.epoch o.past o.up o.now in
+          (sym (ap (λ (n : Name). n.tag) o.own) ∙ sym one.back ∙ far-is, sym (ap (λ (n : Name). n.tag) o.far) ∙ sym one.there ∙ own-is);
+      echoing = λ q t.
+          let o : IsEchoing y other.state.is_wanted b = subst (λ (stage : Stage). IsIn stage y other.state.is_wanted b) q h.state.stage in
+          (l.meets.echoing (own_name b) (far_name b) o.phase (t ∙ sym far-is) ∙ own-is, o.wanted_is);
+      waiting = λ q t.
+          let o : IsWaiting y other.state.is_wanted b = subst (λ (stage : Stage). IsIn stage y other.state.is_wanted b) q h.state.stage in
+          l.meets.waiting (own_name b) o.phase (t ∙ sym far-is);
     }
+
+opens-together : (near far : Make) (w v : World) → IsShown near far w → AreGood near.secrets → AreGood far.secrets → Step near far w v →
+    OpensTogether w v
+opens-together near far w v h good fine (at_near what may is) =
+    let k : Secrets = near.secrets in
+    let l : Secrets = far.secrets in
+    let x : End = h.ends.near in
+    let y : End = h.ends.far in
+    let sound : IsSound x y = shown-sound near far w h in
+    let r : Outcome k l w.near.mark y x (given_by what w.near.state (sent_in x)) (after near.settings k what w.near.state) =
+    happens k l w.near.mark y good near.settings what w.near.state (heeds k l y w.far what h.far_end may) x sound h.near_end.state in
+    let left : Site = with_done what (after near.settings k what w.near.state) w.near in
+    subst (λ (u : World). OpensTogether w u) (sym is)
+    (record {
+      near = λ opened. together k l x y r.list r.moves sound w.near left w.far h.near_end (site-after k l near.settings y x what w.near h.near_end r) h.far_end opened;
+      far = λ opened. absurd (not-more (openings w.far.told) opened.told);
+    })
+opens-together near far w v h good fine (at_far what may is) =
+    let k : Secrets = far.secrets in
+    let l : Secrets = near.secrets in
+    let x : End = h.ends.far in
+    let y : End = h.ends.near in
+    let sound : IsSound x y = turned-sound y x (shown-sound near far w h) in
+    let r : Outcome k l w.far.mark y x (given_by what w.far.state (sent_in x)) (after far.settings k what w.far.state) =
+    happens k l w.far.mark y fine far.settings what w.far.state (heeds k l y w.near what h.near_end may) x sound h.far_end.state in
+    let left : Site = with_done what (after far.settings k what w.far.state) w.far in
+    subst (λ (u : World). OpensTogether w u) (sym is)
+    (record {
+      near = λ opened. absurd (not-more (openings w.near.told) opened.told);
+      far = λ opened. together k l x y r.list r.moves sound w.far left w.near h.far_end (site-after k l far.settings y x what w.far h.far_end r) h.near_end opened;
+    })
 
 pub have-the-laws : associations_have_the_laws
 have-the-laws near far good fine list m =
-    let h : IsShown near far (last_world (new_world near far) list) = all-shown near far good fine list m in
+    let w : World = last_world (new_world near far) list in
+    let h : IsShown near far w = all-shown near far good fine list m in
     record {
       shown = h;
       carries = subst (BothWays CarriesOver) h.last (prefix-always h.list h.moves);
       own_tags = subst (BothWays OwnTagsDiffer) h.last (own-always h.list h.moves);
       far_tags = subst (BothWays FarTagsDiffer) h.last (far-always h.list h.moves);
       order = subst (BothWays AreInOrder) h.last (order-always h.list h.moves);
-      openings = λ before more is. openings-so before (moves-before new_ends before more (subst (Moves new_ends) is h.moves));
+      openings = λ v step. opens-together near far w v h good fine step;
     }
 
 -- ---- what was told was given

@@ -1,16 +1,15 @@
 -- Each step of an endpoint is a list of moves of the end that it shows; and what holds of two endpoints after every
 -- list of steps.
-use Rattle.std.specs.Prelude.{◌≡◌, ◌⊎◌, ◌<◌, ◌≤◌, ℕ, List, [], ◌++◌, length, map, slice_get, take, Some}
-use Rattle.std.specs.List.{Contains}
+use Rattle.std.specs.Prelude.{◌≡◌, ◌≢◌, ◌⊎◌, ◌<◌, ◌≤◌, ℕ, true, List, [], ◌++◌, length, map, slice_get, take, Some}
 use Rattle.sctp_rules.specs.Settings.{Settings, Secrets}
 use Rattle.sctp_rules.specs.State.{State, Done}
 use Rattle.sctp_rules.specs.Endpoint.{Happening, Came, after}
-use Rattle.sctp_moves.specs.Ends.{Message, Epoch, End, Ends, new_ends}
+use Rattle.sctp_rules.specs.Openings.{openings}
+use Rattle.sctp_moves.specs.Ends.{Message, End, Ends, new_ends}
 use Rattle.sctp_moves.specs.Moves.{EndMoves, last_end, Moves, last_of}
-use Rattle.sctp_moves.specs.Theorems.{BothWays, AreOne, CarriesOver, OwnTagsDiffer, FarTagsDiffer, AreInOrder}
-use Rattle.sctp_moves.specs.Theorems.{Opens, Awaits, both}
+use Rattle.sctp_moves.specs.Theorems.{BothWays, CarriesOver, OwnTagsDiffer, FarTagsDiffer, AreInOrder, both}
 use Rattle.sctp_ends.specs.Said.{Each, load, since, young, IsSaid, AreSaid}
-use Rattle.sctp_ends.specs.Shown.{AreGood, Shows}
+use Rattle.sctp_ends.specs.Shown.{AreGood, Waiting, Echoing, There, stage_of, Shows}
 use Rattle.sctp_ends.specs.Told.{told_by, opened_by, given_by}
 use Rattle.sctp_ends.specs.Worlds.{Emitted, Site, World, Make, new_world, Step, Steps, last_world}
 
@@ -131,23 +130,37 @@ told_messages_were_given = (near far : Make) → Always near far DeliverBoth
 
 -- ---- the laws of associations
 
--- an end that opens an association first finds the other waiting, or given up; one that opens it second enters the
--- other's latest one
-pub record OpensInTurn (p : Ends) : Type 0 where
-  pub first :
-      (q : End) (e : Epoch) → Opens p q e → ((f : Epoch) → Contains p.far.epochs f → AreOne e f → ⊥) → Awaits p.far e
-  pub second :
-      (q : End) (e f : Epoch) → Opens p q e → Contains p.far.epochs f → AreOne e f → slice_get p.far.epochs 0 ≡ Some f
+-- an endpoint has just opened an association, and this is the other one. If that has one, it is the same. Else, if it
+-- tries by the tag of that one, it waits for COOKIE ACK of it, and its user wants it
+pub record AreTogether (opened other : State) : Type 0 where
+  pub there :
+      stage_of other.association.phase ≡ There →
+      (other.association.own_tag ≡ opened.association.far_tag)
+      × (other.association.far_tag ≡ opened.association.own_tag)
+  pub echoing :
+      stage_of other.association.phase ≡ Echoing → other.association.own_tag ≡ opened.association.far_tag →
+      (other.association.far_tag ≡ opened.association.own_tag) × (other.is_wanted ≡ true)
+  pub waiting :
+      stage_of other.association.phase ≡ Waiting → other.association.own_tag ≢ opened.association.far_tag
 
--- the associations of two endpoints have the laws of `sctp_moves`; those of openings at each move of each step
+-- the user of the near endpoint was told Up by a step, and there is an association after it
+pub record HasOpened (before site : Site) : Type 0 where
+  pub told : openings before.told < openings site.told
+  pub there : stage_of site.state.association.phase ≡ There
+
+-- whichever of them opens one
+pub record OpensTogether (w v : World) : Type 0 where
+  pub near : HasOpened w.near v.near → AreTogether v.near.state v.far.state
+  pub far : HasOpened w.far v.far → AreTogether v.far.state v.near.state
+
+-- the associations of two endpoints have the laws of `sctp_moves`; those of openings at the next step
 pub record AreAssociated (near far : Make) (w : World) : Type 0 where
   pub shown : IsShown near far w
   pub carries : BothWays CarriesOver shown.ends
   pub own_tags : BothWays OwnTagsDiffer shown.ends
   pub far_tags : BothWays FarTagsDiffer shown.ends
   pub order : BothWays AreInOrder shown.ends
-  pub openings :
-      (before more : List Ends) → shown.list ≡ before ++ more → BothWays OpensInTurn (last_of new_ends before)
+  pub openings : (v : World) → Step near far w v → OpensTogether w v
 
 abbrev pub associations_have_the_laws : Type 0
 associations_have_the_laws = (near far : Make) → Always near far (AreAssociated near far)

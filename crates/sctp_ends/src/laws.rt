@@ -23,15 +23,16 @@ pub fn steps_of_two_endpoints_go_on()
     ensures { steps_go_on }
 {}
 
-/// Each association in which one user was told something is matched with one of the other user, no two with the same one
-/// and in the same order; and what was told in it is the beginning of what the other gave in that one. So each message
-/// is told once, in order, whole.
+/// Each association in which one user was told something is matched with one of the other user, no two with the same
+/// one and in the same order; and what was told in it is the beginning of what the other gave in that one. So each
+/// message is told once, in order, whole.
 pub fn told_messages_come_in_order()
     ensures { told_messages_were_given }
 {}
 
-/// The associations of two endpoints have the laws of `sctp_moves`: "prefix" and "confirmed", "one", "order", and at
-/// each opening "first" and "second".
+/// The associations of two endpoints have the laws of `sctp_moves`: "prefix" and "confirmed", "one", "order". And where
+/// a step opens an association at one of them, which is there after it, the other one has the same or none; and if that
+/// tries by its tag of this one, it waits for COOKIE ACK of it, and its user wants it.
 pub fn associations_of_two_endpoints_have_the_laws()
     ensures { associations_have_the_laws }
 {}

@@ -78,7 +78,7 @@ far-always = always FarTagsDiffer far-differ
 -- ---- first, second
 
 -- what an opening is: by a cookie, or by COOKIE ACK
-data IsOpened (x y : End) (e : Epoch) : Type 0 where
+pub data IsOpened (x y : End) (e : Epoch) : Type 0 where
   by_cookie : (c : Cookie) → In c y.echoes → c.generation ≡ x.generation → MayOpen x.phase c → x.wanted ≡ true → e ≡ new_epoch c.own c.far → IsOpened x y e
   by_ack : (own far : Name) → x.phase ≡ CookieEchoed own far → In own.tag y.cookie_acks → e ≡ new_epoch own far → IsOpened x y e
 
@@ -91,7 +91,7 @@ still-down s r e up down = down (sym e ∙ up)
 not-up : (s r : Phase) → r ≡ s → IsDown s → r ≡ Established → ⊥
 not-up s r e down up = subst IsDown (sym e ∙ up) down
 
-opened-by : (x y z : End) (e : Epoch) (past : List Epoch) → EndMove y x z → x.phase ≢ Established → z.phase ≡ Established → z.epochs ≡ e ∷ past → IsOpened x y e
+pub opened-by : (x y z : End) (e : Epoch) (past : List Epoch) → EndMove y x z → x.phase ≢ Established → z.phase ≡ Established → z.epochs ≡ e ∷ past → IsOpened x y e
 opened-by x y z e past (moves.wants m) down up now = absurd (still-down x.phase z.phase (ap (λ (w : End). w.phase) m.after) up down)
 opened-by x y z e past (moves.begins m) down up now = absurd (not-up (CookieWait m.own) z.phase (ap (λ (w : End). w.phase) m.after) tt up)
 opened-by x y z e past (moves.renews m) down up now = absurd (not-up (CookieWait m.own) z.phase (ap (λ (w : End). w.phase) m.after) tt up)
@@ -119,7 +119,7 @@ echoed-phase (CookieWait own) n m e = absurd e
 echoed-phase (CookieEchoed own far) n m e = ap (λ (k : Name). CookieEchoed k far) (sym e.0) ∙ ap (λ (k : Name). CookieEchoed n k) (sym e.1)
 echoed-phase Established n m e = absurd e
 
-down-phase : (s : Phase) → IsDown s → s ≢ Established
+pub down-phase : (s : Phase) → IsDown s → s ≢ Established
 down-phase s d e = subst IsDown e d
 
 -- a side that isn't up either tries nothing, or one thing
@@ -185,7 +185,7 @@ no-tie y e t is absent i =
     let f : (k : Epoch) × In k y.epochs × (tie k ≡ back t) = in-unmap tie y.epochs (back t) i in
     absent f.0 (contains-from y.epochs f.0 f.1) (same-one e f.0 t is f.2)
 
-first-by : (x y : End) (e : Epoch) → IsSound x y → IsOpened x y e → HasNone y e → Awaits y e
+pub first-by : (x y : End) (e : Epoch) → IsSound x y → IsOpened x y e → HasNone y e → Awaits y e
 first-by x y e h (by_ack own far echoed there is) absent =
     let g : AreSides (record (side_of x) { phase = CookieEchoed own far }) (side_of y) =
     subst (λ (s : Phase). AreSides (record (side_of x) { phase = s }) (side_of y)) echoed h.sides in
@@ -216,7 +216,7 @@ enters x y t o hy e f is i one =
     let l : IsLatest (map tie y.epochs) (back t) = o.second (subst (λ (u : Tie). In u (map tie y.epochs)) turned_same (in-map tie y.epochs f i)) in
     latest-is y.epochs f hy.apart i (subst (IsLatest (map tie y.epochs)) (sym turned_same) l)
 
-second-by : (x y : End) (e f : Epoch) → IsSound x y → IsOpened x y e → In f y.epochs → AreOne e f → slice_get y.epochs 0 ≡ Some f
+pub second-by : (x y : End) (e f : Epoch) → IsSound x y → IsOpened x y e → In f y.epochs → AreOne e f → slice_get y.epochs 0 ≡ Some f
 second-by x y e f h (by_cookie c there present may wanted is) i one =
     enters (side_of x) y (tying c.own c.far) (opening-cookie (side_of x) (side_of y) h.sides wanted c there present may) h.sides.far e f is i one
 second-by x y e f h (by_ack own far echoed there is) i one =

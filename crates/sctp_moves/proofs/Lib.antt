@@ -8,3 +8,4 @@ pub mod Keeping
 pub mod Concluded
 pub mod Happening
 pub mod Joining
+pub mod Turns

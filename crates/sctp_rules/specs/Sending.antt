@@ -1,5 +1,6 @@
 -- Messages that are taken, and packets that go out (RFC 9260 §6.1, §6.10).
-use Rattle.std.specs.Prelude.{ℕ, Bool, true, false, ◌+◌, ◌&&◌, List, [], ◌∷◌, ◌++◌, Option, Some, map, nat_lt, if◌then◌else◌}
+use Rattle.std.specs.Prelude.{ℕ, Bool, true, false, ◌+◌, ◌&&◌, List, [], ◌∷◌, ◌++◌, Option, Some, map, nat_lt}
+use Rattle.std.specs.Prelude.{if◌then◌else◌}
 use Rattle.sctp_sending.specs.Outgoing.{Message}
 use Rattle.sctp_sending.specs.Sending.{given}
 use Rattle.sctp_sending.specs.Sending as half
