@@ -12,9 +12,9 @@ use Rattle.sctp_sending.specs.declared.confirmation.Confirmation.{Confirmation}
 use Rattle.sctp_sending.specs.declared.confirmation.Confirmation.TheVariants.{Old, Beyond, Of}
 use Rattle.sctp_sending.specs.Outgoing as outgoing
 use Rattle.sctp_sending.specs.Outgoing.{Outgoing, new_outgoing, no_message, outgoing_at, tsn_at, ahead_of}
-use Rattle.sctp_sending.specs.Sending.{Sending, given, next_place, gone_next, gone_again, gone_first, confirmation, after_sack, after_cumulative, after_t3}
+use Rattle.sctp_sending.specs.Sending.{Sending, given, next_place, gone_next, gone_again, gone_first, confirmation, after_sack, after_cumulative, after_t3, stopped}
 use Rattle.sctp_sending.specs.Outgoing.{gone_out, lost_from}
-use Rattle.sctp_rules.specs.Confirming.{data_at, going, gone_from, only_gone}
+use Rattle.sctp_rules.specs.Confirming.{data_at, going, gone_from}
 use Rattle.sctp_rules.specs.GivenMessages as courses
 use Rattle.sctp_rules.specs.GivenMessages.{Course, IsInOrder, IsGiven, message_of, counted}
 use Rattle.sctp_rules.proofs.GivenMessages.{IsCourse, call-so, kept-at, next-within, timed-alike, left-over}
@@ -263,7 +263,8 @@ distance-is first acked number = omega arith
 
 -- ---- what didn't go out is dropped
 
-pub gone-only : (e : End) (epoch : Epoch) (b : Bool) (s : Sending) → SendsOut e epoch b s → SendsOut e epoch false (only_gone s)
+pub gone-only : (e : End) (epoch : Epoch) (b : Bool) (s : Sending) → SendsOut e epoch b s → SendsOut e epoch false (stopped s)
+unfolding stopped
 gone-only e epoch b s h =
     let many : ℕ = epoch.acked + s.went in
     let long : length s.out ≡ length h.given - epoch.acked = out-length e epoch b s h in

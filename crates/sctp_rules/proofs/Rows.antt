@@ -4,255 +4,255 @@ use Rattle.sctp_rules.specs.Endpoint.{after}
 use Rattle.sctp_rules.specs.Confirming.{going}
 use Rattle.sctp_sending.specs.Outgoing.{lost_from}
 use Rattle.sctp_sending.specs.Sending.{named_below, passed_below, given, next_place, gone_again, gone_first, confirmation}
-use Rattle.sctp_sending.specs.Sending.{confirmed, settled, acknowledged, after_t3}
+use Rattle.sctp_sending.specs.Sending.{confirmed, settled, acknowledged, after_t3, stopped}
 use Rattle.sctp_receiving.specs.Receiver.{drained}
 use Rattle.sctp_receiving.specs.Sack.{run_from, blocks_from}
 use Rattle.sctp_rules.specs.Rows as rows
 
 pub try_begins : rows.try_begins
-unfolding after going drained run_from blocks_from lost_from named_below passed_below given next_place gone_again gone_first confirmation confirmed settled acknowledged after_t3
+unfolding after going drained run_from blocks_from lost_from named_below passed_below given next_place gone_again gone_first confirmation confirmed settled acknowledged after_t3 stopped
 try_begins = record { phase_is = refl; sent_is = refl; told_is = refl }
 
 pub init_is_answered : rows.init_is_answered
-unfolding after going drained run_from blocks_from lost_from named_below passed_below given next_place gone_again gone_first confirmation confirmed settled acknowledged after_t3
+unfolding after going drained run_from blocks_from lost_from named_below passed_below given next_place gone_again gone_first confirmation confirmed settled acknowledged after_t3 stopped
 init_is_answered = record { phase_is = refl; sent_is = refl; told_is = refl }
 
 pub cookie_is_echoed : rows.cookie_is_echoed
-unfolding after going drained run_from blocks_from lost_from named_below passed_below given next_place gone_again gone_first confirmation confirmed settled acknowledged after_t3
+unfolding after going drained run_from blocks_from lost_from named_below passed_below given next_place gone_again gone_first confirmation confirmed settled acknowledged after_t3 stopped
 cookie_is_echoed = record { phase_is = refl; sent_is = refl; told_is = refl }
 
 pub cookie_opens : rows.cookie_opens
-unfolding after going drained run_from blocks_from lost_from named_below passed_below given next_place gone_again gone_first confirmation confirmed settled acknowledged after_t3
+unfolding after going drained run_from blocks_from lost_from named_below passed_below given next_place gone_again gone_first confirmation confirmed settled acknowledged after_t3 stopped
 cookie_opens = record { phase_is = refl; sent_is = refl; told_is = refl }
 
 pub cookie_is_acknowledged : rows.cookie_is_acknowledged
-unfolding after going drained run_from blocks_from lost_from named_below passed_below given next_place gone_again gone_first confirmation confirmed settled acknowledged after_t3
+unfolding after going drained run_from blocks_from lost_from named_below passed_below given next_place gone_again gone_first confirmation confirmed settled acknowledged after_t3 stopped
 cookie_is_acknowledged = record { phase_is = refl; sent_is = refl; told_is = refl }
 
 pub acknowledgement_opens : rows.acknowledgement_opens
-unfolding after going drained run_from blocks_from lost_from named_below passed_below given next_place gone_again gone_first confirmation confirmed settled acknowledged after_t3
+unfolding after going drained run_from blocks_from lost_from named_below passed_below given next_place gone_again gone_first confirmation confirmed settled acknowledged after_t3 stopped
 acknowledgement_opens = record { phase_is = refl; sent_is = refl; told_is = refl }
 
 pub unwanted_init_is_dropped : rows.unwanted_init_is_dropped
-unfolding after going drained run_from blocks_from lost_from named_below passed_below given next_place gone_again gone_first confirmation confirmed settled acknowledged after_t3
+unfolding after going drained run_from blocks_from lost_from named_below passed_below given next_place gone_again gone_first confirmation confirmed settled acknowledged after_t3 stopped
 unwanted_init_is_dropped = record { phase_is = refl; sent_is = refl; told_is = refl }
 
 pub unwanted_cookie_is_dropped : rows.unwanted_cookie_is_dropped
-unfolding after going drained run_from blocks_from lost_from named_below passed_below given next_place gone_again gone_first confirmation confirmed settled acknowledged after_t3
+unfolding after going drained run_from blocks_from lost_from named_below passed_below given next_place gone_again gone_first confirmation confirmed settled acknowledged after_t3 stopped
 unwanted_cookie_is_dropped = record { phase_is = refl; sent_is = refl; told_is = refl }
 
 pub heartbeat_out_of_the_blue : rows.heartbeat_out_of_the_blue
-unfolding after going drained run_from blocks_from lost_from named_below passed_below given next_place gone_again gone_first confirmation confirmed settled acknowledged after_t3
+unfolding after going drained run_from blocks_from lost_from named_below passed_below given next_place gone_again gone_first confirmation confirmed settled acknowledged after_t3 stopped
 heartbeat_out_of_the_blue = record { phase_is = refl; sent_is = refl; told_is = refl }
 
 pub cookie_ack_out_of_the_blue : rows.cookie_ack_out_of_the_blue
-unfolding after going drained run_from blocks_from lost_from named_below passed_below given next_place gone_again gone_first confirmation confirmed settled acknowledged after_t3
+unfolding after going drained run_from blocks_from lost_from named_below passed_below given next_place gone_again gone_first confirmation confirmed settled acknowledged after_t3 stopped
 cookie_ack_out_of_the_blue = record { phase_is = refl; sent_is = refl; told_is = refl }
 
 pub shutdown_ack_out_of_the_blue : rows.shutdown_ack_out_of_the_blue
-unfolding after going drained run_from blocks_from lost_from named_below passed_below given next_place gone_again gone_first confirmation confirmed settled acknowledged after_t3
+unfolding after going drained run_from blocks_from lost_from named_below passed_below given next_place gone_again gone_first confirmation confirmed settled acknowledged after_t3 stopped
 shutdown_ack_out_of_the_blue = record { phase_is = refl; sent_is = refl; told_is = refl }
 
 pub init_goes_out_again : rows.init_goes_out_again
-unfolding after going drained run_from blocks_from lost_from named_below passed_below given next_place gone_again gone_first confirmation confirmed settled acknowledged after_t3
+unfolding after going drained run_from blocks_from lost_from named_below passed_below given next_place gone_again gone_first confirmation confirmed settled acknowledged after_t3 stopped
 init_goes_out_again = record { phase_is = refl; sent_is = refl; told_is = refl }
 
 pub try_fails : rows.try_fails
-unfolding after going drained run_from blocks_from lost_from named_below passed_below given next_place gone_again gone_first confirmation confirmed settled acknowledged after_t3
+unfolding after going drained run_from blocks_from lost_from named_below passed_below given next_place gone_again gone_first confirmation confirmed settled acknowledged after_t3 stopped
 try_fails = record { phase_is = refl; sent_is = refl; told_is = refl }
 
 pub try_is_refused : rows.try_is_refused
-unfolding after going drained run_from blocks_from lost_from named_below passed_below given next_place gone_again gone_first confirmation confirmed settled acknowledged after_t3
+unfolding after going drained run_from blocks_from lost_from named_below passed_below given next_place gone_again gone_first confirmation confirmed settled acknowledged after_t3 stopped
 try_is_refused = record { phase_is = refl; sent_is = refl; told_is = refl }
 
 pub another_init_begins_anew : rows.another_init_begins_anew
-unfolding after going drained run_from blocks_from lost_from named_below passed_below given next_place gone_again gone_first confirmation confirmed settled acknowledged after_t3
+unfolding after going drained run_from blocks_from lost_from named_below passed_below given next_place gone_again gone_first confirmation confirmed settled acknowledged after_t3 stopped
 another_init_begins_anew = record { phase_is = refl; sent_is = refl; told_is = refl }
 
 pub with_another_tag : rows.with_another_tag
-unfolding after going drained run_from blocks_from lost_from named_below passed_below given next_place gone_again gone_first confirmation confirmed settled acknowledged after_t3
+unfolding after going drained run_from blocks_from lost_from named_below passed_below given next_place gone_again gone_first confirmation confirmed settled acknowledged after_t3 stopped
 with_another_tag = refl
 
 pub cookie_is_acknowledged_again : rows.cookie_is_acknowledged_again
-unfolding after going drained run_from blocks_from lost_from named_below passed_below given next_place gone_again gone_first confirmation confirmed settled acknowledged after_t3
+unfolding after going drained run_from blocks_from lost_from named_below passed_below given next_place gone_again gone_first confirmation confirmed settled acknowledged after_t3 stopped
 cookie_is_acknowledged_again = record { phase_is = refl; sent_is = refl; told_is = refl }
 
 pub cookie_opens_once : rows.cookie_opens_once
-unfolding after going drained run_from blocks_from lost_from named_below passed_below given next_place gone_again gone_first confirmation confirmed settled acknowledged after_t3
+unfolding after going drained run_from blocks_from lost_from named_below passed_below given next_place gone_again gone_first confirmation confirmed settled acknowledged after_t3 stopped
 cookie_opens_once = record { phase_is = refl; sent_is = refl; told_is = refl }
 
 pub restart_is_a_loss : rows.restart_is_a_loss
-unfolding after going drained run_from blocks_from lost_from named_below passed_below given next_place gone_again gone_first confirmation confirmed settled acknowledged after_t3
+unfolding after going drained run_from blocks_from lost_from named_below passed_below given next_place gone_again gone_first confirmation confirmed settled acknowledged after_t3 stopped
 restart_is_a_loss = record { phase_is = refl; sent_is = refl; told_is = refl }
 
 pub data_goes_out : rows.data_goes_out
-unfolding after going drained run_from blocks_from lost_from named_below passed_below given next_place gone_again gone_first confirmation confirmed settled acknowledged after_t3
+unfolding after going drained run_from blocks_from lost_from named_below passed_below given next_place gone_again gone_first confirmation confirmed settled acknowledged after_t3 stopped
 data_goes_out = record { phase_is = refl; sent_is = refl; told_is = refl }
 
 pub data_is_told : rows.data_is_told
-unfolding after going drained run_from blocks_from lost_from named_below passed_below given next_place gone_again gone_first confirmation confirmed settled acknowledged after_t3
+unfolding after going drained run_from blocks_from lost_from named_below passed_below given next_place gone_again gone_first confirmation confirmed settled acknowledged after_t3 stopped
 data_is_told = record { phase_is = refl; sent_is = refl; told_is = refl }
 
 pub data_is_confirmed : rows.data_is_confirmed
-unfolding after going drained run_from blocks_from lost_from named_below passed_below given next_place gone_again gone_first confirmation confirmed settled acknowledged after_t3
+unfolding after going drained run_from blocks_from lost_from named_below passed_below given next_place gone_again gone_first confirmation confirmed settled acknowledged after_t3 stopped
 data_is_confirmed = record { phase_is = refl; sent_is = refl; told_is = refl }
 
 pub confirmation_frees : rows.confirmation_frees
-unfolding after going drained run_from blocks_from lost_from named_below passed_below given next_place gone_again gone_first confirmation confirmed settled acknowledged after_t3
+unfolding after going drained run_from blocks_from lost_from named_below passed_below given next_place gone_again gone_first confirmation confirmed settled acknowledged after_t3 stopped
 confirmation_frees = refl
 
 pub data_is_told_once : rows.data_is_told_once
-unfolding after going drained run_from blocks_from lost_from named_below passed_below given next_place gone_again gone_first confirmation confirmed settled acknowledged after_t3
+unfolding after going drained run_from blocks_from lost_from named_below passed_below given next_place gone_again gone_first confirmation confirmed settled acknowledged after_t3 stopped
 data_is_told_once = record { phase_is = refl; sent_is = refl; told_is = refl }
 
 pub repeated_data_is_confirmed : rows.repeated_data_is_confirmed
-unfolding after going drained run_from blocks_from lost_from named_below passed_below given next_place gone_again gone_first confirmation confirmed settled acknowledged after_t3
+unfolding after going drained run_from blocks_from lost_from named_below passed_below given next_place gone_again gone_first confirmation confirmed settled acknowledged after_t3 stopped
 repeated_data_is_confirmed = record { phase_is = refl; sent_is = refl; told_is = refl }
 
 pub data_goes_out_again : rows.data_goes_out_again
-unfolding after going drained run_from blocks_from lost_from named_below passed_below given next_place gone_again gone_first confirmation confirmed settled acknowledged after_t3
+unfolding after going drained run_from blocks_from lost_from named_below passed_below given next_place gone_again gone_first confirmation confirmed settled acknowledged after_t3 stopped
 data_goes_out_again = record { phase_is = refl; sent_is = refl; told_is = refl }
 
 pub confirming_too_much_is_a_violation : rows.confirming_too_much_is_a_violation
-unfolding after going drained run_from blocks_from lost_from named_below passed_below given next_place gone_again gone_first confirmation confirmed settled acknowledged after_t3
+unfolding after going drained run_from blocks_from lost_from named_below passed_below given next_place gone_again gone_first confirmation confirmed settled acknowledged after_t3 stopped
 confirming_too_much_is_a_violation = record { phase_is = refl; sent_is = refl; told_is = refl }
 
 pub wrong_tag_is_dropped : rows.wrong_tag_is_dropped
-unfolding after going drained run_from blocks_from lost_from named_below passed_below given next_place gone_again gone_first confirmation confirmed settled acknowledged after_t3
+unfolding after going drained run_from blocks_from lost_from named_below passed_below given next_place gone_again gone_first confirmation confirmed settled acknowledged after_t3 stopped
 wrong_tag_is_dropped = record { phase_is = refl; sent_is = refl; told_is = refl }
 
 pub abort_is_sent : rows.abort_is_sent
-unfolding after going drained run_from blocks_from lost_from named_below passed_below given next_place gone_again gone_first confirmation confirmed settled acknowledged after_t3
+unfolding after going drained run_from blocks_from lost_from named_below passed_below given next_place gone_again gone_first confirmation confirmed settled acknowledged after_t3 stopped
 abort_is_sent = record { phase_is = refl; sent_is = refl; told_is = refl }
 
 pub abort_is_a_loss : rows.abort_is_a_loss
-unfolding after going drained run_from blocks_from lost_from named_below passed_below given next_place gone_again gone_first confirmation confirmed settled acknowledged after_t3
+unfolding after going drained run_from blocks_from lost_from named_below passed_below given next_place gone_again gone_first confirmation confirmed settled acknowledged after_t3 stopped
 abort_is_a_loss = record { phase_is = refl; sent_is = refl; told_is = refl }
 
 pub shutdown_is_sent : rows.shutdown_is_sent
-unfolding after going drained run_from blocks_from lost_from named_below passed_below given next_place gone_again gone_first confirmation confirmed settled acknowledged after_t3
+unfolding after going drained run_from blocks_from lost_from named_below passed_below given next_place gone_again gone_first confirmation confirmed settled acknowledged after_t3 stopped
 shutdown_is_sent = record { phase_is = refl; sent_is = refl; told_is = refl }
 
 pub shutdown_is_a_loss : rows.shutdown_is_a_loss
-unfolding after going drained run_from blocks_from lost_from named_below passed_below given next_place gone_again gone_first confirmation confirmed settled acknowledged after_t3
+unfolding after going drained run_from blocks_from lost_from named_below passed_below given next_place gone_again gone_first confirmation confirmed settled acknowledged after_t3 stopped
 shutdown_is_a_loss = record { phase_is = refl; sent_is = refl; told_is = refl }
 
 pub shutdown_is_answered : rows.shutdown_is_answered
-unfolding after going drained run_from blocks_from lost_from named_below passed_below given next_place gone_again gone_first confirmation confirmed settled acknowledged after_t3
+unfolding after going drained run_from blocks_from lost_from named_below passed_below given next_place gone_again gone_first confirmation confirmed settled acknowledged after_t3 stopped
 shutdown_is_answered = record { phase_is = refl; sent_is = refl; told_is = refl }
 
 pub shutdown_is_complete : rows.shutdown_is_complete
-unfolding after going drained run_from blocks_from lost_from named_below passed_below given next_place gone_again gone_first confirmation confirmed settled acknowledged after_t3
+unfolding after going drained run_from blocks_from lost_from named_below passed_below given next_place gone_again gone_first confirmation confirmed settled acknowledged after_t3 stopped
 shutdown_is_complete = record { phase_is = refl; sent_is = refl; told_is = refl }
 
 pub completion_ends : rows.completion_ends
-unfolding after going drained run_from blocks_from lost_from named_below passed_below given next_place gone_again gone_first confirmation confirmed settled acknowledged after_t3
+unfolding after going drained run_from blocks_from lost_from named_below passed_below given next_place gone_again gone_first confirmation confirmed settled acknowledged after_t3 stopped
 completion_ends = record { phase_is = refl; sent_is = refl; told_is = refl }
 
 pub both_begin : rows.both_begin
-unfolding after going drained run_from blocks_from lost_from named_below passed_below given next_place gone_again gone_first confirmation confirmed settled acknowledged after_t3
+unfolding after going drained run_from blocks_from lost_from named_below passed_below given next_place gone_again gone_first confirmation confirmed settled acknowledged after_t3 stopped
 both_begin = record { phase_is = refl; sent_is = refl; told_is = refl }
 
 pub cookie_opens_a_try : rows.cookie_opens_a_try
-unfolding after going drained run_from blocks_from lost_from named_below passed_below given next_place gone_again gone_first confirmation confirmed settled acknowledged after_t3
+unfolding after going drained run_from blocks_from lost_from named_below passed_below given next_place gone_again gone_first confirmation confirmed settled acknowledged after_t3 stopped
 cookie_opens_a_try = record { phase_is = refl; sent_is = refl; told_is = refl }
 
 pub cookie_goes_out_again : rows.cookie_goes_out_again
-unfolding after going drained run_from blocks_from lost_from named_below passed_below given next_place gone_again gone_first confirmation confirmed settled acknowledged after_t3
+unfolding after going drained run_from blocks_from lost_from named_below passed_below given next_place gone_again gone_first confirmation confirmed settled acknowledged after_t3 stopped
 cookie_goes_out_again = record { phase_is = refl; sent_is = refl; told_is = refl }
 
 pub cookie_is_too_old : rows.cookie_is_too_old
-unfolding after going drained run_from blocks_from lost_from named_below passed_below given next_place gone_again gone_first confirmation confirmed settled acknowledged after_t3
+unfolding after going drained run_from blocks_from lost_from named_below passed_below given next_place gone_again gone_first confirmation confirmed settled acknowledged after_t3 stopped
 cookie_is_too_old = record { phase_is = refl; sent_is = refl; told_is = refl }
 
 pub stale_cookie_begins_anew : rows.stale_cookie_begins_anew
-unfolding after going drained run_from blocks_from lost_from named_below passed_below given next_place gone_again gone_first confirmation confirmed settled acknowledged after_t3
+unfolding after going drained run_from blocks_from lost_from named_below passed_below given next_place gone_again gone_first confirmation confirmed settled acknowledged after_t3 stopped
 stale_cookie_begins_anew = record { phase_is = refl; sent_is = refl; told_is = refl }
 
 pub unusable_init_ack_ends_the_try : rows.unusable_init_ack_ends_the_try
-unfolding after going drained run_from blocks_from lost_from named_below passed_below given next_place gone_again gone_first confirmation confirmed settled acknowledged after_t3
+unfolding after going drained run_from blocks_from lost_from named_below passed_below given next_place gone_again gone_first confirmation confirmed settled acknowledged after_t3 stopped
 unusable_init_ack_ends_the_try = record { phase_is = refl; sent_is = refl; told_is = refl }
 
 pub giving_up_is_told : rows.giving_up_is_told
-unfolding after going drained run_from blocks_from lost_from named_below passed_below given next_place gone_again gone_first confirmation confirmed settled acknowledged after_t3
+unfolding after going drained run_from blocks_from lost_from named_below passed_below given next_place gone_again gone_first confirmation confirmed settled acknowledged after_t3 stopped
 giving_up_is_told = record { phase_is = refl; sent_is = refl; told_is = refl }
 
 pub init_is_answered_anew : rows.init_is_answered_anew
-unfolding after going drained run_from blocks_from lost_from named_below passed_below given next_place gone_again gone_first confirmation confirmed settled acknowledged after_t3
+unfolding after going drained run_from blocks_from lost_from named_below passed_below given next_place gone_again gone_first confirmation confirmed settled acknowledged after_t3 stopped
 init_is_answered_anew = record { phase_is = refl; sent_is = refl; told_is = refl }
 
 pub heartbeat_is_answered : rows.heartbeat_is_answered
-unfolding after going drained run_from blocks_from lost_from named_below passed_below given next_place gone_again gone_first confirmation confirmed settled acknowledged after_t3
+unfolding after going drained run_from blocks_from lost_from named_below passed_below given next_place gone_again gone_first confirmation confirmed settled acknowledged after_t3 stopped
 heartbeat_is_answered = record { phase_is = refl; sent_is = refl; told_is = refl }
 
 pub heartbeat_goes_out : rows.heartbeat_goes_out
-unfolding after going drained run_from blocks_from lost_from named_below passed_below given next_place gone_again gone_first confirmation confirmed settled acknowledged after_t3
+unfolding after going drained run_from blocks_from lost_from named_below passed_below given next_place gone_again gone_first confirmation confirmed settled acknowledged after_t3 stopped
 heartbeat_goes_out = record { phase_is = refl; sent_is = refl; told_is = refl }
 
 pub silence_is_a_loss : rows.silence_is_a_loss
-unfolding after going drained run_from blocks_from lost_from named_below passed_below given next_place gone_again gone_first confirmation confirmed settled acknowledged after_t3
+unfolding after going drained run_from blocks_from lost_from named_below passed_below given next_place gone_again gone_first confirmation confirmed settled acknowledged after_t3 stopped
 silence_is_a_loss = record { phase_is = refl; sent_is = refl; told_is = refl }
 
 pub answer_ends_the_beat : rows.answer_ends_the_beat
-unfolding after going drained run_from blocks_from lost_from named_below passed_below given next_place gone_again gone_first confirmation confirmed settled acknowledged after_t3
+unfolding after going drained run_from blocks_from lost_from named_below passed_below given next_place gone_again gone_first confirmation confirmed settled acknowledged after_t3 stopped
 answer_ends_the_beat = refl
 
 pub unknown_chunk_is_reported : rows.unknown_chunk_is_reported
-unfolding after going drained run_from blocks_from lost_from named_below passed_below given next_place gone_again gone_first confirmation confirmed settled acknowledged after_t3
+unfolding after going drained run_from blocks_from lost_from named_below passed_below given next_place gone_again gone_first confirmation confirmed settled acknowledged after_t3 stopped
 unknown_chunk_is_reported = record { phase_is = refl; sent_is = refl; told_is = refl }
 
 pub unknown_chunk_is_passed_over : rows.unknown_chunk_is_passed_over
-unfolding after going drained run_from blocks_from lost_from named_below passed_below given next_place gone_again gone_first confirmation confirmed settled acknowledged after_t3
+unfolding after going drained run_from blocks_from lost_from named_below passed_below given next_place gone_again gone_first confirmation confirmed settled acknowledged after_t3 stopped
 unknown_chunk_is_passed_over = record { phase_is = refl; sent_is = refl; told_is = refl }
 
 pub data_without_data_is_a_violation : rows.data_without_data_is_a_violation
-unfolding after going drained run_from blocks_from lost_from named_below passed_below given next_place gone_again gone_first confirmation confirmed settled acknowledged after_t3
+unfolding after going drained run_from blocks_from lost_from named_below passed_below given next_place gone_again gone_first confirmation confirmed settled acknowledged after_t3 stopped
 data_without_data_is_a_violation = record { phase_is = refl; sent_is = refl; told_is = refl }
 
 pub shutdown_is_pending : rows.shutdown_is_pending
-unfolding after going drained run_from blocks_from lost_from named_below passed_below given next_place gone_again gone_first confirmation confirmed settled acknowledged after_t3
+unfolding after going drained run_from blocks_from lost_from named_below passed_below given next_place gone_again gone_first confirmation confirmed settled acknowledged after_t3 stopped
 shutdown_is_pending = record { phase_is = refl; sent_is = refl; told_is = refl }
 
 pub shutdown_follows_confirmation : rows.shutdown_follows_confirmation
-unfolding after going drained run_from blocks_from lost_from named_below passed_below given next_place gone_again gone_first confirmation confirmed settled acknowledged after_t3
+unfolding after going drained run_from blocks_from lost_from named_below passed_below given next_place gone_again gone_first confirmation confirmed settled acknowledged after_t3 stopped
 shutdown_follows_confirmation = record { phase_is = refl; sent_is = refl; told_is = refl }
 
 pub shutdown_goes_out_again : rows.shutdown_goes_out_again
-unfolding after going drained run_from blocks_from lost_from named_below passed_below given next_place gone_again gone_first confirmation confirmed settled acknowledged after_t3
+unfolding after going drained run_from blocks_from lost_from named_below passed_below given next_place gone_again gone_first confirmation confirmed settled acknowledged after_t3 stopped
 shutdown_goes_out_again = record { phase_is = refl; sent_is = refl; told_is = refl }
 
 pub shutdown_guard_ends_it : rows.shutdown_guard_ends_it
-unfolding after going drained run_from blocks_from lost_from named_below passed_below given next_place gone_again gone_first confirmation confirmed settled acknowledged after_t3
+unfolding after going drained run_from blocks_from lost_from named_below passed_below given next_place gone_again gone_first confirmation confirmed settled acknowledged after_t3 stopped
 shutdown_guard_ends_it = record { phase_is = refl; sent_is = refl; told_is = refl }
 
 pub init_is_answered_by_shutdown_ack : rows.init_is_answered_by_shutdown_ack
-unfolding after going drained run_from blocks_from lost_from named_below passed_below given next_place gone_again gone_first confirmation confirmed settled acknowledged after_t3
+unfolding after going drained run_from blocks_from lost_from named_below passed_below given next_place gone_again gone_first confirmation confirmed settled acknowledged after_t3 stopped
 init_is_answered_by_shutdown_ack = record { phase_is = refl; sent_is = refl; told_is = refl }
 
 pub shutdown_meets_shutdown : rows.shutdown_meets_shutdown
-unfolding after going drained run_from blocks_from lost_from named_below passed_below given next_place gone_again gone_first confirmation confirmed settled acknowledged after_t3
+unfolding after going drained run_from blocks_from lost_from named_below passed_below given next_place gone_again gone_first confirmation confirmed settled acknowledged after_t3 stopped
 shutdown_meets_shutdown = record { phase_is = refl; sent_is = refl; told_is = refl }
 
 pub data_with_the_peers_tag_is_dropped : rows.data_with_the_peers_tag_is_dropped
-unfolding after going drained run_from blocks_from lost_from named_below passed_below given next_place gone_again gone_first confirmation confirmed settled acknowledged after_t3
+unfolding after going drained run_from blocks_from lost_from named_below passed_below given next_place gone_again gone_first confirmation confirmed settled acknowledged after_t3 stopped
 data_with_the_peers_tag_is_dropped = record { phase_is = refl; sent_is = refl; told_is = refl }
 
 pub abort_is_not_answered : rows.abort_is_not_answered
-unfolding after going drained run_from blocks_from lost_from named_below passed_below given next_place gone_again gone_first confirmation confirmed settled acknowledged after_t3
+unfolding after going drained run_from blocks_from lost_from named_below passed_below given next_place gone_again gone_first confirmation confirmed settled acknowledged after_t3 stopped
 abort_is_not_answered = record { phase_is = refl; sent_is = refl; told_is = refl }
 
 pub completion_stands_alone : rows.completion_stands_alone
-unfolding after going drained run_from blocks_from lost_from named_below passed_below given next_place gone_again gone_first confirmation confirmed settled acknowledged after_t3
+unfolding after going drained run_from blocks_from lost_from named_below passed_below given next_place gone_again gone_first confirmation confirmed settled acknowledged after_t3 stopped
 completion_stands_alone = record { phase_is = refl; sent_is = refl; told_is = refl }
 
 pub completion_is_not_answered : rows.completion_is_not_answered
-unfolding after going drained run_from blocks_from lost_from named_below passed_below given next_place gone_again gone_first confirmation confirmed settled acknowledged after_t3
+unfolding after going drained run_from blocks_from lost_from named_below passed_below given next_place gone_again gone_first confirmation confirmed settled acknowledged after_t3 stopped
 completion_is_not_answered = record { phase_is = refl; sent_is = refl; told_is = refl }
 
 pub data_meets_shutdown : rows.data_meets_shutdown
-unfolding after going drained run_from blocks_from lost_from named_below passed_below given next_place gone_again gone_first confirmation confirmed settled acknowledged after_t3
+unfolding after going drained run_from blocks_from lost_from named_below passed_below given next_place gone_again gone_first confirmation confirmed settled acknowledged after_t3 stopped
 data_meets_shutdown = record { phase_is = refl; sent_is = refl; told_is = refl }
 
 pub t2_begins_anew : rows.t2_begins_anew
-unfolding after going drained run_from blocks_from lost_from named_below passed_below given next_place gone_again gone_first confirmation confirmed settled acknowledged after_t3
+unfolding after going drained run_from blocks_from lost_from named_below passed_below given next_place gone_again gone_first confirmation confirmed settled acknowledged after_t3 stopped
 t2_begins_anew = refl

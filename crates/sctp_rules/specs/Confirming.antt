@@ -1,6 +1,6 @@
 -- What goes out of the sending half, and what a SACK or a SHUTDOWN does to it (RFC 9260 §6.1, §6.2.1).
 use Rattle.std.specs.Prelude.{ℕ, zero, suc, Bool, true, false, ◌&&◌, ◌||◌, List, [], ◌∷◌, Option, Some, None}
-use Rattle.std.specs.Prelude.{length, take, nat_lt, nat_le}
+use Rattle.std.specs.Prelude.{length, nat_lt, nat_le}
 use Rattle.sctp_sending.specs.Outgoing.{Message, Outgoing, outgoing_at, tsn_at}
 use Rattle.sctp_sending.specs.Sending.{Sending, most_messages, most_octets, next_place, gone_next, confirmation}
 use Rattle.sctp_sending.specs.Sending.{confirmed}
@@ -59,10 +59,6 @@ going (suc most) now s = gone_from (λ left. going most now left) now (next_plac
 -- each message goes out once at most
 abbrev pub all_gone : (now : ℕ) → Sending → Gone
 all_gone now s = going (suc most_messages) now s
-
--- what didn't go out is dropped
-abbrev pub only_gone : Sending → Sending
-only_gone s = record s { out = take s.went s.out }
 
 -- ---- what is confirmed
 

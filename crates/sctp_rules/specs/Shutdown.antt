@@ -8,8 +8,8 @@ use Rattle.sctp_rules.specs.declared.phase.Phase.TheVariants.{ShutdownPending, S
 use Rattle.sctp_rules.specs.declared.phase.Phase.TheVariants.{ShutdownAckSent}
 use Rattle.sctp_rules.specs.declared.loss.Loss.TheVariants.{Shutdown, Protocol}
 use Rattle.sctp_rules.specs.Settings.{Settings}
-use Rattle.sctp_sending.specs.Sending.{confirmation, after_cumulative}
-use Rattle.sctp_rules.specs.Confirming.{confirms_beyond, only_gone}
+use Rattle.sctp_sending.specs.Sending.{confirmation, after_cumulative, stopped}
+use Rattle.sctp_rules.specs.Confirming.{confirms_beyond}
 use Rattle.sctp_rules.specs.State.{Association, State, Down, Done, silent, with_association}
 use Rattle.sctp_rules.specs.Ending.{with_answer, ended_alone, aborted, abort, violation}
 
@@ -74,7 +74,7 @@ shutdown_received s = record {
     association = record s.association {
       phase = ShutdownReceived;
       is_up = false;
-      sender = only_gone s.association.sender;
+      sender = stopped s.association.sender;
     };
   };
 }
