@@ -2,7 +2,7 @@
 use Rattle.std.proofs.Common.{◌≡◌, ℕ, suc, ◌+◌, List, Option, Some, sym, ap, subst, ◌∙◌, arith}
 use Rattle.std.specs.Prelude.{IfSome}
 use Rattle.sctp_cookie.specs.Tags.{Drawing, after_draw}
-use Rattle.sctp_endpoint.specs.Endpoints.{drawing_after}
+use Rattle.sctp_ends.specs.Keyed.{drawing_after}
 
 pub drawn-more : (d e : Drawing) (n : ℕ) → d ≡ drawing_after d.key n → e ≡ after_draw d → e.key ≡ d.key → e ≡ drawing_after e.key (n + 1)
 unfolding drawing_after

@@ -1,7 +1,7 @@
 -- The tags that were drawn, as the struct keeps them.
 use Rattle.std.specs.Prelude.{◌≡◌, ◌≤◌, ℕ, List}
 use Rattle.sctp_endpoint.specs.declared.beginnings.Beginnings.TheInside.{Inside}
-use Rattle.sctp_endpoint.specs.Endpoints.{drawing_after}
+use Rattle.sctp_ends.specs.Keyed.{drawing_after}
 
 -- a key, and how many tags were drawn under it
 pub record Drawn : Type 0 where

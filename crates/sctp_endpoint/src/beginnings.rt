@@ -2,7 +2,7 @@
 
 ghost use Rattle.std.specs.Prelude.{◌≡◌, ◌+◌, is_some, if◌then◌else◌};
 ghost use Rattle.sctp_cookie.specs.Tags.{next_tag};
-ghost use Rattle.sctp_endpoint.specs.Endpoints.{drawing_after};
+ghost use Rattle.sctp_ends.specs.Keyed.{drawing_after};
 
 use sctp_cookie::Tags;
 use std::marker::Model;
@@ -28,7 +28,7 @@ impl Model for Beginnings {
 
 impl Beginnings {
     /// None is drawn yet. The key is to be drawn at random.
-    #[tactic(auto, unfolding(crate::specs::Endpoints::drawing_after))]
+    #[tactic(auto, unfolding(sctp_ends::specs::Keyed::drawing_after))]
     pub fn new(key: [u8; 32]) -> Beginnings
         ensures { result ≡ record { key = key; count = 0 } }
     {

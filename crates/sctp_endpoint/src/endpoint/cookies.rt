@@ -16,6 +16,7 @@ ghost use Rattle.sctp_rules.specs.Opening.{
   heard_cookie,
   heard_cookie_echo,
 };
+ghost use Rattle.sctp_ends.specs.Keyed.{opened_under};
 ghost use Rattle.sctp_endpoint.specs.Settings.{address_of};
 ghost use Rattle.sctp_endpoint.specs.Watching.{Gives};
 ghost use Rattle.sctp_endpoint.specs.Endpoints.{Does, secrets_of};
@@ -52,7 +53,7 @@ impl Endpoint {
             ≡ (heard_cookie_echo self.old.settings (secrets_of self.old) now tag (address_of source.now) octets.now
             self.old.state).goes_on }
     {
-        match Cookie::open(octets, &self.cookie_key) {
+        match self.cookie_in(octets) {
             Some(cookie) => {
                 if cookie.own_tag == tag && cookie.peer_port == self.settings.far_port {
                     self.hear_cookie(source, &cookie, now, watch)
@@ -62,6 +63,13 @@ impl Endpoint {
             }
             None => false,
         }
+    }
+
+    /// The cookie that octets are, where this end signed it.
+    fn cookie_in(&self, octets: &[u8]) -> Option<Cookie>
+        ensures { result ≡ opened_under self.now.cookie_key octets.now }
+    {
+        Cookie::open(octets, &self.cookie_key)
     }
 
     /// A cookie that this end signed came. One of the association is acknowledged again; any other opens within its

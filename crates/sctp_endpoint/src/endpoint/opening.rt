@@ -6,7 +6,8 @@ ghost use Rattle.sctp_rules.specs.State.{put};
 ghost use Rattle.sctp_rules.specs.Opening.{opening, may_open, begun, begun_anew, trying_with, tag_of_try};
 ghost use Rattle.sctp_endpoint.specs.Settings.{address_of};
 ghost use Rattle.sctp_endpoint.specs.Watching.{Gives};
-ghost use Rattle.sctp_endpoint.specs.Endpoints.{Does, secrets_of, drawing_after};
+ghost use Rattle.sctp_endpoint.specs.Endpoints.{Does, secrets_of};
+ghost use Rattle.sctp_ends.specs.Keyed.{drawing_after};
 ghost use Rattle.sctp_endpoint.specs.Beginning.{begun_by, in_try, with_try};
 
 use crate::address::Address;
