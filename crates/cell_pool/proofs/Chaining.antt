@@ -1,12 +1,5 @@
 -- Lists of linked cells: what each list is after a write to one link, and after one list was put behind another.
-use Rattle.std.proofs.Common.{◌≡◌, ◌≢◌, ℕ, zero, suc, ◌+◌, ◌-◌, ◌<◌, ◌≤◌, Bool, cond, List, [], ◌∷◌, ◌++◌, length, get_or, refl, ap, sym, ◌∙◌, arith, inl, inr}
-use Rattle.std.specs.Prelude.{sum_by}
-use Rattle.std.proofs.Math.ListN.{set}
-use Rattle.std.proofs.lemmas.Bool.{cases_eq, eq-eqb, ne_eqb}
-use Rattle.std.proofs.lemmas.List.{get_or-map, get_or-set_same, get_or-set_other, get_or_append_left, get_or-append_right, append-nil, length-set, length-map}
-use Rattle.std.proofs.lemmas.List.Sums.{sum_by-cons, get_or-le-sum_by}
-use Rattle.cell_pool.specs.Numbering.{uses, ring_at}
-use Rattle.cell_pool.specs.Chains.{Chained, no_cells, walk, cells_of, rings_of, chain_at, joined, end_of, IsMarked, AreMarked}
+use Rattle.cell_pool.proofs.Basics.{◌≡◌, ◌≢◌, ℕ, zero, suc, ◌+◌, ◌-◌, ◌<◌, ◌≤◌, Bool, cond, List, [], ◌∷◌, ◌++◌, length, get_or, refl, ap, sym, ◌∙◌, arith, inl, inr, sum_by, set, cases_eq, eq-eqb, ne_eqb, get_or-map, get_or-set_same, get_or-set_other, get_or_append_left, get_or-append_right, append-nil, length-set, length-map, sum_by-cons, get_or-le-sum_by, uses, ring_at, Chained, no_cells, walk, cells_of, rings_of, chain_at, joined, end_of, IsMarked, AreMarked}
 use Rattle.cell_pool.proofs.Sharing.{uses-get_or}
 use Rattle.cell_pool.proofs.Walks.{length-walk, walk-set, walk-joined}
 

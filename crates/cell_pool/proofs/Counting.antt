@@ -1,14 +1,7 @@
 -- Counts of user and management messages, and lists that lose their first messages one at a time.
-use Rattle.std.proofs.Common.{◌≡◌, ℕ, ◌+◌, ◌<◌, ◌≤◌, Bool, true, false, not, cond, List, [], ◌∷◌, length, drop, refl, ap, ◌∙◌, arith, Some, None, slice_get}
-use Rattle.std.specs.Prelude.{sum_by, nat_le, if◌then◌else◌}
-use Rattle.std.proofs.Math.ListN.{set}
-use Rattle.std.proofs.lemmas.Bool.{leb-false}
-use Rattle.std.proofs.lemmas.List.{set-set, get_or-set_same, drop-drop}
-use Rattle.std.proofs.lemmas.List.Sums.{sum_by-cons, get_or-le-sum_by}
-use Rattle.signalling_types.specs.Message.{Message, is_management}
+use Rattle.cell_pool.proofs.Basics.{◌≡◌, ℕ, ◌+◌, ◌<◌, ◌≤◌, Bool, true, false, not, cond, List, [], ◌∷◌, length, drop, refl, ap, ◌∙◌, arith, Some, None, slice_get, sum_by, nat_le, if◌then◌else◌, set, leb-false, set-set, get_or-set_same, drop-drop, sum_by-cons, get_or-le-sum_by, Message, is_management, users_in, managements_in, users, managements, lane_at, dropped, push_refusal}
 use Rattle.signalling_types.specs.declared.cause.Cause.{Cause}
 use Rattle.signalling_types.specs.declared.cause.Cause.TheVariants.{PoolFull, ManagementFull}
-use Rattle.cell_pool.specs.Lanes.{users_in, managements_in, users, managements, lane_at, dropped, push_refusal}
 
 -- what one message adds to either count
 abbrev pub as_management : Message → ℕ

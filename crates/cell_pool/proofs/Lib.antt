@@ -1,3 +1,4 @@
+pub mod Basics
 pub mod Chaining
 pub mod Counting
 pub mod LinkedReading

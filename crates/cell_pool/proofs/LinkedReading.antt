@@ -1,16 +1,5 @@
 -- What the lists are after a message was written into a cell of the row or behind it, and after cells were relinked.
-use Rattle.std.proofs.Common.{◌≡◌, ◌≢◌, ℕ, ◌+◌, ◌<◌, ◌≤◌, Bool, true, false, List, [], ◌∷◌, ◌++◌, length, take, drop, refl, ap, sym, ◌∙◌, arith, nat_lt}
-use Rattle.std.specs.Prelude.{sum_by, if◌then◌else◌}
-use Rattle.std.proofs.Math.ListN.{set}
-use Rattle.std.proofs.lemmas.Bool.{ltb-true, ltb-false, lt-ltb, le-ltb}
-use Rattle.std.proofs.lemmas.List.{map-set, map-append, length-map, take-map, drop-map, get_or_push}
-use Rattle.std.proofs.lemmas.List.Sums.{sum_by-cons, get_or-le-sum_by}
-use Rattle.signalling_types.specs.Message.{Message}
-use Rattle.cell_pool.specs.Numbering.{uses, ring_at}
-use Rattle.cell_pool.specs.Lanes.{lane_at, pushed}
-use Rattle.cell_pool.specs.Moves.{all_behind, put_behind}
-use Rattle.cell_pool.specs.Turns.{cut_at}
-use Rattle.cell_pool.specs.Cells.{Occupied, message_at, messages_at, lists_at}
+use Rattle.cell_pool.proofs.Basics.{◌≡◌, ◌≢◌, ℕ, ◌+◌, ◌<◌, ◌≤◌, Bool, true, false, List, [], ◌∷◌, ◌++◌, length, take, drop, refl, ap, sym, ◌∙◌, arith, nat_lt, sum_by, if◌then◌else◌, set, ltb-true, ltb-false, lt-ltb, le-ltb, map-set, map-append, length-map, take-map, drop-map, get_or_push, sum_by-cons, get_or-le-sum_by, Message, uses, ring_at, lane_at, pushed, all_behind, put_behind, cut_at, Occupied, message_at, messages_at, lists_at}
 use Rattle.cell_pool.specs.Row.{occupied_in, written}
 use Rattle.cell_pool.specs.declared.linked_lists.LinkedLists.TheInside.{Inside}
 use Rattle.cell_pool.proofs.Sharing.{uses-cons}

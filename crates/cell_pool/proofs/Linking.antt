@@ -1,11 +1,6 @@
 -- What the fields of linked cells say of their value.
-use Rattle.std.proofs.Common.{◌≡◌, ℕ, suc, ◌+◌, ◌<◌, ◌≤◌, List, [], length, get_or, arith, ap, sym, ◌∙◌}
-use Rattle.std.proofs.lemmas.List.{length-map}
-use Rattle.std.proofs.lemmas.List.Sums.{get_or-le-sum_by}
-use Rattle.cell_pool.specs.Numbering.{SharesOut, ring_at}
-use Rattle.cell_pool.specs.Chains.{Chained, walk, cells_of, rings_of, chain_at}
+use Rattle.cell_pool.proofs.Basics.{◌≡◌, ℕ, suc, ◌+◌, ◌<◌, ◌≤◌, List, [], length, get_or, arith, ap, sym, ◌∙◌, length-map, get_or-le-sum_by, SharesOut, ring_at, Chained, walk, cells_of, rings_of, chain_at, Linked}
 use Rattle.cell_pool.specs.Linked.{linked_in}
-use Rattle.cell_pool.specs.Links.{Linked}
 use Rattle.cell_pool.specs.declared.cell_links.CellLinks.TheInside.{Inside}
 use Rattle.cell_pool.proofs.Sharing.{in_ring-within}
 use Rattle.cell_pool.proofs.Walks.{length-walk, walk-next}

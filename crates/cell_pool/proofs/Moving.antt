@@ -1,13 +1,6 @@
 -- A list that is gone through once, element by element, is moved whole, or as a test picks.
-use Rattle.std.proofs.Common.{◌≡◌, ◌≢◌, ℕ, ◌+◌, ◌<◌, Bool, true, false, not, List, [], ◌∷◌, ◌++◌, length, get_or, take, drop, refl, ap, sym, ◌∙◌, arith, slice_get}
-use Rattle.std.specs.Prelude.{filter, if◌then◌else◌}
-use Rattle.std.proofs.Math.ListN.{set}
-use Rattle.std.proofs.lemmas.List.{set-set, set_comm, get_or-set_same, get_or-set_other, append_assoc, append-nil, drop_more, take_more, length-set}
+use Rattle.cell_pool.proofs.Basics.{◌≡◌, ◌≢◌, ℕ, ◌+◌, ◌<◌, Bool, true, false, not, List, [], ◌∷◌, ◌++◌, length, get_or, take, drop, refl, ap, sym, ◌∙◌, arith, slice_get, filter, if◌then◌else◌, set, set-set, set_comm, get_or-set_same, get_or-set_other, append_assoc, append-nil, drop_more, take_more, length-set, list_at, put_behind, put_before, Message, Stored, is_picked, turned}
 use Rattle.std.proofs.lemmas.List.Elements.{filter-append}
-use Rattle.cell_pool.specs.Moves.{list_at, put_behind, put_before}
-use Rattle.signalling_types.specs.Message.{Message}
-use Rattle.cell_pool.specs.Stored.{Stored}
-use Rattle.cell_pool.specs.Turns.{is_picked, turned}
 
 other-side : (from to : ℕ) → from ≢ to → to ≢ from
 other-side from to apart e = apart (sym e)

@@ -1,14 +1,5 @@
 -- What the lists are after a message was written into a cell that no list had, and after a cell left a list or moved.
-use Rattle.std.proofs.Common.{◌≡◌, ℕ, zero, suc, ◌<◌, ◌≢◌, List, [], ◌∷◌, ◌++◌, length, take, drop, replicate, refl, ap, sym, ◌∙◌, arith}
-use Rattle.std.specs.Prelude.{sum_by}
-use Rattle.std.proofs.Math.ListN.{set}
-use Rattle.std.proofs.lemmas.List.{map-set, map-append, get_or-map, get_or-set_same, get_or-set_other, length-set, take-map, drop-map}
-use Rattle.std.proofs.lemmas.List.Sums.{sum_by-cons, get_or-le-sum_by}
-use Rattle.signalling_types.specs.Message.{Message}
-use Rattle.cell_pool.specs.Numbering.{uses, ring_at}
-use Rattle.cell_pool.specs.Lanes.{lane_at, pushed, dropped}
-use Rattle.cell_pool.specs.Moves.{put_behind, first_behind}
-use Rattle.cell_pool.specs.Cells.{message_at, messages_at, lists_at}
+use Rattle.cell_pool.proofs.Basics.{◌≡◌, ℕ, zero, suc, ◌<◌, ◌≢◌, List, [], ◌∷◌, ◌++◌, length, take, drop, replicate, refl, ap, sym, ◌∙◌, arith, sum_by, set, map-set, map-append, get_or-map, get_or-set_same, get_or-set_other, length-set, take-map, drop-map, sum_by-cons, get_or-le-sum_by, Message, uses, ring_at, lane_at, pushed, dropped, put_behind, first_behind, message_at, messages_at, lists_at}
 use Rattle.cell_pool.proofs.Sharing.{use_of, uses-cons, use_of-itself}
 
 -- a number that isn't used is another one

@@ -1,11 +1,6 @@
 -- Each number stands once: this stays so where a free number goes to the end of a ring, and where the
 -- first number of a ring goes to the free ones.
-use Rattle.std.proofs.Common.{◌≡◌, ℕ, ◌+◌, ◌<◌, ◌≤◌, Bool, true, false, cond, List, [], ◌∷◌, ◌++◌, length, get_or, refl, ap, arith, nat_lt, nat_eq}
-use Rattle.std.specs.Prelude.{sum_by}
-use Rattle.std.proofs.lemmas.Bool.{eq-eqb, ltb-true}
-use Rattle.std.proofs.lemmas.Bool.Decides.{nat_tests}
-use Rattle.std.proofs.lemmas.List.Sums.{sum_by_push, sum_by-cons, get_or-le-sum_by}
-use Rattle.cell_pool.specs.Numbering.{uses, ring_at, SharesOut}
+use Rattle.cell_pool.proofs.Basics.{◌≡◌, ℕ, ◌+◌, ◌<◌, ◌≤◌, Bool, true, false, cond, List, [], ◌∷◌, ◌++◌, length, get_or, refl, ap, arith, nat_lt, nat_eq, sum_by, eq-eqb, ltb-true, nat_tests, sum_by_push, sum_by-cons, get_or-le-sum_by, uses, ring_at, SharesOut}
 
 -- what one number adds to the uses of another
 abbrev pub use_of : ℕ → ℕ → ℕ

@@ -1,13 +1,5 @@
 -- One list of linked cells goes behind another, and a list is turned round.
-use Rattle.std.proofs.Common.{◌≡◌, ◌≢◌, ℕ, zero, suc, ◌+◌, ◌-◌, ◌<◌, ◌≤◌, List, [], ◌++◌, length, get_or, take, drop, refl, ap, sym, ◌∙◌, arith, inl, inr}
-use Rattle.std.specs.Prelude.{sum_by}
-use Rattle.std.proofs.Math.ListN.{set}
-use Rattle.std.proofs.lemmas.Bool.{cases_eq}
-use Rattle.std.proofs.lemmas.List.{map-set, set-get_or, get_or-set_other, get_or-drop, get_or-append_right, get_or_append_left, get_or-take, append-nil, length-set, length-map, length-append, length-drop, length-take, drop_all, take_all}
-use Rattle.std.proofs.lemmas.List.Sums.{sum_by-set, sum_by-append, sum_by-take-drop, get_or-le-sum_by}
-use Rattle.cell_pool.specs.Numbering.{uses, ring_at, SharesOut}
-use Rattle.cell_pool.specs.Moves.{all_behind}
-use Rattle.cell_pool.specs.Chains.{Chained, no_cells, walk, cells_of, rings_of, chain_at, joined, end_of, turned_round, IsMarked, AreMarked}
+use Rattle.cell_pool.proofs.Basics.{◌≡◌, ◌≢◌, ℕ, zero, suc, ◌+◌, ◌-◌, ◌<◌, ◌≤◌, List, [], ◌++◌, length, get_or, take, drop, refl, ap, sym, ◌∙◌, arith, inl, inr, sum_by, set, cases_eq, map-set, set-get_or, get_or-set_other, get_or-drop, get_or-append_right, get_or_append_left, get_or-take, append-nil, length-set, length-map, length-append, length-drop, length-take, drop_all, take_all, sum_by-set, sum_by-append, sum_by-take-drop, get_or-le-sum_by, uses, ring_at, SharesOut, all_behind, Chained, no_cells, walk, cells_of, rings_of, chain_at, joined, end_of, turned_round, IsMarked, AreMarked}
 use Rattle.cell_pool.proofs.Sharing.{use_of, uses-get_or, shared-within}
 use Rattle.cell_pool.proofs.Sums.{sum-all_behind, length-behind}
 use Rattle.cell_pool.proofs.Walks.{length-walk, walk-first, walk-joined, walk-drop, walk-take}

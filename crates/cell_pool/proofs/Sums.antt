@@ -1,13 +1,6 @@
 -- What a move leaves as it is: every sum over all elements of all lists.
-use Rattle.std.proofs.Common.{◌≡◌, ℕ, ◌+◌, ◌<◌, Bool, not, List, [], ◌++◌, length, take, drop, refl, arith}
-use Rattle.std.specs.Prelude.{sum_by, filter}
-use Rattle.std.proofs.Math.ListN.{set}
-use Rattle.std.proofs.lemmas.List.{length-set, length-append}
-use Rattle.std.proofs.lemmas.List.Sums.{sum_by-set, sum_by-append, sum_by-take-drop}
+use Rattle.cell_pool.proofs.Basics.{◌≡◌, ℕ, ◌+◌, ◌<◌, Bool, not, List, [], ◌++◌, length, take, drop, refl, arith, sum_by, filter, set, length-set, length-append, sum_by-set, sum_by-append, sum_by-take-drop, Message, HasAsMany, list_at, put_behind, put_before, first_behind, all_behind, all_before, picked_behind, picked_before}
 use Rattle.std.proofs.lemmas.List.Filters.{sum_by-filter_both}
-use Rattle.signalling_types.specs.Message.{Message}
-use Rattle.cell_pool.specs.Lanes.{HasAsMany}
-use Rattle.cell_pool.specs.Moves.{list_at, put_behind, put_before, first_behind, all_behind, all_before, picked_behind, picked_before}
 use Rattle.cell_pool.proofs.Counting.{as_user, as_management}
 
 module _ {A : Type 0} where

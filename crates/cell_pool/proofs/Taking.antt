@@ -1,14 +1,6 @@
 -- The first free cell goes to the end of a list, the first cell of a list is freed, and a cell is used for the first time.
-use Rattle.std.proofs.Common.{◌≡◌, ℕ, zero, suc, ◌+◌, ◌-◌, ◌<◌, ◌≤◌, Bool, true, false, cond, List, [], ◌∷◌, ◌++◌, length, get_or, take, drop, refl, ap, sym, ◌∙◌, arith, nat_lt, inl, inr, replicate}
-use Rattle.std.specs.Prelude.{sum_by}
-use Rattle.std.proofs.Math.ListN.{set}
-use Rattle.std.proofs.lemmas.Bool.{cases_eq, eq-eqb, ne_eqb}
-use Rattle.std.proofs.lemmas.Bool.Decides.{nat_tests}
-use Rattle.std.proofs.lemmas.List.{get_or-set_same, get_or-replicate, length-replicate, length-map, length_push}
-use Rattle.std.proofs.lemmas.List.Sums.{sum_by-cons, sum_by-set, get_or-le-sum_by}
+use Rattle.cell_pool.proofs.Basics.{◌≡◌, ℕ, zero, suc, ◌+◌, ◌-◌, ◌<◌, ◌≤◌, Bool, true, false, cond, List, [], ◌∷◌, ◌++◌, length, get_or, take, drop, refl, ap, sym, ◌∙◌, arith, nat_lt, inl, inr, replicate, sum_by, set, cases_eq, eq-eqb, ne_eqb, nat_tests, get_or-set_same, get_or-replicate, length-replicate, length-map, length_push, sum_by-cons, sum_by-set, get_or-le-sum_by, uses, ring_at, SharesOut, Chained, no_cells, one_cell, walk, cells_of, rings_of, chain_at, joined, end_of, shortened, IsMarked, AreMarked}
 use Rattle.std.proofs.lemmas.List.Folds.{sum_by-replicate}
-use Rattle.cell_pool.specs.Numbering.{uses, ring_at, SharesOut}
-use Rattle.cell_pool.specs.Chains.{Chained, no_cells, one_cell, walk, cells_of, rings_of, chain_at, joined, end_of, shortened, IsMarked, AreMarked}
 use Rattle.cell_pool.proofs.Sharing.{use_of, uses-cons, uses-push, use_of-itself, below, below-next, below-none, shared-within}
 use Rattle.cell_pool.proofs.Walks.{walk-set, walk-push, walk-first}
 use Rattle.cell_pool.proofs.Chaining.{ring-cells, rings-relinked, marked-set, mark-of, end-none, end-some, positive, last-used, joined-cells, joined-marked}

@@ -1,13 +1,5 @@
 -- A list that is turned round: what stood behind its first messages comes before them, and as many of each kind stand.
-use Rattle.std.proofs.Common.{◌≡◌, ◌≢◌, ℕ, ◌<◌, List, [], ◌++◌, length, take, drop, ap, sym, ◌∙◌, arith}
-use Rattle.std.specs.Prelude.{sum_by}
-use Rattle.std.proofs.Math.ListN.{set}
-use Rattle.std.proofs.lemmas.List.{set-set, get_or-set_same, get_or-set_other, take_at, drop_at, length-set}
-use Rattle.std.proofs.lemmas.List.Sums.{sum_by-set, sum_by-append, sum_by-take-drop}
-use Rattle.signalling_types.specs.Message.{Message}
-use Rattle.cell_pool.specs.Lanes.{HasAsMany}
-use Rattle.cell_pool.specs.Moves.{list_at, put_behind, put_before}
-use Rattle.cell_pool.specs.Turns.{cut_at}
+use Rattle.cell_pool.proofs.Basics.{◌≡◌, ◌≢◌, ℕ, ◌<◌, List, [], ◌++◌, length, take, drop, ap, sym, ◌∙◌, arith, sum_by, set, set-set, get_or-set_same, get_or-set_other, take_at, drop_at, length-set, sum_by-set, sum_by-append, sum_by-take-drop, Message, HasAsMany, list_at, put_behind, put_before, cut_at}
 use Rattle.cell_pool.proofs.Counting.{as_user, as_management}
 
 module _ {A : Type 0} where

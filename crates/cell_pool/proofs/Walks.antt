@@ -1,9 +1,5 @@
 -- Walks through linked cells: what a write to the links leaves as it was, and how two lists are joined.
-use Rattle.std.proofs.Common.{◌≡◌, ◌≢◌, ℕ, zero, suc, ◌+◌, ◌-◌, ◌<◌, ◌≤◌, List, [], ◌∷◌, ◌++◌, length, get_or, take, drop, refl, ap, sym, ◌∙◌, arith}
-use Rattle.std.proofs.Math.ListN.{set}
-use Rattle.std.proofs.lemmas.List.{get_or-set_same, get_or-set_other}
-use Rattle.cell_pool.specs.Numbering.{uses}
-use Rattle.cell_pool.specs.Chains.{walk}
+use Rattle.cell_pool.proofs.Basics.{◌≡◌, ◌≢◌, ℕ, zero, suc, ◌+◌, ◌-◌, ◌<◌, ◌≤◌, List, [], ◌∷◌, ◌++◌, length, get_or, take, drop, refl, ap, sym, ◌∙◌, arith, set, get_or-set_same, get_or-set_other, uses, walk}
 use Rattle.cell_pool.proofs.Sharing.{use_of, uses-cons, uses-get_or}
 use Rattle.cell_pool.proofs.Reading.{unused-apart}
 

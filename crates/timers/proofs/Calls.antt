@@ -1,12 +1,5 @@
 -- What the calls of the table come to, for the map that it says.
-use Rattle.std.proofs.Common.{◌≡◌, ℕ, Bool, true, false, cond, refl, sym, ap, subst, ◌∙◌}
-use Rattle.std.specs.Prelude.{Option, Some, None, is_some, max, get_or, length, slice_set, ◌<◌}
-use Rattle.std.specs.Option.{option_map}
-use Rattle.timers.specs.declared.name.TimerName.{TimerName}
-use Rattle.timers.specs.Names.{has_name}
-use Rattle.timers.specs.Places.{named_sets, place_in, place_of, name_at}
-use Rattle.timers.specs.Timers.{Running, is_running, set_timer, start_unless_running, clear_timer, ticked, due_name, after_due}
-use Rattle.timers.specs.Table.{Table, has_place, left_to, map_of, IsWhole}
+use Rattle.timers.proofs.Basics.{◌≡◌, ℕ, Bool, true, false, cond, refl, sym, ap, subst, ◌∙◌, Option, Some, None, is_some, max, get_or, length, slice_set, ◌<◌, option_map, TimerName, has_name, named_sets, place_in, place_of, name_at, Running, is_running, set_timer, start_unless_running, clear_timer, ticked, due_name, after_due, Table, has_place, left_to, map_of, IsWhole}
 use Rattle.timers.proofs.OnTable.{put, put_at, put_in, start_at, ticked_in, due_place, after_due_in}
 use Rattle.timers.proofs.InTable.{within, left-there, left-absent, whole-put_at, whole-ticked}
 use Rattle.timers.proofs.Viewed.{map-set, map-start, map-clear, map-ticked, map-running, map-due, map-after}

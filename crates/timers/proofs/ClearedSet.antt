@@ -1,17 +1,6 @@
 -- A timer of a set is stopped, destination by destination.
-use Rattle.std.proofs.Common.{◌≡◌, ℕ, zero, suc, ◌==◌, nat_lt, ◌<◌, ◌≤◌, inl, inr, Bool, true, false, refl, sym, ap, subst, ◌∙◌, arith}
-use Rattle.std.proofs.lemmas.Bool.{cases_eq, cases_lt, false≢true}
-use Rattle.std.proofs.lemmas.Bool.Decides.{nat_tests}
-use Rattle.std.specs.Prelude.{None, ◌&&◌}
-use Rattle.timers.specs.declared.name.TimerName.{TimerName}
-use Rattle.timers.specs.declared.name.TimerName.TheVariants.{T8, T10}
-use Rattle.timers.specs.declared.name.RouteTimer.{RouteTimer}
+use Rattle.timers.proofs.Basics.{◌≡◌, ℕ, zero, suc, ◌==◌, nat_lt, ◌<◌, ◌≤◌, inl, inr, Bool, true, false, refl, sym, ap, subst, ◌∙◌, arith, cases_eq, cases_lt, false≢true, nat_tests, None, ◌&&◌, TimerName, T8, T10, RouteTimer, NodeCounts, has_name, is_of_set, name_of_route, Running, clear_timer, clear_set, one_map}
 use Rattle.timers.specs.declared.name.RouteTimer.TheVariants as route
-use Rattle.timers.specs.declared.name.NodeCounts.{NodeCounts}
-use Rattle.timers.specs.Names.{has_name, is_of_set}
-use Rattle.timers.specs.Places.{name_of_route}
-use Rattle.timers.specs.Timers.{Running, clear_timer, clear_set}
-use Rattle.timers.specs.OneMap.{one_map}
 use Rattle.timers.proofs.Maps.{left-clear, left-clear_other, counts-clear, left-clear_set, left-clear_set_other, counts-clear_set}
 
 -- stopped for so many destinations

@@ -1,14 +1,5 @@
 -- Which timer is due first, and how many are.
-use Rattle.std.proofs.Common.{◌≡◌, ◌≢◌, ℕ, suc, ◌+◌, ◌≤◌, ◌||◌, Bool, true, false, cond, List, [], ◌∷◌, length, refl, sym, ap, subst, ◌∙◌, arith}
-use Rattle.std.proofs.lemmas.Bool.{false≢true}
-use Rattle.std.proofs.lemmas.Bool.Decides.{nat_tests}
-use Rattle.std.specs.Prelude.{Option, Some, None, max, filter, find}
-use Rattle.std.specs.Option.{option_map_or}
-use Rattle.std.specs.List.{AllByRecursion, list_any}
-use Rattle.timers.specs.declared.name.TimerName.{TimerName}
-use Rattle.timers.specs.declared.name.RouteTimer.{RouteTimer}
-use Rattle.timers.specs.Names.{has_name, is_same, is_before, is_of_set, names_of, AreInOrder}
-use Rattle.timers.specs.Timers.{Running, set_timer, clear_timer, clear_set, no_tick_left, is_due, due_name, after_due, due_count}
+use Rattle.timers.proofs.Basics.{◌≡◌, ◌≢◌, ℕ, suc, ◌+◌, ◌≤◌, ◌||◌, Bool, true, false, cond, List, [], ◌∷◌, length, refl, sym, ap, subst, ◌∙◌, arith, false≢true, nat_tests, Option, Some, None, max, filter, find, option_map_or, AllByRecursion, list_any, TimerName, RouteTimer, has_name, is_same, is_before, is_of_set, names_of, AreInOrder, Running, set_timer, clear_timer, clear_set, no_tick_left, is_due, due_name, after_due, due_count}
 use Rattle.timers.proofs.Order.{before-asym, before-itself}
 use Rattle.timers.proofs.Same.{same_is, is_itself, other_is_not}
 use Rattle.timers.proofs.NamesOf.{IsIn, holds_of, is_in}

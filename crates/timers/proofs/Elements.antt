@@ -1,6 +1,5 @@
 -- What holds of each element of a list.
-use Rattle.std.proofs.Common.{List, [], ◌∷◌, ◌++◌}
-use Rattle.std.specs.List.{AllByRecursion}
+use Rattle.timers.proofs.Basics.{List, [], ◌∷◌, ◌++◌, AllByRecursion}
 
 module _ {X : Type 0} (P : X → Type 0) where
   pub all-append : (xs ys : List X) → AllByRecursion P xs → AllByRecursion P ys → AllByRecursion P (xs ++ ys)

@@ -1,15 +1,6 @@
 -- The ticks that are left, read from the leaves of a tree of moments.
-use Rattle.std.proofs.Common.{◌≡◌, ℕ, zero, suc, nat_lt, ◌+◌, ◌-◌, ◌*◌, ◌^◌, ◌<◌, ◌≤◌, ◌==◌, inl, inr, min, Bool, true, false, cond, List, [], ◌∷◌, length, map, get_or, take, drop, slice_set, replicate, refl, sym, ap, subst, ◌∙◌, arith}
-use Rattle.std.proofs.lemmas.List.{map-set, get_or-set_other, get_or-take, get_or-drop, length-set, length-map, length-drop, length-take-le, drop-map, take-map, take_rest, take-replicate, drop-replicate, get_or-replicate, length-replicate, get_or_read}
+use Rattle.timers.proofs.Basics.{◌≡◌, ℕ, zero, suc, nat_lt, ◌+◌, ◌-◌, ◌*◌, ◌^◌, ◌<◌, ◌≤◌, ◌==◌, inl, inr, min, Bool, true, false, cond, List, [], ◌∷◌, length, map, get_or, take, drop, slice_set, replicate, refl, sym, ap, subst, ◌∙◌, arith, map-set, get_or-set_other, get_or-take, get_or-drop, length-set, length-map, length-drop, length-take-le, drop-map, take-map, take_rest, take-replicate, drop-replicate, get_or-replicate, length-replicate, get_or_read, sum_by-take-drop, length-filter, position_or_len_is, cases_lt, nat_tests, Option, Some, None, is_some, filter, position, count_by, position_or_len, one_less, no_tick_left, never, left_at, has_come, rebased, at, least, first_below, count_below, IsBounded, AreBounded, left_in, IsTree}
 use Rattle.std.proofs.lemmas.List as list
-use Rattle.std.proofs.lemmas.List.Sums.{sum_by-take-drop, length-filter, position_or_len_is}
-use Rattle.std.proofs.lemmas.Bool.{cases_lt}
-use Rattle.std.proofs.lemmas.Bool.Decides.{nat_tests}
-use Rattle.std.specs.Prelude.{Option, Some, None, is_some, filter, position}
-use Rattle.std.specs.List.{count_by, position_or_len}
-use Rattle.timers.specs.Timers.{one_less, no_tick_left}
-use Rattle.timers.specs.Tree.{never, left_at, has_come, rebased, at, least, first_below, count_below, IsBounded, AreBounded}
-use Rattle.timers.specs.Moments.{left_in, IsTree}
 use Rattle.timers.proofs.Beneath.{come-yes, come-no, all-bounded, IsFirst, AreLate, IsAnswer, first-is, count-row}
 
 -- ---- one moment

@@ -1,19 +1,6 @@
 -- What is left to the timers, by their places.
-use Rattle.std.proofs.Common.{◌≡◌, ◌≢◌, ℕ, suc, nat_lt, ◌+◌, ◌<◌, ◌≤◌, true, false, cond, List, [], ◌∷◌, length, map, get_or, slice_set, refl, sym, ap, subst, ◌∙◌, arith}
-use Rattle.std.proofs.lemmas.List.{get_or-set_same, get_or-set_other, length-set, length-map, get_or-replicate}
-use Rattle.std.proofs.lemmas.List.Sums.{sum_by-set, length-filter, passes_at_first, fails_before_first}
-use Rattle.std.proofs.lemmas.Bool.{true≢false}
-use Rattle.std.proofs.lemmas.Bool.Decides.{nat_tests}
+use Rattle.timers.proofs.Basics.{◌≡◌, ◌≢◌, ℕ, suc, nat_lt, ◌+◌, ◌<◌, ◌≤◌, true, false, cond, List, [], ◌∷◌, length, map, get_or, slice_set, refl, sym, ap, subst, ◌∙◌, arith, get_or-set_same, get_or-set_other, length-set, length-map, get_or-replicate, sum_by-set, length-filter, passes_at_first, fails_before_first, true≢false, nat_tests, Option, Some, None, MatchOption, filter, position_or_len, option_map, TimerName, NodeCounts, has_name, is_before, count_of, named_sets, place_in, name_at, one_less, no_tick_left, Table, has_place, left_to, IsWhole}
 use Rattle.std.proofs.Math.ListN.{get_or-map}
-use Rattle.std.specs.Prelude.{Option, Some, None, MatchOption, filter}
-use Rattle.std.specs.List.{position_or_len}
-use Rattle.std.specs.Option.{option_map}
-use Rattle.timers.specs.declared.name.TimerName.{TimerName}
-use Rattle.timers.specs.declared.name.NodeCounts.{NodeCounts}
-use Rattle.timers.specs.Names.{has_name, is_before, count_of}
-use Rattle.timers.specs.Places.{named_sets, place_in, name_at}
-use Rattle.timers.specs.Timers.{one_less, no_tick_left}
-use Rattle.timers.specs.Table.{Table, has_place, left_to, IsWhole}
 use Rattle.timers.proofs.OnTable.{none_in, put, put_at, put_in, ticked_in, due_place, due_in, after_due_in, count_in}
 use Rattle.timers.proofs.PlaceNames.{name-place, IsNamed, named}
 use Rattle.timers.proofs.PlacesRise.{place-fits, place-rises}

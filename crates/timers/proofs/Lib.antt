@@ -1,3 +1,4 @@
+pub mod Basics
 pub mod Elements
 pub mod Order
 pub mod Keys

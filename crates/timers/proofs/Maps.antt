@@ -1,15 +1,7 @@
 -- What each call leaves to each name.
-use Rattle.std.proofs.Common.{◌≡◌, ◌≢◌, ℕ, ◌==◌, true, false, cond, refl, sym, ap, ◌∙◌, arith}
-use Rattle.std.proofs.lemmas.Bool.Decides.{nat_tests}
-use Rattle.std.specs.Prelude.{Option, Some, None, max}
-use Rattle.timers.specs.declared.name.TimerName.{TimerName}
+use Rattle.timers.proofs.Basics.{◌≡◌, ◌≢◌, ℕ, ◌==◌, true, false, cond, refl, sym, ap, ◌∙◌, arith, nat_tests, Option, Some, None, max, TimerName, RouteTimer, NodeCounts, has_name, is_same, is_of_set, Running, running_with, none_running, is_running, set_timer, start_unless_running, clear_timer, clear_set, one_less, ticked, one_map}
 use Rattle.timers.specs.declared.name.TimerName.TheVariants as name
-use Rattle.timers.specs.declared.name.RouteTimer.{RouteTimer}
 use Rattle.timers.specs.declared.name.RouteTimer.TheVariants as route
-use Rattle.timers.specs.declared.name.NodeCounts.{NodeCounts}
-use Rattle.timers.specs.Names.{has_name, is_same, is_of_set}
-use Rattle.timers.specs.Timers.{Running, running_with, none_running, is_running, set_timer, start_unless_running, clear_timer, clear_set, one_less, ticked}
-use Rattle.timers.specs.OneMap.{one_map}
 use Rattle.timers.proofs.Same.{same_is, is_itself, other_is_not}
 
 -- ---- one name

@@ -1,11 +1,5 @@
 -- The sets that an octet names are the node's, or none is missing.
-use Rattle.std.proofs.Common.{◌≡◌, ℕ, nat_lt, ◌<◌, min, ap, arith}
-use Rattle.std.proofs.lemmas.Bool.Decides.{nat_tests}
-use Rattle.std.specs.Prelude.{◌&&◌}
-use Rattle.timers.specs.declared.name.TimerName.TheVariants.{T4, T8, T10}
-use Rattle.timers.specs.declared.name.NodeCounts.{NodeCounts}
-use Rattle.timers.specs.Names.{has_name}
-use Rattle.timers.specs.Places.{named_sets}
+use Rattle.timers.proofs.Basics.{◌≡◌, ℕ, nat_lt, ◌<◌, min, ap, arith, nat_tests, ◌&&◌, T4, T8, T10, NodeCounts, has_name, named_sets}
 
 same_sets : (set sets : ℕ) → set < 256 → nat_lt set (min sets 256) ≡ nat_lt set sets
 same_sets set sets h = grind (arith, nat_tests, h)

@@ -1,12 +1,5 @@
 -- What the calls do to the table.
-use Rattle.std.specs.Prelude.{ℕ, length, map, filter, position, replicate, slice_set, get_or, Option, Some, None, is_some, if◌then◌else◌}
-use Rattle.std.specs.Option.{option_map}
-use Rattle.timers.specs.declared.name.TimerName.{TimerName}
-use Rattle.timers.specs.declared.name.NodeCounts.{NodeCounts}
-use Rattle.timers.specs.Names.{count_of}
-use Rattle.timers.specs.Places.{named_sets, place_of, name_at}
-use Rattle.timers.specs.Timers.{one_less, no_tick_left}
-use Rattle.timers.specs.Table.{Table}
+use Rattle.timers.proofs.Basics.{ℕ, length, map, filter, position, replicate, slice_set, get_or, Option, Some, None, is_some, if◌then◌else◌, option_map, TimerName, NodeCounts, count_of, named_sets, place_of, name_at, one_less, no_tick_left, Table}
 
 abbrev pub none_in : NodeCounts → Table
 none_in n = record { counts = n; left = replicate (count_of (named_sets n)) None }

@@ -1,8 +1,5 @@
 -- The order of names is strict and total on places.
-use Rattle.std.proofs.Common.{refl, sym, ◌∙◌, ◌≡◌, true, false, arith}
-use Rattle.std.proofs.lemmas.Bool.Decides.{nat_tests}
-use Rattle.timers.specs.declared.name.TimerName.{TimerName}
-use Rattle.timers.specs.Names.{Key, key_of, is_key_before, is_before}
+use Rattle.timers.proofs.Basics.{refl, sym, ◌∙◌, ◌≡◌, true, false, arith, nat_tests, TimerName, Key, key_of, is_key_before, is_before}
 
 key-asym : (x y : Key) → is_key_before x y ≡ true → is_key_before y x ≡ false
 key-asym x y h = grind (arith, nat_tests)

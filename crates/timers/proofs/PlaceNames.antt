@@ -1,14 +1,5 @@
 -- The name at a place, and the place of a name.
-use Rattle.std.proofs.Common.{◌≡◌, ℕ, zero, suc, nat_lt, ◌+◌, ◌-◌, ◌*◌, ◌/◌, ◌%◌, ◌<◌, ◌≤◌, ◌⊎◌, inl, inr, true, false, cond, refl, sym, ap, subst, ◌∙◌, arith}
-use Rattle.std.specs.Prelude.{◌&&◌}
-use Rattle.std.proofs.Math.Nat.{mul-le-mul_right, div-add-mod, mod-lt, div-lt_iff_lt-mul, mul_comm}
-use Rattle.std.proofs.lemmas.Nat.{div-mul-add, mod-mul-add}
-use Rattle.std.proofs.lemmas.Bool.Decides.{nat_tests}
-use Rattle.timers.specs.declared.name.TimerName.{TimerName}
-use Rattle.timers.specs.declared.name.TimerName.TheVariants.{L1, L2, L3, L4, L6, L7, T1, T2, T3, T4, T6, T8, T10}
-use Rattle.timers.specs.declared.name.NodeCounts.{NodeCounts}
-use Rattle.timers.specs.Names.{has_name, count_of}
-use Rattle.timers.specs.Places.{codes_from, destinations_from, t8_from, t10_from, place_in, link_name, code_name, route_name, name_at}
+use Rattle.timers.proofs.Basics.{◌≡◌, ℕ, zero, suc, nat_lt, ◌+◌, ◌-◌, ◌*◌, ◌/◌, ◌%◌, ◌<◌, ◌≤◌, ◌⊎◌, inl, inr, true, false, cond, refl, sym, ap, subst, ◌∙◌, arith, ◌&&◌, mul-le-mul_right, div-add-mod, mod-lt, div-lt_iff_lt-mul, mul_comm, div-mul-add, mod-mul-add, nat_tests, TimerName, L1, L2, L3, L4, L6, L7, T1, T2, T3, T4, T6, T8, T10, NodeCounts, has_name, count_of, codes_from, destinations_from, t8_from, t10_from, place_in, link_name, code_name, route_name, name_at}
 
 under : {a b : ℕ} → a < b → nat_lt a b ≡ true
 under {a} {b} h = grind (arith, nat_tests)

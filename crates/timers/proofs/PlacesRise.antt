@@ -1,14 +1,5 @@
 -- The places of the timers that a node has: they rise in name order, and are as many as its names.
-use Rattle.std.proofs.Common.{◌≡◌, ℕ, zero, suc, nat_lt, ◌+◌, ◌*◌, ◌<◌, ◌≤◌, true, List, [], ◌∷◌, take, get_or, inl, inr, refl, ap, ◌∙◌, arith}
-use Rattle.std.specs.Prelude.{◌&&◌}
-use Rattle.std.proofs.Math.Nat.{mul-le-mul_right}
-use Rattle.std.proofs.lemmas.Bool.{cases_order}
-use Rattle.std.proofs.lemmas.Bool.Decides.{nat_tests}
-use Rattle.timers.specs.declared.name.TimerName.{TimerName}
-use Rattle.timers.specs.declared.name.TimerName.TheVariants.{L1, L2, L3, L4, L6, L7, T1, T2, T3, T4, T6, T8, T10}
-use Rattle.timers.specs.declared.name.NodeCounts.{NodeCounts}
-use Rattle.timers.specs.Names.{Key, key, key_of, is_key_before, is_before, has_name, count_of}
-use Rattle.timers.specs.Places.{place_in}
+use Rattle.timers.proofs.Basics.{◌≡◌, ℕ, zero, suc, nat_lt, ◌+◌, ◌*◌, ◌<◌, ◌≤◌, true, List, [], ◌∷◌, take, get_or, inl, inr, refl, ap, ◌∙◌, arith, ◌&&◌, mul-le-mul_right, cases_order, nat_tests, TimerName, L1, L2, L3, L4, L6, L7, T1, T2, T3, T4, T6, T8, T10, NodeCounts, Key, key, key_of, is_key_before, is_before, has_name, count_of, place_in}
 
 -- how many names each kind has, and how many columns its table of names has
 abbrev pub sizes : NodeCounts → List ℕ

@@ -1,8 +1,5 @@
 -- Two names are one, or one comes before the other.
-use Rattle.std.proofs.Common.{◌≡◌, ◌≢◌, true, false, refl, arith}
-use Rattle.std.proofs.lemmas.Bool.Decides.{nat_tests}
-use Rattle.timers.specs.declared.name.TimerName.{TimerName}
-use Rattle.timers.specs.Names.{Key, key_of, is_key_before, is_before, is_same_key, is_same}
+use Rattle.timers.proofs.Basics.{◌≡◌, ◌≢◌, true, false, refl, arith, nat_tests, TimerName, Key, key_of, is_key_before, is_before, is_same_key, is_same}
 use Rattle.timers.proofs.Keys.{one_name}
 
 same-key : (x y : Key) → is_same_key x y ≡ true → x ≡ y

@@ -1,10 +1,5 @@
 -- What a write and a tick leave of the tree, and of the ticks that are left.
-use Rattle.std.proofs.Common.{◌≡◌, ℕ, ◌+◌, ◌<◌, List, length, map, take, drop, slice_set, sym, ap, subst, ◌∙◌, arith}
-use Rattle.std.specs.Prelude.{Option}
-use Rattle.std.proofs.lemmas.List.{length-map}
-use Rattle.timers.specs.Timers.{one_less}
-use Rattle.timers.specs.Tree.{never, left_at, rebased, IsBounded}
-use Rattle.timers.specs.Moments.{left_in, IsTree}
+use Rattle.timers.proofs.Basics.{◌≡◌, ℕ, ◌+◌, ◌<◌, List, length, map, take, drop, slice_set, sym, ap, subst, ◌∙◌, arith, Option, length-map, one_less, never, left_at, rebased, IsBounded, left_in, IsTree}
 use Rattle.timers.proofs.InMoments.{left-set, tree-set, tree-mended, length-left, left-later, tree-later, left-again, tree-again}
 
 -- so much is left, and the tree is one

@@ -1,15 +1,5 @@
 -- The map that the table says: what a call does to the table, it does to the map.
-use Rattle.std.proofs.Common.{◌≡◌, ◌≢◌, ℕ, zero, suc, nat_lt, min, Bool, true, false, cond, refl, sym, ap, subst, ◌∙◌, arith}
-use Rattle.std.proofs.lemmas.Bool.Decides.{nat_tests}
-use Rattle.std.specs.Prelude.{Option, Some, None, is_some, max, ◌&&◌}
-use Rattle.timers.specs.declared.name.TimerName.{TimerName}
-use Rattle.timers.specs.declared.name.TimerName.TheVariants.{L1, L2, L3, L4, L6, L7, T1, T2, T3, T4, T6, T8, T10}
-use Rattle.timers.specs.declared.name.NodeCounts.{NodeCounts}
-use Rattle.timers.specs.Names.{has_name, is_same}
-use Rattle.timers.specs.Places.{named_sets, place_of}
-use Rattle.timers.specs.Timers.{Running, none_running, is_running, set_timer, start_unless_running, clear_timer, one_less, ticked, due_name, after_due, due_count}
-use Rattle.timers.specs.OneMap.{one_map}
-use Rattle.timers.specs.Table.{Table, has_place, left_to, map_of, IsWhole}
+use Rattle.timers.proofs.Basics.{◌≡◌, ◌≢◌, ℕ, zero, suc, nat_lt, min, Bool, true, false, cond, refl, sym, ap, subst, ◌∙◌, arith, nat_tests, Option, Some, None, is_some, max, ◌&&◌, TimerName, L1, L2, L3, L4, L6, L7, T1, T2, T3, T4, T6, T8, T10, NodeCounts, has_name, is_same, named_sets, place_of, Running, none_running, is_running, set_timer, start_unless_running, clear_timer, one_less, ticked, due_name, after_due, due_count, one_map, Table, has_place, left_to, map_of, IsWhole}
 use Rattle.timers.proofs.OnTable.{none_in, put_in, ticked_in, due_place, due_in, after_due_in, count_in}
 use Rattle.timers.proofs.Same.{same_is, is_itself}
 use Rattle.timers.proofs.InTable as table

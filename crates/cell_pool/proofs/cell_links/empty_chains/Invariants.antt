@@ -1,6 +1,5 @@
 -- the lists so far, and room for all
-use Rattle.std.proofs.Common.{◌≡◌, ◌≤◌, replicate, vec_capacity}
-use Rattle.cell_pool.specs.Chains.{no_cells}
+use Rattle.cell_pool.proofs.Basics.{◌≡◌, ◌≤◌, replicate, vec_capacity, no_cells}
 use Rattle.cell_pool.proofs.cell_links.empty_chains.Given as goal
 
 abbrev pub invariant-loop : goal.invariant-loop

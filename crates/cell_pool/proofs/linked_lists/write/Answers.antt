@@ -1,6 +1,5 @@
 -- A message is in its cell, which stood in the row or comes behind it.
-use Rattle.std.proofs.Common.{[], arith}
-use Rattle.signalling_types.specs.Lent.{lent}
+use Rattle.cell_pool.proofs.Basics.{[], arith, lent}
 use Rattle.cell_pool.proofs.LinkedReading.{written-behind, written-in}
 use Rattle.cell_pool.proofs.linked_lists.write.Goals as goal
 use Rattle.cell_pool.proofs.linked_lists.write.Goals.{then-index-len, else-index-len}

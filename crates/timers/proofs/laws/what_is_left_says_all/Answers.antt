@@ -1,4 +1,4 @@
-use Rattle.timers.specs.OneMap.{one_map}
+use Rattle.timers.proofs.Basics.{one_map}
 use Rattle.timers.proofs.laws.what_is_left_says_all.Goals as goal
 
 pub returns : goal.returns

@@ -1,5 +1,4 @@
-use Rattle.std.proofs.Common.{arith}
-use Rattle.std.proofs.lemmas.Nat.{one_shl, pow_below}
+use Rattle.timers.proofs.Basics.{arith, one_shl, pow_below}
 use Rattle.timers.proofs.moments.leaves_at.Goals as goal
 
 pub returns-clause-fits : goal.returns-clause-fits

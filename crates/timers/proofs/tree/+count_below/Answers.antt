@@ -1,7 +1,4 @@
-use Rattle.std.proofs.Common.{◌<◌, length, sym, arith}
-use Rattle.std.proofs.lemmas.Nat.{pow_below}
-use Rattle.std.proofs.lemmas.List.{get_or_default}
-use Rattle.timers.specs.Tree.{never}
+use Rattle.timers.proofs.Basics.{◌<◌, length, sym, arith, pow_below, get_or_default, never}
 use Rattle.timers.proofs.Beneath.{row-first, row-second, row-within, two-halves, bounded-first, bounded-second, none-below}
 use Rattle.timers.proofs.tree.+count_below.Goals as goal
 

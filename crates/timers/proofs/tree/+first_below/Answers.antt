@@ -1,6 +1,4 @@
-use Rattle.std.proofs.Common.{◌<◌, length, sym, arith}
-use Rattle.std.proofs.lemmas.List.{get_or_default}
-use Rattle.timers.specs.Tree.{never}
+use Rattle.timers.proofs.Basics.{◌<◌, length, sym, arith, get_or_default, never}
 use Rattle.timers.proofs.Beneath.{row-within, none-first}
 use Rattle.timers.proofs.tree.+first_below.Goals as goal
 

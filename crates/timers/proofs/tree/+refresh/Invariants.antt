@@ -1,4 +1,4 @@
-use Rattle.std.proofs.Common.{◌-◌}
+use Rattle.timers.proofs.Basics.{◌-◌}
 use Rattle.timers.proofs.tree.+refresh.Given as goal
 
 abbrev pub decreases-refresh : goal.decreases-refresh

@@ -1,7 +1,6 @@
-use Rattle.std.proofs.Common.{arith}
+use Rattle.timers.proofs.Basics.{arith, rebased}
 use Rattle.std.proofs.lemmas.Grind.{common_steps}
 use Rattle.std.proofs.lemmas.List.Edits.{map_over_more}
-use Rattle.timers.specs.Tree.{rebased}
 use Rattle.timers.proofs.tree.rebase.Goals as goal
 
 pub loop-moment-preserved : goal.loop-moment-preserved

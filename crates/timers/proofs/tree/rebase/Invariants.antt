@@ -1,5 +1,4 @@
-use Rattle.std.proofs.Common.{◌≡◌, ◌++◌, map, take, drop}
-use Rattle.timers.specs.Tree.{rebased}
+use Rattle.timers.proofs.Basics.{◌≡◌, ◌++◌, map, take, drop, rebased}
 use Rattle.timers.proofs.tree.rebase.Given as goal
 
 abbrev pub invariant-loop-moment : goal.invariant-loop-moment

@@ -1,5 +1,4 @@
-use Rattle.std.proofs.Common.{◌≡◌, ◌<◌, drop, slice_set}
-use Rattle.timers.specs.Tree.{IsBoundedBut}
+use Rattle.timers.proofs.Basics.{◌≡◌, ◌<◌, drop, slice_set, IsBoundedBut}
 use Rattle.timers.proofs.tree.set_leaf.Given as goal
 
 abbrev pub invariant-loop-node : goal.invariant-loop-node

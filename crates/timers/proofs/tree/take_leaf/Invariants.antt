@@ -1,5 +1,4 @@
-use Rattle.std.proofs.Common.{◌≡◌, ◌<◌, drop, slice_set}
-use Rattle.timers.specs.Tree.{never, IsBounded}
+use Rattle.timers.proofs.Basics.{◌≡◌, ◌<◌, drop, slice_set, never, IsBounded}
 use Rattle.timers.proofs.tree.take_leaf.Given as goal
 
 abbrev pub invariant-loop-node : goal.invariant-loop-node

@@ -1,9 +1,5 @@
 -- All cells of a list come behind those of another.
-use Rattle.std.proofs.Common.{◌≡◌, ℕ, ◌<◌, ◌≤◌, List, [], length, arith, ap, sym, ◌∙◌}
-use Rattle.std.proofs.Math.ListN.{set}
-use Rattle.std.proofs.lemmas.List.{length-set, length-map}
-use Rattle.cell_pool.specs.Numbering.{ring_at}
-use Rattle.cell_pool.specs.Chains.{Chained, no_cells, walk, cells_of, rings_of, chain_at, end_of}
+use Rattle.cell_pool.proofs.Basics.{◌≡◌, ℕ, ◌<◌, ◌≤◌, List, [], length, arith, ap, sym, ◌∙◌, set, length-set, length-map, ring_at, Chained, no_cells, walk, cells_of, rings_of, chain_at, end_of}
 use Rattle.cell_pool.proofs.Walks.{read-is, walk-set}
 use Rattle.cell_pool.proofs.Chaining.{ring-cells}
 use Rattle.cell_pool.proofs.Splicing.{IsSeam, seam, rings-joined, shared-joined, marked-joined, none-joined}

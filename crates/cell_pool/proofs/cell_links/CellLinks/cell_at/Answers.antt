@@ -1,7 +1,5 @@
 -- The noted cell and the last one are known.
-use Rattle.std.proofs.Common.{◌≡◌, ℕ, ◌-◌, ◌<◌, ◌≤◌, List, length, get_or, arith, ap, sym, ◌∙◌}
-use Rattle.cell_pool.specs.Chains.{Chained, no_cells, cells_of, chain_at, IsMarked}
-use Rattle.cell_pool.specs.Links.{Linked}
+use Rattle.cell_pool.proofs.Basics.{◌≡◌, ℕ, ◌-◌, ◌<◌, ◌≤◌, List, length, get_or, arith, ap, sym, ◌∙◌, Chained, no_cells, cells_of, chain_at, IsMarked, Linked}
 use Rattle.cell_pool.proofs.Walks.{read-is, walk-first}
 use Rattle.cell_pool.proofs.Chaining.{mark-of}
 use Rattle.cell_pool.proofs.Linking.{within_chains, value-cells, value-count, value-within}

@@ -1,6 +1,5 @@
 -- A list has as many cells as its chain says.
-use Rattle.std.proofs.Common.{◌<◌, length, ap, ◌∙◌}
-use Rattle.cell_pool.specs.Chains.{Chained, no_cells}
+use Rattle.cell_pool.proofs.Basics.{◌<◌, length, ap, ◌∙◌, Chained, no_cells}
 use Rattle.cell_pool.proofs.Walks.{read-is}
 use Rattle.cell_pool.proofs.Linking.{within_chains, value-count}
 use Rattle.cell_pool.proofs.cell_links.CellLinks.count.Goals as goal

@@ -1,8 +1,5 @@
 -- A free cell is in no list.
-use Rattle.std.proofs.Common.{arith, ap, sym, ◌∙◌}
-use Rattle.std.specs.Prelude.{sum_by}
-use Rattle.cell_pool.specs.Numbering.{uses}
-use Rattle.cell_pool.specs.Links.{Linked}
+use Rattle.cell_pool.proofs.Basics.{arith, ap, sym, ◌∙◌, sum_by, uses, Linked}
 use Rattle.cell_pool.proofs.Taking.{free-within, free-fresh}
 use Rattle.cell_pool.proofs.Linking.{some_free}
 use Rattle.cell_pool.proofs.cell_links.CellLinks.first_free.Goals as goal

@@ -1,7 +1,5 @@
 -- The first cell is known.
-use Rattle.std.proofs.Common.{◌≡◌, ℕ, ◌<◌, ◌≤◌, List, length, get_or, arith, ap, sym, ◌∙◌}
-use Rattle.cell_pool.specs.Chains.{Chained, no_cells, chain_at}
-use Rattle.cell_pool.specs.Links.{Linked}
+use Rattle.cell_pool.proofs.Basics.{◌≡◌, ℕ, ◌<◌, ◌≤◌, List, length, get_or, arith, ap, sym, ◌∙◌, Chained, no_cells, chain_at, Linked}
 use Rattle.cell_pool.proofs.Walks.{read-is, walk-first}
 use Rattle.cell_pool.proofs.Linking.{within_chains, value-cells, value-count, value-within}
 use Rattle.cell_pool.proofs.cell_links.CellLinks.first_of.Goals as goal

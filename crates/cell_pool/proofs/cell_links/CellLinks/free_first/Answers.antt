@@ -1,8 +1,5 @@
 -- The first cell of a list is free: what each list and the free cells are then.
-use Rattle.std.proofs.Common.{◌≡◌, ℕ, ◌-◌, ◌<◌, ◌≤◌, List, ◌∷◌, length, get_or, arith, ap, ◌∙◌}
-use Rattle.std.proofs.lemmas.List.{length-set, length-map}
-use Rattle.cell_pool.specs.Numbering.{ring_at}
-use Rattle.cell_pool.specs.Chains.{Chained, no_cells, walk, cells_of, rings_of, chain_at}
+use Rattle.cell_pool.proofs.Basics.{◌≡◌, ℕ, ◌-◌, ◌<◌, ◌≤◌, List, ◌∷◌, length, get_or, arith, ap, ◌∙◌, length-set, length-map, ring_at, Chained, no_cells, walk, cells_of, rings_of, chain_at}
 use Rattle.cell_pool.proofs.Walks.{read-is, length-walk}
 use Rattle.cell_pool.proofs.Chaining.{ring-cells}
 use Rattle.cell_pool.proofs.Taking.{IsFirst, first-freed, rings-freed, free-freed, shared-freed, marked-freed}

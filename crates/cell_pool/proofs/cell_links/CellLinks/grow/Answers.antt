@@ -1,8 +1,5 @@
 -- A cell that was never used is in no list: each list stays as it was.
-use Rattle.std.proofs.Common.{◌≡◌, ℕ, ◌∷◌, [], ◌++◌, List, length, arith, ap, ◌∙◌}
-use Rattle.std.proofs.lemmas.List.{length_push}
-use Rattle.cell_pool.specs.Chains.{Chained, walk, rings_of}
-use Rattle.cell_pool.specs.Links.{Linked}
+use Rattle.cell_pool.proofs.Basics.{◌≡◌, ℕ, ◌∷◌, [], ◌++◌, List, length, arith, ap, ◌∙◌, length_push, Chained, walk, rings_of, Linked}
 use Rattle.cell_pool.proofs.Taking.{new-unused, rings-grown, shared-grown}
 use Rattle.cell_pool.proofs.cell_links.CellLinks.grow.Goals as goal
 

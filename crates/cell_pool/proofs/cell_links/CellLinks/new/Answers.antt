@@ -1,5 +1,5 @@
 -- At first no list has a cell, and none was used.
-use Rattle.std.proofs.Common.{ℕ, [], length, arith, ap, refl}
+use Rattle.cell_pool.proofs.Basics.{ℕ, [], length, arith, ap, refl}
 use Rattle.cell_pool.proofs.Taking.{rings-none, shared-none, marked-none}
 use Rattle.cell_pool.proofs.cell_links.CellLinks.new.Goals as goal
 

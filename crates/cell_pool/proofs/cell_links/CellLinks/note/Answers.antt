@@ -1,7 +1,5 @@
 -- A noted cell changes no list.
-use Rattle.std.proofs.Common.{◌≡◌, ℕ, ◌<◌, List, length, get_or, arith, ap, sym, ◌∙◌, refl}
-use Rattle.std.proofs.Math.ListN.{set}
-use Rattle.cell_pool.specs.Chains.{Chained, no_cells, walk, cells_of, rings_of, chain_at}
+use Rattle.cell_pool.proofs.Basics.{◌≡◌, ℕ, ◌<◌, List, length, get_or, arith, ap, sym, ◌∙◌, refl, set, Chained, no_cells, walk, cells_of, rings_of, chain_at}
 use Rattle.cell_pool.proofs.Walks.{read-is}
 use Rattle.cell_pool.proofs.Splicing.{rings-noted, marked-noted}
 use Rattle.cell_pool.proofs.Linking.{within_chains, value-cells, value-count}

@@ -1,9 +1,5 @@
 -- The first free cell goes to the end of a list: what each list and the free cells are then.
-use Rattle.std.proofs.Common.{◌≡◌, ℕ, ◌-◌, ◌<◌, ◌≤◌, List, [], ◌∷◌, ◌++◌, length, get_or, take, drop, arith, ap, ◌∙◌}
-use Rattle.std.proofs.Math.ListN.{set}
-use Rattle.std.proofs.lemmas.List.{length-set, length-map}
-use Rattle.cell_pool.specs.Numbering.{ring_at}
-use Rattle.cell_pool.specs.Chains.{Chained, no_cells, one_cell, walk, cells_of, rings_of, chain_at, end_of, joined}
+use Rattle.cell_pool.proofs.Basics.{◌≡◌, ℕ, ◌-◌, ◌<◌, ◌≤◌, List, [], ◌∷◌, ◌++◌, length, get_or, take, drop, arith, ap, ◌∙◌, set, length-set, length-map, ring_at, Chained, no_cells, one_cell, walk, cells_of, rings_of, chain_at, end_of, joined}
 use Rattle.cell_pool.proofs.Walks.{read-is, walk-first}
 use Rattle.cell_pool.proofs.Taking.{IsEnd, end-taken, free-taken, rings-taken, shared-taken, marked-taken, free-within}
 use Rattle.cell_pool.proofs.Linking.{within_chains, some_free, few_cells}

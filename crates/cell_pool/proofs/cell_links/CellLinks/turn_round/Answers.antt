@@ -1,10 +1,5 @@
 -- What stands behind the cut comes before what stands in front of it.
-use Rattle.std.proofs.Common.{◌≡◌, ℕ, ◌-◌, ◌<◌, ◌≤◌, List, ◌++◌, length, get_or, take, drop, arith, ap, ◌∙◌}
-use Rattle.std.proofs.Math.ListN.{set}
-use Rattle.std.proofs.lemmas.List.{length-set, length-map}
-use Rattle.cell_pool.specs.Numbering.{ring_at}
-use Rattle.cell_pool.specs.Chains.{Chained, no_cells, walk, cells_of, rings_of, chain_at}
-use Rattle.cell_pool.specs.Links.{Linked}
+use Rattle.cell_pool.proofs.Basics.{◌≡◌, ℕ, ◌-◌, ◌<◌, ◌≤◌, List, ◌++◌, length, get_or, take, drop, arith, ap, ◌∙◌, set, length-set, length-map, ring_at, Chained, no_cells, walk, cells_of, rings_of, chain_at, Linked}
 use Rattle.cell_pool.proofs.Walks.{read-is, walk-set}
 use Rattle.cell_pool.proofs.Splicing.{IsCut, cut, rings-turned, shared-turned, marked-turned, uncut-front, uncut-back, rings-uncut}
 use Rattle.cell_pool.proofs.Linking.{within_chains, value-cells, value-count}

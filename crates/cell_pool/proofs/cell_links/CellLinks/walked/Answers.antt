@@ -1,7 +1,5 @@
 -- Each cell names the next one of its list.
-use Rattle.std.proofs.Common.{◌≡◌, ◌<◌, length, get_or, arith, ap, sym, ◌∙◌}
-use Rattle.cell_pool.specs.Numbering.{ring_at}
-use Rattle.cell_pool.specs.Links.{Linked}
+use Rattle.cell_pool.proofs.Basics.{◌≡◌, ◌<◌, length, get_or, arith, ap, sym, ◌∙◌, ring_at, Linked}
 use Rattle.cell_pool.proofs.Walks.{read-is}
 use Rattle.cell_pool.proofs.Linking.{within_chains, value-within, value-next}
 use Rattle.cell_pool.proofs.cell_links.CellLinks.walked.Goals as goal

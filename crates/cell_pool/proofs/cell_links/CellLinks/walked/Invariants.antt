@@ -1,6 +1,5 @@
 -- the cell at the place that was reached
-use Rattle.std.proofs.Common.{◌≡◌, get_or}
-use Rattle.cell_pool.specs.Numbering.{ring_at}
+use Rattle.cell_pool.proofs.Basics.{◌≡◌, get_or, ring_at}
 use Rattle.cell_pool.proofs.cell_links.CellLinks.walked.Given as goal
 
 abbrev pub invariant-loop : goal.invariant-loop

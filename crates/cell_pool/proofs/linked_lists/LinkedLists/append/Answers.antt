@@ -1,6 +1,5 @@
 -- All cells of a list pass to another.
-use Rattle.std.proofs.Common.{◌<◌, List, length, ap}
-use Rattle.signalling_types.specs.Message.{Message}
+use Rattle.cell_pool.proofs.Basics.{◌<◌, List, length, ap, Message}
 use Rattle.cell_pool.proofs.LinkedReading.{all-lists}
 use Rattle.cell_pool.proofs.LinkedReading.{within_linked}
 use Rattle.cell_pool.proofs.linked_lists.LinkedLists.append.Goals as goal

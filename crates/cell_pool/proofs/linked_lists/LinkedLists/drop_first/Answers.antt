@@ -1,10 +1,5 @@
 -- The first cell of the list is free now.
-use Rattle.std.proofs.Common.{◌<◌, List, length, ap, arith}
-use Rattle.std.proofs.lemmas.List.{length-map}
-use Rattle.signalling_types.specs.Message.{Message}
-use Rattle.cell_pool.specs.Numbering.{ring_at}
-use Rattle.cell_pool.specs.Lanes.{lane_at}
-use Rattle.cell_pool.specs.Cells.{Occupied, message_at}
+use Rattle.cell_pool.proofs.Basics.{◌<◌, List, length, ap, arith, length-map, Message, ring_at, lane_at, Occupied, message_at}
 use Rattle.cell_pool.proofs.Reading.{dropped-lists, list_at}
 use Rattle.cell_pool.proofs.LinkedReading.{within_linked}
 use Rattle.cell_pool.proofs.linked_lists.LinkedLists.drop_first.Goals as goal

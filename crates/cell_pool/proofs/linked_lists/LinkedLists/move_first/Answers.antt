@@ -1,6 +1,5 @@
 -- The first cell of a list passes to one.
-use Rattle.std.proofs.Common.{◌<◌, List, length, ap}
-use Rattle.signalling_types.specs.Message.{Message}
+use Rattle.cell_pool.proofs.Basics.{◌<◌, List, length, ap, Message}
 use Rattle.cell_pool.proofs.Reading.{first-lists}
 use Rattle.cell_pool.proofs.LinkedReading.{within_linked}
 use Rattle.cell_pool.proofs.linked_lists.LinkedLists.move_first.Goals as goal

@@ -1,7 +1,5 @@
 -- No list has the cell that is written.
-use Rattle.std.proofs.Common.{◌<◌, ◌≤◌, List, length, arith, ap}
-use Rattle.signalling_types.specs.Message.{Message}
-use Rattle.signalling_types.specs.Lent.{lent}
+use Rattle.cell_pool.proofs.Basics.{◌<◌, ◌≤◌, List, length, arith, ap, Message, lent}
 use Rattle.cell_pool.proofs.LinkedReading.{within_linked, written-lists}
 use Rattle.cell_pool.proofs.linked_lists.LinkedLists.push_back.Goals as goal
 

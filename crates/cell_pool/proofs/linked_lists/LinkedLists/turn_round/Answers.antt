@@ -1,6 +1,5 @@
 -- A list of cells that is turned round is one of their messages.
-use Rattle.std.proofs.Common.{◌<◌, List, length, ap}
-use Rattle.signalling_types.specs.Message.{Message}
+use Rattle.cell_pool.proofs.Basics.{◌<◌, List, length, ap, Message}
 use Rattle.cell_pool.proofs.LinkedReading.{within_linked, cut-lists}
 use Rattle.cell_pool.proofs.linked_lists.LinkedLists.turn_round.Goals as goal
 

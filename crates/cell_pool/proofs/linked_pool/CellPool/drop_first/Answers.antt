@@ -1,6 +1,5 @@
 -- The first message of the list is among those that are counted.
-use Rattle.std.proofs.Common.{◌<◌, length, arith, ap, sym, ◌∙◌}
-use Rattle.cell_pool.specs.Stored.{Stored}
+use Rattle.cell_pool.proofs.Basics.{◌<◌, length, arith, ap, sym, ◌∙◌, Stored}
 use Rattle.cell_pool.proofs.Counting.{first_management, first_user}
 use Rattle.cell_pool.proofs.linked_pool.CellPool.drop_first.Goals as goal
 

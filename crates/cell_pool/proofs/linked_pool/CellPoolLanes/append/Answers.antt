@@ -1,9 +1,5 @@
 -- As many messages of each kind stand as before.
-use Rattle.std.proofs.Common.{◌<◌, length, arith, ap}
-use Rattle.cell_pool.specs.Cells.{Occupied}
-use Rattle.cell_pool.specs.Lanes.{HasAsMany, users, managements}
-use Rattle.cell_pool.specs.Moves.{all_behind}
-use Rattle.cell_pool.specs.Stored.{Stored}
+use Rattle.cell_pool.proofs.Basics.{◌<◌, length, arith, ap, Occupied, HasAsMany, users, managements, all_behind, Stored}
 use Rattle.cell_pool.proofs.Sums.{many-all_behind}
 use Rattle.cell_pool.proofs.linked_pool.CellPoolLanes.append.Goals as goal
 

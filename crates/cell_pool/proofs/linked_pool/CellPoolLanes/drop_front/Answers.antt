@@ -1,6 +1,5 @@
 -- One message more is dropped.
-use Rattle.std.proofs.Common.{List, ap}
-use Rattle.signalling_types.specs.Message.{Message}
+use Rattle.cell_pool.proofs.Basics.{List, ap, Message}
 use Rattle.cell_pool.proofs.Counting.{dropped-next}
 use Rattle.cell_pool.proofs.linked_pool.CellPoolLanes.drop_front.Goals as goal
 

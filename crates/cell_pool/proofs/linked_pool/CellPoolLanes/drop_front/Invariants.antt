@@ -1,6 +1,5 @@
 -- so many messages of the list are dropped by now
-use Rattle.std.proofs.Common.{◌≡◌}
-use Rattle.cell_pool.specs.Lanes.{dropped}
+use Rattle.cell_pool.proofs.Basics.{◌≡◌, dropped}
 use Rattle.cell_pool.proofs.linked_pool.CellPoolLanes.drop_front.Given as goal
 
 abbrev pub invariant-loop : goal.invariant-loop

@@ -1,10 +1,6 @@
 -- One message more was gone through.
-use Rattle.std.proofs.Common.{◌<◌, Bool, length, arith, ap, ◌∙◌}
-use Rattle.signalling_types.specs.Message.{Message}
-use Rattle.cell_pool.specs.Stored.{Stored}
-use Rattle.cell_pool.specs.Moves.{list_at}
+use Rattle.cell_pool.proofs.Basics.{◌<◌, Bool, length, arith, ap, ◌∙◌, Message, Stored, list_at, turned}
 use Rattle.cell_pool.proofs.Moving.{turned-more, stored, blank}
-use Rattle.cell_pool.specs.Turns.{turned}
 use Rattle.cell_pool.proofs.linked_pool.CellPoolLanes.move_where.Goals as goal
 
 pub loop-preserved : goal.loop-preserved

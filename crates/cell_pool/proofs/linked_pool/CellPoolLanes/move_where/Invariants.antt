@@ -1,5 +1,5 @@
 -- so many messages of the one list were gone through by now
-use Rattle.std.proofs.Common.{◌≡◌}
+use Rattle.cell_pool.proofs.Basics.{◌≡◌}
 use Rattle.cell_pool.proofs.Moving.{turned_so_far}
 use Rattle.cell_pool.proofs.linked_pool.CellPoolLanes.move_where.Given as goal
 

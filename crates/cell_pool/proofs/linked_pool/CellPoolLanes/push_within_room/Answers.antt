@@ -1,8 +1,5 @@
 -- One kind is below its limit, so that fewer messages stand than there are cells.
-use Rattle.std.proofs.Common.{◌≡◌, None, arith, ap, ◌∙◌}
-use Rattle.signalling_types.specs.Lent.{lent}
-use Rattle.cell_pool.specs.Lanes.{push_refusal}
-use Rattle.cell_pool.specs.Stored.{Stored}
+use Rattle.cell_pool.proofs.Basics.{◌≡◌, None, arith, ap, ◌∙◌, lent, push_refusal, Stored}
 use Rattle.cell_pool.proofs.Counting.{room_for}
 use Rattle.cell_pool.proofs.linked_pool.CellPoolLanes.push_within_room.Goals as goal
 

@@ -1,9 +1,5 @@
 -- What was put behind a list comes before it, where the list is turned round at its old end.
-use Rattle.std.proofs.Common.{Bool, not, ap, ◌∙◌}
-use Rattle.std.specs.Prelude.{filter}
-use Rattle.signalling_types.specs.Message.{Message}
-use Rattle.cell_pool.specs.Stored.{Stored}
-use Rattle.cell_pool.specs.Lanes.{lane_at}
+use Rattle.cell_pool.proofs.Basics.{Bool, not, ap, ◌∙◌, filter, Message, Stored, lane_at}
 use Rattle.cell_pool.proofs.Turning.{cut-behind}
 use Rattle.cell_pool.proofs.linked_pool.CellPoolLanes.splice_where.Goals as goal
 

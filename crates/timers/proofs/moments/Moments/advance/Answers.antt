@@ -1,6 +1,4 @@
-use Rattle.std.proofs.Common.{map, ap, ◌∙◌, arith}
-use Rattle.std.proofs.lemmas.List.{with_items_is}
-use Rattle.timers.specs.Timers.{one_less}
+use Rattle.timers.proofs.Basics.{map, ap, ◌∙◌, arith, with_items_is, one_less}
 use Rattle.timers.proofs.Ticking.{tick_leaves, rebase_leaves, rebase_size}
 use Rattle.timers.proofs.moments.Moments.advance.Goals as goal
 

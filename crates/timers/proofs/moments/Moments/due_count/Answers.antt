@@ -1,7 +1,4 @@
-use Rattle.std.proofs.Common.{length, sym, ap, subst, ◌∙◌}
-use Rattle.std.specs.Prelude.{filter}
-use Rattle.timers.specs.Timers.{no_tick_left}
-use Rattle.timers.specs.Tree.{count_below, AreBounded}
+use Rattle.timers.proofs.Basics.{length, sym, ap, subst, ◌∙◌, filter, no_tick_left, count_below, AreBounded}
 use Rattle.timers.proofs.InMoments.{bounded, left-counted}
 use Rattle.timers.proofs.moments.Moments.due_count.Goals as goal
 

@@ -1,7 +1,4 @@
-use Rattle.std.proofs.Common.{length, ap, sym, subst, ◌∙◌, arith}
-use Rattle.std.specs.Prelude.{position}
-use Rattle.timers.specs.Timers.{no_tick_left}
-use Rattle.timers.specs.Tree.{first_below, AreBounded}
+use Rattle.timers.proofs.Basics.{length, ap, sym, subst, ◌∙◌, arith, position, no_tick_left, first_below, AreBounded}
 use Rattle.timers.proofs.InMoments.{length-left, bounded, leaf-found, none-found}
 use Rattle.timers.proofs.moments.Moments.first_due.Goals as goal
 

@@ -1,8 +1,5 @@
 -- A timer runs where its moment comes before never.
-use Rattle.std.proofs.Common.{◌<◌, ◌+◌, length, get_or, ap, ◌∙◌, arith}
-use Rattle.std.specs.Prelude.{None, is_some}
-use Rattle.std.proofs.lemmas.List.{get_or_read}
-use Rattle.timers.specs.Tree.{never}
+use Rattle.timers.proofs.Basics.{◌<◌, ◌+◌, length, get_or, ap, ◌∙◌, arith, None, is_some, get_or_read, never}
 use Rattle.timers.proofs.InMoments.{length-left, left-runs}
 use Rattle.timers.proofs.moments.Moments.is_running.Goals as goal
 

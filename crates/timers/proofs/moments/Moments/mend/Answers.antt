@@ -1,7 +1,5 @@
 -- Nodes above the leaves are mended, and the leaves stay.
-use Rattle.std.proofs.Common.{length, sym, ap, subst, ◌∙◌}
-use Rattle.std.proofs.lemmas.List.{with_items_is}
-use Rattle.timers.specs.Tree.{IsBounded}
+use Rattle.timers.proofs.Basics.{length, sym, ap, subst, ◌∙◌, with_items_is, IsBounded}
 use Rattle.timers.proofs.Ticking.{mend_leaves}
 use Rattle.timers.proofs.moments.Moments.mend.Goals as goal
 

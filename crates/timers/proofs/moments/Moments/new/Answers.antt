@@ -1,4 +1,4 @@
-use Rattle.std.proofs.Common.{arith}
+use Rattle.timers.proofs.Basics.{arith}
 use Rattle.timers.proofs.InMoments.{tree-none, left-none}
 use Rattle.timers.proofs.moments.Moments.new.Goals as goal
 

@@ -1,8 +1,5 @@
 -- The leaf is written, and the nodes above it lowered.
-use Rattle.std.proofs.Common.{length, slice_set, sym, ap, subst, ◌∙◌, arith}
-use Rattle.std.specs.Prelude.{Some}
-use Rattle.std.proofs.lemmas.List.{with_items_is}
-use Rattle.timers.specs.Tree.{IsBounded}
+use Rattle.timers.proofs.Basics.{length, slice_set, sym, ap, subst, ◌∙◌, arith, Some, with_items_is, IsBounded}
 use Rattle.timers.proofs.InMoments.{length-left}
 use Rattle.timers.proofs.Ticking.{put_leaves}
 use Rattle.timers.proofs.moments.Moments.put.Goals as goal

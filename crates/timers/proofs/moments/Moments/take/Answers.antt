@@ -1,8 +1,5 @@
 -- The leaf is written, and the tree is mended above it.
-use Rattle.std.proofs.Common.{length, slice_set, refl, sym, ap, subst, ◌∙◌, arith}
-use Rattle.std.specs.Prelude.{None}
-use Rattle.std.proofs.lemmas.List.{with_items_is}
-use Rattle.timers.specs.Tree.{never, IsBounded}
+use Rattle.timers.proofs.Basics.{length, slice_set, refl, sym, ap, subst, ◌∙◌, arith, None, with_items_is, never, IsBounded}
 use Rattle.timers.proofs.InMoments.{length-left}
 use Rattle.timers.proofs.Ticking.{put_leaves}
 use Rattle.timers.proofs.moments.Moments.take.Goals as goal

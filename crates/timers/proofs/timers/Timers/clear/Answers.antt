@@ -1,6 +1,4 @@
-use Rattle.std.proofs.Common.{refl, sym, ◌∙◌}
-use Rattle.std.specs.Prelude.{Some, None}
-use Rattle.timers.specs.Table.{table_in}
+use Rattle.timers.proofs.Basics.{refl, sym, ◌∙◌, Some, None, table_in}
 use Rattle.timers.proofs.Calls.{place_fits, clear_meets}
 use Rattle.timers.proofs.timers.Timers.clear.Goals as goal
 

@@ -1,7 +1,4 @@
-use Rattle.std.proofs.Common.{◌≡◌, sym, ap, ◌∙◌, arith}
-use Rattle.timers.specs.declared.name.NodeCounts.{NodeCounts}
-use Rattle.timers.specs.Timers.{Running}
-use Rattle.timers.specs.Table.{table_in}
+use Rattle.timers.proofs.Basics.{◌≡◌, sym, ap, ◌∙◌, arith, NodeCounts, Running, table_in}
 use Rattle.timers.proofs.Viewed.{counts-map}
 use Rattle.timers.proofs.ClearedSet.{cleared_below, all-cleared}
 use Rattle.timers.proofs.timers.Timers.clear_set.Goals as goal

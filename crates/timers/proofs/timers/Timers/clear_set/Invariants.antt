@@ -1,4 +1,4 @@
-use Rattle.std.proofs.Common.{◌≡◌}
+use Rattle.timers.proofs.Basics.{◌≡◌}
 use Rattle.timers.proofs.ClearedSet.{cleared_below}
 use Rattle.timers.proofs.timers.Timers.clear_set.Given as goal
 

@@ -1,6 +1,4 @@
-use Rattle.std.proofs.Common.{ap, ◌∙◌}
-use Rattle.timers.specs.Timers.{due_count}
-use Rattle.timers.specs.Table.{table_in}
+use Rattle.timers.proofs.Basics.{ap, ◌∙◌, due_count, table_in}
 use Rattle.timers.proofs.Viewed.{map-count}
 use Rattle.timers.proofs.timers.Timers.due_count.Goals as goal
 

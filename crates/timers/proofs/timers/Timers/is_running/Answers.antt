@@ -1,7 +1,4 @@
-use Rattle.std.proofs.Common.{refl, sym, ap, ◌∙◌}
-use Rattle.std.specs.Prelude.{Some}
-use Rattle.timers.specs.Timers.{is_running}
-use Rattle.timers.specs.Table.{table_in}
+use Rattle.timers.proofs.Basics.{refl, sym, ap, ◌∙◌, Some, is_running, table_in}
 use Rattle.timers.proofs.Calls.{place_fits, running_at, running_nowhere}
 use Rattle.timers.proofs.timers.Timers.is_running.Goals as goal
 

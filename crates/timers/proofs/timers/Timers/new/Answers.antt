@@ -1,7 +1,4 @@
-use Rattle.std.proofs.Common.{replicate, ap, ◌∙◌}
-use Rattle.std.specs.Prelude.{ℕ, Option, None}
-use Rattle.timers.specs.Names.{count_of}
-use Rattle.timers.specs.Table.{map_of}
+use Rattle.timers.proofs.Basics.{replicate, ap, ◌∙◌, ℕ, Option, None, count_of, map_of}
 use Rattle.timers.proofs.Viewed.{map-none}
 use Rattle.timers.proofs.timers.Timers.new.Goals as goal
 

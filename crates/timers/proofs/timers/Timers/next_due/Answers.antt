@@ -1,7 +1,4 @@
-use Rattle.std.proofs.Common.{refl, sym, ap, ◌∙◌}
-use Rattle.std.specs.Prelude.{Some, None}
-use Rattle.timers.specs.Places.{name_at}
-use Rattle.timers.specs.Table.{table_in}
+use Rattle.timers.proofs.Basics.{refl, sym, ap, ◌∙◌, Some, None, name_at, table_in}
 use Rattle.timers.proofs.Calls.{due_named, due_meets}
 use Rattle.timers.proofs.timers.Timers.next_due.Goals as goal
 

@@ -1,6 +1,4 @@
-use Rattle.std.proofs.Common.{refl, slice_set, sym, ap, ◌∙◌}
-use Rattle.std.specs.Prelude.{Some, None}
-use Rattle.timers.specs.Table.{table_in}
+use Rattle.timers.proofs.Basics.{refl, slice_set, sym, ap, ◌∙◌, Some, None, table_in}
 use Rattle.timers.proofs.Calls.{place_fits, set_meets}
 use Rattle.timers.proofs.timers.Timers.set.Goals as goal
 

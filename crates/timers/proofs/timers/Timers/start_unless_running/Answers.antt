@@ -1,6 +1,4 @@
-use Rattle.std.proofs.Common.{refl, slice_set, cond, get_or, sym, ap, ◌∙◌}
-use Rattle.std.specs.Prelude.{Some, None, is_some}
-use Rattle.timers.specs.Table.{table_in}
+use Rattle.timers.proofs.Basics.{refl, slice_set, cond, get_or, sym, ap, ◌∙◌, Some, None, is_some, table_in}
 use Rattle.timers.proofs.Calls.{place_fits, started, start_meets}
 use Rattle.timers.proofs.timers.Timers.start_unless_running.Goals as goal
 

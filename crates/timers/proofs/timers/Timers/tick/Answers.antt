@@ -1,4 +1,4 @@
-use Rattle.timers.specs.Table.{table_in}
+use Rattle.timers.proofs.Basics.{table_in}
 use Rattle.timers.proofs.Calls.{tick_meets}
 use Rattle.timers.proofs.timers.Timers.tick.Goals as goal
 
