@@ -1,9 +1,5 @@
 -- One procedure holds more flows: by which steps they are added is all one, if the flows are the same.
-use Rattle.std.proofs.Common.{◌≡◌, ◌≢◌, ℕ, Bool, true, false, ◌&&◌, ◌||◌, refl, ap, sym, ◌∙◌, arith, nat_eq}
-use Rattle.std.proofs.lemmas.Bool.Decides.{nat_tests}
-use Rattle.flow_hold.specs.declared.procedure.Procedure.{Procedure}
-use Rattle.flow_hold.specs.Holds.{HoldSet, is_same, holds, may_hold, with_hold}
-use Rattle.flow_hold.specs.Flows.{with_flows}
+use Rattle.flow_hold.proofs.Basics.{◌≡◌, ◌≢◌, ℕ, Bool, true, false, ◌&&◌, ◌||◌, refl, ap, sym, ◌∙◌, arith, nat_eq, nat_tests, Procedure, HoldSet, is_same, holds, may_hold, with_hold, with_flows}
 use Rattle.flow_hold.proofs.Numbers.{same, same-itself}
 use Rattle.flow_hold.proofs.Pairing.{may-alike}
 use Rattle.flow_hold.proofs.Holding.{adds_its_pair, hold-leaves_others, may_not-leaves}

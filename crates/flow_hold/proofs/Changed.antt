@@ -1,18 +1,5 @@
 -- What changes the table changes the set that it stands for.
-use Rattle.std.proofs.Common.{◌≡◌, ℕ, ◌+◌, ◌*◌, ◌<◌, Bool, true, false, not, ◌&&◌, ◌||◌, cond, List, [], refl, ap, sym, ◌∙◌, arith, nat_le, nat_lt, Option, Some, None}
-use Rattle.std.specs.Prelude.{if◌then◌else◌}
-use Rattle.std.specs.Ordering.{eq_by_cmp}
-use Rattle.std.specs.FinSet.{FinSet, contains, empty, insert, contains-empty, contains-insert, same_set}
-use Rattle.std.proofs.lemmas.Bool.{true≢false, ltb-true, ltb-false}
-use Rattle.std.proofs.lemmas.Bool.Decides.{nat_tests}
-use Rattle.std.proofs.lemmas.List.{get_or_past}
-use Rattle.std.proofs.lemmas.List.FromFn.{length-map-range_with_len, get_or-map-range_with_len}
-use Rattle.flow_hold.specs.declared.procedure.Procedure.{Procedure}
-use Rattle.signalling_types.specs.declared.limits.TheConstants.Limits.{CHANGEBACK_CODES, SELECTIONS}
-use Rattle.flow_hold.specs.Holds.{Hold, by_numbers, holds, is_held, no_holds, may_hold_to, may_hold, with_hold, is_same, lifted}
-use Rattle.flow_hold.specs.Rows.{Marks, marks_at, has_mark}
-use Rattle.flow_hold.specs.Table.{HoldTable, HasPlaces, place_of, flow_place, row_has, first_row, has_pair, has_flow, no_marks, with_row_cleared, with_pair, without_pairs}
-use Rattle.flow_hold.specs.Room.{set_of}
+use Rattle.flow_hold.proofs.Basics.{◌≡◌, ℕ, ◌+◌, ◌*◌, ◌<◌, Bool, true, false, not, ◌&&◌, ◌||◌, cond, List, [], refl, ap, sym, ◌∙◌, arith, nat_le, nat_lt, Option, Some, None, if◌then◌else◌, eq_by_cmp, FinSet, contains, empty, insert, contains-empty, contains-insert, same_set, true≢false, ltb-true, ltb-false, nat_tests, get_or_past, length-map-range_with_len, get_or-map-range_with_len, Procedure, CHANGEBACK_CODES, SELECTIONS, Hold, by_numbers, holds, is_held, no_holds, may_hold_to, may_hold, with_hold, is_same, lifted, Marks, marks_at, has_mark, HoldTable, HasPlaces, place_of, flow_place, row_has, first_row, has_pair, has_flow, no_marks, with_row_cleared, with_pair, without_pairs, set_of}
 use Rattle.flow_hold.proofs.Numbers.{in_order, only_same_tie, tied, tied-same, same, same-itself}
 use Rattle.flow_hold.proofs.Pairing.{held_by, contains-lifted}
 use Rattle.flow_hold.proofs.Holding.{MayHold, may_parts}

@@ -1,11 +1,5 @@
 -- A row loses its marks one at a time, and the counts go with them.
-use Rattle.std.proofs.Common.{◌≡◌, ℕ, ◌+◌, ◌-◌, ◌<◌, Bool, true, false, ◌&&◌, List, [], ◌∷◌, ◌++◌, length, get_or, drop, replicate, refl, ap, sym, ◌∙◌, arith, nat_lt, nat_le}
-use Rattle.std.proofs.Math.ListN.{set}
-use Rattle.std.proofs.lemmas.Grind.{common_steps}
-use Rattle.std.proofs.lemmas.Bool.{ltb-true, ltb-false}
-use Rattle.std.proofs.lemmas.Bool.Decides.{nat_tests}
-use Rattle.std.proofs.lemmas.List.{set_at, get_or-set_same, get_or-set_other, length-replicate, replicate_more, drop_more, append_assoc}
-use Rattle.flow_hold.specs.Rows.{has_mark, as_count}
+use Rattle.flow_hold.proofs.Basics.{◌≡◌, ℕ, ◌+◌, ◌-◌, ◌<◌, Bool, true, false, ◌&&◌, List, [], ◌∷◌, ◌++◌, length, get_or, drop, replicate, refl, ap, sym, ◌∙◌, arith, nat_lt, nat_le, set, common_steps, ltb-true, ltb-false, nat_tests, set_at, get_or-set_same, get_or-set_other, length-replicate, replicate_more, drop_more, append_assoc, has_mark, as_count}
 
 -- the marks when the first n are gone
 abbrev pub marks_gone : List Bool → ℕ → List Bool

@@ -1,14 +1,6 @@
 -- The count of a flow is that of the rows which have it marked.
-use Rattle.std.proofs.Common.{◌≡◌, ℕ, zero, suc, ◌+◌, ◌-◌, ◌*◌, ◌<◌, ◌≤◌, Bool, true, false, ◌||◌, ◌&&◌, cond, List, [], ◌∷◌, ◌++◌, length, get_or, replicate, refl, ap, ◌∙◌, arith, nat_lt, nat_le}
-use Rattle.std.specs.Prelude.{if◌then◌else◌}
-use Rattle.std.specs.List.{list_any}
-use Rattle.std.proofs.lemmas.Bool.{ltb-false}
-use Rattle.std.proofs.lemmas.Bool.Decides.{nat_tests}
-use Rattle.std.proofs.lemmas.List.{length-replicate}
+use Rattle.flow_hold.proofs.Basics.{◌≡◌, ℕ, zero, suc, ◌+◌, ◌-◌, ◌*◌, ◌<◌, ◌≤◌, Bool, true, false, ◌||◌, ◌&&◌, cond, List, [], ◌∷◌, ◌++◌, length, get_or, replicate, refl, ap, ◌∙◌, arith, nat_lt, nat_le, if◌then◌else◌, list_any, ltb-false, nat_tests, length-replicate, Marks, has_mark, first_row, marked_as_held, SELECTIONS}
 use Rattle.std.proofs.lemmas.List.Sums.{sum_by-cons, sum_by_push}
-use Rattle.flow_hold.specs.Rows.{Marks, has_mark}
-use Rattle.flow_hold.specs.Table.{first_row, marked_as_held}
-use Rattle.signalling_types.specs.declared.limits.TheConstants.Limits.{SELECTIONS}
 
 -- what one row adds to the count of a flow
 abbrev pub mark_of : ℕ → Marks → ℕ

@@ -1,9 +1,5 @@
 -- A pair after a hold of all flows of which a test is true, and before.
-use Rattle.std.proofs.Common.{◌≡◌, ℕ, Bool, true, false, ◌&&◌, ◌||◌, refl, ap, sym, ◌∙◌, ◌⊎◌, inl, inr}
-use Rattle.std.proofs.lemmas.Bool.{and_parts}
-use Rattle.flow_hold.specs.declared.procedure.Procedure.{Procedure}
-use Rattle.flow_hold.specs.Holds.{HoldSet, is_same, holds, is_held, may_hold}
-use Rattle.flow_hold.specs.Flows.{with_flows}
+use Rattle.flow_hold.proofs.Basics.{◌≡◌, ℕ, Bool, true, false, ◌&&◌, ◌||◌, refl, ap, sym, ◌∙◌, ◌⊎◌, inl, inr, and_parts, Procedure, HoldSet, is_same, holds, is_held, may_hold, with_flows}
 use Rattle.flow_hold.proofs.Numbers.{same, same-itself}
 use Rattle.flow_hold.proofs.Pairing.{held_by}
 use Rattle.flow_hold.proofs.Flows.{flows_add, flows_leave}

@@ -1,16 +1,6 @@
 -- A hold of all flows of which a test is true adds their pairs, and no other.
-use Rattle.std.proofs.Common.{◌≡◌, ◌≢◌, ℕ, zero, suc, ◌+◌, ◌<◌, ◌≤◌, Bool, true, false, ◌&&◌, ◌||◌, cond, List, [], ◌∷◌, map, refl, ap, sym, ◌∙◌, arith}
-use Rattle.std.specs.List.{filter, flat_map, list_any, range_with_len}
-use Rattle.std.specs.Ordering.{eq_by_cmp}
-use Rattle.std.specs.FinSet.{FinSet, contains, same_set}
+use Rattle.flow_hold.proofs.Basics.{◌≡◌, ◌≢◌, ℕ, zero, suc, ◌+◌, ◌<◌, ◌≤◌, Bool, true, false, ◌&&◌, ◌||◌, cond, List, [], ◌∷◌, map, refl, ap, sym, ◌∙◌, arith, filter, flat_map, list_any, range_with_len, eq_by_cmp, FinSet, contains, same_set, and_parts, cases_eq, list_any-append, Procedure, SELECTIONS, Hold, HoldSet, by_numbers, holds, may_hold, with_hold, NodeFlow, flows_to, flows, passes, any_flow, with_each, with_flows, IsOfNode, some_flow_passes, flows_add_their_pairs, flows_leave_others, flows_are_of_node}
 use Rattle.std.proofs.Math.Logic.{⊎_elim}
-use Rattle.std.proofs.lemmas.Bool.{and_parts, cases_eq}
-use Rattle.std.proofs.lemmas.List.Folds.{list_any-append}
-use Rattle.flow_hold.specs.declared.procedure.Procedure.{Procedure}
-use Rattle.signalling_types.specs.declared.limits.TheConstants.Limits.{SELECTIONS}
-use Rattle.flow_hold.specs.Holds.{Hold, HoldSet, by_numbers, holds, may_hold, with_hold}
-use Rattle.flow_hold.specs.Flows.{NodeFlow, flows_to, flows, passes, any_flow, with_each, with_flows}
-use Rattle.flow_hold.specs.Pairs.{IsOfNode, some_flow_passes, flows_add_their_pairs, flows_leave_others, flows_are_of_node}
 use Rattle.flow_hold.proofs.Numbers.{in_order, only_same_tie, tied, tied-same, untied}
 use Rattle.flow_hold.proofs.Holding.{MayHold, may_parts, contains-with_hold, may-still, hold_of_node}
 

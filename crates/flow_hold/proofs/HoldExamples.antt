@@ -1,8 +1,5 @@
 -- A hold beside another, by computation.
-use Rattle.std.proofs.Common.{ℕ, ◌∙◌}
-use Rattle.std.specs.FinSet.{empty, insert, contains-insert}
-use Rattle.flow_hold.specs.declared.procedure.Procedure.TheVariants.{Changeover}
-use Rattle.flow_hold.specs.Holds.{Hold}
+use Rattle.flow_hold.proofs.Basics.{ℕ, ◌∙◌, empty, insert, contains-insert, Changeover, Hold}
 use Rattle.flow_hold.specs.HoldExamples as examples
 use Rattle.flow_hold.proofs.Numbers.{in_order}
 

@@ -1,13 +1,5 @@
 -- A hold adds its pair, where the procedure may hold the flow.
-use Rattle.std.proofs.Common.{◌≡◌, ℕ, ◌<◌, Bool, true, false, ◌&&◌, ◌||◌, refl, ap, sym, ◌∙◌, nat_lt}
-use Rattle.std.specs.Prelude.{if◌then◌else◌}
-use Rattle.std.specs.Ordering.{eq_by_cmp}
-use Rattle.std.specs.FinSet.{contains, insert, contains-insert}
-use Rattle.std.proofs.lemmas.Bool.{and_parts, ltb-true}
-use Rattle.flow_hold.specs.declared.procedure.Procedure.{Procedure}
-use Rattle.signalling_types.specs.declared.limits.TheConstants.Limits.{SELECTIONS}
-use Rattle.flow_hold.specs.Holds.{Hold, HoldSet, by_numbers, holds, may_hold_to, may_hold, with_hold}
-use Rattle.flow_hold.specs.Pairs.{IsOfNode, pair, hold_is_of_node, hold_adds_its_pair, hold_leaves_others, may_not_leaves, hold_holds_its_flow, hold_keeps_flows_held}
+use Rattle.flow_hold.proofs.Basics.{◌≡◌, ℕ, ◌<◌, Bool, true, false, ◌&&◌, ◌||◌, refl, ap, sym, ◌∙◌, nat_lt, if◌then◌else◌, eq_by_cmp, contains, insert, contains-insert, and_parts, ltb-true, Procedure, SELECTIONS, Hold, HoldSet, by_numbers, holds, may_hold_to, may_hold, with_hold, IsOfNode, pair, hold_is_of_node, hold_adds_its_pair, hold_leaves_others, may_not_leaves, hold_holds_its_flow, hold_keeps_flows_held}
 use Rattle.flow_hold.proofs.Numbers.{in_order, tied, tied-same, untied}
 use Rattle.flow_hold.proofs.Pairing.{held_by, may-alike}
 

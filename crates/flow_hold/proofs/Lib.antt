@@ -1,3 +1,4 @@
+pub mod Basics
 pub mod Counting
 pub mod Clearing
 pub mod TablePairing

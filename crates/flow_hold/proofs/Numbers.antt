@@ -1,11 +1,7 @@
 -- A pair is known by its numbers, and so is a procedure.
-use Rattle.std.proofs.Common.{◌≡◌, ◌≢◌, Bool, true, false, refl, ap, sym, ◌∙◌}
-use Rattle.std.specs.Ordering.{eq_by_cmp, is_eq}
+use Rattle.flow_hold.proofs.Basics.{◌≡◌, ◌≢◌, Bool, true, false, refl, ap, sym, ◌∙◌, eq_by_cmp, is_eq, IsAntisymmetric, nat_cmp-IsAntisymmetric, slice_cmp-IsAntisymmetric, Procedure, Hold, numbers_of, hold_numbers, by_numbers, is_same}
 use Rattle.std.specs.Cmp.{IsTotalOrder, Equal-is, tied_itself}
 use Rattle.std.specs.Cmp.Lexicographic.{on_texts, bytes_decides}
-use Rattle.std.specs.FinSet.{IsAntisymmetric, nat_cmp-IsAntisymmetric, slice_cmp-IsAntisymmetric}
-use Rattle.flow_hold.specs.declared.procedure.Procedure.{Procedure}
-use Rattle.flow_hold.specs.Holds.{Hold, numbers_of, hold_numbers, by_numbers, is_same}
 use Rattle.flow_hold.specs.Stored.{procedure_of, hold_of, same_procedure, same_hold}
 
 pub in_order : IsTotalOrder by_numbers

@@ -1,16 +1,5 @@
 -- A flow is held exactly where some pair is one of it, and a lift takes the pairs of one procedure.
-use Rattle.std.proofs.Common.{◌≡◌, ℕ, Bool, true, false, not, ◌&&◌, ◌||◌, List, [], ◌∷◌, refl, ap, sym, ◌∙◌, arith}
-use Rattle.std.specs.Prelude.{nat_eq, nat_lt}
-use Rattle.std.specs.List.{list_any}
-use Rattle.std.specs.Ordering.{eq_by_cmp}
-use Rattle.std.specs.FinSet.{contains, items, contains-items, contains-empty, contains-retain}
-use Rattle.std.proofs.lemmas.Bool.{and_parts, true≢false}
-use Rattle.std.proofs.lemmas.Bool.Decides.{nat_tests}
-use Rattle.signalling_types.specs.declared.limits.TheConstants.Limits.{CHANGEBACK_CODES, SELECTIONS}
-use Rattle.flow_hold.specs.declared.procedure.Procedure.{Procedure}
-use Rattle.flow_hold.specs.declared.procedure.Procedure.TheVariants.{Changeover, Code, Time, Reroute}
-use Rattle.flow_hold.specs.Holds.{Hold, HoldSet, by_numbers, holds, is_of_flow, is_same, may_hold_to, may_hold, lifted}
-use Rattle.flow_hold.specs.Pairs.{first_holds_nothing, first_is_of_node, held_by_a_procedure, lift_is_of_node, lift_leaves_others, lift_ends_its_own}
+use Rattle.flow_hold.proofs.Basics.{◌≡◌, ℕ, Bool, true, false, not, ◌&&◌, ◌||◌, List, [], ◌∷◌, refl, ap, sym, ◌∙◌, arith, nat_eq, nat_lt, list_any, eq_by_cmp, contains, items, contains-items, contains-empty, contains-retain, and_parts, true≢false, nat_tests, CHANGEBACK_CODES, SELECTIONS, Procedure, Changeover, Code, Time, Reroute, Hold, HoldSet, by_numbers, holds, is_of_flow, is_same, may_hold_to, may_hold, lifted, first_holds_nothing, first_is_of_node, held_by_a_procedure, lift_is_of_node, lift_leaves_others, lift_ends_its_own}
 use Rattle.flow_hold.proofs.Numbers.{only_same_tie, tied, tied-same, same-itself, not-same}
 
 -- ---- a flow that is held

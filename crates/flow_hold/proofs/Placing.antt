@@ -1,18 +1,5 @@
 -- Each change keeps the places of the marks, so that the row of a procedure has the flows that it may hold.
-use Rattle.std.proofs.Common.{◌≡◌, ℕ, ◌+◌, ◌-◌, ◌*◌, ◌<◌, ◌≤◌, Bool, true, false, List, [], length, map, get_or, replicate, refl, ap, sym, ◌∙◌, arith, nat_lt, Option, Some, None}
-use Rattle.std.specs.Prelude.{if◌then◌else◌}
-use Rattle.std.proofs.Math.ListN.{set}
-use Rattle.std.proofs.lemmas.Bool.{and_parts, ltb-true}
-use Rattle.std.proofs.lemmas.Bool.Decides.{nat_tests}
-use Rattle.std.proofs.lemmas.List.{get_or-map, set-get_or, length-set, length-map, map-set, length-replicate}
-use Rattle.std.proofs.lemmas.List.FromFn.{length-map-range_with_len, get_or-map-range_with_len}
-use Rattle.flow_hold.specs.declared.procedure.Procedure.{Procedure}
-use Rattle.flow_hold.specs.declared.procedure.Procedure.TheVariants.{Changeover, Code, Time, Reroute}
-use Rattle.flow_hold.specs.Rows.{Marks, marks_at, place_of_flow}
-use Rattle.flow_hold.specs.Table.{HoldTable, HasPlaces, marks_shape, no_marks, with_pair, without_pairs, first_row, place_of, flow_place, with_mark_at, with_flow_marked, with_row_cleared}
-use Rattle.flow_hold.specs.Holds.{may_hold_to}
-use Rattle.flow_hold.specs.Room.{set_of}
-use Rattle.signalling_types.specs.declared.limits.TheConstants.Limits.{CHANGEBACK_CODES, SELECTIONS}
+use Rattle.flow_hold.proofs.Basics.{◌≡◌, ℕ, ◌+◌, ◌-◌, ◌*◌, ◌<◌, ◌≤◌, Bool, true, false, List, [], length, map, get_or, replicate, refl, ap, sym, ◌∙◌, arith, nat_lt, Option, Some, None, if◌then◌else◌, set, and_parts, ltb-true, nat_tests, get_or-map, set-get_or, length-set, length-map, map-set, length-replicate, length-map-range_with_len, get_or-map-range_with_len, Procedure, Changeover, Code, Time, Reroute, Marks, marks_at, place_of_flow, HoldTable, HasPlaces, marks_shape, no_marks, with_pair, without_pairs, first_row, place_of, flow_place, with_mark_at, with_flow_marked, with_row_cleared, may_hold_to, set_of, CHANGEBACK_CODES, SELECTIONS}
 
 -- ---- they stay
 

@@ -1,17 +1,5 @@
 -- A table of marks stands for a set of pairs: each mark is one, and what changes the one changes the other.
-use Rattle.std.proofs.Common.{◌≡◌, ℕ, zero, suc, ◌+◌, ◌*◌, ◌/◌, ◌%◌, ◌<◌, ◌≤◌, Bool, true, false, ◌||◌, length, refl, ap, sym, subst, ◌∙◌, arith, nat_lt, Option, Some, None}
-use Rattle.std.specs.Prelude.{if◌then◌else◌}
-use Rattle.std.specs.Ordering.{eq_by_cmp}
-use Rattle.std.specs.FinSet.{contains, insert, contains-empty, contains-insert, contains-union}
-use Rattle.std.proofs.lemmas.Grind.{common_steps}
-use Rattle.std.proofs.lemmas.Bool.{true≢false}
-use Rattle.std.proofs.lemmas.Bool.Decides.{nat_tests}
-use Rattle.flow_hold.specs.declared.procedure.Procedure.{Procedure}
-use Rattle.flow_hold.specs.Rows.{marks_at, has_mark}
-use Rattle.signalling_types.specs.declared.limits.TheConstants.Limits.{CHANGEBACK_CODES, SELECTIONS}
-use Rattle.flow_hold.specs.Holds.{Hold, by_numbers}
-use Rattle.flow_hold.specs.Table.{HoldTable, place_of, flow_place, row_has, has_pair}
-use Rattle.flow_hold.specs.Room.{procedure_at, hold_at, pairs_of_row, pairs_of_rows, set_of}
+use Rattle.flow_hold.proofs.Basics.{◌≡◌, ℕ, zero, suc, ◌+◌, ◌*◌, ◌/◌, ◌%◌, ◌<◌, ◌≤◌, Bool, true, false, ◌||◌, length, refl, ap, sym, subst, ◌∙◌, arith, nat_lt, Option, Some, None, if◌then◌else◌, eq_by_cmp, contains, insert, contains-empty, contains-insert, contains-union, common_steps, true≢false, nat_tests, Procedure, marks_at, has_mark, CHANGEBACK_CODES, SELECTIONS, Hold, by_numbers, HoldTable, place_of, flow_place, row_has, has_pair, procedure_at, hold_at, pairs_of_row, pairs_of_rows, set_of}
 use Rattle.flow_hold.proofs.Numbers.{in_order, tied, tied-same}
 use Rattle.flow_hold.proofs.TablePairing.{named, placed, inside-case}
 

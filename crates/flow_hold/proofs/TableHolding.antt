@@ -1,20 +1,7 @@
 -- A hold puts one mark, which is that of its pair.
-use Rattle.std.proofs.Common.{◌≡◌, ℕ, zero, suc, ◌+◌, ◌-◌, ◌*◌, ◌<◌, ◌≤◌, Bool, true, false, ◌&&◌, List, [], ◌∷◌, length, get_or, refl, ap, sym, ◌∙◌, arith, nat_lt, nat_le, nat_eq, Option, Some, None}
-use Rattle.std.specs.Prelude.{if◌then◌else◌}
-use Rattle.std.proofs.Math.ListN.{set}
-use Rattle.std.proofs.lemmas.Grind.{common_steps}
-use Rattle.std.proofs.lemmas.Bool.{and_from, ltb-true}
-use Rattle.std.proofs.lemmas.Bool.Decides.{nat_tests}
-use Rattle.std.proofs.lemmas.List.{get_or-set_same, get_or-set_other}
-use Rattle.flow_hold.specs.declared.procedure.Procedure.{Procedure}
-use Rattle.flow_hold.specs.declared.procedure.Procedure.TheVariants.{Changeover, Code, Time, Reroute}
-use Rattle.flow_hold.specs.Rows.{Marks, marks_at, place_of_flow, has_mark}
-use Rattle.flow_hold.specs.Table.{HoldTable, place_of, flow_place, row_has, has_pair, HasPlaces, marks_shape, with_mark_at, with_flow_marked, with_pair}
-use Rattle.flow_hold.specs.Holds.{may_hold_to}
-use Rattle.flow_hold.specs.Room.{set_of}
+use Rattle.flow_hold.proofs.Basics.{◌≡◌, ℕ, zero, suc, ◌+◌, ◌-◌, ◌*◌, ◌<◌, ◌≤◌, Bool, true, false, ◌&&◌, List, [], ◌∷◌, length, get_or, refl, ap, sym, ◌∙◌, arith, nat_lt, nat_le, nat_eq, Option, Some, None, if◌then◌else◌, set, common_steps, and_from, ltb-true, nat_tests, get_or-set_same, get_or-set_other, Procedure, Changeover, Code, Time, Reroute, Marks, marks_at, place_of_flow, has_mark, HoldTable, place_of, flow_place, row_has, has_pair, HasPlaces, marks_shape, with_mark_at, with_flow_marked, with_pair, may_hold_to, set_of, CHANGEBACK_CODES, SELECTIONS}
 use Rattle.flow_hold.proofs.TablePairing.{same-places, named}
 use Rattle.flow_hold.proofs.Placing.{HasFlow, flow_at, shared_rows, own-shape}
-use Rattle.signalling_types.specs.declared.limits.TheConstants.Limits.{CHANGEBACK_CODES, SELECTIONS}
 
 -- ---- procedures and flows keep their numbers
 

@@ -1,20 +1,6 @@
 -- Each row is that of one procedure, so that a lift leaves the pairs of others, and each mark is a pair.
-use Rattle.std.proofs.Common.{◌≡◌, ◌≢◌, ℕ, suc, ◌+◌, ◌-◌, ◌*◌, ◌<◌, ◌≤◌, Bool, true, false, ◌&&◌, ◌||◌, List, [], ◌∷◌, length, get_or, replicate, refl, ap, sym, ◌∙◌, arith, nat_lt, nat_le, Option, Some, None}
-use Rattle.std.specs.Prelude.{if◌then◌else◌}
-use Rattle.std.specs.List.{list_any}
-use Rattle.std.proofs.Math.ListN.{set}
-use Rattle.std.proofs.lemmas.Grind.{common_steps}
-use Rattle.std.proofs.lemmas.Bool.{ltb-true, ltb-false}
-use Rattle.std.proofs.lemmas.Bool.Decides.{nat_tests}
-use Rattle.std.proofs.lemmas.List.{get_or-set_same, get_or-set_other, get_or_past, set_past}
-use Rattle.std.proofs.lemmas.List.Folds.{list_any_at}
-use Rattle.flow_hold.specs.declared.procedure.Procedure.{Procedure}
-use Rattle.flow_hold.specs.declared.procedure.Procedure.TheVariants.{Changeover, Code, Time, Reroute}
-use Rattle.flow_hold.specs.Rows.{Marks, marks_at, has_mark}
-use Rattle.flow_hold.specs.Table.{HoldTable, place_of, flow_place, row_has, has_pair, any_has, has_flow, cleared, with_row_cleared, without_pairs}
-use Rattle.flow_hold.specs.Room.{procedure_at}
+use Rattle.flow_hold.proofs.Basics.{◌≡◌, ◌≢◌, ℕ, suc, ◌+◌, ◌-◌, ◌*◌, ◌<◌, ◌≤◌, Bool, true, false, ◌&&◌, ◌||◌, List, [], ◌∷◌, length, get_or, replicate, refl, ap, sym, ◌∙◌, arith, nat_lt, nat_le, Option, Some, None, if◌then◌else◌, list_any, set, common_steps, ltb-true, ltb-false, nat_tests, get_or-set_same, get_or-set_other, get_or_past, set_past, list_any_at, Procedure, Changeover, Code, Time, Reroute, Marks, marks_at, has_mark, HoldTable, place_of, flow_place, row_has, has_pair, any_has, has_flow, cleared, with_row_cleared, without_pairs, procedure_at, CHANGEBACK_CODES, SELECTIONS}
 use Rattle.flow_hold.proofs.Counting.{all_same}
-use Rattle.signalling_types.specs.declared.limits.TheConstants.Limits.{CHANGEBACK_CODES, SELECTIONS}
 
 -- ---- the procedure of a row
 

@@ -1,8 +1,5 @@
 -- One mark more is gone.
-use Rattle.std.proofs.Common.{◌≡◌, ℕ, ◌<◌, Bool, false, List, length, get_or, arith, ap, ◌∙◌}
-use Rattle.std.proofs.Math.ListN.{set}
-use Rattle.std.proofs.lemmas.Grind.{common_steps}
-use Rattle.flow_hold.specs.Rows.{as_count}
+use Rattle.flow_hold.proofs.Basics.{◌≡◌, ℕ, ◌<◌, Bool, false, List, length, get_or, arith, ap, ◌∙◌, set, common_steps, as_count}
 use Rattle.flow_hold.proofs.Clearing.{gone-more, next-mark, taken-more}
 use Rattle.flow_hold.proofs.row.take_marks.Goals as goal
 

@@ -1,13 +1,8 @@
 -- The next row goes behind the others.
-use Rattle.std.proofs.Common.{◌+◌, ◌*◌, ◌≤◌, List, [], ◌∷◌, ◌++◌, length, map, arith, ap, sym, ◌∙◌}
-use Rattle.std.specs.List.{range_with_len}
+use Rattle.flow_hold.proofs.Basics.{◌+◌, ◌*◌, ◌≤◌, List, [], ◌∷◌, ◌++◌, length, map, arith, ap, sym, ◌∙◌, range_with_len, length-map-range_with_len, map-range_with_len_more, Marks, first_row, SELECTIONS}
 use Rattle.std.proofs.lemmas.List.Elements.{All-push}
-use Rattle.std.proofs.lemmas.List.FromFn.{length-map-range_with_len, map-range_with_len_more}
-use Rattle.flow_hold.specs.Rows.{Marks}
-use Rattle.flow_hold.specs.Table.{first_row}
 use Rattle.flow_hold.proofs.Counting.{mark_of, unmarked, unmarked-more, fits-first}
 use Rattle.flow_hold.proofs.table.first_rows.Goals as goal
-use Rattle.signalling_types.specs.declared.limits.TheConstants.Limits.{SELECTIONS}
 
 pub push_reserved-requires : goal.push_reserved-requires
 push_reserved-requires c =

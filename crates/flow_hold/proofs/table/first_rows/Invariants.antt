@@ -1,11 +1,6 @@
 -- the rows so far, in which nothing is marked, and room for all
-use Rattle.std.proofs.Common.{◌≡◌, ℕ, ◌+◌, ◌*◌, ◌≤◌, length, map, vec_capacity}
-use Rattle.std.specs.Prelude.{All}
-use Rattle.std.specs.List.{range_with_len}
-use Rattle.flow_hold.specs.Rows.{Marks}
-use Rattle.flow_hold.specs.Table.{first_row, marked_as_held}
+use Rattle.flow_hold.proofs.Basics.{◌≡◌, ℕ, ◌+◌, ◌*◌, ◌≤◌, length, map, vec_capacity, All, range_with_len, Marks, first_row, marked_as_held, SELECTIONS}
 use Rattle.flow_hold.proofs.table.first_rows.Given as goal
-use Rattle.signalling_types.specs.declared.limits.TheConstants.Limits.{SELECTIONS}
 
 abbrev pub invariant-loop-place : goal.invariant-loop-place
 invariant-loop-place l = record {

@@ -1,8 +1,5 @@
 -- The pair is marked, and the set that the table stands for has it.
-use Rattle.std.proofs.Common.{ℕ, ap, sym, subst, ◌∙◌}
-use Rattle.flow_hold.specs.Holds.{HoldSet, with_hold}
-use Rattle.flow_hold.specs.Table.{HasPlaces, with_pair}
-use Rattle.flow_hold.specs.Room.{set_of}
+use Rattle.flow_hold.proofs.Basics.{ℕ, ap, sym, subst, ◌∙◌, HoldSet, with_hold, HasPlaces, with_pair, set_of}
 use Rattle.flow_hold.proofs.Placing.{with_pair-places}
 use Rattle.flow_hold.proofs.Changed.{set-with_pair}
 use Rattle.flow_hold.proofs.holds.Holds.hold.Goals as goal

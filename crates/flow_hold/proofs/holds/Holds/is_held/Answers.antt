@@ -1,7 +1,5 @@
 -- A flow that has a mark is one that some pair names.
-use Rattle.std.proofs.Common.{ℕ, ap, ◌∙◌}
-use Rattle.flow_hold.specs.Holds.{HoldSet, is_held}
-use Rattle.flow_hold.specs.Table.{has_flow}
+use Rattle.flow_hold.proofs.Basics.{ℕ, ap, ◌∙◌, HoldSet, is_held, has_flow}
 use Rattle.flow_hold.proofs.Changed.{set-has_flow}
 use Rattle.flow_hold.proofs.holds.Holds.is_held.Goals as goal
 

@@ -1,8 +1,5 @@
 -- The row of a procedure is cleared, and the set that the table stands for has none of its pairs.
-use Rattle.std.proofs.Common.{ap, sym, subst, ◌∙◌}
-use Rattle.flow_hold.specs.Holds.{HoldSet, lifted}
-use Rattle.flow_hold.specs.Table.{HasPlaces}
-use Rattle.flow_hold.specs.Room.{set_of}
+use Rattle.flow_hold.proofs.Basics.{ap, sym, subst, ◌∙◌, HoldSet, lifted, HasPlaces, set_of}
 use Rattle.flow_hold.proofs.Placing.{without_pairs-places}
 use Rattle.flow_hold.proofs.Changed.{set-without_pairs}
 use Rattle.flow_hold.proofs.holds.Holds.lift.Goals as goal

@@ -1,6 +1,5 @@
 -- A table without marks stands for the empty set.
-use Rattle.std.proofs.Common.{ap, ◌∙◌}
-use Rattle.flow_hold.specs.Room.{set_of}
+use Rattle.flow_hold.proofs.Basics.{ap, ◌∙◌, set_of}
 use Rattle.flow_hold.proofs.Changed.{set-no_marks}
 use Rattle.flow_hold.proofs.holds.Holds.new.Goals as goal
 

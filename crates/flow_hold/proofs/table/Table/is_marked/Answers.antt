@@ -1,6 +1,5 @@
 -- A flow is held where its count is above 0.
-use Rattle.std.proofs.Common.{ap, sym, ◌∙◌, nat_lt}
-use Rattle.flow_hold.specs.Table.{any_has}
+use Rattle.flow_hold.proofs.Basics.{ap, sym, ◌∙◌, nat_lt, any_has}
 use Rattle.flow_hold.proofs.Counting.{any-counted}
 use Rattle.flow_hold.proofs.table.Table.is_marked.Goals as goal
 

@@ -1,13 +1,7 @@
 -- Nothing is marked, and each count is 0.
-use Rattle.std.proofs.Common.{◌≡◌, ℕ, ◌+◌, ◌*◌, ◌≤◌, List, length, get_or, ap, sym, subst, ◌∙◌}
-use Rattle.std.specs.Prelude.{All}
-use Rattle.std.proofs.lemmas.List.{length-replicate}
-use Rattle.std.proofs.lemmas.List.FromFn.{length-map-range_with_len}
-use Rattle.flow_hold.specs.Rows.{Marks}
-use Rattle.flow_hold.specs.Table.{first_row}
+use Rattle.flow_hold.proofs.Basics.{◌≡◌, ℕ, ◌+◌, ◌*◌, ◌≤◌, List, length, get_or, ap, sym, subst, ◌∙◌, All, length-replicate, length-map-range_with_len, Marks, first_row, CHANGEBACK_CODES, SELECTIONS}
 use Rattle.flow_hold.proofs.Counting.{all_same}
 use Rattle.flow_hold.proofs.table.Table.new.Goals as goal
-use Rattle.signalling_types.specs.declared.limits.TheConstants.Limits.{CHANGEBACK_CODES, SELECTIONS}
 
 pub invariant_of-result : goal.invariant_of-result
 invariant_of-result c =
