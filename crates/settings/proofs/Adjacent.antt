@@ -1,14 +1,7 @@
 -- The set that leads to a point is the first of the sets of that destination.
-use Rattle.std.proofs.Common.{refl, sym, subst, ap, ◌∙◌, ◌≡◌, ℕ, Bool, true, false, ◌&&◌, ◌||◌, nat_eq, List, [], ◌∷◌, position, length, get_or, arith}
-use Rattle.std.specs.Prelude.{Option, Some, None, is_some, slice_get, option_and_then, if◌then◌else◌}
-use Rattle.std.specs.List.{AllByRecursion, IsDistinct, list_any}
-use Rattle.std.proofs.lemmas.Bool.Decides.{nat_tests}
-use Rattle.std.proofs.lemmas.List.Quantifiers.{position-Some}
-use Rattle.std.proofs.lemmas.Option.{slice_get-get_or, slice_get_read}
+use Rattle.settings.proofs.Basics.{refl, sym, subst, ap, ◌∙◌, ◌≡◌, ℕ, Bool, true, false, ◌&&◌, ◌||◌, nat_eq, List, [], ◌∷◌, position, length, get_or, arith, Option, Some, None, is_some, slice_get, option_and_then, if◌then◌else◌, AllByRecursion, IsDistinct, list_any, nat_tests, position-Some, slice_get-get_or, slice_get_read, Configuration, SetEntry, DestinationEntry, IsWell, is_same_point, is_led_first, is_first}
 use Rattle.settings.proofs.Entries.{some_place}
-use Rattle.settings_rows.specs.Configuration.{Configuration, SetEntry, DestinationEntry}
 use Rattle.settings.specs.Readings.{first_to, destination_place, set_place}
-use Rattle.settings.specs.Well.{IsWell, is_same_point, is_led_first, is_first}
 use Rattle.settings.proofs.Rows.{either_left, either_right, each_then, each_at, none_of_any}
 
 same_number : (m n : ℕ) → nat_eq m n ≡ true → m ≡ n

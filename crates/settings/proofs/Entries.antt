@@ -1,13 +1,5 @@
 -- The first fault of a list's entries, from one entry to the next.
-use Rattle.std.proofs.Common.{refl, ap, Bool, true, false, not, cond, suc, nat_lt, ◌||◌, slice_set, ◌≡◌, ◌≤◌, ◌<◌, ◌+◌, ℕ, List, [], ◌∷◌, ◌++◌, Option, Some, None, length, take, drop, map, get_or, arith}
-use Rattle.std.proofs.lemmas.Grind.{common_steps}
-use Rattle.std.specs.Prelude.{is_some}
-use Rattle.std.specs.List.{list_any, list_all, position, position_or_len}
-use Rattle.std.proofs.lemmas.Bool.Decides.{nat_tests}
-use Rattle.settings.specs.Checks.{first_of, fault_unless, entries_fault}
-use Rattle.settings_rows.specs.declared.fault.DraftFault.{DraftFault}
-use Rattle.settings_rows.specs.declared.fault.FaultKind.{FaultKind}
-use Rattle.settings_rows.specs.declared.key.Key.{Key}
+use Rattle.settings.proofs.Basics.{refl, ap, Bool, true, false, not, cond, suc, nat_lt, ◌||◌, slice_set, ◌≡◌, ◌≤◌, ◌<◌, ◌+◌, ℕ, List, [], ◌∷◌, ◌++◌, Option, Some, None, length, take, drop, map, get_or, arith, common_steps, is_some, list_any, list_all, position, position_or_len, nat_tests, first_of, fault_unless, entries_fault, DraftFault, FaultKind, Key}
 
 pub first_of-one : (a : Option DraftFault) → first_of (a ∷ []) ≡ a
 first_of-one None = refl

@@ -1,12 +1,6 @@
 -- One point more among those that are found by their codes.
-use Rattle.std.proofs.Common.{Bool, List, None, Option, Some, [], ap, arith, cond, eqb, false, get_or, length, nat_eq, nat_lt, not, position, refl, replicate, slice_get, slice_set, suc, sym, true, zero, ℕ, ◌+◌, ◌++◌, ◌<◌, ◌^◌, ◌||◌, ◌∙◌, ◌∷◌, ◌≡◌, ◌≢◌, ◌≤◌}
-use Rattle.std.proofs.lemmas.Grind.{common_steps}
-use Rattle.std.proofs.lemmas.Bool.Decides.{nat_tests}
+use Rattle.settings.proofs.Basics.{Bool, List, None, Option, Some, [], ap, arith, cond, eqb, false, get_or, length, nat_eq, nat_lt, not, position, refl, replicate, slice_get, slice_set, suc, sym, true, zero, ℕ, ◌+◌, ◌++◌, ◌<◌, ◌^◌, ◌||◌, ◌∙◌, ◌∷◌, ◌≡◌, ◌≢◌, ◌≤◌, common_steps, nat_tests, prefix_len-le-length, slice_get-get_or, list_any, position_or_len, is_some}
 use Rattle.std.proofs.lemmas.List.Folds.{position_or_len_push}
-use Rattle.std.proofs.lemmas.List.Sums.{prefix_len-le-length}
-use Rattle.std.proofs.lemmas.Option.{slice_get-get_or}
-use Rattle.std.specs.List.{list_any, position_or_len}
-use Rattle.std.specs.Prelude.{is_some}
 use Rattle.settings.specs.Indexed.{Finds}
 use Rattle.settings.proofs.Entries.{some_place}
 

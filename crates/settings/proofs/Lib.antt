@@ -1,3 +1,4 @@
+pub mod Basics
 pub mod Firsts
 pub mod Entries
 pub mod Indexing

@@ -1,7 +1,5 @@
 -- Where an element stands in a list.
-use Rattle.std.proofs.Common.{◌≡◌, ◌+◌, Bool, not, cond, List, [], ◌∷◌, map, position, refl, ap}
-use Rattle.std.specs.List.{prefix_len}
-use Rattle.std.proofs.lemmas.List.{length-map}
+use Rattle.settings.proofs.Basics.{◌≡◌, ◌+◌, Bool, not, cond, List, [], ◌∷◌, map, position, refl, ap, prefix_len, length-map}
 
 pub prefix_len-map : {X Y : Type 0} (p : Y → Bool) (f : X → Y) (xs : List X) → prefix_len p (map f xs) ≡ prefix_len (λ x. p (f x)) xs
 prefix_len-map p f [] = refl

@@ -1,17 +1,5 @@
 -- What entries without a fault have in common, and what holds of what is made from them.
-use Rattle.std.proofs.Common.{refl, sym, subst, cond, ◌∙◌, ◌≡◌, ◌<◌, ℕ, Bool, true, false, not, ◌&&◌, ◌||◌, nat_lt, List, [], ◌∷◌, ◌++◌, map, length, append_assoc, arith}
-use Rattle.std.specs.Prelude.{Option, Some, None, ℤ, pos, negsuc, slice_get}
-use Rattle.std.specs.List.{AllByRecursion, IsDistinct, list_any, list_all, filter}
-use Rattle.std.proofs.Math.Dec.{eqb}
-use Rattle.std.proofs.lemmas.List.{append-nil}
-use Rattle.std.proofs.lemmas.List.Elements.{All-from_recursion}
-use Rattle.std.proofs.lemmas.Option.{get_or_from_slice_get, slice_get_past}
-use Rattle.std.proofs.lemmas.Bool.Decides.{nat_tests, Decides-eqb}
-use Rattle.settings.specs.Checks.{first_of, entries_fault, fault_unless, is_within, natural}
-use Rattle.settings_rows.specs.declared.fault.DraftFault.{DraftFault}
-use Rattle.settings_rows.specs.declared.fault.FaultKind.{FaultKind}
-use Rattle.settings_rows.specs.declared.key.Key.{Key}
-use Rattle.settings.specs.Well.{IsWithin}
+use Rattle.settings.proofs.Basics.{refl, sym, subst, cond, ◌∙◌, ◌≡◌, ◌<◌, ℕ, Bool, true, false, not, ◌&&◌, ◌||◌, nat_lt, List, [], ◌∷◌, ◌++◌, map, length, append_assoc, arith, Option, Some, None, ℤ, pos, negsuc, slice_get, AllByRecursion, IsDistinct, list_any, list_all, filter, eqb, append-nil, All-from_recursion, get_or_from_slice_get, slice_get_past, nat_tests, Decides-eqb, first_of, entries_fault, fault_unless, is_within, natural, DraftFault, FaultKind, Key, IsWithin}
 
 -- ---- tests
 pub both : (a b : Bool) → a ≡ true → b ≡ true → (a && b) ≡ true

@@ -1,9 +1,5 @@
 -- Lists of links that have the same names.
-use Rattle.std.proofs.Common.{◌≡◌, ◌<◌, ◌+◌, ◌∙◌, ℕ, List, [], map, take, length, sym, ap, arith}
-use Rattle.std.proofs.Math.ListN.{get_or}
-use Rattle.std.proofs.lemmas.Grind.{common_steps}
-use Rattle.std.proofs.lemmas.List.{get_or-map}
-use Rattle.settings_rows.specs.Configuration.{LinkEntry}
+use Rattle.settings.proofs.Basics.{◌≡◌, ◌<◌, ◌+◌, ◌∙◌, ℕ, List, [], map, take, length, sym, ap, arith, get_or, common_steps, get_or-map, LinkEntry}
 
 names-at : (xs : List LinkEntry) (i : ℕ) (x : LinkEntry) → i < length xs → x ≡ get_or xs i x → x.name ≡ get_or (map (λ (l : LinkEntry). l.name) xs) i []
 names-at xs i x p e = ap (λ (l : LinkEntry). l.name) e ∙ sym (get_or-map (λ (l : LinkEntry). l.name) xs i x [] p)

@@ -1,15 +1,7 @@
 -- Settings without a fault keep every limit and name.
-use Rattle.std.proofs.Common.{◌≡◌, [], All, arith}
-use Rattle.std.specs.Prelude.{None}
-use Rattle.std.proofs.lemmas.List.Elements.{All-from_recursion}
-use Rattle.settings.specs.Checks.{natural, range_fault, numbers_fault}
-use Rattle.settings.specs.Meaning.{settings_of, ticks_of}
-use Rattle.settings.specs.FirstFault.{first_fault, scalars_fault, timers_fault, tables_fault, arrays_fault, ticks_fault, timers_written, ticks_in, timer_in, sets_fault, links_fault, destinations_fault, titles_fault, unreached_fault}
+use Rattle.settings.proofs.Basics.{◌≡◌, [], All, arith, None, All-from_recursion, natural, range_fault, numbers_fault, settings_of, ticks_of, first_fault, scalars_fault, timers_fault, tables_fault, arrays_fault, ticks_fault, timers_written, ticks_in, timer_in, sets_fault, links_fault, destinations_fault, titles_fault, unreached_fault, Own, Network, Window, Pool, Users, Subsystems, Timer, WINDOW, POOL, TICKS, IsWithin, IsWell, all_ticks}
 use Rattle.settings_rows.specs.declared.draft.Draft.{Draft}
 use Rattle.settings_rows.specs.declared.draft.TimersDraft.{TimersDraft}
-use Rattle.settings_rows.specs.declared.key.Key.TheVariants.{Own, Network, Window, Pool, Users, Subsystems, Timer}
-use Rattle.signalling_types.specs.declared.limits.TheConstants.Limits.{WINDOW, POOL, TICKS}
-use Rattle.settings.specs.Well.{IsWithin, IsWell, all_ticks}
 use Rattle.settings.proofs.Rows.{three_none, four_none, five_none, each_entry, each_made}
 use Rattle.settings.proofs.WellNumbers.{in_range, numbers_within, numbers_differ}
 use Rattle.settings.proofs.WellSets.{set_count_well, sets_well, set_names_well, adjacent_points_well}

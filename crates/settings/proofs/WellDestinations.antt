@@ -1,30 +1,7 @@
 -- Destinations without a fault keep what is asked of them.
-use Rattle.std.proofs.Common.{refl, sym, ap, subst, ◌∙◌, ◌≡◌, ◌<◌, ◌≤◌, ℕ, Bool, true, false, not, ◌&&◌, ◌||◌, nat_eq, nat_le, nat_lt, List, [], ◌∷◌, map, length, get_or, All, IsTrue, arith}
-use Rattle.std.specs.Prelude.{Option, None, Some, ℤ, String, string_eq, unwrap_or, slice_get, string_bytes}
+use Rattle.settings.proofs.Basics.{refl, sym, ap, subst, ◌∙◌, ◌≡◌, ◌<◌, ◌≤◌, ℕ, Bool, true, false, not, ◌&&◌, ◌||◌, nat_eq, nat_le, nat_lt, List, [], ◌∷◌, map, length, get_or, All, IsTrue, arith, Option, None, Some, ℤ, String, string_eq, unwrap_or, slice_get, string_bytes, IsDistinct, AllByRecursion, list_any, list_all, position_or_len, option_map, bytes_eq, int_eq, length-map, All-from_recursion, position_or_len_is, slice_get-map, get_or_from_slice_get, bytes_eq-Decides, nat_tests, Decides-eqb, Decides-int_eq, natural, far_point_fault, fault_unless, entries_fault, has_repeat, count_fault, set_of, destination_of, set_place, set_number, destinations_fault, destination_fault, destination_point_fault, set_list_fault, joined_fault, has_destination, is_set_name, unreached_fault, reached_fault, is_reached, is_first_name, sets_fault, SetEntry, is_name, SetDraft, DestinationDraft, Key, Destination, DestinationPoint, DestinationSets, DestinationJoined, SetAdjacent, Range, Duplicate, UnknownName, DESTINATIONS, SETS_PER_DESTINATION, IsWithin, IsDestination, is_same_point, is_led_first, is_first}
 use Rattle.std.specs.declared.alloc.Global.{Global}
-use Rattle.std.specs.List.{IsDistinct, AllByRecursion, list_any, list_all, position_or_len}
-use Rattle.std.specs.Option.{option_map}
-use Rattle.std.specs.Str.{bytes_eq}
-use Rattle.std.specs.Ordering.{int_eq}
-use Rattle.std.proofs.lemmas.List.{length-map}
-use Rattle.std.proofs.lemmas.List.Elements.{All-from_recursion}
-use Rattle.std.proofs.lemmas.List.Sums.{position_or_len_is}
 use Rattle.std.proofs.lemmas.Map.Keys.{apart_from_distinct}
-use Rattle.std.proofs.lemmas.Option.{slice_get-map, get_or_from_slice_get}
-use Rattle.std.proofs.lemmas.Slice.Eq.{bytes_eq-Decides}
-use Rattle.std.proofs.lemmas.Bool.Decides.{nat_tests, Decides-eqb, Decides-int_eq}
-use Rattle.settings.specs.Checks.{natural, far_point_fault, fault_unless, entries_fault, has_repeat, count_fault}
-use Rattle.settings.specs.Meaning.{set_of, destination_of, set_place, set_number}
-use Rattle.settings.specs.FirstFault.{destinations_fault, destination_fault, destination_point_fault, set_list_fault, joined_fault, has_destination, is_set_name, unreached_fault, reached_fault, is_reached, is_first_name, sets_fault}
-use Rattle.settings_rows.specs.Configuration.{SetEntry}
-use Rattle.settings_rows.specs.Names.{is_name}
-use Rattle.settings_rows.specs.declared.draft.SetDraft.{SetDraft}
-use Rattle.settings_rows.specs.declared.draft.DestinationDraft.{DestinationDraft}
-use Rattle.settings_rows.specs.declared.key.Key.{Key}
-use Rattle.settings_rows.specs.declared.key.Key.TheVariants.{Destination, DestinationPoint, DestinationSets, DestinationJoined, SetAdjacent}
-use Rattle.settings_rows.specs.declared.fault.FaultKind.TheVariants.{Range, Duplicate, UnknownName}
-use Rattle.signalling_types.specs.declared.limits.TheConstants.Limits.{DESTINATIONS, SETS_PER_DESTINATION}
-use Rattle.settings.specs.Well.{IsWithin, IsDestination, is_same_point, is_led_first, is_first}
 use Rattle.settings.proofs.Rows.{both, both_of, false_by, false_from_not, two_none, three_none, four_none, passes, each_entry, each_made, each_of_all, each_then, each_unmapped, entries_differ, differ_made, none_of_any, none_differ, every, any_made, each_at, within_from_get}
 use Rattle.settings.proofs.WellNumbers.{count_within, far_point_well, no_repeat, nat_eq-flips}
 use Rattle.settings.proofs.WellSets.{is_named_alike, set_drafts_differ}

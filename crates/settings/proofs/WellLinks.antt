@@ -1,28 +1,7 @@
 -- Links without a fault keep what is asked of them.
-use Rattle.std.proofs.Common.{refl, sym, ap, ◌∙◌, ◌≡◌, ◌≤◌, ◌<◌, ℕ, Bool, true, false, not, ◌&&◌, nat_eq, List, [], ◌∷◌, map, length, get_or, All, arith}
-use Rattle.std.specs.Prelude.{Option, None, Some, is_some, unwrap_or, string_bytes}
-use Rattle.std.specs.List.{IsDistinct, AllByRecursion, filter, count_by}
-use Rattle.std.specs.Str.{bytes_eq}
-use Rattle.std.specs.Ordering.{int_eq}
-use Rattle.std.proofs.Math.Dec.{eqb}
-use Rattle.std.proofs.lemmas.List.{length-map}
-use Rattle.std.proofs.lemmas.List.Elements.{All-from_recursion}
-use Rattle.std.proofs.lemmas.List.Quantifiers.{position-Some}
-use Rattle.std.proofs.lemmas.List.Sums.{length-filter}
+use Rattle.settings.proofs.Basics.{refl, sym, ap, ◌∙◌, ◌≡◌, ◌≤◌, ◌<◌, ℕ, Bool, true, false, not, ◌&&◌, nat_eq, List, [], ◌∷◌, map, length, get_or, All, arith, Option, None, Some, is_some, unwrap_or, string_bytes, IsDistinct, AllByRecursion, filter, count_by, bytes_eq, int_eq, eqb, length-map, All-from_recursion, position-Some, length-filter, bytes_eq-Decides, nat_tests, natural, is_within, entries_fault, count_fault, set_of, link_of, set_place, set_number, links_fault, link_fault, link_name_fault, link_set_fault, link_slc_fault, has_link_named, has_link_code, LinkEntry, is_name, SetDraft, Link, LinkName, LinkSet, LinkSlc, Range, Duplicate, UnknownName, LINKS, LINKS_PER_SET, IsWithin, IsLink, is_link_of_same_name, is_same_code}
 use Rattle.std.proofs.lemmas.Map.Steps.{length-le_from_distinct_below}
-use Rattle.std.proofs.lemmas.Slice.Eq.{bytes_eq-Decides}
-use Rattle.std.proofs.lemmas.Bool.Decides.{nat_tests}
-use Rattle.settings.specs.Checks.{natural, is_within, entries_fault, count_fault}
-use Rattle.settings.specs.Meaning.{set_of, link_of, set_place, set_number}
-use Rattle.settings.specs.FirstFault.{links_fault, link_fault, link_name_fault, link_set_fault, link_slc_fault, has_link_named, has_link_code}
-use Rattle.settings_rows.specs.Configuration.{LinkEntry}
-use Rattle.settings_rows.specs.Names.{is_name}
-use Rattle.settings_rows.specs.declared.draft.SetDraft.{SetDraft}
 use Rattle.settings_rows.specs.declared.draft.LinkDraft.{LinkDraft}
-use Rattle.settings_rows.specs.declared.key.Key.TheVariants.{Link, LinkName, LinkSet, LinkSlc}
-use Rattle.settings_rows.specs.declared.fault.FaultKind.TheVariants.{Range, Duplicate, UnknownName}
-use Rattle.signalling_types.specs.declared.limits.TheConstants.Limits.{LINKS, LINKS_PER_SET}
-use Rattle.settings.specs.Well.{IsWithin, IsLink, is_link_of_same_name, is_same_code}
 use Rattle.settings.proofs.Rows.{both, both_of, false_from_not, two_none, three_none, two_pass, within_from_test, each_entry, each_made, entries_differ, differ_made, none_of_any, none_differ, every, each_passes, each_filtered, differ_filter, below_from_each}
 use Rattle.settings.proofs.WellNumbers.{count_within}
 use Rattle.settings.proofs.WellSets.{int_eq-natural}

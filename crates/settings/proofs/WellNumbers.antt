@@ -1,13 +1,5 @@
 -- Numbers without a fault are within their limits.
-use Rattle.std.proofs.Common.{◌≡◌, ◌≤◌, ℕ, Bool, true, false, not, ◌&&◌, nat_eq, nat_le, nat_lt, List, [], ◌∷◌, map, All, arith}
-use Rattle.std.specs.Prelude.{None, ℤ}
-use Rattle.std.specs.List.{IsDistinct, list_all, list_any}
-use Rattle.std.proofs.lemmas.List.Elements.{All-from_recursion}
-use Rattle.std.proofs.lemmas.Bool.Decides.{nat_tests}
-use Rattle.settings.specs.Checks.{natural, is_within, has_repeat, numbers_fault, count_fault, range_fault, far_point_fault}
-use Rattle.settings_rows.specs.declared.key.Key.{Key}
-use Rattle.settings_rows.specs.declared.fault.FaultKind.TheVariants.{Range, Duplicate, TooMany}
-use Rattle.settings.specs.Well.{IsWithin, IsFarPoint}
+use Rattle.settings.proofs.Basics.{◌≡◌, ◌≤◌, ℕ, Bool, true, false, not, ◌&&◌, nat_eq, nat_le, nat_lt, List, [], ◌∷◌, map, All, arith, None, ℤ, IsDistinct, list_all, list_any, All-from_recursion, nat_tests, natural, is_within, has_repeat, numbers_fault, count_fault, range_fault, far_point_fault, Key, Range, Duplicate, TooMany, IsWithin, IsFarPoint}
 use Rattle.settings.proofs.Rows.{both_of, neither_of, false_from_not, passes, two_pass, within_from_test, each_of_all, each_made, none_of_any, each_then}
 
 pub in_range : (low high : ℕ) (key : Key) (n : ℤ) → range_fault low high key n ≡ None → IsWithin low high (natural n)

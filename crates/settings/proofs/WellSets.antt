@@ -1,21 +1,5 @@
 -- Link sets without a fault keep what is asked of them.
-use Rattle.std.proofs.Common.{ap, ◌≡◌, ℕ, Bool, true, false, not, nat_eq, List, [], map, length, All, arith}
-use Rattle.std.specs.Prelude.{None, ℤ, pos, negsuc, string_bytes}
-use Rattle.std.specs.List.{IsDistinct, AllByRecursion}
-use Rattle.std.specs.Str.{bytes_eq}
-use Rattle.std.specs.Ordering.{int_eq}
-use Rattle.std.proofs.lemmas.List.{length-map}
-use Rattle.std.proofs.lemmas.List.Elements.{All-from_recursion}
-use Rattle.std.proofs.lemmas.Bool.Decides.{Decides-eqb, Decides-int_eq}
-use Rattle.settings.specs.Checks.{natural, is_within, far_point_fault, fault_unless, entries_fault, count_fault}
-use Rattle.settings.specs.Meaning.{set_of}
-use Rattle.settings.specs.FirstFault.{sets_fault, set_fault, set_name_fault, set_adjacent_fault, has_set_named, has_adjacent}
-use Rattle.settings_rows.specs.Names.{is_name}
-use Rattle.settings_rows.specs.declared.draft.SetDraft.{SetDraft}
-use Rattle.settings_rows.specs.declared.key.Key.TheVariants.{Set, SetName, SetAdjacent}
-use Rattle.settings_rows.specs.declared.fault.FaultKind.TheVariants.{Range, Duplicate}
-use Rattle.signalling_types.specs.declared.limits.TheConstants.Limits.{SETS}
-use Rattle.settings.specs.Well.{IsWithin, IsSet, is_set_of_same_name, is_set_to_same_point}
+use Rattle.settings.proofs.Basics.{ap, ◌≡◌, ℕ, Bool, true, false, not, nat_eq, List, [], map, length, All, arith, None, ℤ, pos, negsuc, string_bytes, IsDistinct, AllByRecursion, bytes_eq, int_eq, length-map, All-from_recursion, Decides-eqb, Decides-int_eq, natural, is_within, far_point_fault, fault_unless, entries_fault, count_fault, set_of, sets_fault, set_fault, set_name_fault, set_adjacent_fault, has_set_named, has_adjacent, is_name, SetDraft, Set, SetName, SetAdjacent, Range, Duplicate, SETS, IsWithin, IsSet, is_set_of_same_name, is_set_to_same_point}
 use Rattle.settings.proofs.Rows.{false_from_not, two_none, passes, two_pass, each_entry, each_made, entries_differ, differ_made, none_of_any, none_differ, every}
 use Rattle.settings.proofs.WellNumbers.{count_within, far_point_within, far_point_well}
 

@@ -1,23 +1,5 @@
 -- Translation rows without a fault keep what is asked of them.
-use Rattle.std.proofs.Common.{refl, sym, ◌≡◌, ◌≤◌, ◌<◌, ◌^◌, ℕ, Bool, true, false, not, ◌&&◌, nat_eq, nat_lt, nat_le, List, [], ◌∷◌, map, length, All, arith}
-use Rattle.std.specs.Prelude.{Option, None, Some, ℤ, string_bytes}
-use Rattle.std.specs.List.{IsDistinct, AllByRecursion, list_all, list_any}
-use Rattle.std.specs.Option.{option_map}
-use Rattle.std.specs.Str.{bytes_eq}
-use Rattle.std.specs.Ordering.{int_eq}
-use Rattle.std.proofs.lemmas.List.{length-map}
-use Rattle.std.proofs.lemmas.List.Elements.{All-from_recursion}
-use Rattle.std.proofs.lemmas.Slice.Eq.{bytes_eq-Decides}
-use Rattle.std.proofs.lemmas.Bool.Decides.{nat_tests}
-use Rattle.settings.specs.Checks.{natural, is_within, is_digit, fault_unless, range_fault, entries_fault, ssn_fault, route_fault, digits_fault}
-use Rattle.settings.specs.Meaning.{title_of, digit_of, route_of, is_by_title}
-use Rattle.settings.specs.FirstFault.{titles_fault, title_fault, title_numbers_fault, title_digits_fault, title_target_fault, is_same_title}
-use Rattle.settings_rows.specs.declared.draft.TitleDraft.{TitleDraft}
-use Rattle.settings_rows.specs.declared.key.Key.{Key}
-use Rattle.settings_rows.specs.declared.key.Key.TheVariants.{Title, TitleTranslation, TitlePlan, TitleNature, TitleDigits, TitlePoint, TitleRoute, TitleSsn}
-use Rattle.settings_rows.specs.declared.fault.FaultKind.TheVariants.{Range, Duplicate, TooMany}
-use Rattle.signalling_types.specs.declared.limits.TheConstants.Limits.{TITLES, TITLE_DIGITS}
-use Rattle.settings.specs.Well.{IsWithin, IsTitle, HasSubsystem, is_same_row}
+use Rattle.settings.proofs.Basics.{refl, sym, ◌≡◌, ◌≤◌, ◌<◌, ◌^◌, ℕ, Bool, true, false, not, ◌&&◌, nat_eq, nat_lt, nat_le, List, [], ◌∷◌, map, length, All, arith, Option, None, Some, ℤ, string_bytes, IsDistinct, AllByRecursion, list_all, list_any, option_map, bytes_eq, int_eq, length-map, All-from_recursion, bytes_eq-Decides, nat_tests, natural, is_within, is_digit, fault_unless, range_fault, entries_fault, ssn_fault, route_fault, digits_fault, title_of, digit_of, route_of, is_by_title, titles_fault, title_fault, title_numbers_fault, title_digits_fault, title_target_fault, is_same_title, TitleDraft, Key, Title, TitleTranslation, TitlePlan, TitleNature, TitleDigits, TitlePoint, TitleRoute, TitleSsn, Range, Duplicate, TooMany, TITLES, TITLE_DIGITS, IsWithin, IsTitle, HasSubsystem, is_same_row}
 use Rattle.settings.proofs.Rows.{both, both_of, false_from_not, two_none, three_none, passes, two_pass, within_from_test, each_entry, each_made, each_of_all, entries_differ, differ_made, none_of_any, none_differ}
 use Rattle.settings.proofs.WellNumbers.{in_range}
 use Rattle.settings.proofs.WellSets.{int_eq-natural}

@@ -1,5 +1,4 @@
-use Rattle.std.proofs.Common.{[], inl, inr, refl}
-use Rattle.std.proofs.lemmas.Result.{err_from_is_err_and}
+use Rattle.settings.proofs.Basics.{[], inl, inr, refl, err_from_is_err_and}
 use Rattle.settings.proofs.Firsts.{past, there}
 use Rattle.settings.proofs.check.check_draft.Goals as goal
 

@@ -1,5 +1,4 @@
-use Rattle.std.proofs.Common.{rules}
-use Rattle.settings.specs.FirstFault.{scalars_fault}
+use Rattle.settings.proofs.Basics.{rules, scalars_fault}
 use Rattle.settings.proofs.check.checked_scalars.Goals as goal
 
 pub returns-in_err-point-clause-fault : goal.returns-in_err-point-clause-fault

@@ -1,10 +1,4 @@
-use Rattle.std.proofs.Common.{inl, ap, ◌+◌, inr, refl, ◌∙◌, ◌<◌, ◌≤◌, length, arith}
-use Rattle.std.proofs.lemmas.Result.{err_from_is_err_and}
-use Rattle.settings.specs.Checks.{natural}
-use Rattle.settings.specs.Meaning.{destination_of}
-use Rattle.settings.specs.FirstFault.{destination_fault}
-use Rattle.settings_rows.specs.Configuration.{DestinationEntry}
-use Rattle.settings_rows.specs.declared.draft.DestinationDraft.{DestinationDraft}
+use Rattle.settings.proofs.Basics.{inl, ap, ◌+◌, inr, refl, ◌∙◌, ◌<◌, ◌≤◌, length, arith, err_from_is_err_and, natural, destination_of, destination_fault, DestinationEntry, DestinationDraft}
 use Rattle.settings.proofs.Entries.{past_entry, at_entry, past_all, next_row, all_rows, pushed_map}
 use Rattle.settings.proofs.destinations.destination_rows.Goals as goal
 

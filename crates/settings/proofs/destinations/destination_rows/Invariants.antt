@@ -1,7 +1,4 @@
-use Rattle.std.proofs.Common.{◌≡◌, ◌≤◌, [], length, map, take, drop, vec_len, vec_capacity}
-use Rattle.settings.specs.Checks.{entries_fault}
-use Rattle.settings.specs.Meaning.{destination_of, points_of}
-use Rattle.settings.specs.FirstFault.{destination_fault}
+use Rattle.settings.proofs.Basics.{◌≡◌, ◌≤◌, [], length, map, take, drop, vec_len, vec_capacity, entries_fault, destination_of, points_of, destination_fault}
 use Rattle.settings.proofs.destinations.destination_rows.Given as goal
 
 abbrev pub invariant-loop-i : goal.invariant-loop-i

@@ -1,5 +1,4 @@
-use Rattle.std.proofs.Common.{◌≡◌, string_eq, drop}
-use Rattle.settings.specs.Checks.{has_repeat}
+use Rattle.settings.proofs.Basics.{◌≡◌, string_eq, drop, has_repeat}
 use Rattle.settings.proofs.destinations.has_name_twice.Given as goal
 
 abbrev pub invariant-loop-i : goal.invariant-loop-i

@@ -1,5 +1,4 @@
-use Rattle.std.proofs.Common.{arith}
-use Rattle.std.proofs.lemmas.Grind.{common_steps}
+use Rattle.settings.proofs.Basics.{arith, common_steps}
 use Rattle.settings.proofs.destinations.set_ids.Goals as goal
 
 pub push-requires : goal.push-requires

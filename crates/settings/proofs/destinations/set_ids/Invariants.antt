@@ -1,7 +1,4 @@
-use Rattle.std.proofs.Common.{◌≡◌, map, take, drop, string_bytes}
-use Rattle.std.specs.List.{list_all}
-use Rattle.settings.specs.Meaning.{set_number}
-use Rattle.settings.specs.FirstFault.{is_set_name}
+use Rattle.settings.proofs.Basics.{◌≡◌, map, take, drop, string_bytes, list_all, set_number, is_set_name}
 use Rattle.settings.proofs.destinations.set_ids.Given as goal
 
 abbrev pub invariant-loop-name : goal.invariant-loop-name

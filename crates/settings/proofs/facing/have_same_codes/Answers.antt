@@ -1,5 +1,4 @@
-use Rattle.std.proofs.Common.{rules, tests, arith, map, ap, ◌∙◌, ◌≡◌}
-use Rattle.std.proofs.lemmas.Grind.{common_steps}
+use Rattle.settings.proofs.Basics.{rules, tests, arith, map, ap, ◌∙◌, ◌≡◌, common_steps}
 use Rattle.std.proofs.lemmas.Iterator.{YieldsList-from_slice, YieldsList-from_map, YieldsList-from_zip, same_from_all}
 use Rattle.settings.proofs.facing.have_same_codes.Goals as goal
 

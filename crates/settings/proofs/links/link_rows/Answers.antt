@@ -1,7 +1,4 @@
-use Rattle.std.proofs.Common.{inr, ap, ◌+◌, ◌∙◌, ◌<◌, ◌≤◌, length, arith}
-use Rattle.std.proofs.lemmas.Result.{err_from_is_err_and}
-use Rattle.settings.specs.Meaning.{link_of}
-use Rattle.settings.specs.FirstFault.{link_fault}
+use Rattle.settings.proofs.Basics.{inr, ap, ◌+◌, ◌∙◌, ◌<◌, ◌≤◌, length, arith, err_from_is_err_and, link_of, link_fault}
 use Rattle.settings.proofs.Entries.{past_entry, at_entry, past_all, next_row, all_rows}
 use Rattle.settings.proofs.links.link_rows.Goals as goal
 

@@ -1,7 +1,4 @@
-use Rattle.std.proofs.Common.{◌≡◌, ◌≤◌, [], length, map, take, drop, vec_len, vec_capacity}
-use Rattle.settings.specs.Checks.{entries_fault}
-use Rattle.settings.specs.Meaning.{link_of}
-use Rattle.settings.specs.FirstFault.{link_fault}
+use Rattle.settings.proofs.Basics.{◌≡◌, ◌≤◌, [], length, map, take, drop, vec_len, vec_capacity, entries_fault, link_of, link_fault}
 use Rattle.settings.proofs.links.link_rows.Given as goal
 
 abbrev pub invariant-loop-i : goal.invariant-loop-i

@@ -1,5 +1,4 @@
-use Rattle.std.proofs.Common.{◌≡◌, ◌<◌, rules, tests, length, arith, sym, true≢false}
-use Rattle.std.proofs.lemmas.Grind.{common_steps}
+use Rattle.settings.proofs.Basics.{◌≡◌, ◌<◌, rules, tests, length, arith, sym, true≢false, common_steps}
 use Rattle.settings.proofs.SameNames.{names-differ, names-next}
 use Rattle.settings.proofs.naming.have_same_names.Goals as goal
 

@@ -1,4 +1,4 @@
-use Rattle.std.proofs.Common.{◌≡◌, map, take}
+use Rattle.settings.proofs.Basics.{◌≡◌, map, take}
 use Rattle.settings.proofs.naming.have_same_names.Given as goal
 
 abbrev pub invariant-loop-i : goal.invariant-loop-i

@@ -1,8 +1,4 @@
-use Rattle.std.proofs.Common.{inr, ap, ◌+◌, refl, sym, ◌∙◌, ◌<◌, ◌≤◌, length, arith}
-use Rattle.std.specs.List.{list_all}
-use Rattle.std.proofs.lemmas.Result.{err_from_is_err_and}
-use Rattle.settings.specs.Checks.{natural, is_within}
-use Rattle.settings_rows.specs.declared.fault.FaultKind.TheVariants.{Range}
+use Rattle.settings.proofs.Basics.{inr, ap, ◌+◌, refl, sym, ◌∙◌, ◌<◌, ◌≤◌, length, arith, list_all, err_from_is_err_and, natural, is_within, Range}
 use Rattle.settings.proofs.Entries.{next_row, all_rows, past_passing, at_failing, past_last, passes, fails_too, passes_too}
 use Rattle.settings.proofs.numbers.all_within.Goals as goal
 

@@ -1,6 +1,4 @@
-use Rattle.std.proofs.Common.{◌≡◌, ◌≤◌, length, map, take, drop, vec_len, vec_capacity}
-use Rattle.std.specs.List.{list_all}
-use Rattle.settings.specs.Checks.{natural, is_within}
+use Rattle.settings.proofs.Basics.{◌≡◌, ◌≤◌, length, map, take, drop, vec_len, vec_capacity, list_all, natural, is_within}
 use Rattle.settings.proofs.numbers.all_within.Given as goal
 
 abbrev pub invariant-loop-i : goal.invariant-loop-i

@@ -1,5 +1,4 @@
-use Rattle.std.proofs.Common.{arith}
-use Rattle.std.proofs.lemmas.Grind.{common_steps}
+use Rattle.settings.proofs.Basics.{arith, common_steps}
 use Rattle.settings.proofs.numbers.has_repeat.Goals as goal
 
 pub returns-then-contains : goal.returns-then-contains

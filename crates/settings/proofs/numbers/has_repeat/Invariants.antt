@@ -1,5 +1,4 @@
-use Rattle.std.proofs.Common.{◌≡◌, nat_eq, drop}
-use Rattle.settings.specs.Checks.{has_repeat}
+use Rattle.settings.proofs.Basics.{◌≡◌, nat_eq, drop, has_repeat}
 use Rattle.settings.proofs.numbers.has_repeat.Given as goal
 
 abbrev pub invariant-loop-i : goal.invariant-loop-i

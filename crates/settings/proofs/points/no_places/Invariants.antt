@@ -1,4 +1,4 @@
-use Rattle.std.proofs.Common.{◌≡◌, replicate, None}
+use Rattle.settings.proofs.Basics.{◌≡◌, replicate, None}
 use Rattle.settings.proofs.points.no_places.Given as goal
 
 -- as many as the loop has gone round

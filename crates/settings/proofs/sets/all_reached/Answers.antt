@@ -1,11 +1,4 @@
-use Rattle.std.proofs.Common.{◌≡◌, ◌∙◌, ◌<◌, ◌≤◌, ℕ, List, Some, None, length, take, arith}
-use Rattle.std.proofs.lemmas.Grind.{common_steps}
-use Rattle.std.proofs.lemmas.Result.{err_from_is_err_and}
-use Rattle.settings.specs.Checks.{fault_unless}
-use Rattle.settings.specs.FirstFault.{unreached_fault, reached_fault, is_reached}
-use Rattle.settings_rows.specs.declared.draft.SetDraft.{SetDraft}
-use Rattle.settings_rows.specs.declared.fault.FaultKind.TheVariants.{UnknownName}
-use Rattle.settings_rows.specs.declared.key.Key.TheVariants.{SetAdjacent}
+use Rattle.settings.proofs.Basics.{◌≡◌, ◌∙◌, ◌<◌, ◌≤◌, ℕ, List, Some, None, length, take, arith, common_steps, err_from_is_err_and, fault_unless, unreached_fault, reached_fault, is_reached, SetDraft, UnknownName, SetAdjacent}
 use Rattle.settings.proofs.Entries.{past_entry, at_entry, past_all}
 use Rattle.settings.proofs.sets.all_reached.Goals as goal
 

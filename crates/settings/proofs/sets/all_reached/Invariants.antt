@@ -1,6 +1,4 @@
-use Rattle.std.proofs.Common.{◌≡◌, [], take, drop}
-use Rattle.settings.specs.Checks.{entries_fault}
-use Rattle.settings.specs.FirstFault.{reached_fault}
+use Rattle.settings.proofs.Basics.{◌≡◌, [], take, drop, entries_fault, reached_fault}
 use Rattle.settings.proofs.sets.all_reached.Given as goal
 
 abbrev pub invariant-loop-i : goal.invariant-loop-i

@@ -1,6 +1,4 @@
-use Rattle.std.specs.Prelude.{string_bytes}
-use Rattle.std.specs.Str.{bytes_eq}
-use Rattle.settings_rows.specs.declared.draft.SetDraft.{SetDraft}
+use Rattle.settings.proofs.Basics.{string_bytes, bytes_eq, SetDraft}
 use Rattle.settings.proofs.Entries.{some_place}
 use Rattle.settings.proofs.sets.has_set_named.Goals as goal
 

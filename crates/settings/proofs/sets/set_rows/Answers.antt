@@ -1,7 +1,4 @@
-use Rattle.std.proofs.Common.{inr, ap, ◌+◌, ◌∙◌, ◌<◌, ◌≤◌, length, arith}
-use Rattle.std.proofs.lemmas.Result.{err_from_is_err_and}
-use Rattle.settings.specs.Meaning.{set_of}
-use Rattle.settings.specs.FirstFault.{set_fault}
+use Rattle.settings.proofs.Basics.{inr, ap, ◌+◌, ◌∙◌, ◌<◌, ◌≤◌, length, arith, err_from_is_err_and, set_of, set_fault}
 use Rattle.settings.proofs.Entries.{past_entry, at_entry, past_all, next_row, all_rows}
 use Rattle.settings.proofs.sets.set_rows.Goals as goal
 

@@ -1,7 +1,4 @@
-use Rattle.std.proofs.Common.{◌≡◌, ◌≤◌, [], length, map, take, drop, vec_len, vec_capacity}
-use Rattle.settings.specs.Checks.{entries_fault}
-use Rattle.settings.specs.Meaning.{set_of}
-use Rattle.settings.specs.FirstFault.{set_fault}
+use Rattle.settings.proofs.Basics.{◌≡◌, ◌≤◌, [], length, map, take, drop, vec_len, vec_capacity, entries_fault, set_of, set_fault}
 use Rattle.settings.proofs.sets.set_rows.Given as goal
 
 abbrev pub invariant-loop-i : goal.invariant-loop-i

@@ -1,8 +1,4 @@
-use Rattle.std.proofs.Common.{refl, ◌≤◌, ◌<◌, length, ◌∙◌, arith}
-use Rattle.std.proofs.Math.ListN.{length-set}
-use Rattle.std.proofs.lemmas.Result.{err_from_is_err_and}
-use Rattle.settings.specs.Checks.{natural}
-use Rattle.settings.specs.FirstFault.{ticks_fault}
+use Rattle.settings.proofs.Basics.{refl, ◌≤◌, ◌<◌, length, ◌∙◌, arith, length-set, err_from_is_err_and, natural, ticks_fault}
 use Rattle.settings.specs.declared.timers.Written.{Written}
 use Rattle.settings.proofs.Entries.{past_entry, at_entry, next_place, last_place}
 use Rattle.settings.proofs.timers.all_ticks.Goals as goal

@@ -1,6 +1,4 @@
-use Rattle.std.proofs.Common.{◌≡◌, [], length, map, take, drop}
-use Rattle.settings.specs.Checks.{natural, entries_fault}
-use Rattle.settings.specs.FirstFault.{ticks_fault}
+use Rattle.settings.proofs.Basics.{◌≡◌, [], length, map, take, drop, natural, entries_fault, ticks_fault}
 use Rattle.settings.proofs.timers.all_ticks.Given as goal
 
 abbrev pub invariant-loop-i : goal.invariant-loop-i

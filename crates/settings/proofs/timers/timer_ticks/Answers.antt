@@ -1,5 +1,4 @@
-use Rattle.std.proofs.Common.{rules}
-use Rattle.settings.specs.FirstFault.{timers_fault}
+use Rattle.settings.proofs.Basics.{rules, timers_fault}
 use Rattle.settings.proofs.timers.timer_ticks.Goals as goal
 
 pub returns-in_err-l1-clause-fault : goal.returns-in_err-l1-clause-fault

@@ -1,7 +1,4 @@
-use Rattle.std.proofs.Common.{◌≡◌, ◌<◌, ◌^◌, All, map, take, drop}
-use Rattle.std.specs.List.{list_all}
-use Rattle.settings.specs.Checks.{is_digit}
-use Rattle.settings.specs.Meaning.{digit_of}
+use Rattle.settings.proofs.Basics.{◌≡◌, ◌<◌, ◌^◌, All, map, take, drop, list_all, is_digit, digit_of}
 use Rattle.settings.proofs.titles.digit_values.Given as goal
 
 abbrev pub invariant-loop-octet : goal.invariant-loop-octet

@@ -1,8 +1,4 @@
-use Rattle.std.proofs.Common.{rules, ◌≡◌}
-use Rattle.std.specs.Prelude.{None}
-use Rattle.std.proofs.lemmas.Result.{err_from_is_err_and}
-use Rattle.settings.specs.Checks.{range_fault}
-use Rattle.settings_rows.specs.declared.key.Key.TheVariants.{TitlePoint}
+use Rattle.settings.proofs.Basics.{rules, ◌≡◌, None, err_from_is_err_and, range_fault, TitlePoint}
 use Rattle.settings.proofs.Firsts.{past, there}
 use Rattle.settings.proofs.titles.routed_row.Goals as goal
 

@@ -1,18 +1,9 @@
 -- A key is new where no row before has the same key and digits.
-use Rattle.std.proofs.Common.{◌≡◌, ◌∙◌, ap, refl, inr, not, []}
-use Rattle.std.specs.Prelude.{None}
-use Rattle.std.specs.List.{list_any}
-use Rattle.std.proofs.lemmas.Result.{err_from_is_err_and}
-use Rattle.settings.specs.FirstFault.{is_same_title}
-use Rattle.settings.specs.Titles.{title_key}
-use Rattle.settings_rows.specs.declared.draft.TitleDraft.{TitleDraft}
+use Rattle.settings.proofs.Basics.{◌≡◌, ◌∙◌, ap, refl, inr, not, [], None, list_any, err_from_is_err_and, is_same_title, title_key}
 use Rattle.settings.proofs.Entries.{any-map}
 use Rattle.settings.proofs.Firsts.{past, there}
 use Rattle.settings.specs.contracts.titles.TitleKeyPartialEq.TheImpl.{eq-value}
 use Rattle.settings.proofs.titles.title_digits.Goals as goal
-
-same : (t e : TitleDraft) → eq-value.it (title_key t) (title_key e) ≡ is_same_title t e
-same t e = refl
 
 pub returns-in_err-ensure-clause-fault : goal.returns-in_err-ensure-clause-fault
 returns-in_err-ensure-clause-fault c =

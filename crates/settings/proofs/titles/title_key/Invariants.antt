@@ -1,4 +1,4 @@
-use Rattle.std.proofs.Common.{◌≡◌, take, string_bytes}
+use Rattle.settings.proofs.Basics.{◌≡◌, take, string_bytes}
 use Rattle.settings.proofs.titles.title_key.Given as goal
 
 abbrev pub invariant-loop-octet : goal.invariant-loop-octet

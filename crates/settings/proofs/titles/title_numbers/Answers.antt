@@ -1,8 +1,4 @@
-use Rattle.std.proofs.Common.{rules, [], ◌≡◌}
-use Rattle.std.specs.Prelude.{None, Some}
-use Rattle.std.proofs.lemmas.Result.{err_from_is_err_and}
-use Rattle.settings_rows.specs.declared.key.Key.TheVariants.{TitleTranslation, TitlePlan, TitleNature}
-use Rattle.settings.specs.Checks.{range_fault}
+use Rattle.settings.proofs.Basics.{rules, [], ◌≡◌, None, Some, err_from_is_err_and, TitleTranslation, TitlePlan, TitleNature, range_fault}
 use Rattle.settings.proofs.Firsts.{past, there}
 use Rattle.settings.proofs.titles.title_numbers.Goals as goal
 

@@ -1,8 +1,4 @@
-use Rattle.std.proofs.Common.{inl, ap, ◌+◌, inr, refl, ◌∙◌, ◌<◌, ◌≤◌, length, arith}
-use Rattle.std.proofs.lemmas.Result.{err_from_is_err_and}
-use Rattle.settings.specs.Meaning.{title_of}
-use Rattle.settings.specs.Titles.{title_key}
-use Rattle.settings.specs.FirstFault.{title_fault}
+use Rattle.settings.proofs.Basics.{inl, ap, ◌+◌, inr, refl, ◌∙◌, ◌<◌, ◌≤◌, length, arith, err_from_is_err_and, title_of, title_key, title_fault}
 use Rattle.settings.proofs.Entries.{past_entry, at_entry, past_all, next_row, all_rows}
 use Rattle.settings.proofs.titles.title_rows.Goals as goal
 

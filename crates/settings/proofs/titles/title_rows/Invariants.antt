@@ -1,8 +1,4 @@
-use Rattle.std.proofs.Common.{◌≡◌, ◌≤◌, [], length, map, take, drop, vec_len, vec_capacity}
-use Rattle.settings.specs.Checks.{entries_fault}
-use Rattle.settings.specs.Meaning.{title_of}
-use Rattle.settings.specs.Titles.{title_key}
-use Rattle.settings.specs.FirstFault.{title_fault}
+use Rattle.settings.proofs.Basics.{◌≡◌, ◌≤◌, [], length, map, take, drop, vec_len, vec_capacity, entries_fault, title_of, title_key, title_fault}
 use Rattle.settings.proofs.titles.title_rows.Given as goal
 
 abbrev pub invariant-loop-i : goal.invariant-loop-i

@@ -1,6 +1,4 @@
-use Rattle.std.proofs.Common.{ap, arith, false, length, nat_eq, not, sym, true, ◌≡◌, ◌<◌, ◌^◌}
-use Rattle.std.proofs.lemmas.Grind.{common_steps}
-use Rattle.std.specs.List.{list_any}
+use Rattle.settings.proofs.Basics.{ap, arith, false, length, nat_eq, not, sym, true, ◌≡◌, ◌<◌, ◌^◌, common_steps, list_any}
 use Rattle.settings.proofs.Entries.{some_place}
 use Rattle.settings.proofs.Indexing.{finds-more}
 use Rattle.settings.proofs.points.PointIndex.insert.Goals as goal

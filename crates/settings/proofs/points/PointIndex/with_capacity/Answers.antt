@@ -1,5 +1,4 @@
-use Rattle.std.proofs.Common.{◌∙◌, Option, None, ℕ, ap, length, refl}
-use Rattle.std.proofs.lemmas.List.{length-replicate}
+use Rattle.settings.proofs.Basics.{◌∙◌, Option, None, ℕ, ap, length, refl, length-replicate}
 use Rattle.settings.proofs.Indexing.{finds-none}
 use Rattle.settings.proofs.points.PointIndex.with_capacity.Goals as goal
 

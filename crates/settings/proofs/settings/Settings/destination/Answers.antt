@@ -1,4 +1,4 @@
-use Rattle.std.proofs.Common.{nat_eq}
+use Rattle.settings.proofs.Basics.{nat_eq}
 use Rattle.settings.proofs.Places.{position-map}
 use Rattle.settings.proofs.settings.Settings.destination.Goals as goal
 

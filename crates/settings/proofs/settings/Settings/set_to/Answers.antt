@@ -1,6 +1,4 @@
-use Rattle.std.proofs.Common.{sym, subst, ap, get_or, ◌∙◌, ◌≡◌}
-use Rattle.settings_rows.specs.Configuration.{Configuration}
-use Rattle.settings.specs.Well.{IsWell}
+use Rattle.settings.proofs.Basics.{sym, subst, ap, get_or, ◌∙◌, ◌≡◌, Configuration, IsWell}
 use Rattle.settings.proofs.Adjacent.{to_none, to_first}
 use Rattle.settings.proofs.settings.Settings.set_to.Goals as goal
 

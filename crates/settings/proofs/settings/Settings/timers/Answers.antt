@@ -1,7 +1,4 @@
-use Rattle.std.proofs.Common.{subst, All}
-use Rattle.settings_rows.specs.Configuration.{Configuration}
-use Rattle.signalling_types.specs.declared.limits.TheConstants.Limits.{TICKS}
-use Rattle.settings.specs.Well.{IsWithin, all_ticks}
+use Rattle.settings.proofs.Basics.{subst, All, Configuration, TICKS, IsWithin, all_ticks}
 use Rattle.settings.proofs.settings.Settings.timers.Goals as goal
 
 pub returns-clause-ticks : goal.returns-clause-ticks
