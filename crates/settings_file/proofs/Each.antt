@@ -1,11 +1,7 @@
 -- Reading several values, one after the other.
-use Rattle.std.proofs.Common.{◌≡◌, ◌⊎◌, inl, inr, ℕ, ◌+◌, ◌<◌, ◌≤◌, List, [], ◌∷◌, ◌++◌, length, get_or, drop, map, Result, Ok, Err, append_assoc, append-nil, refl, ap, sym, ◌∙◌}
-use Rattle.std.proofs.lemmas.List.{drop_more, drop_all}
-use Rattle.settings_file.specs.Shapes.{and_then, each, listed}
+use Rattle.settings_file.proofs.Basics.{◌≡◌, ◌⊎◌, inl, inr, ℕ, ◌+◌, ◌<◌, ◌≤◌, List, [], ◌∷◌, ◌++◌, length, get_or, drop, map, Result, Ok, Err, append_assoc, append-nil, refl, ap, sym, ◌∙◌, drop_more, drop_all, and_then, each, listed, view, items_view, SettingsFault}
 use Rattle.settings_file.specs.Faults.{no_memory}
-use Rattle.toml.specs.View.{view, items_view}
 use Rattle.toml.specs.declared.value.Value.{Value}
-use Rattle.settings_file.specs.declared.fault.SettingsFault.{SettingsFault}
 
 -- the entries of an array of values
 pub listed-items_view : (vs : List Value) → listed (items_view vs) ≡ map view vs

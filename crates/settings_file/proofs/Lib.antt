@@ -1,3 +1,4 @@
+pub mod Basics
 pub mod Each
 pub mod Readings
 pub mod Placed

@@ -1,5 +1,5 @@
 -- A sentence that is written with the row of a key is about the place of that row.
-use Rattle.std.proofs.Common.{◌≡◌, ◌++◌, ◌∙◌, ℕ, List, [], ◌∷◌, Option, codes, refl}
+use Rattle.settings_file.proofs.Basics.{◌≡◌, ◌++◌, ◌∙◌, ℕ, List, [], ◌∷◌, Option, codes, refl}
 use Rattle.settings_file.specs.Sentences.{IsAboutPlace, place_of, behind_dot, behind_colon, colon_for_dot}
 
 -- a key behind a colon, by the key with its dot

@@ -1,10 +1,7 @@
 -- What is read of a text, by the document that it is.
-use Rattle.std.proofs.Common.{◌≡◌, ◌∙◌, ℕ, List, None, Some, Err, refl, sym, ap}
+use Rattle.settings_file.proofs.Basics.{◌≡◌, ◌∙◌, ℕ, List, None, Some, Err, refl, sym, ap, reading, reading_in, SettingsFault, Text}
 use Rattle.toml.specs.Data.{Members}
 use Rattle.toml.specs.Parse.{parse_document}
-use Rattle.settings_file.specs.Reading.{reading, reading_in}
-use Rattle.settings_file.specs.declared.fault.SettingsFault.{SettingsFault}
-use Rattle.settings_file.specs.declared.fault.SettingsFault.TheVariants.{Text}
 
 pub reading-parsed : (text : List ℕ) (t : Members) → parse_document text ≡ Some t → reading text ≡ reading_in t
 unfolding reading

@@ -1,8 +1,7 @@
 -- One warning more.
-use Rattle.std.proofs.Common.{◌≡◌, ◌≤◌, ◌++◌, ◌+◌, ◌∙◌, ℕ, List, [], ◌∷◌, ap, sym, append_assoc, append-nil, length-append, string_bytes, Result, Ok, Err}
+use Rattle.settings_file.proofs.Basics.{◌≡◌, ◌≤◌, ◌++◌, ◌+◌, ◌∙◌, ℕ, List, [], ◌∷◌, ap, sym, append_assoc, append-nil, length-append, string_bytes, Result, Ok, Err, Ignored, warning, warnings_of, HasWarned, IsSoFar, GoesOn}
 use Rattle.std.specs.Prelude.{OnOk, is_ok, if◌then◌else◌}
 use Rattle.settings_file.specs.declared.unknown.WarningText.{WarningText}
-use Rattle.settings_file.specs.Warnings.{Ignored, warning, warnings_of, HasWarned, IsSoFar, GoesOn}
 
 warnings-more : (file : List ℕ) (ignored : List Ignored) (i : Ignored)
     → warnings_of file (ignored ++ i ∷ []) ≡ warnings_of file ignored ++ warning file i

@@ -1,6 +1,4 @@
-use Rattle.std.proofs.Common.{inr, refl}
-use Rattle.std.proofs.lemmas.Result.{err_from_is_err_and}
-use Rattle.settings_file.specs.Entries.{destinations_at}
+use Rattle.settings_file.proofs.Basics.{inr, refl, err_from_is_err_and, destinations_at}
 use Rattle.settings_file.proofs.arrays.destinations.Goals as goal
 
 pub returns-in_err-values : goal.returns-in_err-values

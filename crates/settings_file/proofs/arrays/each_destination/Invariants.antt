@@ -1,8 +1,4 @@
-use Rattle.std.proofs.Common.{◌≡◌, drop, map}
-use Rattle.toml.specs.View.{view}
-use Rattle.settings_file.specs.Shapes.{each}
-use Rattle.settings_file.specs.Written.{destination_written}
-use Rattle.settings_file.specs.Entries.{destination_in}
+use Rattle.settings_file.proofs.Basics.{◌≡◌, drop, map, view, each, destination_written, destination_in}
 use Rattle.settings_file.proofs.Each.{after}
 use Rattle.settings_file.proofs.arrays.each_destination.Given as goal
 

@@ -1,9 +1,4 @@
-use Rattle.std.proofs.Common.{inl}
-use Rattle.std.proofs.lemmas.List.{map-append}
-use Rattle.std.proofs.lemmas.Result.{err_from_is_err_and}
-use Rattle.toml.specs.View.{view}
-use Rattle.settings_file.specs.Written.{link_written}
-use Rattle.settings_file.specs.Entries.{link_entry_in}
+use Rattle.settings_file.proofs.Basics.{inl, map-append, err_from_is_err_and, view, link_written, link_entry_in}
 use Rattle.settings_file.proofs.Each.{after-none, read-next, read-fault_or, read-all}
 use Rattle.settings_file.proofs.arrays.each_link.Goals as goal
 

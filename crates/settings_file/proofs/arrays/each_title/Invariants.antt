@@ -1,8 +1,4 @@
-use Rattle.std.proofs.Common.{◌≡◌, drop, map}
-use Rattle.toml.specs.View.{view}
-use Rattle.settings_file.specs.Shapes.{each}
-use Rattle.settings_file.specs.Written.{title_written}
-use Rattle.settings_file.specs.Entries.{title_in}
+use Rattle.settings_file.proofs.Basics.{◌≡◌, drop, map, view, each, title_written, title_in}
 use Rattle.settings_file.proofs.Each.{after}
 use Rattle.settings_file.proofs.arrays.each_title.Given as goal
 

@@ -1,6 +1,4 @@
-use Rattle.std.proofs.Common.{SFits, w64, refl, rules}
-use Rattle.std.proofs.lemmas.Int.{to_z-of_z}
-use Rattle.settings_file.specs.Entries.{title_in}
+use Rattle.settings_file.proofs.Basics.{SFits, w64, refl, rules, to_z-of_z, title_in}
 use Rattle.settings_file.proofs.arrays.title.Goals as goal
 
 pub returns : goal.returns

@@ -1,8 +1,5 @@
-use Rattle.std.proofs.Common.{SFits, w64, [], inl, inr, refl, rules}
-use Rattle.std.proofs.lemmas.Int.{to_z-of_z}
-use Rattle.std.proofs.lemmas.Result.{err_from_is_err_and}
+use Rattle.settings_file.proofs.Basics.{SFits, w64, [], inl, inr, refl, rules, to_z-of_z, err_from_is_err_and, settings_fault}
 use Rattle.settings.proofs.Firsts.{past, there}
-use Rattle.settings_file.specs.Reading.{settings_fault}
 use Rattle.settings_file.proofs.document.checked.Goals as goal
 
 pub returns-in_err-settings-clause-fault : goal.returns-in_err-settings-clause-fault

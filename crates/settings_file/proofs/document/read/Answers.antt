@@ -1,5 +1,4 @@
-use Rattle.std.proofs.Common.{inl, inr}
-use Rattle.std.proofs.lemmas.Result.{err_from_is_err_and}
+use Rattle.settings_file.proofs.Basics.{inl, inr, err_from_is_err_and}
 use Rattle.settings_file.proofs.Readings.{none-parsed}
 use Rattle.settings_file.proofs.document.read.Goals as goal
 

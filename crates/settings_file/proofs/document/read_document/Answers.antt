@@ -1,7 +1,4 @@
-use Rattle.std.proofs.Common.{SFits, w64, ◌∙◌, inl, inr, refl, ap, rules}
-use Rattle.std.proofs.lemmas.Int.{to_z-of_z}
-use Rattle.std.proofs.lemmas.Result.{err_from_is_err_and}
-use Rattle.settings_file.specs.declared.fault.SettingsFault.TheVariants.{Draft}
+use Rattle.settings_file.proofs.Basics.{SFits, w64, ◌∙◌, inl, inr, refl, ap, rules, to_z-of_z, err_from_is_err_and, Draft}
 use Rattle.settings_file.proofs.Readings.{reading-parsed}
 use Rattle.settings_file.proofs.document.read_document.Goals as goal
 

@@ -1,4 +1,4 @@
-use Rattle.std.proofs.lemmas.Result.{IfOk-weaker}
+use Rattle.settings_file.proofs.Basics.{IfOk-weaker}
 use Rattle.settings_file.proofs.Placed.{is-about}
 use Rattle.settings_file.proofs.places.about.Goals as goal
 

@@ -1,4 +1,4 @@
-use Rattle.toml.proofs.Views.{table_get}
+use Rattle.settings_file.proofs.Basics.{table_get}
 use Rattle.settings_file.proofs.places.found.Goals as goal
 
 pub returns : goal.returns

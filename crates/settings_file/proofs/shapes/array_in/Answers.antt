@@ -1,5 +1,4 @@
-use Rattle.std.proofs.Common.{refl}
-use Rattle.settings_file.specs.Shapes.{array_in}
+use Rattle.settings_file.proofs.Basics.{refl, array_in}
 use Rattle.settings_file.proofs.Each.{listed-items_view}
 use Rattle.settings_file.proofs.shapes.array_in.Goals as goal
 

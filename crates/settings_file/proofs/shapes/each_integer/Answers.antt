@@ -1,8 +1,4 @@
-use Rattle.std.proofs.Common.{SFits, w64, inl, inr, sym, rules}
-use Rattle.std.proofs.lemmas.Int.{to_z-of_z}
-use Rattle.std.proofs.lemmas.Result.{err_from_is_err_and}
-use Rattle.toml.specs.View.{view}
-use Rattle.settings_file.specs.Shapes.{integer_in}
+use Rattle.settings_file.proofs.Basics.{SFits, w64, inl, inr, sym, rules, to_z-of_z, err_from_is_err_and, view, integer_in}
 use Rattle.settings_file.proofs.Each.{after-none, read-next, read-fault, read-all}
 use Rattle.settings_file.proofs.shapes.each_integer.Goals as goal
 

@@ -1,6 +1,4 @@
-use Rattle.std.proofs.Common.{◌≡◌, drop, map}
-use Rattle.toml.specs.View.{view}
-use Rattle.settings_file.specs.Shapes.{each, integer_in}
+use Rattle.settings_file.proofs.Basics.{◌≡◌, drop, map, view, each, integer_in}
 use Rattle.settings_file.proofs.Each.{after}
 use Rattle.settings_file.proofs.shapes.each_integer.Given as goal
 

@@ -1,8 +1,4 @@
-use Rattle.std.proofs.Common.{inl, string_bytes}
-use Rattle.std.proofs.lemmas.List.{map-append}
-use Rattle.std.proofs.lemmas.Result.{err_from_is_err_and}
-use Rattle.toml.specs.View.{view}
-use Rattle.settings_file.specs.Shapes.{text_in}
+use Rattle.settings_file.proofs.Basics.{inl, string_bytes, map-append, err_from_is_err_and, view, text_in}
 use Rattle.settings_file.proofs.Each.{after-none, read-next, read-fault_or, read-all}
 use Rattle.settings_file.proofs.shapes.each_text.Goals as goal
 

@@ -1,6 +1,4 @@
-use Rattle.std.proofs.Common.{◌≡◌, drop, map, string_bytes}
-use Rattle.toml.specs.View.{view}
-use Rattle.settings_file.specs.Shapes.{each, text_in}
+use Rattle.settings_file.proofs.Basics.{◌≡◌, drop, map, string_bytes, view, each, text_in}
 use Rattle.settings_file.proofs.Each.{after}
 use Rattle.settings_file.proofs.shapes.each_text.Given as goal
 

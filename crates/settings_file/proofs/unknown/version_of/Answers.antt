@@ -1,5 +1,4 @@
-use Rattle.std.proofs.Common.{refl, codes}
-use Rattle.toml.proofs.Views.{table_get}
+use Rattle.settings_file.proofs.Basics.{refl, codes, table_get}
 use Rattle.settings_file.proofs.unknown.version_of.Goals as goal
 
 pub returns-in-Some : goal.returns-in-Some

@@ -1,5 +1,4 @@
-use Rattle.std.proofs.Common.{codes, string_bytes, ◌++◌}
-use Rattle.std.proofs.lemmas.Result.{IfOk-weaker}
+use Rattle.settings_file.proofs.Basics.{codes, string_bytes, ◌++◌, IfOk-weaker}
 use Rattle.settings_file.proofs.unknown.warning.Goals as goal
 
 pub returns-then-not-is_shown : goal.returns-then-not-is_shown

@@ -1,4 +1,4 @@
-use Rattle.std.proofs.Common.{arith, refl}
+use Rattle.settings_file.proofs.Basics.{arith, refl}
 use Rattle.settings_file.proofs.Warned.{more-pushed}
 use Rattle.settings_file.proofs.unknown.WarningText.add.Goals as goal
 

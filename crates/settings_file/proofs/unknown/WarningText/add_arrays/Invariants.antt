@@ -1,4 +1,4 @@
-use Rattle.settings_file.specs.Warnings.{GoesOn}
+use Rattle.settings_file.proofs.Basics.{GoesOn}
 use Rattle.settings_file.proofs.unknown.WarningText.add_arrays.Given as goal
 
 abbrev pub invariant-loop-array : goal.invariant-loop-array
