@@ -1,7 +1,9 @@
 -- Words and lemmas of std, and the definitions, that the proofs here use.
+pub use Rattle.std.proofs.lemmas.Option.{same_Some}
+pub use Rattle.std.proofs.Math.Bool.{or-true}
 pub use Rattle.std.proofs.Common.{◌≡◌, ℕ, zero, suc, ◌+◌, ◌-◌, ◌*◌, ◌^◌, ◌<◌, ◌≤◌, inl, inr, min, true, false, cond, List, ◌∷◌, ◌++◌, length, take, drop, refl, sym, ap, subst, ◌∙◌, arith, Bool, get_or, slice_set, ◌==◌, nat_lt, ◌≢◌, ◌||◌, [], map, replicate, ◌/◌, ◌%◌, ◌⊎◌}
 pub use Rattle.std.proofs.Math.Nat.{pow-suc, mul-le-mul_left, mul-le-mul_right, div-add-mod, mod-lt, div-lt_iff_lt-mul, mul_comm}
-pub use Rattle.std.proofs.lemmas.Bool.{cases_lt, cases_eq, false≢true, true≢false, cases_order}
+pub use Rattle.std.proofs.lemmas.Bool.{cases_lt, cases_eq, false≢true, true≢false, cases_order, ltb-true, lt-ltb}
 pub use Rattle.std.proofs.lemmas.Bool.Decides.{nat_tests}
 pub use Rattle.std.proofs.lemmas.List.{take-append-drop, take-take, drop-take, drop-drop, drop_more, map-set, get_or-set_other, get_or-take, get_or-drop, length-set, length-map, length-drop, length-take-le, drop-map, take-map, take_rest, take-replicate, drop-replicate, get_or-replicate, length-replicate, get_or_read, get_or-set_same, with_items_is, get_or_default}
 pub use Rattle.std.proofs.lemmas.List.Sums.{sum_by-append, sum_by-take-drop, length-filter, position_or_len_is, sum_by-set, passes_at_first, fails_before_first}

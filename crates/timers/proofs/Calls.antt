@@ -1,5 +1,5 @@
 -- What the calls of the table come to, for the map that it says.
-use Rattle.timers.proofs.Basics.{◌≡◌, ℕ, Bool, true, false, cond, refl, sym, ap, subst, ◌∙◌, Option, Some, None, is_some, max, get_or, length, slice_set, ◌<◌, option_map, TimerName, has_name, named_sets, place_in, place_of, name_at, Running, is_running, set_timer, start_unless_running, clear_timer, ticked, due_name, after_due, Table, has_place, left_to, map_of, IsWhole}
+use Rattle.timers.proofs.Basics.{◌≡◌, ℕ, Bool, true, false, cond, refl, sym, ap, subst, ◌∙◌, Option, Some, None, is_some, max, get_or, length, slice_set, ◌<◌, option_map, TimerName, has_name, named_sets, place_in, place_of, name_at, Running, is_running, set_timer, start_unless_running, clear_timer, ticked, due_name, after_due, Table, has_place, left_to, map_of, IsWhole, same_Some}
 use Rattle.timers.proofs.OnTable.{put, put_at, put_in, start_at, ticked_in, due_place, after_due_in}
 use Rattle.timers.proofs.InTable.{within, left-there, left-absent, whole-put_at, whole-ticked}
 use Rattle.timers.proofs.Viewed.{map-set, map-start, map-clear, map-ticked, map-running, map-due, map-after}
@@ -14,9 +14,6 @@ meets s t r same view whole = record { view = ap map_of same ∙ view; whole = s
 
 -- ---- a call on one name, once its place is known
 
-some_is : {A : Type 0} {x y : A} → Some x ≡ Some y → x ≡ y
-some_is {A} {x} {y} e = cc
-
 abbrev place_for : TimerName → Table → Option ℕ
 place_for name t = place_of (named_sets t.counts) name
 
@@ -25,7 +22,7 @@ left-at : (o : Option ℕ) (name : TimerName) (t : Table) → o ≡ place_for na
 left-at o name t e place f = at (has_place name t) refl (sym e ∙ f)
   where
     at : (b : Bool) → has_place name t ≡ b → cond b (Some (place_in (named_sets t.counts) name)) None ≡ Some place → get_or t.left place None ≡ left_to name t
-    at true h e = ap (λ p. get_or t.left p None) (sym (some_is e)) ∙ sym (left-there name t h)
+    at true h e = ap (λ p. get_or t.left p None) (sym (same_Some _ _ e)) ∙ sym (left-there name t h)
     at false h e = absurd cc
 
 none-left : (name : TimerName) (t : Table) → place_for name t ≡ None → left_to name t ≡ None
@@ -39,7 +36,7 @@ pub place_fits : (place : ℕ) (name : TimerName) (t : Table) → IsWhole t → 
 place_fits place name t w e = at (has_place name t) refl (sym e)
   where
     at : (b : Bool) → has_place name t ≡ b → cond b (Some (place_in (named_sets t.counts) name)) None ≡ Some place → place < length t.left
-    at true h e = subst (λ p. p < length t.left) (some_is e) (within name t w h)
+    at true h e = subst (λ p. p < length t.left) (same_Some _ _ e) (within name t w h)
     at false h e = absurd cc
 
 -- a place that is started, in a table

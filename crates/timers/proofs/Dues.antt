@@ -1,5 +1,5 @@
 -- Which timer is due first, and how many are.
-use Rattle.timers.proofs.Basics.{◌≡◌, ◌≢◌, ℕ, suc, ◌+◌, ◌≤◌, ◌||◌, Bool, true, false, cond, List, [], ◌∷◌, length, refl, sym, ap, subst, ◌∙◌, arith, false≢true, nat_tests, Option, Some, None, max, filter, find, option_map_or, AllByRecursion, list_any, TimerName, RouteTimer, has_name, is_same, is_before, is_of_set, names_of, AreInOrder, Running, set_timer, clear_timer, clear_set, no_tick_left, is_due, due_name, after_due, due_count}
+use Rattle.timers.proofs.Basics.{◌≡◌, ◌≢◌, ℕ, suc, ◌+◌, ◌≤◌, ◌||◌, Bool, true, false, cond, List, [], ◌∷◌, length, refl, sym, ap, subst, ◌∙◌, arith, false≢true, nat_tests, Option, Some, None, max, filter, find, option_map_or, AllByRecursion, list_any, TimerName, RouteTimer, has_name, is_same, is_before, is_of_set, names_of, AreInOrder, Running, set_timer, clear_timer, clear_set, no_tick_left, is_due, due_name, after_due, due_count, same_Some}
 use Rattle.timers.proofs.Order.{before-asym, before-itself}
 use Rattle.timers.proofs.Same.{same_is, is_itself, other_is_not}
 use Rattle.timers.proofs.NamesOf.{IsIn, holds_of, is_in}
@@ -8,9 +8,6 @@ use Rattle.timers.proofs.Elements.{all-weaker}
 use Rattle.timers.proofs.Maps.{exists, left-clear, left-clear_other, counts-clear}
 
 -- ---- a test in a list of names
-
-some_is : {x y : TimerName} → Some x ≡ Some y → x ≡ y
-some_is {x} {y} e = cc
 
 -- a name among those behind another is another
 behind_differs : (x name : TimerName) (names : List TimerName) → AllByRecursion (λ y. is_before x y ≡ true) names → IsIn name names → x ≢ name
@@ -31,7 +28,7 @@ module _ (p : TimerName → Bool) where
   find-passes name [] e = absurd cc
   find-passes name (x ∷ names) e =
       elim (p x) as (λ b. p x ≡ b → p name ≡ true) [
-        | true ↦ λ h. subst (λ z. p z ≡ true) (some_is (sym (find-here x names h) ∙ e)) h
+        | true ↦ λ h. subst (λ z. p z ≡ true) (same_Some _ _ (sym (find-here x names h) ∙ e)) h
         | false ↦ λ h. find-passes name names (sym (find-past x names h) ∙ e)
       ] refl
 
@@ -49,7 +46,7 @@ module _ (p : TimerName → Bool) where
   find-first name other (x ∷ names) r e i k h =
       elim (p x) as (λ b. p x ≡ b → is_before name other ≡ true) [
         | true ↦ λ t.
-            let same = some_is (sym (find-here x names t) ∙ e) in
+            let same = same_Some _ _ (sym (find-here x names t) ∙ e) in
             let rest = in-past x other names (other_is_not x other (λ z. h (sym same ∙ z))) i in
             subst (λ z. is_before z other ≡ true) same (holds_of (λ y. is_before x y ≡ true) other names r.0 rest)
         | false ↦ λ t.
@@ -130,7 +127,7 @@ module _ (p q : TimerName → Bool) where
 
 -- ---- timers that are due
 
-no_ticks : (o : Option ℕ) → no_tick_left o ≡ true → o ≡ Some 0
+pub no_ticks : (o : Option ℕ) → no_tick_left o ≡ true → o ≡ Some 0
 no_ticks None e = absurd cc
 no_ticks (Some n) e = let z : n ≡ 0 = grind (arith, nat_tests) in ap (λ n. Some n) z
 

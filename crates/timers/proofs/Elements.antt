@@ -1,5 +1,5 @@
--- What holds of each element of a list.
-use Rattle.timers.proofs.Basics.{List, [], ◌∷◌, ◌++◌, AllByRecursion}
+-- What holds of each element of a list, and of two numbers, each below its bound.
+use Rattle.timers.proofs.Basics.{◌≡◌, ◌&&◌, ◌<◌, ℕ, nat_lt, true, List, [], ◌∷◌, ◌++◌, AllByRecursion, arith, nat_tests}
 
 module _ {X : Type 0} (P : X → Type 0) where
   pub all-append : (xs ys : List X) → AllByRecursion P xs → AllByRecursion P ys → AllByRecursion P (xs ++ ys)
@@ -9,3 +9,9 @@ module _ {X : Type 0} (P : X → Type 0) where
 pub all-weaker : {X : Type 0} (P Q : X → Type 0) → ((x : X) → P x → Q x) → (xs : List X) → AllByRecursion P xs → AllByRecursion Q xs
 all-weaker P Q f [] h = tt
 all-weaker P Q f (x ∷ xs) h = (f x h.0, all-weaker P Q f xs h.1)
+
+pub two_below : (a b c d : ℕ) → (nat_lt a b && nat_lt c d) ≡ true → (a < b) × (c < d)
+two_below a b c d h = (grind (arith, nat_tests, h), grind (arith, nat_tests, h))
+
+pub two_under : (a b c d : ℕ) → a < b → c < d → (nat_lt a b && nat_lt c d) ≡ true
+two_under a b c d h k = grind (arith, nat_tests)

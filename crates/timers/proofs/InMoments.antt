@@ -1,12 +1,9 @@
 -- The ticks that are left, read from the leaves of a tree of moments.
-use Rattle.timers.proofs.Basics.{◌≡◌, ℕ, zero, suc, nat_lt, ◌+◌, ◌-◌, ◌*◌, ◌^◌, ◌<◌, ◌≤◌, ◌==◌, inl, inr, min, Bool, true, false, cond, List, [], ◌∷◌, length, map, get_or, take, drop, slice_set, replicate, refl, sym, ap, subst, ◌∙◌, arith, map-set, get_or-set_other, get_or-take, get_or-drop, length-set, length-map, length-drop, length-take-le, drop-map, take-map, take_rest, take-replicate, drop-replicate, get_or-replicate, length-replicate, get_or_read, sum_by-take-drop, length-filter, position_or_len_is, cases_lt, nat_tests, Option, Some, None, is_some, filter, position, count_by, position_or_len, one_less, no_tick_left, never, left_at, has_come, rebased, at, least, first_below, count_below, IsBounded, AreBounded, left_in, IsTree}
+use Rattle.timers.proofs.Basics.{◌≡◌, ℕ, zero, suc, nat_lt, ◌+◌, ◌-◌, ◌*◌, ◌^◌, ◌<◌, ◌≤◌, ◌==◌, inl, inr, min, Bool, true, false, cond, List, [], ◌∷◌, length, map, get_or, take, drop, slice_set, replicate, refl, sym, ap, subst, ◌∙◌, arith, map-set, get_or-set_other, get_or-take, get_or-drop, length-map, length-drop, length-take-le, drop-map, take-map, take_rest, take-replicate, drop-replicate, length-replicate, sum_by-take-drop, length-filter, position_or_len_is, cases_lt, nat_tests, Option, Some, None, is_some, filter, position, count_by, position_or_len, one_less, no_tick_left, never, left_at, has_come, rebased, at, least, first_below, count_below, IsBounded, AreBounded, left_in, IsTree, lt-ltb}
 use Rattle.std.proofs.lemmas.List as list
 use Rattle.timers.proofs.Beneath.{come-yes, come-no, all-bounded, IsFirst, AreLate, IsAnswer, first-is, count-row}
 
 -- ---- one moment
-
-test : (a b : ℕ) → a < b → nat_lt a b ≡ true
-test a b h = grind (arith, nat_tests)
 
 runs : (clock moment : ℕ) → is_some (left_at clock moment) ≡ nat_lt moment never
 runs clock moment = elim (nat_lt moment never) as (λ b. is_some (cond b (Some (moment - clock)) None) ≡ b) [ true ↦ refl | false ↦ refl ]
@@ -237,7 +234,7 @@ left-counted clock places levels leaves nodes t =
 
 -- where a search ends
 found : (n : ℕ) (xs : List (Option ℕ)) → position_or_len no_tick_left xs ≡ n → n < length xs → Some n ≡ position no_tick_left xs
-found n xs e h = sym (ap (λ m. cond (nat_lt m (length xs)) (Some m) None) e ∙ ap (λ b. cond b (Some n) None) (test n (length xs) h))
+found n xs e h = sym (ap (λ m. cond (nat_lt m (length xs)) (Some m) None) e ∙ ap (λ b. cond b (Some n) None) (lt-ltb n (length xs) h))
 
 not_found : (xs : List (Option ℕ)) → position_or_len no_tick_left xs ≡ length xs → None ≡ position no_tick_left xs
 not_found xs e = sym (ap (λ m. cond (nat_lt m (length xs)) (Some m) None) e ∙ ap (λ b. cond b (Some (length xs)) None) (itself (length xs)))

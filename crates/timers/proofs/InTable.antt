@@ -1,6 +1,7 @@
 -- What is left to the timers, by their places.
-use Rattle.timers.proofs.Basics.{◌≡◌, ◌≢◌, ℕ, suc, nat_lt, ◌+◌, ◌<◌, ◌≤◌, true, false, cond, List, [], ◌∷◌, length, map, get_or, slice_set, refl, sym, ap, subst, ◌∙◌, arith, get_or-set_same, get_or-set_other, length-set, length-map, get_or-replicate, sum_by-set, length-filter, passes_at_first, fails_before_first, true≢false, nat_tests, Option, Some, None, MatchOption, filter, position_or_len, option_map, TimerName, NodeCounts, has_name, is_before, count_of, named_sets, place_in, name_at, one_less, no_tick_left, Table, has_place, left_to, IsWhole}
+use Rattle.timers.proofs.Basics.{◌≡◌, ◌≢◌, ℕ, suc, nat_lt, ◌+◌, ◌<◌, ◌≤◌, true, false, cond, List, [], ◌∷◌, length, map, get_or, slice_set, refl, sym, ap, subst, ◌∙◌, arith, get_or-set_same, get_or-set_other, length-set, length-map, get_or-replicate, sum_by-set, length-filter, passes_at_first, fails_before_first, true≢false, nat_tests, Option, Some, None, MatchOption, filter, position_or_len, option_map, TimerName, NodeCounts, has_name, is_before, count_of, named_sets, place_in, name_at, one_less, no_tick_left, Table, has_place, left_to, IsWhole, same_Some}
 use Rattle.std.proofs.Math.ListN.{get_or-map}
+use Rattle.timers.proofs.Dues.{no_ticks}
 use Rattle.timers.proofs.OnTable.{none_in, put, put_at, put_in, ticked_in, due_place, due_in, after_due_in, count_in}
 use Rattle.timers.proofs.PlaceNames.{name-place, IsNamed, named}
 use Rattle.timers.proofs.PlacesRise.{place-fits, place-rises}
@@ -8,9 +9,6 @@ use Rattle.timers.proofs.Same.{before-total}
 
 abbrev place_for : TimerName → Table → ℕ
 place_for name t = place_in (named_sets t.counts) name
-
-some_is : {A : Type 0} {x y : A} → Some x ≡ Some y → x ≡ y
-some_is {A} {x} {y} e = cc
 
 -- ---- one place
 
@@ -105,10 +103,6 @@ record IsFirst (t : Table) (place : ℕ) : Type 0 where
   due : get_or t.left place None ≡ Some 0
   idle : (k : ℕ) → k < place → no_tick_left (get_or t.left k None) ≡ false
 
-no_ticks : (o : Option ℕ) → no_tick_left o ≡ true → o ≡ Some 0
-no_ticks None e = absurd cc
-no_ticks (Some n) e = let z : n ≡ 0 = grind (arith, nat_tests) in ap (λ n. Some n) z
-
 -- where a search ends
 tested : (n m : ℕ) (o : Option ℕ) → cond (nat_lt n m) (Some n) None ≡ o → MatchOption o (m ≤ n) (λ i. (n ≡ i) × (n < m))
 tested n m None e = grind (arith, nat_tests, e)
@@ -143,7 +137,7 @@ is_due name t w e = at (due_place t) refl e
     at : (o : Option ℕ) → due_place t ≡ o → option_map (name_at (named_sets t.counts)) o ≡ Some name → IsDue name t
     at (Some p) d e =
         let first = first_place t p d in
-        let same : name_at (named_sets t.counts) p ≡ name = some_is e in
+        let same : name_at (named_sets t.counts) p ≡ name = same_Some _ _ e in
         let i = subst (IsNamed (named_sets t.counts) p) same (named (named_sets t.counts) p (omega (arith, first.within, w.places))) in
         record { place = p; there = d; first = first; has = i.has; at = i.place }
     at None d e = absurd cc

@@ -1,7 +1,7 @@
 -- The names of a node: each that exists stands in their list, and no other.
-use Rattle.timers.proofs.Basics.{◌≡◌, ℕ, zero, suc, nat_lt, ◌+◌, ◌<◌, ◌≤◌, ◌||◌, Bool, true, false, List, [], ◌∷◌, ◌++◌, length, map, get_or, inl, inr, refl, sym, ap, subst, ◌∙◌, arith, cases_order, nat_tests, ◌&&◌, AllByRecursion, list_any, flat_map, range_with_len, TimerName, L1, L2, L3, L4, L6, L7, T1, T2, T3, T4, T6, T8, T10, NodeCounts, is_same, has_name, each, each_in_rows, names_by_kind, names_of}
+use Rattle.timers.proofs.Basics.{◌≡◌, ℕ, zero, suc, nat_lt, ◌+◌, ◌<◌, ◌≤◌, ◌||◌, true, false, List, [], ◌∷◌, ◌++◌, length, map, get_or, inl, inr, refl, sym, ap, subst, ◌∙◌, arith, cases_order, ◌&&◌, AllByRecursion, list_any, flat_map, range_with_len, TimerName, L1, L2, L3, L4, L6, L7, T1, T2, T3, T4, T6, T8, T10, NodeCounts, is_same, has_name, each, each_in_rows, names_by_kind, names_of, or-true, ltb-true, lt-ltb}
 use Rattle.std.proofs.lemmas.List.Folds.{list_any-append}
-use Rattle.timers.proofs.Elements.{all-append}
+use Rattle.timers.proofs.Elements.{all-append, two_below, two_under}
 use Rattle.timers.proofs.Same.{same_is, is_itself}
 
 -- one fact and those behind it
@@ -40,10 +40,6 @@ all-joined P (names ∷ pieces) h = all-append P names (joined pieces) h.0 (all-
 abbrev pub IsIn : TimerName → List TimerName → Type 0
 IsIn name names = list_any (λ x. is_same x name) names ≡ true
 
-or-true : (b : Bool) → (b || true) ≡ true
-or-true true = refl
-or-true false = refl
-
 in-first : (name : TimerName) (xs ys : List TimerName) → IsIn name xs → IsIn name (xs ++ ys)
 in-first name xs ys h = list_any-append (λ x. is_same x name) xs ys ∙ ap (λ b. b || list_any (λ x. is_same x name) ys) h
 
@@ -78,14 +74,8 @@ in-joined name [] k l h = absurd (omega (arith, l))
 in-joined name (names ∷ pieces) zero l h = in-first name names (joined pieces) h
 in-joined name (names ∷ pieces) (suc k) l h = in-second name names (joined pieces) (in-joined name pieces k (omega (arith, l)) h)
 
-below : (a b : ℕ) → nat_lt a b ≡ true → a < b
-below a b h = grind (arith, nat_tests, h)
-
 one_of : (name : ℕ → TimerName) (i count : ℕ) → nat_lt i count ≡ true → IsIn (name i) (each name count)
-one_of name i count h = in-each name i 0 count (omega arith) (omega (arith, below i count h))
-
-two_below : (a b c d : ℕ) → (nat_lt a b && nat_lt c d) ≡ true → (a < b) × (c < d)
-two_below a b c d h = (grind (arith, nat_tests, h), grind (arith, nat_tests, h))
+one_of name i count h = in-each name i 0 count (omega arith) (omega (arith, ltb-true i count h))
 
 one_of_rows : (name : ℕ → ℕ → TimerName) (i j count columns : ℕ) → (nat_lt i count && nat_lt j columns) ≡ true → IsIn (name i j) (each_in_rows name count columns)
 one_of_rows name i j count columns h =
@@ -116,14 +106,8 @@ is_in n name h = at name h
 
 -- ---- and no other does
 
-under : (a b : ℕ) → a < b → nat_lt a b ≡ true
-under a b h = grind (arith, nat_tests)
-
-two_under : (a b c d : ℕ) → a < b → c < d → (nat_lt a b && nat_lt c d) ≡ true
-two_under a b c d h k = grind (arith, nat_tests)
-
 all_exist : (n : NodeCounts) (name : ℕ → TimerName) (count : ℕ) → ((i : ℕ) → has_name n (name i) ≡ nat_lt i count) → AllByRecursion (λ x. has_name n x ≡ true) (each name count)
-all_exist n name count h = all-each (λ x. has_name n x ≡ true) name 0 count (λ i l k. h i ∙ under i count (omega (arith, k)))
+all_exist n name count h = all-each (λ x. has_name n x ≡ true) name 0 count (λ i l k. h i ∙ lt-ltb i count (omega (arith, k)))
 
 all_rows_exist : (n : NodeCounts) (name : ℕ → ℕ → TimerName) (count columns : ℕ) → ((i j : ℕ) → has_name n (name i j) ≡ (nat_lt i count && nat_lt j columns))
     → AllByRecursion (λ x. has_name n x ≡ true) (each_in_rows name count columns)

@@ -1,5 +1,6 @@
 -- The name at a place, and the place of a name.
-use Rattle.timers.proofs.Basics.{◌≡◌, ℕ, zero, suc, nat_lt, ◌+◌, ◌-◌, ◌*◌, ◌/◌, ◌%◌, ◌<◌, ◌≤◌, ◌⊎◌, inl, inr, true, false, cond, refl, sym, ap, subst, ◌∙◌, arith, ◌&&◌, mul-le-mul_right, div-add-mod, mod-lt, div-lt_iff_lt-mul, mul_comm, div-mul-add, mod-mul-add, nat_tests, TimerName, L1, L2, L3, L4, L6, L7, T1, T2, T3, T4, T6, T8, T10, NodeCounts, has_name, count_of, codes_from, destinations_from, t8_from, t10_from, place_in, link_name, code_name, route_name, name_at}
+use Rattle.timers.proofs.Basics.{◌≡◌, ℕ, zero, suc, nat_lt, ◌+◌, ◌-◌, ◌*◌, ◌/◌, ◌%◌, ◌<◌, ◌≤◌, ◌⊎◌, inl, inr, true, false, cond, refl, sym, ap, subst, ◌∙◌, arith, mul-le-mul_right, div-add-mod, mod-lt, div-lt_iff_lt-mul, mul_comm, div-mul-add, mod-mul-add, nat_tests, TimerName, L1, L2, L3, L4, L6, L7, T1, T2, T3, T4, T6, T8, T10, NodeCounts, has_name, count_of, codes_from, destinations_from, t8_from, t10_from, place_in, link_name, code_name, route_name, name_at, ltb-true}
+use Rattle.timers.proofs.Elements.{two_below, two_under}
 
 under : {a b : ℕ} → a < b → nat_lt a b ≡ true
 under {a} {b} h = grind (arith, nat_tests)
@@ -7,17 +8,8 @@ under {a} {b} h = grind (arith, nat_tests)
 over : {a b : ℕ} → b ≤ a → nat_lt a b ≡ false
 over {a} {b} h = grind (arith, nat_tests)
 
-below : (a b : ℕ) → nat_lt a b ≡ true → a < b
-below a b h = grind (arith, nat_tests, h)
-
-both_below : (a b c d : ℕ) → (nat_lt a b && nat_lt c d) ≡ true → (a < b) × (c < d)
-both_below a b c d h = (grind (arith, nat_tests, h), grind (arith, nat_tests, h))
-
-both : (a b c d : ℕ) → a < b → c < d → (nat_lt a b && nat_lt c d) ≡ true
-both a b c d h k = grind (arith, nat_tests)
-
 sides : (a b : ℕ) → (a < b) ⊎ (b ≤ a)
-sides a b = elim (nat_lt a b) as (λ c. nat_lt a b ≡ c → (a < b) ⊎ (b ≤ a)) [ true ↦ λ h. inl (below a b h) | false ↦ λ h. inr (grind (arith, nat_tests, h)) ] refl
+sides a b = elim (nat_lt a b) as (λ c. nat_lt a b ≡ c → (a < b) ⊎ (b ≤ a)) [ true ↦ λ h. inl (ltb-true a b h) | false ↦ λ h. inr (grind (arith, nat_tests, h)) ] refl
 
 in_rows : (rows count k l : ℕ) → k < count → l < rows → k * rows + l < count * rows
 in_rows rows count k l h j =
@@ -67,7 +59,7 @@ at_t10 n p h =
 
 link-named : (n : NodeCounts) (kind link : ℕ) → kind < 9 → nat_lt link n.links ≡ true → name_at n (kind * n.links + link) ≡ link_name kind link
 link-named n kind link k h =
-    let l = below link n.links h in
+    let l = ltb-true link n.links h in
     at_links n (kind * n.links + link) (in_rows n.links 9 kind link k l)
     ∙ (λ i. link_name (div-mul-add kind n.links link l i) (mod-mul-add kind n.links link l i))
 
@@ -90,18 +82,18 @@ name-place n (T1 link) h = link-named n 6 link (omega arith) h
 name-place n (T2 link) h = link-named n 7 link (omega arith) h
 name-place n (T3 link) h = link-named n 8 link (omega arith) h
 name-place n (T4 set code) h =
-    let b = both_below set n.sets code 16 h in
+    let b = two_below set n.sets code 16 h in
     let f = in_rows 16 n.sets set code b.0 b.1 in
     at_codes n (place_in n (T4 set code)) (omega arith) (omega (arith, f)) ∙ row-named (λ s c. T4 s c) 16 (codes_from n) set code b.1
 name-place n (T6 destination) h =
-    let l = below destination n.destinations h in
+    let l = ltb-true destination n.destinations h in
     at_destinations n (place_in n (T6 destination)) (omega arith) (omega (arith, l)) ∙ ap (λ d. T6 d) (past (destinations_from n) destination)
 name-place n (T8 set destination) h =
-    let b = both_below set n.sets destination n.destinations h in
+    let b = two_below set n.sets destination n.destinations h in
     let f = in_rows n.destinations n.sets set destination b.0 b.1 in
     at_t8 n (place_in n (T8 set destination)) (omega arith) (omega (arith, f)) ∙ row-named (λ s d. T8 s d) n.destinations (t8_from n) set destination b.1
 name-place n (T10 set destination) h =
-    let b = both_below set n.sets destination n.destinations h in
+    let b = two_below set n.sets destination n.destinations h in
     at_t10 n (place_in n (T10 set destination)) (omega arith) ∙ row-named (λ s d. T10 s d) n.destinations (t10_from n) set destination b.1
 
 -- ---- the name at a place exists, and stands there
@@ -111,16 +103,8 @@ pub record IsNamed (n : NodeCounts) (p : ℕ) (name : TimerName) : Type 0 where
   pub place : place_in n name ≡ p
 
 link-is : (n : NodeCounts) (kind link : ℕ) → kind < 9 → nat_lt link n.links ≡ true → IsNamed n (kind * n.links + link) (link_name kind link)
-link-is n zero link h k = record { has = k; place = refl }
-link-is n (suc zero) link h k = record { has = k; place = refl }
-link-is n (suc (suc zero)) link h k = record { has = k; place = refl }
-link-is n (suc (suc (suc zero))) link h k = record { has = k; place = refl }
-link-is n (suc (suc (suc (suc zero)))) link h k = record { has = k; place = refl }
-link-is n (suc (suc (suc (suc (suc zero))))) link h k = record { has = k; place = refl }
-link-is n (suc (suc (suc (suc (suc (suc zero)))))) link h k = record { has = k; place = refl }
-link-is n (suc (suc (suc (suc (suc (suc (suc zero))))))) link h k = record { has = k; place = refl }
-link-is n (suc (suc (suc (suc (suc (suc (suc (suc zero)))))))) link h k = record { has = k; place = refl }
 link-is n (suc (suc (suc (suc (suc (suc (suc (suc (suc kind))))))))) link h k = absurd (omega arith)
+link-is n other link h k = record { has = k; place = refl }
 
 -- a place in a table is that of a row and a column
 record HasRow (rows width p : ℕ) : Type 0 where
@@ -149,7 +133,7 @@ named-code : (n : NodeCounts) (p : ℕ) → codes_from n ≤ p → p < destinati
 named-code n p h k =
     let r = has_row n.sets 16 (p - codes_from n) (omega (arith, h, k)) in
     record {
-      has = both ((p - codes_from n) / 16) n.sets ((p - codes_from n) % 16) 16 r.row r.column;
+      has = two_under ((p - codes_from n) / 16) n.sets ((p - codes_from n) % 16) 16 r.row r.column;
       place = omega (arith, r.whole, h);
     }
 
@@ -160,13 +144,13 @@ named-t8 : (n : NodeCounts) (p : ℕ) → t8_from n ≤ p → p < t10_from n →
 named-t8 n p h k =
     let q = p - t8_from n in
     let r = has_row n.sets n.destinations q (omega (arith, h, k)) in
-    record { has = both (q / n.destinations) n.sets (q % n.destinations) n.destinations r.row r.column; place = omega (arith, r.whole, h) }
+    record { has = two_under (q / n.destinations) n.sets (q % n.destinations) n.destinations r.row r.column; place = omega (arith, r.whole, h) }
 
 named-t10 : (n : NodeCounts) (p : ℕ) → t10_from n ≤ p → p < count_of n → IsNamed n p (route_name (λ s d. T10 s d) n.destinations (p - t10_from n))
 named-t10 n p h k =
     let q = p - t10_from n in
     let r = has_row n.sets n.destinations q (omega (arith, h, k)) in
-    record { has = both (q / n.destinations) n.sets (q % n.destinations) n.destinations r.row r.column; place = omega (arith, r.whole, h) }
+    record { has = two_under (q / n.destinations) n.sets (q % n.destinations) n.destinations r.row r.column; place = omega (arith, r.whole, h) }
 
 pub named : (n : NodeCounts) (p : ℕ) → p < count_of n → IsNamed n p (name_at n p)
 named n p f =

@@ -1,5 +1,6 @@
 -- The places of the timers that a node has: they rise in name order, and are as many as its names.
-use Rattle.timers.proofs.Basics.{◌≡◌, ℕ, zero, suc, nat_lt, ◌+◌, ◌*◌, ◌<◌, ◌≤◌, true, List, [], ◌∷◌, take, get_or, inl, inr, refl, ap, ◌∙◌, arith, ◌&&◌, mul-le-mul_right, cases_order, nat_tests, TimerName, L1, L2, L3, L4, L6, L7, T1, T2, T3, T4, T6, T8, T10, NodeCounts, Key, key, key_of, is_key_before, is_before, has_name, count_of, place_in}
+use Rattle.timers.proofs.Basics.{◌≡◌, ℕ, zero, suc, ◌+◌, ◌*◌, ◌<◌, ◌≤◌, true, List, [], ◌∷◌, take, get_or, inl, inr, refl, ap, ◌∙◌, arith, mul-le-mul_right, cases_order, nat_tests, TimerName, L1, L2, L3, L4, L6, L7, T1, T2, T3, T4, T6, T8, T10, NodeCounts, Key, key, key_of, is_key_before, is_before, has_name, count_of, place_in, ltb-true}
+use Rattle.timers.proofs.Elements.{two_below}
 
 -- how many names each kind has, and how many columns its table of names has
 abbrev pub sizes : NodeCounts → List ℕ
@@ -73,33 +74,27 @@ of_link n kind link k h w s =
     let m : link * get_or (widths n) kind 0 ≡ link = ap (λ x. link * x) w ∙ omega arith in
     record { kind = omega arith; column = omega (arith, w); place = omega (arith, m, s) }
 
-below : (a b : ℕ) → nat_lt a b ≡ true → a < b
-below a b h = grind (arith, nat_tests, h)
-
-both_below : (a b c d : ℕ) → (nat_lt a b && nat_lt c d) ≡ true → (a < b) × (c < d)
-both_below a b c d h = (grind (arith, nat_tests, h), grind (arith, nat_tests, h))
-
 pub within : (n : NodeCounts) (name : TimerName) → has_name n name ≡ true → IsWithin n (key_of name)
-within n (L1 link) h = of_link n 0 link (omega arith) (below link n.links h) refl refl
-within n (L2 link) h = of_link n 1 link (omega arith) (below link n.links h) refl refl
-within n (L3 link) h = of_link n 2 link (omega arith) (below link n.links h) refl refl
-within n (L4 link) h = of_link n 3 link (omega arith) (below link n.links h) refl refl
-within n (L6 link) h = of_link n 4 link (omega arith) (below link n.links h) refl refl
-within n (L7 link) h = of_link n 5 link (omega arith) (below link n.links h) refl refl
-within n (T1 link) h = of_link n 6 link (omega arith) (below link n.links h) refl refl
-within n (T2 link) h = of_link n 7 link (omega arith) (below link n.links h) refl refl
-within n (T3 link) h = of_link n 8 link (omega arith) (below link n.links h) refl refl
+within n (L1 link) h = of_link n 0 link (omega arith) (ltb-true link n.links h) refl refl
+within n (L2 link) h = of_link n 1 link (omega arith) (ltb-true link n.links h) refl refl
+within n (L3 link) h = of_link n 2 link (omega arith) (ltb-true link n.links h) refl refl
+within n (L4 link) h = of_link n 3 link (omega arith) (ltb-true link n.links h) refl refl
+within n (L6 link) h = of_link n 4 link (omega arith) (ltb-true link n.links h) refl refl
+within n (L7 link) h = of_link n 5 link (omega arith) (ltb-true link n.links h) refl refl
+within n (T1 link) h = of_link n 6 link (omega arith) (ltb-true link n.links h) refl refl
+within n (T2 link) h = of_link n 7 link (omega arith) (ltb-true link n.links h) refl refl
+within n (T3 link) h = of_link n 8 link (omega arith) (ltb-true link n.links h) refl refl
 within n (T4 set code) h =
-    let p = both_below set n.sets code 16 h in
+    let p = two_below set n.sets code 16 h in
     record { kind = omega arith; column = p.1; place = in_table set code n.sets 16 p.0 p.1 }
 within n (T6 destination) h =
-    let d = below destination n.destinations h in
+    let d = ltb-true destination n.destinations h in
     record { kind = omega arith; column = omega arith; place = omega (arith, d) }
 within n (T8 set destination) h =
-    let p = both_below set n.sets destination n.destinations h in
+    let p = two_below set n.sets destination n.destinations h in
     record { kind = omega arith; column = p.1; place = in_table set destination n.sets n.destinations p.0 p.1 }
 within n (T10 set destination) h =
-    let p = both_below set n.sets destination n.destinations h in
+    let p = two_below set n.sets destination n.destinations h in
     record { kind = omega arith; column = p.1; place = in_table set destination n.sets n.destinations p.0 p.1 }
 
 -- ---- the order of names is that of their numbers
@@ -137,18 +132,7 @@ rising n x y p q h =
 
 place-number : (n : NodeCounts) (name : TimerName) → place_in n name ≡ number_of n (key_of name)
 place-number n (L1 link) = omega arith
-place-number n (L2 link) = omega arith
-place-number n (L3 link) = omega arith
-place-number n (L4 link) = omega arith
-place-number n (L6 link) = omega arith
-place-number n (L7 link) = omega arith
-place-number n (T1 link) = omega arith
-place-number n (T2 link) = omega arith
-place-number n (T3 link) = omega arith
-place-number n (T4 set code) = omega arith
-place-number n (T6 destination) = omega arith
-place-number n (T8 set destination) = omega arith
-place-number n (T10 set destination) = omega arith
+place-number n name = omega arith
 
 pub place-fits : (n : NodeCounts) (name : TimerName) → has_name n name ≡ true → place_in n name < count_of n
 place-fits n name h =

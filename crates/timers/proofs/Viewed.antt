@@ -1,5 +1,5 @@
 -- The map that the table says: what a call does to the table, it does to the map.
-use Rattle.timers.proofs.Basics.{◌≡◌, ◌≢◌, ℕ, zero, suc, nat_lt, min, Bool, true, false, cond, refl, sym, ap, subst, ◌∙◌, arith, nat_tests, Option, Some, None, is_some, max, ◌&&◌, TimerName, L1, L2, L3, L4, L6, L7, T1, T2, T3, T4, T6, T8, T10, NodeCounts, has_name, is_same, named_sets, place_of, Running, none_running, is_running, set_timer, start_unless_running, clear_timer, one_less, ticked, due_name, after_due, due_count, one_map, Table, has_place, left_to, map_of, IsWhole}
+use Rattle.timers.proofs.Basics.{◌≡◌, ◌≢◌, ℕ, zero, suc, nat_lt, min, Bool, true, false, cond, refl, sym, ap, subst, ◌∙◌, arith, nat_tests, Option, Some, None, is_some, max, ◌&&◌, TimerName, T4, T8, T10, NodeCounts, has_name, is_same, named_sets, place_of, Running, none_running, is_running, set_timer, start_unless_running, clear_timer, one_less, ticked, due_name, after_due, due_count, one_map, Table, has_place, left_to, map_of, IsWhole}
 use Rattle.timers.proofs.OnTable.{none_in, put_in, ticked_in, due_place, due_in, after_due_in, count_in}
 use Rattle.timers.proofs.Same.{same_is, is_itself}
 use Rattle.timers.proofs.InTable as table
@@ -18,19 +18,10 @@ fewer_sets s n false h = grind (arith, nat_tests)
 
 -- a name that the node doesn't have has no place
 no_place : (n : NodeCounts) (name : TimerName) → has_name n name ≡ false → has_name (named_sets n) name ≡ false
-no_place n (L1 link) h = h
-no_place n (L2 link) h = h
-no_place n (L3 link) h = h
-no_place n (L4 link) h = h
-no_place n (L6 link) h = h
-no_place n (L7 link) h = h
-no_place n (T1 link) h = h
-no_place n (T2 link) h = h
-no_place n (T3 link) h = h
 no_place n (T4 set code) h = fewer_sets set n.sets (nat_lt code 16) h
-no_place n (T6 destination) h = h
 no_place n (T8 set destination) h = fewer_sets set n.sets (nat_lt destination n.destinations) h
 no_place n (T10 set destination) h = fewer_sets set n.sets (nat_lt destination n.destinations) h
+no_place n other h = h
 
 pub left-map : (t : Table) (name : TimerName) → (map_of t).left name ≡ left_to name t
 unfolding map_of

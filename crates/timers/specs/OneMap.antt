@@ -57,18 +57,7 @@ name_of_key k = name_with k.kind k.row k.column
 
 pub name-key : (name : TimerName) → name_of_key (key_of name) ≡ name
 name-key (L1 link) = refl
-name-key (L2 link) = refl
-name-key (L3 link) = refl
-name-key (L4 link) = refl
-name-key (L6 link) = refl
-name-key (L7 link) = refl
-name-key (T1 link) = refl
-name-key (T2 link) = refl
-name-key (T3 link) = refl
-name-key (T4 set code) = refl
-name-key (T6 destination) = refl
-name-key (T8 set destination) = refl
-name-key (T10 set destination) = refl
+name-key name = refl
 
 -- ---- what is left, as a list for each kind, row and column
 
