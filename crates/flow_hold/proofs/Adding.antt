@@ -1,5 +1,5 @@
 -- One procedure holds more flows: by which steps they are added is all one, if the flows are the same.
-use Rattle.flow_hold.proofs.Basics.{◌≡◌, ◌≢◌, ℕ, Bool, true, false, ◌&&◌, ◌||◌, refl, ap, sym, ◌∙◌, arith, nat_eq, nat_tests, Procedure, HoldSet, is_same, holds, may_hold, with_hold, with_flows}
+use Rattle.flow_hold.proofs.Basics.{◌≡◌, ◌≢◌, ℕ, Bool, true, false, ◌&&◌, ◌||◌, refl, ap, sym, ◌∙◌, arith, nat_eq, nat_tests, Procedure, HoldSet, is_same, holds, may_hold, with_hold, with_flows, false≢true, true≢false}
 use Rattle.flow_hold.proofs.Numbers.{same, same-itself}
 use Rattle.flow_hold.proofs.Pairing.{may-alike}
 use Rattle.flow_hold.proofs.Holding.{adds_its_pair, hold-leaves_others, may_not-leaves}
@@ -26,11 +26,8 @@ alike-case h k u procedure test a e other destination sls true is =
     let it : other ≡ procedure = same other procedure is in
     ap (λ (p : Procedure). holds k p destination sls) it ∙ a.own destination sls ∙ sym (e.own destination sls) ∙ ap (λ (p : Procedure). holds u p destination sls) (sym it)
 alike-case h k u procedure test a e other destination sls false is =
-    let apart : other ≢ procedure = λ it. false-true (sym is ∙ ap (λ (p : Procedure). is_same p procedure) it ∙ same-itself procedure) in
+    let apart : other ≢ procedure = λ it. false≢true (sym is ∙ ap (λ (p : Procedure). is_same p procedure) it ∙ same-itself procedure) in
     a.others other destination sls apart ∙ sym (e.others other destination sls apart)
-  where
-    false-true : false ≡ true → ⊥
-    false-true e = absurd cc
 
 pub same_added : (h k u : HoldSet) (procedure : Procedure) (test : ℕ → ℕ → Bool) → Adds h k procedure test → Adds h u procedure test → k ≡ u
 same_added h k u procedure test a e =
@@ -111,12 +108,9 @@ own-case h procedure destination sls d s true false e may =
     (ap (λ (n : ℕ). may_hold h procedure n s) same_d ∙ ap (λ (n : ℕ). may_hold h procedure destination n) same_s ∙ may))
 own-case h procedure destination sls d s false may e is =
     hold-leaves_others h procedure procedure destination sls d s
-    (λ p. apart (sym (ap (λ (x : Procedure × ℕ × ℕ). nat_eq x.1 destination && nat_eq x.2 sls) p ∙ here) ∙ e))
+    (λ p. true≢false (sym (ap (λ (x : Procedure × ℕ × ℕ). nat_eq x.1 destination && nat_eq x.2 sls) p ∙ here) ∙ e))
     ∙ sym (and-false (may_hold h procedure d s) (holds h procedure d s))
   where
-    apart : true ≡ false → ⊥
-    apart e = absurd cc
-
     here : (nat_eq destination destination && nat_eq sls sls) ≡ true
     here = grind (arith, nat_tests)
 

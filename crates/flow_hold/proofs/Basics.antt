@@ -1,7 +1,10 @@
 -- Words and lemmas of std, and the definitions, that the proofs here use.
+pub use Rattle.std.proofs.Math.Nat.{zero-add}
+pub use Rattle.std.proofs.Math.Bool.{and-false}
+pub use Rattle.std.specs.Cmp.{both_ways}
 pub use Rattle.std.proofs.Common.{◌≡◌, ◌≢◌, ℕ, Bool, true, false, ◌&&◌, ◌||◌, refl, ap, sym, ◌∙◌, arith, nat_eq, ◌+◌, ◌*◌, ◌<◌, not, cond, List, [], nat_le, nat_lt, Option, Some, None, ◌-◌, ◌∷◌, ◌++◌, length, get_or, drop, replicate, zero, suc, ◌≤◌, ◌⊎◌, inl, inr, map, ◌/◌, ◌%◌, subst, vec_capacity}
 pub use Rattle.std.proofs.Math.ListN.{set}
-pub use Rattle.std.proofs.lemmas.Bool.{true≢false, ltb-true, ltb-false, and_parts, cases_eq, and_from}
+pub use Rattle.std.proofs.lemmas.Bool.{true≢false, ltb-true, ltb-false, and_parts, cases_eq, and_from, or_right, or_left, false≢true}
 pub use Rattle.std.proofs.lemmas.Bool.Decides.{nat_tests}
 pub use Rattle.std.proofs.lemmas.Grind.{common_steps}
 pub use Rattle.std.proofs.lemmas.List.{get_or_past, set_at, get_or-set_same, get_or-set_other, length-replicate, replicate_more, drop_more, append_assoc, get_or-map, set-get_or, length-set, length-map, map-set, set_past}

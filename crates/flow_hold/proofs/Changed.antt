@@ -1,5 +1,5 @@
 -- What changes the table changes the set that it stands for.
-use Rattle.flow_hold.proofs.Basics.{◌≡◌, ℕ, ◌+◌, ◌*◌, ◌<◌, Bool, true, false, not, ◌&&◌, ◌||◌, cond, List, [], refl, ap, sym, ◌∙◌, arith, nat_le, nat_lt, Option, Some, None, if◌then◌else◌, eq_by_cmp, FinSet, contains, empty, insert, contains-empty, contains-insert, same_set, true≢false, ltb-true, ltb-false, nat_tests, get_or_past, length-map-range_with_len, get_or-map-range_with_len, Procedure, CHANGEBACK_CODES, SELECTIONS, Hold, by_numbers, holds, is_held, no_holds, may_hold_to, may_hold, with_hold, is_same, lifted, Marks, marks_at, has_mark, HoldTable, HasPlaces, place_of, flow_place, row_has, first_row, has_pair, has_flow, no_marks, with_row_cleared, with_pair, without_pairs, set_of}
+use Rattle.flow_hold.proofs.Basics.{◌≡◌, ℕ, ◌+◌, ◌*◌, ◌<◌, Bool, true, false, not, ◌&&◌, ◌||◌, cond, List, [], refl, ap, sym, ◌∙◌, arith, nat_le, nat_lt, Option, Some, None, if◌then◌else◌, eq_by_cmp, FinSet, contains, empty, insert, contains-empty, contains-insert, same_set, true≢false, ltb-true, ltb-false, nat_tests, get_or_past, length-map-range_with_len, get_or-map-range_with_len, Procedure, CHANGEBACK_CODES, SELECTIONS, Hold, by_numbers, holds, is_held, no_holds, may_hold_to, may_hold, with_hold, is_same, lifted, Marks, marks_at, has_mark, HoldTable, HasPlaces, place_of, flow_place, row_has, first_row, has_pair, has_flow, no_marks, with_row_cleared, with_pair, without_pairs, set_of, both_ways, and-false}
 use Rattle.flow_hold.proofs.Numbers.{in_order, only_same_tie, tied, tied-same, same, same-itself}
 use Rattle.flow_hold.proofs.Pairing.{held_by, contains-lifted}
 use Rattle.flow_hold.proofs.Holding.{MayHold, may_parts}
@@ -12,17 +12,12 @@ use Rattle.flow_hold.proofs.Standing.{IsPair, HasAllRows, set-to-mark, mark-to-s
 all_rows : (t : HoldTable) → HasPlaces t → HasAllRows t
 all_rows t h = record { rows = count t h }
 
-same-bool : (a b : Bool) → (a ≡ true → b ≡ true) → (b ≡ true → a ≡ true) → a ≡ b
-same-bool true b f g = sym (f refl)
-same-bool false true f g = g refl
-same-bool false false f g = refl
-
 -- two tables whose marks for a pair are alike have the pair alike
 alike-at : (t u : HoldTable) (hold : Hold) → HasPlaces t → HasPlaces u →
     (hold.sls < SELECTIONS → has_pair u hold.procedure hold.destination hold.sls ≡ has_pair t hold.procedure hold.destination hold.sls) →
     contains (set_of u).pairs hold ≡ contains (set_of t).pairs hold
 alike-at t u hold h k alike =
-    same-bool (contains (set_of u).pairs hold) (contains (set_of t).pairs hold)
+    both_ways (contains (set_of u).pairs hold) (contains (set_of t).pairs hold)
     (λ e. let p : IsPair u hold = set-to-mark u hold (all_rows u k) e in
     mark-to-set t hold (record { few = p.few; mark = sym (alike p.few) ∙ p.mark }))
     (λ e. let p : IsPair t hold = set-to-mark t hold (all_rows t h) e in
@@ -129,7 +124,7 @@ set-without_pairs t procedure h =
 
 pub set-has_flow : (t : HoldTable) (destination sls : ℕ) → HasPlaces t → sls < SELECTIONS → has_flow t destination sls ≡ is_held (set_of t) destination sls
 set-has_flow t destination sls h few =
-    same-bool (has_flow t destination sls) (is_held (set_of t) destination sls)
+    both_ways (has_flow t destination sls) (is_held (set_of t) destination sls)
     (λ e. let found : (procedure : Procedure) × (has_pair t procedure destination sls ≡ true) = marked_by t destination sls (count t h) e in
     (held_by (set_of t) destination sls).1
     (found.0, mark-to-set t (record { procedure = found.0; destination = destination; sls = sls }) (record { few = few; mark = found.1 })))
@@ -138,10 +133,6 @@ set-has_flow t destination sls h few =
     ((set-to-mark t (record { procedure = found.0; destination = destination; sls = sls }) (all_rows t h) found.1).mark))
 
 -- ---- at first
-
-nothing : (b : Bool) → (b && false) ≡ false
-nothing true = refl
-nothing false = refl
 
 not-one : (b : Bool) → cond {A = ℕ} b 1 0 ≡ 0 → b ≡ false
 not-one true e = absurd (omega (arith, e))
@@ -161,7 +152,7 @@ none-marked links sets destinations row flow false e =
     let shared : ℕ = 2 * links + CHANGEBACK_CODES * sets in
     ap (has_mark flow) (get_or_past (first_rows_of links sets destinations) row (record { first = 0; marks = [] })
     (omega (arith, ltb-false row (shared + destinations) e, length-map-range_with_len (first_row shared destinations) 0 (shared + destinations))))
-    ∙ nothing (nat_le 0 flow)
+    ∙ and-false (nat_le 0 flow)
 
 no-pair : (links sets destinations : ℕ) (place flow : Option ℕ) → row_has (no_marks links sets destinations) place flow ≡ false
 no-pair links sets destinations (Some row) (Some flow) = none-marked links sets destinations row flow (nat_lt row (2 * links + CHANGEBACK_CODES * sets + destinations)) refl

@@ -1,17 +1,14 @@
 -- The count of a flow is that of the rows which have it marked.
-use Rattle.flow_hold.proofs.Basics.{◌≡◌, ℕ, zero, suc, ◌+◌, ◌-◌, ◌*◌, ◌<◌, ◌≤◌, Bool, true, false, ◌||◌, ◌&&◌, cond, List, [], ◌∷◌, ◌++◌, length, get_or, replicate, refl, ap, ◌∙◌, arith, nat_lt, nat_le, if◌then◌else◌, list_any, ltb-false, nat_tests, length-replicate, Marks, has_mark, first_row, marked_as_held, SELECTIONS}
+use Rattle.flow_hold.proofs.Basics.{◌≡◌, ℕ, zero, suc, ◌+◌, ◌-◌, ◌*◌, ◌<◌, ◌≤◌, Bool, true, false, ◌||◌, ◌&&◌, cond, List, [], ◌∷◌, ◌++◌, length, get_or, replicate, refl, ap, ◌∙◌, arith, nat_lt, nat_le, if◌then◌else◌, list_any, ltb-false, nat_tests, length-replicate, Marks, has_mark, first_row, marked_as_held, SELECTIONS, zero-add}
 use Rattle.std.proofs.lemmas.List.Sums.{sum_by-cons, sum_by_push}
 
 -- what one row adds to the count of a flow
 abbrev pub mark_of : ℕ → Marks → ℕ
 mark_of flow row = cond (has_mark flow row) 1 0
 
-zero_plus : (n : ℕ) → 0 + n ≡ n
-zero_plus n = omega arith
-
 any-step : (b : Bool) (n : ℕ) (any : Bool) → nat_lt 0 n ≡ any → nat_lt 0 (cond b 1 0 + n) ≡ (b || any)
 any-step true n any e = grind (arith, nat_tests)
-any-step false n any e = ap (nat_lt 0) (zero_plus n) ∙ e
+any-step false n any e = ap (nat_lt 0) (zero-add n) ∙ e
 
 -- some row has a flow marked where the count is above 0
 pub any-counted : (rows : List Marks) (flow : ℕ) → nat_lt 0 (marked_as_held rows flow) ≡ list_any (has_mark flow) rows

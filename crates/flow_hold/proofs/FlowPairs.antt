@@ -1,23 +1,8 @@
 -- A pair after a hold of all flows of which a test is true, and before.
-use Rattle.flow_hold.proofs.Basics.{◌≡◌, ℕ, Bool, true, false, ◌&&◌, ◌||◌, refl, ap, sym, ◌∙◌, ◌⊎◌, inl, inr, and_parts, Procedure, HoldSet, is_same, holds, is_held, may_hold, with_flows}
+use Rattle.flow_hold.proofs.Basics.{◌≡◌, ℕ, Bool, true, false, ◌&&◌, ◌||◌, refl, ap, sym, ◌∙◌, ◌⊎◌, inl, inr, and_parts, Procedure, HoldSet, is_same, holds, is_held, may_hold, with_flows, or_right, or_left, and_from, false≢true}
 use Rattle.flow_hold.proofs.Numbers.{same, same-itself}
 use Rattle.flow_hold.proofs.Pairing.{held_by}
 use Rattle.flow_hold.proofs.Flows.{flows_add, flows_leave}
-
-also-behind : (b c : Bool) → c ≡ true → (b || c) ≡ true
-also-behind true c e = refl
-also-behind false c e = e
-
-in-front : (b c : Bool) → b ≡ true → (b || c) ≡ true
-in-front true c e = refl
-in-front false c e = absurd cc
-
-both : (a b : Bool) → a ≡ true → b ≡ true → (a && b) ≡ true
-both true b e f = f
-both false b e f = e
-
-unlike : false ≡ true → ⊥
-unlike e = absurd cc
 
 -- a pair is added: it is that of the procedure with a flow that it may hold, of which the test is true
 pub record IsAddedPair (h : HoldSet) (procedure : Procedure) (test : ℕ → ℕ → Bool) (other : Procedure) (destination sls : ℕ) : Type 0 where
@@ -29,7 +14,7 @@ pub flows_has : (h : HoldSet) (procedure : Procedure) (test : ℕ → ℕ → Bo
     holds (with_flows h procedure test) procedure destination sls ≡ true
 flows_has h procedure test destination sls may e =
     flows_add h procedure test destination sls
-    ∙ in-front (may_hold h procedure destination sls && test destination sls) (holds h procedure destination sls) (both (may_hold h procedure destination sls) (test destination sls) may e)
+    ∙ or_left (may_hold h procedure destination sls && test destination sls) (holds h procedure destination sls) (and_from (may_hold h procedure destination sls) (test destination sls) may e)
 
 keep-case : (h : HoldSet) (procedure other : Procedure) (test : ℕ → ℕ → Bool) (destination sls : ℕ) (b : Bool) → is_same other procedure ≡ b → holds h other destination sls ≡ true →
     holds (with_flows h procedure test) other destination sls ≡ true
@@ -37,9 +22,9 @@ keep-case h procedure other test destination sls true is e =
     let it : other ≡ procedure = same other procedure is in
     ap (λ (p : Procedure). holds (with_flows h procedure test) p destination sls) it
     ∙ flows_add h procedure test destination sls
-    ∙ also-behind (may_hold h procedure destination sls && test destination sls) (holds h procedure destination sls) (ap (λ (p : Procedure). holds h p destination sls) (sym it) ∙ e)
+    ∙ or_right (may_hold h procedure destination sls && test destination sls) (holds h procedure destination sls) (ap (λ (p : Procedure). holds h p destination sls) (sym it) ∙ e)
 keep-case h procedure other test destination sls false is e =
-    flows_leave h procedure other test destination sls (λ it. unlike (sym is ∙ ap (λ (p : Procedure). is_same p procedure) it ∙ same-itself procedure)) ∙ e
+    flows_leave h procedure other test destination sls (λ it. false≢true (sym is ∙ ap (λ (p : Procedure). is_same p procedure) it ∙ same-itself procedure)) ∙ e
 
 pub flows_keep : (h : HoldSet) (procedure other : Procedure) (test : ℕ → ℕ → Bool) (destination sls : ℕ) → holds h other destination sls ≡ true →
     holds (with_flows h procedure test) other destination sls ≡ true
@@ -59,7 +44,7 @@ was-case h procedure other test destination sls true is e =
     was-added h procedure test other destination sls (may_hold h procedure destination sls && test destination sls) it refl
     (sym (flows_add h procedure test destination sls) ∙ ap (λ (p : Procedure). holds (with_flows h procedure test) p destination sls) (sym it) ∙ e)
 was-case h procedure other test destination sls false is e =
-    inr (sym (flows_leave h procedure other test destination sls (λ it. unlike (sym is ∙ ap (λ (p : Procedure). is_same p procedure) it ∙ same-itself procedure))) ∙ e)
+    inr (sym (flows_leave h procedure other test destination sls (λ it. false≢true (sym is ∙ ap (λ (p : Procedure). is_same p procedure) it ∙ same-itself procedure))) ∙ e)
 
 pub flows_was : (h : HoldSet) (procedure other : Procedure) (test : ℕ → ℕ → Bool) (destination sls : ℕ) → holds (with_flows h procedure test) other destination sls ≡ true →
     IsAddedPair h procedure test other destination sls ⊎ (holds h other destination sls ≡ true)

@@ -1,5 +1,5 @@
 -- A hold of all flows of which a test is true adds their pairs, and no other.
-use Rattle.flow_hold.proofs.Basics.{◌≡◌, ◌≢◌, ℕ, zero, suc, ◌+◌, ◌<◌, ◌≤◌, Bool, true, false, ◌&&◌, ◌||◌, cond, List, [], ◌∷◌, map, refl, ap, sym, ◌∙◌, arith, filter, flat_map, list_any, range_with_len, eq_by_cmp, FinSet, contains, same_set, and_parts, cases_eq, list_any-append, Procedure, SELECTIONS, Hold, HoldSet, by_numbers, holds, may_hold, with_hold, NodeFlow, flows_to, flows, passes, any_flow, with_each, with_flows, IsOfNode, some_flow_passes, flows_add_their_pairs, flows_leave_others, flows_are_of_node}
+use Rattle.flow_hold.proofs.Basics.{◌≡◌, ◌≢◌, ℕ, zero, suc, ◌+◌, ◌<◌, ◌≤◌, Bool, true, false, ◌&&◌, ◌||◌, cond, List, [], ◌∷◌, map, refl, ap, sym, ◌∙◌, arith, filter, flat_map, list_any, range_with_len, eq_by_cmp, FinSet, contains, same_set, and_parts, cases_eq, list_any-append, Procedure, SELECTIONS, Hold, HoldSet, by_numbers, holds, may_hold, with_hold, NodeFlow, flows_to, flows, passes, any_flow, with_each, with_flows, IsOfNode, some_flow_passes, flows_add_their_pairs, flows_leave_others, flows_are_of_node, or_right, or_left, and_from, both_ways}
 use Rattle.std.proofs.Math.Logic.{⊎_elim}
 use Rattle.flow_hold.proofs.Numbers.{in_order, only_same_tie, tied, tied-same, untied}
 use Rattle.flow_hold.proofs.Holding.{MayHold, may_parts, contains-with_hold, may-still, hold_of_node}
@@ -9,23 +9,6 @@ or-swap true true c = refl
 or-swap true false c = refl
 or-swap false true c = refl
 or-swap false false c = refl
-
-also-behind : (b c : Bool) → c ≡ true → (b || c) ≡ true
-also-behind true c e = refl
-also-behind false c e = e
-
-in-front : (b c : Bool) → b ≡ true → (b || c) ≡ true
-in-front true c e = refl
-in-front false c e = absurd cc
-
-both : (a b : Bool) → a ≡ true → b ≡ true → (a && b) ≡ true
-both true b e f = f
-both false b e f = e
-
-same-bool : (a b : Bool) → (a ≡ true → b ≡ true) → (b ≡ true → a ≡ true) → a ≡ b
-same-bool true b f g = sym (f refl)
-same-bool false true f g = g refl
-same-bool false false f g = refl
 
 -- ---- numbers of a range
 
@@ -51,8 +34,8 @@ any-in-range : (test : ℕ → Bool) (from count number : ℕ) → from ≤ numb
 any-in-range test from zero number least below e = absurd (omega (arith, least, below))
 any-in-range test from (suc count) number least below e =
     ⊎_elim
-    (λ (same : number ≡ from). in-front (test from) (list_any test (range_with_len (from + 1) count)) (ap test (sym same) ∙ e))
-    (λ (apart : number ≢ from). also-behind (test from) (list_any test (range_with_len (from + 1) count))
+    (λ (same : number ≡ from). or_left (test from) (list_any test (range_with_len (from + 1) count)) (ap test (sym same) ∙ e))
+    (λ (apart : number ≢ from). or_right (test from) (list_any test (range_with_len (from + 1) count))
     (any-in-range test (from + 1) count number (omega (arith, least, apart)) (omega (arith, below)) e))
     (cases_eq number from)
 
@@ -158,7 +141,7 @@ added-own h procedure test destination sls =
     let hold : Hold = record { procedure = procedure; destination = destination; sls = sls } in
     let one : NodeFlow = record { destination = destination; sls = sls } in
     let added : NodeFlow → Bool = λ f. passes test f && is_added h procedure hold f in
-    same-bool (list_any added (flows h.destinations)) (may_hold h procedure destination sls && test destination sls)
+    both_ways (list_any added (flows h.destinations)) (may_hold h procedure destination sls && test destination sls)
     (λ e.
     let found : IsThere h.destinations added = found_flow h.destinations added e in
     let parts : (passes test found.flow ≡ true) × (is_added h procedure hold found.flow ≡ true) = and_parts (passes test found.flow) (is_added h procedure hold found.flow) found.passing in
@@ -167,12 +150,12 @@ added-own h procedure test destination sls =
     and_parts (may_hold h procedure found.flow.destination found.flow.sls) (eq_by_cmp by_numbers hold pair) parts.1 in
     let same : hold ≡ pair = tied hold pair more.1 in
     ap (λ (x : Hold). may_hold h procedure x.destination x.sls && test x.destination x.sls) same
-    ∙ both (may_hold h procedure found.flow.destination found.flow.sls) (test found.flow.destination found.flow.sls) more.0 parts.0)
+    ∙ and_from (may_hold h procedure found.flow.destination found.flow.sls) (test found.flow.destination found.flow.sls) more.0 parts.0)
     (λ e.
     let parts : (may_hold h procedure destination sls ≡ true) × (test destination sls ≡ true) = and_parts (may_hold h procedure destination sls) (test destination sls) e in
     let may : MayHold h procedure destination sls = may_parts h procedure destination sls parts.0 in
     flow_there h.destinations added one may.there may.few
-    (both (test destination sls) (is_added h procedure hold one) parts.1 (both (may_hold h procedure destination sls) (eq_by_cmp by_numbers hold hold) parts.0 (tied-same hold))))
+    (and_from (test destination sls) (is_added h procedure hold one) parts.1 (and_from (may_hold h procedure destination sls) (eq_by_cmp by_numbers hold hold) parts.0 (tied-same hold))))
 
 pub flows_add : flows_add_their_pairs
 flows_add h procedure test destination sls =

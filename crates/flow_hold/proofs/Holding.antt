@@ -1,5 +1,5 @@
 -- A hold adds its pair, where the procedure may hold the flow.
-use Rattle.flow_hold.proofs.Basics.{◌≡◌, ℕ, ◌<◌, Bool, true, false, ◌&&◌, ◌||◌, refl, ap, sym, ◌∙◌, nat_lt, if◌then◌else◌, eq_by_cmp, contains, insert, contains-insert, and_parts, ltb-true, Procedure, SELECTIONS, Hold, HoldSet, by_numbers, holds, may_hold_to, may_hold, with_hold, IsOfNode, pair, hold_is_of_node, hold_adds_its_pair, hold_leaves_others, may_not_leaves, hold_holds_its_flow, hold_keeps_flows_held}
+use Rattle.flow_hold.proofs.Basics.{◌≡◌, ℕ, ◌<◌, Bool, true, false, ◌&&◌, ◌||◌, refl, ap, sym, ◌∙◌, nat_lt, if◌then◌else◌, eq_by_cmp, contains, insert, contains-insert, and_parts, ltb-true, Procedure, SELECTIONS, Hold, HoldSet, by_numbers, holds, may_hold_to, may_hold, with_hold, IsOfNode, pair, hold_is_of_node, hold_adds_its_pair, hold_leaves_others, may_not_leaves, hold_holds_its_flow, hold_keeps_flows_held, and-false, or_right}
 use Rattle.flow_hold.proofs.Numbers.{in_order, tied, tied-same, untied}
 use Rattle.flow_hold.proofs.Pairing.{held_by, may-alike}
 
@@ -39,10 +39,6 @@ adds_its_pair h procedure destination sls may =
     ∙ ap (λ (b : Bool). (b && eq_by_cmp by_numbers hold hold) || contains h.pairs hold) may
     ∙ ap (λ (b : Bool). b || contains h.pairs hold) (tied-same hold)
 
-and-false : (b : Bool) → (b && false) ≡ false
-and-false true = refl
-and-false false = refl
-
 pub hold-leaves_others : hold_leaves_others
 hold-leaves_others h procedure other destination sls other_destination other_sls apart =
     let hold : Hold = record { procedure = procedure; destination = destination; sls = sls } in
@@ -56,17 +52,13 @@ pub may_not-leaves : may_not_leaves
 may_not-leaves h procedure destination sls e =
     ap (λ (b : Bool). if_may b h (record { procedure = procedure; destination = destination; sls = sls })) e
 
-still : (b c : Bool) → c ≡ true → (b || c) ≡ true
-still true c e = refl
-still false c e = e
-
 -- what was held stays held
 pub keeps_pairs : (h : HoldSet) (procedure other : Procedure) (destination sls other_destination other_sls : ℕ) → holds h other other_destination other_sls ≡ true →
     holds (with_hold h procedure destination sls) other other_destination other_sls ≡ true
 keeps_pairs h procedure other destination sls other_destination other_sls e =
     let second : Hold = record { procedure = other; destination = other_destination; sls = other_sls } in
     contains-with_hold h procedure destination sls second
-    ∙ still (may_hold h procedure destination sls && eq_by_cmp by_numbers second (record { procedure = procedure; destination = destination; sls = sls })) (contains h.pairs second) e
+    ∙ or_right (may_hold h procedure destination sls && eq_by_cmp by_numbers second (record { procedure = procedure; destination = destination; sls = sls })) (contains h.pairs second) e
 
 pub holds_its_flow : hold_holds_its_flow
 holds_its_flow h procedure destination sls may =

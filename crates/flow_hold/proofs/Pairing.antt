@@ -1,5 +1,5 @@
 -- A flow is held exactly where some pair is one of it, and a lift takes the pairs of one procedure.
-use Rattle.flow_hold.proofs.Basics.{◌≡◌, ℕ, Bool, true, false, not, ◌&&◌, ◌||◌, List, [], ◌∷◌, refl, ap, sym, ◌∙◌, arith, nat_eq, nat_lt, list_any, eq_by_cmp, contains, items, contains-items, contains-empty, contains-retain, and_parts, true≢false, nat_tests, CHANGEBACK_CODES, SELECTIONS, Procedure, Changeover, Code, Time, Reroute, Hold, HoldSet, by_numbers, holds, is_of_flow, is_same, may_hold_to, may_hold, lifted, first_holds_nothing, first_is_of_node, held_by_a_procedure, lift_is_of_node, lift_leaves_others, lift_ends_its_own}
+use Rattle.flow_hold.proofs.Basics.{◌≡◌, ℕ, Bool, true, false, not, ◌&&◌, ◌||◌, List, [], ◌∷◌, refl, ap, sym, ◌∙◌, arith, nat_eq, nat_lt, list_any, eq_by_cmp, contains, items, contains-items, contains-empty, contains-retain, and_parts, true≢false, nat_tests, CHANGEBACK_CODES, SELECTIONS, Procedure, Changeover, Code, Time, Reroute, Hold, HoldSet, by_numbers, holds, is_of_flow, is_same, may_hold_to, may_hold, lifted, first_holds_nothing, first_is_of_node, held_by_a_procedure, lift_is_of_node, lift_leaves_others, lift_ends_its_own, or_right, or_left, and-false}
 use Rattle.flow_hold.proofs.Numbers.{only_same_tie, tied, tied-same, same-itself, not-same}
 
 -- ---- a flow that is held
@@ -10,27 +10,19 @@ record FoundPair (destination sls : ℕ) (pairs : List Hold) : Type 0 where
   pub of_flow : is_of_flow destination sls hold ≡ true
   pub among : list_any (eq_by_cmp by_numbers hold) pairs ≡ true
 
-also-behind : (b c : Bool) → c ≡ true → (b || c) ≡ true
-also-behind true c e = refl
-also-behind false c e = e
-
-in-front : (b c : Bool) → b ≡ true → (b || c) ≡ true
-in-front true c e = refl
-in-front false c e = absurd cc
-
 found-case : (destination sls : ℕ) (x : Hold) (xs : List Hold) (b : Bool) → is_of_flow destination sls x ≡ b → (b || list_any (is_of_flow destination sls) xs) ≡ true →
     (list_any (is_of_flow destination sls) xs ≡ true → FoundPair destination sls xs) → FoundPair destination sls (x ∷ xs)
 found-case destination sls x xs true e any rest = record {
   hold = x;
   of_flow = e;
-  among = in-front (eq_by_cmp by_numbers x x) (list_any (eq_by_cmp by_numbers x) xs) (tied-same x);
+  among = or_left (eq_by_cmp by_numbers x x) (list_any (eq_by_cmp by_numbers x) xs) (tied-same x);
 }
 found-case destination sls x xs false e any rest =
     let found : FoundPair destination sls xs = rest any in
     record {
       hold = found.hold;
       of_flow = found.of_flow;
-      among = also-behind (eq_by_cmp by_numbers found.hold x) (list_any (eq_by_cmp by_numbers found.hold) xs) found.among;
+      among = or_right (eq_by_cmp by_numbers found.hold x) (list_any (eq_by_cmp by_numbers found.hold) xs) found.among;
     }
 
 found : (destination sls : ℕ) (xs : List Hold) → list_any (is_of_flow destination sls) xs ≡ true → FoundPair destination sls xs
@@ -38,8 +30,8 @@ found destination sls [] e = absurd cc
 found destination sls (x ∷ xs) e = found-case destination sls x xs (is_of_flow destination sls x) refl e (found destination sls xs)
 
 either-more : (a b c d : Bool) → (a ≡ true → c ≡ true) → (b ≡ true → d ≡ true) → (a || b) ≡ true → (c || d) ≡ true
-either-more true b c d f g e = in-front c d (f refl)
-either-more false b c d f g e = also-behind c d (g e)
+either-more true b c d f g e = or_left c d (f refl)
+either-more false b c d f g e = or_right c d (g e)
 
 some-of-flow : (hold : Hold) (xs : List Hold) → list_any (eq_by_cmp by_numbers hold) xs ≡ true → list_any (is_of_flow hold.destination hold.sls) xs ≡ true
 some-of-flow hold [] e = absurd cc
@@ -86,10 +78,6 @@ pub contains-lifted : (h : HoldSet) (procedure : Procedure) (hold : Hold) →
 contains-lifted h procedure hold =
     contains-retain h.pairs (λ other. not (is_same other.procedure procedure)) hold
     (λ x tie. ap (λ (other : Hold). not (is_same other.procedure procedure)) (sym (only_same_tie hold x tie)))
-
-and-false : (b : Bool) → (b && false) ≡ false
-and-false true = refl
-and-false false = refl
 
 and-true : (b : Bool) → (b && true) ≡ b
 and-true true = refl

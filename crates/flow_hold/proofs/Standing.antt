@@ -1,5 +1,5 @@
 -- A table of marks stands for a set of pairs: each mark is one, and what changes the one changes the other.
-use Rattle.flow_hold.proofs.Basics.{◌≡◌, ℕ, zero, suc, ◌+◌, ◌*◌, ◌/◌, ◌%◌, ◌<◌, ◌≤◌, Bool, true, false, ◌||◌, length, refl, ap, sym, subst, ◌∙◌, arith, nat_lt, Option, Some, None, if◌then◌else◌, eq_by_cmp, contains, insert, contains-empty, contains-insert, contains-union, common_steps, true≢false, nat_tests, Procedure, marks_at, has_mark, CHANGEBACK_CODES, SELECTIONS, Hold, by_numbers, HoldTable, place_of, flow_place, row_has, has_pair, procedure_at, hold_at, pairs_of_row, pairs_of_rows, set_of}
+use Rattle.flow_hold.proofs.Basics.{◌≡◌, ℕ, zero, suc, ◌+◌, ◌*◌, ◌/◌, ◌%◌, ◌<◌, ◌≤◌, Bool, true, false, ◌||◌, length, refl, ap, sym, subst, ◌∙◌, arith, nat_lt, Option, Some, None, if◌then◌else◌, eq_by_cmp, contains, insert, contains-empty, contains-insert, contains-union, common_steps, true≢false, nat_tests, Procedure, marks_at, has_mark, CHANGEBACK_CODES, SELECTIONS, Hold, by_numbers, HoldTable, place_of, flow_place, row_has, has_pair, procedure_at, hold_at, pairs_of_row, pairs_of_rows, set_of, or_right, or_left}
 use Rattle.flow_hold.proofs.Numbers.{in_order, tied, tied-same}
 use Rattle.flow_hold.proofs.TablePairing.{named, placed, inside-case}
 
@@ -32,14 +32,6 @@ unfolding pairs_of_row
 marked-in-row t row zero hold e = absurd (true≢false (sym e ∙ contains-empty by_numbers hold))
 marked-in-row t row (suc count) hold e = marked-case t row count hold (has_mark count (marks_at t.rows row)) refl e (marked-in-row t row count hold)
 
-or-behind : (b c : Bool) → c ≡ true → (b || c) ≡ true
-or-behind true c e = refl
-or-behind false c e = e
-
-or-front : (b c : Bool) → b ≡ true → (b || c) ≡ true
-or-front true c e = refl
-or-front false c e = absurd cc
-
 row-case : (t : HoldTable) (row count flow : ℕ) (mark : Bool) → has_mark count (marks_at t.rows row) ≡ mark → has_mark flow (marks_at t.rows row) ≡ true → flow ≤ count →
     (flow < count → contains (pairs_of_row t row count) (hold_at t row flow) ≡ true) →
     contains (if mark then insert (pairs_of_row t row count) (hold_at t row count) else pairs_of_row t row count) (hold_at t row flow) ≡ true
@@ -49,12 +41,12 @@ row-case t row count flow mark m e h rest = last-case (nat_lt flow count) refl m
         contains (if mark then insert (pairs_of_row t row count) (hold_at t row count) else pairs_of_row t row count) (hold_at t row flow) ≡ true
     last-case true b true m =
         contains-insert in_order (pairs_of_row t row count) (hold_at t row count) (hold_at t row flow)
-        ∙ or-behind (eq_by_cmp by_numbers (hold_at t row flow) (hold_at t row count)) (contains (pairs_of_row t row count) (hold_at t row flow)) (rest (grind (arith, nat_tests, b)))
+        ∙ or_right (eq_by_cmp by_numbers (hold_at t row flow) (hold_at t row count)) (contains (pairs_of_row t row count) (hold_at t row flow)) (rest (grind (arith, nat_tests, b)))
     last-case true b false m = rest (grind (arith, nat_tests, b))
     last-case false b true m =
         let same : flow ≡ count = grind (arith, nat_tests, b, h) in
         contains-insert in_order (pairs_of_row t row count) (hold_at t row count) (hold_at t row flow)
-        ∙ or-front (eq_by_cmp by_numbers (hold_at t row flow) (hold_at t row count)) (contains (pairs_of_row t row count) (hold_at t row flow))
+        ∙ or_left (eq_by_cmp by_numbers (hold_at t row flow) (hold_at t row count)) (contains (pairs_of_row t row count) (hold_at t row flow))
         (ap (λ (f : ℕ). eq_by_cmp by_numbers (hold_at t row f) (hold_at t row count)) same ∙ tied-same (hold_at t row count))
     last-case false b false m =
         let same : flow ≡ count = grind (arith, nat_tests, b, h) in
@@ -93,10 +85,10 @@ marked-in-table t (suc row) hold e =
 last-row : (t : HoldTable) (count row : ℕ) (hold : Hold) (before : Bool) → nat_lt row count ≡ before → row ≤ count → contains (pairs_of_row t row (flows t)) hold ≡ true →
     (row < count → contains (pairs_of_rows t count) hold ≡ true) → (contains (pairs_of_rows t count) hold || contains (pairs_of_row t count (flows t)) hold) ≡ true
 last-row t count row hold true b h e rest =
-    or-front (contains (pairs_of_rows t count) hold) (contains (pairs_of_row t count (flows t)) hold) (rest (grind (arith, nat_tests, b)))
+    or_left (contains (pairs_of_rows t count) hold) (contains (pairs_of_row t count (flows t)) hold) (rest (grind (arith, nat_tests, b)))
 last-row t count row hold false b h e rest =
     let same : count ≡ row = grind (arith, nat_tests, b, h) in
-    or-behind (contains (pairs_of_rows t count) hold) (contains (pairs_of_row t count (flows t)) hold)
+    or_right (contains (pairs_of_rows t count) hold) (contains (pairs_of_row t count (flows t)) hold)
     (ap (λ (r : ℕ). contains (pairs_of_row t r (flows t)) hold) same ∙ e)
 
 in-table : (t : HoldTable) (count row : ℕ) (hold : Hold) → row < count → contains (pairs_of_row t row (flows t)) hold ≡ true → contains (pairs_of_rows t count) hold ≡ true

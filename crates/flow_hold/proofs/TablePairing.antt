@@ -1,14 +1,12 @@
 -- Each row is that of one procedure, so that a lift leaves the pairs of others, and each mark is a pair.
-use Rattle.flow_hold.proofs.Basics.{◌≡◌, ◌≢◌, ℕ, suc, ◌+◌, ◌-◌, ◌*◌, ◌<◌, ◌≤◌, Bool, true, false, ◌&&◌, ◌||◌, List, [], ◌∷◌, length, get_or, replicate, refl, ap, sym, ◌∙◌, arith, nat_lt, nat_le, Option, Some, None, if◌then◌else◌, list_any, set, common_steps, ltb-true, ltb-false, nat_tests, get_or-set_same, get_or-set_other, get_or_past, set_past, list_any_at, Procedure, Changeover, Code, Time, Reroute, Marks, marks_at, has_mark, HoldTable, place_of, flow_place, row_has, has_pair, any_has, has_flow, cleared, with_row_cleared, without_pairs, procedure_at, CHANGEBACK_CODES, SELECTIONS}
+use Rattle.flow_hold.proofs.Basics.{◌≡◌, ◌≢◌, ℕ, suc, ◌+◌, ◌-◌, ◌*◌, ◌<◌, ◌≤◌, Bool, true, false, ◌&&◌, ◌||◌, List, [], ◌∷◌, length, get_or, replicate, refl, ap, sym, ◌∙◌, arith, nat_lt, nat_le, Option, Some, None, if◌then◌else◌, list_any, set, common_steps, ltb-true, ltb-false, nat_tests, get_or-set_same, get_or-set_other, get_or_past, set_past, list_any_at, Procedure, Changeover, Code, Time, Reroute, Marks, marks_at, has_mark, HoldTable, place_of, flow_place, row_has, has_pair, any_has, has_flow, cleared, with_row_cleared, without_pairs, procedure_at, CHANGEBACK_CODES, SELECTIONS, and-false}
 use Rattle.flow_hold.proofs.Counting.{all_same}
 
 -- ---- the procedure of a row
 
 pub named : (t : HoldTable) (procedure : Procedure) (row : ℕ) → place_of t procedure ≡ Some row → procedure_at t row ≡ procedure
 named t (Changeover link) row e = grind (arith, common_steps, nat_tests)
-named t (Time link) row e = grind (arith, common_steps, nat_tests)
-named t (Code set code) row e = grind (arith, common_steps, nat_tests)
-named t (Reroute destination) row e = grind (arith, common_steps, nat_tests)
+named t other row e = grind (arith, common_steps, nat_tests)
 
 pub placed : (t : HoldTable) (row : ℕ) → row < 2 * t.links + CHANGEBACK_CODES * t.sets + t.destinations → place_of t (procedure_at t row) ≡ Some row
 placed t row h = grind (arith, common_steps, nat_tests)
@@ -65,10 +63,6 @@ unmarked : (b : Bool) (n i : ℕ) → (b && get_or (replicate n false) i false) 
 unmarked true n i = all_same n i false
 unmarked false n i = refl
 
-nothing : (b : Bool) → (b && false) ≡ false
-nothing true = refl
-nothing false = refl
-
 cleared-row : (t : HoldTable) (row flow : ℕ) (within : Bool) → nat_lt row (length t.rows) ≡ within → has_mark flow (marks_at (cleared t row).rows row) ≡ false
 cleared-row t row flow true e =
     ap (has_mark flow) (get_or-set_same t.rows row (record (marks_at t.rows row) { marks = replicate (length (marks_at t.rows row).marks) false }) (record { first = 0; marks = [] }) (ltb-true row (length t.rows) e))
@@ -77,7 +71,7 @@ cleared-row t row flow false e =
     let past : length t.rows ≤ row = ltb-false row (length t.rows) e in
     ap (λ (rows : List Marks). has_mark flow (marks_at rows row)) (set_past t.rows row (record (marks_at t.rows row) { marks = replicate (length (marks_at t.rows row).marks) false }) past)
     ∙ ap (has_mark flow) (get_or_past t.rows row (record { first = 0; marks = [] }) past)
-    ∙ nothing (nat_le 0 flow)
+    ∙ and-false (nat_le 0 flow)
 
 own-row : (t : HoldTable) (row flow : Option ℕ) → row_has (with_row_cleared t row) row flow ≡ false
 own-row t None flow = refl

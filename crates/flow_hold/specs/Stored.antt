@@ -24,9 +24,7 @@ hold_of numbers = record { procedure = Changeover 0; destination = 0; sls = 0 }
 
 pub same_procedure : (procedure : Procedure) → procedure_of (numbers_of procedure) ≡ procedure
 same_procedure (Changeover link) = refl
-same_procedure (Code set code) = refl
-same_procedure (Time link) = refl
-same_procedure (Reroute destination) = refl
+same_procedure procedure = refl
 
 pub same_hold : (hold : Hold) → hold_of (hold_numbers hold) ≡ hold
 same_hold hold =
