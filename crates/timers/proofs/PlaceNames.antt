@@ -1,6 +1,6 @@
 -- The name at a place, and the place of a name.
-use Rattle.timers.proofs.Basics.{◌≡◌, ℕ, zero, suc, nat_lt, ◌+◌, ◌-◌, ◌*◌, ◌/◌, ◌%◌, ◌<◌, ◌≤◌, ◌⊎◌, inl, inr, true, false, cond, refl, sym, ap, subst, ◌∙◌, arith, mul-le-mul_right, div-add-mod, mod-lt, div-lt_iff_lt-mul, mul_comm, div-mul-add, mod-mul-add, nat_tests, TimerName, L1, L2, L3, L4, L6, L7, T1, T2, T3, T4, T6, T8, T10, NodeCounts, has_name, count_of, codes_from, destinations_from, t8_from, t10_from, place_in, link_name, code_name, route_name, name_at, ltb-true}
-use Rattle.timers.proofs.Elements.{two_below, two_under}
+use Rattle.timers.proofs.Basics.{◌≡◌, ℕ, zero, suc, nat_lt, ◌+◌, ◌-◌, ◌*◌, ◌/◌, ◌%◌, ◌<◌, ◌≤◌, ◌⊎◌, inl, inr, true, false, refl, sym, ap, subst, ◌∙◌, arith, div-add-mod, mod-lt, div-lt_iff_lt-mul, mul_comm, div-mul-add, mod-mul-add, nat_tests, TimerName, L1, L2, L3, L4, L6, L7, T1, T2, T3, T4, T6, T8, T10, NodeCounts, has_name, count_of, codes_from, destinations_from, t8_from, t10_from, place_in, link_name, code_name, route_name, name_at, ltb-true}
+use Rattle.timers.proofs.Elements.{two_below, two_under, in_table}
 
 under : {a b : ℕ} → a < b → nat_lt a b ≡ true
 under {a} {b} h = grind (arith, nat_tests)
@@ -11,56 +11,38 @@ over {a} {b} h = grind (arith, nat_tests)
 sides : (a b : ℕ) → (a < b) ⊎ (b ≤ a)
 sides a b = elim (nat_lt a b) as (λ c. nat_lt a b ≡ c → (a < b) ⊎ (b ≤ a)) [ true ↦ λ h. inl (ltb-true a b h) | false ↦ λ h. inr (grind (arith, nat_tests, h)) ] refl
 
-in_rows : (rows count k l : ℕ) → k < count → l < rows → k * rows + l < count * rows
-in_rows rows count k l h j =
-    let whole : k + 1 ≤ count = omega arith in
-    omega (arith, mul-le-mul_right rows whole)
-
 -- ---- by the kind of a place
 
-abbrev from_t8 : NodeCounts → ℕ → TimerName
-from_t8 n p = cond (nat_lt p (t10_from n)) (route_name (λ s d. T8 s d) n.destinations (p - t8_from n)) (route_name (λ s d. T10 s d) n.destinations (p - t10_from n))
-
-abbrev from_destinations : NodeCounts → ℕ → TimerName
-from_destinations n p = cond (nat_lt p (t8_from n)) (T6 (p - destinations_from n)) (from_t8 n p)
-
-abbrev from_codes : NodeCounts → ℕ → TimerName
-from_codes n p = cond (nat_lt p (destinations_from n)) (code_name (p - codes_from n)) (from_destinations n p)
-
 at_links : (n : NodeCounts) (p : ℕ) → p < codes_from n → name_at n p ≡ link_name (p / n.links) (p % n.links)
-at_links n p h = ap (λ b. cond b (link_name (p / n.links) (p % n.links)) (from_codes n p)) (under h)
-
-past_links : (n : NodeCounts) (p : ℕ) → codes_from n ≤ p → name_at n p ≡ from_codes n p
-past_links n p h = ap (λ b. cond b (link_name (p / n.links) (p % n.links)) (from_codes n p)) (over h)
+at_links n p h = rw (under h) refl
 
 at_codes : (n : NodeCounts) (p : ℕ) → codes_from n ≤ p → p < destinations_from n → name_at n p ≡ code_name (p - codes_from n)
-at_codes n p h k = past_links n p h ∙ ap (λ b. cond b (code_name (p - codes_from n)) (from_destinations n p)) (under k)
-
-past_codes : (n : NodeCounts) (p : ℕ) → destinations_from n ≤ p → name_at n p ≡ from_destinations n p
-past_codes n p h = past_links n p (omega (arith, h)) ∙ ap (λ b. cond b (code_name (p - codes_from n)) (from_destinations n p)) (over h)
+at_codes n p h k = rw (over h, under k) refl
 
 at_destinations : (n : NodeCounts) (p : ℕ) → destinations_from n ≤ p → p < t8_from n → name_at n p ≡ T6 (p - destinations_from n)
-at_destinations n p h k = past_codes n p h ∙ ap (λ b. cond b (T6 (p - destinations_from n)) (from_t8 n p)) (under k)
-
-past_destinations : (n : NodeCounts) (p : ℕ) → t8_from n ≤ p → name_at n p ≡ from_t8 n p
-past_destinations n p h = past_codes n p (omega (arith, h)) ∙ ap (λ b. cond b (T6 (p - destinations_from n)) (from_t8 n p)) (over h)
+at_destinations n p h k =
+    let links : codes_from n ≤ p = omega (arith, h) in
+    rw (over links, over h, under k) refl
 
 at_t8 : (n : NodeCounts) (p : ℕ) → t8_from n ≤ p → p < t10_from n → name_at n p ≡ route_name (λ s d. T8 s d) n.destinations (p - t8_from n)
 at_t8 n p h k =
-    past_destinations n p h
-    ∙ ap (λ b. cond b (route_name (λ s d. T8 s d) n.destinations (p - t8_from n)) (route_name (λ s d. T10 s d) n.destinations (p - t10_from n))) (under k)
+    let codes : destinations_from n ≤ p = omega (arith, h) in
+    let links : codes_from n ≤ p = omega (arith, h) in
+    rw (over links, over codes, over h, under k) refl
 
 at_t10 : (n : NodeCounts) (p : ℕ) → t10_from n ≤ p → name_at n p ≡ route_name (λ s d. T10 s d) n.destinations (p - t10_from n)
 at_t10 n p h =
-    past_destinations n p (omega (arith, h))
-    ∙ ap (λ b. cond b (route_name (λ s d. T8 s d) n.destinations (p - t8_from n)) (route_name (λ s d. T10 s d) n.destinations (p - t10_from n))) (over h)
+    let destinations : t8_from n ≤ p = omega (arith, h) in
+    let codes : destinations_from n ≤ p = omega (arith, h) in
+    let links : codes_from n ≤ p = omega (arith, h) in
+    rw (over links, over codes, over destinations, over h) refl
 
 -- ---- the name at the place of a name is that name
 
 link-named : (n : NodeCounts) (kind link : ℕ) → kind < 9 → nat_lt link n.links ≡ true → name_at n (kind * n.links + link) ≡ link_name kind link
 link-named n kind link k h =
     let l = ltb-true link n.links h in
-    at_links n (kind * n.links + link) (in_rows n.links 9 kind link k l)
+    at_links n (kind * n.links + link) (in_table kind link 9 n.links k l)
     ∙ (λ i. link_name (div-mul-add kind n.links link l i) (mod-mul-add kind n.links link l i))
 
 past : (a b : ℕ) → (a + b) - a ≡ b
@@ -83,14 +65,14 @@ name-place n (T2 link) h = link-named n 7 link (omega arith) h
 name-place n (T3 link) h = link-named n 8 link (omega arith) h
 name-place n (T4 set code) h =
     let b = two_below set n.sets code 16 h in
-    let f = in_rows 16 n.sets set code b.0 b.1 in
+    let f = in_table set code n.sets 16 b.0 b.1 in
     at_codes n (place_in n (T4 set code)) (omega arith) (omega (arith, f)) ∙ row-named (λ s c. T4 s c) 16 (codes_from n) set code b.1
 name-place n (T6 destination) h =
     let l = ltb-true destination n.destinations h in
     at_destinations n (place_in n (T6 destination)) (omega arith) (omega (arith, l)) ∙ ap (λ d. T6 d) (past (destinations_from n) destination)
 name-place n (T8 set destination) h =
     let b = two_below set n.sets destination n.destinations h in
-    let f = in_rows n.destinations n.sets set destination b.0 b.1 in
+    let f = in_table set destination n.sets n.destinations b.0 b.1 in
     at_t8 n (place_in n (T8 set destination)) (omega arith) (omega (arith, f)) ∙ row-named (λ s d. T8 s d) n.destinations (t8_from n) set destination b.1
 name-place n (T10 set destination) h =
     let b = two_below set n.sets destination n.destinations h in

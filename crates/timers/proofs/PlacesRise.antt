@@ -1,6 +1,6 @@
 -- The places of the timers that a node has: they rise in name order, and are as many as its names.
 use Rattle.timers.proofs.Basics.{◌≡◌, ℕ, zero, suc, ◌+◌, ◌*◌, ◌<◌, ◌≤◌, true, List, [], ◌∷◌, take, get_or, inl, inr, refl, ap, ◌∙◌, arith, mul-le-mul_right, cases_order, nat_tests, TimerName, L1, L2, L3, L4, L6, L7, T1, T2, T3, T4, T6, T8, T10, NodeCounts, Key, key, key_of, is_key_before, is_before, has_name, count_of, place_in, ltb-true}
-use Rattle.timers.proofs.Elements.{two_below}
+use Rattle.timers.proofs.Elements.{two_below, in_table}
 
 -- how many names each kind has, and how many columns its table of names has
 abbrev pub sizes : NodeCounts → List ℕ
@@ -31,11 +31,6 @@ pub record IsWithin (n : NodeCounts) (k : Key) : Type 0 where
   pub place : k.row * width n k + k.column < get_or (sizes n) k.kind 0
 
 -- ---- arithmetic
-
-in_table : (r c rows columns : ℕ) → r < rows → c < columns → r * columns + c < rows * columns
-in_table r c rows columns h k =
-    let whole : r + 1 ≤ rows = omega arith in
-    omega (arith, mul-le-mul_right columns whole)
 
 same_row : (s w r c t v q d : ℕ) → s ≡ t → w ≡ v → r ≡ q → c < d → s + (r * w + c) < t + (q * v + d)
 same_row s w r c t v q d e f g h =
