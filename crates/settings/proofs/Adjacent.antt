@@ -1,11 +1,8 @@
 -- The set that leads to a point is the first of the sets of that destination.
-use Rattle.settings.proofs.Basics.{refl, sym, subst, ap, ◌∙◌, ◌≡◌, ℕ, Bool, true, false, ◌&&◌, ◌||◌, nat_eq, List, [], ◌∷◌, position, length, get_or, arith, Option, Some, None, is_some, slice_get, option_and_then, if◌then◌else◌, AllByRecursion, IsDistinct, list_any, nat_tests, position-Some, slice_get-get_or, slice_get_read, Configuration, SetEntry, DestinationEntry, IsWell, is_same_point, is_led_first, is_first}
+use Rattle.settings.proofs.Basics.{refl, sym, subst, ap, ◌∙◌, ◌≡◌, ℕ, Bool, true, false, ◌&&◌, ◌||◌, nat_eq, List, [], ◌∷◌, position, length, get_or, arith, Option, Some, None, is_some, slice_get, option_and_then, if◌then◌else◌, AllByRecursion, IsDistinct, list_any, nat_tests, position-Some, slice_get-get_or, slice_get_read, Configuration, SetEntry, DestinationEntry, IsWell, is_same_point, is_led_first, is_first, eqb-true, or_left, or_right}
 use Rattle.settings.proofs.Entries.{some_place}
 use Rattle.settings.specs.Readings.{first_to, destination_place, set_place}
-use Rattle.settings.proofs.Rows.{either_left, either_right, each_then, each_at, none_of_any}
-
-same_number : (m n : ℕ) → nat_eq m n ≡ true → m ≡ n
-same_number m n h = grind (arith, nat_tests)
+use Rattle.settings.proofs.Rows.{each_then, each_at, none_of_any}
 
 turned : (m n : ℕ) → nat_eq m n ≡ true → nat_eq n m ≡ true
 turned m n h = grind (arith, nat_tests)
@@ -55,13 +52,13 @@ any_of_point q point (d ∷ ds) h = by (nat_eq d.point point) (q d) refl (any_of
   where
     by : (a b : Bool) → nat_eq d.point point ≡ a → (list_any (λ e. nat_eq e.point point && q e) ds ≡ true → list_any (λ e. nat_eq point e.point) ds ≡ true)
         → ((a && b) || list_any (λ e. nat_eq e.point point && q e) ds) ≡ true → (nat_eq point d.point || list_any (λ e. nat_eq point e.point) ds) ≡ true
-    by true b k rest f = either_left (nat_eq point d.point) (list_any (λ e. nat_eq point e.point) ds) (turned d.point point k)
-    by false b k rest f = either_right (nat_eq point d.point) (list_any (λ e. nat_eq point e.point) ds) (rest f)
+    by true b k rest f = or_left (nat_eq point d.point) (list_any (λ e. nat_eq point e.point) ds) (turned d.point point k)
+    by false b k rest f = or_right (nat_eq point d.point) (list_any (λ e. nat_eq point e.point) ds) (rest f)
 
 -- ---- the first of some sets
 first_found : (sets : List SetEntry) (ids : List ℕ) (point i : ℕ) (s : SetEntry) → is_first i ids ≡ true → slice_get sets i ≡ Some s → nat_eq point s.adjacent ≡ true → first_to sets ids point ≡ Some i
 first_found sets [] point i s f e h = cc
-first_found sets (first ∷ rest) point i s f e h = rw (same_number first i f, e, h) refl
+first_found sets (first ∷ rest) point i s f e h = rw (eqb-true first i f, e, h) refl
 
 first_missed : (sets : List SetEntry) (ids : List ℕ) (point : ℕ) → AllByRecursion (λ s. nat_eq point s.adjacent ≡ false) sets → first_to sets ids point ≡ None
 first_missed sets [] point h = refl
@@ -75,7 +72,7 @@ first_missed sets (first ∷ rest) point h = by (slice_get sets first) refl
 led : (c : Configuration) → IsWell c → (point i : ℕ) → set_place c point ≡ Some i → list_any (λ d. nat_eq d.point point && is_first i d.sets) c.destinations ≡ true
 led c w point i e =
     let p = placed (λ s. nat_eq point s.adjacent) c.sets i e in
-    subst (λ n. list_any (is_led_first n i) c.destinations ≡ true) (sym (same_number point p.0.adjacent p.2)) (w.adjacent_points_led i p.0 p.1)
+    subst (λ n. list_any (is_led_first n i) c.destinations ≡ true) (sym (eqb-true point p.0.adjacent p.2)) (w.adjacent_points_led i p.0 p.1)
 
 -- no set leads to a point that isn't a destination
 pub to_none : (c : Configuration) → IsWell c → (point : ℕ) → destination_place c point ≡ None → set_place c point ≡ None

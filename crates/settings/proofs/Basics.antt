@@ -1,4 +1,5 @@
 -- Words and lemmas of std, and the definitions, that the proofs here use.
+pub use Rattle.std.proofs.lemmas.Bool.{eqb-true, and_from, or_parts, or_left, or_right, not-true, and_parts}
 pub use Rattle.std.proofs.Common.{refl, sym, subst, ap, ◌∙◌, ◌≡◌, ℕ, Bool, true, false, ◌&&◌, ◌||◌, nat_eq, List, [], ◌∷◌, length, arith, Option, Some, None, slice_get, not, cond, suc, nat_lt, slice_set, ◌≤◌, ◌<◌, ◌+◌, ◌++◌, take, drop, map, replicate, zero, ◌^◌, ◌≢◌, append_assoc, All, nat_le, IsTrue, string_eq, string_bytes, inl, inr, rules, vec_len, vec_capacity, tests, true≢false}
 pub use Rattle.std.proofs.Math.Dec.{eqb}
 pub use Rattle.std.proofs.Math.ListN.{get_or, length-set}

@@ -64,10 +64,6 @@ at_failing p xs i x d l e h = grind (arith, common_steps)
 pub past_last : {A : Type 0} (p : A → Bool) (xs : List A) (i : ℕ) → length xs ≤ i → list_all p (drop i xs) ≡ true
 past_last p xs i l = grind (arith, common_steps)
 
-pub passes : (b : Bool) (kind : FaultKind) (key : Key) → fault_unless b kind key ≡ None → b ≡ true
-passes true kind key h = refl
-passes false kind key h = cc
-
 -- where one test fails, so does the other, with the same fault
 pub fails_too : (b c : Bool) (kind : FaultKind) (key : Key) (fault : DraftFault) → (b ≡ false → c ≡ false) → fault_unless b kind key ≡ Some fault → fault_unless c kind key ≡ Some fault
 fails_too true c kind key fault from h = cc

@@ -1,5 +1,5 @@
 -- One point more among those that are found by their codes.
-use Rattle.settings.proofs.Basics.{Bool, List, None, Option, Some, [], ap, arith, cond, eqb, false, get_or, length, nat_eq, nat_lt, not, position, refl, replicate, slice_get, slice_set, suc, sym, true, zero, ℕ, ◌+◌, ◌++◌, ◌<◌, ◌^◌, ◌||◌, ◌∙◌, ◌∷◌, ◌≡◌, ◌≢◌, ◌≤◌, common_steps, nat_tests, prefix_len-le-length, slice_get-get_or, list_any, position_or_len, is_some}
+use Rattle.settings.proofs.Basics.{Bool, List, None, Option, Some, [], ap, arith, cond, eqb, false, get_or, length, nat_eq, nat_lt, not, position, refl, replicate, slice_get, slice_set, suc, sym, true, zero, ℕ, ◌+◌, ◌++◌, ◌<◌, ◌^◌, ◌∙◌, ◌∷◌, ◌≡◌, ◌≢◌, ◌≤◌, common_steps, nat_tests, prefix_len-le-length, slice_get-get_or, list_any, position_or_len, is_some}
 use Rattle.std.proofs.lemmas.List.Folds.{position_or_len_push}
 use Rattle.settings.specs.Indexed.{Finds}
 use Rattle.settings.proofs.Entries.{some_place}

@@ -1,31 +1,7 @@
 -- What entries without a fault have in common, and what holds of what is made from them.
-use Rattle.settings.proofs.Basics.{refl, sym, subst, cond, ◌∙◌, ◌≡◌, ◌<◌, ℕ, Bool, true, false, not, ◌&&◌, ◌||◌, nat_lt, List, [], ◌∷◌, ◌++◌, map, length, append_assoc, arith, Option, Some, None, ℤ, pos, negsuc, slice_get, AllByRecursion, IsDistinct, list_any, list_all, filter, eqb, append-nil, All-from_recursion, get_or_from_slice_get, slice_get_past, nat_tests, Decides-eqb, first_of, entries_fault, fault_unless, is_within, natural, DraftFault, FaultKind, Key, IsWithin}
+use Rattle.settings.proofs.Basics.{refl, sym, subst, cond, ◌∙◌, ◌≡◌, ◌<◌, ℕ, Bool, true, false, ◌||◌, nat_lt, List, [], ◌∷◌, ◌++◌, map, length, append_assoc, arith, Option, Some, None, ℤ, pos, negsuc, slice_get, AllByRecursion, IsDistinct, list_any, list_all, filter, eqb, append-nil, All-from_recursion, get_or_from_slice_get, slice_get_past, nat_tests, Decides-eqb, first_of, entries_fault, fault_unless, is_within, natural, DraftFault, FaultKind, Key, IsWithin, or_parts, or_left, or_right, and_parts}
 
 -- ---- tests
-pub both : (a b : Bool) → a ≡ true → b ≡ true → (a && b) ≡ true
-both true b h k = k
-both false b h k = h
-
-pub both_of : (a b : Bool) → (a && b) ≡ true → (a ≡ true) × (b ≡ true)
-both_of true b h = (refl, h)
-both_of false b h = (h, cc)
-
-pub neither_of : (a b : Bool) → (a || b) ≡ false → (a ≡ false) × (b ≡ false)
-neither_of true b h = (h, cc)
-neither_of false b h = (refl, h)
-
-pub either_left : (a b : Bool) → a ≡ true → (a || b) ≡ true
-either_left true b h = refl
-either_left false b h = cc
-
-pub either_right : (a b : Bool) → b ≡ true → (a || b) ≡ true
-either_right true b h = refl
-either_right false b h = h
-
-pub false_from_not : (b : Bool) → not b ≡ true → b ≡ false
-false_from_not true h = sym h
-false_from_not false h = refl
-
 -- a test fails where another fails, if it passes only where the other passes
 pub false_by : (p q : Bool) → (q ≡ true → p ≡ true) → p ≡ false → q ≡ false
 false_by p true from h = sym (from refl) ∙ h
@@ -74,11 +50,11 @@ each_entry f Q step earlier (x ∷ xs) h =
 
 pub each_of_all : {A : Type 0} (p : A → Bool) (xs : List A) → list_all p xs ≡ true → AllByRecursion (λ x. p x ≡ true) xs
 each_of_all p [] h = tt
-each_of_all p (x ∷ xs) h = let r = both_of (p x) (list_all p xs) h in (r.0, each_of_all p xs r.1)
+each_of_all p (x ∷ xs) h = let r = and_parts (p x) (list_all p xs) h in (r.0, each_of_all p xs r.1)
 
 pub none_of_any : {A : Type 0} (p : A → Bool) (xs : List A) → list_any p xs ≡ false → AllByRecursion (λ x. p x ≡ false) xs
 none_of_any p [] h = tt
-none_of_any p (x ∷ xs) h = let r = neither_of (p x) (list_any p xs) h in (r.0, none_of_any p xs r.1)
+none_of_any p (x ∷ xs) h = let r = or_parts (p x) (list_any p xs) h in (r.0, none_of_any p xs r.1)
 
 pub every : {A : Type 0} (xs : List A) → AllByRecursion (λ x. Unit {0}) xs
 every [] = tt
@@ -176,5 +152,5 @@ any_made p q g step [] h = h
 any_made p q g step (x ∷ xs) h = by (p x) refl h (any_made p q g step xs)
   where
     by : (b : Bool) → p x ≡ b → (b || list_any p xs) ≡ true → (list_any p xs ≡ true → list_any q (map g xs) ≡ true) → (q (g x) || list_any q (map g xs)) ≡ true
-    by true e k rest = either_left (q (g x)) (list_any q (map g xs)) (step x e)
-    by false e k rest = either_right (q (g x)) (list_any q (map g xs)) (rest k)
+    by true e k rest = or_left (q (g x)) (list_any q (map g xs)) (step x e)
+    by false e k rest = or_right (q (g x)) (list_any q (map g xs)) (rest k)

@@ -1,8 +1,8 @@
 -- Destinations without a fault keep what is asked of them.
-use Rattle.settings.proofs.Basics.{refl, sym, ap, subst, ◌∙◌, ◌≡◌, ◌<◌, ◌≤◌, ℕ, Bool, true, false, not, ◌&&◌, ◌||◌, nat_eq, nat_le, nat_lt, List, [], ◌∷◌, map, length, get_or, All, IsTrue, arith, Option, None, Some, ℤ, String, string_eq, unwrap_or, slice_get, string_bytes, IsDistinct, AllByRecursion, list_any, list_all, position_or_len, option_map, bytes_eq, int_eq, length-map, All-from_recursion, position_or_len_is, slice_get-map, get_or_from_slice_get, bytes_eq-Decides, nat_tests, Decides-eqb, Decides-int_eq, natural, far_point_fault, fault_unless, entries_fault, has_repeat, count_fault, set_of, destination_of, set_place, set_number, destinations_fault, destination_fault, destination_point_fault, set_list_fault, joined_fault, has_destination, is_set_name, unreached_fault, reached_fault, is_reached, is_first_name, sets_fault, SetEntry, is_name, SetDraft, DestinationDraft, Key, Destination, DestinationPoint, DestinationSets, DestinationJoined, SetAdjacent, Range, Duplicate, UnknownName, DESTINATIONS, SETS_PER_DESTINATION, IsWithin, IsDestination, is_same_point, is_led_first, is_first}
+use Rattle.settings.proofs.Basics.{refl, sym, ap, subst, ◌∙◌, ◌≡◌, ◌<◌, ◌≤◌, ℕ, Bool, true, false, not, ◌&&◌, ◌||◌, nat_eq, nat_le, nat_lt, List, [], ◌∷◌, map, length, get_or, All, IsTrue, arith, Option, None, Some, ℤ, String, string_eq, unwrap_or, slice_get, string_bytes, IsDistinct, AllByRecursion, list_any, list_all, position_or_len, option_map, bytes_eq, int_eq, length-map, All-from_recursion, position_or_len_is, slice_get-map, get_or_from_slice_get, bytes_eq-Decides, nat_tests, Decides-eqb, Decides-int_eq, natural, far_point_fault, fault_unless, entries_fault, has_repeat, count_fault, set_of, destination_of, set_place, set_number, destinations_fault, destination_fault, destination_point_fault, set_list_fault, joined_fault, has_destination, is_set_name, unreached_fault, reached_fault, is_reached, is_first_name, sets_fault, SetEntry, is_name, SetDraft, DestinationDraft, Key, Destination, DestinationPoint, DestinationSets, DestinationJoined, SetAdjacent, Range, Duplicate, UnknownName, DESTINATIONS, SETS_PER_DESTINATION, IsWithin, IsDestination, is_same_point, is_led_first, is_first, and_from, not-true, and_parts}
 use Rattle.std.specs.declared.alloc.Global.{Global}
 use Rattle.std.proofs.lemmas.Map.Keys.{apart_from_distinct}
-use Rattle.settings.proofs.Rows.{both, both_of, false_by, false_from_not, two_none, three_none, four_none, passes, each_entry, each_made, each_of_all, each_then, each_unmapped, entries_differ, differ_made, none_of_any, none_differ, every, any_made, each_at, within_from_get}
+use Rattle.settings.proofs.Rows.{false_by, two_none, three_none, four_none, passes, each_entry, each_made, each_of_all, each_then, each_unmapped, entries_differ, differ_made, none_of_any, none_differ, every, any_made, each_at, within_from_get}
 use Rattle.settings.proofs.WellNumbers.{count_within, far_point_well, no_repeat, nat_eq-flips}
 use Rattle.settings.proofs.WellSets.{is_named_alike, set_drafts_differ}
 use Rattle.settings.proofs.WellLinks.{known_number, same_set}
@@ -24,7 +24,7 @@ is_listed sets key names h =
     let r = four_none (count_fault SETS_PER_DESTINATION key (length names)) (fault_unless (list_all (λ name. is_name (string_bytes name)) names) Range key) (fault_unless (not (has_repeat string_eq names)) Duplicate key) (fault_unless (list_all (is_set_name sets) names) UnknownName key) h in
     record {
       count = count_within SETS_PER_DESTINATION (length names) key r.0;
-      differ = false_from_not (has_repeat string_eq names) (passes (not (has_repeat string_eq names)) Duplicate key r.2);
+      differ = not-true (has_repeat string_eq names) (passes (not (has_repeat string_eq names)) Duplicate key r.2);
       known = each_of_all (is_set_name sets) names (passes (list_all (is_set_name sets) names) UnknownName key r.3);
     }
 
@@ -78,7 +78,7 @@ is_pointed_alike d e = nat_eq (natural d.point) (natural e.point)
 new_point : (own : ℕ) (sets : List SetDraft) (earlier : List DestinationDraft) (d : DestinationDraft) → destination_fault own sets earlier d ≡ None → AllByRecursion (λ e. is_pointed_alike e d ≡ false) earlier
 new_point own sets earlier d h =
     let new = passes (not (has_destination earlier d.point)) Duplicate (DestinationPoint (length earlier)) (point_none own earlier d (destination_none own sets earlier d h).0).1 in
-    let apart = none_of_any (nat_eq (natural d.point)) (map (λ (e : DestinationDraft). natural e.point) earlier) (false_from_not (has_destination earlier d.point) new) in
+    let apart = none_of_any (nat_eq (natural d.point)) (map (λ (e : DestinationDraft). natural e.point) earlier) (not-true (has_destination earlier d.point) new) in
     each_then (λ e. is_pointed_alike d e ≡ false) (λ e. is_pointed_alike e d ≡ false) (λ e k. nat_eq-flips (natural e.point) (natural d.point) k) earlier
     (each_unmapped (λ n. nat_eq (natural d.point) n ≡ false) (λ (e : DestinationDraft). natural e.point) earlier apart)
 
@@ -112,8 +112,8 @@ first_led sets set s place (name ∷ rest) e =
 
 led : (sets : List SetDraft) (set : ℕ) (s : SetDraft) → set_place sets (string_bytes s.name) ≡ Some set → (d : DestinationDraft) → (int_eq d.point s.adjacent && is_first_name (string_bytes s.name) d.sets.items) ≡ true → is_led_first (natural s.adjacent) set (destination_of sets d) ≡ true
 led sets set s place d h =
-    let r = both_of (int_eq d.point s.adjacent) (is_first_name (string_bytes s.name) d.sets.items) h in
-    both (nat_eq (natural d.point) (natural s.adjacent)) (is_first set (map (number_in sets) d.sets.items)) (int_eq-known d.point s.adjacent r.0) (first_led sets set s place d.sets.items r.1)
+    let r = and_parts (int_eq d.point s.adjacent) (is_first_name (string_bytes s.name) d.sets.items) h in
+    and_from (nat_eq (natural d.point) (natural s.adjacent)) (is_first set (map (number_in sets) d.sets.items)) (int_eq-known d.point s.adjacent r.0) (first_led sets set s place d.sets.items r.1)
 
 all_reached : (sets : List SetDraft) (ds : List DestinationDraft) → unreached_fault ds sets ≡ None → AllByRecursion (λ s. is_reached ds s ≡ true) sets
 unfolding unreached_fault

@@ -1,8 +1,8 @@
 -- Links without a fault keep what is asked of them.
-use Rattle.settings.proofs.Basics.{refl, sym, ap, ◌∙◌, ◌≡◌, ◌≤◌, ◌<◌, ℕ, Bool, true, false, not, ◌&&◌, nat_eq, List, [], ◌∷◌, map, length, get_or, All, arith, Option, None, Some, is_some, unwrap_or, string_bytes, IsDistinct, AllByRecursion, filter, count_by, bytes_eq, int_eq, eqb, length-map, All-from_recursion, position-Some, length-filter, bytes_eq-Decides, nat_tests, natural, is_within, entries_fault, count_fault, set_of, link_of, set_place, set_number, links_fault, link_fault, link_name_fault, link_set_fault, link_slc_fault, has_link_named, has_link_code, LinkEntry, is_name, SetDraft, Link, LinkName, LinkSet, LinkSlc, Range, Duplicate, UnknownName, LINKS, LINKS_PER_SET, IsWithin, IsLink, is_link_of_same_name, is_same_code}
+use Rattle.settings.proofs.Basics.{refl, sym, ap, ◌∙◌, ◌≡◌, ◌≤◌, ◌<◌, ℕ, Bool, true, false, not, ◌&&◌, nat_eq, List, [], ◌∷◌, map, length, get_or, All, arith, Option, None, Some, is_some, unwrap_or, string_bytes, IsDistinct, AllByRecursion, filter, count_by, bytes_eq, int_eq, eqb, length-map, All-from_recursion, position-Some, length-filter, bytes_eq-Decides, nat_tests, natural, is_within, entries_fault, count_fault, set_of, link_of, set_place, set_number, links_fault, link_fault, link_name_fault, link_set_fault, link_slc_fault, has_link_named, has_link_code, LinkEntry, is_name, SetDraft, Link, LinkName, LinkSet, LinkSlc, Range, Duplicate, UnknownName, LINKS, LINKS_PER_SET, IsWithin, IsLink, is_link_of_same_name, is_same_code, and_from, not-true, and_parts}
 use Rattle.std.proofs.lemmas.Map.Steps.{length-le_from_distinct_below}
 use Rattle.settings_rows.specs.declared.draft.LinkDraft.{LinkDraft}
-use Rattle.settings.proofs.Rows.{both, both_of, false_from_not, two_none, three_none, two_pass, within_from_test, each_entry, each_made, entries_differ, differ_made, none_of_any, none_differ, every, each_passes, each_filtered, differ_filter, below_from_each}
+use Rattle.settings.proofs.Rows.{two_none, three_none, two_pass, within_from_test, each_entry, each_made, entries_differ, differ_made, none_of_any, none_differ, every, each_passes, each_filtered, differ_filter, below_from_each}
 use Rattle.settings.proofs.WellNumbers.{count_within}
 use Rattle.settings.proofs.WellSets.{int_eq-natural}
 
@@ -72,7 +72,7 @@ is_named_alike l m = bytes_eq (string_bytes l.name) (string_bytes m.name)
 
 new_name : (sets : List SetDraft) (earlier : List LinkDraft) (l : LinkDraft) → link_fault sets earlier l ≡ None → AllByRecursion (λ e. is_named_alike e l ≡ false) earlier
 new_name sets earlier l h =
-    none_of_any (λ e. is_named_alike e l) earlier (false_from_not (has_link_named earlier (string_bytes l.name)) (name_passes earlier l (link_none sets earlier l h).0).1)
+    none_of_any (λ e. is_named_alike e l) earlier (not-true (has_link_named earlier (string_bytes l.name)) (name_passes earlier l (link_none sets earlier l h).0).1)
 
 pub link_names_well : (sets : List SetDraft) (links : List LinkDraft) → links_fault sets links ≡ None → IsDistinct is_link_of_same_name (map (link_of sets) links)
 link_names_well sets links h =
@@ -93,12 +93,12 @@ is_coded_alike l m = int_eq l.slc m.slc && bytes_eq (string_bytes l.set) (string
 
 new_code : (sets : List SetDraft) (earlier : List LinkDraft) (l : LinkDraft) → link_fault sets earlier l ≡ None → AllByRecursion (λ e. is_coded_alike e l ≡ false) earlier
 new_code sets earlier l h =
-    none_of_any (λ e. is_coded_alike e l) earlier (false_from_not (has_link_code earlier (string_bytes l.set) l.slc) (code_none sets earlier l h).1)
+    none_of_any (λ e. is_coded_alike e l) earlier (not-true (has_link_code earlier (string_bytes l.set) l.slc) (code_none sets earlier l h).1)
 
 coded_alike : (sets : List SetDraft) (l m : LinkDraft) → HasPlace sets l → HasPlace sets m → is_same_code (link_of sets l) (link_of sets m) ≡ true → is_coded_alike l m ≡ true
 coded_alike sets l m p q e =
-    let r = both_of (nat_eq (set_number sets (string_bytes l.set)) (set_number sets (string_bytes m.set))) (nat_eq (natural l.slc) (natural m.slc)) e in
-    both (int_eq l.slc m.slc) (bytes_eq (string_bytes l.set) (string_bytes m.set)) (int_eq-natural 0 15 l.slc m.slc p.within q.within r.1) (same_set sets (string_bytes l.set) (string_bytes m.set) p.known q.known r.0)
+    let r = and_parts (nat_eq (set_number sets (string_bytes l.set)) (set_number sets (string_bytes m.set))) (nat_eq (natural l.slc) (natural m.slc)) e in
+    and_from (int_eq l.slc m.slc) (bytes_eq (string_bytes l.set) (string_bytes m.set)) (int_eq-natural 0 15 l.slc m.slc p.within q.within r.1) (same_set sets (string_bytes l.set) (string_bytes m.set) p.known q.known r.0)
 
 pub link_codes_well : (sets : List SetDraft) (links : List LinkDraft) → links_fault sets links ≡ None → IsDistinct is_same_code (map (link_of sets) links)
 link_codes_well sets links h =
@@ -108,7 +108,7 @@ link_codes_well sets links h =
 
 -- links of one set that have the same code are the same link
 one_code : (set : ℕ) (l m : LinkEntry) → nat_eq l.set set ≡ true → nat_eq m.set set ≡ true → eqb l.slc m.slc ≡ true → is_same_code l m ≡ true
-one_code set l m a b e = both (nat_eq l.set m.set) (nat_eq l.slc m.slc) (grind (arith, nat_tests)) e
+one_code set l m a b e = and_from (nat_eq l.set m.set) (nat_eq l.slc m.slc) (grind (arith, nat_tests)) e
 
 -- links of one set that differ in their codes, of four bits, are at most sixteen
 few_of_a_set : (n : ℕ) (links : List LinkEntry) (set : ℕ) → AllByRecursion (IsLink n) links → IsDistinct is_same_code links → length (map (λ (l : LinkEntry). l.slc) (filter (λ l. nat_eq l.set set) links)) ≤ LINKS_PER_SET

@@ -1,6 +1,6 @@
 -- Numbers without a fault are within their limits.
-use Rattle.settings.proofs.Basics.{◌≡◌, ◌≤◌, ℕ, Bool, true, false, not, ◌&&◌, nat_eq, nat_le, nat_lt, List, [], ◌∷◌, map, All, arith, None, ℤ, IsDistinct, list_all, list_any, All-from_recursion, nat_tests, natural, is_within, has_repeat, numbers_fault, count_fault, range_fault, far_point_fault, Key, Range, Duplicate, TooMany, IsWithin, IsFarPoint}
-use Rattle.settings.proofs.Rows.{both_of, neither_of, false_from_not, passes, two_pass, within_from_test, each_of_all, each_made, none_of_any, each_then}
+use Rattle.settings.proofs.Basics.{◌≡◌, ℕ, Bool, true, false, not, ◌&&◌, nat_eq, nat_le, nat_lt, List, [], ◌∷◌, map, All, arith, None, ℤ, IsDistinct, list_all, list_any, All-from_recursion, nat_tests, natural, is_within, has_repeat, numbers_fault, count_fault, range_fault, far_point_fault, Key, Range, Duplicate, TooMany, IsWithin, IsFarPoint, or_parts, not-true, and_parts}
+use Rattle.settings.proofs.Rows.{passes, two_pass, within_from_test, each_of_all, each_made, none_of_any, each_then}
 
 pub in_range : (low high : ℕ) (key : Key) (n : ℤ) → range_fault low high key n ≡ None → IsWithin low high (natural n)
 in_range low high key n h = within_from_test low high n (passes (is_within low high n) Range key h)
@@ -9,7 +9,7 @@ pub no_repeat : {A : Type 0} (eq like : A → A → Bool) → ((x y : A) → eq 
 unfolding IsDistinct
 no_repeat eq like flips [] h = tt
 no_repeat eq like flips (x ∷ xs) h =
-    let r = neither_of (list_any (λ y. eq y x) xs) (has_repeat eq xs) h in
+    let r = or_parts (list_any (λ y. eq y x) xs) (has_repeat eq xs) h in
     (each_then (λ y. eq y x ≡ false) (λ y. like x y ≡ false) (flips x) xs (none_of_any (λ y. eq y x) xs r.0), no_repeat eq like flips xs r.1)
 
 pub nat_eq-flips : (x y : ℕ) → nat_eq y x ≡ false → nat_eq x y ≡ false
@@ -25,7 +25,7 @@ numbers_within low high key ns h =
 
 pub numbers_differ : (low high : ℕ) (key : Key) (ns : List ℤ) → numbers_fault low high key ns ≡ None → IsDistinct nat_eq (map natural ns)
 numbers_differ low high key ns h =
-    no_repeat nat_eq nat_eq nat_eq-flips (map natural ns) (false_from_not (has_repeat nat_eq (map natural ns)) (numbers_pass low high key ns h).1)
+    no_repeat nat_eq nat_eq nat_eq-flips (map natural ns) (not-true (has_repeat nat_eq (map natural ns)) (numbers_pass low high key ns h).1)
 
 pub count_within : (limit n : ℕ) (key : Key) → count_fault limit key n ≡ None → IsWithin 1 limit n
 count_within limit n key h =
@@ -36,11 +36,11 @@ count_within limit n key h =
 
 pub far_point_within : (own : ℕ) (key : Key) (n : ℤ) → far_point_fault own key n ≡ None → is_within 0 16383 n ≡ true
 far_point_within own key n h =
-    (both_of (is_within 0 16383 n) (not (nat_eq (natural n) own)) (passes (is_within 0 16383 n && not (nat_eq (natural n) own)) Range key h)).0
+    (and_parts (is_within 0 16383 n) (not (nat_eq (natural n) own)) (passes (is_within 0 16383 n && not (nat_eq (natural n) own)) Range key h)).0
 
 pub far_point_well : (own : ℕ) (key : Key) (n : ℤ) → far_point_fault own key n ≡ None → IsFarPoint own (natural n)
 far_point_well own key n h =
-    let r = both_of (is_within 0 16383 n) (not (nat_eq (natural n) own)) (passes (is_within 0 16383 n && not (nat_eq (natural n) own)) Range key h) in
+    let r = and_parts (is_within 0 16383 n) (not (nat_eq (natural n) own)) (passes (is_within 0 16383 n && not (nat_eq (natural n) own)) Range key h) in
     let within : IsWithin 0 16383 (natural n) = within_from_test 0 16383 n r.0 in
-    let far : nat_eq (natural n) own ≡ false = false_from_not (nat_eq (natural n) own) r.1 in
+    let far : nat_eq (natural n) own ≡ false = not-true (nat_eq (natural n) own) r.1 in
     record { fits = omega (arith, within.below); far = grind (arith, nat_tests) }

@@ -1,6 +1,6 @@
 -- Link sets without a fault keep what is asked of them.
-use Rattle.settings.proofs.Basics.{ap, ◌≡◌, ℕ, Bool, true, false, not, nat_eq, List, [], map, length, All, arith, None, ℤ, pos, negsuc, string_bytes, IsDistinct, AllByRecursion, bytes_eq, int_eq, length-map, All-from_recursion, Decides-eqb, Decides-int_eq, natural, is_within, far_point_fault, fault_unless, entries_fault, count_fault, set_of, sets_fault, set_fault, set_name_fault, set_adjacent_fault, has_set_named, has_adjacent, is_name, SetDraft, Set, SetName, SetAdjacent, Range, Duplicate, SETS, IsWithin, IsSet, is_set_of_same_name, is_set_to_same_point}
-use Rattle.settings.proofs.Rows.{false_from_not, two_none, passes, two_pass, each_entry, each_made, entries_differ, differ_made, none_of_any, none_differ, every}
+use Rattle.settings.proofs.Basics.{ap, ◌≡◌, ℕ, Bool, true, false, not, nat_eq, List, [], map, length, All, None, ℤ, pos, negsuc, string_bytes, IsDistinct, AllByRecursion, bytes_eq, int_eq, length-map, All-from_recursion, Decides-eqb, Decides-int_eq, natural, is_within, far_point_fault, fault_unless, entries_fault, count_fault, set_of, sets_fault, set_fault, set_name_fault, set_adjacent_fault, has_set_named, has_adjacent, is_name, SetDraft, Set, SetName, SetAdjacent, Range, Duplicate, SETS, IsWithin, IsSet, is_set_of_same_name, is_set_to_same_point, not-true}
+use Rattle.settings.proofs.Rows.{two_none, passes, two_pass, each_entry, each_made, entries_differ, differ_made, none_of_any, none_differ, every}
 use Rattle.settings.proofs.WellNumbers.{count_within, far_point_within, far_point_well}
 
 -- numbers that were written and are not below 0 are the same where their natural numbers are
@@ -45,7 +45,7 @@ is_named_alike s t = bytes_eq (string_bytes s.name) (string_bytes t.name)
 
 new_name : (own : ℕ) (earlier : List SetDraft) (s : SetDraft) → set_fault own earlier s ≡ None → AllByRecursion (λ e. is_named_alike e s ≡ false) earlier
 new_name own earlier s h =
-    none_of_any (λ e. is_named_alike e s) earlier (false_from_not (has_set_named earlier (string_bytes s.name)) (name_passes earlier s (set_none own earlier s h).0).1)
+    none_of_any (λ e. is_named_alike e s) earlier (not-true (has_set_named earlier (string_bytes s.name)) (name_passes earlier s (set_none own earlier s h).0).1)
 
 pub set_drafts_differ : (own : ℕ) (sets : List SetDraft) → sets_fault own sets ≡ None → IsDistinct is_named_alike sets
 set_drafts_differ own sets h = entries_differ (set_fault own) is_named_alike (new_name own) [] sets (none_differ is_named_alike) (sets_none own sets h).1
@@ -60,7 +60,7 @@ is_led_alike s t = int_eq s.adjacent t.adjacent
 
 new_adjacent : (own : ℕ) (earlier : List SetDraft) (s : SetDraft) → set_fault own earlier s ≡ None → AllByRecursion (λ e. is_led_alike e s ≡ false) earlier
 new_adjacent own earlier s h =
-    none_of_any (λ e. is_led_alike e s) earlier (false_from_not (has_adjacent earlier s.adjacent) (passes (not (has_adjacent earlier s.adjacent)) Duplicate (SetAdjacent (length earlier)) (adjacent_none own earlier s (set_none own earlier s h).1).1))
+    none_of_any (λ e. is_led_alike e s) earlier (not-true (has_adjacent earlier s.adjacent) (passes (not (has_adjacent earlier s.adjacent)) Duplicate (SetAdjacent (length earlier)) (adjacent_none own earlier s (set_none own earlier s h).1).1))
 
 adjacent_within : (own : ℕ) (earlier : List SetDraft) (s : SetDraft) → set_fault own earlier s ≡ None → is_within 0 16383 s.adjacent ≡ true
 adjacent_within own earlier s h = far_point_within own (SetAdjacent (length earlier)) s.adjacent (adjacent_none own earlier s (set_none own earlier s h).1).0

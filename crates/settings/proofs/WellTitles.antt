@@ -1,6 +1,6 @@
 -- Translation rows without a fault keep what is asked of them.
-use Rattle.settings.proofs.Basics.{refl, sym, ◌≡◌, ◌≤◌, ◌<◌, ◌^◌, ℕ, Bool, true, false, not, ◌&&◌, nat_eq, nat_lt, nat_le, List, [], ◌∷◌, map, length, All, arith, Option, None, Some, ℤ, string_bytes, IsDistinct, AllByRecursion, list_all, list_any, option_map, bytes_eq, int_eq, length-map, All-from_recursion, bytes_eq-Decides, nat_tests, natural, is_within, is_digit, fault_unless, range_fault, entries_fault, ssn_fault, route_fault, digits_fault, title_of, digit_of, route_of, is_by_title, titles_fault, title_fault, title_numbers_fault, title_digits_fault, title_target_fault, is_same_title, TitleDraft, Key, Title, TitleTranslation, TitlePlan, TitleNature, TitleDigits, TitlePoint, TitleRoute, TitleSsn, Range, Duplicate, TooMany, TITLES, TITLE_DIGITS, IsWithin, IsTitle, HasSubsystem, is_same_row}
-use Rattle.settings.proofs.Rows.{both, both_of, false_from_not, two_none, three_none, passes, two_pass, within_from_test, each_entry, each_made, each_of_all, entries_differ, differ_made, none_of_any, none_differ}
+use Rattle.settings.proofs.Basics.{refl, sym, ◌≡◌, ◌≤◌, ◌<◌, ◌^◌, ℕ, Bool, true, false, not, ◌&&◌, nat_eq, nat_lt, nat_le, List, [], ◌∷◌, map, length, All, arith, Option, None, Some, ℤ, string_bytes, IsDistinct, AllByRecursion, list_all, list_any, option_map, bytes_eq, int_eq, length-map, All-from_recursion, bytes_eq-Decides, nat_tests, natural, is_within, is_digit, fault_unless, range_fault, entries_fault, ssn_fault, route_fault, digits_fault, title_of, digit_of, route_of, is_by_title, titles_fault, title_fault, title_numbers_fault, title_digits_fault, title_target_fault, is_same_title, TitleDraft, Key, Title, TitleTranslation, TitlePlan, TitleNature, TitleDigits, TitlePoint, TitleRoute, TitleSsn, Range, Duplicate, TooMany, TITLES, TITLE_DIGITS, IsWithin, IsTitle, HasSubsystem, is_same_row, and_from, not-true, and_parts}
+use Rattle.settings.proofs.Rows.{two_none, three_none, passes, two_pass, within_from_test, each_entry, each_made, each_of_all, entries_differ, differ_made, none_of_any, none_differ}
 use Rattle.settings.proofs.WellNumbers.{in_range}
 use Rattle.settings.proofs.WellSets.{int_eq-natural}
 
@@ -60,7 +60,7 @@ has_range earlier t h =
     let q = target_none i t r.2 in
     let n = three_none (range_fault 0 255 (TitleTranslation i) t.translation) (range_fault 0 15 (TitlePlan i) t.plan) (range_fault 0 127 (TitleNature i) t.nature) r.0 in
     let d = two_pass (nat_lt 0 (length (string_bytes t.digits)) && nat_le (length (string_bytes t.digits)) TITLE_DIGITS) (list_all is_digit (string_bytes t.digits)) Range Range (TitleDigits i) (digits_none earlier t r.1).0 in
-    let count = both_of (nat_lt 0 (length (string_bytes t.digits))) (nat_le (length (string_bytes t.digits)) TITLE_DIGITS) d.0 in
+    let count = and_parts (nat_lt 0 (length (string_bytes t.digits))) (nat_le (length (string_bytes t.digits)) TITLE_DIGITS) d.0 in
     record {
       translation = passes (is_within 0 255 t.translation) Range (TitleTranslation i) n.0;
       plan = passes (is_within 0 15 t.plan) Range (TitlePlan i) n.1;
@@ -120,21 +120,21 @@ is_written_alike e t = is_same_title t e
 
 new_title : (earlier : List TitleDraft) (t : TitleDraft) → title_fault earlier t ≡ None → AllByRecursion (λ e. is_written_alike e t ≡ false) earlier
 new_title earlier t h =
-    none_of_any (is_same_title t) earlier (false_from_not (list_any (is_same_title t) earlier) (passes (not (list_any (is_same_title t) earlier)) Duplicate (TitleDigits (length earlier)) (digits_none earlier t (title_none earlier t h).1).1))
+    none_of_any (is_same_title t) earlier (not-true (list_any (is_same_title t) earlier) (passes (not (list_any (is_same_title t) earlier)) Duplicate (TitleDigits (length earlier)) (digits_none earlier t (title_none earlier t h).1).1))
 
 same_number : (high : ℕ) (x y : ℤ) → is_within 0 high x ≡ true → is_within 0 high y ≡ true → nat_eq (natural x) (natural y) ≡ true → int_eq y x ≡ true
 same_number high x y h k e = int_eq-natural 0 high y x k h (nat_eq-turned (natural x) (natural y) e)
 
 alike : (e t : TitleDraft) → HasRange e → HasRange t → is_same_row (title_of e) (title_of t) ≡ true → is_written_alike e t ≡ true
 alike e t h k same =
-    let a = both_of (nat_eq (natural e.translation) (natural t.translation)) (nat_eq (natural e.plan) (natural t.plan) && (nat_eq (natural e.nature) (natural t.nature) && bytes_eq (map digit_of (string_bytes e.digits)) (map digit_of (string_bytes t.digits)))) same in
-    let b = both_of (nat_eq (natural e.plan) (natural t.plan)) (nat_eq (natural e.nature) (natural t.nature) && bytes_eq (map digit_of (string_bytes e.digits)) (map digit_of (string_bytes t.digits))) a.1 in
-    let c = both_of (nat_eq (natural e.nature) (natural t.nature)) (bytes_eq (map digit_of (string_bytes e.digits)) (map digit_of (string_bytes t.digits))) b.1 in
+    let a = and_parts (nat_eq (natural e.translation) (natural t.translation)) (nat_eq (natural e.plan) (natural t.plan) && (nat_eq (natural e.nature) (natural t.nature) && bytes_eq (map digit_of (string_bytes e.digits)) (map digit_of (string_bytes t.digits)))) same in
+    let b = and_parts (nat_eq (natural e.plan) (natural t.plan)) (nat_eq (natural e.nature) (natural t.nature) && bytes_eq (map digit_of (string_bytes e.digits)) (map digit_of (string_bytes t.digits))) a.1 in
+    let c = and_parts (nat_eq (natural e.nature) (natural t.nature)) (bytes_eq (map digit_of (string_bytes e.digits)) (map digit_of (string_bytes t.digits))) b.1 in
     let values : map digit_of (string_bytes e.digits) ≡ map digit_of (string_bytes t.digits) = (bytes_eq-Decides (map digit_of (string_bytes e.digits)) (map digit_of (string_bytes t.digits))).0 c.1 in
     let digits : string_bytes e.digits ≡ string_bytes t.digits = digits_same (string_bytes e.digits) (string_bytes t.digits) h.digits k.digits values in
-    both (int_eq t.translation e.translation) (int_eq t.plan e.plan && (int_eq t.nature e.nature && bytes_eq (string_bytes t.digits) (string_bytes e.digits))) (same_number 255 e.translation t.translation h.translation k.translation a.0)
-    (both (int_eq t.plan e.plan) (int_eq t.nature e.nature && bytes_eq (string_bytes t.digits) (string_bytes e.digits)) (same_number 15 e.plan t.plan h.plan k.plan b.0)
-    (both (int_eq t.nature e.nature) (bytes_eq (string_bytes t.digits) (string_bytes e.digits)) (same_number 127 e.nature t.nature h.nature k.nature c.0)
+    and_from (int_eq t.translation e.translation) (int_eq t.plan e.plan && (int_eq t.nature e.nature && bytes_eq (string_bytes t.digits) (string_bytes e.digits))) (same_number 255 e.translation t.translation h.translation k.translation a.0)
+    (and_from (int_eq t.plan e.plan) (int_eq t.nature e.nature && bytes_eq (string_bytes t.digits) (string_bytes e.digits)) (same_number 15 e.plan t.plan h.plan k.plan b.0)
+    (and_from (int_eq t.nature e.nature) (bytes_eq (string_bytes t.digits) (string_bytes e.digits)) (same_number 127 e.nature t.nature h.nature k.nature c.0)
     ((bytes_eq-Decides (string_bytes t.digits) (string_bytes e.digits)).1 (sym digits))))
 
 pub titles_differ_well : (titles : List TitleDraft) → titles_fault titles ≡ None → IsDistinct is_same_row (map title_of titles)

@@ -1,5 +1,6 @@
 use Rattle.settings.proofs.Basics.{inr, ap, ◌+◌, refl, sym, ◌∙◌, ◌<◌, ◌≤◌, length, arith, list_all, err_from_is_err_and, natural, is_within, Range}
-use Rattle.settings.proofs.Entries.{next_row, all_rows, past_passing, at_failing, past_last, passes, fails_too, passes_too}
+use Rattle.settings.proofs.Entries.{next_row, all_rows, past_passing, at_failing, past_last, fails_too, passes_too}
+use Rattle.settings.proofs.Rows.{passes}
 use Rattle.settings.proofs.numbers.all_within.Goals as goal
 
 pub returns-in_err-number-clause-fault : goal.returns-in_err-number-clause-fault

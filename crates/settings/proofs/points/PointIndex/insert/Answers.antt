@@ -1,4 +1,4 @@
-use Rattle.settings.proofs.Basics.{ap, arith, false, length, nat_eq, not, sym, true, ◌≡◌, ◌<◌, ◌^◌, common_steps, list_any}
+use Rattle.settings.proofs.Basics.{ap, arith, false, nat_eq, not, sym, true, ◌≡◌, common_steps, list_any}
 use Rattle.settings.proofs.Entries.{some_place}
 use Rattle.settings.proofs.Indexing.{finds-more}
 use Rattle.settings.proofs.points.PointIndex.insert.Goals as goal
