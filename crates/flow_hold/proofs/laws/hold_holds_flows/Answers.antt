@@ -1,8 +1,5 @@
 use Rattle.flow_hold.proofs.Holding.{holds_its_flow, keeps_flows_held}
 use Rattle.flow_hold.proofs.laws.hold_holds_flows.Goals as goal
 
-pub returns-clause-own : goal.returns-clause-own
-returns-clause-own c = holds_its_flow
-
-pub returns-clause-others : goal.returns-clause-others
-returns-clause-others c = keeps_flows_held
+pub returns : goal.returns
+returns c = record { own = holds_its_flow; others = keeps_flows_held }

@@ -1,8 +1,5 @@
 use Rattle.timers.proofs.Maps.{start-running, start-idle}
 use Rattle.timers.proofs.laws.starting_leaves_what_runs.Goals as goal
 
-pub returns-clause-runs : goal.returns-clause-runs
-returns-clause-runs c = start-running
-
-pub returns-clause-idle : goal.returns-clause-idle
-returns-clause-idle c = start-idle
+pub returns : goal.returns
+returns c = record { runs = start-running; idle = start-idle }
