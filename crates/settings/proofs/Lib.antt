@@ -2,7 +2,6 @@ pub mod Basics
 pub mod Firsts
 pub mod Entries
 pub mod Indexing
-pub mod Places
 pub mod Adjacent
 pub mod Rows
 pub mod WellNumbers
@@ -11,4 +10,3 @@ pub mod WellLinks
 pub mod WellDestinations
 pub mod WellTitles
 pub mod Well
-pub mod SameNames

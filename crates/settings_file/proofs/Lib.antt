@@ -1,5 +1,3 @@
 pub mod Basics
 pub mod Each
 pub mod Readings
-pub mod Placed
-pub mod Warned

@@ -1,11 +1,23 @@
 -- Which timer is due first, and how many are.
-use Rattle.timers.proofs.Basics.{◌≡◌, ◌≢◌, ℕ, suc, ◌+◌, ◌≤◌, ◌||◌, Bool, true, false, cond, List, [], ◌∷◌, length, refl, sym, ap, subst, ◌∙◌, arith, false≢true, nat_tests, Option, Some, None, max, filter, find, option_map_or, AllByRecursion, list_any, TimerName, RouteTimer, has_name, is_same, is_before, is_of_set, names_of, AreInOrder, Running, set_timer, clear_timer, clear_set, no_tick_left, is_due, due_name, after_due, due_count, same_Some}
-use Rattle.timers.proofs.Order.{before-asym, before-itself}
+use Rattle.timers.proofs.Basics.{◌≡◌, ◌≢◌, ℕ, suc, ◌+◌, ◌≤◌, ◌||◌, Bool, true, false, cond, List, [], ◌∷◌, length, refl, sym, ap, subst, ◌∙◌, arith, false≢true, nat_tests, Option, Some, None, max, filter, find, option_map_or, AllByRecursion, list_any, TimerName, RouteTimer, has_name, is_same, is_before, is_of_set, names_of, AreInOrder, Running, set_timer, clear_timer, clear_set, no_tick_left, is_due, due_name, after_due, due_count, same_Some, Key, key_of, is_key_before}
 use Rattle.timers.proofs.Same.{same_is, is_itself, other_is_not}
 use Rattle.timers.proofs.NamesOf.{IsIn, holds_of, is_in}
 use Rattle.timers.proofs.NamesRise.{names-rise}
 use Rattle.timers.proofs.Elements.{all-weaker}
 use Rattle.timers.proofs.Maps.{exists, left-clear, left-clear_other, counts-clear}
+
+key-asym : (x y : Key) → is_key_before x y ≡ true → is_key_before y x ≡ false
+key-asym x y h = grind (arith, nat_tests)
+
+pub before-asym : (x y : TimerName) → is_before x y ≡ true → is_before y x ≡ false
+before-asym x y h = key-asym (key_of x) (key_of y) h
+
+pub before-itself : (x : TimerName) → is_before x x ≡ false
+before-itself x =
+    elim (is_before x x) as (λ b. is_before x x ≡ b → b ≡ false) [
+      | true ↦ λ e. sym e ∙ before-asym x x e
+      | false ↦ λ e. refl
+    ] refl
 
 -- ---- a test in a list of names
 

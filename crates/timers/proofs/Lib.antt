@@ -1,13 +1,11 @@
 pub mod Basics
 pub mod Elements
-pub mod Order
 pub mod Keys
 pub mod Same
 pub mod NamesOf
 pub mod NamesRise
 pub mod Maps
 pub mod Dues
-pub mod NamedSets
 pub mod PlacesRise
 pub mod PlaceNames
 pub mod Beneath
