@@ -1,8 +1,5 @@
 -- Writes in a row: what grew by one text and then by the next grew by both.
-use Rattle.std.proofs.Common.{◌≡◌, ℕ, ◌+◌, List, [], ◌++◌, Option, None, Some, length, take, sym, ◌∙◌, ap, arith, append_assoc, append-nil}
-use Rattle.std.proofs.Math.Seq.{take-append-add}
-use Rattle.std.specs.Io.KnownBytes.{Appends}
-use Rattle.script.specs.Streams.{AppendsFirst, AppendsAtLeast}
+use Rattle.script.proofs.Basics.{◌≡◌, ℕ, ◌+◌, List, [], ◌++◌, Option, None, Some, length, take, sym, ◌∙◌, ap, arith, append_assoc, append-nil, take-append-add, Appends, AppendsFirst, AppendsAtLeast}
 
 pub appends-appends : (w0 w1 w2 : Option (List ℕ)) (xs ys : List ℕ) → Appends w0 w1 xs → Appends w1 w2 ys → Appends w0 w2 (xs ++ ys)
 appends-appends None w1 w2 xs ys h k = tt

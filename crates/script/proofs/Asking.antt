@@ -1,12 +1,8 @@
 -- What lines of four words and more ask for.
-use Rattle.std.proofs.Common.{◌≡◌, ℕ, List, [], ◌∷◌, Some, refl, ◌<◌, length, arith}
-use Rattle.std.specs.Option.{option_map}
+use Rattle.script.proofs.Basics.{◌≡◌, ℕ, List, [], ◌∷◌, Some, refl, ◌<◌, length, arith, option_map, words, parted-some, AskOrder, asked_behind}
 use Rattle.point_format.specs.declared.point.PointFormat.{PointFormat}
-use Rattle.console.specs.Words.{words}
 use Rattle.console.specs.Orders.{instructed_by}
 use Rattle.console.specs.declared.commands.Command.{Command}
-use Rattle.console.proofs.Parting.{parted-some}
-use Rattle.script.specs.Asking.{AskOrder, asked_behind}
 
 third_word : (points : PointFormat) (command : Command) (first second : List ℕ) (ws : List (List ℕ)) → 0 < length ws
     → asked_behind points (Some command) (first ∷ second ∷ ws) ≡ option_map (λ order. AskOrder order) (instructed_by points command (first ∷ second ∷ ws))

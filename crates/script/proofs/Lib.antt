@@ -1,3 +1,4 @@
+pub mod Basics
 pub mod Asking
 pub mod Octets
 pub mod Parting

@@ -1,13 +1,5 @@
 -- A line that was done: what it prints was written, or a write failed and the first of it was.
-use Rattle.std.proofs.Common.{◌≡◌, ℕ, Bool, List, Option, Ok, Err, sym, subst, refl}
-use Rattle.std.specs.Io.KnownBytes.{Appends}
-use Rattle.exchange.specs.KeptQueues.{kept}
-use Rattle.exchange.specs.Stands.{Kept}
-use Rattle.script.specs.Asking.{Asked, Reading, Asks}
-use Rattle.script.specs.Doing.{printed, done}
-use Rattle.script.specs.Streams.{AppendsFirst}
-use Rattle.script.specs.Steps.{DoesLine}
-use Rattle.script.specs.declared.fault.ScriptFault.TheVariants.{Write}
+use Rattle.script.proofs.Basics.{◌≡◌, ℕ, Bool, List, Option, Ok, Err, sym, subst, refl, Appends, kept, Kept, Asked, Reading, Asks, printed, done, AppendsFirst, DoesLine, Write}
 
 pub asked-done : (number : ℕ) (lacking : Bool) (asked : Asked) (reading : Reading) (s after : Kept) (text : List ℕ) (w0 w1 : Option (List ℕ))
     → Asks asked ≡ reading → text ≡ printed kept lacking asked s → after ≡ done kept lacking asked s → Appends w0 w1 text

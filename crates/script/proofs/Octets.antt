@@ -1,14 +1,11 @@
 -- Texts of octets.
-use Rattle.std.proofs.Common.{◌≡◌, ℕ, ◌*◌, ◌%◌, ◌≤◌, List, length, Bool, true, false, [], refl, sym, arith, nat_eq, nat_le, ◌&&◌}
-use Rattle.std.specs.Prelude.{IsTrue, ◌↔◌, Ok, Err, Result, IsOk}
+use Rattle.script.proofs.Basics.{◌≡◌, ℕ, ◌*◌, ◌%◌, ◌≤◌, List, length, Bool, true, false, [], refl, sym, arith, nat_eq, nat_le, ◌&&◌, IsTrue, ◌↔◌, Ok, Err, Result, IsOk, nat_tests, is_octets, octets_of}
 use Rattle.std.specs.List.{AllPass, list_all}
 use Rattle.std.proofs.lemmas.List.Sums.{AllPass-from_list_all, list_all-from_AllPass}
-use Rattle.std.proofs.lemmas.Bool.Decides.{nat_tests}
 use Rattle.hex.specs.Hex.{is_hex_digit, decode_of, decode_sized}
 use Rattle.hex.specs.declared.error.FromHexError.{FromHexError}
 use Rattle.hex.proofs.HexLemmas.{IsOk-decode_sized, decode_sized-twice}
 use Rattle.std.specs.Result.{result_unwrap_or}
-use Rattle.script.specs.Lines.{is_octets, octets_of}
 
 -- a test that says what the test of each element says
 pub tested : (p : ℕ → Bool) (xs : List ℕ) (b : Bool) → (IsTrue b ↔ AllPass p xs) → list_all p xs ≡ b

@@ -1,21 +1,6 @@
 -- One octet that was taken: it goes into the open line, ends it, or makes it too long.
-use Rattle.std.proofs.Common.{◌≡◌, ℕ, ◌+◌, ◌≤◌, ◌<◌, Bool, true, false, List, [], ◌∷◌, ◌++◌, Option, None, Some, Result, Ok, Err, length, nat_lt, refl, sym, ◌∙◌, ap, arith, append_assoc, append-nil, length-append, subst}
-use Rattle.std.specs.Prelude.{if◌then◌else◌}
-use Rattle.std.proofs.lemmas.Bool.Decides.{nat_tests}
-use Rattle.exchange.specs.Stands.{Kept}
-use Rattle.exchange.specs.KeptQueues.{KeptQueues, kept}
-use Rattle.point_format.specs.declared.point.PointFormat.TheVariants.{Plain}
-use Rattle.script.specs.Asking.{Reading, IsMalformed, parsed_line}
-use Rattle.script.specs.Lines.{lines}
-use Rattle.script.specs.Streams.{AppendsFirst, AppendsAtLeast}
-use Rattle.script.specs.Runs.{Reached, silent, stopped, line_run, whole_line, open_run, onto, unless_ended, behind, first_of, behind_first, lines_run, Does}
-use Rattle.script.specs.Steps.{LineSoFar, Grows, rest_run, HasTaken, DoesLine}
+use Rattle.script.proofs.Basics.{◌≡◌, ℕ, ◌+◌, ◌≤◌, ◌<◌, Bool, true, false, List, [], ◌∷◌, ◌++◌, Option, None, Some, Result, Ok, Err, length, nat_lt, refl, sym, ◌∙◌, ap, arith, append_assoc, append-nil, length-append, subst, if◌then◌else◌, nat_tests, Kept, KeptQueues, kept, Plain, Reading, IsMalformed, parsed_line, lines, AppendsFirst, AppendsAtLeast, Reached, silent, stopped, line_run, whole_line, open_run, onto, unless_ended, behind, first_of, behind_first, lines_run, Does, LineSoFar, Grows, rest_run, HasTaken, DoesLine, LINE_OCTETS, ScriptFault, Read, Write, Line, TooManyReads, NoMemory, begun, parted-some, lt-ltb}
 use Rattle.script.specs.declared.run.Grown.TheVariants.{Open, TooLong, Whole}
-use Rattle.script.specs.declared.fault.TheConstants.{LINE_OCTETS}
-use Rattle.script.specs.declared.fault.ScriptFault.{ScriptFault}
-use Rattle.script.specs.declared.fault.ScriptFault.TheVariants.{Read, Write, Line, TooManyReads, NoMemory}
-use Rattle.console.specs.Words.{begun}
-use Rattle.console.proofs.Parting.{parted-some}
 use Rattle.script.proofs.Parting.{lines-nonfeed}
 use Rattle.script.proofs.Appending.{least-nothing, appends-nothing}
 
@@ -29,9 +14,6 @@ behind-going r next h = ap (λ (f : Option ℕ). unless_ended f r next) h
 
 behind-ended : (r : Reached KeptQueues) (next : Kept → Reached KeptQueues) (number : ℕ) → r.fault ≡ Some number → behind r next ≡ r
 behind-ended r next number h = ap (λ (f : Option ℕ). unless_ended f r next) h
-
-test-true : (a b : ℕ) → a < b → nat_lt a b ≡ true
-test-true a b h = grind (arith, nat_tests)
 
 test-false : (a b : ℕ) → b ≤ a → nat_lt a b ≡ false
 test-false a b h = grind (arith, nat_tests)
@@ -51,9 +33,9 @@ whole_line-short line h = if-false (nat_lt LINE_OCTETS (length line)) _ (parsed_
 -- one that is too long ends the script, whether its line feed is there or not
 stopped-long : (most number : ℕ) (refused : List Bool) (line : List ℕ) (more : List (List ℕ)) (s : Kept) → LINE_OCTETS < length line → most ≤ LINE_OCTETS
     → lines_run kept most number refused (line ∷ more) s ≡ stopped number s
-stopped-long most number refused line [] s h k = if-true (nat_lt most (length line)) (stopped number s) (silent s) (test-true most (length line) (omega (arith, h, k)))
+stopped-long most number refused line [] s h k = if-true (nat_lt most (length line)) (stopped number s) (silent s) (lt-ltb most (length line) (omega (arith, h, k)))
 stopped-long most number refused line (next ∷ more) s h k =
-    let long : whole_line line ≡ IsMalformed = if-true (nat_lt LINE_OCTETS (length line)) _ (parsed_line Plain line) (test-true LINE_OCTETS (length line) h) in
+    let long : whole_line line ≡ IsMalformed = if-true (nat_lt LINE_OCTETS (length line)) _ (parsed_line Plain line) (lt-ltb LINE_OCTETS (length line) h) in
     ap (λ (r : Reading). behind (line_run kept number (first_of refused) r s) (λ (t : Kept). lines_run kept most (number + 1) (behind_first refused) (next ∷ more) t)) long
 
 -- ---- one octet

@@ -1,8 +1,5 @@
 -- The lines of a text, found from the front.
-use Rattle.std.proofs.Common.{◌≡◌, ℕ, ◌++◌, List, [], ◌∷◌}
-use Rattle.console.specs.Words.{begun}
-use Rattle.console.proofs.Parting.{parted-unmarked}
-use Rattle.script.specs.Lines.{lines}
+use Rattle.script.proofs.Basics.{◌≡◌, ℕ, ◌++◌, List, [], ◌∷◌, begun, parted-unmarked, lines}
 
 pub lines-nonfeed : (front : List ℕ) (c : ℕ) (rest : List ℕ) → (c ≡ 10 → ⊥) → begun front (lines (c ∷ rest)) ≡ begun (front ++ (c ∷ [])) (lines rest)
 lines-nonfeed front c rest h = parted-unmarked 10 front c rest h

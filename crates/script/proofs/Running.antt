@@ -1,17 +1,6 @@
 -- A run that goes on piece by piece, and how it ends.
-use Rattle.std.proofs.Common.{◌≡◌, ℕ, Bool, ◌+◌, ◌≤◌, List, [], ◌∷◌, ◌++◌, Option, None, Some, Result, Ok, Err, length, refl, sym, ◌∙◌, ap, arith, append_assoc, append-nil, length-append, subst, inl, inr}
-use Rattle.std.specs.Io.KnownBytes.{Appends, Consumes, Keeps, IsAtEnd}
-use Rattle.exchange.specs.Stands.{Kept}
-use Rattle.exchange.specs.KeptQueues.{KeptQueues, kept}
-use Rattle.script.specs.Lines.{lines}
-use Rattle.script.specs.Streams.{AppendsAtLeast}
-use Rattle.script.specs.Runs.{Reached, silent, onto, lines_run, run_so_far, whole_run, Does, RunsBy, Runs}
-use Rattle.script.specs.Steps.{LineSoFar, first_line, rest_run, GoesOn, HasTaken}
+use Rattle.script.proofs.Basics.{◌≡◌, ℕ, Bool, ◌+◌, ◌≤◌, List, [], ◌∷◌, ◌++◌, Option, None, Some, Result, Ok, Err, length, refl, sym, ◌∙◌, ap, arith, append_assoc, append-nil, length-append, subst, inl, inr, Appends, Consumes, Keeps, IsAtEnd, Kept, KeptQueues, kept, lines, AppendsAtLeast, Reached, silent, onto, lines_run, run_so_far, whole_run, Does, RunsBy, Runs, LineSoFar, first_line, rest_run, GoesOn, HasTaken, LINE_OCTETS, READS, ScriptFault, Read, Write, Line, TooManyReads, NoMemory, begun-nothing}
 use Rattle.script.specs.Faults.{EndsAtLine, reads_failed, MakesReads}
-use Rattle.script.specs.declared.fault.TheConstants.{LINE_OCTETS, READS}
-use Rattle.script.specs.declared.fault.ScriptFault.{ScriptFault}
-use Rattle.script.specs.declared.fault.ScriptFault.TheVariants.{Read, Write, Line, TooManyReads, NoMemory}
-use Rattle.console.proofs.Parting.{begun-nothing}
 use Rattle.script.proofs.Appending.{appends-appends, appends-least, appends-nothing}
 use Rattle.script.proofs.OneOctet.{open-line}
 use Rattle.script.proofs.Taken.{taken-nothing, taken-more}
@@ -102,9 +91,7 @@ abbrev DoesAtLeast : (least : ℕ) → Reached KeptQueues → Result Unit Script
 DoesAtLeast least r (Ok x) after w0 w1 = Does r (Ok x) after w0 w1
 DoesAtLeast least r (Err (Line number)) after w0 w1 = Does r (Err (Line number)) after w0 w1
 DoesAtLeast least r (Err Write) after w0 w1 = (r.state ≡ after) × AppendsAtLeast least w0 w1 r.text
-DoesAtLeast least r (Err Read) after w0 w1 = ⊥
-DoesAtLeast least r (Err TooManyReads) after w0 w1 = ⊥
-DoesAtLeast least r (Err NoMemory) after w0 w1 = ⊥
+DoesAtLeast least r (Err other) after w0 w1 = ⊥
 
 does-onto : (text : List ℕ) (r : Reached KeptQueues) (result : Result Unit ScriptFault) (after : Kept) (w0 w1 w2 : Option (List ℕ))
     → Appends w0 w1 text → Does r result after w1 w2 → DoesAtLeast (length text) (onto text r) result after w0 w2
@@ -112,9 +99,7 @@ does-onto text r (Ok x) after w0 w1 w2 h k = (k.0, k.1, appends-appends w0 w1 w2
 does-onto text r (Err (Line number)) after w0 w1 w2 h k = (k.0, k.1, appends-appends w0 w1 w2 text r.text h k.2)
 does-onto text r (Err Write) after w0 w1 w2 h k =
     let first = appends-least 0 w0 w1 w2 text r.text h (k.1.0, omega arith, k.1.1) in let some = first.1 in (k.0, (first.0, omega (arith, some), first.2))
-does-onto text r (Err Read) after w0 w1 w2 h k = absurd k
-does-onto text r (Err TooManyReads) after w0 w1 w2 h k = absurd k
-does-onto text r (Err NoMemory) after w0 w1 w2 h k = absurd k
+does-onto text r (Err other) after w0 w1 w2 h k = absurd k
 
 runs-whole : (refused : List Bool) (octets : List ℕ) (before s : Kept) (result : Result Unit ScriptFault) (left left_new w0 w1 : Option (List ℕ))
     → Consumes left left_new octets → IsAtEnd left_new → DoesAtLeast (length (run_so_far kept refused octets before).text) (whole_run kept refused octets before) result s w0 w1
@@ -133,9 +118,7 @@ runs-whole refused octets before s (Err Write) left left_new w0 w1 consumed done
       does.0,
       does.1,
     )
-runs-whole refused octets before s (Err Read) left left_new w0 w1 consumed done does = absurd does
-runs-whole refused octets before s (Err TooManyReads) left left_new w0 w1 consumed done does = absurd does
-runs-whole refused octets before s (Err NoMemory) left left_new w0 w1 consumed done does = absurd does
+runs-whole refused octets before s (Err other) left left_new w0 w1 consumed done does = absurd does
 
 pub at-end : (least : ℕ) (before s : Kept) (left left_mid left_new w0 w1 w2 : Option (List ℕ)) (line : LineSoFar) (result : Result Unit ScriptFault) (piece : List ℕ)
     → length line.octets ≤ LINE_OCTETS → Progress least before left left_mid w0 w1 line s → piece ≡ [] → Consumes left_mid left_new piece → IsAtEnd left_new
@@ -203,35 +186,27 @@ at-fault least before s after left left_mid left_new w0 w1 w2 line next fault pi
 
 pub end-reads-failed : (r : Reached KeptQueues) (result : Result Unit ScriptFault) (s : Kept) (w0 w1 : Option (List ℕ)) (n : ℕ)
     → Does r result s w0 w1 → reads_failed n result ≡ n
-end-reads-failed r (Ok x) s w0 w1 n h = refl
-end-reads-failed r (Err (Line number)) s w0 w1 n h = refl
-end-reads-failed r (Err Write) s w0 w1 n h = refl
 end-reads-failed r (Err Read) s w0 w1 n h = absurd h
 end-reads-failed r (Err TooManyReads) s w0 w1 n h = absurd h
 end-reads-failed r (Err NoMemory) s w0 w1 n h = absurd h
+end-reads-failed r result s w0 w1 n h = refl
 
 pub end-reads-made : (r : Reached KeptQueues) (result : Result Unit ScriptFault) (s : Kept) (w0 w1 : Option (List ℕ)) (old new : ℕ)
     → Does r result s w0 w1 → new ≤ old + READS → MakesReads result old new
 end-reads-made r (Ok x) s w0 w1 old new h k = k
 end-reads-made r (Err (Line number)) s w0 w1 old new h k = k
 end-reads-made r (Err Write) s w0 w1 old new h k = k
-end-reads-made r (Err Read) s w0 w1 old new h k = absurd h
-end-reads-made r (Err TooManyReads) s w0 w1 old new h k = absurd h
-end-reads-made r (Err NoMemory) s w0 w1 old new h k = absurd h
+end-reads-made r (Err other) s w0 w1 old new h k = absurd h
 
 -- the same of a line that ended the script
 pub line-reads-failed : (result : Result Unit ScriptFault) (n : ℕ) → EndsAtLine result → reads_failed n result ≡ n
-line-reads-failed (Ok x) n h = refl
-line-reads-failed (Err (Line number)) n h = refl
-line-reads-failed (Err Write) n h = refl
 line-reads-failed (Err Read) n h = absurd h
 line-reads-failed (Err TooManyReads) n h = absurd h
 line-reads-failed (Err NoMemory) n h = absurd h
+line-reads-failed result n h = refl
 
 pub line-reads-made : (result : Result Unit ScriptFault) (old new : ℕ) → EndsAtLine result → new ≤ old + READS → MakesReads result old new
 line-reads-made (Ok x) old new h k = k
 line-reads-made (Err (Line number)) old new h k = k
 line-reads-made (Err Write) old new h k = k
-line-reads-made (Err Read) old new h k = absurd h
-line-reads-made (Err TooManyReads) old new h k = absurd h
-line-reads-made (Err NoMemory) old new h k = absurd h
+line-reads-made (Err other) old new h k = absurd h

@@ -1,19 +1,10 @@
 -- Lines in a row that are shown, and written.
-use Rattle.std.proofs.Common.{◌≡◌, ◌∙◌, ◌+◌, ◌<◌, ◌-◌, ℕ, zero, suc, List, [], ◌∷◌, ◌++◌, Option, length, take, refl, sym, ap, subst, arith}
-use Rattle.std.specs.Option.{option_map, option_and_then}
-use Rattle.std.specs.Prelude.{slice_get, Result, Ok, Err, OnErr}
-use Rattle.std.specs.Io.KnownBytes.{Appends}
-use Rattle.exchange_rules.specs.Sound.{Abstract}
-use Rattle.exchange.specs.Stands.{StandsFor, kept_of}
-use Rattle.exchange.specs.KeptQueues.{kept}
-use Rattle.exchange_rules.specs.Queues.{whole}
+use Rattle.script.proofs.Basics.{◌≡◌, ◌∙◌, ◌+◌, ◌<◌, ◌-◌, ℕ, zero, suc, List, [], ◌∷◌, ◌++◌, Option, length, take, refl, sym, ap, subst, arith, option_map, option_and_then, slice_get, Result, Ok, Err, OnErr, Appends, Abstract, StandsFor, kept_of, kept, whole, AppendsFirst, line_of, most_lines, ended, first_lines, shown_text}
 use Rattle.exchange.specs.declared.view.LinkView.{LinkView}
 use Rattle.exchange.proofs.Showing.{stands-link}
 use Rattle.console.specs.Texts.{link_text}
-use Rattle.script.specs.Streams.{AppendsFirst}
-use Rattle.script.specs.Showing.{line_of, most_lines, ended, first_lines, shown_text}
 use Rattle.script.specs.declared.line.Show.{Show}
-use Rattle.script.specs.declared.line.Show.TheVariants.{Links, Routes, Titles, Notices, Flags}
+use Rattle.script.specs.declared.line.Show.TheVariants.{Links, Routes}
 use Rattle.script.proofs.Appending.{appends-first, appends-nothing}
 
 -- ---- of what is kept, and of the whole
@@ -22,9 +13,7 @@ line-stands : (what : Show) (k : ℕ) (a : Abstract) → StandsFor (kept_of a) a
 line-stands Links k a s =
     ap (λ (v : Option LinkView). option_and_then (λ row. option_map (λ w. link_text row.name w) v) (slice_get a.settings.links k)) (stands-link k (kept_of a) a s)
 line-stands (Routes points) k a s = refl
-line-stands (Titles points) k a s = refl
-line-stands (Notices points) k a s = refl
-line-stands Flags k a s = refl
+line-stands what k a s = refl
 
 lines-alike : (f g : ℕ → Option (List ℕ)) (n : ℕ) → ((k : ℕ) → f k ≡ g k) → first_lines f n ≡ first_lines g n
 lines-alike f g zero e = refl
@@ -33,10 +22,7 @@ lines-alike f g (suc n) e =
 
 most-stands : (what : Show) (a : Abstract) → most_lines what (kept_of a) ≡ most_lines what a
 most-stands Links a = refl
-most-stands (Routes points) a = refl
-most-stands (Titles points) a = refl
-most-stands (Notices points) a = refl
-most-stands Flags a = refl
+most-stands what a = refl
 
 pub shown-stands : (what : Show) (a : Abstract) → StandsFor (kept_of a) a → shown_text kept what (kept_of a) ≡ shown_text whole what a
 shown-stands what a s =

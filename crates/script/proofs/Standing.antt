@@ -1,26 +1,9 @@
 -- A run over what an exchange keeps is the run over the abstract state that it stands for.
-use Rattle.std.proofs.Common.{◌≡◌, ℕ, zero, suc, ◌+◌, List, [], ◌∷◌, Option, None, Some, Result, Ok, Err, refl, sym, ◌∙◌, ap, subst, inl, inr, ◌++◌, Bool, true, false, nat_lt, length}
-use Rattle.std.specs.Option.{option_to_list}
-use Rattle.std.specs.Prelude.{if◌then◌else◌}
-use Rattle.std.specs.Io.KnownBytes.{Appends}
+use Rattle.script.proofs.Basics.{◌≡◌, ℕ, zero, suc, ◌+◌, List, [], ◌∷◌, Option, None, Some, Result, Ok, Err, refl, sym, ◌∙◌, ap, subst, inl, inr, ◌++◌, Bool, true, false, nat_lt, length, option_to_list, if◌then◌else◌, Appends, WholeQueues, whole, KeptQueues, kept, Abstract, Kept, StandsFor, kept_of, after, Ticked, Asked, Reading, Skips, IsMalformed, Asks, Meaning, Calls, Passes, Shows, Refuses, meaning, answer_text, after_ticks, meaning_printed, meaning_done, printed, done, AppendsFirst, AppendsAtLeast, lines, Reached, silent, stopped, line_run, whole_line, onto, unless_ended, behind, first_of, behind_first, lines_run, run_so_far, whole_run, LeadsTo, Does, RunsBy, Runs, LINE_OCTETS, ScriptFault, Read, Write, Line, TooManyReads, NoMemory}
 use Rattle.exchange.specs.declared.event.Answer.{Answer}
-use Rattle.exchange_rules.specs.Queues.{WholeQueues, whole}
-use Rattle.exchange.specs.KeptQueues.{KeptQueues, kept}
-use Rattle.exchange_rules.specs.Sound.{Abstract}
-use Rattle.exchange.specs.Stands.{Kept, StandsFor, kept_of}
 use Rattle.exchange.proofs.Calls.{stands-answer, stands-call}
 use Rattle.exchange.proofs.Standing.{stands-after}
-use Rattle.exchange_rules.specs.Exchange.{after}
-use Rattle.exchange_rules.specs.Happening.{Ticked}
-use Rattle.script.specs.Asking.{Asked, Reading, Skips, IsMalformed, Asks}
-use Rattle.script.specs.Doing.{Meaning, Calls, Passes, Shows, Refuses, meaning, answer_text, after_ticks, meaning_printed, meaning_done, printed, done}
 use Rattle.script.proofs.Shown.{shown-stands}
-use Rattle.script.specs.Streams.{AppendsFirst, AppendsAtLeast}
-use Rattle.script.specs.Lines.{lines}
-use Rattle.script.specs.Runs.{Reached, silent, stopped, line_run, whole_line, onto, unless_ended, behind, first_of, behind_first, lines_run, run_so_far, whole_run, LeadsTo, Does, RunsBy, Runs}
-use Rattle.script.specs.declared.fault.TheConstants.{LINE_OCTETS}
-use Rattle.script.specs.declared.fault.ScriptFault.{ScriptFault}
-use Rattle.script.specs.declared.fault.ScriptFault.TheVariants.{Read, Write, Line, TooManyReads, NoMemory}
 
 -- ---- one line
 

@@ -1,15 +1,5 @@
 -- Octets that were taken, and those behind them.
-use Rattle.std.proofs.Common.{◌≡◌, ℕ, Bool, ◌+◌, ◌≤◌, ◌<◌, get_or, drop, drop-cons, add-one, suc, List, [], ◌∷◌, ◌++◌, Option, Result, Ok, Err, length, refl, sym, ◌∙◌, ap, arith, append_assoc, length-append, subst}
-use Rattle.std.proofs.lemmas.List.{drop_all}
-use Rattle.std.specs.Io.KnownBytes.{Appends}
-use Rattle.exchange.specs.Stands.{Kept}
-use Rattle.exchange.specs.KeptQueues.{KeptQueues}
-use Rattle.script.specs.Streams.{AppendsAtLeast}
-use Rattle.script.specs.Runs.{Reached, onto}
-use Rattle.script.specs.Steps.{LineSoFar, rest_run, HasTaken}
-use Rattle.script.specs.declared.fault.TheConstants.{LINE_OCTETS}
-use Rattle.script.specs.declared.fault.ScriptFault.{ScriptFault}
-use Rattle.script.specs.declared.fault.ScriptFault.TheVariants.{Read, Write, Line, TooManyReads, NoMemory}
+use Rattle.script.proofs.Basics.{◌≡◌, ℕ, Bool, ◌+◌, ◌≤◌, ◌<◌, get_or, drop, drop-cons, add-one, suc, List, [], ◌∷◌, ◌++◌, Option, Result, Ok, Err, length, refl, sym, ◌∙◌, ap, arith, append_assoc, length-append, subst, drop_all, Appends, Kept, KeptQueues, AppendsAtLeast, Reached, onto, LineSoFar, rest_run, HasTaken, LINE_OCTETS, ScriptFault, Read, Write, Line, TooManyReads, NoMemory}
 use Rattle.script.proofs.Appending.{appends-appends, appends-least, appends-nothing}
 use Rattle.script.proofs.OneOctet.{line-first}
 

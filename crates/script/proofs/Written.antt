@@ -1,7 +1,5 @@
 -- Known octets that grow by one piece after another.
-use Rattle.std.proofs.Common.{ℕ, ◌+◌, List, Option, None, Some, take, drop, append_assoc}
-use Rattle.std.specs.Io.KnownBytes.{Appends}
-use Rattle.std.proofs.Math.Seq.{take-add}
+use Rattle.script.proofs.Basics.{ℕ, ◌+◌, List, Option, None, Some, take, drop, append_assoc, Appends, take-add}
 
 -- what grew by the first n and then by the next m grew by the first n + m
 pub written_more : (a b c : Option (List ℕ)) (xs : List ℕ) (n m : ℕ) → Appends a b (take n xs) → Appends b c (take m (drop n xs))

@@ -8,7 +8,7 @@ use Rattle.signalling_types.specs.declared.limits.TheConstants.Limits.{SIF_OCTET
 use Rattle.signalling_types.specs.declared.cause.Cause.{Cause}
 use Rattle.signalling_types.specs.declared.cause.Cause.TheVariants.{NoSuchName, TooLong}
 use Rattle.signalling_types.specs.declared.outcome.Outcome.{Outcome}
-use Rattle.signalling_types.specs.declared.outcome.Outcome.TheVariants.{Queued, Held, Local, Handled, Ignored, Refused}
+use Rattle.signalling_types.specs.declared.outcome.Outcome.TheVariants.{Queued, Handled, Refused}
 use Rattle.exchange.specs.Calls.{ordered}
 use Rattle.exchange.specs.declared.event.Answer.{Answer}
 use Rattle.exchange.specs.declared.event.Answer.TheVariants.{Stepped, Taken, Wanted}
@@ -67,11 +67,7 @@ meaning c lacks_memory (AskShow what) = Shows what
 -- the name of the link that an outcome names, if any
 abbrev pub named_link : Configuration → Outcome → List ℕ
 named_link c (Queued link) = name_in c link
-named_link c Held = []
-named_link c Local = []
-named_link c Handled = []
-named_link c Ignored = []
-named_link c (Refused cause) = []
+named_link c outcome = []
 
 -- the line of an outcome
 abbrev pub report : Configuration → Outcome → List ℕ

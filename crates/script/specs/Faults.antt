@@ -16,39 +16,25 @@ fault_number NoMemory = 5
 -- how many reads failed, with the one that ended the script, if one did
 abbrev pub reads_failed : {A : Type 0} → ℕ → Result A ScriptFault → ℕ
 reads_failed n (Err Read) = counted n
-reads_failed n (Ok x) = n
-reads_failed n (Err Write) = n
-reads_failed n (Err (Line line)) = n
-reads_failed n (Err TooManyReads) = n
-reads_failed n (Err NoMemory) = n
+reads_failed n result = n
 
 -- how many writes failed, with the one that ended the script, if one did
 abbrev pub writes_failed : {A : Type 0} → ℕ → Result A ScriptFault → ℕ
 writes_failed n (Err Write) = counted n
-writes_failed n (Ok x) = n
-writes_failed n (Err Read) = n
-writes_failed n (Err (Line line)) = n
-writes_failed n (Err TooManyReads) = n
-writes_failed n (Err NoMemory) = n
+writes_failed n result = n
 
 -- a script that a line ended, by its fault or by a write that failed, if it ended
 abbrev pub EndsAtLine : {A : Type 0} → Result A ScriptFault → Type 0
 EndsAtLine (Ok x) = Unit {0}
 EndsAtLine (Err (Line line)) = Unit {0}
 EndsAtLine (Err Write) = Unit {0}
-EndsAtLine (Err Read) = ⊥
-EndsAtLine (Err TooManyReads) = ⊥
-EndsAtLine (Err NoMemory) = ⊥
+EndsAtLine (Err other) = ⊥
 
 -- no more than 4,194,304 reads (READS) were made, and all of them where the script's end wasn't found (a count of 64
 -- bits stays at its greatest value)
 abbrev pub MakesReads : {A : Type 0} → Result A ScriptFault → ℕ → ℕ → Type 0
 MakesReads (Err TooManyReads) old new = (new ≤ old + READS) × (min (old + READS) (2 ^ 64 - 1) ≤ new)
-MakesReads (Ok x) old new = new ≤ old + READS
-MakesReads (Err Read) old new = new ≤ old + READS
-MakesReads (Err Write) old new = new ≤ old + READS
-MakesReads (Err (Line line)) old new = new ≤ old + READS
-MakesReads (Err NoMemory) old new = new ≤ old + READS
+MakesReads result old new = new ≤ old + READS
 
 -- the calls of the streams in a run that ended so
 pub record Counts (result : Result Unit ScriptFault) (input input_new : Input) (output output_new : Output)

@@ -98,9 +98,7 @@ Does r (Ok x) after written written_new = (r.fault ≡ None) × (r.state ≡ aft
 Does r (Err (Line number)) after written written_new =
     (r.fault ≡ Some number) × (r.state ≡ after) × Appends written written_new r.text
 Does r (Err Write) after written written_new = (r.state ≡ after) × AppendsFirst written written_new r.text
-Does r (Err Read) after written written_new = ⊥
-Does r (Err TooManyReads) after written written_new = ⊥
-Does r (Err NoMemory) after written written_new = ⊥
+Does r (Err other) after written written_new = ⊥
 
 -- at least so many octets were read, and the whole lines of all of them were done
 abbrev pub RunsSoFar : {Q : Type 0} → QueueKind Q → (refused : List Bool) → (least : ℕ) → (before after : State Q)

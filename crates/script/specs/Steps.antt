@@ -12,7 +12,7 @@ use Rattle.script.specs.declared.run.Grown.{Grown}
 use Rattle.script.specs.declared.run.Grown.TheVariants.{Open, TooLong, Whole}
 use Rattle.script.specs.declared.fault.TheConstants.{LINE_OCTETS}
 use Rattle.script.specs.declared.fault.ScriptFault.{ScriptFault}
-use Rattle.script.specs.declared.fault.ScriptFault.TheVariants.{Read, Write, Line, TooManyReads, NoMemory}
+use Rattle.script.specs.declared.fault.ScriptFault.TheVariants.{Write, Line}
 
 -- the octets of the open line so far, and its number
 pub record LineSoFar : Type 0 where
@@ -71,9 +71,7 @@ HasTaken octets (Ok x) line next s after written written_new = GoesOn octets lin
 HasTaken octets (Err (Line number)) line next s after written written_new =
     StopsAt number octets line s after written written_new
 HasTaken octets (Err Write) line next s after written written_new = BreaksOff octets line s after written written_new
-HasTaken octets (Err Read) line next s after written written_new = ⊥
-HasTaken octets (Err TooManyReads) line next s after written written_new = ⊥
-HasTaken octets (Err NoMemory) line next s after written written_new = ⊥
+HasTaken octets (Err other) line next s after written written_new = ⊥
 
 -- a whole line was done, whether memory was refused for it or not
 abbrev pub DoesLine : (number : ℕ) → Reading → (s : Kept) → Result Unit ScriptFault → (after : Kept)

@@ -1,4 +1,4 @@
-use Rattle.std.proofs.Common.{arith}
+use Rattle.script.proofs.Basics.{arith}
 use Rattle.script.proofs.Octets.{octets_tested}
 use Rattle.script.proofs.hex_octets.is_octets.Goals as goal
 

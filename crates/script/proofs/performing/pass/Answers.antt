@@ -1,5 +1,5 @@
 -- One tick passes, and one fewer is left.
-use Rattle.std.proofs.Common.{◌∙◌}
+use Rattle.script.proofs.Basics.{◌∙◌}
 use Rattle.script.proofs.Passing.{one_tick_fewer}
 use Rattle.script.proofs.performing.pass.Goals as goal
 

@@ -1,7 +1,5 @@
 -- The ticks that passed and those that are left are all of them.
-use Rattle.std.proofs.Common.{◌≡◌, ◌-◌}
-use Rattle.exchange.specs.KeptQueues.{kept}
-use Rattle.script.specs.Doing.{after_ticks}
+use Rattle.script.proofs.Basics.{◌≡◌, ◌-◌, kept, after_ticks}
 use Rattle.script.proofs.performing.pass.Given as goal
 
 abbrev pub invariant-loop : goal.invariant-loop

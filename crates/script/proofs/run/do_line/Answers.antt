@@ -1,12 +1,6 @@
 -- What was printed tells whether memory was refused for the line.
-use Rattle.std.proofs.Common.{◌≡◌, ◌∙◌, ap, Err}
-use Rattle.std.proofs.lemmas.Result.{err_from_is_err_and}
-use Rattle.exchange.specs.KeptQueues.{kept}
-use Rattle.point_format.specs.declared.point.PointFormat.TheVariants.{Plain}
-use Rattle.script.specs.Asking.{asked_line, parsed_line}
+use Rattle.script.proofs.Basics.{◌≡◌, ◌∙◌, ap, Err, err_from_is_err_and, kept, Plain, asked_line, parsed_line, ScriptFault, Write}
 use Rattle.script.specs.Replies.{reply_text, lacks_memory}
-use Rattle.script.specs.declared.fault.ScriptFault.{ScriptFault}
-use Rattle.script.specs.declared.fault.ScriptFault.TheVariants.{Write}
 use Rattle.script.proofs.LineDone.{asked-done, asked-broken}
 use Rattle.script.proofs.run.do_line.Goals as goal
 

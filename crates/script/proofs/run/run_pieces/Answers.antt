@@ -1,9 +1,6 @@
-use Rattle.std.proofs.Common.{◌≡◌, ◌<◌, ◌≤◌, ◌+◌, ◌∙◌, ap, sym, [], Err, arith, take, refl, length}
+use Rattle.script.proofs.Basics.{◌≡◌, ◌<◌, ◌≤◌, ◌+◌, ◌∙◌, ap, sym, [], Err, arith, take, refl, length, err_from_is_err_and, ScriptFault, Read}
 use Rattle.std.proofs.lemmas.Grind.{common_steps}
-use Rattle.std.proofs.lemmas.Result.{err_from_is_err_and}
 use Rattle.script.proofs.Running.{no-progress, more-progress, at-end, at-fault, at-failed-read, at-last-read, end-reads-failed, end-reads-made}
-use Rattle.script.specs.declared.fault.ScriptFault.{ScriptFault}
-use Rattle.script.specs.declared.fault.ScriptFault.TheVariants.{Read}
 use Rattle.script.proofs.run.run_pieces.Goals as goal
 
 pub loop-init : goal.loop-init

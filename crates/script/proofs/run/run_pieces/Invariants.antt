@@ -1,5 +1,4 @@
-use Rattle.std.proofs.Common.{◌≡◌, ◌+◌, ◌*◌, ◌-◌, ◌^◌, ◌≤◌, min, length}
-use Rattle.script.specs.declared.fault.TheConstants.{LINE_OCTETS}
+use Rattle.script.proofs.Basics.{◌≡◌, ◌+◌, ◌*◌, ◌-◌, ◌^◌, ◌≤◌, min, length, LINE_OCTETS}
 use Rattle.script.proofs.Running.{Progress}
 use Rattle.script.proofs.run.run_pieces.Given as goal
 

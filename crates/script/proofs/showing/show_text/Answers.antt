@@ -1,7 +1,5 @@
 -- A line was written in part, behind those before it.
-use Rattle.std.proofs.Common.{arith}
-use Rattle.exchange.specs.KeptQueues.{kept}
-use Rattle.script.specs.Showing.{line_of, most_lines}
+use Rattle.script.proofs.Basics.{arith, kept, line_of, most_lines}
 use Rattle.script.proofs.Shown.{lines-broken, on-error}
 use Rattle.script.proofs.showing.show_text.Goals as goal
 

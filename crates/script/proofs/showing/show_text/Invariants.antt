@@ -1,8 +1,5 @@
 -- The lines so far were written.
-use Rattle.std.proofs.Common.{◌≡◌}
-use Rattle.std.specs.Io.KnownBytes.{Appends}
-use Rattle.exchange.specs.KeptQueues.{kept}
-use Rattle.script.specs.Showing.{line_of, first_lines}
+use Rattle.script.proofs.Basics.{◌≡◌, Appends, kept, line_of, first_lines}
 use Rattle.script.proofs.showing.show_text.Given as goal
 
 abbrev pub invariant-loop-k : goal.invariant-loop-k

@@ -1,5 +1,4 @@
-use Rattle.std.proofs.Common.{arith, length-drop}
-use Rattle.std.proofs.lemmas.List.{take_rest}
+use Rattle.script.proofs.Basics.{arith, length-drop, take_rest}
 use Rattle.script.proofs.Written.{written_more}
 use Rattle.script.proofs.sink.write_whole.Goals as goal
 

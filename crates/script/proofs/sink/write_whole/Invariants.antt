@@ -1,5 +1,4 @@
-use Rattle.std.proofs.Common.{length, ◌-◌, ◌≤◌, take}
-use Rattle.std.specs.Io.KnownBytes.{Appends}
+use Rattle.script.proofs.Basics.{length, ◌-◌, ◌≤◌, take, Appends}
 use Rattle.script.proofs.sink.write_whole.Given as goal
 
 abbrev pub invariant-loop-start : goal.invariant-loop-start

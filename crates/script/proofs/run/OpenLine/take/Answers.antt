@@ -1,11 +1,5 @@
-use Rattle.std.proofs.Common.{◌≡◌, ◌∙◌, ap, subst, Err, Ok}
-use Rattle.std.proofs.lemmas.Result.{err_from_is_err_and}
-use Rattle.point_format.specs.declared.point.PointFormat.TheVariants.{Plain}
-use Rattle.script.specs.Asking.{parsed_line}
-use Rattle.script.specs.Runs.{Does, stopped}
-use Rattle.script.specs.Steps.{LineSoFar, DoesLine}
+use Rattle.script.proofs.Basics.{◌≡◌, ◌∙◌, ap, subst, Err, Ok, err_from_is_err_and, Plain, parsed_line, Does, stopped, LineSoFar, DoesLine, ScriptFault}
 use Rattle.script.proofs.OneOctet.{grown-kept, grown-too_long, grown-done, grown-broken}
-use Rattle.script.specs.declared.fault.ScriptFault.{ScriptFault}
 use Rattle.script.proofs.run.OpenLine.take.Goals as goal
 
 pub returns-in-Open-clause-run : goal.returns-in-Open-clause-run

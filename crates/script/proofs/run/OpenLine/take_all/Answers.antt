@@ -1,7 +1,5 @@
-use Rattle.std.proofs.Common.{◌≡◌, Ok, Err, arith, ap, ◌∙◌}
-use Rattle.std.proofs.lemmas.Result.{err_from_is_err_and}
+use Rattle.script.proofs.Basics.{◌≡◌, Ok, Err, arith, ap, ◌∙◌, err_from_is_err_and, ScriptFault}
 use Rattle.script.proofs.Taken.{taken-at, broken-at, end-at}
-use Rattle.script.specs.declared.fault.ScriptFault.{ScriptFault}
 use Rattle.script.proofs.run.OpenLine.take_all.Goals as goal
 
 pub loop-octet-preserved : goal.loop-octet-preserved

@@ -1,8 +1,4 @@
-use Rattle.std.proofs.Common.{◌≡◌, ◌+◌, ◌≤◌, Option, List, Result, ℕ, drop, length}
-use Rattle.script.specs.declared.fault.TheConstants.{LINE_OCTETS}
-use Rattle.exchange.specs.Stands.{Kept}
-use Rattle.script.specs.Steps.{LineSoFar, HasTaken}
-use Rattle.script.specs.declared.fault.ScriptFault.{ScriptFault}
+use Rattle.script.proofs.Basics.{◌≡◌, ◌+◌, ◌≤◌, Option, List, Result, ℕ, drop, length, LINE_OCTETS, Kept, LineSoFar, HasTaken, ScriptFault}
 use Rattle.script.proofs.run.OpenLine.take_all.Given as goal
 
 abbrev pub invariant-loop-octet : goal.invariant-loop-octet
