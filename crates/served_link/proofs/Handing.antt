@@ -1,20 +1,6 @@
 -- Texts that are handed in, a few and then some more.
-use Rattle.std.proofs.Common.{◌≡◌, ℕ, ◌<◌, ◌≤◌, ◌-◌, ◌∙◌, Bool, false, List, [], ◌∷◌, ◌++◌, length, take, drop, if◌then◌else◌, Err, refl, sym, ap, subst, arith, append_assoc, append-nil}
-use Rattle.std.proofs.lemmas.List.{length-append, length-take, length-drop, take_all, drop_at, take-append-drop}
-use Rattle.std.proofs.lemmas.List.Elements.{All-nil, All-push, All-append}
-use Rattle.std.proofs.lemmas.List.Folds.{concat-append}
-use Rattle.std.proofs.lemmas.Bool.Decides.{nat_tests}
-use Rattle.std.specs.List.{concat}
-use Rattle.signalling_types.specs.declared.limits.TheConstants.Limits.{FRAME_OCTETS}
-use Rattle.m2pa_codec.specs.Streams.{IsText, next_in, is_broken, room_for, taken_of, Stops as NoText}
-use Rattle.m2pa_codec.specs.declared.framer.Next.TheVariants.{Wait, Broken as BreaksOff}
-use Rattle.m2pa_codec.proofs.StreamTexts.{length_field-append}
-use Rattle.exchange_rules.specs.State.{QueueKind, State}
-use Rattle.exchange_rules.specs.Happening.{FrameCame}
-use Rattle.exchange_rules.specs.Exchange.{outcome_of, after}
-use Rattle.served_link.specs.Watching.{Sight, CameIn, SeesEach}
-use Rattle.served_link.specs.Reading.{after_texts, sights_of, Reads, Feeds, HandsIn}
-use Rattle.served_link.specs.declared.association.Broken.{Broken}
+use Rattle.served_link.proofs.Basics.{◌≡◌, ℕ, ◌<◌, ◌≤◌, ◌-◌, ◌∙◌, Bool, false, List, [], ◌∷◌, ◌++◌, length, take, drop, if◌then◌else◌, Err, refl, sym, ap, subst, arith, append_assoc, append-nil, length-append, length-take, length-drop, take_all, drop_at, take-append-drop, All-nil, All-push, All-append, concat-append, nat_tests, concat, FRAME_OCTETS, IsText, next_in, is_broken, room_for, taken_of, Stops as NoText, Wait, length_field-append, QueueKind, State, FrameCame, outcome_of, after, Sight, CameIn, SeesEach, after_texts, sights_of, Reads, Feeds, HandsIn, Broken}
+use Rattle.m2pa_codec.specs.declared.framer.Next.TheVariants.{Broken as BreaksOff}
 
 -- ---- some texts, and then others
 

@@ -1,11 +1,5 @@
 -- What goes out is the frames that were taken, in order.
-use Rattle.std.proofs.Common.{◌≡◌, ℕ, ◌∙◌, true, List, [], ◌∷◌, ◌++◌, take, drop, refl, sym, ap, arith, append_assoc}
-use Rattle.std.proofs.lemmas.List.{take-append-drop}
-use Rattle.std.proofs.lemmas.List.Folds.{concat-append}
-use Rattle.std.proofs.lemmas.Bool.Decides.{nat_tests}
-use Rattle.std.specs.List.{concat}
-use Rattle.m2pa_codec.specs.Frames.{FrameValue, EmptyFrame, MessageFrame, StatusFrame, spelled}
-use Rattle.served_link.specs.Connections.{is_pending}
+use Rattle.served_link.proofs.Basics.{◌≡◌, ℕ, ◌∙◌, true, List, [], ◌∷◌, ◌++◌, take, drop, refl, sym, ap, arith, append_assoc, take-append-drop, concat-append, nat_tests, concat, FrameValue, EmptyFrame, MessageFrame, StatusFrame, spelled, is_pending}
 use Rattle.served_link.specs.Sending.{Call, Fill, Write, Sent, after_call, after_calls, nothing_sent, sent_by, GoesOutInOrder}
 
 pub pending-spelled : (frame : FrameValue) → is_pending (spelled frame) ≡ true

@@ -1,3 +1,4 @@
+pub mod Basics
 pub mod Handing
 pub mod InOrder
 pub mod OneRead

@@ -1,17 +1,7 @@
 -- Reads one after another are one read of all the octets.
-use Rattle.std.proofs.Common.{◌≡◌, ℕ, ◌∙◌, List, [], ◌∷◌, ◌++◌, length, Ok, Err, refl, sym, ap, subst, append_assoc, append-nil}
-use Rattle.std.proofs.lemmas.List.Elements.{All-nil, All-head, All-append}
-use Rattle.std.proofs.lemmas.List.Folds.{concat-append}
-use Rattle.std.specs.Prelude.{Result, IsErr}
-use Rattle.std.specs.List.{concat}
-use Rattle.m2pa_codec.specs.declared.framer.Next.TheVariants.{Whole, Wait, Broken as BreaksOff}
-use Rattle.m2pa_codec.specs.Streams.{IsStream, IsText, next_in, Stops as NoText}
-use Rattle.m2pa_codec.proofs.StreamTexts.{one_stream, text-next_in}
-use Rattle.exchange_rules.specs.State.{QueueKind, State}
-use Rattle.served_link.specs.Watching.{Sight, SeesEach}
-use Rattle.served_link.specs.Reading.{after_texts, sights_of, Leaves, Reads}
+use Rattle.served_link.proofs.Basics.{◌≡◌, ℕ, ◌∙◌, List, [], ◌∷◌, ◌++◌, length, Ok, Err, refl, sym, ap, subst, append_assoc, append-nil, All-nil, All-head, All-append, concat-append, Result, IsErr, concat, Whole, Wait, IsStream, IsText, next_in, Stops as NoText, one_stream, text-next_in, QueueKind, State, Sight, SeesEach, after_texts, sights_of, Leaves, Reads, Broken}
+use Rattle.m2pa_codec.specs.declared.framer.Next.TheVariants.{Broken as BreaksOff}
 use Rattle.served_link.specs.ManyReads.{unbroken, ReadsEach, reads_are_one, last_reads_are_one, cuts_do_not_matter, broken_stays_broken}
-use Rattle.served_link.specs.declared.association.Broken.{Broken}
 use Rattle.served_link.proofs.Handing.{after_texts-append, sights-append, sees-append, broken-append}
 
 -- more octets behind a stream: its rest and these are a stream again

@@ -1,20 +1,8 @@
 -- What is read and taken is that of the abstract exchange.
-use Rattle.std.proofs.Common.{◌≡◌, ◌∙◌, ℕ, Bool, true, false, List, [], ◌∷◌, ◌++◌, Option, refl, sym, ap, subst, if◌then◌else◌}
-use Rattle.std.specs.Prelude.{Result}
-use Rattle.std.specs.Option.{option_map}
-use Rattle.signalling_types.specs.declared.outcome.Outcome.{Outcome}
-use Rattle.m2pa_codec.specs.Frames.{FrameValue, spelled}
-use Rattle.exchange_rules.specs.Queues.{whole}
-use Rattle.exchange_rules.specs.Happening.{FrameCame}
-use Rattle.exchange_rules.specs.Exchange.{after, outcome_of, taken}
+use Rattle.served_link.proofs.Basics.{◌≡◌, ◌∙◌, ℕ, Bool, true, false, List, [], ◌∷◌, ◌++◌, Option, refl, sym, ap, subst, if◌then◌else◌, Result, option_map, Outcome, FrameValue, spelled, whole, FrameCame, after, outcome_of, taken, kept, Sight, CameIn, SeesEach, text_to_take, has_room, TakesEach, after_last, Fills, after_texts, sights_of, Reads, Broken}
 use Rattle.exchange_rules.specs.Sound.{Abstract}
-use Rattle.exchange.specs.KeptQueues.{kept}
 use Rattle.exchange.specs.Stands.{Kept, StandsFor}
 use Rattle.exchange.proofs.Standing.{stands-after, stands-outcome, stands-frame, stands-taken}
-use Rattle.served_link.specs.Watching.{Sight, CameIn, SeesEach}
-use Rattle.served_link.specs.Connections.{text_to_take, has_room, TakesEach, after_last, Fills}
-use Rattle.served_link.specs.Reading.{after_texts, sights_of, Reads}
-use Rattle.served_link.specs.declared.association.Broken.{Broken}
 
 stands-texts : (link : ℕ) (texts : List (List ℕ)) (k : Kept) (a : Abstract) → StandsFor k a → StandsFor (after_texts kept link texts k) (after_texts whole link texts a)
 stands-texts link [] k a s = s

@@ -1,16 +1,12 @@
 -- Each counter is the sum of what was added to it.
-use Rattle.std.proofs.Common.{◌≡◌, ◌≢◌, ℕ, ◌+◌, ◌-◌, ◌<◌, ◌≤◌, ◌==◌, ◌⊎◌, ◌∙◌, Bool, true, false, inl, inr, List, [], ◌∷◌, length, get_or, replicate, refl, sym, ap, subst, arith}
+use Rattle.served_link.proofs.Basics.{◌≡◌, ◌≢◌, ℕ, ◌+◌, ◌-◌, ◌<◌, ◌≤◌, ◌==◌, ◌⊎◌, ◌∙◌, Bool, true, false, inl, inr, List, [], ◌∷◌, length, get_or, replicate, refl, sym, ap, subst, arith, get_or-set_same, get_or-set_other, eqb_tells, slice_index, sum_by, Outcome}
 use Rattle.std.proofs.Math.ListN.{set, length-set, length-replicate, get_or-replicate}
-use Rattle.std.proofs.lemmas.List.{get_or-set_same, get_or-set_other}
 use Rattle.std.proofs.lemmas.List.Sums.{sum_by-cons}
-use Rattle.std.proofs.lemmas.Bool.Decides.{eqb_tells}
-use Rattle.std.specs.Prelude.{slice_index, sum_by}
 use Rattle.signalling_types.specs.Causes.{cause_number}
 use Rattle.signalling_types.specs.declared.cause.Cause.{Cause}
 use Rattle.signalling_types.specs.declared.cause.Cause.TheVariants.{WrongNetwork}
 use Rattle.signalling_types.specs.declared.notice.FailureReason.{FailureReason}
 use Rattle.signalling_types.specs.declared.notice.FailureReason.TheVariants.{Association}
-use Rattle.signalling_types.specs.declared.outcome.Outcome.{Outcome}
 use Rattle.signalling_types.specs.declared.outcome.Outcome.TheVariants.{Queued, Held, Local, Refused}
 use Rattle.served_link.specs.Counting.{Counted, FrameCame, FrameWent, Failure, Retry, reason_number, saturated, no_counts, one_more_at, counted, counted_at, row_at, value_of}
 use Rattle.served_link.specs.Laws.{one_if, frame_adds, adds, counted_each, counted_all, adds_of}
@@ -116,15 +112,9 @@ one-adds counter Retry row s h e = stays (value_of counter row) s e
 -- ---- of one link
 
 first-value : (counter : Counter) → value_of counter no_counts ≡ saturated 0
-first-value FramesIn = refl
-first-value OctetsIn = refl
-first-value FramesOut = refl
-first-value OctetsOut = refl
-first-value Forwarded = refl
-first-value Delivered = refl
 first-value (RefusedBy cause) = get_or-replicate CAUSES (cause_number cause - 1) 0 0 (omega (arith, (cause-fits cause).0, (cause-fits cause).1))
 first-value (Failed reason) = get_or-replicate REASONS (reason_number reason) 0 0 (reason-fits reason)
-first-value Retries = refl
+first-value counter = refl
 
 each-adds : (counter : Counter) (whats : List Counted) (row : LinkCounters) (s : ℕ) → IsRow row → value_of counter row ≡ saturated s
     → value_of counter (counted_each whats row) ≡ saturated (s + sum_by (adds counter) whats)

@@ -1,13 +1,6 @@
 -- Frames that are taken, a few and then one more.
-use Rattle.std.proofs.Common.{◌≡◌, ℕ, ◌∙◌, Bool, true, false, if◌then◌else◌, List, [], ◌∷◌, ◌++◌, length, take, Option, Some, None, refl, sym, ap, subst, append_assoc, append-nil}
-use Rattle.std.specs.List.{concat}
-use Rattle.std.specs.Option.{option_map}
-use Rattle.m2pa_codec.specs.Frames.{FrameValue, spelled}
+use Rattle.served_link.proofs.Basics.{◌≡◌, ℕ, ◌∙◌, Bool, true, false, if◌then◌else◌, List, [], ◌∷◌, ◌++◌, length, take, Option, Some, None, refl, sym, ap, subst, append_assoc, append-nil, concat, option_map, FrameValue, spelled, QueueKind, State, taken, Sight, WentOut, SeesEach, text_to_take, has_room, TakesEach, sights_of_frames, Takes, after_last}
 use Rattle.exchange.specs.Taking.{Writes}
-use Rattle.exchange_rules.specs.State.{QueueKind, State}
-use Rattle.exchange_rules.specs.Exchange.{taken}
-use Rattle.served_link.specs.Watching.{Sight, WentOut, SeesEach}
-use Rattle.served_link.specs.Connections.{text_to_take, has_room, TakesEach, sights_of_frames, Takes, after_last}
 use Rattle.served_link.proofs.Handing.{sees-append}
 
 -- a frame that was taken lies at the front of the buffer
@@ -68,7 +61,3 @@ last-asked q link pending s room = ap (λ (b : Bool). if b then taken q s link e
 -- no room for one
 pub last-full : {Q : Type 0} (q : QueueKind Q) (link : ℕ) (pending : List ℕ) (s : State Q) → has_room pending ≡ false → s ≡ after_last q link pending s
 last-full q link pending s full = ap (λ (b : Bool). if b then taken q s link else s) (sym full)
-
-pub not-both : (b : Bool) → b ≡ false → b ≡ true → ⊥
-not-both true full room = absurd cc
-not-both false full room = absurd cc

@@ -4,7 +4,7 @@ use Rattle.std.specs.Prelude.{◌≡◌, ℕ, ◌-◌, Bool, true, false, List, 
 use Rattle.std.specs.Prelude.{Option, Some, None, if◌then◌else◌}
 use Rattle.std.specs.Option.{option_map}
 use Rattle.signalling_types.specs.declared.outcome.Outcome.{Outcome}
-use Rattle.signalling_types.specs.declared.outcome.Outcome.TheVariants.{Queued, Held, Local, Handled, Ignored, Refused}
+use Rattle.signalling_types.specs.declared.outcome.Outcome.TheVariants.{Handled}
 use Rattle.m2pa_codec.specs.Frames.{spelled}
 use Rattle.exchange.specs.declared.frame_text.TheConstants.{LONGEST_FRAME}
 use Rattle.exchange_rules.specs.State.{QueueKind, State}
@@ -30,12 +30,8 @@ silent link = record { link = link; is_up = false; held = []; pending = [] }
 
 -- an association that was handed in is up if the node handled it
 abbrev pub is_handled : Outcome → Bool
-is_handled (Queued link) = false
-is_handled Held = false
-is_handled Local = false
 is_handled Handled = true
-is_handled Ignored = false
-is_handled (Refused cause) = false
+is_handled outcome = false
 
 -- it is handed in, unless it is up
 abbrev pub risen : {Q : Type 0} → QueueKind Q → Connection → State Q → Connection

@@ -3,7 +3,7 @@ use Rattle.std.specs.Prelude.{◌≡◌, ℕ, ◌<◌, ◌==◌, Bool, true, fal
 use Rattle.signalling_types.specs.Causes.{cause_number}
 use Rattle.signalling_types.specs.declared.cause.Cause.{Cause}
 use Rattle.signalling_types.specs.declared.outcome.Outcome.{Outcome}
-use Rattle.signalling_types.specs.declared.outcome.Outcome.TheVariants.{Queued, Held, Local, Handled, Ignored, Refused}
+use Rattle.signalling_types.specs.declared.outcome.Outcome.TheVariants.{Queued, Held, Local, Refused}
 use Rattle.served_link.specs.Counting.{Counted, FrameCame, FrameWent, Failure, Retry, reason_number, saturated}
 use Rattle.served_link.specs.Counting.{no_counts, counted, counted_at, row_at, value_of}
 use Rattle.served_link.specs.declared.counter.Counter.{Counter}
@@ -18,28 +18,17 @@ use Rattle.served_link.specs.declared.row.LinkCounters.{LinkCounters}
 abbrev pub is_forwarded : (has_user_message : Bool) → Outcome → Bool
 is_forwarded has_user_message (Queued link) = has_user_message
 is_forwarded has_user_message Held = has_user_message
-is_forwarded has_user_message Local = false
-is_forwarded has_user_message Handled = false
-is_forwarded has_user_message Ignored = false
-is_forwarded has_user_message (Refused cause) = false
+is_forwarded has_user_message outcome = false
 
 -- a message for this node was delivered
 abbrev pub is_delivered : Outcome → Bool
-is_delivered (Queued link) = false
-is_delivered Held = false
 is_delivered Local = true
-is_delivered Handled = false
-is_delivered Ignored = false
-is_delivered (Refused cause) = false
+is_delivered outcome = false
 
 -- it was refused for this cause
 abbrev pub is_refused_by : Cause → Outcome → Bool
-is_refused_by cause (Queued link) = false
-is_refused_by cause Held = false
-is_refused_by cause Local = false
-is_refused_by cause Handled = false
-is_refused_by cause Ignored = false
 is_refused_by cause (Refused other) = cause_number other == cause_number cause
+is_refused_by cause outcome = false
 
 abbrev pub one_if : Bool → ℕ
 one_if true = 1
@@ -49,13 +38,10 @@ one_if false = 0
 abbrev pub frame_adds : Counter → (octets : ℕ) → (has_user_message : Bool) → Outcome → ℕ
 frame_adds FramesIn octets has_user_message outcome = 1
 frame_adds OctetsIn octets has_user_message outcome = octets
-frame_adds FramesOut octets has_user_message outcome = 0
-frame_adds OctetsOut octets has_user_message outcome = 0
 frame_adds Forwarded octets has_user_message outcome = one_if (is_forwarded has_user_message outcome)
 frame_adds Delivered octets has_user_message outcome = one_if (is_delivered outcome)
 frame_adds (RefusedBy cause) octets has_user_message outcome = one_if (is_refused_by cause outcome)
-frame_adds (Failed reason) octets has_user_message outcome = 0
-frame_adds Retries octets has_user_message outcome = 0
+frame_adds counter octets has_user_message outcome = 0
 
 -- what one thing that is counted adds to a counter
 abbrev pub adds : Counter → Counted → ℕ

@@ -1,9 +1,6 @@
 -- A frame was taken behind those before; no further one was.
-use Rattle.std.proofs.Common.{◌∙◌, sym, take}
-use Rattle.exchange.specs.KeptQueues.{kept}
-use Rattle.served_link.specs.Connections.{has_room}
-use Rattle.served_link.specs.Room.{pending_in}
-use Rattle.served_link.proofs.TakenFrames.{text-some, text-none, takes-more, last-asked, last-full, not-both}
+use Rattle.served_link.proofs.Basics.{◌∙◌, sym, take, kept, has_room, pending_in, both_ways}
+use Rattle.served_link.proofs.TakenFrames.{text-some, text-none, takes-more, last-asked, last-full}
 use Rattle.served_link.proofs.filling.fill_all.Goals as goal
 
 pub loop-link-preserved : goal.loop-link-preserved
@@ -26,6 +23,6 @@ returns g c =
     record {
       last = c.loop-link.exchange;
       takes = c.loop-link.invariant;
-      all = λ room. absurd (not-both (has_room (pending_in c.loop-link.outgoing)) full room);
+      all = λ room. absurd (both_ways (has_room (pending_in c.loop-link.outgoing)) full room);
       state = last-full kept c.args.link (pending_in c.loop-link.outgoing) c.loop-link.exchange full;
     }

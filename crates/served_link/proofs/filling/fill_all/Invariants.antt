@@ -1,8 +1,5 @@
 -- Frames were taken so far, one after another.
-use Rattle.std.proofs.Common.{◌-◌, length}
-use Rattle.exchange.specs.KeptQueues.{kept}
-use Rattle.served_link.specs.Connections.{Takes}
-use Rattle.served_link.specs.Room.{pending_in}
+use Rattle.served_link.proofs.Basics.{◌-◌, length, kept, Takes, pending_in}
 use Rattle.served_link.specs.declared.outgoing.TheConstants.{OUTPUT_OCTETS}
 use Rattle.served_link.proofs.filling.fill_all.Given as goal
 

@@ -1,5 +1,4 @@
-use Rattle.exchange.specs.KeptQueues.{kept}
-use Rattle.exchange_rules.specs.Queues.{whole}
+use Rattle.served_link.proofs.Basics.{kept, whole}
 use Rattle.served_link.proofs.OneRead.{reads-one}
 use Rattle.served_link.proofs.laws.reads_are_one.Goals as goal
 

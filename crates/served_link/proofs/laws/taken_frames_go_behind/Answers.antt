@@ -1,5 +1,4 @@
-use Rattle.exchange.specs.KeptQueues.{kept}
-use Rattle.exchange_rules.specs.Queues.{whole}
+use Rattle.served_link.proofs.Basics.{kept, whole}
 use Rattle.served_link.proofs.TakenFrames.{go-behind}
 use Rattle.served_link.proofs.laws.taken_frames_go_behind.Goals as goal
 

@@ -1,4 +1,4 @@
-use Rattle.std.proofs.Common.{refl}
+use Rattle.served_link.proofs.Basics.{refl}
 use Rattle.served_link.proofs.Handing.{feeds}
 use Rattle.served_link.proofs.reading.feed.Goals as goal
 

@@ -1,6 +1,5 @@
 -- A text that was cut off was handed in behind those before.
-use Rattle.std.proofs.Common.{take}
-use Rattle.exchange.specs.KeptQueues.{kept}
+use Rattle.served_link.proofs.Basics.{take, kept}
 use Rattle.served_link.proofs.Handing.{hands-one, hands-more}
 use Rattle.served_link.proofs.reading.hand_in_held.Goals as goal
 

@@ -1,7 +1,5 @@
 -- What was held at first is the texts that were handed in so far, and what is held now.
-use Rattle.std.proofs.Common.{length}
-use Rattle.exchange.specs.KeptQueues.{kept}
-use Rattle.served_link.specs.Reading.{HandsIn}
+use Rattle.served_link.proofs.Basics.{length, kept, HandsIn}
 use Rattle.served_link.proofs.reading.hand_in_held.Given as goal
 
 abbrev pub invariant-loop-count : goal.invariant-loop-count

@@ -1,6 +1,6 @@
 -- Octets were fed and handed in behind those before.
 use Rattle.std.proofs.lemmas.Result.{err_from_is_err_and}
-use Rattle.exchange.specs.KeptQueues.{kept}
+use Rattle.served_link.proofs.Basics.{kept}
 use Rattle.served_link.proofs.Handing.{read-nothing, read-more, read-broken}
 use Rattle.served_link.proofs.reading.read_all.Goals as goal
 

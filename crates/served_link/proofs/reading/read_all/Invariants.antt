@@ -1,9 +1,5 @@
 -- What was read so far was handed in, and more is waited for.
-use Rattle.std.proofs.Common.{◌≡◌, ◌<◌, length}
-use Rattle.signalling_types.specs.declared.limits.TheConstants.Limits.{FRAME_OCTETS}
-use Rattle.m2pa_codec.specs.Streams.{next_in}
-use Rattle.m2pa_codec.specs.declared.framer.Next.TheVariants.{Wait}
-use Rattle.exchange.specs.KeptQueues.{kept}
+use Rattle.served_link.proofs.Basics.{◌≡◌, ◌<◌, length, FRAME_OCTETS, next_in, Wait, kept}
 use Rattle.served_link.proofs.Handing.{HasRead}
 use Rattle.served_link.proofs.reading.read_all.Given as goal
 

@@ -1,7 +1,4 @@
-use Rattle.std.proofs.Common.{subst}
-use Rattle.exchange.specs.KeptQueues.{kept}
-use Rattle.served_link.specs.Connections.{Connection, Fills}
-use Rattle.served_link.specs.Room.{pending_in}
+use Rattle.served_link.proofs.Basics.{subst, kept, Connection, Fills, pending_in}
 use Rattle.served_link.proofs.Standing.{fills-stands}
 use Rattle.served_link.proofs.association.Association.fill.Goals as goal
 

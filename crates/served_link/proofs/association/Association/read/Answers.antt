@@ -1,7 +1,4 @@
-use Rattle.std.proofs.Common.{subst}
-use Rattle.exchange.specs.KeptQueues.{kept}
-use Rattle.served_link.specs.Connections.{Connection}
-use Rattle.served_link.specs.Reading.{Reads}
+use Rattle.served_link.proofs.Basics.{subst, kept, Connection, Reads}
 use Rattle.served_link.proofs.Standing.{reads-stands}
 use Rattle.served_link.proofs.association.Association.read.Goals as goal
 

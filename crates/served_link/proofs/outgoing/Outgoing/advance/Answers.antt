@@ -1,6 +1,4 @@
-use Rattle.std.proofs.Common.{ℕ, arith}
-use Rattle.std.proofs.lemmas.List.{length-take, length-drop}
-use Rattle.m2pa_codec.proofs.Windows.{consumed}
+use Rattle.served_link.proofs.Basics.{ℕ, arith, length-take, length-drop, consumed}
 use Rattle.served_link.proofs.outgoing.Outgoing.advance.Goals as goal
 
 pub returns : goal.returns

@@ -1,5 +1,4 @@
-use Rattle.std.proofs.Common.{◌≤◌, length, arith}
-use Rattle.m2pa_codec.proofs.Windows.{written_behind}
+use Rattle.served_link.proofs.Basics.{◌≤◌, length, arith, written_behind}
 use Rattle.served_link.proofs.outgoing.Outgoing.write_behind.Goals as goal
 
 pub returns : goal.returns
