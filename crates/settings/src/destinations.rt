@@ -43,6 +43,7 @@ fn destination_point(
 }
 
 /// Whether some name stands twice.
+#[tactic(auto, using(std::proofs::lemmas::Grind::common_steps))]
 fn has_name_twice(names: &[String]) -> bool
     ensures { result ≡ has_repeat string_eq names.now }
 {
@@ -62,6 +63,7 @@ fn are_names(names: &[String]) -> bool
 }
 
 /// The sets of these names.
+#[tactic(auto, using(std::proofs::lemmas::Grind::common_steps))]
 fn set_ids(
     sets: &[SetDraft],
     names: &[String],

@@ -63,6 +63,7 @@ pub(crate) fn far_point(value: i64, own: PointCode, key: Key) -> Result<PointCod
 }
 
 /// Whether some number stands twice.
+#[tactic(auto, using(std::proofs::lemmas::Grind::common_steps))]
 fn has_repeat(numbers: &[u8]) -> bool
     ensures { result ≡ has_repeat nat_eq numbers.now }
 {

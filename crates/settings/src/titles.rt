@@ -55,6 +55,7 @@ fn digit(octet: u8) -> Option<u8>
 }
 
 /// The values of digits.
+#[tactic(auto, using(std::proofs::lemmas::Grind::common_steps))]
 fn digit_values(text: &[u8], key: Key) -> Result<Digits, DraftFault>
     requires { length text.now ≤ Limits.TITLE_DIGITS }
     ensures value { IfOk result (λ digits. digits.items ≡ map digit_of text.now) }
@@ -75,6 +76,7 @@ fn digit_values(text: &[u8], key: Key) -> Result<Digits, DraftFault>
 }
 
 /// The digits of a translation row.
+#[tactic(auto, using(std::proofs::lemmas::Grind::common_steps))]
 fn digits(text: &str, key: Key) -> Result<Digits, DraftFault>
     ensures value { IfOk result (λ digits. digits.items ≡ map digit_of text.now) }
     ensures some { IfOk result (λ digits. 1 ≤ length digits.items) }
