@@ -34,7 +34,7 @@ pub(crate) const WINDOW: u16 = 128;
 pub(crate) const ISUP: u8 = 5;
 
 /// Links of a set of two.
-const PAIR: usize = 2;
+pub(crate) const PAIR: usize = 2;
 
 /// How links make link sets.
 #[derive(Clone, Copy)]

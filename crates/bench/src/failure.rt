@@ -1,9 +1,10 @@
 //! The changeover of a link with many messages on it.
 
+use crate::end::first;
 use crate::incoming::Incoming;
 use crate::peer::Peer;
 use mtp3_codec::Management;
-use settings::Sls;
+use settings::{LinkId, Sls};
 use signalling_types::Number24;
 
 /// How far the link's way is followed.
@@ -19,10 +20,12 @@ pub(crate) enum Stage {
 
 /// Messages come by the first link of a set, and stand on the last one; a window of them is sent. Where the stage says
 /// so that link fails then, and its changeover ends. Each link of the set is in service before.
-pub(crate) fn change_over(peer: &mut Peer, stage: Stage, message: Incoming, count: u32) {
-    send_each(peer, message, count);
-    let before = peer.end().taken;
-    peer.take_window();
+pub(crate) fn change_over(peer: &mut Peer, stage: Stage, mut message: Incoming, count: u32) {
+    for _ in 0..count {
+        peer.send(first(), &mut message);
+    }
+    let before = peer.taken(peer.link());
+    peer.take_window(peer.link());
     match stage {
         Stage::Queue => {}
         Stage::Failure => peer.break_off(),
@@ -31,13 +34,8 @@ pub(crate) fn change_over(peer: &mut Peer, stage: Stage, message: Incoming, coun
             complete(peer, before);
         }
     }
-    peer.take_from_others();
-}
-
-/// So many messages come by the first link.
-fn send_each(peer: &mut Peer, mut message: Incoming, count: u32) {
-    for _ in 0..count {
-        peer.send_by_first(&mut message);
+    for number in 0..peer.link().index() {
+        peer.take_frame(LinkId::new(number as u8));
     }
 }
 
@@ -46,7 +44,7 @@ fn complete(peer: &mut Peer, before: Number24) {
     let half = peer.window() as u32 / 2;
     if let Some(number) = Number24::new((before.value() + half) % Number24::MODULUS) {
         let mut answer = answer_about(peer.selection(), number);
-        peer.send_by_first(&mut answer);
+        peer.send(first(), &mut answer);
     }
 }
 

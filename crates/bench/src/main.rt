@@ -17,7 +17,6 @@ mod making;
 mod outage;
 mod peer;
 mod route_changes;
-mod service;
 mod titles;
 mod total;
 mod traffic;
@@ -54,10 +53,17 @@ fn total_of(alloc: Global, arguments: &Arguments) -> Option<Total>
     requires links { arguments.now.links ≤ Limits.LINKS }
 {
     let shape = arguments.shape();
-    if let Kind::Make(making) = arguments.kind {
-        return make(alloc, making, &shape, arguments.count);
+    match arguments.kind {
+        Kind::Make(making) => make(alloc, making, &shape, arguments.count),
+        _ => carried(Peer::of_exchange_with(alloc, &shape)?, arguments),
     }
-    let mut peer = Peer::of_exchange_with(alloc, &shape)?;
+}
+
+/// Carries the messages.
+fn carried(mut peer: Peer, arguments: &Arguments) -> Option<Total>
+    requires octets { arguments.now.octets ≤ Limits.SIF_OCTETS }
+    requires destinations { arguments.now.destinations ≤ Limits.DESTINATIONS }
+{
     carry(&mut peer, arguments);
     Some(peer.total())
 }

@@ -36,17 +36,10 @@ fn make_one(alloc: Global, making: Making, shape: &Shape) -> Option<()>
     requires links { shape.now.links ≤ Limits.LINKS }
 {
     match making {
-        Making::Draft => {
-            draft_with(alloc, shape).ok()?;
-        }
-        Making::Check => {
-            checked(alloc, shape)?;
-        }
-        Making::Boot => {
-            booted(alloc, shape)?;
-        }
+        Making::Draft => draft_with(alloc, shape).ok().map(|_| ()),
+        Making::Check => checked(alloc, shape).map(|_| ()),
+        Making::Boot => booted(alloc, shape).map(|_| ()),
     }
-    Some(())
 }
 
 /// The checked settings of this shape. None where memory ran out.

@@ -1,14 +1,15 @@
-//! The peer at the other end of the link, which sends and takes frames and counts what it took.
+//! The peer at the other ends of the links, which sends and takes frames and counts what it took.
 
-ghost use Rattle.std.specs.Prelude.{◌≤◌, length};
+ghost use Rattle.std.specs.Prelude.{◌≤◌};
 
 use crate::draft::Shape;
-use crate::end::End;
+use crate::end::{End, place};
 use crate::incoming::Incoming;
 use crate::making::booted;
 use crate::total::Total;
 use exchange::{BUFFER_OCTETS, Event, Exchange};
 use m2pa_codec::{Frame, LinkStatus, encode};
+use mtp3_codec::Management;
 use settings::{Limits, LinkId, MsuRef, Sls};
 use signalling_types::Number24;
 use signalling_types::number::next;
@@ -36,16 +37,18 @@ const CODE_AT: usize = 23;
 /// Octets of its frame.
 const DECLARATION_OCTETS: u8 = 24;
 
-/// The exchange, and the peer at the other end of its link. Its state is hidden from proofs: nothing is promised of it.
+/// The exchange, and the peer at the other ends of its links. Its state is hidden from proofs: nothing is promised of
+/// it.
 #[derive(Drop)]
 pub(crate) struct Peer {
     exchange: Exchange,
+    /// The last link of the first set, which carries the messages.
     link: LinkId,
-    /// The peer's end of that link.
-    end: End,
-    /// The peer's end of the first link, where that is another one.
-    first: End,
-    /// Its frame without a message.
+    /// How many links there are.
+    links: u8,
+    /// The peer's ends of the links, by their numbers.
+    ends: [End; Limits::LINKS],
+    /// A frame without a message.
     empty: Incoming,
     buffer: [u8; BUFFER_OCTETS],
     total: Total,
@@ -59,47 +62,65 @@ impl Model for Peer {
 
 impl Peer {
     /// The peer of an exchange with settings of this shape. The last link of the first set is in service and carries
-    /// all messages, so that the others of its set are looked at in vain. All that is owed was told and confirmed.
-    /// None where memory ran out.
+    /// all messages, so that the others of its set are looked at in vain. All that is owed was told and confirmed,
+    /// which doesn't count. None where memory ran out.
     pub(crate) fn of_exchange_with(alloc: Global, shape: &Shape) -> Option<Peer>
         requires destinations { shape.now.destinations ≤ Limits.DESTINATIONS }
         requires links { shape.now.links ≤ Limits.LINKS }
     {
-        let link = shape.sets.last_of_first(shape.links);
         let exchange = booted(alloc, shape)?;
+        let link = shape.sets.last_of_first(shape.links);
         let mut peer = Peer {
             exchange,
             link,
-            end: End::first(),
-            first: End::first(),
+            links: shape.links as u8,
+            ends: [End::first(); Limits::LINKS],
             empty: Incoming::empty(),
             buffer: [0; BUFFER_OCTETS],
             total: Total::NOTHING,
         };
         peer.open(link);
-        peer.settle();
+        peer.settle(link);
+        peer.total = Total::NOTHING;
         Some(peer)
     }
 
-    /// Takes and confirms what the adjacent point is told of destinations as the link is in service. It doesn't count.
-    fn settle(&mut self) {
-        let total = self.total;
-        let mut end = self.end;
-        end.settle(self, self.link);
-        self.end = end;
-        self.total = total;
+    /// The link that carries the messages.
+    pub(crate) fn link(&self) -> LinkId {
+        self.link
     }
 
-    /// Brings a link into service, before its first message.
+    /// The selection whose flows try the link that carries the messages first, where it is the last one of its set.
+    /// That is its signalling link code, too.
+    pub(crate) fn selection(&self) -> Sls {
+        Sls::new((self.link.index() % Limits::SELECTIONS) as u8).unwrap()
+    }
+
+    /// How many messages may be unconfirmed.
+    pub(crate) fn window(&self) -> usize
+        ensures { result ≤ Limits.WINDOW }
+    {
+        self.exchange.settings().window()
+    }
+
+    /// The number of the last message that was taken of a link.
+    pub(crate) fn taken(&self, link: LinkId) -> Number24 {
+        self.ends[place(link)].taken
+    }
+
+    /// Brings a link into service, before its first message. What it tells on its way doesn't count.
     pub(crate) fn open(&mut self, link: LinkId) {
+        self.ends[place(link)] = End::first();
         self.exchange.step(&Event::AssociationUp(link));
         self.tell(link, LinkStatus::ProvingNormal);
         self.tell(link, LinkStatus::Ready);
         let ticks = self.exchange.settings().timers().l4;
         for _ in 0..ticks {
-            self.exchange.step(&Event::Tick);
+            self.tick();
         }
-        self.take_statuses(link);
+        for _ in 0..STATUSES {
+            self.exchange.take(link, &mut self.buffer);
+        }
     }
 
     /// Sends a link status, before the first message.
@@ -115,47 +136,27 @@ impl Peer {
             .step(&Event::Frame(link, &self.buffer[..count]));
     }
 
-    /// Takes what a link tells on its way into service; it doesn't count.
-    fn take_statuses(&mut self, link: LinkId) {
-        for _ in 0..STATUSES {
-            self.exchange.take(link, &mut self.buffer);
-        }
-    }
-
-    /// The peer's end of the link that carries the messages.
-    pub(crate) fn end(&self) -> End {
-        self.end
-    }
-
-    /// The peer goes on from these ends, of the link that carries the messages and of the first link.
-    pub(crate) fn go_on_from(&mut self, end: End, first: End) {
-        self.end = end;
-        self.first = first;
-    }
-
-    /// The link that carries the messages.
-    pub(crate) fn link(&self) -> LinkId {
-        self.link
-    }
-
-    /// How many messages may be unconfirmed.
-    pub(crate) fn window(&self) -> usize
-        ensures { result ≤ Limits.WINDOW }
-    {
-        self.exchange.settings().window()
-    }
-
-    /// Brings the links of the set before the one that carries the messages into service.
-    pub(crate) fn open_others(&mut self) {
+    /// Brings the links of the first set but the one that carries the messages into service.
+    pub(crate) fn open_set(&mut self) {
         for number in 0..self.link.index() {
             self.open(LinkId::new(number as u8));
         }
     }
 
-    /// The selection whose flows try the link that carries the messages first, where it is the last one of its set.
-    /// That is its signalling link code, too.
-    pub(crate) fn selection(&self) -> Sls {
-        Sls::new((self.link.index() % Limits::SELECTIONS) as u8).unwrap()
+    /// Brings the links from this number on into service, but for the one that carries the messages. The declarations
+    /// of each are answered, and each point takes and confirms what it is told, which doesn't count.
+    pub(crate) fn open_from(&mut self, from: u8) {
+        let total = self.total;
+        for number in from..self.links {
+            let link = LinkId::new(number);
+            if link != self.link {
+                self.open(link);
+                self.answer_each(self.links, link);
+                self.confirm_each();
+                self.settle_each();
+            }
+        }
+        self.total = total;
     }
 
     /// The association of the link that carries the messages goes down.
@@ -163,101 +164,14 @@ impl Peer {
         self.exchange.step(&Event::AssociationDown(self.link));
     }
 
-    /// Sends a message on the first link.
-    pub(crate) fn send_by_first(&mut self, message: &mut Incoming) {
-        let octets = message.numbered(self.first.taken, self.first.next);
-        self.first.next = next(self.first.next);
-        self.exchange.step(&Event::Frame(LinkId::new(0), octets));
-    }
-
-    /// Sends a message on a link with these numbers.
-    pub(crate) fn send_by(
-        &mut self,
-        link: LinkId,
-        message: &mut Incoming,
-        bsn: Number24,
-        fsn: Number24,
-    ) {
-        let octets = message.numbered(bsn, fsn);
-        self.exchange.step(&Event::Frame(link, octets));
-    }
-
-    /// Takes the next frame of a link, counts it in, and says whether there was one.
-    pub(crate) fn take_by(&mut self, link: LinkId) -> bool {
-        let frames = self.total.frames;
-        self.take_from(link);
-        self.total.frames != frames
-    }
-
-    /// Whether the frame that was taken last has a message, where that is one of management.
-    pub(crate) fn took_message(&self) -> bool {
-        self.buffer[LENGTH_AT] != EMPTY_OCTETS
-    }
-
-    /// The changeback code of the frame that was taken last, where that is a declaration.
-    pub(crate) fn declared(&self) -> Option<u8> {
-        let fits = self.buffer[LENGTH_AT] == DECLARATION_OCTETS;
-        let declares = fits && self.buffer[HEADING_AT] == DECLARATION;
-        declares.then_some(self.buffer[CODE_AT])
-    }
-
-    /// Takes a frame from each link of the set before the one that carries the messages, and counts it in.
-    pub(crate) fn take_from_others(&mut self) {
-        for number in 0..self.link.index() {
-            self.take_from(LinkId::new(number as u8));
-        }
-    }
-
-    /// Sends a message in a frame that confirms all that was taken.
-    pub(crate) fn send(&mut self, message: &mut Incoming) {
-        let octets = message.numbered(self.end.taken, self.end.next);
-        self.end.next = next(self.end.next);
-        self.exchange.step(&Event::Frame(self.link, octets));
-    }
-
-    /// Confirms all that was taken by an empty frame.
-    pub(crate) fn confirm(&mut self) {
-        let octets = self
-            .empty
-            .numbered(self.end.taken, self.end.next.previous());
-        self.exchange.step(&Event::Frame(self.link, octets));
-    }
-
-    /// Sends an empty frame on a link with these numbers.
-    pub(crate) fn confirm_by(&mut self, link: LinkId, bsn: Number24, fsn: Number24) {
-        let octets = self.empty.numbered(bsn, fsn);
-        self.exchange.step(&Event::Frame(link, octets));
-    }
-
     /// A user part of the exchange hands over a message.
     pub(crate) fn submit(&mut self, message: MsuRef<'_>) {
         self.exchange.step(&Event::Submit(message));
     }
 
-    /// Takes the next message.
-    pub(crate) fn take(&mut self) {
-        self.end.taken = next(self.end.taken);
-        self.take_frame();
-    }
-
-    /// Takes a window of messages.
-    pub(crate) fn take_window(&mut self) {
-        for _ in 0..self.window() {
-            self.take();
-        }
-    }
-
-    /// Takes the next frame, where there is one, and counts it in.
-    pub(crate) fn take_frame(&mut self) {
-        self.take_from(self.link);
-    }
-
-    /// Takes the next frame of a link, where there is one, and counts it in.
-    #[inline(always)]
-    fn take_from(&mut self, link: LinkId) {
-        if let Some(count) = self.exchange.take(link, &mut self.buffer) {
-            self.total = self.total.with(&self.buffer[..count]);
-        }
+    /// One tick of the clock passes.
+    pub(crate) fn tick(&mut self) {
+        self.exchange.step(&Event::Tick);
     }
 
     /// Time passes until T1 ends, after which a link that failed as the last one of its set may open again. Each other
@@ -269,14 +183,109 @@ impl Peer {
         }
     }
 
-    /// One tick of the clock passes.
-    pub(crate) fn tick(&mut self) {
-        self.exchange.step(&Event::Tick);
+    /// Sends a message on a link, in a frame that confirms all that was taken of it.
+    pub(crate) fn send(&mut self, link: LinkId, message: &mut Incoming) {
+        let end = self.ends[place(link)];
+        self.ends[place(link)].next = next(end.next);
+        let octets = message.numbered(end.taken, end.next);
+        self.exchange.step(&Event::Frame(link, octets));
     }
 
-    /// The peer took so much; what it took besides doesn't count.
-    pub(crate) fn set_total(&mut self, total: Total) {
-        self.total = total;
+    /// Confirms all that was taken of a link by an empty frame.
+    pub(crate) fn confirm(&mut self, link: LinkId) {
+        let end = self.ends[place(link)];
+        let octets = self.empty.numbered(end.taken, end.next.previous());
+        self.exchange.step(&Event::Frame(link, octets));
+    }
+
+    /// Confirms all that was taken of each link.
+    fn confirm_each(&mut self) {
+        for number in 0..self.links {
+            self.confirm(LinkId::new(number));
+        }
+    }
+
+    /// Takes the next frame of a link, counts it in, and says whether there was one.
+    #[inline(always)]
+    pub(crate) fn take_frame(&mut self, link: LinkId) -> bool {
+        let Some(count) = self.exchange.take(link, &mut self.buffer) else {
+            return false;
+        };
+        self.total = self.total.with(&self.buffer[..count]);
+        true
+    }
+
+    /// Takes the next message of a link, and says whether there was one.
+    pub(crate) fn take(&mut self, link: LinkId) -> bool {
+        let is_there = self.take_frame(link);
+        if is_there {
+            self.count_message(link);
+        }
+        is_there
+    }
+
+    /// What was taken last of a link is its next message.
+    fn count_message(&mut self, link: LinkId) {
+        let at = place(link);
+        self.ends[at].taken = next(self.ends[at].taken);
+    }
+
+    /// Takes all messages of a link that may go out before one of them is confirmed, and says whether there was one.
+    pub(crate) fn take_window(&mut self, link: LinkId) -> bool {
+        let before = self.taken(link);
+        for _ in 0..self.window() {
+            if !self.take(link) {
+                break;
+            }
+        }
+        self.taken(link) != before
+    }
+
+    /// Takes and confirms the messages of a link until none is left: what its adjacent point is told of destinations.
+    pub(crate) fn settle(&mut self, link: LinkId) {
+        for _ in 0..Limits::DESTINATIONS {
+            if !self.take_window(link) {
+                break;
+            }
+            self.confirm(link);
+        }
+    }
+
+    /// The messages of the links are taken and confirmed, by link: what is owed goes out in that order.
+    pub(crate) fn settle_each(&mut self) {
+        for number in 0..self.links {
+            self.settle(LinkId::new(number));
+        }
+    }
+
+    /// Sends an answer on a link, and takes what acknowledges it: the next message, or else a frame without one.
+    pub(crate) fn answer(&mut self, link: LinkId, message: &mut Incoming) {
+        self.send(link, message);
+        if self.take_frame(link) && self.buffer[LENGTH_AT] != EMPTY_OCTETS {
+            self.count_message(link);
+        }
+    }
+
+    /// Answers the declarations of the return of a link on the first links, so many. One at most stands on each other
+    /// link of its set.
+    pub(crate) fn answer_each(&mut self, links: u8, returned: LinkId) {
+        for number in 0..links {
+            let link = LinkId::new(number);
+            if link != returned && self.take(link) {
+                self.answer_declaration(link);
+            }
+        }
+    }
+
+    /// Answers the message that was taken last, which came by this link, if it is a declaration (Q.704 §15.5).
+    fn answer_declaration(&mut self, link: LinkId) {
+        let fits = self.buffer[LENGTH_AT] == DECLARATION_OCTETS;
+        if fits && self.buffer[HEADING_AT] == DECLARATION {
+            let code = self.buffer[CODE_AT];
+            let answer = Management::ChangebackAcknowledgement(self.selection(), code);
+            let mut answer = Incoming::with_management(answer);
+            self.answer(link, &mut answer);
+        }
     }
 
     /// What the peer took.

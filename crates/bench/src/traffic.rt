@@ -2,14 +2,13 @@
 
 ghost use Rattle.std.specs.Prelude.{◌^◌, ◌<◌, ◌≤◌, length};
 
-use crate::arguments::{Arguments, Kind, LABEL_OCTETS};
-use crate::draft::{ADJACENT, INTERNATIONAL, ISUP, OWN};
+use crate::arguments::{Arguments, Kind, LABEL_OCTETS, Size};
+use crate::draft::{ADJACENT, INTERNATIONAL, ISUP, OWN, PAIR};
 use crate::failure::change_over;
 use crate::incoming::Incoming;
-use crate::outage::come_and_go;
+use crate::outage::{come_and_go, join_set};
 use crate::peer::Peer;
 use crate::route_changes::{change_status, enter, prohibit_each, test_routes, tick};
-use crate::service::{Ends, bring_in};
 use crate::unitdata::{title_from, unitdata};
 use mtp3_codec::Label;
 use settings::{Limits, MsuRef, PointCode, Sls};
@@ -27,9 +26,8 @@ const FILLING: u8 = 0xaa;
 pub(crate) fn carry(peer: &mut Peer, arguments: &Arguments)
     requires octets { arguments.now.octets ≤ Limits.SIF_OCTETS }
     requires destinations { arguments.now.destinations ≤ Limits.DESTINATIONS }
-    requires links { arguments.now.links ≤ Limits.LINKS }
 {
-    let mut ends = bring_in(peer, arguments);
+    bring_in(peer, arguments);
     let count = arguments.count;
     match arguments.kind {
         Kind::Acknowledgement => acknowledge(peer, count),
@@ -38,20 +36,37 @@ pub(crate) fn carry(peer: &mut Peer, arguments: &Arguments)
         Kind::Tick => tick(peer, count),
         Kind::Status => {
             let about = PointCode::new(last_point(arguments)).unwrap();
-            change_status(peer, &mut ends, about, arguments.links, count);
+            change_status(peer, about, count);
         }
-        Kind::Entry => enter(peer, &mut ends, arguments.links, count),
+        Kind::Entry => enter(peer, count),
         Kind::Expiry => {
-            prohibit_each(peer, &mut ends, arguments.destinations, arguments.links);
-            test_routes(peer, &mut ends, arguments.links, count);
+            prohibit_each(peer, arguments.destinations);
+            test_routes(peer, count);
         }
         Kind::Make(_) => {}
-        _ => carry_isup(peer, &mut ends, arguments),
+        _ => carry_isup(peer, arguments),
+    }
+}
+
+/// Brings into service what is to be in service beside the link that carries the messages. Where the settings are
+/// larger than usual these are all links, but for the other one of the first set where that set is to fail and return;
+/// and nothing is owed then, and no timer runs.
+fn bring_in(peer: &mut Peer, arguments: &Arguments) {
+    match (arguments.size, arguments.kind) {
+        (Size::Usual, Kind::Tick | Kind::Status | Kind::Entry | Kind::Expiry) => peer.open_from(1),
+        (Size::Usual, Kind::Return) => join_set(peer),
+        (Size::Usual, Kind::Standing(_)) => peer.open_set(),
+        (Size::Usual, _) => {}
+        (_, kind) => {
+            let is_entry = matches!(kind, Kind::Entry);
+            peer.open_from(if is_entry { PAIR as u8 } else { 0 });
+            peer.outlast_timers();
+        }
     }
 }
 
 /// Carries messages of the ISDN user part.
-fn carry_isup(peer: &mut Peer, ends: &mut Ends, arguments: &Arguments)
+fn carry_isup(peer: &mut Peer, arguments: &Arguments)
     requires octets { arguments.now.octets ≤ Limits.SIF_OCTETS }
     requires destinations { arguments.now.destinations ≤ Limits.DESTINATIONS }
 {
@@ -69,7 +84,7 @@ fn carry_isup(peer: &mut Peer, ends: &mut Ends, arguments: &Arguments)
         Kind::Submit => submit(peer, sif, count),
         Kind::Local => local(peer, message, count),
         Kind::Standing(stage) => change_over(peer, stage, message, count),
-        Kind::Return => come_and_go(peer, ends, message, count),
+        Kind::Return => come_and_go(peer, message, count),
         _ => {}
     }
 }
@@ -103,23 +118,18 @@ fn unitdata_of(peer: &Peer, arguments: &Arguments, first: u8) -> Incoming
 /// Messages that come, and go on or back, each confirmed by the next one.
 fn forward(peer: &mut Peer, mut message: Incoming, count: u32) {
     for _ in 0..count {
-        peer.send(&mut message);
-        peer.take();
+        peer.send(peer.link(), &mut message);
+        peer.take(peer.link());
     }
 }
 
 /// The same, a whole window at a time.
 fn burst(peer: &mut Peer, mut message: Incoming, count: u32) {
     for _ in 0..count as usize / peer.window().max(1) {
-        send_window(peer, &mut message);
-        peer.take_window();
-    }
-}
-
-/// A window of messages comes.
-fn send_window(peer: &mut Peer, message: &mut Incoming) {
-    for _ in 0..peer.window() {
-        peer.send(message);
+        for _ in 0..peer.window() {
+            peer.send(peer.link(), &mut message);
+        }
+        peer.take_window(peer.link());
     }
 }
 
@@ -129,9 +139,9 @@ fn submit(peer: &mut Peer, sif: &[u8], count: u32)
 {
     for number in 0..count {
         peer.submit(MsuRef { sio: SIO, sif });
-        peer.take();
+        peer.take(peer.link());
         if number % CONFIRMED_AT_ONCE == 0 {
-            peer.confirm();
+            peer.confirm(peer.link());
         }
     }
 }
@@ -139,15 +149,15 @@ fn submit(peer: &mut Peer, sif: &[u8], count: u32)
 /// Messages that come for a user part, each acknowledged.
 fn local(peer: &mut Peer, mut message: Incoming, count: u32) {
     for _ in 0..count {
-        peer.send(&mut message);
-        peer.take_frame();
+        peer.send(peer.link(), &mut message);
+        peer.take_frame(peer.link());
     }
 }
 
 /// Frames without a message.
 fn acknowledge(peer: &mut Peer, count: u32) {
     for _ in 0..count {
-        peer.confirm();
+        peer.confirm(peer.link());
     }
 }
 
