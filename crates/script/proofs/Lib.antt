@@ -1,13 +1,9 @@
 pub mod Basics
 pub mod Asking
 pub mod Octets
-pub mod Parting
 pub mod Appending
 pub mod OneOctet
 pub mod Taken
 pub mod Running
-pub mod LineDone
 pub mod Shown
 pub mod Standing
-pub mod Passing
-pub mod Written

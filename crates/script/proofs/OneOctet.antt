@@ -1,8 +1,10 @@
 -- One octet that was taken: it goes into the open line, ends it, or makes it too long.
-use Rattle.script.proofs.Basics.{◌≡◌, ℕ, ◌+◌, ◌≤◌, ◌<◌, Bool, true, false, List, [], ◌∷◌, ◌++◌, Option, None, Some, Result, Ok, Err, length, nat_lt, refl, sym, ◌∙◌, ap, arith, append_assoc, append-nil, length-append, subst, if◌then◌else◌, nat_tests, Kept, KeptQueues, kept, Plain, Reading, IsMalformed, parsed_line, lines, AppendsFirst, AppendsAtLeast, Reached, silent, stopped, line_run, whole_line, open_run, onto, unless_ended, behind, first_of, behind_first, lines_run, Does, LineSoFar, Grows, rest_run, HasTaken, DoesLine, LINE_OCTETS, ScriptFault, Read, Write, Line, TooManyReads, NoMemory, begun, parted-some, lt-ltb}
+use Rattle.script.proofs.Basics.{◌≡◌, ℕ, ◌+◌, ◌≤◌, ◌<◌, Bool, true, false, List, [], ◌∷◌, ◌++◌, Option, None, Some, Result, Ok, Err, length, nat_lt, refl, sym, ◌∙◌, ap, arith, append_assoc, append-nil, length-append, subst, if◌then◌else◌, nat_tests, Kept, KeptQueues, kept, Plain, Reading, IsMalformed, parsed_line, lines, AppendsFirst, AppendsAtLeast, Reached, silent, stopped, line_run, whole_line, open_run, onto, unless_ended, behind, first_of, behind_first, lines_run, Does, LineSoFar, Grows, rest_run, HasTaken, DoesLine, LINE_OCTETS, ScriptFault, Read, Write, Line, TooManyReads, NoMemory, begun, parted-some, lt-ltb, parted-unmarked}
 use Rattle.script.specs.declared.run.Grown.TheVariants.{Open, TooLong, Whole}
-use Rattle.script.proofs.Parting.{lines-nonfeed}
 use Rattle.script.proofs.Appending.{least-nothing, appends-nothing}
+
+pub lines-nonfeed : (front : List ℕ) (c : ℕ) (rest : List ℕ) → (c ≡ 10 → ⊥) → begun front (lines (c ∷ rest)) ≡ begun (front ++ (c ∷ [])) (lines rest)
+lines-nonfeed front c rest h = parted-unmarked 10 front c rest h
 
 -- ---- lines in a row
 

@@ -1,8 +1,21 @@
 -- What was printed tells whether memory was refused for the line.
-use Rattle.script.proofs.Basics.{◌≡◌, ◌∙◌, ap, Err, err_from_is_err_and, kept, Plain, asked_line, parsed_line, ScriptFault, Write}
+use Rattle.script.proofs.Basics.{◌≡◌, ◌∙◌, ap, Err, err_from_is_err_and, kept, Plain, asked_line, parsed_line, ScriptFault, Write, ℕ, Bool, List, Option, Ok, sym, subst, refl, Appends, Kept, Asked, Reading, Asks, printed, done, AppendsFirst, DoesLine}
 use Rattle.script.specs.Replies.{reply_text, lacks_memory}
-use Rattle.script.proofs.LineDone.{asked-done, asked-broken}
 use Rattle.script.proofs.run.do_line.Goals as goal
+
+asked-done : (number : ℕ) (lacking : Bool) (asked : Asked) (reading : Reading) (s after : Kept) (text : List ℕ) (w0 w1 : Option (List ℕ))
+    → Asks asked ≡ reading → text ≡ printed kept lacking asked s → after ≡ done kept lacking asked s → Appends w0 w1 text
+    → DoesLine number reading s (Ok tt) after w0 w1
+asked-done number lacking asked reading s after text w0 w1 e p d w =
+    subst (λ (r : Reading). DoesLine number r s (Ok tt) after w0 w1) e
+    (lacking, (refl, sym d, subst (λ (t : List ℕ). Appends w0 w1 t) p w))
+
+asked-broken : (number : ℕ) (lacking : Bool) (asked : Asked) (reading : Reading) (s after : Kept) (text : List ℕ) (w0 w1 : Option (List ℕ))
+    → Asks asked ≡ reading → text ≡ printed kept lacking asked s → after ≡ done kept lacking asked s → AppendsFirst w0 w1 text
+    → DoesLine number reading s (Err Write) after w0 w1
+asked-broken number lacking asked reading s after text w0 w1 e p d w =
+    subst (λ (r : Reading). DoesLine number r s (Err Write) after w0 w1) e
+    (lacking, (sym d, subst (λ (t : List ℕ). AppendsFirst w0 w1 t) p w))
 
 pub returns-in_err-print-in-Ok-Some-clause-run : goal.returns-in_err-print-in-Ok-Some-clause-run
 returns-in_err-print-in-Ok-Some-clause-run g c =
