@@ -4,7 +4,6 @@ use Rattle.std.proofs.lemmas.List.{length-append, drop_all}
 use Rattle.std.proofs.lemmas.Bool.Decides.{nat_tests}
 use Rattle.std.specs.Io.KnownBytes.{Consumes}
 use Rattle.m2pa_codec.specs.Streams.{IsText, next_in}
-use Rattle.m2pa_codec.specs.Reading.{length_field}
 use Rattle.m2pa_codec.specs.declared.framer.Next.TheVariants.{Whole, Wait}
 use Rattle.m2pa_codec.proofs.StreamTexts.{next_in-whole, length_field-append}
 use Rattle.script.proofs.Running.{consumes-consumes}

@@ -5,7 +5,7 @@ use Rattle.std.specs.Io.KnownBytes.{Consumes}
 use Rattle.script.specs.Faults.{EndsAtLine}
 use Rattle.script.specs.declared.fault.TheConstants.{READS}
 use Rattle.script.specs.declared.fault.ScriptFault.{ScriptFault}
-use Rattle.script.specs.declared.fault.ScriptFault.TheVariants.{Read, Write, Line, TooManyReads, NoMemory}
+use Rattle.script.specs.declared.fault.ScriptFault.TheVariants.{Read, TooManyReads, NoMemory}
 use Rattle.script.proofs.Running.{consumes-consumes, consumes-nothing}
 use Rattle.lab.specs.Script.{ReadsAtLeast, ReadsOn, EndsInScript}
 
@@ -25,12 +25,10 @@ reads-all least a b all r = record { octets = r.octets; many = let some = r.many
 
 -- a line that ended the script
 pub line-reads-on : (result : Result Unit ScriptFault) (a b : Option (List ℕ)) → EndsAtLine result → ReadsOn result a b
-line-reads-on (Ok x) a b h = tt
-line-reads-on (Err (Line line)) a b h = tt
-line-reads-on (Err Write) a b h = tt
 line-reads-on (Err Read) a b h = absurd h
 line-reads-on (Err TooManyReads) a b h = absurd h
 line-reads-on (Err NoMemory) a b h = absurd h
+line-reads-on result a b h = tt
 
 pub when-ok : {A E P : Type 0} (result : Result A E) → P → OnOk result P
 when-ok (Ok x) h = h
@@ -39,9 +37,7 @@ when-ok (Err e) h = tt
 -- ---- a script that was begun
 
 pub line-in-script : (result : Result Unit ScriptFault) → EndsAtLine result → EndsInScript result
-line-in-script (Ok x) h = tt
-line-in-script (Err (Line line)) h = tt
-line-in-script (Err Write) h = tt
 line-in-script (Err Read) h = absurd h
 line-in-script (Err TooManyReads) h = absurd h
 line-in-script (Err NoMemory) h = absurd h
+line-in-script result h = tt

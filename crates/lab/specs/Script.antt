@@ -5,7 +5,7 @@ use Rattle.exchange.specs.Stands.{Kept}
 use Rattle.script.specs.Streams.{Input, Output}
 use Rattle.script.specs.declared.fault.TheConstants.{READS}
 use Rattle.script.specs.declared.fault.ScriptFault.{ScriptFault}
-use Rattle.script.specs.declared.fault.ScriptFault.TheVariants.{Read, Write, Line, TooManyReads, NoMemory}
+use Rattle.script.specs.declared.fault.ScriptFault.TheVariants.{TooManyReads, NoMemory}
 
 -- octets were read, at least so many
 pub record ReadsAtLeast (least : ℕ) (left left_new : Option (List ℕ)) : Type 0 where
@@ -16,20 +16,12 @@ pub record ReadsAtLeast (least : ℕ) (left left_new : Option (List ℕ)) : Type
 -- where the script's end wasn't found, each read gave an octet at least
 abbrev pub ReadsOn : Result Unit ScriptFault → (left left_new : Option (List ℕ)) → Type 0
 ReadsOn (Err TooManyReads) left left_new = ReadsAtLeast READS left left_new
-ReadsOn (Ok x) left left_new = Unit {0}
-ReadsOn (Err Read) left left_new = Unit {0}
-ReadsOn (Err Write) left left_new = Unit {0}
-ReadsOn (Err (Line line)) left left_new = Unit {0}
-ReadsOn (Err NoMemory) left left_new = Unit {0}
+ReadsOn result left left_new = Unit {0}
 
 -- a script that was begun: it didn't end for want of memory
 abbrev pub EndsInScript : Result Unit ScriptFault → Type 0
 EndsInScript (Err NoMemory) = ⊥
-EndsInScript (Ok x) = Unit {0}
-EndsInScript (Err Read) = Unit {0}
-EndsInScript (Err Write) = Unit {0}
-EndsInScript (Err (Line line)) = Unit {0}
-EndsInScript (Err TooManyReads) = Unit {0}
+EndsInScript result = Unit {0}
 
 -- where memory was refused, neither node has changed, and nothing was read or written
 abbrev pub LeavesAll : Result Unit ScriptFault → (near near_new far far_new : Kept) → (input input_new : Input)
@@ -37,7 +29,4 @@ abbrev pub LeavesAll : Result Unit ScriptFault → (near near_new far far_new : 
 LeavesAll (Err NoMemory) near near_new far far_new input input_new output output_new =
     (near_new ≡ near) × (far_new ≡ far) × (input_new ≡ input) × (output_new ≡ output)
 LeavesAll (Ok x) near near_new far far_new input input_new output output_new = Unit {0}
-LeavesAll (Err Read) near near_new far far_new input input_new output output_new = Unit {0}
-LeavesAll (Err Write) near near_new far far_new input input_new output output_new = Unit {0}
-LeavesAll (Err (Line line)) near near_new far far_new input input_new output output_new = Unit {0}
-LeavesAll (Err TooManyReads) near near_new far far_new input input_new output output_new = Unit {0}
+LeavesAll (Err other) near near_new far far_new input input_new output output_new = Unit {0}
