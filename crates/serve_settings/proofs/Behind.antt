@@ -1,13 +1,8 @@
 -- Reading the links one after the other.
-use Rattle.std.proofs.Common.{◌≡◌, ℕ, ◌+◌, ◌<◌, ◌≤◌, List, [], ◌∷◌, ◌++◌, length, get_or, drop, map, Option, Result, Ok, Err, sym}
+use Rattle.serve_settings.proofs.Basics.{◌≡◌, ℕ, ◌+◌, ◌<◌, ◌≤◌, List, [], ◌∷◌, ◌++◌, length, get_or, drop, map, Option, Result, Ok, Err, sym, SocketAddr, view, Spelling, endpoint_in, endpoints_behind, ServeFault}
 use Rattle.std.proofs.lemmas.List.{drop_more, drop_all}
-use Rattle.std.specs.declared.net.socket_addr.SocketAddr.{SocketAddr}
-use Rattle.toml.specs.View.{view}
 use Rattle.toml.specs.declared.value.Value.{Value}
-use Rattle.serve_settings.specs.Addresses.{Spelling}
-use Rattle.serve_settings.specs.Endpoints.{endpoint_in, endpoints_behind}
 use Rattle.serve_settings.specs.declared.server.Endpoint.{Endpoint}
-use Rattle.serve_settings.specs.declared.fault.ServeFault.{ServeFault}
 
 -- One step: the links before number i are done, and `all` is what reading each gives.
 module _ (s : Spelling) (console : Option SocketAddr) (vs : List Value) (i : ℕ) (done : List Endpoint) (all : Result (List Endpoint) ServeFault)

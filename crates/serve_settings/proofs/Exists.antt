@@ -1,16 +1,12 @@
 -- There is a function that tells what address a text spells.
-use Rattle.std.proofs.Common.{◌≡◌, ◌∙◌, ℕ, List, [], ◌∷◌, length, Option, Some, None, refl, sym, ap, subst, append-nil, ne_eqb, arith}
-use Rattle.std.proofs.lemmas.Option.{none-some, same_Some}
+use Rattle.serve_settings.proofs.Basics.{◌≡◌, ◌∙◌, ℕ, List, [], ◌∷◌, length, Option, Some, None, refl, sym, ap, subst, append-nil, ne_eqb, arith, none-some, same_Some, SocketAddr, IsSocketV4Text, IsSocketV6Text, IsSocketText, Spelling}
 use Rattle.std.specs.declared.net.socket_addr.SocketAddrV4.{SocketAddrV4}
 use Rattle.std.specs.declared.net.socket_addr.SocketAddrV6.{SocketAddrV6}
-use Rattle.std.specs.declared.net.socket_addr.SocketAddr.{SocketAddr}
 use Rattle.std.specs.declared.net.socket_addr.SocketAddr.TheVariants.{V4, V6}
-use Rattle.std.specs.Net.Grammar.{IsSocketV4Text, IsSocketV6Text, IsSocketText}
 use Rattle.std.specs.Net.Reader.{Read, read_socket_v4, read_socket_v6, whole_value}
 use Rattle.std.proofs.NetLemmas.Options.{same_parts}
 use Rattle.std.proofs.NetLemmas.Sockets.{read_socket_v4_sound, read_socket_v4_complete, read_socket_v6_sound, read_socket_v6_complete}
 use Rattle.std.proofs.NetLemmas.Theorems.{IsSocketText_unique}
-use Rattle.serve_settings.specs.Addresses.{Spelling}
 
 -- what stands in a text that spells an address of either version
 abbrev Parts4 : Type 0

@@ -1,14 +1,11 @@
 -- A sentence about a fault of the node's settings is about the place of that fault.
-use Rattle.std.proofs.Common.{◌≡◌, ℕ, List, Option, None, Some, refl, subst, ap, ◌∙◌, sym}
-use Rattle.std.proofs.lemmas.Option.{none-some, same_Some}
+use Rattle.serve_settings.proofs.Basics.{◌≡◌, ℕ, List, Option, None, Some, refl, subst, ap, ◌∙◌, sym, none-some, same_Some, Result, Ok, Err, SettingsFault, ServeFault}
 use Rattle.std.specs.Global.{Global}
-use Rattle.std.specs.Prelude.{Result, Ok, Err, IfOk, String, string_bytes}
+use Rattle.std.specs.Prelude.{IfOk, String, string_bytes}
 use Rattle.std.specs.Option.{option_map}
 use Rattle.settings_rows.specs.declared.key.Key.{Key}
-use Rattle.settings_file.specs.declared.fault.SettingsFault.{SettingsFault}
 use Rattle.settings_file.specs.Sentences as settings
 use Rattle.settings_file.specs.Sentences.{KeyPlace, IsAboutPlace, IsAbout}
-use Rattle.serve_settings.specs.declared.fault.ServeFault.{ServeFault}
 use Rattle.serve_settings.specs.declared.fault.ServeFault.TheVariants as kind
 use Rattle.serve_settings.specs.Sentences.{Explains, place_of}
 

@@ -1,3 +1,4 @@
+pub mod Basics
 pub mod Behind
 pub mod Parsed
 pub mod Spelled

@@ -1,15 +1,12 @@
 -- What is read of a text, by the document that it is.
-use Rattle.std.proofs.Common.{◌≡◌, ◌∙◌, ◌⊎◌, inl, inr, ℕ, List, Some, None, refl, ap}
+use Rattle.serve_settings.proofs.Basics.{◌≡◌, ◌∙◌, ◌⊎◌, inl, inr, ℕ, List, Some, None, refl, ap, Spelling, ServeFault, SettingsFault}
 use Rattle.toml.specs.Data.{Members}
 use Rattle.toml.specs.Parse.{parse_document}
-use Rattle.serve_settings.specs.Addresses.{Spelling}
 use Rattle.serve_settings.specs.Faults.{fault_of}
 use Rattle.serve_settings.specs.Reading.{reading, document, IsFirstFault}
-use Rattle.serve_settings.specs.declared.fault.ServeFault.{ServeFault}
 use Rattle.serve_settings.specs.declared.fault.ServeFault.TheVariants.{NoMemory}
 use Rattle.settings_file.specs.Faults.{no_memory}
 use Rattle.settings_file.specs.Reading as settings
-use Rattle.settings_file.specs.declared.fault.SettingsFault.{SettingsFault}
 use Rattle.settings_file.specs.declared.fault.SettingsFault.TheVariants.{Text}
 use Rattle.settings_file.proofs.Readings.{none-parsed}
 

@@ -1,8 +1,5 @@
 -- What a function tells that tells what address a text spells.
-use Rattle.std.proofs.Common.{◌≡◌, ℕ, List, Option, Some, None, refl}
-use Rattle.std.specs.declared.net.socket_addr.SocketAddr.{SocketAddr}
-use Rattle.std.specs.Net.Grammar.{IsSocketText}
-use Rattle.serve_settings.specs.Addresses.{Spelling}
+use Rattle.serve_settings.proofs.Basics.{◌≡◌, ℕ, List, Option, Some, None, refl, SocketAddr, IsSocketText, Spelling}
 
 none-told : (s : Spelling) (text : List ℕ) (told : Option SocketAddr) → s.address text ≡ told → ((a : SocketAddr) → ¬ (IsSocketText text a)) → told ≡ None
 none-told s text None is none = refl

@@ -1,4 +1,4 @@
-use Rattle.std.proofs.Common.{refl}
+use Rattle.serve_settings.proofs.Basics.{refl}
 use Rattle.serve_settings.proofs.Spelled.{none-spelled}
 use Rattle.serve_settings.proofs.address.spelled.Goals as goal
 

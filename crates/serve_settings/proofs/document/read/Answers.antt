@@ -1,5 +1,4 @@
-use Rattle.std.proofs.Common.{inl, inr, refl}
-use Rattle.std.proofs.lemmas.Result.{err_from_is_err_and}
+use Rattle.serve_settings.proofs.Basics.{inl, inr, err_from_is_err_and}
 use Rattle.serve_settings.proofs.Parsed.{unread, unparsed}
 use Rattle.serve_settings.proofs.document.read.Goals as goal
 

@@ -1,5 +1,4 @@
-use Rattle.std.proofs.Common.{refl, inl, inr}
-use Rattle.std.proofs.lemmas.Result.{err_from_is_err_and}
+use Rattle.serve_settings.proofs.Basics.{refl, inl, inr, err_from_is_err_and}
 use Rattle.serve_settings.proofs.Behind.{link-next, link-fault, link-all}
 use Rattle.serve_settings.proofs.endpoints.each_endpoint.Goals as goal
 

@@ -1,7 +1,4 @@
-use Rattle.std.proofs.Common.{◌≡◌, [], drop, map}
-use Rattle.toml.specs.View.{view}
-use Rattle.serve_settings.specs.Addresses.{Spelling}
-use Rattle.serve_settings.specs.Endpoints.{endpoints_behind}
+use Rattle.serve_settings.proofs.Basics.{◌≡◌, [], drop, map, view, Spelling, endpoints_behind}
 use Rattle.serve_settings.proofs.endpoints.each_endpoint.Given as goal
 
 abbrev pub invariant-loop-i : goal.invariant-loop-i

@@ -1,4 +1,4 @@
-use Rattle.serve_settings.specs.Endpoints.{endpoints_at}
+use Rattle.serve_settings.proofs.Basics.{endpoints_at}
 use Rattle.serve_settings.proofs.endpoints.endpoints.Goals as goal
 
 pub returns : goal.returns

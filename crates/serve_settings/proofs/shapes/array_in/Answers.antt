@@ -1,4 +1,4 @@
-use Rattle.std.proofs.Common.{refl}
+use Rattle.serve_settings.proofs.Basics.{refl}
 use Rattle.settings_file.proofs.Each.{listed-items_view}
 use Rattle.serve_settings.specs.Shapes.{array_in}
 use Rattle.serve_settings.proofs.shapes.array_in.Goals as goal
