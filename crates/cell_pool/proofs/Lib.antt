@@ -4,6 +4,7 @@ pub mod Counting
 pub mod LinkedReading
 pub mod Linking
 pub mod Moving
+pub mod Picking
 pub mod Reading
 pub mod Sharing
 pub mod Splicing

@@ -1,6 +1,6 @@
 -- Numbered lists of messages, under one limit on all user messages and one on all management messages.
-use Rattle.std.specs.Prelude.{◌≡◌, ℕ, List, [], ◌∷◌, ◌++◌, Option, Some, None, drop, count_by, sum_by, nat_le, not}
-use Rattle.std.specs.Prelude.{if◌then◌else◌, slice_index_or, slice_set}
+use Rattle.std.specs.Prelude.{◌≡◌, ℕ, Bool, ◌&&◌, List, [], ◌∷◌, ◌++◌, Option, Some, None, drop, count_by, sum_by}
+use Rattle.std.specs.Prelude.{nat_le, not, if◌then◌else◌, slice_index_or, slice_set}
 use Rattle.signalling_types.specs.Message.{Message, is_management}
 use Rattle.signalling_types.specs.declared.cause.Cause.{Cause}
 use Rattle.signalling_types.specs.declared.limits.TheConstants.Limits.{MANAGEMENT_MESSAGES}
@@ -12,6 +12,10 @@ managements_in ms = count_by is_management ms
 
 abbrev pub users_in : List Message → ℕ
 users_in ms = count_by (λ m. not (is_management m)) ms
+
+-- a user message that a choice takes
+abbrev pub is_user_picked : (Message → Bool) → Message → Bool
+is_user_picked picks m = not (is_management m) && picks m
 
 -- how many of each stand in all lists together
 abbrev pub managements : List (List Message) → ℕ

@@ -1,12 +1,12 @@
 //! What every store of messages does.
 
-ghost use Rattle.std.specs.Prelude.{◌≡◌, ◌≢◌, ℕ, ◌<◌, ◌≤◌, List, None, Some, length, IfErr, OnOk, is_ok, slice_get};
+ghost use Rattle.std.specs.Prelude.{◌≡◌, ◌≢◌, ℕ, ◌<◌, ◌≤◌, List, None, Some, length, drop, count_by, IfErr, OnOk, is_ok, slice_get};
 ghost use Rattle.std.specs.Prelude.{if◌then◌else◌};
 ghost use Rattle.std.specs.Option.{option_copied};
 ghost use Rattle.signalling_types.specs.Message.{Message};
 ghost use Rattle.signalling_types.specs.Lent.{lent};
 ghost use Rattle.signalling_types.specs.declared.limits.TheConstants.Limits;
-ghost use Rattle.cell_pool.specs.Lanes.{lane_at, managements, push_refusal, pushed, dropped};
+ghost use Rattle.cell_pool.specs.Lanes.{lane_at, is_user_picked, managements, push_refusal, pushed, dropped};
 ghost use Rattle.cell_pool.specs.Moves.{first_behind, all_behind, all_before, picked_behind, picked_before};
 
 use crate::pick::Pick;
@@ -117,6 +117,13 @@ pub trait Lanes {
     fn get(&self, lane: usize, index: usize) -> Option<&Msu>
         requires { lane < length (lists self.now) }
         ensures { option_copied result ≡ slice_get (lane_at (lists self.now) lane) index };
+
+    /// How many user messages of a list a choice takes, from a place on. Each message is looked at once, with a step for
+    /// each before that place.
+    fn count_users<P: Pick>(&self, lane: usize, first: usize, pick: &P) -> usize
+        requires { lane < length (lists self.now) }
+        ensures { result ≡
+            count_by (is_user_picked (P.picks pick.now)) (drop first (lane_at (lists self.now) lane)) };
 
     /// How many messages a list has.
     fn count(&self, lane: usize) -> usize

@@ -1,15 +1,18 @@
 //! Numbered lists of messages, each message in a cell that names the next one of its list.
 
 ghost use Rattle.std.specs.Prelude.{◌≡◌, ◌≢◌, ◌^◌, ◌<◌, ◌≤◌, [], ◌∷◌, ◌++◌, length, replicate, sum_by, slice_get, IfOk};
-ghost use Rattle.std.specs.Prelude.{vec_capacity};
+ghost use Rattle.std.specs.Prelude.{vec_capacity, count_by, drop, if◌then◌else◌};
 ghost use Rattle.std.specs.Option.{option_copied};
 ghost use Rattle.signalling_types.specs.Lent.{lent};
-ghost use Rattle.cell_pool.specs.Lanes.{lane_at, pushed, dropped};
+ghost use Rattle.cell_pool.specs.Lanes.{lane_at, is_user_picked, pushed, dropped};
 ghost use Rattle.cell_pool.specs.Moves.{first_behind, all_behind};
 ghost use Rattle.cell_pool.specs.Turns.{cut_at};
 ghost use Rattle.cell_pool.specs.Row.{written};
+ghost use Rattle.cell_pool.specs.Cells.{messages_at};
+ghost use Rattle.cell_pool.specs.Numbering.{ring_at};
 
 use crate::cell_links::CellLinks;
+use crate::pick::Pick;
 use signalling_types::{Limits, Msu, MsuRef};
 use std::alloc::{AllocError, Global};
 use std::marker::Model;
@@ -79,6 +82,15 @@ impl LinkedLists {
         Some(&self.cells[cell.index()])
     }
 
+    /// How many user messages of a list a choice takes, from a place on.
+    pub(crate) fn count_users<P: Pick>(&self, list: usize, first: usize, pick: &P) -> usize
+        requires { list < length self.now.lists }
+        ensures { result ≡
+            count_by (is_user_picked (P.picks pick.now)) (drop first (lane_at self.now.lists list)) }
+    {
+        count_users(&self.links, &self.cells, list, first, pick)
+    }
+
     /// Copies a message into a free cell, at the end of a list.
     #[inline(always)]
     pub(crate) fn push_back(&mut self, list: usize, message: MsuRef<'_>)
@@ -133,6 +145,40 @@ impl LinkedLists {
         ensures { self.new ≡ self.old }
     {
         self.links.note(list, index);
+    }
+}
+
+/// How many user messages a choice takes in the cells of a list, from a place on.
+fn count_users<P: Pick>(
+    links: &CellLinks,
+    cells: &[Msu],
+    list: usize,
+    first: usize,
+    pick: &P,
+) -> usize
+    requires list { list < length links.now.rings }
+    requires cells { length cells.now ≡ links.now.used }
+    ensures { result ≡ count_by (is_user_picked (P.picks pick.now))
+        (messages_at cells.now (drop first (ring_at links.now.rings list))) }
+{
+    let mut count = 0usize;
+    let mut next = links.get(list, first);
+    for place in first..links.count(list) {
+        let Some(cell) = next else { unreachable!() };
+        count += one_if_picked(&cells[cell.index()], pick);
+        next = links.next(list, place, cell);
+    }
+    count
+}
+
+/// 1 for a user message that a choice takes, 0 for any other message.
+fn one_if_picked<P: Pick>(message: &Msu, pick: &P) -> usize
+    ensures { result ≡ (if is_user_picked (P.picks pick.now) message.now then 1 else 0) }
+{
+    if !message.is_management() && pick.picks(message) {
+        1
+    } else {
+        0
     }
 }
 

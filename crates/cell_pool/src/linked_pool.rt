@@ -190,6 +190,10 @@ impl Lanes for CellPool {
         self.lists.get(lane, index)
     }
 
+    fn count_users<P: Pick>(&self, lane: usize, first: usize, pick: &P) -> usize {
+        self.lists.count_users(lane, first, pick)
+    }
+
     fn count(&self, lane: usize) -> usize {
         self.lists.count(lane)
     }

@@ -1,15 +1,5 @@
 -- The flows that a link takes over are held, each by the procedure that holds what comes from its former link.
-use Rattle.std.proofs.Common.{◌≡◌, ℕ, zero, suc, Bool, true, false, ◌&&◌, ◌||◌, List, [], ◌∷◌, slice_index_or, refl, ap, sym, ◌∙◌, subst, arith, ◌⊎◌, inl, inr}
-use Rattle.std.specs.Prelude.{Option, Some, None, Contains}
-use Rattle.std.specs.Ordering.{eq_by_cmp}
-use Rattle.std.proofs.Math.Logic.{⊎_elim}
-use Rattle.flow_hold.specs.declared.procedure.Procedure.{Procedure}
-use Rattle.flow_hold.specs.Holds.{Hold, HoldSet, by_numbers, holds, may_hold}
-use Rattle.flow_hold.proofs.Numbers.{tied}
-use Rattle.flow_hold.proofs.Flows.{IsSameNode}
-use Rattle.flow_hold.proofs.Holding.{contains-with_hold, adds_its_pair, keeps_pairs, may-still, hold-leaves_others}
-use Rattle.changeback.specs.Return.{FlowChange, with_change, held_by}
-use Rattle.changeback.specs.Laws.{IsToHold, each_change_has_its_pair, changes_leave_other_pairs}
+use Rattle.changeback.proofs.Basics.{◌≡◌, ℕ, zero, suc, Bool, true, false, ◌&&◌, ◌||◌, List, [], ◌∷◌, slice_index_or, refl, ap, sym, ◌∙◌, subst, arith, ◌⊎◌, inl, inr, Option, Some, None, Contains, eq_by_cmp, ⊎_elim, Procedure, Hold, HoldSet, by_numbers, holds, may_hold, tied, IsSameNode, contains-with_hold, adds_its_pair, keeps_pairs, may-still, hold-leaves_others, FlowChange, with_change, held_by, IsToHold, each_change_has_its_pair, changes_leave_other_pairs}
 
 -- ---- one change
 

@@ -1,3 +1,4 @@
+pub mod Basics
 pub mod Changes
 pub mod Held
 pub mod Moved

@@ -1,14 +1,5 @@
 -- The flows that a link takes over are those that are moved to it.
-use Rattle.std.proofs.Common.{◌≡◌, ◌≢◌, ℕ, zero, suc, ◌<◌, ◌≤◌, Bool, true, false, ◌&&◌, not, [], ◌∷◌, length, refl, ap, sym, ◌∙◌, subst, arith, nat_eq, nat_lt, ◌-◌, inl, inr}
-use Rattle.std.specs.Prelude.{if◌then◌else◌, Option, Some, None, Contains}
-use Rattle.std.proofs.lemmas.Bool.Decides.{nat_tests}
-use Rattle.std.proofs.lemmas.List.Elements.{Contains-get_or, Contains-append_left, Contains-append_right, Contains-append_cases}
-use Rattle.routes.specs.Facts.{Facts}
-use Rattle.routes.specs.Chosen.{chosen_link}
-use Rattle.node_links.specs.FormerLink.{former_link}
-use Rattle.signalling_types.specs.declared.limits.TheConstants.Limits.{SELECTIONS}
-use Rattle.changeback.specs.Return.{FlowChange, former_link_of, change_from, changes_of, changes, returned}
-use Rattle.changeback.specs.Laws.{IsMoved, each_is_moved, each_moved_is_found}
+use Rattle.changeback.proofs.Basics.{◌≡◌, ◌≢◌, ℕ, zero, suc, ◌<◌, ◌≤◌, Bool, true, false, ◌&&◌, not, [], ◌∷◌, length, refl, ap, sym, ◌∙◌, subst, arith, nat_eq, nat_lt, ◌-◌, inl, inr, if◌then◌else◌, Option, Some, None, Contains, nat_tests, Contains-get_or, Contains-append_left, Contains-append_right, Contains-append_cases, Facts, chosen_link, former_link, SELECTIONS, FlowChange, former_link_of, change_from, changes_of, changes, returned, IsMoved, each_is_moved, each_moved_is_found}
 
 -- the one flow of a list
 only : (x c : FlowChange) → Contains (x ∷ []) c → x ≡ c

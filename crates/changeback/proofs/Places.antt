@@ -1,11 +1,5 @@
 -- The first code that is free.
-use Rattle.std.proofs.Common.{◌≡◌, ℕ, ◌<◌, Bool, true, false, not, cond, List, length, get_or, nat_lt, ap, sym, ◌∙◌, arith}
-use Rattle.std.specs.Prelude.{Option, Some, None}
-use Rattle.std.specs.List.{position, position_or_len}
-use Rattle.std.proofs.lemmas.Bool.Decides.{nat_tests}
-use Rattle.std.proofs.lemmas.List.Sums.{position_or_len_is}
-use Rattle.std.proofs.lemmas.List.Quantifiers.{position-Some}
-use Rattle.changeback.specs.Codes.{codes_of, awaited_codes_are_not_free}
+use Rattle.changeback.proofs.Basics.{◌≡◌, ℕ, ◌<◌, Bool, true, false, not, cond, List, length, get_or, nat_lt, ap, sym, ◌∙◌, arith, Option, Some, None, position, position_or_len, nat_tests, position_or_len_is, position-Some, codes_of, awaited_codes_are_not_free}
 
 placed : (p : Bool → Bool) (xs : List Bool) (i : ℕ) (b : Bool) → position_or_len p xs ≡ i → nat_lt i (length xs) ≡ b → position p xs ≡ cond b (Some i) None
 placed p xs i b e t =

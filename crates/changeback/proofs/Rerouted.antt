@@ -1,16 +1,5 @@
 -- One more flow to a destination, whose route gets a status.
-use Rattle.std.proofs.Common.{◌≡◌, ℕ, zero, suc, ◌+◌, ◌<◌, Bool, true, false, ◌||◌, cond, List, [], ◌∷◌, ◌++◌, length, slice_index_or, refl, ap, sym, ◌∙◌, arith, add-one}
-use Rattle.std.specs.Prelude.{Option, None, nat_lt}
-use Rattle.std.specs.List.{filter, range_with_len}
-use Rattle.std.proofs.lemmas.Bool.Decides.{nat_tests}
-use Rattle.std.proofs.lemmas.List.{map-id}
-use Rattle.std.proofs.lemmas.List.FromFn.{filter_of_map_range_with_len_more}
-use Rattle.routes.specs.Facts.{Facts}
-use Rattle.routes.specs.Chosen.{chosen_link}
-use Rattle.flow_hold.specs.declared.procedure.Procedure.TheVariants.{Reroute}
-use Rattle.signalling_types.specs.declared.limits.TheConstants.Limits.{SELECTIONS}
-use Rattle.flow_hold.specs.Holds.{HoldSet, with_hold}
-use Rattle.changeback.specs.Rerouting.{is_other_link, changes_link, rerouted, moved_from, held_for}
+use Rattle.changeback.proofs.Basics.{◌≡◌, ℕ, zero, suc, ◌+◌, ◌<◌, Bool, true, false, ◌||◌, cond, List, [], ◌∷◌, ◌++◌, length, slice_index_or, refl, ap, sym, ◌∙◌, arith, add-one, Option, None, nat_lt, filter, range_with_len, nat_tests, map-id, filter_of_map_range_with_len_more, Facts, chosen_link, Reroute, SELECTIONS, HoldSet, with_hold, is_other_link, changes_link, rerouted, moved_from, held_for}
 
 -- ---- the flows
 

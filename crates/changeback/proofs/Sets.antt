@@ -1,19 +1,7 @@
 -- Destinations whose messages went by one set alone, and go by one set alone, lose the same links.
-use Rattle.std.proofs.Common.{◌≡◌, ◌≢◌, ◌⊎◌, ◌<◌, ℕ, zero, suc, ◌*◌, Bool, true, false, ◌||◌, List, replicate, Option, Some, None, refl, ap, sym, ◌∙◌, arith}
-use Rattle.std.specs.Prelude.{◌&&◌, nat_lt, if◌then◌else◌, slice_index_or, slice_set}
-use Rattle.std.proofs.Math.ListN.{set}
-use Rattle.std.proofs.Math.Logic.{⊎_elim, inl, inr}
-use Rattle.std.proofs.lemmas.Bool.{cases_eq, ltb-true}
-use Rattle.std.proofs.lemmas.List.{get_or-set_other}
-use Rattle.signalling_types.specs.declared.limits.TheConstants.Limits.{SETS, SELECTIONS}
-use Rattle.routes.specs.Facts.{Facts, with_link}
-use Rattle.routes.specs.Chosen.{chosen_link, lone_set}
-use Rattle.routes.proofs.Lone.{lone_alike}
-use Rattle.node_links.specs.Network.{Network, facts_of}
-use Rattle.node_links.specs.FormerLink.{former_link}
-use Rattle.changeback.specs.Return.{change_from, former_link_of, changes_of, comes_from, gives_up}
-use Rattle.changeback.specs.Seen.{number_of_pair, no_pairs, has_pair, with_pair, is_seen, with_seen, IsSeen}
-use Rattle.changeback.proofs.Changes.{gives_up-append, gives_up-one}
+use Rattle.changeback.proofs.Basics.{and_parts, or_left, or_right, ◌≡◌, ◌≢◌, ◌⊎◌, ◌<◌, ℕ, zero, suc, ◌*◌, Bool, true, false, ◌||◌, List, Option, Some, None, refl, ap, sym, ◌∙◌, arith, ◌&&◌, nat_lt, if◌then◌else◌, slice_index_or, slice_set, ⊎_elim, cases_eq, ltb-true, get_or-set_other, SETS, SELECTIONS, Facts, with_link, chosen_link, lone_set, lone_alike, Network, facts_of, former_link, change_from, former_link_of, changes_of, comes_from, gives_up, number_of_pair, no_pairs, has_pair, with_pair, is_seen, with_seen, IsSeen}
+use Rattle.std.proofs.Math.Logic.{inl, inr}
+use Rattle.changeback.proofs.Changes.{gives_up-append, gives_up-one, none_set}
 
 -- ---- what a destination loses goes by the links of its flows
 
@@ -56,31 +44,15 @@ marked_already n link destination None after seen losing s h b a other = absurd 
 
 -- ---- pairs
 
-none_in : (m i : ℕ) → slice_index_or (replicate m false) i false ≡ false
-none_in zero i = refl
-none_in (suc m) zero = refl
-none_in (suc m) (suc i) = none_in m i
-
-front : (a b : Bool) → (a && b) ≡ true → a ≡ true
-front true b e = refl
-front false b e = absurd cc
-
-back : (a b : Bool) → (a && b) ≡ true → b ≡ true
-back true b e = e
-back false b e = absurd cc
-
 never : (a b : Bool) → a ≡ false → a ≡ true → b ≡ true
 never a b e f = absurd cc
 
 pub none_seen : (n : Network) (link : ℕ) (losing : List Bool) → IsSeen n link no_pairs losing
 none_seen n link losing = record {
-  marked = λ first second destination other h b a g. never (slice_index_or no_pairs (number_of_pair first second) false) (slice_index_or losing other false) (none_in (SETS * SETS) (number_of_pair first second)) (back (nat_lt second SETS) _ h);
+  marked = λ first second destination other h b a g. never (slice_index_or no_pairs (number_of_pair first second) false) (slice_index_or losing other false) (none_set (SETS * SETS) (number_of_pair first second)) (and_parts (nat_lt second SETS) _ h).1;
 }
 
 -- marks that are added leave what was looked at
-or_left : (x g : Bool) → x ≡ true → (x || g) ≡ true
-or_left x g e = ap (λ (b : Bool). b || g) e
-
 more_marked : (n : Network) (link destination : ℕ) (seen old new : List Bool) → IsSeen n link seen old
     → ((other : ℕ) → slice_index_or new other false
     ≡ (slice_index_or old other false || gives_up (changes_of link (with_link link false (facts_of n)) (facts_of n) destination SELECTIONS) other))
@@ -99,7 +71,7 @@ there_by false seen b a x y s h = inl h
 there_by true seen b a x y s h =
     ⊎_elim
     (λ (e : number_of_pair b a ≡ number_of_pair x y).
-    inr (same_pair b a x y (ltb-true a SETS s) (ltb-true y SETS (front (nat_lt y SETS) _ h)) e))
+    inr (same_pair b a x y (ltb-true a SETS s) (ltb-true y SETS (and_parts (nat_lt y SETS) _ h).0) e))
     (λ (d : number_of_pair b a ≢ number_of_pair x y).
     inl (ap (λ (mark : Bool). nat_lt y SETS && mark)
     (sym (get_or-set_other seen (number_of_pair b a) (number_of_pair x y) true false (λ e. d (sym e)))) ∙ h))
@@ -107,10 +79,6 @@ there_by true seen b a x y s h =
 
 pub pair_there : (seen : List Bool) (b a x y : ℕ) → has_pair (with_pair seen b a) x y ≡ true → (has_pair seen x y ≡ true) ⊎ ((b ≡ x) × (a ≡ y))
 pair_there seen b a x y h = there_by (nat_lt a SETS) seen b a x y refl h
-
-or_right : (x g : Bool) → g ≡ true → (x || g) ≡ true
-or_right true g e = refl
-or_right false g e = e
 
 -- the links that a destination loses were marked, so its pair was looked at
 pub one_seen : (n : Network) (link destination : ℕ) (before after : Option ℕ) (seen old new : List Bool) → IsSeen n link seen old

@@ -1,20 +1,6 @@
 -- The flows that are rerouted are those that go from one link to another, and they are held.
-use Rattle.std.proofs.Common.{◌≡◌, ◌≢◌, ℕ, zero, suc, ◌<◌, Bool, true, false, cond, List, [], ◌∷◌, refl, ap, sym, ◌∙◌, subst, arith, nat_eq, nat_lt, ◌&&◌}
-use Rattle.std.specs.Prelude.{Option, Some, None, Contains}
-use Rattle.std.specs.List.{filter, range_with_len}
-use Rattle.std.proofs.lemmas.Bool.{and_from}
-use Rattle.std.proofs.lemmas.Bool.Decides.{nat_tests}
-use Rattle.std.proofs.lemmas.List.FromFn.{length-range_with_len, get_or-range_with_len}
-use Rattle.routes.specs.Facts.{Facts}
-use Rattle.routes.specs.Chosen.{chosen_link}
-use Rattle.flow_hold.specs.declared.procedure.Procedure.{Procedure}
-use Rattle.flow_hold.specs.declared.procedure.Procedure.TheVariants.{Reroute}
-use Rattle.signalling_types.specs.declared.limits.TheConstants.Limits.{SELECTIONS}
-use Rattle.flow_hold.specs.Holds.{HoldSet, holds, may_hold, with_hold}
+use Rattle.changeback.proofs.Basics.{◌≡◌, ◌≢◌, ℕ, zero, suc, ◌<◌, Bool, true, false, cond, List, [], ◌∷◌, refl, ap, sym, ◌∙◌, subst, arith, nat_eq, nat_lt, ◌&&◌, Option, Some, None, Contains, filter, range_with_len, and_from, nat_tests, length-range_with_len, get_or-range_with_len, Facts, chosen_link, Procedure, Reroute, SELECTIONS, HoldSet, holds, may_hold, with_hold, adds_its_pair, keeps_pairs, hold-leaves_others, keeps_flows_held, may-still, is_other_link, changes_link, rerouted, held_for, GoesToAnother, each_rerouted_goes_to_another, each_that_goes_to_another_is_rerouted, unlinked_before_are_left, unlinked_after_are_left, each_rerouted_has_its_hold, rerouting_leaves_other_pairs, each_rerouted_is_held, rerouting_keeps_flows_held}
 use Rattle.flow_hold.proofs.Pairing.{held_by}
-use Rattle.flow_hold.proofs.Holding.{adds_its_pair, keeps_pairs, hold-leaves_others, keeps_flows_held, may-still}
-use Rattle.changeback.specs.Rerouting.{is_other_link, changes_link, rerouted, held_for}
-use Rattle.changeback.specs.Laws.{GoesToAnother, each_rerouted_goes_to_another, each_that_goes_to_another_is_rerouted, unlinked_before_are_left, unlinked_after_are_left, each_rerouted_has_its_hold, rerouting_leaves_other_pairs, each_rerouted_is_held, rerouting_keeps_flows_held}
 
 -- ---- what a filter keeps
 

@@ -1,12 +1,5 @@
 -- Nothing is lost between what is confirmed, what is in doubt and what moves, and nothing stands there twice.
-use Rattle.std.proofs.Common.{◌≡◌, ℕ, ◌+◌, ◌-◌, ◌≤◌, not, List, ◌++◌, take, drop, refl, ap, sym, ◌∙◌, arith, Option, Some, None}
-use Rattle.std.proofs.lemmas.List.{drop-drop, take-append-drop}
-use Rattle.std.proofs.lemmas.List.Elements.{filter-append}
-use Rattle.signalling_types.specs.Message.{Message, is_management}
-use Rattle.link.specs.Queue.{Queue, IsQueue}
-use Rattle.link.proofs.Naming.{finds_named}
-use Rattle.changeover.specs.Completion.{users_of, accepted_count, behind, in_doubt}
-use Rattle.changeover.specs.Laws.{count_in_the_end, lost_then_moved, each_once, none_lost}
+use Rattle.changeover.proofs.Basics.{◌≡◌, ℕ, ◌+◌, ◌-◌, ◌≤◌, not, List, ◌++◌, take, drop, refl, ap, sym, ◌∙◌, arith, Option, Some, None, drop-drop, take-append-drop, filter-append, Message, is_management, Queue, IsQueue, finds_named, users_of, accepted_count, behind, in_doubt, count_in_the_end, lost_then_moved, each_once, none_lost}
 
 users-append : (xs ys : List Message) → users_of (xs ++ ys) ≡ users_of xs ++ users_of ys
 users-append xs ys = filter-append (λ m. not (is_management m)) xs ys

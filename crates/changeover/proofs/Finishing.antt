@@ -1,15 +1,5 @@
 -- Dropping what the changeover is done with, and splicing what is left, completes as the whole queue does.
-use Rattle.std.proofs.Common.{◌≡◌, ◌≢◌, ℕ, Bool, ◌<◌, List, ◌++◌, length, drop, refl, ap, ◌∙◌, Option, Some, None}
-use Rattle.signalling_types.specs.Message.{Message}
-use Rattle.cell_pool.specs.Lanes.{lane_at}
-use Rattle.link.specs.Queue.{Queue}
-use Rattle.link.specs.Counts.{Counts, counts_of}
-use Rattle.link.specs.Keeps.{Keeps}
-use Rattle.link.proofs.Keeping.{answers-last_accepted}
-use Rattle.changeover.specs.Completion.{users_of, managements_of, accepted_count, doubted, held_after, queued_anew}
-use Rattle.changeover.specs.Failure.{begins_with, beginning, kept_beginning}
-use Rattle.changeover.specs.Kept.{kept_accepted_count, kept_behind, kept_done, kept_done_with, kept_doubted}
-use Rattle.changeover.specs.Lanes.{spliced}
+use Rattle.changeover.proofs.Basics.{◌≡◌, ◌≢◌, ℕ, Bool, ◌<◌, List, ◌++◌, length, drop, refl, ap, ◌∙◌, Option, Some, None, Message, lane_at, Queue, Counts, counts_of, Keeps, answers-last_accepted, users_of, managements_of, accepted_count, doubted, held_after, queued_anew, begins_with, beginning, kept_beginning, kept_accepted_count, kept_behind, kept_done, kept_done_with, kept_doubted, spliced}
 use Rattle.changeover.proofs.Keeping.{ahead, alike, counted}
 use Rattle.changeover.proofs.Splicing.{splices}
 

@@ -1,13 +1,5 @@
 -- What is kept of a queue completes as the queue does.
-use Rattle.std.proofs.Common.{◌≡◌, ℕ, ◌+◌, ◌-◌, ◌≤◌, List, drop, refl, ap, ◌∙◌, arith, Option, Some, None, is_some}
-use Rattle.std.specs.Option.{option_map}
-use Rattle.std.proofs.lemmas.List.{drop-drop}
-use Rattle.signalling_types.specs.Message.{Message}
-use Rattle.link.specs.Queue.{Queue, IsQueue, unconfirmed}
-use Rattle.link.specs.Counts.{counts_of}
-use Rattle.link.proofs.Kept.{kept-newly_confirmed}
-use Rattle.changeover.specs.Completion.{users_of, managements_of, accepted_count, behind, in_doubt}
-use Rattle.changeover.specs.Kept.{kept_accepted_count, kept_behind, kept_in_doubt, kept_completes_alike}
+use Rattle.changeover.proofs.Basics.{◌≡◌, ℕ, ◌+◌, ◌-◌, ◌≤◌, List, drop, refl, ap, ◌∙◌, arith, Option, Some, None, is_some, option_map, drop-drop, Message, Queue, IsQueue, unconfirmed, counts_of, kept-newly_confirmed, users_of, managements_of, accepted_count, behind, in_doubt, kept_accepted_count, kept_behind, kept_in_doubt, kept_completes_alike}
 use Rattle.changeover.proofs.Completing.{named-from}
 
 -- how many of the kept messages stand before a count

@@ -1,3 +1,4 @@
+pub mod Basics
 pub mod Completing
 pub mod Finishing
 pub mod Keeping

@@ -1,14 +1,5 @@
 -- The user messages of one list go before all of another, and its management messages stay.
-use Rattle.std.proofs.Common.{◌≡◌, ◌≢◌, ℕ, ◌<◌, Bool, true, false, not, cond, List, [], ◌∷◌, ◌++◌, length, drop, refl, ap, sym, ◌∙◌, arith}
-use Rattle.std.specs.Prelude.{filter}
-use Rattle.std.proofs.Math.ListN.{set}
-use Rattle.std.proofs.lemmas.List.{get_or-set_same, get_or-set_other, length-set}
-use Rattle.signalling_types.specs.Message.{Message, is_management}
-use Rattle.cell_pool.specs.Lanes.{lane_at, dropped}
-use Rattle.cell_pool.specs.Moves.{list_at, put_before}
-use Rattle.cell_pool.proofs.Moving.{left-before}
-use Rattle.changeover.specs.Completion.{users_of, managements_of}
-use Rattle.changeover.specs.Lanes.{splicing_completes}
+use Rattle.changeover.proofs.Basics.{◌≡◌, ◌≢◌, ℕ, ◌<◌, Bool, true, false, not, cond, List, [], ◌∷◌, ◌++◌, length, drop, refl, ap, sym, ◌∙◌, arith, filter, set, get_or-set_same, get_or-set_other, length-set, Message, is_management, lane_at, dropped, list_at, put_before, left-before, users_of, managements_of, splicing_completes}
 
 twice : (b : Bool) → not (not b) ≡ b
 twice true = refl

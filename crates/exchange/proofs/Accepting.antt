@@ -1,22 +1,6 @@
 -- A wrong number in User Data changes nothing but that it fails the link.
-use Rattle.std.proofs.Common.{◌≡◌, ◌∙◌, ℕ, Bool, List, [], Option, Some, None, Result, Err, is_some, refl, ap, sym}
-use Rattle.std.specs.Prelude.{slice_set}
-use Rattle.std.specs.Option.{option_map}
-use Rattle.std.proofs.lemmas.List.{set-get_or}
-use Rattle.signalling_types.specs.Message.{Message}
-use Rattle.signalling_types.specs.Lent.{lent}
+use Rattle.exchange.proofs.Basics.{◌≡◌, ◌∙◌, ℕ, Bool, List, [], Option, Some, None, Result, Err, is_some, refl, ap, sym, slice_set, option_map, set-get_or, Message, lent, Handled, dropped, SeqFault, count_confirmed, Counts, kept_first, kept_after_answer, State, with_node, Ends, fail, handle, handle_by, KeptQueues, kept, lane_of, counts_at, carrying}
 use Rattle.signalling_types.specs.declared.notice.FailureReason.TheVariants as reasons
-use Rattle.signalling_types.specs.declared.outcome.Outcome.TheVariants.{Handled}
-use Rattle.cell_pool.specs.Lanes.{dropped}
-use Rattle.link.specs.declared.fault.SeqFault.{SeqFault}
-use Rattle.link.specs.Queue.{count_confirmed}
-use Rattle.link.specs.Counts.{Counts, kept_first, kept_after_answer}
-use Rattle.exchange_rules.specs.State.{State, with_node}
-use Rattle.exchange_rules.specs.Exchange.{Ends}
-use Rattle.exchange_rules.specs.Failing.{fail}
-use Rattle.exchange_rules.specs.Frames.{handle, handle_by}
-use Rattle.exchange.specs.KeptQueues.{KeptQueues, kept, lane_of, counts_at}
-use Rattle.exchange.specs.Carried.{carrying}
 use Rattle.exchange.specs.declared.exchange.frames.UserData.{UserData}
 
 -- queues, after numbers that were answered so

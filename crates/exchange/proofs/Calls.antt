@@ -1,18 +1,5 @@
 -- An exchange that stood for an abstract state stands for the state after any calls, and answers as there. Calls in a row are answered one by one.
-use Rattle.std.proofs.Common.{◌≡◌, ℕ, List, [], ◌∷◌, ◌++◌, length, take, get_or, ◌+◌, ◌<◌, ◌≤◌, refl, sym, ap, subst, ◌∙◌, arith}
-use Rattle.std.proofs.lemmas.List.{length-append, take_more, take_all}
-use Rattle.exchange.specs.Calls.{asked, asked_each}
-use Rattle.exchange.specs.declared.event.Call.{Call}
-use Rattle.exchange.specs.declared.event.Answer.{Answer}
-use Rattle.exchange.specs.declared.event.Answer.TheVariants.{Stepped, Wanted}
-use Rattle.exchange_rules.specs.declared.wants.Wants.{Wants}
-use Rattle.signalling_types.specs.declared.outcome.Outcome.{Outcome}
-use Rattle.exchange_rules.specs.Happening.{Asking, Happens, Takes, AsksWants}
-use Rattle.exchange.specs.KeptQueues.{kept}
-use Rattle.exchange_rules.specs.Queues.{whole}
-use Rattle.exchange.specs.Runs.{answer_to_call, after_call, answers_to, after_calls}
-use Rattle.exchange_rules.specs.Sound.{Abstract}
-use Rattle.exchange.specs.Stands.{Kept, StandsFor}
+use Rattle.exchange.proofs.Basics.{◌≡◌, ℕ, List, [], ◌∷◌, ◌++◌, length, take, get_or, ◌+◌, ◌<◌, ◌≤◌, refl, sym, ap, subst, ◌∙◌, arith, length-append, take_more, take_all, asked, asked_each, Call, Answer, Stepped, Wanted, Wants, Outcome, Asking, Happens, Takes, AsksWants, kept, whole, answer_to_call, after_call, answers_to, after_calls, Abstract, Kept, StandsFor}
 use Rattle.exchange.proofs.Standing.{stands-outcome, stands-after, stands-frame, stands-taken, stands-wants}
 
 pub stands-answer : (call : Asking) (k : Kept) (a : Abstract) → StandsFor k a → answer_to_call kept call k ≡ answer_to_call whole call a

@@ -1,20 +1,5 @@
 -- What a completion leaves, once the management messages that it left have gone out anew.
-use Rattle.std.proofs.Common.{◌≡◌, ◌≢◌, ◌<◌, ℕ, not, List, [], ◌++◌, drop, length, ap, sym, ◌∙◌, arith, Option}
-use Rattle.std.specs.Prelude.{filter}
-use Rattle.std.proofs.Math.ListN.{set}
-use Rattle.std.proofs.lemmas.List.{set-set, get_or-set_same, get_or-set_other}
-use Rattle.signalling_types.specs.Message.{Message, is_management}
-use Rattle.cell_pool.specs.Lanes.{lane_at, dropped}
-use Rattle.cell_pool.proofs.Moving.{before-kept}
-use Rattle.link.specs.Counts.{Counts, kept_emptied}
-use Rattle.changeover.specs.Completion.{users_of}
-use Rattle.changeover.specs.Kept.{kept_accepted_count, kept_done_with}
-use Rattle.changeover.specs.Lanes.{spliced}
-use Rattle.changeover.proofs.Finishing.{behind-done}
-use Rattle.exchange_rules.specs.State.{State, Node, Found, with_node}
-use Rattle.exchange.specs.KeptQueues.{KeptQueues, kept, lane_of, held_lane, counts_at, link_lane, without_lane}
-use Rattle.exchange_rules.specs.ChangingOver.{concluded, conclude}
-use Rattle.exchange.specs.Draining.{anew, drained, placed_each, spliced_queues}
+use Rattle.exchange.proofs.Basics.{◌≡◌, ◌≢◌, ◌<◌, ℕ, not, List, [], ◌++◌, drop, length, ap, sym, ◌∙◌, arith, Option, filter, set, set-set, get_or-set_same, get_or-set_other, Message, is_management, lane_at, dropped, before-kept, Counts, kept_emptied, users_of, kept_accepted_count, kept_done_with, spliced, behind-done, State, Node, Found, with_node, KeptQueues, kept, lane_of, held_lane, counts_at, link_lane, without_lane, concluded, conclude, anew, drained, placed_each, spliced_queues}
 use Rattle.exchange.proofs.Draining.{all_out, send_each-placed}
 
 apart : (link : ℕ) → lane_of link ≢ held_lane

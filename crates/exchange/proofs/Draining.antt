@@ -1,22 +1,5 @@
 -- Messages that leave a list one after the other are taken out in order, and each meets its fate.
-use Rattle.std.proofs.Common.{◌≡◌, ◌≢◌, ◌⊎◌, ℕ, zero, suc, ◌+◌, ◌-◌, ◌<◌, ◌≤◌, Bool, true, false, List, [], ◌∷◌, ◌++◌, length, take, drop, refl, ap, sym, subst, ◌∙◌, arith, Option, Some, None, slice_get}
-use Rattle.std.proofs.Math.ListN.{set}
-use Rattle.std.proofs.Math.Logic.{⊎_elim}
-use Rattle.std.proofs.lemmas.Bool.{cases_eq}
-use Rattle.std.proofs.lemmas.List.{set-set, set_comm, set-get_or, get_or-set_same, get_or-set_other, drop-append-le, take-append-le, take_all, drop_all, length-set, length-append}
-use Rattle.signalling_types.specs.Message.{Message, flow_of}
-use Rattle.settings_rows.specs.Configuration.{Configuration}
-use Rattle.cell_pool.specs.Lanes.{lane_at, pushed, dropped}
-use Rattle.cell_pool.specs.Moves.{first_behind}
-use Rattle.exchange_rules.specs.State.{Parts, Node, State, with_node}
-use Rattle.exchange.specs.KeptQueues.{KeptQueues, kept, held_lane}
-use Rattle.exchange_rules.specs.Routing.{link_of}
-use Rattle.exchange_rules.specs.Holding.{waits}
-use Rattle.signalling_types.specs.declared.cause.Cause.TheVariants.{NoRoute}
-use Rattle.exchange_rules.specs.Made.{unsent, send_anew, send}
-use Rattle.exchange_rules.specs.ChangingOver.{lose, send_each}
-use Rattle.exchange_rules.specs.Releasing.{go_on, go_by, go, go_each, release}
-use Rattle.exchange.specs.Draining.{Fate, GoesTo, IsDropped, fate_on, anew, onward, onward_by, placed, placed_each, without_first, drained, gone, gone_by, first_gone}
+use Rattle.exchange.proofs.Basics.{◌≡◌, ◌≢◌, ◌⊎◌, ℕ, zero, suc, ◌+◌, ◌-◌, ◌<◌, ◌≤◌, Bool, true, false, List, [], ◌∷◌, ◌++◌, length, take, drop, refl, ap, sym, subst, ◌∙◌, arith, Option, Some, None, slice_get, set, ⊎_elim, cases_eq, set-set, set_comm, set-get_or, get_or-set_same, get_or-set_other, drop-append-le, take-append-le, take_all, drop_all, length-set, length-append, Message, flow_of, Configuration, lane_at, pushed, dropped, first_behind, Parts, Node, State, with_node, KeptQueues, kept, held_lane, link_of, waits, NoRoute, unsent, send_anew, send, lose, send_each, go_on, go_by, go, go_each, release, Fate, GoesTo, IsDropped, fate_on, anew, onward, onward_by, placed, placed_each, without_first, drained, gone, gone_by, first_gone}
 
 abbrev Lists : Type 0
 Lists = List (List Message)

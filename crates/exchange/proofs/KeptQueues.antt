@@ -1,26 +1,7 @@
 -- What the code keeps of whole queues, it keeps after each word on them.
-use Rattle.std.proofs.Common.{◌≡◌, ◌≤◌, ◌+◌, ◌++◌, ◌∷◌, ℕ, Bool, List, [], Option, map, get_or, is_some, refl, sym, ap, ◌∙◌}
-use Rattle.std.proofs.lemmas.List.Sums.{sum_by-cons}
-use Rattle.std.proofs.Math.ListN.{set, get_or-map}
-use Rattle.std.proofs.lemmas.List.{map-set}
-use Rattle.signalling_types.specs.Message.{Message}
-use Rattle.cell_pool.specs.Lanes.{users_in, managements_in}
+use Rattle.exchange.proofs.Basics.{◌≡◌, ◌≤◌, ◌+◌, ◌++◌, ◌∷◌, ℕ, Bool, List, [], Option, map, get_or, is_some, refl, sym, ap, ◌∙◌, sum_by-cons, set, get_or-map, map-set, Message, users_in, managements_in, Queue, IsQueue, first_queue, unconfirmed, Counts, counts_of, kept_emptied, kept-accept_answer, counts-accepted, unconfirmed-accepted, kept-to_send, counts-sent_one, unconfirmed-sent_one, unconfirmed-appended, kept-last_sent, kept-last_accepted, sound-first, sound-appended, sound-accepted, sound-sent_one, sound-emptied, WINDOW, accepted_count, moved, lost, kept_accepted_count, kept_lost, kept_queued_anew, alike, counted-some, WholeQueues, queue_at, with_queue, whole, KeptQueues, counts_at, kept, AreQueues, kept_queues_of, IsKept, IsKeeping, map-set_alike, sum_by-map, each-set}
 use Rattle.link.specs.Queue as queue
-use Rattle.link.specs.Queue.{Queue, IsQueue, first_queue, accept_answer, unconfirmed}
-use Rattle.link.specs.Counts.{Counts, counts_of, kept_emptied}
-use Rattle.link.proofs.Kept.{kept-accept_answer, counts-accepted, unconfirmed-accepted, kept-to_send, counts-sent_one, unconfirmed-sent_one, unconfirmed-appended, kept-last_sent, kept-last_accepted}
-use Rattle.link.proofs.Sound.{sound-first, sound-appended, sound-accepted, sound-sent_one, sound-emptied}
-use Rattle.signalling_types.specs.declared.limits.TheConstants.Limits.{WINDOW}
-use Rattle.changeover.specs.Completion.{accepted_count, moved, lost}
-use Rattle.changeover.specs.Kept.{kept_accepted_count, kept_lost, kept_queued_anew}
-use Rattle.changeover.proofs.Keeping.{alike, counted-some}
 use Rattle.link.specs.Keeps.{Keeps}
-use Rattle.exchange_rules.specs.Queues.{WholeQueues, queue_at, with_queue, whole}
-use Rattle.exchange.specs.KeptQueues.{KeptQueues, counts_at, kept}
-use Rattle.exchange_rules.specs.Sound.{AreQueues}
-use Rattle.exchange.specs.Stands.{kept_queues_of}
-use Rattle.exchange_rules.proofs.Combining.{IsKept, IsKeeping}
-use Rattle.exchange_rules.proofs.Lists.{map-set_alike, sum_by-map, each-set}
 
 -- one link's counts, and its messages
 pub counts_at-kept : (qs : WholeQueues) (l : ℕ) → counts_at (map counts_of qs.links) l ≡ counts_of (queue_at qs l)

@@ -1,3 +1,4 @@
+pub mod Basics
 pub mod KeptQueues
 pub mod Settling
 pub mod Telling

@@ -1,28 +1,9 @@
 -- A list that is gone through message by message: what is done with the first of those that are left.
-use Rattle.std.specs.Prelude.{if◌then◌else◌, not, is_some, length}
-use Rattle.std.proofs.Common.{◌≡◌, ◌<◌, ◌≤◌, ℕ, zero, suc, ◌+◌, Bool, true, false, List, [], ◌∷◌, drop, take, refl, ap, sym, ◌∙◌, arith, Option, Some, None, slice_get}
-use Rattle.signalling_types.specs.Message.{Message}
-use Rattle.settings_rows.specs.Configuration.{Configuration}
-use Rattle.flow_hold.specs.Holds.{HoldSet}
-use Rattle.exchange_rules.specs.State.{Parts}
-use Rattle.exchange.specs.Suspending.{with_messages}
-use Rattle.exchange.specs.Head.{with_head}
-use Rattle.signalling_types.specs.Message.{is_management}
-use Rattle.signalling_types.specs.declared.cause.Cause.TheVariants.{LostUnconfirmed}
-use Rattle.link.specs.Counts.{Counts}
-use Rattle.changeover.specs.Completion.{users_of}
-use Rattle.changeover.specs.Kept.{kept_doubted, kept_accepted_count, kept_in_doubt, kept_queued_anew}
-use Rattle.exchange_rules.specs.Noting.{flagged}
-use Rattle.exchange.specs.KeptQueues.{KeptQueues, kept, counts_at, link_lane}
-use Rattle.exchange_rules.specs.ChangingOver.{lose, lose_each, with_losses}
-use Rattle.exchange.specs.Draining.{lose_one, lose_users, lose_first}
+use Rattle.exchange.proofs.Basics.{add-one, if◌then◌else◌, not, is_some, length, ◌≡◌, ◌<◌, ◌≤◌, ℕ, zero, suc, ◌+◌, Bool, true, false, List, [], ◌∷◌, drop, take, refl, ap, sym, ◌∙◌, arith, Option, Some, None, slice_get, Message, Configuration, HoldSet, Parts, with_messages, with_head, is_management, LostUnconfirmed, Counts, users_of, kept_doubted, kept_accepted_count, kept_in_doubt, kept_queued_anew, flagged, KeptQueues, kept, counts_at, link_lane, lose, lose_each, with_losses, lose_one, lose_users, lose_first}
 
 abbrev get_some : Option ℕ → ℕ
 get_some (Some n) = n
 get_some None = 0
-
-one-more : (n : ℕ) → suc n ≡ n + 1
-one-more n = omega arith
 
 holds-suc : (c : Configuration) (link place : ℕ) (ms : List Message) (holds : HoldSet)
     → with_messages c link (drop place ms) holds ≡ with_messages c link (drop (suc place) ms) (with_head c link (slice_get ms place) holds)
@@ -34,7 +15,7 @@ holds-suc c link (suc place) (m ∷ ms) holds = holds-suc c link place ms holds
 pub next_held : (c : Configuration) (link place : ℕ) (ms : List Message) (holds : HoldSet)
     → with_messages c link (drop (place + 1) ms) (with_head c link (slice_get ms place) holds) ≡ with_messages c link (drop place ms) holds
 next_held c link place ms holds =
-    ap (λ (n : ℕ). with_messages c link (drop n ms) (with_head c link (slice_get ms place) holds)) (sym (one-more place)) ∙ sym (holds-suc c link place ms holds)
+    ap (λ (n : ℕ). with_messages c link (drop n ms) (with_head c link (slice_get ms place) holds)) (add-one place) ∙ sym (holds-suc c link place ms holds)
 
 lost-suc : (count place : ℕ) (ms : List Message) (p : Parts) → place < count
     → lose_users (drop place (take count ms)) p ≡ lose_users (drop (suc place) (take count ms)) (lose_one (slice_get ms place) p)
@@ -47,7 +28,7 @@ lost-suc (suc count) (suc place) (m ∷ ms) p h = lost-suc count place ms p (ome
 pub next_lost : (count place : ℕ) (ms : List Message) (p : Parts) → place < count
     → lose_users (drop (place + 1) (take count ms)) (lose_one (slice_get ms place) p) ≡ lose_users (drop place (take count ms)) p
 next_lost count place ms p h =
-    ap (λ (n : ℕ). lose_users (drop n (take count ms)) (lose_one (slice_get ms place) p)) (sym (one-more place)) ∙ sym (lost-suc count place ms p h)
+    ap (λ (n : ℕ). lose_users (drop n (take count ms)) (lose_one (slice_get ms place) p)) (add-one place) ∙ sym (lost-suc count place ms p h)
 
 pub shorter : (count : ℕ) (ms : List Message) → length (take count ms) ≤ count
 shorter zero ms = omega arith

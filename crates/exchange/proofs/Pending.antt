@@ -1,30 +1,6 @@
 -- Nothing is owed but what may be pending, nor before the place that a walk over what may be has reached.
-use Rattle.std.proofs.Common.{◌≡◌, ◌≢◌, ◌<◌, ◌≤◌, ◌+◌, ◌-◌, ℕ, zero, suc, Bool, true, false, length, List, [], ◌∷◌, Option, Some, None, refl, ap, sym, subst, ◌∙◌, inl, inr, arith}
-use Rattle.std.proofs.lemmas.Grind.{common_steps}
-use Rattle.std.specs.Prelude.{if◌then◌else◌, ◌||◌, replicate, slice_get, slice_index_or, slice_set}
-use Rattle.std.proofs.lemmas.Bool.Decides.{eqb_tells, leb_tells, nat_tests}
-use Rattle.std.proofs.lemmas.List.{get_or-set_same, get_or-set_other, length-set, length-replicate}
-use Rattle.std.proofs.lemmas.Option.{slice_get_past}
-use Rattle.settings_rows.specs.Configuration.{Configuration}
-use Rattle.routes.specs.Facts.{Facts, with_status}
-use Rattle.route_management.specs.Marks.{is_marked}
-use Rattle.route_management.specs.Updates.{Updates, is_from, is_within, is_some, is_any, has_all_from}
-use Rattle.route_management.specs.Updates.{with_all, with_none, with_mark, with_destination, without_before}
-use Rattle.route_management.specs.declared.updates.Extent.{Extent}
-use Rattle.route_management.specs.declared.updates.Extent.TheVariants.{Nothing, Marked, From}
-use Rattle.routes.specs.declared.route.RouteStatus.{RouteStatus}
-use Rattle.route_management.specs.Told.{ToldTable, is_own_point, row_of, shape_of, told_at, with_told}
-use Rattle.route_management.specs.Owed.{Owed, owed_at, status_to_advertise, is_reachable}
-use Rattle.route_management.proofs.Shape.{told_shape}
-use Rattle.route_management.proofs.Owing.{owed_by, none_owed, once, after_status}
-use Rattle.route_management.proofs.Listing.{still}
-use Rattle.route_management.proofs.Walking.{next_is_not_owed}
-use Rattle.exchange_rules.specs.State.{QueueKind, Node}
-use Rattle.exchange_rules.specs.Routing.{facts}
-use Rattle.exchange_rules.specs.Telling.{may_tell, tell, tell_if, tell_each}
-use Rattle.exchange_rules.proofs.Telling.{tell-facts, tell-told}
-use Rattle.exchange.specs.Pending.{OwesNone, OwesNoneBefore, OwesNoneBetween, OwesNoneBut}
-use Rattle.exchange.specs.Telling.{tell_at}
+use Rattle.exchange.proofs.Basics.{◌≡◌, ◌≢◌, ◌<◌, ◌≤◌, ◌+◌, ◌-◌, ℕ, zero, suc, Bool, true, false, length, List, [], ◌∷◌, Option, Some, None, refl, ap, sym, subst, ◌∙◌, inl, inr, arith, common_steps, if◌then◌else◌, ◌||◌, replicate, slice_get, slice_index_or, slice_set, eqb_tells, leb_tells, nat_tests, get_or-set_same, get_or-set_other, length-set, length-replicate, slice_get_past, Configuration, Facts, with_status, is_marked, Updates, is_from, is_within, is_any, has_all_from, with_all, with_none, with_mark, with_destination, without_before, Extent, Nothing, Marked, From, RouteStatus, ToldTable, is_own_point, row_of, shape_of, told_at, with_told, Owed, owed_at, status_to_advertise, is_reachable, told_shape, owed_by, none_owed, once, after_status, still, next_is_not_owed, QueueKind, Node, facts, may_tell, tell, tell_if, tell_each, tell-facts, tell-told, OwesNone, OwesNoneBefore, OwesNoneBetween, OwesNoneBut, tell_at}
+use Rattle.route_management.specs.Updates.{is_some}
 use Rattle.exchange.proofs.Telling.{row_left}
 
 -- ---- places

@@ -1,18 +1,5 @@
 -- What the table of translation rows answers to an order, and what it leaves, is what the rule does.
-use Rattle.std.proofs.Common.{◌≡◌, List, Option, Some, None, Result, Ok, Err, refl, ap}
-use Rattle.std.specs.Prelude.{OnOk, OnErr, IfErr, if◌then◌else◌}
-use Rattle.std.specs.Option.{option_or}
-use Rattle.settings_rows.specs.Configuration.{TitleEntry}
-use Rattle.signalling_types.specs.declared.cause.Cause.{Cause}
-use Rattle.signalling_types.specs.declared.cause.Cause.TheVariants.{NoMemory}
-use Rattle.signalling_types.specs.declared.outcome.Outcome.{Outcome}
-use Rattle.signalling_types.specs.declared.outcome.Outcome.TheVariants.{Refused}
-use Rattle.sccp_relay.specs.Rows.{with_row}
-use Rattle.exchange_rules.specs.State.{State, with_node, with_parts}
-use Rattle.exchange_rules.specs.Exchange.{Ends}
-use Rattle.exchange_rules.specs.Relaying.{with_titles, add_title_unless}
-use Rattle.exchange.specs.Calls.{is_memory_refused}
-use Rattle.exchange.specs.Relaying.{handled_or_refused}
+use Rattle.exchange.proofs.Basics.{◌≡◌, List, Option, Some, None, Result, Ok, Err, refl, ap, OnOk, OnErr, IfErr, if◌then◌else◌, option_or, TitleEntry, Cause, NoMemory, Outcome, Refused, with_row, State, with_node, with_parts, Ends, with_titles, add_title_unless, is_memory_refused, handled_or_refused}
 
 -- the state with other rows
 abbrev pub titled : {Q : Type 0} → State Q → List TitleEntry → State Q

@@ -1,50 +1,18 @@
 -- A link that returns: declarations go out one by one and change no link, and it takes its flows back once it enters service.
-use Rattle.std.proofs.Common.{◌≡◌, ◌<◌, ◌≤◌, ℕ, zero, suc, ◌+◌, arith, replicate, Bool, true, false, ◌&&◌, not, List, length, Option, Some, None, refl, ap, sym, ◌∙◌}
-use Rattle.std.specs.Prelude.{if◌then◌else◌, slice_set}
-use Rattle.std.proofs.Math.ListN.{set}
-use Rattle.std.proofs.Math.Logic.{⊎_elim}
-use Rattle.std.proofs.lemmas.Bool.{cases_lt}
-use Rattle.std.proofs.lemmas.List.{get_or-set_same, get_or_past, length-set}
-use Rattle.signalling_types.specs.declared.limits.TheConstants.Limits.{LINKS}
-use Rattle.settings_rows.specs.Configuration.{Configuration}
-use Rattle.link.specs.declared.action.Action.{Action}
+use Rattle.exchange.proofs.Basics.{add-one, ◌≡◌, ◌<◌, ◌≤◌, ℕ, zero, suc, ◌+◌, arith, replicate, Bool, true, false, ◌&&◌, not, List, length, Option, Some, None, refl, ap, sym, ◌∙◌, if◌then◌else◌, slice_set, set, ⊎_elim, cases_lt, get_or-set_same, get_or_past, length-set, LINKS, Configuration, Action, Transition, Facts, with_link, Link, is_in_service, stepped, down_link, Procedure, returned, gives_up, held_by, alike_before, QueueKind, Parts, Node, State, with_node, with_parts, KeptQueues, kept, link_at, in_service, with_holds, facts, code_for, declare_by, change_back, HasPlacesFor, holder, declare, declare_each, holders, set_of, has_other, begun_anew_if, return_if, act_by, step_on, stepped_by, is_first_in, entered, known_before, known_links}
 use Rattle.link.specs.declared.action.Action.TheVariants as act
-use Rattle.link.specs.declared.action.Transition.{Transition}
-use Rattle.routes.specs.Facts.{Facts, with_link}
-use Rattle.node_links.specs.Link.{Link}
-use Rattle.node_links.specs.LinkState.{is_in_service, stepped, down_link}
-use Rattle.flow_hold.specs.declared.procedure.Procedure.{Procedure}
-use Rattle.changeback.specs.Return.{returned, gives_up, held_by}
-use Rattle.exchange_rules.proofs.TakenPairs.{alike_before}
-use Rattle.exchange_rules.specs.State.{QueueKind, Parts, Node, State, with_node, with_parts}
-use Rattle.exchange.specs.KeptQueues.{KeptQueues, kept}
-use Rattle.exchange_rules.specs.Links.{link_at, in_service}
-use Rattle.exchange.specs.Head.{with_holds}
-use Rattle.exchange_rules.specs.Routing.{facts}
-use Rattle.exchange_rules.specs.ChangingBack.{code_for, declare_by, change_back}
-use Rattle.exchange_rules.specs.Places.{HasPlacesFor}
-use Rattle.exchange.specs.TakingOver.{holder, declare, declare_each, holders}
 use Rattle.exchange.proofs.TakingOver.{taken_over}
-use Rattle.exchange_rules.specs.Points.{set_of}
-use Rattle.exchange_rules.specs.Failing.{has_other}
-use Rattle.exchange_rules.specs.Statuses.{begun_anew_if, return_if, act_by, step_on}
-use Rattle.exchange.specs.Entering.{stepped_by}
-use Rattle.exchange.specs.Entering.{is_first_in, entered}
-use Rattle.exchange_rules.proofs.Entering.{known_before, known_links}
 
 -- ---- one more link declares
 
 module _ {Q : Type 0} (q : QueueKind Q) (c : Configuration) (link : ℕ) (loses : ℕ → Bool) where
-  one-more : (n : ℕ) → suc n ≡ n + 1
-  one-more n = omega arith
-
   pub none_declared : (node : Node Q) → node ≡ declare_each q c link loses 0 node
   unfolding declare_each
   none_declared node = refl
 
   pub more_declared : (other : ℕ) (node : Node Q) → declare q c link loses other (declare_each q c link loses other node) ≡ declare_each q c link loses (other + 1) node
   unfolding declare_each
-  more_declared other node = ap (λ (n : ℕ). declare_each q c link loses n node) (one-more other)
+  more_declared other node = ap (λ (n : ℕ). declare_each q c link loses n node) (sym (add-one other))
 
   pub no_holders : (node : Node Q) → replicate LINKS None ≡ holders q c link loses 0 node
   unfolding holders
@@ -53,7 +21,7 @@ module _ {Q : Type 0} (q : QueueKind Q) (c : Configuration) (link : ℕ) (loses 
   pub more_holders : (other : ℕ) (node : Node Q)
       → slice_set (holders q c link loses other node) other (holder q c link loses other (declare_each q c link loses other node)) ≡ holders q c link loses (other + 1) node
   unfolding holders
-  more_holders other node = ap (λ (n : ℕ). holders q c link loses n node) (one-more other)
+  more_holders other node = ap (λ (n : ℕ). holders q c link loses n node) (sym (add-one other))
 
 -- ---- a link takes its flows back
 
@@ -83,10 +51,6 @@ module _ {Q : Type 0} (q : QueueKind Q) (c : Configuration) where
 facts-alike : (c : Configuration) (n m : Node KeptQueues) → KeepsLinks n m → facts c n.parts ≡ facts c m.parts
 facts-alike c n m a = rw (a.links, a.routes) refl
 
-pub serves-alike : (c : Configuration) (link other : ℕ) (loses : ℕ → Bool) (many : ℕ) (n : Node KeptQueues)
-    → in_service (declare_each kept c link loses many n).parts other ≡ in_service n.parts other
-serves-alike c link other loses many n = rw ((declare_each-links kept c link loses many n).links) refl
-
 abbrev known : State KeptQueues → Facts
 known s = facts s.settings s.node.parts
 
@@ -100,23 +64,21 @@ declared_in link loses s = with_node s (declare_each kept s.settings link loses 
 abbrev holders_in : ℕ → (ℕ → Bool) → State KeptQueues → List (Option Procedure)
 holders_in link loses s = holders kept s.settings link loses (length s.settings.links) s.node
 
-pub taken_back : (s0 s1 s2 s3 : State KeptQueues) (link : ℕ) (loses : ℕ → Bool) (hs : List (Option Procedure))
-    → HasPlacesFor s0.settings s0.node.parts → s1 ≡ s0
+pub taken_back : (s0 s1 s2 : State KeptQueues) (link : ℕ) (loses : ℕ → Bool) (hs : List (Option Procedure))
+    → HasPlacesFor s0.settings s0.node.parts
     → ((other : ℕ) → loses other ≡ gives_up (returned link (with_link link false (known s0)) (known s0)) other)
-    → hs ≡ holders_in link loses s1 → s2 ≡ declared_in link loses s1 → s3 ≡ held_back link hs (known s2) s2
-    → s3 ≡ with_node s0 (change_back kept s0.settings link (with_link link false (known s0)) s0.node)
-taken_back s0 s1 s2 s3 link loses hs fits e l h d t =
+    → hs ≡ holders_in link loses s0 → s1 ≡ declared_in link loses s0 → s2 ≡ held_back link hs (known s1) s1
+    → s2 ≡ with_node s0 (change_back kept s0.settings link (with_link link false (known s0)) s0.node)
+taken_back s0 s1 s2 link loses hs fits l h d t =
     let same : (loses ≡ gives_up (returned link (with_link link false (known s0)) (known s0))) = λ i. λ other. l other i in
-    let before : known s2 ≡ known s0 =
+    let before : known s1 ≡ known s0 =
     ap known d
-    ∙ facts-alike s1.settings (declare_each kept s1.settings link loses (length s1.settings.links) s1.node) s1.node
-    (declare_each-links kept s1.settings link loses (length s1.settings.links) s1.node)
-    ∙ ap known e in
+    ∙ facts-alike s0.settings (declare_each kept s0.settings link loses (length s0.settings.links) s0.node) s0.node
+    (declare_each-links kept s0.settings link loses (length s0.settings.links) s0.node) in
     t
-    ∙ ap (λ (f : Facts). held_back link hs f s2) before
-    ∙ ap (λ (x : List (Option Procedure)). held_back link x (known s0) s2) h
-    ∙ ap (λ (s : State KeptQueues). held_back link (holders_in link loses s1) (known s0) s) d
-    ∙ ap (λ (s : State KeptQueues). held_back link (holders_in link loses s) (known s0) (declared_in link loses s)) e
+    ∙ ap (λ (f : Facts). held_back link hs f s1) before
+    ∙ ap (λ (x : List (Option Procedure)). held_back link x (known s0) s1) h
+    ∙ ap (λ (s : State KeptQueues). held_back link (holders_in link loses s0) (known s0) s) d
     ∙ ap (λ (f : ℕ → Bool). held_back link (holders_in link f s0) (known s0) (declared_in link f s0)) same
     ∙ ap (λ (n : Node KeptQueues). with_node s0 n) (taken_over kept s0.settings link (with_link link false (known s0)) s0.node fits)
 

@@ -1,35 +1,6 @@
 -- What an exchange keeps has its room still, and nothing is owed but what may be pending, as links and what was told change.
-use Rattle.std.proofs.Common.{◌≡◌, ◌<◌, ◌+◌, ℕ, Bool, true, false, ◌||◌, not, length, replicate, List, refl, ap, sym, subst, ◌∙◌}
-use Rattle.std.specs.Prelude.{map, [], ◌∷◌, slice_index_or, if◌then◌else◌, Option, Some, None}
-use Rattle.std.proofs.lemmas.List.{length-set, get_or-set_same}
-use Rattle.routes.specs.declared.route.RouteStatus.{RouteStatus}
-use Rattle.routes.specs.Facts.{Facts, with_status_over}
-use Rattle.node_links.specs.Link.{Link}
-use Rattle.node_links.specs.LinkState.{is_in_service, down_link}
-use Rattle.node_links.specs.Network.{Network, facts_of, link_in, with_state, serving}
-use Rattle.node_links.specs.Statuses.{with_route_status}
-use Rattle.node_links.proofs.Serving.{facts_alike}
-use Rattle.timers.specs.Timers.{Running}
-use Rattle.cell_pool.specs.Lanes.{lane_at}
-use Rattle.flow_hold.specs.declared.procedure.Procedure.{Procedure}
-use Rattle.flow_hold.specs.Holds.{HoldSet}
-use Rattle.changeback.specs.Codes.{Codes}
-use Rattle.changeback.specs.Return.{FlowChange, with_change, held_by}
-use Rattle.route_management.specs.Told.{ToldTable, shape_of, with_told}
-use Rattle.route_management.specs.Owed.{status_to_advertise}
-use Rattle.route_management.proofs.Shape.{told_shape}
-use Rattle.exchange_rules.specs.State.{State}
-use Rattle.exchange.specs.KeptQueues.{KeptQueues, held_lane}
-use Rattle.exchange_rules.specs.Holding.{all_wait}
-use Rattle.exchange_rules.specs.Routing.{facts}
-use Rattle.route_management.specs.Updates.{Updates, with_all, with_destination}
-use Rattle.exchange.specs.Pending.{OwesNoneBut}
+use Rattle.exchange.proofs.Basics.{◌≡◌, ◌<◌, ◌+◌, ℕ, Bool, true, false, ◌||◌, not, length, replicate, List, refl, ap, sym, subst, ◌∙◌, map, [], ◌∷◌, slice_index_or, if◌then◌else◌, Option, Some, None, length-set, get_or-set_same, RouteStatus, Facts, with_status_over, Link, is_in_service, down_link, Network, facts_of, link_in, with_state, serving, with_route_status, facts_alike, Running, lane_at, Procedure, HoldSet, Codes, FlowChange, with_change, held_by, ToldTable, shape_of, with_told, status_to_advertise, told_shape, State, KeptQueues, held_lane, all_wait, facts, Updates, with_all, with_destination, OwesNoneBut, HasRoom, kept_in, HasHoldsFor, HasCodes, with_hold-fits, Configuration, Inside}
 use Rattle.exchange.proofs.Pending.{all_may_be, status_owes, told_owes_no_more}
-use Rattle.exchange.specs.Room.{HasRoom, kept_in}
-use Rattle.exchange_rules.specs.Places.{HasHoldsFor, HasCodes}
-use Rattle.exchange_rules.proofs.Places.{with_hold-fits}
-use Rattle.settings_rows.specs.Configuration.{Configuration}
-use Rattle.exchange.specs.declared.exchange.Exchange.TheInside.{Inside}
 
 -- nothing is owed but what may be pending
 abbrev Owes : Inside → Updates → Facts → ToldTable → Type 0

@@ -1,19 +1,5 @@
 -- User Data on a link in service changes nothing before its numbers are looked at.
-use Rattle.std.proofs.Common.{◌≡◌, ℕ, true, refl, ap}
-use Rattle.std.specs.Prelude.{None}
-use Rattle.std.proofs.lemmas.List.{append-nil, set-get_or}
-use Rattle.settings_rows.specs.Configuration.{Configuration}
-use Rattle.link.specs.declared.action.Input.TheVariants.{UserData}
-use Rattle.link.specs.declared.action.Transition.{Transition}
-use Rattle.link.specs.declared.alignment.Alignment.{Alignment}
-use Rattle.link.specs.declared.alignment.Alignment.TheVariants.{Down, NotAligned, Aligned, Proving, AlignedReady, InService}
-use Rattle.link.specs.Table.{action_at}
-use Rattle.node_links.specs.Link.{Link}
-use Rattle.node_links.specs.LinkState.{down_link, is_in_service, stepped}
-use Rattle.exchange_rules.specs.State.{QueueKind, Parts, Node}
-use Rattle.exchange_rules.specs.Links.{link_at, in_service, links_with}
-use Rattle.exchange_rules.specs.Statuses.{advance}
-use Rattle.exchange_rules.specs.Frames.{Carrying, act_by_data, receive_data, handle}
+use Rattle.exchange.proofs.Basics.{◌≡◌, ℕ, true, refl, ap, None, append-nil, set-get_or, Configuration, UserData, Transition, Alignment, Down, NotAligned, Aligned, Proving, AlignedReady, InService, action_at, Link, down_link, is_in_service, stepped, QueueKind, Parts, Node, link_at, in_service, links_with, advance, Carrying, act_by_data, receive_data, handle}
 
 -- the step of a link in service about User Data
 abbrev staying_in_service : Transition

@@ -1,18 +1,5 @@
 -- What a release leaves of what is kept: each message of Held waits, and where each did before, nothing changed.
-use Rattle.std.proofs.Common.{◌≡◌, ℕ, Bool, true, false, List, [], ◌∷◌, ◌++◌, Option, Some, None, refl, ap, sym, ◌∙◌}
-use Rattle.std.specs.Prelude.{◌||◌}
-use Rattle.std.proofs.Math.ListN.{set}
-use Rattle.cell_pool.specs.Lanes.{lane_at, pushed}
-use Rattle.std.proofs.lemmas.List.{append-nil, append_assoc}
-use Rattle.signalling_types.specs.Message.{Message, flow_of}
-use Rattle.settings_rows.specs.Configuration.{Configuration}
-use Rattle.flow_hold.specs.Holds.{HoldSet}
-use Rattle.exchange_rules.specs.State.{Node}
-use Rattle.exchange.specs.KeptQueues.{KeptQueues, kept, lane_of, held_lane}
-use Rattle.exchange_rules.specs.Routing.{link_of}
-use Rattle.exchange_rules.specs.Holding.{waits, all_wait}
-use Rattle.exchange_rules.specs.Releasing.{go_on, go_by, go, go_each, release}
-use Rattle.exchange_rules.proofs.Settling.{one_more, left-true, right-true}
+use Rattle.exchange.proofs.Basics.{◌≡◌, ℕ, Bool, true, false, List, [], ◌∷◌, ◌++◌, Option, Some, None, refl, ap, sym, ◌∙◌, ◌||◌, set, lane_at, pushed, append-nil, append_assoc, Message, flow_of, Configuration, HoldSet, Node, KeptQueues, kept, lane_of, held_lane, link_of, waits, all_wait, go_on, go_by, go, go_each, release, one_more, left-true, right-true}
 
 -- Held after a message went to a link
 held-beside : (lanes : List (List Message)) (link : ℕ) (ms : List Message) → lane_at (set lanes (lane_of link) ms) held_lane ≡ lane_at lanes held_lane

@@ -1,14 +1,5 @@
 -- What an exchange shows of its links and routes is what the abstract state shows.
-use Rattle.std.proofs.Common.{◌≡◌, ◌∙◌, ℕ, Bool, true, false, refl, ap}
-use Rattle.std.specs.Prelude.{Some, None, if◌then◌else◌}
-use Rattle.exchange.specs.declared.view.LinkView.{LinkView}
-use Rattle.exchange_rules.specs.State.{Node, keep}
-use Rattle.exchange_rules.specs.Links.{is_link}
-use Rattle.exchange_rules.specs.Sound.{Abstract, AreQueues}
-use Rattle.exchange.specs.Stands.{Kept, StandsFor, kept_queues_of}
-use Rattle.exchange_rules.specs.Queues.{WholeQueues, whole}
-use Rattle.exchange.specs.KeptQueues.{kept}
-use Rattle.exchange.specs.Views.{link_shown, link_view}
+use Rattle.exchange.proofs.Basics.{◌≡◌, ◌∙◌, ℕ, Bool, true, false, refl, ap, Some, None, if◌then◌else◌, LinkView, Node, keep, is_link, Abstract, AreQueues, Kept, StandsFor, kept_queues_of, WholeQueues, whole, kept, link_shown, link_view}
 use Rattle.exchange.proofs.KeptQueues.{keeps_whole}
 
 link_shown-kept : (w : ℕ) (node : Node WholeQueues) (l : ℕ) → AreQueues w node.queues

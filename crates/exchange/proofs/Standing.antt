@@ -1,34 +1,6 @@
 -- An exchange that stood for an abstract state stands for the state after each event and each frame that goes out.
-use Rattle.std.proofs.Common.{◌≡◌, ℕ, suc, false, List, [], refl, ap, ◌∙◌, length, ◌≤◌, replicate}
-use Rattle.settings_rows.specs.Configuration.{Configuration, TitleEntry}
-use Rattle.signalling_types.specs.Message.{Message}
-use Rattle.signalling_types.specs.declared.limits.TheConstants.Limits.{WINDOW}
-use Rattle.signalling_types.specs.declared.notice.Notice.{Notice}
-use Rattle.link.specs.Queue.{IsQueue, first_queue, unconfirmed}
-use Rattle.link.specs.Counts.{Counts, counts_of, kept_first}
-use Rattle.link.proofs.Sound.{sound-first}
-use Rattle.timers.specs.Timers.{Running, none_running}
-use Rattle.node_links.specs.Network.{Network}
-use Rattle.exchange_rules.specs.Routing.{first_network_of}
-use Rattle.exchange_rules.specs.State.{Node, Done, keep}
-use Rattle.exchange_rules.specs.Queues.{whole}
-use Rattle.exchange.specs.KeptQueues.{KeptQueues, kept}
-use Rattle.exchange_rules.specs.Happening.{Happening}
-use Rattle.exchange_rules.specs.Exchange.{apply, outcome_of, after, frame_to_take, taken, wants_of}
-use Rattle.exchange_rules.specs.Sound.{Abstract, AreQueues, IsSound}
-use Rattle.exchange.specs.Stands.{Kept, StandsFor, kept_of, kept_queues_of}
-use Rattle.exchange_rules.specs.First.{counts_in, first_state}
-use Rattle.exchange_rules.proofs.Combining.{Keeps}
-use Rattle.exchange_rules.proofs.Keeping.{apply-kept, frame_taken-kept, after_take-kept}
+use Rattle.exchange.proofs.Basics.{◌≡◌, ℕ, suc, List, [], refl, ap, ◌∙◌, length, ◌≤◌, replicate, Configuration, TitleEntry, Message, WINDOW, Notice, IsQueue, first_queue, unconfirmed, Counts, counts_of, kept_first, sound-first, Running, none_running, Network, first_network_of, Node, Done, keep, whole, KeptQueues, kept, Happening, apply, outcome_of, after, frame_to_take, taken, wants_of, Abstract, AreQueues, IsSound, Kept, StandsFor, kept_of, kept_queues_of, counts_in, first_state, Keeps, apply-kept, frame_taken-kept, after_take-kept, Standing, no_changeover, Codes, no_codes, ToldTable, first_told, HoldSet, no_holds, table_of, take-waits, done-waits, done-told, take-told, first-told, each-replicate, map-replicate}
 use Rattle.exchange.proofs.KeptQueues.{keeps_whole}
-use Rattle.changeover.specs.Standing.{Standing, no_changeover}
-use Rattle.changeback.specs.Codes.{Codes, no_codes}
-use Rattle.route_management.specs.Told.{ToldTable, first_told}
-use Rattle.flow_hold.specs.Holds.{HoldSet, no_holds}
-use Rattle.sccp_relay.specs.Rows.{table_of}
-use Rattle.exchange_rules.proofs.Settling.{take-waits}
-use Rattle.exchange_rules.proofs.Sound.{done-waits, done-told, take-told, first-told}
-use Rattle.exchange_rules.proofs.Lists.{each-replicate, map-replicate}
 
 applied : (what : Happening) (a : Abstract) → IsSound a →
     Keeps kept_queues_of (AreQueues a.settings.window) (apply kept a.settings what (keep kept_queues_of a.node)) (apply whole a.settings what a.node)

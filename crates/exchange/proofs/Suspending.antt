@@ -1,27 +1,5 @@
 -- One more flow, and one more destination; and the walk over all flows holds those that fail with the link.
-use Rattle.std.proofs.Common.{◌≡◌, ◌<◌, ℕ, zero, suc, ◌+◌, Bool, true, false, ◌&&◌, ◌||◌, not, List, [], ◌∷◌, length, Option, Some, None, nat_eq, nat_lt, refl, ap, sym, ◌∙◌, arith}
-use Rattle.std.specs.Prelude.{if◌then◌else◌}
-use Rattle.std.specs.List.{list_any}
-use Rattle.std.specs.Option.{option_eq}
-use Rattle.std.proofs.lemmas.Bool.Decides.{nat_tests}
-use Rattle.signalling_types.specs.Message.{Message, flow_of, is_management}
-use Rattle.settings_rows.specs.Configuration.{Configuration}
-use Rattle.settings.specs.Readings.{destination_place}
-use Rattle.routes.specs.Facts.{Facts}
-use Rattle.routes.specs.Chosen.{chosen_link}
-use Rattle.flow_hold.specs.declared.procedure.Procedure.TheVariants.{Changeover}
-use Rattle.signalling_types.specs.declared.limits.TheConstants.Limits.{SELECTIONS}
-use Rattle.flow_hold.specs.Holds.{HoldSet, with_hold}
-use Rattle.flow_hold.proofs.Holding.{may_parts}
-use Rattle.flow_hold.proofs.Adding.{Adds, adds-none, adds-one, adds-more, adds-alike, added_flows}
-use Rattle.exchange_rules.specs.State.{Parts}
-use Rattle.exchange_rules.specs.Routing.{facts, goes_by}
-use Rattle.exchange_rules.specs.Places.{HasPlacesFor}
-use Rattle.exchange_rules.specs.Suspending.{is_of_flow, is_failed, suspended}
-use Rattle.exchange.specs.Suspending.{with_flow, with_selections, with_destinations, with_flow_to, with_message, with_messages}
-
-one-more : (n : ℕ) → suc n ≡ n + 1
-one-more n = omega arith
+use Rattle.exchange.proofs.Basics.{add-one, ◌≡◌, ◌<◌, ℕ, zero, suc, ◌+◌, Bool, true, false, ◌&&◌, ◌||◌, not, List, [], ◌∷◌, length, Option, Some, None, nat_eq, nat_lt, refl, ap, sym, ◌∙◌, arith, if◌then◌else◌, list_any, option_eq, nat_tests, Message, flow_of, is_management, Configuration, destination_place, Facts, chosen_link, Changeover, SELECTIONS, HoldSet, with_hold, may_parts, Adds, adds-none, adds-one, adds-more, adds-alike, added_flows, Parts, facts, goes_by, HasPlacesFor, is_of_flow, is_failed, suspended, with_flow, with_selections, with_destinations, with_flow_to, with_message, with_messages}
 
 pub no_selections : (f : Facts) (link place : ℕ) (holds : HoldSet) → holds ≡ with_selections f link place 0 holds
 unfolding with_selections
@@ -30,7 +8,7 @@ no_selections f link place holds = refl
 pub more_selections : (f : Facts) (link place count : ℕ) (holds : HoldSet)
     → with_flow f link place count (with_selections f link place count holds) ≡ with_selections f link place (count + 1) holds
 unfolding with_selections
-more_selections f link place count holds = ap (λ (n : ℕ). with_selections f link place n holds) (one-more count)
+more_selections f link place count holds = ap (λ (n : ℕ). with_selections f link place n holds) (sym (add-one count))
 
 pub no_destinations : (f : Facts) (link : ℕ) (holds : HoldSet) → holds ≡ with_destinations f link 0 holds
 unfolding with_destinations
@@ -39,7 +17,7 @@ no_destinations f link holds = refl
 pub more_destinations : (f : Facts) (link count : ℕ) (holds : HoldSet)
     → with_selections f link count SELECTIONS (with_destinations f link count holds) ≡ with_destinations f link (count + 1) holds
 unfolding with_destinations
-more_destinations f link count holds = ap (λ (n : ℕ). with_destinations f link n holds) (one-more count)
+more_destinations f link count holds = ap (λ (n : ℕ). with_destinations f link n holds) (sym (add-one count))
 
 -- ---- the walk holds the flows that fail with the link
 

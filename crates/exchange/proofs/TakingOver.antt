@@ -1,33 +1,6 @@
 -- A link takes its flows over as it takes them back by the rule: the hold of each other link begins in the same order, and the same flows
 -- are held by the same procedures.
-use Rattle.std.proofs.Common.{◌≡◌, ◌≢◌, ◌<◌, ◌≤◌, ℕ, zero, suc, Bool, true, false, ◌||◌, replicate, List, [], ◌∷◌, length, nat_eq, Option, Some, None, refl, ap, sym, ◌∙◌, subst, arith}
-use Rattle.std.specs.Prelude.{if◌then◌else◌, slice_index_or, slice_set, Contains}
-use Rattle.std.proofs.Math.Logic.{⊎_elim}
-use Rattle.std.proofs.lemmas.Bool.{cases_lt, cases_eq, eq-eqb, eqb-true}
-use Rattle.std.proofs.lemmas.List.{get_or-set_same, get_or-set_other, length-set, length-replicate}
-use Rattle.signalling_types.specs.declared.limits.TheConstants.Limits.{LINKS, SELECTIONS}
-use Rattle.settings_rows.specs.Configuration.{Configuration}
-use Rattle.routes.specs.Facts.{Facts}
-use Rattle.routes.specs.Chosen.{chosen_link}
-use Rattle.flow_hold.specs.declared.procedure.Procedure.{Procedure}
-use Rattle.flow_hold.specs.Holds.{HoldSet, holds, may_hold}
-use Rattle.flow_hold.specs.Pairs.{IsAnyFlow}
-use Rattle.flow_hold.proofs.Holding.{may_parts}
-use Rattle.flow_hold.proofs.Flows.{IsSameNode, same_holds}
-use Rattle.changeback.specs.Codes.{free_code}
-use Rattle.changeback.specs.Return.{FlowChange, returned, gives_up, held_by}
-use Rattle.changeback.specs.Laws.{IsMoved, IsToHold}
-use Rattle.changeback.proofs.Moved.{moved_of, each_found}
-use Rattle.changeback.proofs.Held.{came, change_pairs, pairs-stay, changes-same_node}
-use Rattle.exchange_rules.specs.State.{QueueKind, Node, with_parts}
-use Rattle.exchange_rules.specs.Routing.{facts}
-use Rattle.exchange_rules.specs.Points.{set_of}
-use Rattle.exchange_rules.specs.Places.{HasPlacesFor}
-use Rattle.exchange_rules.specs.ChangingBack.{is_taken_back, loses_flows, procedure_by, usable, code_for, declare_by, hold_flows, take_back, take_back_each, change_back}
-use Rattle.exchange_rules.proofs.Belonging.{chosen_there}
-use Rattle.exchange_rules.proofs.TakenPairs.{IsTakenFrom, holder_of, take_back_each-alike, pairs_stay, pair_was, pair_added}
-use Rattle.exchange_rules.proofs.TakenBack.{holder_may, taken-so, loses-so, went, other_loses, some_lost}
-use Rattle.exchange.specs.TakingOver.{holder, declare, declare_each, holders, take_over}
+use Rattle.exchange.proofs.Basics.{◌≡◌, ◌≢◌, ◌<◌, ◌≤◌, ℕ, zero, suc, Bool, true, false, ◌||◌, replicate, List, [], ◌∷◌, length, nat_eq, Option, Some, None, refl, ap, sym, ◌∙◌, subst, arith, if◌then◌else◌, slice_index_or, slice_set, Contains, ⊎_elim, cases_lt, cases_eq, eq-eqb, eqb-true, get_or-set_same, get_or-set_other, length-set, length-replicate, LINKS, SELECTIONS, Configuration, Facts, chosen_link, Procedure, HoldSet, holds, may_hold, IsAnyFlow, may_parts, IsSameNode, same_holds, free_code, FlowChange, returned, gives_up, held_by, IsMoved, IsToHold, moved_of, each_found, came, change_pairs, pairs-stay, changes-same_node, QueueKind, Node, with_parts, facts, set_of, HasPlacesFor, is_taken_back, loses_flows, procedure_by, usable, code_for, declare_by, hold_flows, take_back, take_back_each, change_back, chosen_there, IsTakenFrom, holder_of, take_back_each-alike, pairs_stay, pair_was, pair_added, holder_may, taken-so, loses-so, went, other_loses, some_lost, holder, declare, declare_each, holders, take_over}
 
 same-bool : (a b : Bool) → (a ≡ true → b ≡ true) → (b ≡ true → a ≡ true) → a ≡ b
 same-bool true b f g = sym (f refl)

@@ -1,19 +1,5 @@
 -- Adjacent points are told what they are owed, one destination after the other and one set after the other.
-use Rattle.std.proofs.Common.{◌≡◌, ◌<◌, ◌≤◌, ℕ, suc, ◌+◌, ◌-◌, length, replicate, Bool, true, false, List, [], ◌∷◌, ◌++◌, Option, Some, None, refl, ap, sym, ◌∙◌, arith}
-use Rattle.std.specs.Prelude.{if◌then◌else◌}
-use Rattle.settings_rows.specs.Configuration.{Configuration}
-use Rattle.routes.specs.Facts.{Facts}
-use Rattle.routes.specs.declared.route.RouteStatus.{RouteStatus}
-use Rattle.route_management.specs.Told.{ToldTable, shape_of}
-use Rattle.route_management.specs.Owed.{Owed, owed_at, owed_from, owed_to, owed_by_sets}
-use Rattle.route_management.proofs.Walking.{next_is_owed, next_is_not_owed, later_stay_owed, next_set, owed_are_to, others_stay_owed}
-use Rattle.route_management.proofs.Shape.{row_by_shape, rows_by_shape}
-use Rattle.exchange_rules.specs.State.{QueueKind, Node, State, with_node}
-use Rattle.exchange.specs.KeptQueues.{KeptQueues, kept}
-use Rattle.exchange_rules.specs.Routing.{facts}
-use Rattle.exchange_rules.specs.Telling.{may_tell, tell, tell_if, tell_each, tell_owed}
-use Rattle.exchange.specs.Telling.{tell_at, told_at_place, told_set}
-use Rattle.exchange_rules.proofs.Telling.{tell-facts, tell-told, tell_each-facts, tell_each-row, tell_each-adjacents}
+use Rattle.exchange.proofs.Basics.{◌≡◌, ◌<◌, ◌≤◌, ℕ, suc, ◌+◌, ◌-◌, length, replicate, Bool, true, false, List, [], ◌∷◌, ◌++◌, Option, Some, None, refl, ap, sym, ◌∙◌, arith, if◌then◌else◌, Configuration, Facts, RouteStatus, ToldTable, shape_of, Owed, owed_at, owed_from, owed_to, owed_by_sets, next_is_owed, next_is_not_owed, later_stay_owed, next_set, owed_are_to, others_stay_owed, row_by_shape, rows_by_shape, QueueKind, Node, State, with_node, KeptQueues, kept, facts, may_tell, tell, tell_if, tell_each, tell_owed, tell_at, told_at_place, told_set, tell-facts, tell-told, tell_each-facts, tell_each-row, tell_each-adjacents}
 
 module _ {Q : Type 0} (q : QueueKind Q) (c : Configuration) where
   -- ---- one destination after the other

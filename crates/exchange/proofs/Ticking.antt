@@ -1,8 +1,5 @@
 -- One timer has run, and one fewer is left to run.
-use Rattle.std.proofs.Common.{◌≡◌, ◌<◌, ◌+◌, ◌-◌, ℕ, suc, arith}
-use Rattle.exchange_rules.specs.State.{State, with_node}
-use Rattle.exchange.specs.KeptQueues.{KeptQueues, kept}
-use Rattle.exchange_rules.specs.Ticking.{run_next, run_times}
+use Rattle.exchange.proofs.Basics.{◌≡◌, ◌<◌, ◌+◌, ◌-◌, ℕ, suc, arith, State, with_node, KeptQueues, kept, run_next, run_times}
 
 -- the state after so many more timers ran
 abbrev pub run_on : ℕ → State KeptQueues → State KeptQueues

@@ -1,17 +1,8 @@
--- Which messages of a queue wait behind a number, and which of them are counted.
-use Rattle.std.specs.Prelude.{ℕ, Bool, false, not, ◌&&◌, List, drop, Option, Some, None, unwrap_or}
-use Rattle.signalling_types.specs.Message.{Message, is_management}
+-- Which messages of a queue wait behind a number.
+use Rattle.std.specs.Prelude.{ℕ, List, drop, unwrap_or}
+use Rattle.signalling_types.specs.Message.{Message}
 use Rattle.link.specs.Queue.{Queue, named_count}
 use Rattle.link.specs.Counts.{Counts, kept_newly_confirmed}
-
--- a user message that a choice takes
-abbrev pub is_user_picked : (Message → Bool) → Message → Bool
-is_user_picked picks m = not (is_management m) && picks m
-
--- where there is a message
-abbrev pub is_picked_of : (Message → Bool) → Option Message → Bool
-is_picked_of picks (Some m) = is_user_picked picks m
-is_picked_of picks None = false
 
 -- the messages of a queue behind the count that a number names; where it names none, all that aren't confirmed
 abbrev pub behind_number : Queue → (number : ℕ) → List Message

@@ -1,7 +1,7 @@
 -- A link that returns to service takes over flows itself, and no flow goes to any other link then: each that changed its link is held.
-use Rattle.exchange_rules.proofs.Basics.{◌≡◌, ◌≢◌, ◌<◌, ◌≤◌, ◌⊎◌, ℕ, zero, suc, Bool, true, false, ◌&&◌, ◌||◌, cond, List, [], ◌∷◌, length, not, refl, ap, sym, ◌∙◌, arith, inl, inr, Contains, find, slice_set, ◌==◌, option_map, option_or, option_and_then, ⊎_elim, cases_lt, cases_eq, get_or_past, get_or-set_same, get_or-set_other, length-set, length-map}
-use Rattle.exchange_rules.proofs.Definitions.{Route, RouteStatus, Allowed, Restricted, Facts, set_at, routes_to, with_status_over, chosen_link, Configuration, Transition, is_held, reset_shape, Parts, Node, with_parts, in_service, link_at, WholeQueues, whole, facts, change_back, set_of, enters, begun_anew_if, step_on, return_if, advance, HasPlacesFor, entries_hold_changed_flows}
-use Rattle.std.specs.Prelude.{Option, Some, None, map}
+use Rattle.exchange_rules.proofs.Basics.{◌≡◌, ◌≢◌, ℕ, Bool, true, false, ◌&&◌, length, not, refl, ap, sym, ◌∙◌, ⊎_elim, length-set, length-map}
+use Rattle.exchange_rules.proofs.Definitions.{Allowed, Facts, with_status_over, chosen_link, Configuration, Transition, is_held, reset_shape, Parts, Node, with_parts, in_service, link_at, WholeQueues, whole, facts, change_back, set_of, enters, begun_anew_if, step_on, return_if, advance, HasPlacesFor, entries_hold_changed_flows}
+use Rattle.std.specs.Prelude.{Some, map}
 use Rattle.std.proofs.lemmas.Option.{same_Some}
 use Rattle.routes.specs.Facts.{with_link}
 use Rattle.routes.proofs.Leaving.{goes_or_stays}

@@ -1,9 +1,7 @@
 -- The link that a flow takes is one of the settings, and so are its set and its destination.
-use Rattle.exchange_rules.proofs.Basics.{◌≡◌, ◌<◌, ◌≤◌, ℕ, zero, suc, ◌-◌, Bool, true, false, ◌&&◌, cond, List, [], ◌∷◌, length, nat_eq, refl, ap, ◌∙◌, subst, arith, inl, inr, Contains, find, position, slice_index_or, option_map, option_or, option_to_list, ⊎_elim, cases_lt, nat_tests, get_or_past, get_or_append_left, get_or-append_right, length-append, Contains-append_right, Contains-append_cases, position-Some}
+use Rattle.exchange_rules.proofs.Basics.{◌≡◌, ◌<◌, ◌≤◌, ℕ, zero, suc, ◌-◌, Bool, true, ◌&&◌, List, [], ◌∷◌, length, nat_eq, refl, ◌∙◌, subst, arith, inl, inr, Contains, position, slice_index_or, option_to_list, ⊎_elim, cases_lt, nat_tests, get_or_past, get_or_append_left, get_or-append_right, length-append, Contains-append_cases, position-Some}
 use Rattle.exchange_rules.proofs.Definitions.{Configuration, LinkEntry, Facts, first_sets, chosen_link, Parts, facts, set_of}
 use Rattle.std.specs.Prelude.{Option, Some, None}
-use Rattle.std.proofs.lemmas.Option.{same_Some}
-use Rattle.std.proofs.lemmas.List.Sorted.{Contains-permutation, IsPermutation-sym}
 use Rattle.routes.specs.Members.{has_code, links_below, links_of}
 use Rattle.routes.proofs.Leaving.{IsOfSet, chosen_of_set, none_past}
 

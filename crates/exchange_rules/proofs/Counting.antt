@@ -1,9 +1,9 @@
 -- Notices are counted, and the last 64 are kept.
 use Rattle.exchange_rules.proofs.Basics.{◌≡◌, ◌≤◌, ℕ, List, [], ◌∷◌, ◌++◌, length, refl, ap, sym, subst, arith, drop-drop, ◌∙◌, drop, min, append-nil, append_assoc, drop-append-le, length-append, length-drop}
-use Rattle.exchange_rules.proofs.Definitions.{Configuration, NOTICES, FailureReason, Notice, first_state, AreNoted, IsWithinLimits, after_each, new_notices_are_the_last, notices_made_are_counted, notices_keep_their_limits, noted, noted_all, WholeQueues, Node, Noted}
+use Rattle.exchange_rules.proofs.Definitions.{Configuration, NOTICES, Notice, first_state, AreNoted, IsWithinLimits, after_each, new_notices_are_the_last, notices_made_are_counted, notices_keep_their_limits, noted, noted_all, WholeQueues, Node, Noted}
 use Rattle.std.proofs.Math.Nat.{min-le_left, min-le_right, sub-add-min_cancel}
 use Rattle.std.proofs.Math.Seq.{drop-append-add}
-use Rattle.std.specs.Prelude.{◌+◌, ◌-◌, ◌%◌, ◌^◌, ◌<◌}
+use Rattle.std.specs.Prelude.{◌+◌, ◌-◌, ◌%◌, ◌^◌}
 use Rattle.circular_buffer.specs.Buffer.{keep_last}
 use Rattle.signalling_types.specs.declared.notice.Notice.TheVariants as notices
 use Rattle.exchange_rules.proofs.Asked.{any, IsOfAll, all-of, asked-all}

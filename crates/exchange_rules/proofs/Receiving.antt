@@ -1,6 +1,6 @@
 -- What was received on a link is counted: by one for each frame that newly carries a message, and by nothing else.
 use Rattle.exchange_rules.proofs.Basics.{◌≡◌, ◌≢◌, ℕ, List, Option, Some, None, refl, ap, sym, ◌∙◌, slice_set, get_or-set_other}
-use Rattle.exchange_rules.proofs.Definitions.{Configuration, Queue, Sending, first_queue, emptied, appended, after_answer, accept_answer, to_send, Node, carries, WholeQueues, queue_at, received}
+use Rattle.exchange_rules.proofs.Definitions.{Configuration, Queue, Sending, first_queue, emptied, appended, to_send, Node, carries, WholeQueues, queue_at, received}
 use Rattle.link.specs.Queue as queue
 use Rattle.link.specs.Queue.{after_sending}
 use Rattle.exchange_rules.proofs.Lists.{alike-at}

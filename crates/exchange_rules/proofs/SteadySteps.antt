@@ -1,6 +1,6 @@
 -- Each step leaves each link steady.
 use Rattle.exchange_rules.proofs.Basics.{◌≡◌, ◌≢◌, ◌<◌, ℕ, Bool, true, false, length, Option, refl, sym, subst, arith, slice_set, ⊎_elim, cases_eq}
-use Rattle.exchange_rules.proofs.Definitions.{Configuration, Message, FailureReason, Input, Go, Transition, action_at, Queue, Sending, first_queue, emptied, NodeCounts, L7, Running, is_running, Link, stepped, after_failure, Standing, Node, with_parts, link_at, with_link, down, in_service, queue_on, changeover_of, with_changeover, fail_link, without_association, step_on, WholeQueues, queue_at, whole, is_l7_running}
+use Rattle.exchange_rules.proofs.Definitions.{Configuration, Message, FailureReason, Input, Go, Transition, action_at, Queue, emptied, NodeCounts, L7, Running, is_running, Link, stepped, after_failure, Standing, Node, with_parts, link_at, with_link, down, in_service, queue_on, changeover_of, with_changeover, fail_link, without_association, step_on, WholeQueues, queue_at, whole, is_l7_running}
 use Rattle.link.specs.Queue as queue
 use Rattle.exchange_rules.proofs.Serving.{IsStep, each-step}
 use Rattle.exchange_rules.proofs.LinkTimers.{AreTimedFor, same-for, timed-for, timed_busy-for, timed_busy_ended-for}

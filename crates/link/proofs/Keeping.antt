@@ -1,9 +1,5 @@
 -- When counts and messages are what is kept of a queue, they are so after each word.
-use Rattle.std.proofs.Common.{◌≡◌, ℕ, Bool, List, drop, sym}
-use Rattle.signalling_types.specs.Message.{Message}
-use Rattle.link.specs.Queue.{Queue, newly_confirmed, accept_answer, count_confirmed, accepted, last_accepted}
-use Rattle.link.specs.Counts.{Counts, kept_newly_confirmed, kept_accept_answer, kept_accepted, kept_last_accepted}
-use Rattle.link.specs.Keeps.{Keeps}
+use Rattle.link.proofs.Basics.{◌≡◌, ℕ, Bool, List, drop, sym, Message, Queue, newly_confirmed, accept_answer, count_confirmed, accepted, last_accepted, Counts, kept_newly_confirmed, kept_accept_answer, kept_accepted, kept_last_accepted, Keeps}
 use Rattle.link.proofs.Kept.{kept-newly_confirmed, kept-accept_answer, counts-accepted, unconfirmed-accepted, kept-last_accepted}
 use Rattle.link.proofs.Sound.{sound-accepted}
 

@@ -1,3 +1,4 @@
+pub mod Basics
 pub mod Named
 pub mod Kept
 pub mod Sound

@@ -1,10 +1,5 @@
 -- The count that a number names: the search over counts in a row finds it by its distance.
-use Rattle.std.proofs.Common.{◌≡◌, ℕ, zero, suc, ◌+◌, ◌-◌, ◌%◌, ◌^◌, ◌<◌, ◌≤◌, arith, Some, None, nat_eq, nat_lt, nat_le, if◌then◌else◌, find, List, [], ◌∷◌, drop, slice_get}
-use Rattle.std.specs.Option.{option_map}
-use Rattle.std.proofs.lemmas.Grind.{common_steps}
-use Rattle.std.proofs.lemmas.Bool.Decides.{nat_tests}
-use Rattle.signalling_types.specs.Numbers.{steps_between, next_number}
-use Rattle.link.specs.Queue.{counts_from}
+use Rattle.link.proofs.Basics.{◌≡◌, ℕ, zero, suc, ◌+◌, ◌-◌, ◌%◌, ◌^◌, ◌<◌, ◌≤◌, arith, Some, None, nat_eq, nat_lt, nat_le, if◌then◌else◌, find, List, [], ◌∷◌, drop, slice_get, option_map, common_steps, nat_tests, steps_between, next_number, counts_from}
 
 pub found : (base first many target : ℕ) → many ≤ 2 ^ 24 → target < 2 ^ 24 →
     find (λ n. nat_eq ((base + n) % 2 ^ 24) target) (counts_from first many)

@@ -1,10 +1,5 @@
 -- The search for the count that a number names finds it, and nothing else.
-use Rattle.std.proofs.Common.{◌≡◌, ℕ, ◌+◌, ◌-◌, ◌%◌, ◌^◌, ◌<◌, ◌≤◌, arith, refl, sym, ◌∙◌, Some, None, nat_lt, if◌then◌else◌}
-use Rattle.std.proofs.lemmas.Grind.{common_steps}
-use Rattle.std.proofs.lemmas.Bool.Decides.{nat_tests}
-use Rattle.signalling_types.specs.Numbers.{next_number, steps_between}
-use Rattle.link.specs.Queue.{Queue, IsQueue, Names, forward_number, named_count}
-use Rattle.link.specs.Naming.{search_finds_named}
+use Rattle.link.proofs.Basics.{◌≡◌, ℕ, ◌+◌, ◌-◌, ◌%◌, ◌^◌, ◌<◌, ◌≤◌, arith, refl, sym, ◌∙◌, Some, None, nat_lt, if◌then◌else◌, common_steps, nat_tests, next_number, steps_between, Queue, IsQueue, Names, forward_number, named_count, search_finds_named}
 use Rattle.link.proofs.Named.{found}
 
 -- ---- by the distance d to what the number names

@@ -1,14 +1,6 @@
 -- Each word leaves a queue a queue.
-use Rattle.std.proofs.Common.{◌≡◌, ℕ, Bool, true, false, ◌-◌, ◌<◌, ◌≤◌, length, nat_lt, nat_le, slice_get, arith, refl, Option, Some, None, Result, Ok, Err, nat_eq, subst, if◌then◌else◌}
-use Rattle.std.proofs.lemmas.Grind.{common_steps}
-use Rattle.std.proofs.lemmas.Bool.Decides.{nat_tests}
-use Rattle.std.proofs.lemmas.Option.{slice_get_within}
-use Rattle.signalling_types.specs.Message.{Message}
-use Rattle.signalling_types.specs.declared.limits.TheConstants.Limits.{WINDOW}
-use Rattle.link.specs.declared.fault.SeqFault.{SeqFault}
-use Rattle.signalling_types.specs.Numbers.{steps_between, next_number}
+use Rattle.link.proofs.Basics.{◌≡◌, ℕ, Bool, true, false, ◌-◌, ◌<◌, ◌≤◌, length, nat_lt, nat_le, slice_get, arith, refl, Option, Some, None, Result, Ok, Err, nat_eq, subst, if◌then◌else◌, common_steps, nat_tests, slice_get_within, Message, WINDOW, SeqFault, steps_between, next_number, Queue, IsQueue, confirmation, count_confirmed, forward_number, numbered, first_queue, expected, accept_answer, after_answer, accepted, after_sending, sent_one, appended, emptied}
 use Rattle.link.proofs.Kept.{kept-newly_confirmed}
-use Rattle.link.specs.Queue.{Queue, IsQueue, confirmation, count_confirmed, forward_number, numbered, first_queue, expected, accept_answer, after_answer, accepted, after_sending, sent_one, appended, emptied}
 
 pub sound-first : (w : ℕ) → w ≤ WINDOW → IsQueue w first_queue
 sound-first w l = record { confirmed = omega arith; sent = omega arith; window = omega arith; limit = l }

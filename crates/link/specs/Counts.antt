@@ -6,7 +6,7 @@ use Rattle.signalling_types.specs.Message.{Message}
 use Rattle.signalling_types.specs.Numbers.{modulus, next_number, previous_number, steps_between}
 use Rattle.link.specs.declared.fault.SeqFault.{SeqFault}
 use Rattle.link.specs.declared.fault.SeqFault.TheVariants.{BadFsn}
-use Rattle.link.specs.Queue.{Queue, Sending, forward_number, confirmation, numbered, unconfirmed}
+use Rattle.link.specs.Queue.{Queue, Sending, forward_number, confirmation, numbered}
 
 pub record Counts : Type 0 where
   -- the number of the first message that isn't confirmed, sent or not

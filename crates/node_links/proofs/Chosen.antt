@@ -1,14 +1,5 @@
 -- The link that a flow takes is there, and in service.
-use Rattle.std.proofs.Common.{◌≡◌, ◌<◌, ℕ, zero, suc, Bool, true, false, List, [], ◌∷◌, length, refl, ap, sym, ◌∙◌, subst, arith}
-use Rattle.std.specs.Prelude.{Option, Some, None, IfSome, slice_index_or, slice_set}
-use Rattle.std.proofs.Math.ListN.{get_or-map}
-use Rattle.std.proofs.lemmas.List.{length-map, length-set}
-use Rattle.routes.specs.Facts.{Facts, with_link}
-use Rattle.routes.specs.Chosen.{chosen_link}
-use Rattle.routes.proofs.InService.{chosen_serves}
-use Rattle.node_links.specs.Link.{Link}
-use Rattle.node_links.specs.LinkState.{down_link, is_in_service}
-use Rattle.node_links.specs.Network.{Network, serving, facts_of, link_in}
+use Rattle.node_links.proofs.Basics.{◌≡◌, ◌<◌, ℕ, zero, suc, Bool, true, false, List, [], ◌∷◌, length, ap, sym, ◌∙◌, subst, arith, Option, Some, None, IfSome, slice_index_or, slice_set, get_or-map, length-map, length-set, Facts, with_link, chosen_link, chosen_serves, Link, down_link, is_in_service, Network, serving, facts_of, link_in}
 
 -- facts that agree with the states of the links
 pub facts_kept : (f : Facts) (links : List Link) → f.in_service ≡ serving links → f ≡ facts_of (record { links = links; sets = f.sets; routes = f.routes })
@@ -45,3 +36,9 @@ other_is_there n without destination selection None e = tt
 other_is_there n without destination selection (Some link) e =
     subst (λ m. link < m) (length-serving_without n without)
     (within (slice_set (serving n.links) without false) link (chosen_serves (with_link without false (facts_of n)) destination selection link (sym e)))
+
+-- what would be known of routes with a link taken out, by a copy of which links are in service
+pub facts_before : (n : Network) (link : ℕ) (copy lent : List Bool) (f : Facts) → f ≡ record (facts_of n) { in_service = lent } → lent ≡ copy
+    → copy ≡ slice_set (serving n.links) link false → f ≡ with_link link false (facts_of n)
+facts_before n link copy lent f e l c =
+    e ∙ ap (λ (in_service : List Bool). record { sets = n.sets; in_service = in_service; routes = n.routes }) (l ∙ c)

@@ -1,11 +1,5 @@
 -- Which links are in service, as one of them changes.
-use Rattle.std.proofs.Common.{◌≡◌, ◌∷◌, ℕ, Bool, false, List, replicate, zero, suc, refl, ap, sym, ◌∙◌}
-use Rattle.std.specs.Prelude.{slice_index_or, slice_set}
-use Rattle.std.proofs.Math.ListN.{get_or-map}
-use Rattle.std.proofs.lemmas.List.{map-set, set-get_or, set-set}
-use Rattle.node_links.specs.Link.{Link}
-use Rattle.node_links.specs.LinkState.{down_link, is_in_service}
-use Rattle.node_links.specs.Network.{Network, serving, facts_of, link_in, with_state}
+use Rattle.node_links.proofs.Basics.{◌≡◌, ◌∷◌, ℕ, Bool, false, List, replicate, zero, suc, refl, ap, sym, ◌∙◌, slice_index_or, slice_set, get_or-map, map-set, set-get_or, set-set, Link, down_link, is_in_service, Network, serving, facts_of, link_in, with_state}
 
 -- one link changes
 pub serving_set : (links : List Link) (link : ℕ) (state : Link)

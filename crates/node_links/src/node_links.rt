@@ -1,12 +1,11 @@
 //! The links of a node, and the routes that they open.
 
-ghost use Rattle.std.specs.Prelude.{◌≡◌, ◌<◌, ◌≤◌, false, true, drop, length, replicate, nat_lt, IfOk, IfSome};
+ghost use Rattle.std.specs.Prelude.{◌≡◌, ◌<◌, ◌≤◌, false, drop, length, replicate, slice_set, nat_lt, IfOk, IfSome};
 ghost use Rattle.link.specs.Table.{action_at};
-ghost use Rattle.routes.specs.Preference.{has_link};
-ghost use Rattle.routes.specs.Facts.{set_at, with_link};
-ghost use Rattle.routes.specs.Chosen.{chosen_link, chosen_routes, chosen_sets, lone_set};
-ghost use Rattle.node_links.specs.LinkState.{after_action, down_link, after_failure, is_in_service, opened};
-ghost use Rattle.node_links.specs.Network.{facts_of, first_network, link_in, with_state};
+ghost use Rattle.routes.specs.Facts.{with_link};
+ghost use Rattle.routes.specs.Chosen.{chosen_link};
+ghost use Rattle.node_links.specs.LinkState.{after_action, down_link, after_failure, opened};
+ghost use Rattle.node_links.specs.Network.{facts_of, first_network, link_in, serving, with_state};
 ghost use Rattle.node_links.specs.FormerLink.{former_link};
 
 mod statuses;
@@ -14,7 +13,7 @@ mod statuses;
 use crate::link_state::LinkState;
 use arrayvec::ArrayVec;
 use link::{Action, Input};
-use routes::{Route, Routes};
+use routes::{RouteFacts, Routes};
 use settings_rows::{DestinationRow, LinkRow};
 use signalling_types::{Limits, LinkId, SetId, Sls};
 use std::alloc::{AllocError, Global};
@@ -77,6 +76,27 @@ impl NodeLinks {
         &self.states[link.index()]
     }
 
+    /// What is known of routes.
+    pub fn facts(&self) -> RouteFacts<'_>
+        ensures { result ≡ facts_of self.now }
+    {
+        self.routes.facts()
+    }
+
+    /// What would be known of routes with these links in service.
+    pub fn facts_by<'a>(&'a self, in_service: &'a [bool]) -> RouteFacts<'a>
+        ensures { result ≡ record (facts_of self.now) { in_service = in_service.now } }
+    {
+        self.routes.facts_by(in_service)
+    }
+
+    /// Which links would be in service if a link weren't.
+    pub fn in_service_without(&self, link: LinkId) -> ArrayVec<bool, { Limits::LINKS }>
+        ensures { result.items ≡ slice_set (serving self.now.links) link false }
+    {
+        self.routes.in_service_without(link)
+    }
+
     /// The link of a flow, by the number of its destination and its selection: of the group that messages to that
     /// destination take, the first in service in the order in which the selection tries them whose set they take (Q.704
     /// §4.2).
@@ -87,92 +107,43 @@ impl NodeLinks {
         self.routes.link_of(destination, sls)
     }
 
-    /// How many destinations there are.
-    pub fn destinations(&self) -> usize
-        ensures { result ≡ length self.now.routes }
-    {
-        self.routes.destinations()
-    }
-
-    /// The link that a flow, which goes by this link, would take if this link were out of service (Q.704 §6.2). `None`
-    /// where it doesn't go by this link, or would have no other. The link is in service; nothing changes in the end. It
-    /// costs one look-up, and for a flow that goes by this link the sets that lead to its destination and their links.
-    pub fn former_link(&mut self, link: LinkId, destination: usize, sls: Sls) -> Option<LinkId>
-        requires there { link < length self.old.links }
-        requires serves { is_in_service (link_in self.old.links link).alignment ≡ true }
-        ensures former { result ≡ former_link link
-            (chosen_link (with_link link false (facts_of self.old)) destination sls)
-            (chosen_link (facts_of self.old) destination sls) }
-        ensures links { self.new ≡ self.old }
-        ensures fits { IfSome result (λ from. from < length self.old.links) }
+    /// The link that a flow, which goes by this link, would take if this link were out of service, as in `before` (Q.704
+    /// §6.2). `None` where it doesn't go by this link, or would have no other. It costs one look-up, and for a flow that
+    /// goes by this link the sets that lead to its destination and their links.
+    pub fn former_link(
+        &self,
+        before: &RouteFacts<'_>,
+        link: LinkId,
+        destination: usize,
+        sls: Sls,
+    ) -> Option<LinkId>
+        requires { before.now ≡ with_link link false (facts_of self.now) }
+        ensures former { result ≡ former_link link (chosen_link before.now destination sls)
+            (chosen_link (facts_of self.now) destination sls) }
+        ensures fits { IfSome result (λ from. from < length self.now.links) }
     {
         if self.link_of(destination, sls) != Some(link) {
             return None;
         }
-        match self.link_without(link, destination, sls) {
+        match self.link_before(before, link, destination, sls) {
             Some(from) if from != link => Some(from),
             _ => None,
         }
     }
 
-    /// The sets that messages to a destination take, in the order of its sets, by the number of that destination (Q.704
-    /// §4.2). None where no set leads there, two where two joined sets do.
-    pub fn sets_of(&self, destination: usize) -> ArrayVec<SetId, 2>
-        ensures { result.items ≡ chosen_sets (facts_of self.now) destination }
+    /// The link that a flow would take if a link weren't in service.
+    fn link_before(
+        &self,
+        before: &RouteFacts<'_>,
+        link: LinkId,
+        destination: usize,
+        sls: Sls,
+    ) -> Option<LinkId>
+        requires { before.now ≡ with_link link false (facts_of self.now) }
+        ensures link { result ≡ chosen_link before.now destination sls }
+        ensures fits { IfSome result (λ from. from < length self.now.links) }
     {
-        self.routes.sets_of(destination)
-    }
-
-    /// The set that all messages to a destination take, where the group that they take is that set alone.
-    pub fn lone_set(&self, destination: usize) -> Option<SetId>
-        ensures { result ≡ lone_set (facts_of self.now) destination }
-    {
-        self.routes.lone_set(destination)
-    }
-
-    /// The set that all messages to a destination would take if a link in service weren't, where the group that they
-    /// would take is that set alone. Nothing changes in the end.
-    pub fn lone_set_without(&mut self, link: LinkId, destination: usize) -> Option<SetId>
-        requires { is_in_service (link_in self.old.links link).alignment ≡ true }
-        ensures set { result ≡ lone_set (with_link link false (facts_of self.old)) destination }
-        ensures links { self.new ≡ self.old }
-    {
-        self.routes.lone_set_without(link, destination)
-    }
-
-    /// The link that a flow would take if a link in service weren't.
-    fn link_without(&mut self, link: LinkId, destination: usize, sls: Sls) -> Option<LinkId>
-        requires { is_in_service (link_in self.old.links link).alignment ≡ true }
-        ensures link { result ≡ chosen_link (with_link link false (facts_of self.old)) destination sls }
-        ensures links { self.new ≡ self.old }
-        ensures fits { IfSome result (λ from. from < length self.old.links) }
-    {
-        self.routes.link_without(link, destination, sls)
-    }
-
-    /// Whether some link of a set is in service; a set that isn't there has none.
-    pub fn has_link(&self, set: SetId) -> bool
-        ensures { result ≡ has_link (facts_of self.now).in_service (set_at (facts_of self.now) set) }
-    {
-        self.routes.has_link(set)
-    }
-
-    /// Whether some link of a set would be in service if a link in service weren't. Nothing changes in the end.
-    pub fn has_link_without(&mut self, link: LinkId, set: SetId) -> bool
-        requires { is_in_service (link_in self.old.links link).alignment ≡ true }
-        ensures has { result ≡ has_link (with_link link false (facts_of self.old)).in_service
-            (set_at (facts_of self.old) set) }
-        ensures links { self.new ≡ self.old }
-    {
-        self.routes.has_link_without(link, set)
-    }
-
-    /// The routes that messages to a destination take, in the order of its sets, by the number of that destination. All
-    /// are allowed, or all restricted. None where no set leads there, two where two joined sets do (Q.704 §4.2).
-    pub fn routes_of(&self, destination: usize) -> ArrayVec<Route, 2>
-        ensures { result.items ≡ chosen_routes (facts_of self.now) destination }
-    {
-        self.routes.routes_of(destination)
+        before.link_of(destination, sls)
     }
 
     /// A link does what its alignment does about an input, and says what that is. Where the link is to fail, nothing

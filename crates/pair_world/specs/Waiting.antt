@@ -1,7 +1,8 @@
 -- How many user messages wait at an end, by what is kept of both exchanges.
 use Rattle.std.specs.Prelude.{ℕ, ◌+◌, Bool, count_by, length}
 use Rattle.signalling_types.specs.Message.{Message}
-use Rattle.exchange.specs.Counting.{is_user_picked, kept_behind_number}
+use Rattle.cell_pool.specs.Lanes.{is_user_picked}
+use Rattle.exchange.specs.Counting.{kept_behind_number}
 use Rattle.exchange.specs.KeptQueues.{kept, counts_at, link_lane}
 use Rattle.exchange.specs.Stands.{Kept}
 use Rattle.pair_moves.specs.Laws.{sum_to}

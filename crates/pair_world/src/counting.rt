@@ -10,9 +10,8 @@ use settings::LinkId;
 
 /// How many user messages that a choice takes wait at the near exchange: on its links, behind the last message that the
 /// far one accepted there, and in Held.
-pub(crate) fn count_waiting<P: Pick>(near: &mut Exchange, far: &Exchange, pick: &P) -> u128
-    ensures count { result ≡ kept_waiting (P.picks pick.now) near.old far.now }
-    ensures unchanged { near.new ≡ near.old }
+pub(crate) fn count_waiting<P: Pick>(near: &Exchange, far: &Exchange, pick: &P) -> u128
+    ensures { result ≡ kept_waiting (P.picks pick.now) near.now far.now }
 {
     let links = near.settings().link_count() as u8;
     let on_links = count_on_links(near, far, links, pick);
@@ -20,10 +19,9 @@ pub(crate) fn count_waiting<P: Pick>(near: &mut Exchange, far: &Exchange, pick: 
 }
 
 /// The same, on the first so many links. Each link's count has 64 bits, so the sum has room in 128.
-fn count_on_links<P: Pick>(near: &mut Exchange, far: &Exchange, links: u8, pick: &P) -> u128
-    ensures count { result ≡ sum_to (kept_waiting_on (P.picks pick.now) near.old far.now) links }
+fn count_on_links<P: Pick>(near: &Exchange, far: &Exchange, links: u8, pick: &P) -> u128
+    ensures count { result ≡ sum_to (kept_waiting_on (P.picks pick.now) near.now far.now) links }
     ensures few { result ≤ links * 2 ^ 64 }
-    ensures unchanged { near.new ≡ near.old }
 {
     let mut count = 0u128;
     for link in 0..links {
@@ -33,9 +31,8 @@ fn count_on_links<P: Pick>(near: &mut Exchange, far: &Exchange, links: u8, pick:
 }
 
 /// The same, on one link.
-fn count_on<P: Pick>(near: &mut Exchange, far: &Exchange, link: LinkId, pick: &P) -> usize
-    ensures count { result ≡ kept_waiting_on (P.picks pick.now) near.old far.now link }
-    ensures unchanged { near.new ≡ near.old }
+fn count_on<P: Pick>(near: &Exchange, far: &Exchange, link: LinkId, pick: &P) -> usize
+    ensures { result ≡ kept_waiting_on (P.picks pick.now) near.now far.now link }
 {
     let number = last_accepted(far, link);
     near.count_behind(link, number, pick)

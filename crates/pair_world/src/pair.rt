@@ -137,14 +137,13 @@ impl Pair {
     /// that the other end accepted there, or in Held. So while neither end may have lost a message, as many were
     /// accepted as the other end received and as wait, between any two steps.
     ///
-    /// Nothing changes. It steps over the messages that the other end accepted and that aren't confirmed yet, looks at
+    /// It steps over the messages that the other end accepted and that aren't confirmed yet, looks at
     /// each message behind them and in Held once, and copies none. Each link's count has 64 bits, and their sum 128.
-    pub fn waiting<P: Pick>(&mut self, end: End, pick: &P) -> u128
-        ensures waiting { (p : PairState) → StandsFor self.old p →
+    pub fn waiting<P: Pick>(&self, end: End, pick: &P) -> u128
+        ensures waiting { (p : PairState) → StandsFor self.now p →
             result ≡ count_by (promises.user (P.picks pick.now)) (promises.waiting (seen_from end p)) }
-        ensures once { (p : PairState) → StandsFor self.old p →
+        ensures once { (p : PairState) → StandsFor self.now p →
             ComeOrWait (seen_from end p) (P.picks pick.now) result }
-        ensures unchanged { self.new ≡ self.old }
     {
         self.count_waiting(end, pick)
     }
@@ -165,10 +164,9 @@ impl Pair {
     }
 
     /// How many user messages that a choice takes wait at an end, by what is kept.
-    fn count_waiting<P: Pick>(&mut self, end: End, pick: &P) -> u128
-        ensures count { result ≡ kept_waiting (P.picks pick.now)
-            (kept_at end self.old).exchange (kept_at (other end) self.old).exchange }
-        ensures unchanged { self.new ≡ self.old }
+    fn count_waiting<P: Pick>(&self, end: End, pick: &P) -> u128
+        ensures { result ≡ kept_waiting (P.picks pick.now)
+            (kept_at end self.now).exchange (kept_at (other end) self.now).exchange }
     {
         match end {
             End::One => self.near.count_waiting(&self.far, pick),

@@ -142,11 +142,10 @@ impl Side {
     }
 
     /// How many user messages that a choice takes wait for the other end.
-    pub(crate) fn count_waiting<P: Pick>(&mut self, other: &Side, pick: &P) -> u128
-        ensures count { result ≡ kept_waiting (P.picks pick.now) self.old.exchange other.now.exchange }
-        ensures unchanged { self.new ≡ self.old }
+    pub(crate) fn count_waiting<P: Pick>(&self, other: &Side, pick: &P) -> u128
+        ensures { result ≡ kept_waiting (P.picks pick.now) self.now.exchange other.now.exchange }
     {
-        count_waiting(&mut self.exchange, &other.exchange, pick)
+        count_waiting(&self.exchange, &other.exchange, pick)
     }
 }
 

@@ -1,7 +1,5 @@
 -- No number is marked from one to the next, nor past the bound.
-use Rattle.std.proofs.Common.{◌≡◌, ◌≤◌, ◌+◌, ℕ, zero, suc, Bool, false, List, [], ◌∷◌, length, refl, ap, ◌∙◌, inl, inr, arith}
-use Rattle.std.proofs.lemmas.Bool.Decides.{eqb_tells, leb_tells}
-use Rattle.route_management.specs.Marks.{is_marked, NoneFrom, NoneBetween}
+use Rattle.route_management.proofs.Basics.{◌≡◌, ◌≤◌, ◌+◌, ℕ, zero, suc, Bool, false, List, [], ◌∷◌, length, refl, ap, ◌∙◌, inl, inr, arith, eqb_tells, leb_tells, is_marked, NoneFrom, NoneBetween}
 
 pub none_yet : (marks : List Bool) (from : ℕ) → NoneBetween marks from from
 none_yet marks from = λ number least below. absurd (omega (arith, least, below))

@@ -1,3 +1,4 @@
+pub mod Basics
 pub mod Rows
 pub mod Owing
 pub mod Listing

@@ -1,18 +1,5 @@
 -- What is listed as owed is all that is owed.
-use Rattle.std.proofs.Common.{◌≡◌, ◌≤◌, ◌<◌, ◌+◌, ℕ, zero, suc, Bool, true, false, ◌&&◌, ◌||◌, List, [], ◌∷◌, ◌++◌, length, refl, ap, sym, ◌∙◌, inl, inr, arith}
-use Rattle.std.specs.Prelude.{Option, Some, None, nat_eq, slice_set, if◌then◌else◌}
-use Rattle.std.specs.List.{All, AllByRecursion, range_with_len, filter_map, flat_map, list_any, cons_option}
-use Rattle.std.specs.Option.{option_map}
-use Rattle.std.proofs.lemmas.Bool.{eqb-true, eq-eqb}
-use Rattle.std.proofs.lemmas.Bool.Decides.{eqb_tells}
-use Rattle.std.proofs.lemmas.List.{length-set}
-use Rattle.std.proofs.lemmas.List.Elements.{All-nil, All-cons}
-use Rattle.std.proofs.lemmas.List.Folds.{list_any-append}
-use Rattle.routes.specs.declared.route.RouteStatus.{RouteStatus}
-use Rattle.routes.specs.Facts.{Facts}
-use Rattle.route_management.specs.Told.{ToldTable, row_of, with_told}
-use Rattle.route_management.specs.Owed.{Owed, status_to_advertise, owed_at, owed_about, owed_to, owed, all_told}
-use Rattle.route_management.specs.Laws.{listed_is_owed, told_all_owes_nothing}
+use Rattle.route_management.proofs.Basics.{and_parts, or_right, ◌≡◌, ◌≤◌, ◌<◌, ◌+◌, ℕ, zero, suc, Bool, true, false, ◌&&◌, ◌||◌, List, [], ◌∷◌, ◌++◌, length, refl, ap, sym, ◌∙◌, inl, inr, arith, Option, Some, None, nat_eq, slice_set, if◌then◌else◌, All, AllByRecursion, range_with_len, filter_map, flat_map, list_any, cons_option, option_map, eqb-true, eq-eqb, eqb_tells, length-set, All-nil, All-cons, list_any-append, RouteStatus, Facts, ToldTable, row_of, with_told, Owed, status_to_advertise, owed_at, owed_about, owed_to, owed, all_told, listed_is_owed, told_all_owes_nothing}
 use Rattle.route_management.proofs.Rows.{rows_as_long}
 use Rattle.route_management.proofs.Owing.{once, other_points, other_destinations}
 
@@ -91,14 +78,6 @@ none_stays f t (o ∷ os) s d h e = none_stays f (with_told o.set o.destination 
 abbrev pub is_about : ℕ → ℕ → Owed → Bool
 is_about s d o = nat_eq o.set s && nat_eq o.destination d
 
-first_of_both : (a b : Bool) → (a && b) ≡ true → a ≡ true
-first_of_both true b e = refl
-first_of_both false b e = absurd cc
-
-second_of_both : (a b : Bool) → (a && b) ≡ true → b ≡ true
-second_of_both true b e = e
-second_of_both false b e = absurd cc
-
 told_after : (f : Facts) (t : ToldTable) (os : List Owed) (s d : ℕ) → AllByRecursion (IsDue f) os → list_any (is_about s d) os ≡ true
     → owed_at f (all_told os t) s d ≡ None
 told_after f t [] s d h e = absurd cc
@@ -107,7 +86,7 @@ told_after f t (o ∷ os) s d h e =
     elim (is_about s d o) as (λ b. is_about s d o ≡ b → (b || list_any (is_about s d) os) ≡ true → owed_at f (all_told os told) s d ≡ None) [
       | true ↦ λ same any.
           none_stays f told os s d h.1
-          (hit f t o s d h.0 (eqb-true o.set s (first_of_both _ _ same)) (eqb-true o.destination d (second_of_both (nat_eq o.set s) _ same)))
+          (hit f t o s d h.0 (eqb-true o.set s (and_parts (nat_eq o.set s) _ same).0) (eqb-true o.destination d (and_parts (nat_eq o.set s) _ same).1))
       | false ↦ λ apart any. told_after f told os s d h.1 any
     ] refl e
 
@@ -121,13 +100,9 @@ here true true c e k = refl
 here true false c e k = absurd cc
 here false b c e k = absurd cc
 
-there : (a b : Bool) → b ≡ true → (a || b) ≡ true
-there true b e = refl
-there false b e = e
-
 behind : (p : Owed → Bool) (o : Option Owed) (os : List Owed) → list_any p os ≡ true → list_any p (cons_option o os) ≡ true
 behind p None os e = e
-behind p (Some x) os e = there (p x) _ e
+behind p (Some x) os e = or_right (p x) _ e
 
 pub listed_of_point : (f : Facts) (t : ToldTable) (set d : ℕ) (status : RouteStatus) (ds : List ℕ) → owed_at f t set d ≡ Some status
     → has d ds ≡ true → list_any (is_about set d) (filter_map (owed_about f t set) ds) ≡ true
@@ -152,7 +127,7 @@ listed_of_points f t set d (x ∷ xs) m e =
       | true ↦ λ same k.
           ap (λ (b : Bool). b || list_any (is_about set d) (flat_map (owed_to f t) xs))
           (ap (λ (n : ℕ). list_any (is_about set d) (owed_to f t n)) (eqb-true x set same) ∙ e)
-      | false ↦ λ apart k. there (list_any (is_about set d) (owed_to f t x)) _ (listed_of_points f t set d xs k e)
+      | false ↦ λ apart k. or_right (list_any (is_about set d) (owed_to f t x)) _ (listed_of_points f t set d xs k e)
     ] refl m)
 
 pub in_range : (a n i : ℕ) → a ≤ i → i < a + n → has i (range_with_len a n) ≡ true
@@ -160,7 +135,7 @@ in_range a zero i l u = absurd (omega (arith, l, u))
 in_range a (suc n) i l u =
     elim (eqb_tells a i) [
       | inl h ↦ ap (λ (b : Bool). b || has i (range_with_len (a + 1) n)) h.0
-      | inr h ↦ there (nat_eq a i) _ (in_range (a + 1) n i (omega (arith, l, h.1)) (omega (arith, u)))
+      | inr h ↦ or_right (nat_eq a i) _ (in_range (a + 1) n i (omega (arith, l, h.1)) (omega (arith, u)))
     ]
 
 -- ---- nothing is left

@@ -1,16 +1,5 @@
 -- What is owed, as something is told.
-use Rattle.std.proofs.Common.{◌≡◌, Bool, true, false, ◌&&◌, not, map, refl, ap, ◌∙◌}
-use Rattle.std.specs.Prelude.{Option, Some, None, slice_set, if◌then◌else◌}
-use Rattle.std.specs.Option.{option_map}
-use Rattle.routes.specs.declared.route.RouteStatus.{RouteStatus}
-use Rattle.routes.specs.declared.route.RouteStatus.TheVariants.{Allowed, Restricted, Prohibited}
-use Rattle.routes.proofs.Telling.{other_routes}
-use Rattle.routes.proofs.Resetting.{reset_routes}
-use Rattle.route_management.specs.Told.{is_own_point, row_of, told_at}
-use Rattle.route_management.specs.Owed.{is_same, said_by, status_to_advertise, is_reachable, is_unlike}
-use Rattle.route_management.specs.Laws.{told_is_kept, told_once, leaves_other_points, leaves_other_destinations}
-use Rattle.route_management.specs.Laws.{reset_is_kept, reset_leaves_others, status_leaves_other_destinations}
-use Rattle.route_management.specs.Laws.{reset_leaves_what_is_to_be_told}
+use Rattle.route_management.proofs.Basics.{◌≡◌, Bool, true, false, ◌&&◌, not, map, refl, ap, ◌∙◌, Option, Some, None, slice_set, if◌then◌else◌, option_map, RouteStatus, Allowed, Restricted, Prohibited, other_routes, reset_routes, is_own_point, row_of, told_at, is_same, said_by, status_to_advertise, is_reachable, is_unlike, told_is_kept, told_once, leaves_other_points, leaves_other_destinations, reset_is_kept, reset_leaves_others, status_leaves_other_destinations, reset_leaves_what_is_to_be_told}
 use Rattle.route_management.proofs.Rows.{rows_back, rows_other, rows_apart, rows_alike}
 
 -- what is owed, by the four things that it hangs on

@@ -1,10 +1,5 @@
 -- What is read of rows, one element of which is replaced.
-use Rattle.std.proofs.Common.{◌≡◌, ◌≢◌, ◌<◌, ◌+◌, ℕ, zero, suc, List, [], ◌∷◌, ◌++◌, length, map, take, drop, refl, ap, sym, arith}
-use Rattle.std.specs.Prelude.{slice_get, slice_index_or, slice_set}
-use Rattle.std.specs.Option.{option_map}
-use Rattle.std.proofs.lemmas.Grind.{common_steps}
-use Rattle.std.proofs.lemmas.List.{get_or-set_other, length-set}
-use Rattle.std.proofs.lemmas.List.Edits.{map_over_more}
+use Rattle.route_management.proofs.Basics.{◌≡◌, ◌≢◌, ◌<◌, ◌+◌, ℕ, zero, suc, List, [], ◌∷◌, ◌++◌, length, map, take, drop, refl, ap, sym, arith, slice_get, slice_index_or, slice_set, option_map, common_steps, get_or-set_other, length-set, map_over_more}
 
 get_back : {A : Type 0} (xs : List A) (i : ℕ) (x : A) → slice_get (slice_set xs i x) i ≡ option_map (λ old. x) (slice_get xs i)
 get_back [] i x = refl

@@ -1,11 +1,5 @@
 -- Where nothing is listed as owed, nothing is owed.
-use Rattle.std.proofs.Common.{◌≡◌, ℕ, true, List, [], length, ap}
-use Rattle.std.specs.Prelude.{None}
-use Rattle.std.proofs.lemmas.Bool.{eqb-true, eq-eqb}
-use Rattle.std.proofs.lemmas.List.{nil_from_length}
-use Rattle.routes.specs.Facts.{Facts}
-use Rattle.route_management.specs.Told.{ToldTable, row_of}
-use Rattle.route_management.specs.Owed.{Owed, owed_at, owed, owes_nothing, all_told}
+use Rattle.route_management.proofs.Basics.{◌≡◌, ℕ, true, List, [], length, ap, None, eqb-true, eq-eqb, nil_from_length, Facts, ToldTable, row_of, Owed, owed_at, owed, owes_nothing, all_told}
 use Rattle.route_management.proofs.Listing.{none_of_point, none_of_points, nothing_owed}
 
 -- and the other way round

@@ -1,12 +1,5 @@
 -- What was told keeps its shape: of each set, the same destinations.
-use Rattle.std.proofs.Common.{◌≡◌, ◌<◌, ℕ, zero, suc, List, [], ◌∷◌, length, replicate, refl, ap, sym, ◌∙◌}
-use Rattle.std.specs.Prelude.{map, slice_index_or, slice_set}
-use Rattle.std.proofs.Math.ListN.{get_or-map}
-use Rattle.std.proofs.lemmas.List.{map-set, set-get_or, length-set, length-map, length-replicate, get_or-replicate}
-use Rattle.settings_rows.specs.Configuration.{SetEntry, DestinationEntry}
-use Rattle.routes.specs.declared.route.RouteStatus.{RouteStatus}
-use Rattle.routes.specs.declared.route.RouteStatus.TheVariants.{Allowed}
-use Rattle.route_management.specs.Told.{ToldTable, row_of, shape_of, first_told, with_told, with_told_reset}
+use Rattle.route_management.proofs.Basics.{◌≡◌, ◌<◌, ℕ, zero, suc, List, [], ◌∷◌, length, replicate, refl, ap, sym, ◌∙◌, map, slice_index_or, slice_set, get_or-map, map-set, set-get_or, length-set, length-map, length-replicate, get_or-replicate, SetEntry, DestinationEntry, RouteStatus, Allowed, ToldTable, row_of, shape_of, first_told, with_told, with_told_reset}
 
 -- a row as long as the one that stood there
 row_alike : (rows : List (List RouteStatus)) (set : ℕ) (row : List RouteStatus) → length row ≡ length (slice_index_or rows set []) → map length (slice_set rows set row) ≡ map length rows

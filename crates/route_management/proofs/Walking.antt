@@ -1,14 +1,5 @@
 -- What a walk over all sets and destinations, in order, finds to be owed.
-use Rattle.std.proofs.Common.{◌≡◌, ◌≢◌, ◌≤◌, ◌<◌, ◌+◌, ℕ, zero, suc, Bool, false, List, [], ◌∷◌, ◌++◌, length, refl, ap, sym, ◌∙◌, arith}
-use Rattle.std.proofs.Common.{add-one}
-use Rattle.std.specs.Prelude.{Option, Some, None, slice_get, slice_index_or, slice_set}
-use Rattle.std.specs.List.{AllByRecursion, range_with_len, filter_map, cons_option}
-use Rattle.std.specs.Option.{option_map}
-use Rattle.std.proofs.lemmas.List.{get_or-set_other}
-use Rattle.routes.specs.declared.route.RouteStatus.{RouteStatus}
-use Rattle.routes.specs.Facts.{Facts}
-use Rattle.route_management.specs.Told.{ToldTable, is_number, is_own_point, row_of, told_at, with_told}
-use Rattle.route_management.specs.Owed.{Owed, status_to_advertise, is_reachable, owed_at, owed_from, owed_to, owed_by_sets}
+use Rattle.route_management.proofs.Basics.{◌≡◌, ◌≢◌, ◌≤◌, ◌<◌, ◌+◌, ℕ, zero, suc, Bool, false, List, [], ◌∷◌, ◌++◌, length, refl, ap, sym, ◌∙◌, arith, add-one, Option, Some, None, slice_get, slice_index_or, slice_set, AllByRecursion, range_with_len, filter_map, cons_option, option_map, get_or-set_other, RouteStatus, Facts, ToldTable, is_number, is_own_point, row_of, told_at, with_told, Owed, status_to_advertise, is_reachable, owed_at, owed_from, owed_to, owed_by_sets}
 use Rattle.route_management.proofs.Owing.{owed_by, other_destinations}
 use Rattle.route_management.proofs.Listing.{none_of_point}
 

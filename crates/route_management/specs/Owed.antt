@@ -1,5 +1,5 @@
 -- What adjacent points are to be told, and which of it they weren't told yet (Q.704 §13.2 to §13.4).
-use Rattle.std.specs.Prelude.{ℕ, Bool, ◌&&◌, ◌==◌, false, not, List, [], ◌∷◌, Option, Some, None, length, nat_eq}
+use Rattle.std.specs.Prelude.{ℕ, Bool, ◌&&◌, ◌==◌, false, not, List, [], ◌∷◌, Option, Some, None, length}
 use Rattle.std.specs.Prelude.{if◌then◌else◌}
 use Rattle.std.specs.List.{list_any, range_with_len, filter_map, flat_map}
 use Rattle.std.specs.Option.{option_map}

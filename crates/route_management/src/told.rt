@@ -13,7 +13,7 @@ ghost use Rattle.route_management.specs.Hearing.{heard, answer_to_test};
 use crate::heard::{Heard, RouteTest, heard_of};
 use crate::row::ToldRow;
 use node_links::NodeLinks;
-use routes::{Route, RouteStatus};
+use routes::{Route, RouteFacts, RouteStatus};
 use settings_rows::{DestinationRow, SetRow};
 use signalling_types::SetId;
 use std::alloc::{AllocError, Global};
@@ -75,10 +75,11 @@ impl Told {
     pub fn owed(&self, links: &NodeLinks, set: SetId, destination: usize) -> Option<RouteStatus>
         ensures { result ≡ owed_at (facts_of links.now) self.now set destination }
     {
-        if !links.has_link(set) || self.is_own_point(set, destination) {
+        let facts = links.facts();
+        if !facts.has_link(set) || self.is_own_point(set, destination) {
             return None;
         }
-        let status = status_to_advertise(links, set, destination);
+        let status = status_to_advertise(&facts, set, destination);
         match self.told(set, destination) {
             Some(told) if !told.is(status) => Some(status),
             _ => None,
@@ -130,7 +131,7 @@ impl Told {
         if self.is_own_point(set, destination) {
             return Heard::Ignored;
         }
-        heard_of(links.status_of(destination, set), status)
+        heard_of(links.facts().status_of(destination, set), status)
     }
 
     /// The status that answers a signalling-route-set-test message from the adjacent point of a set about a
@@ -145,7 +146,7 @@ impl Told {
     ) -> Option<RouteStatus>
         ensures { result ≡ answer_to_test (facts_of links.now) self.now set destination test }
     {
-        let status = status_to_advertise(links, set, destination);
+        let status = status_to_advertise(&links.facts(), set, destination);
         if self.is_own_point(set, destination) || status.is(test.tested()) {
             None
         } else {
@@ -156,10 +157,10 @@ impl Told {
 
 /// What the adjacent point of a set is to be told of a destination: prohibited where no route leads there, or where
 /// some messages go by that very set; else the status of their routes (Q.704 §13.2 to §13.4).
-pub fn status_to_advertise(links: &NodeLinks, set: SetId, destination: usize) -> RouteStatus
-    ensures { result ≡ status_to_advertise (facts_of links.now) set destination }
+pub fn status_to_advertise(facts: &RouteFacts<'_>, set: SetId, destination: usize) -> RouteStatus
+    ensures { result ≡ status_to_advertise facts.now set destination }
 {
-    said_by(set, &links.routes_of(destination))
+    said_by(set, &facts.routes_of(destination))
 }
 
 /// The same, by the routes that messages take there.

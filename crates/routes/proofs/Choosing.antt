@@ -1,17 +1,6 @@
 -- A flow has a link exactly where messages to its destination take a set.
-use Rattle.std.proofs.Common.{◌≡◌, ℕ, suc, Bool, true, false, ◌&&◌, ◌||◌, nat_eq, nat_lt, cond, List, [], ◌∷◌, length, refl, ap, ◌∙◌, arith}
-use Rattle.std.specs.Prelude.{is_some}
-use Rattle.std.specs.List.{list_any, filter}
-use Rattle.std.proofs.lemmas.List.Concat.{flat_map-cons}
-use Rattle.std.proofs.lemmas.List.Folds.{list_any-append}
-use Rattle.std.proofs.lemmas.Bool.Decides.{nat_tests, Decides-eqb}
-use Rattle.routes.specs.declared.link_group.Member.{Member}
-use Rattle.routes.specs.Preference.{has_link, is_in_service, members_of, serves}
+use Rattle.routes.proofs.Basics.{◌≡◌, ℕ, suc, Bool, true, false, ◌&&◌, ◌||◌, nat_eq, nat_lt, cond, List, [], ◌∷◌, length, refl, ap, ◌∙◌, arith, is_some, list_any, filter, flat_map-cons, list_any-append, nat_tests, Decides-eqb, Member, has_link, is_in_service, members_of, serves, Route, RouteStatus, Facts, set_at, routes_to, Choice, choice_among, is_open, taken_by, sets_of, members, link_by, chosen_link, chosen_sets}
 use Rattle.routes.proofs.MembersInService.{some_serves}
-use Rattle.routes.specs.declared.route.Route.{Route}
-use Rattle.routes.specs.declared.route.RouteStatus.{RouteStatus}
-use Rattle.routes.specs.Facts.{Facts, set_at, routes_to}
-use Rattle.routes.specs.Chosen.{Choice, choice_among, is_open, taken_by, sets_of, members, link_by, chosen_link, chosen_sets}
 
 -- whether a set is one of these
 abbrev is_one : List ℕ → ℕ → Bool

@@ -1,19 +1,6 @@
 -- The table of the links of all flows: what a look-up finds, and what the rows are that were mended.
-use Rattle.std.proofs.Common.{◌≡◌, ◌<◌, ◌≤◌, ◌+◌, ℕ, zero, suc, Bool, true, false, List, [], ◌∷◌, ◌++◌, map, take, drop, length, refl, ap, sym, ◌∙◌, arith, add-one}
-use Rattle.std.proofs.lemmas.List.{set_at, drop_more, map_more, length-map, length-take-le, append_assoc, get_or_past, get_or_read}
-use Rattle.std.proofs.Math.ListN.{get_or-map}
-use Rattle.std.proofs.lemmas.List.FromFn.{fill_by_all, get_or-map-range_with_len}
-use Rattle.std.specs.List.{filter}
-use Rattle.std.proofs.lemmas.Bool.Decides.{nat_tests}
-use Rattle.std.specs.Prelude.{Option, None, nat_lt, slice_index_or, slice_set, if◌then◌else◌}
-use Rattle.routes.specs.declared.link_group.Member.{Member}
-use Rattle.routes.specs.Preference.{first_serving}
-use Rattle.routes.specs.declared.route.Route.{Route}
-use Rattle.routes.specs.declared.route.RouteStatus.{RouteStatus}
-use Rattle.routes.specs.Facts.{Facts, routes_to, with_status_over, with_status}
-use Rattle.routes.specs.Chosen.{is_open, choice_among, sets_of, members, link_by, chosen_link}
-use Rattle.signalling_types.specs.declared.limits.TheConstants.Limits.{SELECTIONS}
-use Rattle.routes.specs.Table.{links_of_group, links_among, table_of, mended_at, mended_below}
+use Rattle.routes.proofs.Basics.{◌≡◌, ◌<◌, ◌≤◌, ◌+◌, ℕ, zero, suc, Bool, true, false, List, [], ◌∷◌, ◌++◌, map, take, drop, length, refl, ap, sym, ◌∙◌, arith, add-one, drop_more, map_more, length-map, length-take-le, append_assoc, get_or_past, get_or_read, get_or-map, fill_by_all, get_or-map-range_with_len, filter, nat_tests, Option, None, nat_lt, slice_index_or, slice_set, if◌then◌else◌, Member, first_serving, Route, RouteStatus, Facts, routes_to, with_status_over, with_status, is_open, choice_among, sets_of, members, link_by, chosen_link, SELECTIONS, links_of_group, links_among, table_of, mended_at, mended_below}
+use Rattle.std.proofs.lemmas.List.{set_at}
 
 -- ---- a look-up
 
@@ -129,3 +116,7 @@ below_is (suc n) p f rows e l left =
       | true ↦ λ mended. next_row (mended_below n p f rows) done (drop (n + 1) rows) n old (links_among f routes) before size ∙ after
       | false ↦ λ apart. left_row (mended_below n p f rows) done (drop (n + 1) rows) old (links_among f routes) before (left n (omega arith) apart) ∙ after
     ] refl
+
+-- what is known, lent with the links that are in service
+pub known_facts : (f : Facts) (bs : List Bool) (lent : Facts) → bs ≡ f.in_service → lent ≡ record f { in_service = bs } → lent ≡ f
+known_facts f bs lent e l = l ∙ ap (λ (in_service : List Bool). record { sets = f.sets; in_service = in_service; routes = f.routes }) e

@@ -1,8 +1,5 @@
 -- The links of the first sets, set by set.
-use Rattle.std.proofs.Common.{◌≡◌, ℕ, ◌+◌, List, [], ◌∷◌, ◌++◌, refl, ap, add-one}
-use Rattle.settings_rows.specs.Configuration.{LinkEntry}
-use Rattle.routes.specs.Members.{links_of}
-use Rattle.routes.specs.Facts.{first_sets}
+use Rattle.routes.proofs.Basics.{◌≡◌, ℕ, ◌+◌, List, [], ◌∷◌, ◌++◌, refl, ap, add-one, LinkEntry, links_of, first_sets}
 
 pub sets_none : (links : List LinkEntry) → first_sets 0 links ≡ []
 unfolding first_sets

@@ -1,9 +1,5 @@
 -- The groups of some routes: what holds of no route holds of none in a group.
-use Rattle.std.proofs.Common.{◌≡◌, Bool, true, false, ◌||◌, cond, List, [], ◌∷◌, find, refl}
-use Rattle.std.specs.Prelude.{Some, unwrap_or, if◌then◌else◌}
-use Rattle.std.specs.List.{list_any}
-use Rattle.routes.specs.declared.route.Route.{Route}
-use Rattle.routes.specs.Chosen.{alone, groups_of, allowed_or}
+use Rattle.routes.proofs.Basics.{◌≡◌, Bool, true, false, ◌||◌, cond, List, [], ◌∷◌, find, refl, Some, unwrap_or, if◌then◌else◌, list_any, Route, alone, groups_of, allowed_or}
 
 pub neither_left : (a b : Bool) → (a || b) ≡ false → a ≡ false
 neither_left true b e = absurd cc

@@ -1,10 +1,6 @@
 -- The link that a flow takes is in service.
-use Rattle.std.proofs.Common.{◌≡◌, ℕ, true}
-use Rattle.std.specs.Prelude.{Some}
-use Rattle.routes.specs.Preference.{is_in_service}
+use Rattle.routes.proofs.Basics.{◌≡◌, ℕ, true, Some, is_in_service, Facts, routes_to, Choice, choice_among, taken_by, sets_of, members, link_by, chosen_link}
 use Rattle.routes.proofs.MembersInService.{first_serves}
-use Rattle.routes.specs.Facts.{Facts, routes_to}
-use Rattle.routes.specs.Chosen.{Choice, choice_among, taken_by, sets_of, members, link_by, chosen_link}
 
 pub chosen_serves : (f : Facts) (destination selection link : ℕ)
     → chosen_link f destination selection ≡ Some link → is_in_service f.in_service link ≡ true

@@ -1,24 +1,7 @@
 -- A link that leaves service takes its own flows with it, and no other; and a flow that has a link without it has one with it.
-use Rattle.std.proofs.Common.{◌≡◌, ◌≢◌, ◌<◌, ◌≤◌, ◌⊎◌, ℕ, zero, suc, Bool, true, false, ◌&&◌, ◌||◌, ◌==◌, cond, List, [], ◌∷◌, ◌++◌, find, length, nat_eq, refl, ap, sym, subst, ◌∙◌, inl, inr, arith}
-use Rattle.std.specs.Prelude.{Option, Some, None, Contains, is_some, slice_set, unwrap_or}
-use Rattle.std.specs.List.{list_any, filter}
-use Rattle.std.specs.Option.{option_map}
-use Rattle.std.proofs.Math.Logic.{⊎_elim}
-use Rattle.std.proofs.lemmas.Bool.{cases_lt, cases_eq, eqb-true}
-use Rattle.std.proofs.lemmas.List.{get_or_past, get_or-set_same, get_or-set_other, length-set}
-use Rattle.std.proofs.lemmas.List.Concat.{flat_map-cons}
-use Rattle.std.proofs.lemmas.List.Elements.{Contains-append_right, Contains-append_cases}
-use Rattle.std.proofs.lemmas.List.Sorted.{Contains-permutation, IsPermutation-sym}
-use Rattle.std.proofs.lemmas.Option.{same_Some}
-use Rattle.routes.specs.declared.link_group.Member.{Member}
-use Rattle.routes.specs.Preference.{is_in_service, has_link, members_of, preference, serves}
+use Rattle.routes.proofs.Basics.{◌≡◌, ◌≢◌, ◌<◌, ◌≤◌, ◌⊎◌, ℕ, zero, suc, Bool, true, false, ◌&&◌, ◌||◌, ◌==◌, cond, List, [], ◌∷◌, ◌++◌, find, length, nat_eq, refl, ap, sym, subst, ◌∙◌, inl, inr, arith, Option, Some, None, Contains, is_some, slice_set, unwrap_or, list_any, filter, option_map, ⊎_elim, cases_lt, cases_eq, eqb-true, get_or_past, get_or-set_same, get_or-set_other, length-set, flat_map-cons, Contains-append_right, Contains-append_cases, Contains-permutation, IsPermutation-sym, same_Some, Member, is_in_service, has_link, members_of, preference, serves, Route, RouteStatus, Allowed, Restricted, Facts, set_at, routes_to, with_link, status_number, is_open, groups_of, open_group, Choice, allowed_or, choice_among, taken_by, sets_of, members, link_by, chosen_link}
 use Rattle.routes.proofs.Preference.{preference-permutation}
 use Rattle.routes.proofs.MembersInService.{some_serves}
-use Rattle.routes.specs.declared.route.Route.{Route}
-use Rattle.routes.specs.declared.route.RouteStatus.{RouteStatus}
-use Rattle.routes.specs.declared.route.RouteStatus.TheVariants.{Allowed, Restricted}
-use Rattle.routes.specs.Facts.{Facts, set_at, routes_to, with_link}
-use Rattle.routes.specs.Chosen.{status_number, is_open, groups_of, open_group, Choice, allowed_or, choice_among, taken_by, sets_of, members, link_by, chosen_link}
 use Rattle.routes.proofs.Choosing.{served}
 use Rattle.routes.proofs.Lone.{found_open}
 

@@ -1,3 +1,4 @@
+pub mod Basics
 pub mod Members
 pub mod Preference
 pub mod MembersInService
@@ -13,5 +14,4 @@ pub mod Leaving
 pub mod Choosing
 pub mod Compiling
 pub mod Mending
-pub mod Restoring
 pub mod RouteExamples

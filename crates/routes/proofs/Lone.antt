@@ -1,15 +1,5 @@
 -- Where the group that messages take is one set alone, that set decides their links.
-use Rattle.std.proofs.Common.{◌≡◌, ℕ, Bool, true, false, ◌||◌, cond, List, [], ◌∷◌, ◌++◌, find, refl, ap, sym, ◌∙◌}
-use Rattle.std.specs.Prelude.{Option, Some, unwrap_or}
-use Rattle.std.specs.List.{list_any}
-use Rattle.std.proofs.lemmas.List.Concat.{flat_map-cons}
-use Rattle.routes.specs.declared.link_group.Member.{Member}
-use Rattle.routes.specs.Preference.{members_of, first_serving}
-use Rattle.routes.specs.declared.route.Route.{Route}
-use Rattle.routes.specs.declared.route.RouteStatus.{RouteStatus}
-use Rattle.routes.specs.declared.route.RouteStatus.TheVariants.{Allowed, Restricted}
-use Rattle.routes.specs.Facts.{Facts, set_at, routes_to}
-use Rattle.routes.specs.Chosen.{is_open, groups_of, open_group, allowed_or, choice_among, sets_of, members, link_by, chosen_link, alone_in, lone_set}
+use Rattle.routes.proofs.Basics.{◌≡◌, ℕ, Bool, true, false, ◌||◌, cond, List, [], ◌∷◌, ◌++◌, find, refl, ap, sym, ◌∙◌, Option, Some, unwrap_or, list_any, flat_map-cons, Member, members_of, first_serving, Route, RouteStatus, Allowed, Restricted, Facts, set_at, routes_to, is_open, groups_of, open_group, allowed_or, choice_among, sets_of, members, link_by, chosen_link, alone_in, lone_set}
 
 one_open : (b : Bool) → (b || false) ≡ true → b ≡ true
 one_open true e = refl

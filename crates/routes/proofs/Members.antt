@@ -1,8 +1,5 @@
 -- The links of a set, code by code.
-use Rattle.std.proofs.Common.{◌≡◌, ℕ, ◌+◌, List, [], ◌++◌, refl, ap, add-one}
-use Rattle.std.specs.Option.{option_to_list}
-use Rattle.settings_rows.specs.Configuration.{LinkEntry}
-use Rattle.routes.specs.Members.{link_with, links_below}
+use Rattle.routes.proofs.Basics.{◌≡◌, ℕ, ◌+◌, List, [], ◌++◌, refl, ap, add-one, option_to_list, LinkEntry, link_with, links_below}
 
 pub below_none : (links : List LinkEntry) (set : ℕ) → links_below 0 links set ≡ []
 unfolding links_below

@@ -1,11 +1,5 @@
 -- The link that a flow takes is in service and of a set that messages take, and there is one where its group has such a link.
-use Rattle.std.proofs.Common.{◌≡◌, ℕ, Bool, true, false, ◌&&◌, cond, List, [], ◌∷◌, refl, ap, ◌∙◌, sym}
-use Rattle.std.proofs.lemmas.List.Sorted.{list_any-IsPermutation}
-use Rattle.std.specs.List.{list_any}
-use Rattle.std.specs.Option.{option_map}
-use Rattle.std.specs.Prelude.{Some, find, is_some, ◌||◌}
-use Rattle.routes.specs.declared.link_group.Member.{Member}
-use Rattle.routes.specs.Preference.{preference, is_in_service, serves, first_serving}
+use Rattle.routes.proofs.Basics.{◌≡◌, ℕ, Bool, true, false, ◌&&◌, cond, List, [], ◌∷◌, refl, ap, ◌∙◌, sym, list_any-IsPermutation, list_any, option_map, Some, find, is_some, ◌||◌, Member, preference, is_in_service, serves, first_serving}
 use Rattle.routes.proofs.Preference.{preference-permutation}
 
 left_true : (a b : Bool) → (a && b) ≡ true → a ≡ true

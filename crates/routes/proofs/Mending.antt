@@ -1,26 +1,7 @@
 -- A table that is mended where a link or a set changed is the table of what is known then.
-use Rattle.std.proofs.Common.{◌≡◌, ◌<◌, ◌||◌, ◌&&◌, ◌==◌, ℕ, Bool, true, false, cond, List, [], ◌∷◌, ◌++◌, map, drop, length, refl, ap, sym, ◌∙◌, arith, find}
-use Rattle.std.proofs.Math.ListN.{get_or-map}
-use Rattle.std.proofs.lemmas.Bool.{eqb-false}
-use Rattle.std.proofs.lemmas.List.{get_or-map as get_or-map-within, get_or-set_other, length-map, take_all, drop_all, append-nil}
-use Rattle.std.proofs.lemmas.List.Concat.{flat_map-cons}
-use Rattle.std.proofs.lemmas.List.Folds.{list_any-append}
-use Rattle.std.proofs.lemmas.List.Sorted.{list_any-IsPermutation}
-use Rattle.std.specs.List.{list_any, filter, range_with_len}
-use Rattle.std.specs.Prelude.{Option, Some, nat_eq, slice_index_or, slice_set, unwrap_or, if◌then◌else◌}
-use Rattle.std.specs.Option.{option_map}
-use Rattle.routes.specs.Members.{has_member}
-use Rattle.routes.specs.declared.link_group.Member.{Member}
-use Rattle.routes.specs.Preference.{preference, first_serving, has_link, is_in_service, members_of, serves}
+use Rattle.routes.proofs.Basics.{◌≡◌, ◌<◌, ◌||◌, ◌&&◌, ◌==◌, ℕ, Bool, true, false, cond, List, [], ◌∷◌, ◌++◌, map, drop, length, refl, ap, sym, ◌∙◌, arith, find, get_or-map, eqb-false, get_or-set_other, length-map, take_all, drop_all, append-nil, flat_map-cons, list_any-append, list_any-IsPermutation, list_any, filter, range_with_len, Option, Some, nat_eq, slice_index_or, slice_set, unwrap_or, if◌then◌else◌, option_map, has_member, Member, preference, first_serving, has_link, is_in_service, members_of, serves, Route, RouteStatus, Allowed, Restricted, Facts, set_at, routes_to, with_link, with_status_over, status_number, is_open, groups_of, open_group, Choice, allowed_or, choice_among, taken_by, sets_of, members, leads_by, with_statuses_reset, SELECTIONS, links_of_group, links_by, links_among, table_of, mended_below, goes_by_link, goes_by_set}
+use Rattle.std.proofs.lemmas.List.{get_or-map as get_or-map-within}
 use Rattle.routes.proofs.Preference.{preference-permutation}
-use Rattle.routes.specs.declared.route.Route.{Route}
-use Rattle.routes.specs.declared.route.RouteStatus.{RouteStatus}
-use Rattle.routes.specs.declared.route.RouteStatus.TheVariants.{Allowed, Restricted}
-use Rattle.routes.specs.Facts.{Facts, set_at, routes_to, with_link, with_status_over}
-use Rattle.routes.specs.Chosen.{status_number, is_open, groups_of, open_group, Choice, allowed_or, choice_among, taken_by, sets_of, members}
-use Rattle.routes.specs.Statuses.{leads_by, with_statuses_reset}
-use Rattle.signalling_types.specs.declared.limits.TheConstants.Limits.{SELECTIONS}
-use Rattle.routes.specs.Table.{links_of_group, links_by, links_among, table_of, mended_below, goes_by_link, goes_by_set}
 use Rattle.routes.proofs.Groups.{neither_left, neither_right, any_group, found_apart, either_apart}
 use Rattle.routes.proofs.Compiling.{below_is, same_links}
 

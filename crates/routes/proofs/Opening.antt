@@ -1,13 +1,5 @@
 -- No route that messages take is prohibited.
-use Rattle.std.proofs.Common.{◌≡◌, ◌≢◌, ℕ, Bool, true, ◌&&◌, ◌==◌, List, [], ◌∷◌, All}
-use Rattle.std.specs.List.{filter}
-use Rattle.std.proofs.lemmas.List.Elements.{All-weaker, filter_passes}
-use Rattle.routes.specs.Preference.{has_link}
-use Rattle.routes.specs.declared.route.Route.{Route}
-use Rattle.routes.specs.declared.route.RouteStatus.{RouteStatus}
-use Rattle.routes.specs.declared.route.RouteStatus.TheVariants.{Allowed, Restricted, Prohibited}
-use Rattle.routes.specs.Facts.{Facts, set_at, routes_to}
-use Rattle.routes.specs.Chosen.{status_number, is_open, groups_of, open_group, allowed_or, choice_among, taken_by, chosen_routes}
+use Rattle.routes.proofs.Basics.{◌≡◌, ◌≢◌, ℕ, Bool, true, ◌&&◌, ◌==◌, List, [], ◌∷◌, All, filter, All-weaker, filter_passes, has_link, Route, RouteStatus, Allowed, Restricted, Prohibited, Facts, set_at, routes_to, status_number, is_open, groups_of, open_group, allowed_or, choice_among, taken_by, chosen_routes}
 
 -- what is open with a status that isn't prohibited isn't prohibited itself
 allowed_isnt : (s : RouteStatus) (b : Bool) → ((status_number s == status_number Allowed) && b) ≡ true → s ≢ Prohibited

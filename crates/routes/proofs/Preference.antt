@@ -1,11 +1,5 @@
 -- The order in which links are tried, one link at a time.
-use Rattle.std.proofs.Common.{◌≡◌, ℕ, zero, suc, ◌<◌, ◌/◌, ◌%◌, List, [], ◌∷◌, length, get_or, refl, arith}
-use Rattle.std.proofs.lemmas.Grind.{common_steps}
-use Rattle.std.proofs.lemmas.List.Edits.{length-remove}
-use Rattle.std.proofs.lemmas.List.Sorted.{IsPermutation-refl, IsPermutation-trans, IsPermutation-cons, IsPermutation-remove}
-use Rattle.std.specs.List.{remove}
-use Rattle.std.specs.List.Sorted.{IsPermutation}
-use Rattle.routes.specs.Preference.{order_of, preference}
+use Rattle.routes.proofs.Basics.{◌≡◌, ℕ, zero, suc, ◌<◌, ◌/◌, ◌%◌, List, [], ◌∷◌, length, get_or, refl, arith, common_steps, length-remove, IsPermutation-refl, IsPermutation-trans, IsPermutation-cons, IsPermutation-remove, remove, IsPermutation, order_of, preference}
 
 -- each of n links is tried once
 pub order-permutation : {A : Type 0} (n selection : ℕ) (links : List A) → length links ≡ n → IsPermutation links (order_of n selection links)

@@ -1,18 +1,5 @@
 -- While no link of a set is in service, its statuses don't matter.
-use Rattle.std.proofs.Common.{◌≡◌, ℕ, Bool, true, false, cond, List, [], ◌∷◌, ◌&&◌, ◌==◌, ◌||◌, map, find, refl, ap, sym, ◌∙◌}
-use Rattle.std.specs.Prelude.{Some, nat_eq, unwrap_or, if◌then◌else◌}
-use Rattle.std.specs.List.{list_any, filter, flat_map}
-use Rattle.std.proofs.Math.ListN.{get_or-map}
-use Rattle.std.proofs.lemmas.Bool.{eqb-true}
-use Rattle.std.proofs.lemmas.List.Folds.{flat_map-map}
-use Rattle.routes.specs.declared.link_group.Member.{Member}
-use Rattle.routes.specs.Preference.{has_link, members_of, first_serving}
-use Rattle.routes.specs.declared.route.Route.{Route}
-use Rattle.routes.specs.declared.route.RouteStatus.{RouteStatus}
-use Rattle.routes.specs.declared.route.RouteStatus.TheVariants.{Allowed, Restricted}
-use Rattle.routes.specs.Facts.{Facts, set_at, routes_to, with_status_over}
-use Rattle.routes.specs.Chosen.{status_number, is_open, alone, groups_of, open_group, Choice, allowed_or, choice_among, taken_by, sets_of, members, link_by, chosen_routes, chosen_link}
-use Rattle.routes.specs.Statuses.{with_statuses_reset}
+use Rattle.routes.proofs.Basics.{◌≡◌, ℕ, Bool, true, false, cond, List, [], ◌∷◌, ◌&&◌, ◌==◌, ◌||◌, map, find, refl, ap, sym, ◌∙◌, Some, nat_eq, unwrap_or, if◌then◌else◌, list_any, filter, flat_map, get_or-map, eqb-true, flat_map-map, Member, has_link, members_of, first_serving, Route, RouteStatus, Allowed, Restricted, Facts, set_at, routes_to, with_status_over, status_number, is_open, alone, groups_of, open_group, Choice, allowed_or, choice_among, taken_by, sets_of, members, link_by, chosen_routes, chosen_link, with_statuses_reset}
 
 closed : (a b : Bool) → b ≡ false → (a && b) ≡ false
 closed true b e = e

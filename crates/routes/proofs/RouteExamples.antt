@@ -1,6 +1,5 @@
 -- A flow of two joined sets, as a link of the other set leaves service, by computation.
-use Rattle.std.proofs.Common.{refl}
-use Rattle.routes.specs.Chosen.{choice_among, link_by}
+use Rattle.routes.proofs.Basics.{refl, choice_among, link_by}
 use Rattle.routes.specs.RouteExamples as examples
 
 pub flow_has_link_2 : examples.flow_has_link_2

@@ -1,15 +1,5 @@
 -- What a status that a route gets changes, and what it doesn't.
-use Rattle.std.proofs.Common.{◌≡◌, ◌≢◌, ℕ, zero, suc, true, false, cond, List, [], ◌∷◌, map, find, refl, ap, sym, ◌∙◌}
-use Rattle.std.specs.Prelude.{Option, Some, slice_index_or, slice_set, nat_eq, if◌then◌else◌}
-use Rattle.std.specs.Option.{option_map}
-use Rattle.std.proofs.Math.ListN.{get_or-map}
-use Rattle.std.proofs.lemmas.List.{get_or-set_other}
-use Rattle.routes.specs.declared.route.Route.{Route}
-use Rattle.routes.specs.declared.route.RouteStatus.{RouteStatus}
-use Rattle.routes.specs.declared.route.RouteStatus.TheVariants.{Allowed}
-use Rattle.routes.specs.Facts.{Facts, routes_to, with_status_over, with_status}
-use Rattle.routes.specs.Chosen.{choice_among, taken_by, link_by, chosen_routes, chosen_link}
-use Rattle.routes.specs.Statuses.{leads_by, status_of, with_statuses_reset}
+use Rattle.routes.proofs.Basics.{◌≡◌, ◌≢◌, ℕ, zero, suc, true, false, cond, List, [], ◌∷◌, map, find, refl, ap, sym, ◌∙◌, Option, Some, slice_index_or, slice_set, nat_eq, if◌then◌else◌, option_map, get_or-map, get_or-set_other, Route, RouteStatus, Allowed, Facts, routes_to, with_status_over, with_status, choice_among, taken_by, link_by, chosen_routes, chosen_link, leads_by, status_of, with_statuses_reset}
 
 -- ---- another destination
 

@@ -1,14 +1,22 @@
--- How routing facts are kept, and the links of all flows beside them.
-use Rattle.std.specs.Prelude.{◌≡◌, ℕ, List, Option, length}
+-- How routing facts are kept and lent, and the links of all flows beside them.
+use Rattle.std.specs.Prelude.{◌≡◌, ℕ, ◌≤◌, List, Option, length}
 use Rattle.routes.specs.Facts.{Facts}
-use Rattle.signalling_types.specs.declared.limits.TheConstants.Limits.{SELECTIONS}
+use Rattle.signalling_types.specs.declared.limits.TheConstants.Limits.{LINKS, SELECTIONS}
 use Rattle.routes.specs.Table.{table_of}
+use Rattle.routes.specs.declared.route_facts.RouteFacts.TheInside as route_facts
 use Rattle.routes.specs.declared.known.KnownRoutes.TheInside as known
 use Rattle.routes.specs.declared.flow_links.FlowLinks.TheInside as flow_links
 use Rattle.routes.specs.declared.routes.Routes.TheInside as routes
 
+abbrev pub route_facts_in : route_facts.Inside → Facts
+route_facts_in s = record s.known.now { in_service = s.in_service.now }
+
 abbrev pub facts_in : known.Inside → Facts
 facts_in s = record { sets = s.sets.items; in_service = s.in_service.items; routes = s.destinations.items }
+
+-- there are no more links than a node may have
+pub record HasFew (s : known.Inside) : Type 0 where
+  pub few : length s.in_service.items ≤ LINKS
 
 abbrev pub flow_links_in : flow_links.Inside → List (Option ℕ)
 flow_links_in s = s.links

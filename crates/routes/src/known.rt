@@ -1,18 +1,14 @@
-//! Routing facts, and what follows from them, worked out on each call.
+//! Routing facts, as they change.
 
-ghost use Rattle.std.specs.Prelude.{◌≡◌, ◌≤◌, false, length, map, replicate, IfOk};
-ghost use Rattle.routes.specs.Members.{has_member};
-ghost use Rattle.routes.specs.Preference.{has_link, is_in_service};
-ghost use Rattle.routes.specs.Facts.{first_facts, first_sets, first_routes, set_at, routes_to};
-ghost use Rattle.routes.specs.Facts.{with_link, with_status};
-ghost use Rattle.routes.specs.Table.{goes_by_link, goes_by_set};
-
-mod choice;
-mod statuses;
-mod without;
+ghost use Rattle.std.specs.Prelude.{◌≡◌, ◌≤◌, false, length, map, replicate, slice_set, IfOk};
+ghost use Rattle.routes.specs.declared.route.RouteStatus.TheVariants as status;
+ghost use Rattle.routes.specs.Preference.{is_in_service};
+ghost use Rattle.routes.specs.Facts.{first_facts, first_sets, first_routes, with_link, with_status, with_status_over};
+ghost use Rattle.routes.specs.Statuses.{with_statuses_reset};
 
 use crate::LinkSet;
-use crate::route::{Route, RouteList, RouteStatus};
+use crate::route::{RouteList, RouteStatus};
+use arrayvec::ArrayVec;
 use settings_rows::{DestinationRow, LinkRow};
 use signalling_types::{Limits, LinkId, SetId};
 use std::alloc::{AllocError, Global};
@@ -20,9 +16,6 @@ use std::marker::Model;
 
 /// Which links are in service, and by which sets each destination is reached with which status. A destination goes by
 /// its number in the order of the settings.
-///
-/// The sets of a destination and the link of a flow are worked out on each call: that takes the sets that lead to the
-/// destination and their links, however many others there are.
 #[derive(Drop)]
 pub(crate) struct KnownRoutes {
     sets: Vec<LinkSet>,
@@ -35,9 +28,11 @@ impl Model for KnownRoutes {
 
     ghost Value = { Facts };
 
-    ghost use Rattle.routes.specs.Room.{facts_in};
+    ghost use Rattle.routes.specs.Room.{facts_in, HasFew};
 
     ghost view = { facts_in };
+
+    ghost invariant = { HasFew };
 }
 
 impl KnownRoutes {
@@ -88,60 +83,57 @@ impl KnownRoutes {
         }
     }
 
-    /// How many destinations there are.
-    pub fn destinations(&self) -> usize
-        ensures { result ≡ length self.now.routes }
+    /// All routes by a set are allowed again, as its first link enters service (Q.704 §13). It takes a step for each
+    /// route of the node.
+    pub fn reset_statuses(&mut self, set: SetId)
+        ensures { self.new ≡ with_statuses_reset set self.old }
     {
-        self.destinations.len()
+        allow_all(&mut self.destinations, set);
     }
 
-    /// Whether some link of a set is in service; a set that isn't there has none.
-    pub fn has_link(&self, set: SetId) -> bool
-        ensures { result ≡ has_link self.now.in_service (set_at self.now set) }
+    /// The links of each set.
+    pub fn sets(&self) -> &[LinkSet]
+        ensures { result.now ≡ self.now.sets }
     {
-        match self.sets.get(set.index()) {
-            Some(links) => links.has_link(&self.in_service),
-            None => false,
+        &self.sets
+    }
+
+    /// The routes to each destination.
+    pub fn destinations(&self) -> &[RouteList]
+        ensures { result.now ≡ self.now.routes }
+    {
+        &self.destinations
+    }
+
+    /// Which links are in service.
+    pub fn in_service(&self) -> &[bool]
+        ensures { result.now ≡ self.now.in_service }
+    {
+        &self.in_service
+    }
+
+    /// Which links would be in service if a link weren't.
+    pub fn in_service_without(&self, link: LinkId) -> ArrayVec<bool, { Limits::LINKS }>
+        ensures { result.items ≡ slice_set self.now.in_service link false }
+    {
+        let mut links = copied(&self.in_service);
+        if let Some(is) = links.get_mut(link.index()) {
+            *is = false;
         }
+        links
     }
+}
 
-    /// Whether a route to a destination goes by a set that has this link.
-    pub fn goes_by_link(&self, destination: usize, link: LinkId) -> bool
-        ensures { result ≡ goes_by_link self.now link (routes_to self.now destination) }
-    {
-        self.routes_to(destination)
-            .iter()
-            .any(|route| self.has_member(route.set, link))
+/// The same links again.
+fn copied(in_service: &[bool]) -> ArrayVec<bool, { Limits::LINKS }>
+    requires { length in_service.now ≤ Limits.LINKS }
+    ensures { result.items ≡ in_service.now }
+{
+    let mut copy = ArrayVec::new();
+    for is in in_service {
+        copy.push(*is);
     }
-
-    /// Whether a link is of a set.
-    fn has_member(&self, set: SetId, link: LinkId) -> bool
-        ensures { result ≡ has_member link (set_at self.now set) }
-    {
-        match self.sets.get(set.index()) {
-            Some(links) => links.has(link),
-            None => false,
-        }
-    }
-
-    /// Whether a route to a destination goes by this set.
-    pub fn goes_by_set(&self, destination: usize, set: SetId) -> bool
-        ensures { result ≡ goes_by_set set (routes_to self.now destination) }
-    {
-        self.routes_to(destination)
-            .iter()
-            .any(|route| route.set.index() == set.index())
-    }
-
-    /// The routes to a destination.
-    fn routes_to(&self, destination: usize) -> &[Route]
-        ensures { result.now ≡ routes_to self.now destination }
-    {
-        match self.destinations.get(destination) {
-            Some(routes) => routes.routes(),
-            None => &[],
-        }
-    }
+    copy
 }
 
 /// The first sets, so many of them, among the links of a node.
@@ -174,4 +166,13 @@ fn route_lists(alloc: Global, destinations: &[DestinationRow]) -> Result<Vec<Rou
         made.push_reserved(RouteList::new(destination));
     }
     Ok(made)
+}
+
+/// The routes by this set are allowed.
+fn allow_all(destinations: &mut [RouteList], set: SetId)
+    ensures { destinations.new ≡ map (map (with_status_over set status.Allowed)) destinations.old }
+{
+    for routes in destinations.iter_mut() {
+        routes.tell(set, RouteStatus::Allowed);
+    }
 }

@@ -7,9 +7,11 @@ pub mod laws;
 pub mod link_group;
 pub mod link_set;
 pub mod route;
+pub mod route_facts;
 pub mod routes;
 
 pub use link_group::{LinkGroup, Member};
 pub use link_set::LinkSet;
 pub use route::{Route, RouteStatus};
+pub use route_facts::RouteFacts;
 pub use routes::Routes;

@@ -1,16 +1,16 @@
 //! Routing facts, with the link of each flow in a table.
 
-ghost use Rattle.std.specs.Prelude.{◌≡◌, ◌≤◌, false, length, IfOk};
-ghost use Rattle.routes.specs.Preference.{has_link};
-ghost use Rattle.routes.specs.Facts.{first_facts, set_at, with_link, with_status};
-ghost use Rattle.routes.specs.Chosen.{chosen_link, chosen_routes, chosen_sets, lone_set};
-ghost use Rattle.routes.specs.Statuses.{status_of, with_statuses_reset};
+ghost use Rattle.std.specs.Prelude.{◌≡◌, ◌≤◌, false, length, slice_set, IfOk};
+ghost use Rattle.routes.specs.Facts.{first_facts, with_link, with_status};
+ghost use Rattle.routes.specs.Chosen.{chosen_link};
+ghost use Rattle.routes.specs.Statuses.{with_statuses_reset};
 
 mod table;
 
 use crate::flow_links::FlowLinks;
 use crate::known::KnownRoutes;
-use crate::route::{Route, RouteStatus};
+use crate::route::RouteStatus;
+use crate::route_facts::RouteFacts;
 use arrayvec::ArrayVec;
 use settings_rows::{DestinationRow, LinkRow};
 use signalling_types::{Limits, LinkId, SetId, Sls};
@@ -22,8 +22,7 @@ use table::{compiled, mend, mend_by_link, mend_by_set};
 /// its number in the order of the settings.
 ///
 /// All room is made by `new`. The link of each flow stands in a table, which is mended as links and statuses change:
-/// `link_of` is one look-up. The routes of a destination are worked out on each call: that takes the sets that lead to
-/// it and their links, however many others there are.
+/// `link_of` is one look-up. What else follows from the facts is worked out on each call of `facts`.
 #[derive(Drop)]
 pub struct Routes {
     known: KnownRoutes,
@@ -56,7 +55,7 @@ impl Routes {
         ensures { IfOk result (λ routes. routes ≡ first_facts sets links.now destinations.now) }
     {
         let known = KnownRoutes::new(alloc, sets, links, destinations)?;
-        let links = compiled(alloc, &known)?;
+        let links = compiled(alloc, &RouteFacts::of(&known, known.in_service()))?;
         Ok(Routes { known, links })
     }
 
@@ -69,7 +68,8 @@ impl Routes {
     {
         if self.known.is_in_service(link) != in_service {
             self.known.set_link(link, in_service);
-            mend_by_link(&mut self.links, &self.known, link);
+            let facts = RouteFacts::of(&self.known, self.known.in_service());
+            mend_by_link(&mut self.links, &facts, link);
         }
     }
 
@@ -80,7 +80,8 @@ impl Routes {
         ensures { self.new ≡ with_status destination set status self.old }
     {
         self.known.set_status(destination, set, status);
-        mend(&mut self.links, &self.known, destination);
+        let facts = RouteFacts::of(&self.known, self.known.in_service());
+        mend(&mut self.links, &facts, destination);
     }
 
     /// All routes by a set are allowed again, as its first link enters service (Q.704 §13). It takes a step for each
@@ -89,39 +90,8 @@ impl Routes {
         ensures { self.new ≡ with_statuses_reset set self.old }
     {
         self.known.reset_statuses(set);
-        mend_by_set(&mut self.links, &self.known, set);
-    }
-
-    /// The status of the route to a destination by a set. `None` where no such route is there. It takes a step for each
-    /// set that leads to the destination.
-    pub fn status_of(&self, destination: usize, set: SetId) -> Option<RouteStatus>
-        ensures { result ≡ status_of self.now destination set }
-    {
-        self.known.status_of(destination, set)
-    }
-
-    /// The routes that messages to a destination take, in the order of its sets: all of the first
-    /// group with one that is allowed and whose set has a link in service, else the same with
-    /// restricted. The first two sets are a group where they are joined, and each other set is one
-    /// by itself (Q.704 §4.2).
-    pub fn routes_of(&self, destination: usize) -> ArrayVec<Route, 2>
-        ensures { result.items ≡ chosen_routes self.now destination }
-    {
-        self.known.routes_of(destination)
-    }
-
-    /// The sets that messages to a destination take, in the order of its sets.
-    pub fn sets_of(&self, destination: usize) -> ArrayVec<SetId, 2>
-        ensures { result.items ≡ chosen_sets self.now destination }
-    {
-        self.known.sets_of(destination)
-    }
-
-    /// The set that all messages to a destination take, where the group that they take is that set alone.
-    pub fn lone_set(&self, destination: usize) -> Option<SetId>
-        ensures { result ≡ lone_set self.now destination }
-    {
-        self.known.lone_set(destination)
+        let facts = RouteFacts::of(&self.known, self.known.in_service());
+        mend_by_set(&mut self.links, &facts, set);
     }
 
     /// The link of a flow: of the group that messages to its destination take, the first in service in the order in
@@ -135,45 +105,24 @@ impl Routes {
         }
     }
 
-    /// How many destinations there are.
-    pub fn destinations(&self) -> usize
-        ensures { result ≡ length self.now.routes }
+    /// The facts.
+    pub fn facts(&self) -> RouteFacts<'_>
+        ensures { result ≡ self.now }
     {
-        self.known.destinations()
+        self.facts_by(self.known.in_service())
     }
 
-    /// Whether some link of a set is in service; a set that isn't there has none.
-    pub fn has_link(&self, set: SetId) -> bool
-        ensures { result ≡ has_link self.now.in_service (set_at self.now set) }
+    /// What they would be with these links in service.
+    pub fn facts_by<'a>(&'a self, in_service: &'a [bool]) -> RouteFacts<'a>
+        ensures { result ≡ record self.now { in_service = in_service.now } }
     {
-        self.known.has_link(set)
+        RouteFacts::of(&self.known, in_service)
     }
 
-    /// The link that a flow would take if a link weren't in service. Nothing changes in the end.
-    ///
-    /// The table stays as it is; the link is worked out, which takes the sets of the destination and their links.
-    pub fn link_without(&mut self, link: LinkId, destination: usize, sls: Sls) -> Option<LinkId>
-        ensures link { result ≡ chosen_link (with_link link false self.old) destination sls }
-        ensures facts { self.new ≡ self.old }
+    /// Which links would be in service if a link weren't.
+    pub fn in_service_without(&self, link: LinkId) -> ArrayVec<bool, { Limits::LINKS }>
+        ensures { result.items ≡ slice_set self.now.in_service link false }
     {
-        self.known.link_without(link, destination, sls)
-    }
-
-    /// The set that all messages to a destination would take if a link weren't in service, where the group that they
-    /// would take is that set alone. Nothing changes in the end.
-    pub fn lone_set_without(&mut self, link: LinkId, destination: usize) -> Option<SetId>
-        ensures set { result ≡ lone_set (with_link link false self.old) destination }
-        ensures facts { self.new ≡ self.old }
-    {
-        self.known.lone_set_without(link, destination)
-    }
-
-    /// Whether some link of a set would be in service if a link weren't. Nothing changes in the end.
-    pub fn has_link_without(&mut self, link: LinkId, set: SetId) -> bool
-        ensures has { result
-            ≡ has_link (with_link link false self.old).in_service (set_at self.old set) }
-        ensures facts { self.new ≡ self.old }
-    {
-        self.known.has_link_without(link, set)
+        self.known.in_service_without(link)
     }
 }

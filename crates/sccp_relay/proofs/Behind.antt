@@ -1,9 +1,5 @@
 -- What stands behind digits is what stands from the node that they lead to.
-use Rattle.std.proofs.Common.{◌≡◌, ℕ, zero, suc, Bool, true, false, cond, List, [], ◌∷◌, ◌++◌, Option, Some, None, length, refl, sym, ap, ◌∙◌, arith}
-use Rattle.std.proofs.lemmas.Bool.{ne_eqb}
-use Rattle.sccp_relay.specs.declared.node.Node.{Node}
-use Rattle.sccp_relay.specs.Digits.{DigitMap, behind, found_at, longest, longest_within}
-use Rattle.sccp_relay.specs.Nodes.{child, node_of, reached, root, stored, stored_from, value, value_there}
+use Rattle.sccp_relay.proofs.Basics.{◌≡◌, ℕ, zero, suc, Bool, true, false, cond, List, [], ◌∷◌, ◌++◌, Option, Some, None, length, refl, sym, ap, ◌∙◌, arith, ne_eqb, Node, DigitMap, behind, found_at, longest, longest_within, child, node_of, reached, root, stored, stored_from, value, value_there}
 use Rattle.sccp_relay.proofs.Walking.{further, reached-append}
 
 -- ---- the node that digits lead to

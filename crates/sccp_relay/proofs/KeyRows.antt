@@ -1,17 +1,5 @@
 -- The first row that doesn't come before a key is of that key, or none is.
-use Rattle.std.proofs.Common.{◌≡◌, ℕ, zero, suc, ◌<◌, ◌≤◌, Bool, true, false, List, [], ◌∷◌, length, get_or, refl, sym, ap, subst, ◌∙◌, inl, inr, arith}
-use Rattle.std.proofs.lemmas.Bool.{and_parts, cases_eq, cases_lt, eqb-true, eq-eqb}
-use Rattle.std.proofs.lemmas.List.{get_or_default}
-use Rattle.std.proofs.lemmas.List.Folds.{list_any_at, list_any_none}
-use Rattle.std.specs.List.{list_any}
-use Rattle.std.specs.Ordering.{is_lt, nat_cmp, ordering_then}
-use Rattle.std.specs.Cmp.Lexicographic.{slice_cmp}
-use Rattle.std.specs.declared.cmp.Ordering.{Ordering}
-use Rattle.std.specs.declared.cmp.Ordering.TheVariants.{Less, Equal, Greater}
-use Rattle.sccp_codec.specs.declared.title.TitleKey.{TitleKey}
-use Rattle.settings_rows.specs.Configuration.{TitleEntry}
-use Rattle.sccp_relay.specs.Rows.{IsOrdered, place_of, row_place, place_order, is_before}
-use Rattle.sccp_relay.specs.Translation.{has_key}
+use Rattle.sccp_relay.proofs.Basics.{false_from_ne_true, ◌≡◌, ℕ, zero, suc, ◌<◌, ◌≤◌, Bool, true, false, List, [], ◌∷◌, length, get_or, refl, sym, ap, subst, ◌∙◌, inl, inr, arith, and_parts, cases_eq, cases_lt, eqb-true, eq-eqb, get_or_default, list_any_at, list_any_none, list_any, is_lt, nat_cmp, ordering_then, slice_cmp, Ordering, Less, Equal, Greater, TitleKey, TitleEntry, IsOrdered, place_of, row_place, place_order, is_before, has_key}
 use Rattle.sccp_relay.proofs.RowOrder.{Splits, each-at}
 
 record Key (key : TitleKey) (row : TitleEntry) : Type 0 where
@@ -78,10 +66,6 @@ far (row ∷ rows) i zero d h lt le = absurd (omega (arith, lt))
 far (row ∷ rows) zero (suc k) d h lt le = each-at _ rows h.0 k d (omega (arith, le))
 far (row ∷ rows) (suc i) (suc k) d h lt le = far rows i k d h.1 (omega (arith, lt)) (omega (arith, le))
 
-not-true : (t : Bool) → (t ≡ true → ⊥) → t ≡ false
-not-true true h = absurd (h refl)
-not-true false h = refl
-
 clash : (t : Bool) → t ≡ true → t ≡ false → ⊥
 clash true e f = cc
 clash false e f = cc
@@ -94,7 +78,7 @@ not-early key rows at k d split s =
     ]
 
 none-of : (key : TitleKey) (rows : List TitleEntry) → ((k : ℕ) (d : TitleEntry) → k < length rows → Key key (get_or rows k d) → ⊥) → list_any (has_key key) rows ≡ false
-none-of key rows h = list_any_none (has_key key) rows (λ k d lt. not-true _ (λ t. h k d lt (of-key key (get_or rows k d) t)))
+none-of key rows h = list_any_none (has_key key) rows (λ k d lt. false_from_ne_true _ (λ t. h k d lt (of-key key (get_or rows k d) t)))
 
 pub none-at-end : (key : TitleKey) (rows : List TitleEntry) (at : ℕ) → Splits (place_of key []) rows at → length rows ≤ at → list_any (has_key key) rows ≡ false
 none-at-end key rows at split end = none-of key rows (λ k d lt s. let le = not-early key rows at k d split s in omega (arith, le, lt, end))

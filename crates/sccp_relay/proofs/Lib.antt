@@ -1,3 +1,4 @@
+pub mod Basics
 pub mod Walking
 pub mod Longest
 pub mod Linking

@@ -1,8 +1,5 @@
 -- A node more, to which one digit leads from one node.
-use Rattle.std.proofs.Common.{◌≡◌, ◌≢◌, ℕ, Bool, true, false, cond, List, [], ◌∷◌, Option, Some, None, refl, sym, ap, ◌∙◌, inl, inr}
-use Rattle.std.proofs.lemmas.Bool.{cases_eq, eqb-false, eq-eqb}
-use Rattle.std.specs.Prelude.{nat_eq}
-use Rattle.sccp_relay.specs.Nodes.{reached, value_there}
+use Rattle.sccp_relay.proofs.Basics.{◌≡◌, ◌≢◌, ℕ, Bool, true, false, cond, List, [], ◌∷◌, Option, Some, None, refl, sym, ap, ◌∙◌, inl, inr, cases_eq, eqb-false, eq-eqb, nat_eq, reached, value_there}
 
 -- the digit d leads from p to f, and led nowhere; nothing stands at f, nor does any digit lead on
 pub record IsLinked (old new : ℕ → ℕ → ℕ) (value : ℕ → Option ℕ) (p d f : ℕ) : Type 0 where

@@ -1,11 +1,5 @@
 -- The longest digits at which something stands, as a walk finds them.
-use Rattle.std.proofs.Common.{◌≡◌, ℕ, zero, suc, ◌<◌, ◌≤◌, ◌+◌, ◌-◌, true, List, ◌∷◌, ◌++◌, length, take, drop, Option, Some, None, refl, sym, ap, ◌∙◌, inl, inr, [], arith}
-use Rattle.std.proofs.lemmas.Bool.{cases_eq}
-use Rattle.std.proofs.lemmas.List.{length-take-le, take-take, get_or-take}
-use Rattle.std.specs.Prelude.{nat_eq}
-use Rattle.sccp_relay.specs.declared.node.Node.{Node}
-use Rattle.sccp_relay.specs.Digits.{DigitMap, found_at, longest, longest_within}
-use Rattle.sccp_relay.specs.Nodes.{child, reached, stored_from, value, value_there}
+use Rattle.sccp_relay.proofs.Basics.{◌≡◌, ℕ, zero, suc, ◌<◌, ◌≤◌, ◌+◌, ◌-◌, true, List, ◌∷◌, ◌++◌, length, take, drop, Option, Some, None, refl, sym, ap, ◌∙◌, inl, inr, [], arith, cases_eq, length-take-le, take-take, get_or-take, nat_eq, Node, DigitMap, found_at, longest, longest_within, child, reached, stored_from, value, value_there}
 use Rattle.sccp_relay.proofs.Walking.{digit_at, no-more, split}
 
 -- nothing stands at more of these digits than at so many

@@ -1,12 +1,6 @@
 -- The longest row that leads the digits is a row that leads them, and none of these is longer.
-use Rattle.std.proofs.Common.{◌≡◌, ℕ, zero, suc, ◌<◌, ◌≤◌, Bool, true, false, cond, List, [], ◌∷◌, length, get_or, Option, Some, None, refl, subst, ◌⊎◌, inl, inr, arith}
-use Rattle.std.proofs.lemmas.Bool.{cases_lt, lt-ltb, le-ltb}
-use Rattle.std.proofs.lemmas.List.Elements.{All-from_recursion}
-use Rattle.std.specs.List.{AllByRecursion, filter}
-use Rattle.std.specs.Prelude.{IfSome}
-use Rattle.settings_rows.specs.Configuration.{TitleEntry}
-use Rattle.sccp_codec.specs.declared.title.TitleKey.{TitleKey}
-use Rattle.sccp_relay.specs.Translation.{longer, longest_from, longest, leads, IsTranslation}
+use Rattle.sccp_relay.proofs.Basics.{◌≡◌, ℕ, zero, suc, ◌<◌, ◌≤◌, Bool, true, false, cond, List, [], ◌∷◌, length, get_or, Option, Some, None, refl, subst, ◌⊎◌, inl, inr, arith, cases_lt, lt-ltb, le-ltb, All-from_recursion, AllByRecursion, filter, IfSome, TitleEntry, TitleKey, longer, longest_from, leads, IsTranslation}
+use Rattle.sccp_relay.specs.Translation.{longest}
 
 abbrev pub AtMost : ℕ → TitleEntry → Type 0
 AtMost n row = length row.digits ≤ n

@@ -1,14 +1,7 @@
 -- A table in its order has one translation of an address at most, and translating answers it.
-use Rattle.std.proofs.Common.{◌≡◌, ℕ, zero, suc, ◌<◌, ◌≤◌, Bool, true, false, cond, List, [], ◌∷◌, length, get_or, take, Option, Some, Ok, Less, refl, sym, ap, subst, ◌∙◌, arith}
-use Rattle.std.proofs.lemmas.Bool.{and_parts, eqb-true}
-use Rattle.std.proofs.lemmas.Cmp.{tied_itself, nat_list_cmp_total}
-use Rattle.std.specs.Cmp.Lexicographic.{bytes_decides}
-use Rattle.std.specs.List.{AllByRecursion, filter, starts_with}
-use Rattle.std.specs.Prelude.{nat_eq}
-use Rattle.settings_rows.specs.Configuration.{TitleEntry}
-use Rattle.sccp_codec.specs.declared.title.TitleKey.{TitleKey}
-use Rattle.sccp_relay.specs.Rows.{IsOrdered, row_place, place_order}
-use Rattle.sccp_relay.specs.Translation.{longest_from, longest, leads, has_key, IsTranslation, translation, translation_refusal, or_refusal}
+use Rattle.sccp_relay.proofs.Basics.{◌≡◌, ℕ, zero, suc, ◌<◌, ◌≤◌, Bool, true, false, cond, List, [], ◌∷◌, length, get_or, take, Option, Some, Ok, refl, sym, ap, subst, ◌∙◌, arith, and_parts, eqb-true, tied_itself, nat_list_cmp_total, bytes_decides, AllByRecursion, filter, starts_with, nat_eq, TitleEntry, TitleKey, IsOrdered, row_place, place_order, longest_from, leads, has_key, IsTranslation, translation, translation_refusal, or_refusal}
+use Rattle.std.proofs.Common.{Less}
+use Rattle.sccp_relay.specs.Translation.{longest}
 use Rattle.sccp_relay.proofs.LongestRow.{is_translation-longest}
 use Rattle.sccp_relay.proofs.RowOrder.{each-at}
 

@@ -1,15 +1,5 @@
 -- What a row more or less leaves of the rows at a place.
-use Rattle.std.proofs.Common.{◌≡◌, ◌≢◌, Bool, true, false, List, [], ◌∷◌, ◌++◌, refl, sym, ap, ◌∙◌, cond}
-use Rattle.std.proofs.lemmas.List.{append-nil}
-use Rattle.std.proofs.lemmas.List.Elements.{filter-append}
-use Rattle.std.specs.List.{filter}
-use Rattle.std.specs.Prelude.{ℕ, not}
-use Rattle.std.specs.Ordering.{is_lt, is_eq, is_gt, ordering_reverse}
-use Rattle.std.specs.declared.cmp.Ordering.{Ordering}
-use Rattle.std.specs.declared.cmp.Ordering.TheVariants.{Less, Equal, Greater}
-use Rattle.settings_rows.specs.Configuration.{TitleEntry}
-use Rattle.sccp_relay.specs.Rows.{row_place, place_order, is_before, is_at, is_behind}
-use Rattle.sccp_relay.specs.Laws.{rows_at, added_stands, added_leaves, removed_is_gone, removed_leaves}
+use Rattle.sccp_relay.proofs.Basics.{◌≡◌, ◌≢◌, Bool, true, false, List, [], ◌∷◌, ◌++◌, refl, sym, ap, ◌∙◌, cond, append-nil, filter-append, filter, ℕ, not, is_lt, is_eq, is_gt, ordering_reverse, Ordering, Less, Equal, Greater, TitleEntry, row_place, place_order, is_before, is_at, is_behind, rows_at, added_stands, added_leaves, removed_is_gone, removed_leaves}
 use Rattle.sccp_relay.proofs.RowOrder.{total, reversed, equal-is_eq}
 
 -- ---- two tests, one after the other

@@ -1,17 +1,6 @@
 -- The ways to rows: which digits they have, which row each leads to, and what a row more or less leaves.
-use Rattle.std.proofs.Common.{◌≡◌, ℕ, zero, suc, ◌+◌, ◌<◌, ◌^◌, ◌/◌, ◌%◌, Bool, true, false, cond, List, [], ◌∷◌, ◌++◌, length, get_or, take, drop, Option, Some, None, Less, refl, sym, ap, subst, ◌∙◌, arith}
-use Rattle.std.proofs.lemmas.List.{append-nil, take-append-drop, take_more}
-use Rattle.std.proofs.lemmas.List.Elements.{All-append, All-cons, All-drop, All-from_recursion, All-more, All-take}
-use Rattle.std.specs.Cmp.Lexicographic.{bytes_decides}
-use Rattle.std.specs.List.{AllByRecursion, insert, remove}
-use Rattle.std.specs.Prelude.{All, Result, Ok, Err, OnOk}
-use Rattle.std.specs.Result.{is_err, is_ok}
-use Rattle.std.specs.Str.{bytes_eq}
-use Rattle.sccp_relay.specs.Digits.{DigitMap, with_value, without}
-use Rattle.sccp_codec.specs.declared.title.TitleKey.{TitleKey}
-use Rattle.settings_rows.specs.Configuration.{TitleEntry}
-use Rattle.sccp_relay.specs.Rows.{IsOrdered, key_of, row_place, place_order}
-use Rattle.sccp_relay.specs.Ways.{IsRow, key_digits, way_of, lead_of, leads_of}
+use Rattle.sccp_relay.proofs.Basics.{false_from_ne_true, ◌≡◌, ℕ, zero, suc, ◌+◌, ◌<◌, ◌^◌, ◌/◌, ◌%◌, Bool, true, false, cond, List, [], ◌∷◌, ◌++◌, length, get_or, take, drop, Option, Some, None, refl, sym, ap, subst, ◌∙◌, arith, append-nil, take-append-drop, take_more, All-append, All-cons, All-drop, All-from_recursion, All-more, All-take, bytes_decides, AllByRecursion, insert, remove, All, Result, Ok, Err, OnOk, is_err, is_ok, bytes_eq, DigitMap, with_value, without, TitleKey, TitleEntry, IsOrdered, key_of, row_place, place_order, IsRow, key_digits, way_of, lead_of, leads_of}
+use Rattle.std.proofs.Common.{Less}
 use Rattle.sccp_relay.proofs.RowOrder.{each-at}
 use Rattle.sccp_relay.proofs.OneRow.{apart}
 
@@ -53,12 +42,8 @@ ways-apart row other less e = apart (row_place row) (row_place other) (same-plac
 
 -- ---- tests of ways
 
-not-true : (t : Bool) → (t ≡ true → ⊥) → t ≡ false
-not-true true h = absurd (h refl)
-not-true false h = refl
-
 unequal : (a b : List ℕ) → (a ≡ b → ⊥) → bytes_eq a b ≡ false
-unequal a b h = not-true (bytes_eq a b) (λ e. h ((bytes_decides a b).0 e))
+unequal a b h = false_from_ne_true (bytes_eq a b) (λ e. h ((bytes_decides a b).0 e))
 
 equal : (a b : List ℕ) → a ≡ b → bytes_eq a b ≡ true
 equal a b e = (bytes_decides a b).1 e

@@ -1,10 +1,5 @@
 -- Nodes in a row: one more behind them, one of which a digit leads on, and one at which something else stands.
-use Rattle.std.proofs.Common.{◌≡◌, ◌≢◌, ℕ, zero, suc, ◌<◌, ◌+◌, List, [], ◌∷◌, ◌++◌, length, get_or, replicate, Option, Some, None, refl, ap, ◌∙◌, inl, inr, arith}
-use Rattle.std.proofs.lemmas.Bool.{cases_eq, cases_lt}
-use Rattle.std.proofs.lemmas.List.{length-set, length-append, get_or-set_same, get_or-set_other, get_or_append_left}
-use Rattle.sccp_relay.specs.declared.node.Node.{Node}
-use Rattle.sccp_relay.specs.declared.node.NodeId.{NodeId}
-use Rattle.sccp_relay.specs.Nodes.{IsTree, KeepsWays, bare, none, node_at, child, value, linked, reached, root, stored, value_there}
+use Rattle.sccp_relay.proofs.Basics.{◌≡◌, ◌≢◌, ℕ, zero, suc, ◌<◌, ◌+◌, List, [], ◌∷◌, ◌++◌, length, get_or, replicate, Option, Some, None, refl, ap, ◌∙◌, inl, inr, arith, cases_eq, cases_lt, length-set, length-append, get_or-set_same, get_or-set_other, get_or_append_left, Node, NodeId, IsTree, KeepsWays, bare, none, node_at, child, value, linked, reached, root, stored, value_there}
 use Rattle.sccp_relay.proofs.Linking.{IsLinked, kept, same}
 
 -- ---- one more behind them

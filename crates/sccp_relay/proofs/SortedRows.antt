@@ -1,15 +1,5 @@
 -- Rows that were sorted are those of the table into which they are put one by one.
-use Rattle.std.proofs.Common.{◌≡◌, ℕ, zero, suc, ◌<◌, ◌≤◌, Bool, true, false, List, [], ◌∷◌, ◌++◌, length, get_or, refl, sym, ap, subst, ◌∙◌, ◌⊎◌, inl, inr, cond, arith}
-use Rattle.std.proofs.lemmas.List.Sorted.{sorted_far, ranks_by, Contains-permutation, IsPermutation-sym}
-use Rattle.std.proofs.lemmas.Map.Keys.{IsDistinct-IsPermutation, IsDistinct-head, IsDistinct-tail}
-use Rattle.std.proofs.lemmas.Map.Text.{is_eq-slice_cmp}
-use Rattle.std.specs.List.{AllByRecursion, Contains, IsDistinct, filter}
-use Rattle.std.specs.List.Sorted.{IsPermutation, IsSortedBy}
-use Rattle.std.specs.Ordering.{is_lt, is_eq, is_gt, ordering_reverse}
-use Rattle.std.specs.declared.cmp.Ordering.{Ordering}
-use Rattle.std.specs.declared.cmp.Ordering.TheVariants.{Less, Equal, Greater}
-use Rattle.settings_rows.specs.Configuration.{TitleEntry}
-use Rattle.sccp_relay.specs.Rows.{row_place, place_order, is_before, is_behind, IsOrdered, with_row, table_of, is_same_place}
+use Rattle.sccp_relay.proofs.Basics.{◌≡◌, ℕ, zero, suc, ◌<◌, ◌≤◌, Bool, true, false, List, [], ◌∷◌, ◌++◌, length, get_or, refl, sym, ap, subst, ◌∙◌, ◌⊎◌, inl, inr, cond, arith, sorted_far, ranks_by, Contains-permutation, IsPermutation-sym, IsDistinct-IsPermutation, IsDistinct-head, IsDistinct-tail, is_eq-slice_cmp, AllByRecursion, Contains, IsDistinct, filter, IsPermutation, IsSortedBy, is_lt, is_eq, is_gt, ordering_reverse, Ordering, Less, Equal, Greater, TitleEntry, row_place, place_order, is_before, is_behind, IsOrdered, with_row, table_of, is_same_place}
 use Rattle.sccp_relay.proofs.RowOrder.{total, reversed, greater-neither, ordered-with_row}
 
 -- ---- which rows stand in a list

@@ -1,11 +1,5 @@
 -- What a row more or less leaves of a table.
-use Rattle.std.proofs.Common.{◌≡◌, ℕ, suc, ◌<◌, ◌≤◌, Bool, true, false, cond, List, ◌∷◌, length, take, drop, sym, subst, arith}
-use Rattle.std.proofs.lemmas.List.{length-append, length-take, length-drop}
-use Rattle.std.specs.List.{insert, remove}
-use Rattle.signalling_types.specs.declared.limits.TheConstants.Limits.{TITLES}
-use Rattle.settings_rows.specs.Configuration.{TitleEntry}
-use Rattle.sccp_relay.specs.Rows.{row_place, IsOrdered, with_row, without_row}
-use Rattle.sccp_relay.specs.Places.{StandsAt, FitsAt}
+use Rattle.sccp_relay.proofs.Basics.{◌≡◌, ℕ, suc, ◌<◌, ◌≤◌, Bool, true, false, cond, List, ◌∷◌, length, take, drop, sym, subst, arith, length-append, length-take, length-drop, insert, remove, TITLES, TitleEntry, row_place, IsOrdered, with_row, without_row, StandsAt, FitsAt}
 use Rattle.sccp_relay.proofs.RowOrder.{ordered-with_row, ordered-filter}
 
 pub record IsFine (rows : List TitleEntry) : Type 0 where

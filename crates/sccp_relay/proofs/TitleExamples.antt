@@ -1,9 +1,5 @@
 -- The law of translation at two rows, by computation.
-use Rattle.std.proofs.Common.{◌≤◌, length, refl, arith}
-use Rattle.std.specs.Prelude.{IsTrue}
-use Rattle.std.proofs.lemmas.List.Elements.{All-from_recursion}
-use Rattle.settings_rows.specs.Configuration.{TitleEntry}
-use Rattle.sccp_relay.specs.Translation.{leads}
+use Rattle.sccp_relay.proofs.Basics.{◌≤◌, length, refl, arith, IsTrue, All-from_recursion, TitleEntry, leads}
 use Rattle.sccp_relay.specs.TitleExamples as examples
 
 pub are_ordered : examples.are_ordered

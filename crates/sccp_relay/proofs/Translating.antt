@@ -1,23 +1,8 @@
 -- The longest way that is there behind the digits of a key is that of the row by which its addresses are translated.
-use Rattle.std.proofs.Common.{◌≡◌, ℕ, ◌+◌, ◌*◌, ◌<◌, ◌≤◌, ◌^◌, ◌/◌, ◌%◌, Bool, true, cond, List, ◌++◌, length, get_or, take, Option, Some, None, refl, sym, ap, subst, ◌∙◌, inl, inr, arith}
-use Rattle.std.proofs.lemmas.Bool.{and_parts, cases_lt, eq-eqb, eqb-true, ne_eqb, lt-ltb, le-ltb}
-use Rattle.std.proofs.lemmas.List.{get_or_default, length-take, length-take-le}
-use Rattle.std.proofs.lemmas.List.Elements.{All-get_or}
-use Rattle.std.specs.Cmp.Lexicographic.{bytes_decides}
-use Rattle.std.specs.List.{filter, list_any, starts_with}
-use Rattle.signalling_types.specs.declared.cause.Cause.TheVariants.{NoNature, NoDigits}
-use Rattle.std.specs.Prelude.{All, Err, nat_eq}
-use Rattle.sccp_relay.specs.Digits.{DigitMap, behind, longest as longest_digits}
+use Rattle.sccp_relay.proofs.Basics.{◌≡◌, ℕ, ◌+◌, ◌*◌, ◌<◌, ◌≤◌, ◌^◌, ◌/◌, ◌%◌, Bool, true, cond, List, ◌++◌, length, get_or, take, Option, Some, None, refl, sym, ap, subst, ◌∙◌, inl, inr, arith, and_parts, cases_lt, eq-eqb, eqb-true, ne_eqb, lt-ltb, le-ltb, get_or_default, length-take, length-take-le, All-get_or, bytes_decides, filter, list_any, starts_with, NoNature, NoDigits, All, Err, nat_eq, DigitMap, behind, Cause, TitleKey, TitleEntry, HasTitleRanges, TitleRoute, Title, Ssn, key_of, leads, has_key, IsTranslation, translation, translation_refusal, or_refusal, IsRow, IsRoute, IsSsn, key_digits, way_of, lead_of, leads_of, route_number, route_of, row_led}
+use Rattle.sccp_relay.specs.Digits.{longest as longest_digits}
 use Rattle.sccp_relay.proofs.Longest.{is-longest, is-none-longest}
-use Rattle.signalling_types.specs.declared.cause.Cause.{Cause}
-use Rattle.sccp_codec.specs.declared.title.TitleKey.{TitleKey}
-use Rattle.settings_rows.specs.Configuration.{TitleEntry}
-use Rattle.settings_rows.specs.Titles.{HasTitleRanges}
-use Rattle.settings_rows.specs.declared.title_row.TitleRoute.{TitleRoute}
-use Rattle.settings_rows.specs.declared.title_row.TitleRoute.TheVariants.{Title, Ssn}
-use Rattle.sccp_relay.specs.Rows.{key_of}
-use Rattle.sccp_relay.specs.Translation.{longest, leads, has_key, IsTranslation, translation, translation_refusal, or_refusal}
-use Rattle.sccp_relay.specs.Ways.{IsRow, IsRoute, IsSsn, key_digits, way_of, lead_of, leads_of, route_number, route_of, row_led}
+use Rattle.sccp_relay.specs.Translation.{longest}
 use Rattle.sccp_relay.proofs.LongestRow.{is_translation-longest}
 use Rattle.sccp_relay.proofs.RowWays.{SameWay, same-way, FoundRow, found-row, way-leads}
 

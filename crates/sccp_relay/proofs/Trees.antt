@@ -1,13 +1,5 @@
 -- Nodes stay a tree: with one more, and where something else stands at one.
-use Rattle.std.proofs.Common.{◌≡◌, ◌≢◌, ℕ, ◌<◌, ◌+◌, Bool, true, false, cond, List, [], ◌∷◌, ◌++◌, length, Option, Some, None, refl, sym, ap, ◌∙◌, inl, inr, arith}
-use Rattle.std.proofs.lemmas.Bool.{cases_eq, eq-eqb, ne_eqb}
-use Rattle.std.proofs.lemmas.List.{get_or-set_same, get_or-set_other}
-use Rattle.std.specs.Cmp.Lexicographic.{bytes_decides}
-use Rattle.std.specs.Prelude.{nat_eq}
-use Rattle.std.specs.Str.{bytes_eq}
-use Rattle.sccp_relay.specs.Digits.{without}
-use Rattle.sccp_relay.specs.declared.node.Node.{Node}
-use Rattle.sccp_relay.specs.Nodes.{IsTree, child, value, reached, root, stored, with_value_at, value_there}
+use Rattle.sccp_relay.proofs.Basics.{◌≡◌, ◌≢◌, ℕ, ◌<◌, ◌+◌, Bool, true, false, cond, List, [], ◌∷◌, ◌++◌, length, Option, Some, None, refl, sym, ap, ◌∙◌, inl, inr, arith, cases_eq, eq-eqb, ne_eqb, get_or-set_same, get_or-set_other, bytes_decides, nat_eq, bytes_eq, without, Node, IsTree, child, value, reached, root, stored, with_value_at, value_there}
 use Rattle.sccp_relay.proofs.Walking.{same-digits}
 use Rattle.sccp_relay.proofs.Linking.{IsLinked}
 use Rattle.sccp_relay.proofs.Rows.{child_in, grown, grown-length, grown-linked, grown-wide, past}

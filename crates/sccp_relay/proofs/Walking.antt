@@ -1,10 +1,5 @@
 -- Where digits lead, and that each node has digits of its own.
-use Rattle.std.proofs.Common.{◌≡◌, ℕ, ◌<◌, ◌+◌, Bool, true, false, cond, List, [], ◌∷◌, ◌++◌, length, get_or, take, drop, Option, Some, None, refl, sym, ap, ◌∙◌}
-use Rattle.std.proofs.lemmas.Bool.{eqb-false}
-use Rattle.std.proofs.lemmas.List.{append-nil, append_assoc, take_more, drop_more, take-append-drop}
-use Rattle.std.specs.Prelude.{nat_eq}
-use Rattle.sccp_relay.specs.declared.node.Node.{Node}
-use Rattle.sccp_relay.specs.Nodes.{IsTree, child, if_there, reached, root}
+use Rattle.sccp_relay.proofs.Basics.{◌≡◌, ℕ, ◌<◌, ◌+◌, Bool, true, false, cond, List, [], ◌∷◌, ◌++◌, length, get_or, take, drop, Option, Some, None, refl, sym, ap, ◌∙◌, eqb-false, append-nil, append_assoc, take_more, drop_more, take-append-drop, nat_eq, Node, IsTree, child, if_there, reached, root}
 
 pub some-is : {j k : ℕ} → Some j ≡ Some k → j ≡ k
 some-is {j} {k} e = cc

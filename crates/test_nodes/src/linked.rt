@@ -70,8 +70,8 @@ impl LinkedNodes {
     }
 
     /// How many user messages that a choice takes wait at an end for the other.
-    pub fn waiting<P: Pick>(&mut self, end: End, pick: &P) -> u128 {
-        waiting(&mut self.pair, end, pick)
+    pub fn waiting<P: Pick>(&self, end: End, pick: &P) -> u128 {
+        waiting(&self.pair, end, pick)
     }
 
     /// The user messages that an end accepted.
@@ -96,6 +96,6 @@ fn turn(pair: &mut Pair, step: Step) -> Result<Outcome, NoMemory> {
 }
 
 /// How many user messages wait at an end.
-fn waiting<P: Pick>(pair: &mut Pair, end: End, pick: &P) -> u128 {
+fn waiting<P: Pick>(pair: &Pair, end: End, pick: &P) -> u128 {
     pair.waiting(end, pick)
 }

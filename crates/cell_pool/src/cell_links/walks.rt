@@ -33,6 +33,21 @@ impl CellLinks {
         }
     }
 
+    /// The cell behind one at a place of a list, where there is one.
+    pub(crate) fn next(&self, ring: usize, place: usize, cell: CellNumber) -> Option<CellNumber>
+        requires ring { ring < length self.now.rings }
+        requires place { place < length (ring_at self.now.rings ring) }
+        requires cell { cell ≡ slice_index_or (ring_at self.now.rings ring) place 0 }
+        ensures number { result ≡ slice_get (ring_at self.now.rings ring) (place + 1) }
+        ensures within { IfSome result (λ number. number < self.now.used) }
+    {
+        if self.count(ring) - place > 1 {
+            Some(self.behind(ring, place, cell))
+        } else {
+            None
+        }
+    }
+
     /// The first cell of a list, where there is one.
     pub(crate) fn first(&self, ring: usize) -> Option<CellNumber>
         requires { ring < length self.now.rings }

@@ -1,12 +1,11 @@
 //! A link returns to service and takes its flows back, and what ends that.
 
-ghost use Rattle.std.specs.Prelude.{◌≡◌, ◌<◌, ℕ, None, Some, false, true, length, replicate, slice_index_or};
+ghost use Rattle.std.specs.Prelude.{◌≡◌, ◌<◌, ℕ, None, Some, false, length, replicate, slice_index_or};
 ghost use Rattle.std.specs.Prelude.{IfErr, OnOk, is_ok, if◌then◌else◌};
 ghost use Rattle.routes.specs.Facts.{with_link};
 ghost use Rattle.changeback.specs.Return.{returned, gives_up, held_by};
 ghost use Rattle.exchange_rules.specs.State.{with_node, with_parts};
 ghost use Rattle.exchange.specs.Head.{with_holds};
-ghost use Rattle.exchange_rules.specs.Links.{in_service};
 ghost use Rattle.exchange.specs.KeptQueues.{kept};
 ghost use Rattle.exchange_rules.specs.Routing.{facts};
 ghost use Rattle.exchange_rules.specs.Queueing.{no_room, queue_on};
@@ -27,8 +26,7 @@ impl Exchange {
     /// A link that entered service takes back the flows that took other links before. Those flows are held until the
     /// declaration is acknowledged or a timer runs out (Q.704 §6.3, §6.4).
     pub(super) fn change_back(&mut self, link: LinkId)
-        requires link { link < length self.old.settings.links }
-        requires serves { in_service self.old.node.parts link ≡ true }
+        requires { link < length self.old.settings.links }
         ensures { self.new ≡ with_node self.old (rule.change_back kept self.old.settings link
             (with_link link false (facts self.old.settings self.old.node.parts)) self.old.node) }
     {
@@ -38,30 +36,25 @@ impl Exchange {
     }
 
     /// Which other links lose flows to a link that entered service.
-    fn losing(&mut self, link: LinkId) -> [bool; Limits::LINKS]
-        requires link { link < length self.old.settings.links }
-        requires serves { in_service self.old.node.parts link ≡ true }
+    fn losing(&self, link: LinkId) -> [bool; Limits::LINKS]
         ensures losing { (other : ℕ) → slice_index_or result other false ≡ gives_up (returned link
-            (with_link link false (facts self.old.settings self.old.node.parts))
-            (facts self.old.settings self.old.node.parts)) other }
-        ensures places { HasPlacesFor self.old.settings self.old.node.parts }
-        ensures state { self.new ≡ self.old }
+            (with_link link false (facts self.now.settings self.now.node.parts))
+            (facts self.now.settings self.now.node.parts)) other }
+        ensures places { HasPlacesFor self.now.settings self.now.node.parts }
     {
         prove!(self.settings.link_count() <= Limits::LINKS);
-        losing(&mut self.links, link)
+        losing(&self.links, link)
     }
 
     /// Holds each flow that a link takes over by the procedure given for the link that it comes from.
     fn hold_changes(&mut self, link: LinkId, holders: &[Option<Procedure>; Limits::LINKS])
-        requires link { link < length self.old.settings.links }
-        requires serves { in_service self.old.node.parts link ≡ true }
         ensures { self.new ≡ with_holds self.old (held_by holders.now (returned link
             (with_link link false (facts self.old.settings self.old.node.parts))
             (facts self.old.settings self.old.node.parts)) self.old.node.parts.holds) }
     {
         prove!(self.settings.link_count() <= Limits::LINKS);
         self.release_due = true;
-        hold_changes(&mut self.links, link, holders, &mut self.holds);
+        hold_changes(&self.links, link, holders, &mut self.holds);
     }
 
     /// For each other link that loses flows to a link, in order: begins the hold of those flows, as `declare_by` does,

@@ -113,6 +113,6 @@ impl Exchange {
         requires { link < length self.now.settings.links }
         ensures { result ≡ rule.has_other self.now.settings link self.now.node.parts }
     {
-        self.links.has_link(self.set_of(link))
+        self.links.facts().has_link(self.set_of(link))
     }
 }

@@ -81,15 +81,15 @@ impl Exchange {
     /// User Data, by the state of its link. On a link in service the alignment table would change nothing, and isn't
     /// consulted.
     #[inline(always)]
-    fn receive_data(&mut self, link: LinkId, data: &UserData<'_>) -> Outcome
+    fn receive_data(&mut self, link: LinkId, frame: &UserData<'_>) -> Outcome
         requires { link < length self.old.settings.links }
         ensures { Ends self.old result self.new
-            (rule.receive_data kept self.old.settings link (carrying data.now) self.old.node) }
+            (rule.receive_data kept self.old.settings link (carrying frame.now) self.old.node) }
     {
         if self.serves(link) {
-            return self.handle(link, data);
+            return self.handle(link, frame);
         }
-        self.enter_by(link, data.fsn, data.bsn, data.message)
+        self.enter_by(link, frame.fsn, frame.bsn, frame.message)
     }
 
     /// User Data on a link that isn't in service: one that expects it enters service, and takes the message.
@@ -117,20 +117,20 @@ impl Exchange {
 
     /// User Data on a link in service: right numbers count, and a message is delivered; a wrong number fails the link.
     #[inline(always)]
-    fn handle(&mut self, link: LinkId, data: &UserData<'_>) -> Outcome
+    fn handle(&mut self, link: LinkId, frame: &UserData<'_>) -> Outcome
         requires { link < length self.old.settings.links }
         ensures { Ends self.old result self.new
-            (rule.handle kept self.old.settings link (carrying data.now) self.old.node) }
+            (rule.handle kept self.old.settings link (carrying frame.now) self.old.node) }
     {
-        let carries = data.message.is_some();
-        match self.accept_numbers(link, data.fsn, data.bsn, carries) {
+        let carries = frame.message.is_some();
+        match self.accept_numbers(link, frame.fsn, frame.bsn, carries) {
             Err(_) => {
                 self.fail(link, FailureReason::Sequence);
                 Outcome::Handled
             }
             Ok(confirmed) => {
                 self.time_confirming(link, confirmed);
-                self.carry(link, data.message)
+                self.carry(link, frame.message)
             }
         }
     }

@@ -160,7 +160,7 @@ impl Exchange {
             (status_of (facts self.old.settings self.old.node.parts) destination set) set destination self.old.node) }
     {
         let about = self.point_of(destination);
-        match self.links.status_of(destination, set) {
+        match self.links.facts().status_of(destination, set) {
             Some(RouteStatus::Prohibited) => {
                 self.ask(set, destination, &Management::RouteSetTestProhibited(about));
             }

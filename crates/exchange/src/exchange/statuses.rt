@@ -40,8 +40,7 @@ impl Exchange {
     /// its flows back.
     #[inline(never)]
     fn enter_service(&mut self, link: LinkId)
-        requires link { link < length self.old.settings.links }
-        requires serves { in_service self.old.node.parts link ≡ true }
+        requires { link < length self.old.settings.links }
         ensures { self.new ≡ with_node self.old (entered kept self.old.settings link self.old.node) }
     {
         if self.is_first(link) {
@@ -50,16 +49,14 @@ impl Exchange {
         self.change_back(link);
     }
 
-    /// Whether a link is the only one of its set in service: it is taken out of service to find out, and put back.
-    fn is_first(&mut self, link: LinkId) -> bool
-        requires link { link < length self.old.settings.links }
-        requires serves { in_service self.old.node.parts link ≡ true }
-        ensures first { result ≡ is_first_in (with_link link false
-            (facts self.old.settings self.old.node.parts)) (set_of self.old.settings link) }
-        ensures state { self.new ≡ self.old }
+    /// Whether no other link of a link's set is in service.
+    fn is_first(&self, link: LinkId) -> bool
+        requires { link < length self.now.settings.links }
+        ensures { result ≡ is_first_in (with_link link false
+            (facts self.now.settings self.now.node.parts)) (set_of self.now.settings link) }
     {
-        let set = self.set_of(link);
-        !self.links.has_link_without(link, set)
+        let others = self.links.in_service_without(link);
+        !self.links.facts_by(&others).has_link(self.set_of(link))
     }
 
     /// Whether a link is in service.

@@ -98,7 +98,7 @@ impl Exchange {
         ensures full { IfSome result (λ _. rule.may_tell kept self.new.settings self.new.node ≡ false) }
         ensures pending { OwesNoneUpTo result (known self.new) self.new.node.parts.told set }
     {
-        if self.links.has_link(set) {
+        if self.links.facts().has_link(set) {
             self.tell_row(set)
         } else {
             None

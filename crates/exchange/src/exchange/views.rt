@@ -123,8 +123,8 @@ impl Exchange {
         let row = self.settings.destinations().get(destination)?;
         Some(RouteView {
             point: row.point(),
-            sets: self.links.sets_of(destination),
-            status: status_shown(&self.links.routes_of(destination)),
+            sets: self.links.facts().sets_of(destination),
+            status: status_shown(&self.links.facts().routes_of(destination)),
         })
     }
 

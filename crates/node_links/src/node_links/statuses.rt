@@ -1,8 +1,6 @@
 //! The statuses of a node's routes.
 
 ghost use Rattle.std.specs.Prelude.{◌≡◌};
-ghost use Rattle.routes.specs.Statuses.{status_of};
-ghost use Rattle.node_links.specs.Network.{facts_of};
 ghost use Rattle.node_links.specs.Statuses.{with_route_status, with_statuses_reset};
 
 use super::NodeLinks;
@@ -10,14 +8,6 @@ use routes::RouteStatus;
 use signalling_types::SetId;
 
 impl NodeLinks {
-    /// The status of the route to a destination, by its number, over a set. `None` where no such route is there. It
-    /// takes a step for each set that leads to the destination.
-    pub fn status_of(&self, destination: usize, set: SetId) -> Option<RouteStatus>
-        ensures { result ≡ status_of (facts_of self.now) destination set }
-    {
-        self.routes.status_of(destination, set)
-    }
-
     /// The route to a destination, by its number, over a set gets a status; a route that isn't there is left aside.
     /// Links, and all other routes, stay as they are (Q.704 §13). It takes a step for each set that leads to the
     /// destination.

@@ -108,8 +108,8 @@ impl Part for Network {
             "prohibit" => self
                 .routes
                 .set_status(first, SetId::new(high), RouteStatus::Prohibited),
-            "unknown" => return self.routes.status_of(first, SetId::new(high)).is_none(),
-            "sets" => return self.routes.sets_of(first).len() == second,
+            "unknown" => return self.routes.facts().status_of(first, SetId::new(high)).is_none(),
+            "sets" => return self.routes.facts().sets_of(first).len() == second,
             "fail" => {
                 let sls = Sls::of_low_bits(u32::from(high));
                 return fail(&mut self.routes, first, sls) == number(call, 3);

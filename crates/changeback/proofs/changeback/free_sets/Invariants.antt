@@ -1,6 +1,5 @@
 -- As many sets as the loop has gone round.
-use Rattle.std.proofs.Common.{◌≡◌}
-use Rattle.changeback.specs.Codes.{no_codes}
+use Rattle.changeback.proofs.Basics.{◌≡◌, no_codes}
 use Rattle.changeback.proofs.changeback.free_sets.Given as goal
 
 abbrev pub invariant-loop-set : goal.invariant-loop-set

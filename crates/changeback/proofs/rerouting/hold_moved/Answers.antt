@@ -1,10 +1,5 @@
 -- One more flow is looked at.
-use Rattle.std.proofs.Common.{◌≡◌, ◌∙◌, ℕ, List, ap, sym, arith, length, slice_index_or}
-use Rattle.std.specs.Prelude.{Option, None, nat_lt}
-use Rattle.std.proofs.lemmas.List.{get_or_default}
-use Rattle.routes.specs.Chosen.{chosen_link}
-use Rattle.node_links.specs.Network.{facts_of}
-use Rattle.changeback.specs.Rerouting.{is_other_link, held_for}
+use Rattle.changeback.proofs.Basics.{◌≡◌, ◌∙◌, ℕ, List, ap, sym, arith, length, slice_index_or, Option, None, nat_lt, get_or_default, chosen_link, facts_of, is_other_link, held_for}
 use Rattle.changeback.proofs.Rerouted.{none_moved, held_more, moved_more}
 use Rattle.changeback.proofs.rerouting.hold_moved.Goals as goal
 

@@ -1,8 +1,5 @@
 -- As many flows were looked at as the loop has gone round.
-use Rattle.std.proofs.Common.{◌≡◌, length}
-use Rattle.std.specs.Prelude.{nat_lt}
-use Rattle.node_links.specs.Network.{facts_of}
-use Rattle.changeback.specs.Rerouting.{moved_from, held_for}
+use Rattle.changeback.proofs.Basics.{◌≡◌, length, nat_lt, facts_of, moved_from, held_for}
 use Rattle.changeback.proofs.rerouting.hold_moved.Given as goal
 
 abbrev pub invariant-loop-selection : goal.invariant-loop-selection

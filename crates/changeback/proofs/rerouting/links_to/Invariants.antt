@@ -1,8 +1,5 @@
 -- The links of as many flows are there as the loop has gone round.
-use Rattle.std.proofs.Common.{◌≡◌, ℕ, ◌<◌, None, length, slice_index_or}
-use Rattle.routes.specs.Chosen.{chosen_link}
-use Rattle.node_links.specs.Network.{facts_of}
-use Rattle.signalling_types.specs.declared.limits.TheConstants.Limits.{SELECTIONS}
+use Rattle.changeback.proofs.Basics.{◌≡◌, ℕ, ◌<◌, None, length, slice_index_or, chosen_link, facts_of, SELECTIONS}
 use Rattle.changeback.proofs.rerouting.links_to.Given as goal
 
 abbrev pub invariant-loop-selection : goal.invariant-loop-selection

@@ -1,8 +1,5 @@
 -- The links from before are those of the routing facts from before.
-use Rattle.std.proofs.Common.{◌∙◌, ℕ, List, ap, length}
-use Rattle.std.specs.Prelude.{nat_lt}
-use Rattle.node_links.specs.Network.{facts_of}
-use Rattle.changeback.specs.Rerouting.{held_for}
+use Rattle.changeback.proofs.Basics.{◌∙◌, ℕ, List, ap, length, nat_lt, facts_of, held_for}
 use Rattle.changeback.proofs.Rerouted.{moved_alike}
 use Rattle.changeback.proofs.rerouting.reroute.Goals as goal
 

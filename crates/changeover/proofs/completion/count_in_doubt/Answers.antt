@@ -1,5 +1,4 @@
-use Rattle.std.proofs.Common.{ap, ◌∙◌}
-use Rattle.changeover.specs.Kept.{kept_doubted}
+use Rattle.changeover.proofs.Basics.{ap, ◌∙◌, kept_doubted}
 use Rattle.changeover.proofs.Finishing.{doubted-alike}
 use Rattle.changeover.proofs.completion.count_in_doubt.Goals as goal
 

@@ -1,5 +1,4 @@
-use Rattle.std.proofs.Common.{◌≡◌, replicate}
-use Rattle.node_links.specs.LinkState.{down_link}
+use Rattle.node_links.proofs.Basics.{◌≡◌, replicate, down_link}
 use Rattle.node_links.proofs.node_links.down_links.Given as goal
 
 -- as many as the loop has gone round

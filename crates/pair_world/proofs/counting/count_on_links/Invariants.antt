@@ -6,7 +6,6 @@ use Rattle.pair_world.proofs.counting.count_on_links.Given as goal
 
 abbrev pub invariant-loop-link : goal.invariant-loop-link
 invariant-loop-link g l = record {
-  same : l.near ≡ l.fn.near;
-  sum : l.count ≡ sum_to (kept_waiting_on (g.P.Pick.picks l.pick) l.fn.near l.far) l.link;
+  sum : l.count ≡ sum_to (kept_waiting_on (g.P.Pick.picks l.pick) l.near l.far) l.link;
   few : l.count ≤ l.link * 2 ^ 64;
 }

@@ -1,5 +1,4 @@
-use Rattle.std.proofs.Common.{arith}
-use Rattle.routes.specs.declared.route.RouteStatus.TheVariants.{Allowed}
+use Rattle.route_management.proofs.Basics.{arith, Allowed}
 use Rattle.route_management.proofs.Rows.{alike_over_more}
 use Rattle.route_management.proofs.row.allow_all.Goals as goal
 

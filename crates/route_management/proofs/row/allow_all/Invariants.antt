@@ -1,5 +1,4 @@
-use Rattle.std.proofs.Common.{◌≡◌, ◌++◌, map, take, drop}
-use Rattle.routes.specs.declared.route.RouteStatus.TheVariants.{Allowed}
+use Rattle.route_management.proofs.Basics.{◌≡◌, ◌++◌, map, take, drop, Allowed}
 use Rattle.route_management.proofs.row.allow_all.Given as goal
 
 abbrev pub invariant-loop-status : goal.invariant-loop-status

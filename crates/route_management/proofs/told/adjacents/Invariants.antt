@@ -1,6 +1,4 @@
-use Rattle.std.proofs.Common.{◌≡◌, ◌≤◌, length, map, take}
-use Rattle.std.specs.Prelude.{vec_len, vec_capacity}
-use Rattle.route_management.specs.Told.{adjacent_place}
+use Rattle.route_management.proofs.Basics.{◌≡◌, ◌≤◌, length, map, take, vec_len, vec_capacity, adjacent_place}
 use Rattle.route_management.proofs.told.adjacents.Given as goal
 
 abbrev pub invariant-loop-set : goal.invariant-loop-set

@@ -1,6 +1,4 @@
-use Rattle.std.proofs.Common.{◌≡◌, ◌≤◌, replicate}
-use Rattle.std.specs.Prelude.{vec_len, vec_capacity}
-use Rattle.routes.specs.declared.route.RouteStatus.TheVariants.{Allowed}
+use Rattle.route_management.proofs.Basics.{◌≡◌, ◌≤◌, replicate, vec_len, vec_capacity, Allowed}
 use Rattle.route_management.proofs.told.first_rows.Given as goal
 
 abbrev pub invariant-loop-index : goal.invariant-loop-index

@@ -1,7 +1,5 @@
 -- The links of as many selections are there as the loop has gone round.
-use Rattle.std.proofs.Common.{◌≡◌, ℕ, ◌<◌, None, length, slice_index_or}
-use Rattle.routes.specs.Preference.{first_serving}
-use Rattle.signalling_types.specs.declared.limits.TheConstants.Limits.{SELECTIONS}
+use Rattle.routes.proofs.Basics.{◌≡◌, ℕ, ◌<◌, None, length, slice_index_or, first_serving, SELECTIONS}
 use Rattle.routes.proofs.flow_links.links_of_group.Given as goal
 
 abbrev pub invariant-loop-selection : goal.invariant-loop-selection

@@ -1,6 +1,4 @@
-use Rattle.std.proofs.Common.{◌≡◌, ◌≤◌}
-use Rattle.std.specs.Prelude.{vec_len, vec_capacity}
-use Rattle.routes.specs.Facts.{first_sets}
+use Rattle.routes.proofs.Basics.{◌≡◌, ◌≤◌, vec_len, vec_capacity, first_sets}
 use Rattle.routes.proofs.known.link_sets.Given as goal
 
 abbrev pub invariant-loop-set : goal.invariant-loop-set

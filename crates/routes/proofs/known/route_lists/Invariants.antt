@@ -1,6 +1,4 @@
-use Rattle.std.proofs.Common.{◌≡◌, ◌≤◌, length, map, take}
-use Rattle.std.specs.Prelude.{vec_len, vec_capacity}
-use Rattle.routes.specs.Facts.{first_routes}
+use Rattle.routes.proofs.Basics.{◌≡◌, ◌≤◌, length, map, take, vec_len, vec_capacity, first_routes}
 use Rattle.routes.proofs.known.route_lists.Given as goal
 
 abbrev pub invariant-loop-destination : goal.invariant-loop-destination

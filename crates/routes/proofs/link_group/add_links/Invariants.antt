@@ -1,6 +1,4 @@
-use Rattle.std.proofs.Common.{◌≡◌, ◌≤◌, ◌+◌, ◌++◌, take}
-use Rattle.arrayvec.specs.ArrayVec.{array_vec_len}
-use Rattle.routes.specs.Preference.{members_of}
+use Rattle.routes.proofs.Basics.{◌≡◌, ◌≤◌, ◌+◌, ◌++◌, take, array_vec_len, members_of}
 use Rattle.routes.proofs.link_group.add_links.Given as goal
 
 abbrev pub invariant-loop-link : goal.invariant-loop-link

@@ -1,5 +1,4 @@
-use Rattle.std.proofs.Common.{◌≡◌, take}
-use Rattle.arrayvec.specs.ArrayVec.{array_vec_len}
+use Rattle.routes.proofs.Basics.{◌≡◌, take, array_vec_len}
 use Rattle.routes.proofs.link_group.copied.Given as goal
 
 abbrev pub invariant-loop-member : goal.invariant-loop-member

@@ -1,7 +1,4 @@
-use Rattle.std.proofs.Common.{arith}
-use Rattle.std.proofs.lemmas.Grind.{common_steps}
-use Rattle.std.proofs.lemmas.List.Edits.{map_over_more}
-use Rattle.routes.specs.Facts.{with_status_over}
+use Rattle.routes.proofs.Basics.{arith, common_steps, map_over_more, with_status_over}
 use Rattle.routes.proofs.route.tell.Goals as goal
 
 pub loop-route-preserved : goal.loop-route-preserved

@@ -1,5 +1,4 @@
-use Rattle.std.proofs.Common.{◌≡◌, ◌++◌, map, take, drop}
-use Rattle.routes.specs.Facts.{with_status_over}
+use Rattle.routes.proofs.Basics.{◌≡◌, ◌++◌, map, take, drop, with_status_over}
 use Rattle.routes.proofs.route.tell.Given as goal
 
 abbrev pub invariant-loop-route : goal.invariant-loop-route

@@ -1,6 +1,4 @@
-use Rattle.std.proofs.Common.{rules}
-use Rattle.std.proofs.lemmas.List.Sorted.{IsPartitionPoint-from_clause}
-use Rattle.sccp_relay.specs.Rows.{is_before, place_of}
+use Rattle.sccp_relay.proofs.Basics.{rules, IsPartitionPoint-from_clause, is_before, place_of}
 use Rattle.sccp_relay.proofs.RowOrder.{partitioned}
 use Rattle.sccp_relay.proofs.places.count_before.Goals as goal
 

@@ -1,5 +1,4 @@
-use Rattle.std.proofs.Common.{◌≤◌, length, sym, ◌∙◌, arith}
-use Rattle.std.proofs.lemmas.Bool.{le-ltb}
+use Rattle.sccp_relay.proofs.Basics.{◌≤◌, length, sym, ◌∙◌, arith, le-ltb}
 use Rattle.sccp_relay.proofs.KeyRows.{any-at, none-at-end}
 use Rattle.sccp_relay.proofs.places.has_key.Goals as goal
 

@@ -1,6 +1,4 @@
-use Rattle.std.proofs.Common.{ap, sym, ◌∙◌, arith}
-use Rattle.std.specs.Ordering.{is_eq}
-use Rattle.sccp_relay.specs.Rows.{place_of}
+use Rattle.sccp_relay.proofs.Basics.{ap, sym, ◌∙◌, arith, is_eq, place_of}
 use Rattle.sccp_relay.proofs.RowOrder.{stands-at, fits-at, fits-end}
 use Rattle.sccp_relay.proofs.places.place.Goals as goal
 

@@ -1,8 +1,4 @@
-use Rattle.std.proofs.Common.{◌≡◌, rules}
-use Rattle.std.proofs.lemmas.Fn.{always_returns_same}
-use Rattle.std.proofs.lemmas.List.Sorted.{ranks_by}
-use Rattle.std.specs.Ordering.{is_lt}
-use Rattle.sccp_relay.specs.Rows.{row_place}
+use Rattle.sccp_relay.proofs.Basics.{◌≡◌, rules, always_returns_same, ranks_by, is_lt, row_place}
 use Rattle.sccp_relay.proofs.RowOrder.{total}
 use Rattle.sccp_relay.proofs.SortedRows.{comes_first, sorted-table}
 use Rattle.sccp_relay.proofs.places.sort.Goals as goal

@@ -1,6 +1,5 @@
 -- What is read behind the label is what the rule reads there.
-use Rattle.std.proofs.Common.{refl}
-use Rattle.sccp_relay.specs.Relay.{relay}
+use Rattle.sccp_relay.proofs.Basics.{refl, relay}
 use Rattle.sccp_relay.proofs.relaying.relay.Goals as goal
 
 pub returns-in-Err-clause-exact : goal.returns-in-Err-clause-exact

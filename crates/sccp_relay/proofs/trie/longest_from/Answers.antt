@@ -1,7 +1,6 @@
-use Rattle.std.proofs.Common.{sym, ◌∙◌, arith}
+use Rattle.sccp_relay.proofs.Basics.{sym, ◌∙◌, arith, stored_from}
 use Rattle.sccp_relay.proofs.Walking.{is-nowhere, node-step}
 use Rattle.sccp_relay.proofs.Longest.{longest-so-far, none-behind, longest-step}
-use Rattle.sccp_relay.specs.Nodes.{stored_from}
 use Rattle.sccp_relay.proofs.trie.longest_from.Goals as goal
 
 pub returns-in_default : goal.returns-in_default

@@ -1,6 +1,4 @@
-use Rattle.std.proofs.Common.{◌≡◌, ◌<◌, length, take, Some}
-use Rattle.sccp_relay.specs.Digits.{longest_within}
-use Rattle.sccp_relay.specs.Nodes.{child, reached, stored_from}
+use Rattle.sccp_relay.proofs.Basics.{◌≡◌, ◌<◌, length, take, Some, longest_within, child, reached, stored_from}
 use Rattle.sccp_relay.proofs.trie.longest_from.Given as goal
 
 abbrev pub invariant-loop-count : goal.invariant-loop-count

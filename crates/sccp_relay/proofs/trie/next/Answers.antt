@@ -1,7 +1,4 @@
-use Rattle.std.proofs.Common.{◌≡◌, List, sym, ap, ◌∙◌, arith}
-use Rattle.std.proofs.lemmas.Bool.{eqb-true}
-use Rattle.sccp_relay.specs.declared.node.Node.{Node}
-use Rattle.sccp_relay.specs.Nodes.{child}
+use Rattle.sccp_relay.proofs.Basics.{◌≡◌, List, sym, ap, ◌∙◌, arith, eqb-true, Node, child}
 use Rattle.sccp_relay.proofs.Walking.{is-nowhere}
 use Rattle.sccp_relay.proofs.Rows.{grown-ways, grown-stored}
 use Rattle.sccp_relay.proofs.Trees.{grown-tree}

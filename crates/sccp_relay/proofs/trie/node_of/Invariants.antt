@@ -1,5 +1,4 @@
-use Rattle.std.proofs.Common.{◌≡◌, ◌<◌, length, take, Some}
-use Rattle.sccp_relay.specs.Nodes.{child, reached, root}
+use Rattle.sccp_relay.proofs.Basics.{◌≡◌, ◌<◌, length, take, Some, child, reached, root}
 use Rattle.sccp_relay.proofs.trie.node_of.Given as goal
 
 abbrev pub invariant-loop-digit : goal.invariant-loop-digit

@@ -1,6 +1,4 @@
-use Rattle.std.proofs.Common.{◌≡◌, ◌<◌, ◌+◌, length, take, Some, ◌∙◌, arith}
-use Rattle.std.proofs.lemmas.Bool.{ne_eqb}
-use Rattle.sccp_relay.specs.Nodes.{child, reached, root}
+use Rattle.sccp_relay.proofs.Basics.{◌≡◌, ◌<◌, ◌+◌, length, take, Some, ◌∙◌, arith, ne_eqb, child, reached, root}
 use Rattle.sccp_relay.proofs.Walking.{step-on, reached-within}
 use Rattle.sccp_relay.proofs.trie.way_to.Goals as goal
 

@@ -1,6 +1,4 @@
-use Rattle.std.proofs.Common.{◌≡◌, ◌<◌, ◌≤◌, ◌+◌, ◌-◌, ◌^◌, length, take, Some}
-use Rattle.std.specs.Vec.{vec_len, vec_capacity}
-use Rattle.sccp_relay.specs.Nodes.{IsTree, child, reached, root, stored}
+use Rattle.sccp_relay.proofs.Basics.{◌≡◌, ◌<◌, ◌≤◌, ◌+◌, ◌-◌, ◌^◌, length, take, Some, vec_len, vec_capacity, IsTree, child, reached, root, stored}
 use Rattle.sccp_relay.proofs.trie.way_to.Given as goal
 
 abbrev pub invariant-loop-digit : goal.invariant-loop-digit

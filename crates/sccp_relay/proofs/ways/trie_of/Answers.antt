@@ -1,7 +1,4 @@
-use Rattle.std.proofs.Common.{◌≡◌, ap, sym, ◌∙◌, arith, false}
-use Rattle.std.specs.Result.{is_err}
-use Rattle.sccp_relay.specs.Digits.{DigitMap, with_value}
-use Rattle.sccp_relay.specs.Ways.{way_of, lead_of}
+use Rattle.sccp_relay.proofs.Basics.{◌≡◌, ap, sym, ◌∙◌, arith, false, is_err, DigitMap, with_value, way_of, lead_of}
 use Rattle.sccp_relay.proofs.RowWays.{on_ok, leads-pushed, all-more}
 use Rattle.sccp_relay.proofs.ways.trie_of.Goals as goal
 

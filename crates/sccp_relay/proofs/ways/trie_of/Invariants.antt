@@ -1,6 +1,4 @@
-use Rattle.std.proofs.Common.{◌≡◌, take, All}
-use Rattle.sccp_relay.specs.Nodes.{stored}
-use Rattle.sccp_relay.specs.Ways.{IsRow, leads_of}
+use Rattle.sccp_relay.proofs.Basics.{◌≡◌, take, All, stored, IsRow, leads_of}
 use Rattle.sccp_relay.proofs.ways.trie_of.Given as goal
 
 abbrev pub invariant-loop-row : goal.invariant-loop-row

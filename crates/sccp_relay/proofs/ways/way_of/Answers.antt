@@ -1,6 +1,4 @@
-use Rattle.std.proofs.Common.{◌<◌, rules}
-use Rattle.std.proofs.lemmas.List.Elements.{All-same}
-use Rattle.sccp_relay.specs.Ways.{way_of}
+use Rattle.sccp_relay.proofs.Basics.{◌<◌, rules, All-same, way_of}
 use Rattle.sccp_relay.proofs.RowWays.{small-way}
 use Rattle.sccp_relay.proofs.ways.way_of.Goals as goal
 

@@ -1,6 +1,5 @@
 -- The table's answer and the rule's are the same, by the answer.
-use Rattle.sccp_relay.specs.Rows.{add_refusal}
-use Rattle.exchange.specs.Room.{kept_in}
+use Rattle.exchange.proofs.Basics.{add_refusal, kept_in}
 use Rattle.exchange.proofs.Relaying.{adding}
 use Rattle.exchange.proofs.exchange.Exchange.add_title.Goals as goal
 

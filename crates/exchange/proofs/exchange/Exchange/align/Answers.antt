@@ -1,10 +1,5 @@
 -- Where the link entered or left service, anything may be pending.
-use Rattle.std.proofs.Common.{◌<◌, length, arith, ap, ◌∙◌}
-use Rattle.node_links.specs.Link.{Link}
-use Rattle.node_links.specs.LinkState.{after_action, is_in_service}
-use Rattle.node_links.specs.Network.{link_in}
-use Rattle.exchange_rules.specs.State.{State}
-use Rattle.exchange.specs.KeptQueues.{KeptQueues}
+use Rattle.exchange.proofs.Basics.{◌<◌, length, arith, ap, ◌∙◌, Link, after_action, is_in_service, link_in, State, KeptQueues}
 use Rattle.exchange.proofs.Rooms.{moved_room}
 use Rattle.exchange.proofs.exchange.Exchange.align.Goals as goal
 

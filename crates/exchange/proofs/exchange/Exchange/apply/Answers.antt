@@ -1,10 +1,5 @@
 -- An event is handled, then what is held no longer goes on, and adjacent points are told what they are owed.
-use Rattle.std.proofs.Common.{ap, ◌∙◌}
-use Rattle.exchange_rules.specs.State.{State, with_node}
-use Rattle.exchange.specs.KeptQueues.{KeptQueues, kept}
-use Rattle.exchange_rules.specs.Releasing.{release}
-use Rattle.exchange_rules.specs.Telling.{tell_owed}
-use Rattle.exchange_rules.specs.Exchange.{apply}
+use Rattle.exchange.proofs.Basics.{ap, ◌∙◌, State, with_node, KeptQueues, kept, release, tell_owed, apply}
 use Rattle.exchange.proofs.exchange.Exchange.apply.Goals as goal
 
 abbrev release_if_due : State KeptQueues → State KeptQueues

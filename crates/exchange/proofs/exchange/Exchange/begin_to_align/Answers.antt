@@ -1,8 +1,5 @@
 -- Where the link was in service, anything may be pending.
-use Rattle.std.proofs.Common.{refl, ap, ◌∙◌}
-use Rattle.node_links.specs.Link.{Link}
-use Rattle.node_links.specs.LinkState.{opened, is_in_service}
-use Rattle.node_links.specs.Network.{link_in}
+use Rattle.exchange.proofs.Basics.{refl, ap, ◌∙◌, Link, opened, is_in_service, link_in}
 use Rattle.exchange.proofs.Rooms.{left_room}
 use Rattle.exchange.proofs.exchange.Exchange.begin_to_align.Goals as goal
 

@@ -1,20 +1,5 @@
 -- The parts are those of the first state.
-use Rattle.std.proofs.Common.{◌≡◌, ◌+◌, ℕ, suc, false, List, [], length, replicate, ap, sym, subst, refl, ◌∙◌, arith}
-use Rattle.std.proofs.lemmas.List.{length-replicate, length-map}
-use Rattle.signalling_types.specs.Message.{Message}
-use Rattle.link.specs.Counts.{kept_first}
-use Rattle.changeover.specs.Standing.{no_changeover}
-use Rattle.node_links.specs.LinkState.{down_link}
-use Rattle.node_links.specs.Network.{Network, facts_of}
-use Rattle.cell_pool.specs.Lanes.{lane_at}
-use Rattle.exchange.specs.KeptQueues.{held_lane}
-use Rattle.exchange_rules.specs.Holding.{all_wait}
-use Rattle.cell_pool.specs.Stored.{Stored}
-use Rattle.routes.specs.Facts.{first_routes}
-use Rattle.exchange_rules.specs.Places.{HasHoldsFor, HasCodes}
-use Rattle.exchange_rules.proofs.Places.{no_codes-fits, no_holds-fits}
-use Rattle.route_management.specs.Updates.{Updates, first_updates}
-use Rattle.exchange.specs.Pending.{OwesNoneBut}
+use Rattle.exchange.proofs.Basics.{◌≡◌, ◌+◌, ℕ, suc, false, List, [], length, replicate, ap, sym, subst, refl, ◌∙◌, arith, length-replicate, length-map, Message, kept_first, no_changeover, down_link, Network, facts_of, lane_at, held_lane, all_wait, Stored, first_routes, HasHoldsFor, HasCodes, no_codes-fits, no_holds-fits, Updates, first_updates, OwesNoneBut}
 use Rattle.exchange.proofs.Pending.{all_may_be}
 use Rattle.exchange.proofs.Standing.{first-kept, stands-first}
 use Rattle.exchange.proofs.exchange.Exchange.boot.Goals as goal

@@ -1,9 +1,5 @@
 -- One step after the other is what the rule does at once.
-use Rattle.std.proofs.Common.{◌≡◌, ◌<◌, length, ap, sym, subst, ◌∙◌}
-use Rattle.exchange_rules.specs.State.{State, Found, with_node, with_parts}
-use Rattle.exchange.specs.KeptQueues.{KeptQueues, kept, lane_of, link_lane}
-use Rattle.exchange_rules.specs.ChangingOver.{lifted_parts, with_losses}
-use Rattle.exchange.specs.Draining.{spliced_queues}
+use Rattle.exchange.proofs.Basics.{◌≡◌, ◌<◌, length, ap, sym, subst, ◌∙◌, State, Found, with_node, with_parts, KeptQueues, kept, lane_of, link_lane, lifted_parts, with_losses, spliced_queues}
 use Rattle.exchange.proofs.Concluding.{completed-lists, concluding}
 use Rattle.exchange.proofs.exchange.Exchange.conclude.Goals as goal
 

@@ -1,9 +1,5 @@
 -- One more link is looked at.
-use Rattle.std.proofs.Common.{ap, ◌∙◌, Bool, false, List, Option, ℕ, slice_index_or, slice_set}
-use Rattle.flow_hold.specs.declared.procedure.Procedure.{Procedure}
-use Rattle.exchange_rules.specs.State.{State, Node, with_node}
-use Rattle.exchange.specs.KeptQueues.{KeptQueues, kept}
-use Rattle.exchange.specs.TakingOver.{holder, holders, declare}
+use Rattle.exchange.proofs.Basics.{ap, ◌∙◌, Bool, false, List, Option, ℕ, slice_index_or, slice_set, Procedure, State, Node, with_node, KeptQueues, kept, holder, holders, declare}
 use Rattle.exchange.proofs.Returning.{none_declared, more_declared, no_holders, more_holders}
 use Rattle.exchange.proofs.exchange.Exchange.declare_each.Goals as goal
 

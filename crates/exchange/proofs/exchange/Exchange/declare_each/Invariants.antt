@@ -1,8 +1,5 @@
 -- As many links are looked at as the loop has gone round.
-use Rattle.std.proofs.Common.{◌≡◌, false, slice_index_or}
-use Rattle.exchange_rules.specs.State.{with_node}
-use Rattle.exchange.specs.KeptQueues.{kept}
-use Rattle.exchange.specs.TakingOver.{declare_each, holders}
+use Rattle.exchange.proofs.Basics.{◌≡◌, false, slice_index_or, with_node, kept, declare_each, holders}
 use Rattle.exchange.proofs.exchange.Exchange.declare_each.Given as goal
 
 abbrev pub invariant-loop-other : goal.invariant-loop-other

@@ -1,6 +1,5 @@
 -- The link serves as before.
-use Rattle.std.proofs.Common.{refl, drop}
-use Rattle.node_links.specs.Network.{link_in}
+use Rattle.exchange.proofs.Basics.{refl, drop, link_in}
 use Rattle.exchange.proofs.Rooms.{still_room}
 use Rattle.exchange.proofs.exchange.Exchange.drop_status.Goals as goal
 

@@ -1,6 +1,5 @@
 -- The link serves as before.
-use Rattle.std.proofs.Common.{refl, false}
-use Rattle.node_links.specs.Network.{link_in}
+use Rattle.exchange.proofs.Basics.{refl, false, link_in}
 use Rattle.exchange.proofs.Rooms.{still_room}
 use Rattle.exchange.proofs.exchange.Exchange.end_association.Goals as goal
 

@@ -1,7 +1,5 @@
 -- Each link, set and destination has its places still.
-use Rattle.std.proofs.Common.{true, refl, sym, subst}
-use Rattle.exchange_rules.specs.Places.{HasHoldsFor}
-use Rattle.exchange_rules.proofs.Places.{lifted-fits}
+use Rattle.exchange.proofs.Basics.{refl, sym, subst, HasHoldsFor, lifted-fits}
 use Rattle.exchange.proofs.Rooms.{held_room}
 use Rattle.exchange.proofs.exchange.Exchange.end_late.Goals as goal
 

@@ -1,8 +1,5 @@
 -- Each link, set and destination has its places still.
-use Rattle.std.proofs.Common.{refl, sym, subst}
-use Rattle.flow_hold.specs.declared.procedure.Procedure.TheVariants.{Reroute}
-use Rattle.exchange_rules.specs.Places.{HasHoldsFor}
-use Rattle.exchange_rules.proofs.Places.{lifted-fits}
+use Rattle.exchange.proofs.Basics.{refl, sym, subst, Reroute, HasHoldsFor, lifted-fits}
 use Rattle.exchange.proofs.Rooms.{held_room}
 use Rattle.exchange.proofs.exchange.Exchange.end_rerouting.Goals as goal
 

@@ -1,10 +1,5 @@
 -- Nothing is owed.
-use Rattle.std.proofs.Common.{length, sym, subst}
-use Rattle.route_management.specs.Updates.{Updates}
-use Rattle.exchange_rules.specs.State.{State}
-use Rattle.exchange.specs.KeptQueues.{KeptQueues}
-use Rattle.exchange.specs.Pending.{OwesNoneBut}
-use Rattle.exchange.specs.Telling.{known}
+use Rattle.exchange.proofs.Basics.{length, sym, subst, Updates, State, KeptQueues, OwesNoneBut, known}
 use Rattle.exchange.proofs.Pending.{none_left}
 use Rattle.exchange.proofs.Rooms.{pending_room, view_pending}
 use Rattle.exchange.proofs.exchange.Exchange.end_telling.Goals as goal

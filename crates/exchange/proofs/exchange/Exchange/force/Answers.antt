@@ -1,7 +1,5 @@
 -- Updates about the destination of the route may be pending.
-use Rattle.std.proofs.Common.{◌<◌, length, arith, ap}
-use Rattle.exchange_rules.specs.State.{State}
-use Rattle.exchange.specs.KeptQueues.{KeptQueues}
+use Rattle.exchange.proofs.Basics.{◌<◌, length, arith, ap, State, KeptQueues}
 use Rattle.exchange.proofs.Rooms.{forced_room}
 use Rattle.exchange.proofs.exchange.Exchange.force.Goals as goal
 

@@ -1,11 +1,5 @@
 -- One more flow is looked at.
-use Rattle.std.proofs.Common.{ap, ◌∙◌}
-use Rattle.flow_hold.specs.Holds.{HoldSet}
-use Rattle.exchange_rules.specs.State.{State}
-use Rattle.exchange.specs.KeptQueues.{KeptQueues}
-use Rattle.exchange_rules.specs.Routing.{facts}
-use Rattle.exchange.specs.Head.{with_holds}
-use Rattle.exchange.specs.Suspending.{with_flow}
+use Rattle.exchange.proofs.Basics.{ap, ◌∙◌, HoldSet, State, KeptQueues, facts, with_holds, with_flow}
 use Rattle.exchange.proofs.Suspending.{no_selections, more_selections}
 use Rattle.exchange.proofs.exchange.Exchange.hold_destination.Goals as goal
 

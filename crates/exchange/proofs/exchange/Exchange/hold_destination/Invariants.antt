@@ -1,8 +1,5 @@
 -- As many flows are held as the loop has gone round.
-use Rattle.std.proofs.Common.{◌≡◌}
-use Rattle.exchange_rules.specs.Routing.{facts}
-use Rattle.exchange.specs.Head.{with_holds}
-use Rattle.exchange.specs.Suspending.{with_selections}
+use Rattle.exchange.proofs.Basics.{◌≡◌, facts, with_holds, with_selections}
 use Rattle.exchange.proofs.exchange.Exchange.hold_destination.Given as goal
 
 abbrev pub invariant-loop-selection : goal.invariant-loop-selection

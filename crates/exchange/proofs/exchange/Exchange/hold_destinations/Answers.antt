@@ -1,12 +1,5 @@
 -- One more destination is looked at.
-use Rattle.std.proofs.Common.{ap, ◌∙◌}
-use Rattle.signalling_types.specs.declared.limits.TheConstants.Limits.{SELECTIONS}
-use Rattle.flow_hold.specs.Holds.{HoldSet}
-use Rattle.exchange_rules.specs.State.{State}
-use Rattle.exchange.specs.KeptQueues.{KeptQueues}
-use Rattle.exchange_rules.specs.Routing.{facts}
-use Rattle.exchange.specs.Head.{with_holds}
-use Rattle.exchange.specs.Suspending.{with_selections}
+use Rattle.exchange.proofs.Basics.{ap, ◌∙◌, SELECTIONS, HoldSet, State, KeptQueues, facts, with_holds, with_selections}
 use Rattle.exchange.proofs.Suspending.{no_destinations, more_destinations}
 use Rattle.exchange.proofs.exchange.Exchange.hold_destinations.Goals as goal
 

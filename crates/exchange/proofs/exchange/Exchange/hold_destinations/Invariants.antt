@@ -1,8 +1,5 @@
 -- The flows to as many destinations are held as the loop has gone round.
-use Rattle.std.proofs.Common.{◌≡◌}
-use Rattle.exchange_rules.specs.Routing.{facts}
-use Rattle.exchange.specs.Head.{with_holds}
-use Rattle.exchange.specs.Suspending.{with_destinations}
+use Rattle.exchange.proofs.Basics.{◌≡◌, facts, with_holds, with_destinations}
 use Rattle.exchange.proofs.exchange.Exchange.hold_destinations.Given as goal
 
 abbrev pub invariant-loop-destination : goal.invariant-loop-destination

@@ -1,12 +1,5 @@
 -- The flow of one message is held, and one fewer is left.
-use Rattle.std.proofs.Common.{◌≡◌, ◌+◌, [], List, drop, arith, ap, sym, ◌∙◌, slice_get}
-use Rattle.std.proofs.lemmas.List.{drop_all}
-use Rattle.signalling_types.specs.Message.{Message}
-use Rattle.flow_hold.specs.Holds.{HoldSet}
-use Rattle.exchange_rules.specs.State.{State}
-use Rattle.exchange.specs.KeptQueues.{KeptQueues, link_lane}
-use Rattle.exchange.specs.Head.{with_holds, with_head}
-use Rattle.exchange.specs.Suspending.{with_messages}
+use Rattle.exchange.proofs.Basics.{◌≡◌, ◌+◌, [], List, drop, arith, ap, sym, ◌∙◌, slice_get, drop_all, Message, HoldSet, State, KeptQueues, link_lane, with_holds, with_head, with_messages}
 use Rattle.exchange.proofs.Passing.{next_held}
 use Rattle.exchange.proofs.exchange.Exchange.hold_messages.Goals as goal
 

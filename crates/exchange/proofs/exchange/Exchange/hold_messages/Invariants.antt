@@ -1,8 +1,5 @@
 -- What is held so far, and the flows of the messages that are left, are all that are to be held.
-use Rattle.std.proofs.Common.{◌≡◌, drop}
-use Rattle.exchange.specs.KeptQueues.{link_lane}
-use Rattle.exchange.specs.Head.{with_holds}
-use Rattle.exchange.specs.Suspending.{with_messages}
+use Rattle.exchange.proofs.Basics.{◌≡◌, drop, link_lane, with_holds, with_messages}
 use Rattle.exchange.proofs.exchange.Exchange.hold_messages.Given as goal
 
 abbrev pub invariant-loop-place : goal.invariant-loop-place

@@ -1,8 +1,5 @@
 -- What is in doubt is what is lost.
-use Rattle.std.proofs.Common.{ap, sym, ◌∙◌}
-use Rattle.exchange_rules.specs.State.{State, Parts, with_node, with_parts}
-use Rattle.exchange.specs.KeptQueues.{KeptQueues}
-use Rattle.exchange_rules.specs.Noting.{flagged}
+use Rattle.exchange.proofs.Basics.{ap, sym, ◌∙◌, State, Parts, with_node, with_parts, KeptQueues, flagged}
 use Rattle.exchange.proofs.Passing.{doubtful}
 use Rattle.exchange.proofs.exchange.Exchange.lose_doubtful.Goals as goal
 

@@ -1,10 +1,5 @@
 -- One message is lost, and one fewer is left.
-use Rattle.std.proofs.Common.{◌≡◌, ◌+◌, [], List, drop, take, arith, ap, sym, ◌∙◌, slice_get}
-use Rattle.std.proofs.lemmas.List.{drop_all}
-use Rattle.signalling_types.specs.Message.{Message}
-use Rattle.exchange_rules.specs.State.{State, Parts, with_node, with_parts}
-use Rattle.exchange.specs.KeptQueues.{KeptQueues, link_lane}
-use Rattle.exchange.specs.Draining.{lose_one, lose_users}
+use Rattle.exchange.proofs.Basics.{◌≡◌, ◌+◌, [], List, drop, take, arith, ap, sym, ◌∙◌, slice_get, drop_all, Message, State, Parts, with_node, with_parts, KeptQueues, link_lane, lose_one, lose_users}
 use Rattle.exchange.proofs.Passing.{next_lost, shorter}
 use Rattle.exchange.proofs.exchange.Exchange.lose_first.Goals as goal
 

@@ -1,8 +1,5 @@
 -- What is lost so far, and what is to be lost of the messages that are left, are all that is lost.
-use Rattle.std.proofs.Common.{◌≡◌, drop, take}
-use Rattle.exchange_rules.specs.State.{with_node, with_parts}
-use Rattle.exchange.specs.KeptQueues.{link_lane}
-use Rattle.exchange.specs.Draining.{lose_users}
+use Rattle.exchange.proofs.Basics.{◌≡◌, drop, take, with_node, with_parts, link_lane, lose_users}
 use Rattle.exchange.proofs.exchange.Exchange.lose_first.Given as goal
 
 abbrev pub invariant-loop-place : goal.invariant-loop-place

@@ -1,8 +1,5 @@
 -- Each link, set and destination has its places still.
-use Rattle.std.proofs.Common.{Bool, length, refl, sym, subst}
-use Rattle.changeback.specs.Codes.{is_outstanding}
-use Rattle.exchange_rules.specs.Places.{HasHoldsFor, HasCodes}
-use Rattle.exchange_rules.proofs.Places.{freed_codes-fits, freed_holds-fits}
+use Rattle.exchange.proofs.Basics.{Bool, length, refl, sym, subst, is_outstanding, HasHoldsFor, HasCodes, freed_codes-fits, freed_holds-fits}
 use Rattle.exchange.proofs.Rooms.{held_room}
 use Rattle.exchange.proofs.exchange.Exchange.on_changeback_acknowledgement.Goals as goal
 

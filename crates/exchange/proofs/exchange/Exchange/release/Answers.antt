@@ -1,8 +1,5 @@
 -- After a release each message of Held waits.
-use Rattle.std.proofs.Common.{◌≡◌, true, sym, subst}
-use Rattle.exchange_rules.specs.State.{State}
-use Rattle.exchange.specs.KeptQueues.{KeptQueues, kept}
-use Rattle.exchange_rules.specs.Holding.{all_wait}
+use Rattle.exchange.proofs.Basics.{◌≡◌, true, sym, subst, State, KeptQueues, kept, all_wait}
 use Rattle.exchange.proofs.Settling.{release-waits_kept}
 use Rattle.exchange.proofs.exchange.Exchange.release.Goals as goal
 

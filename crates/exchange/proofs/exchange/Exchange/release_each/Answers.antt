@@ -1,8 +1,5 @@
 -- One message goes on, and one fewer is left.
-use Rattle.std.proofs.Common.{arith, ◌-◌, ap, ◌∙◌}
-use Rattle.exchange_rules.specs.State.{Node, with_node}
-use Rattle.exchange.specs.KeptQueues.{KeptQueues, held_lane}
-use Rattle.exchange.specs.Draining.{onward}
+use Rattle.exchange.proofs.Basics.{arith, ◌-◌, ap, ◌∙◌, Node, with_node, KeptQueues, held_lane, onward}
 use Rattle.exchange.proofs.Draining.{loop_begins, loop_step, loop_done, release-drained}
 use Rattle.exchange.proofs.exchange.Exchange.release_each.Goals as goal
 

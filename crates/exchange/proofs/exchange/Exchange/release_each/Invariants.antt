@@ -1,7 +1,5 @@
 -- What is left to go on, and what has gone on, is all that goes on.
-use Rattle.std.proofs.Common.{◌-◌, length}
-use Rattle.exchange.specs.KeptQueues.{kept, held_lane}
-use Rattle.exchange.specs.Draining.{onward}
+use Rattle.exchange.proofs.Basics.{◌-◌, length, kept, held_lane, onward}
 use Rattle.exchange.proofs.Draining.{Rest}
 use Rattle.exchange.proofs.exchange.Exchange.release_each.Given as goal
 

@@ -1,8 +1,5 @@
 -- Unless a release is due, each message of Held waits, and a release would change nothing.
-use Rattle.std.proofs.Common.{◌≡◌, true, ap, sym, subst}
-use Rattle.exchange_rules.specs.State.{State, Node, with_node}
-use Rattle.exchange.specs.KeptQueues.{KeptQueues, kept}
-use Rattle.exchange_rules.specs.Holding.{all_wait}
+use Rattle.exchange.proofs.Basics.{◌≡◌, true, ap, sym, subst, State, Node, with_node, KeptQueues, kept, all_wait}
 use Rattle.exchange.proofs.Settling.{nothing_released_kept, or-true}
 use Rattle.exchange.proofs.exchange.Exchange.release_if_due.Goals as goal
 

@@ -1,11 +1,5 @@
 -- Each link, set and destination has its places still, a release is due, and updates about the destination may be pending.
-use Rattle.std.proofs.Common.{◌<◌, length, arith, ap, sym, subst}
-use Rattle.node_links.specs.Network.{facts_of}
-use Rattle.changeback.specs.Rerouting.{rerouted}
-use Rattle.exchange_rules.specs.State.{State}
-use Rattle.exchange_rules.specs.Places.{HasHoldsFor}
-use Rattle.exchange_rules.proofs.Places.{held_for-fits}
-use Rattle.exchange.specs.KeptQueues.{KeptQueues}
+use Rattle.exchange.proofs.Basics.{◌<◌, length, arith, ap, sym, subst, facts_of, rerouted, State, HasHoldsFor, held_for-fits, KeptQueues}
 use Rattle.exchange.proofs.Rooms.{rerouted_room}
 use Rattle.exchange.proofs.exchange.Exchange.reroute.Goals as goal
 

@@ -1,13 +1,6 @@
 -- What was told keeps its shape, and anything may be pending.
-use Rattle.std.proofs.Common.{length, map, ap, sym, subst, ◌∙◌}
-use Rattle.std.proofs.lemmas.List.{length-map}
-use Rattle.routes.specs.declared.route.RouteStatus.TheVariants.{Allowed}
+use Rattle.exchange.proofs.Basics.{length, map, ap, sym, subst, ◌∙◌, length-map, Allowed, Network, facts_of, shape_of, reset_shape, Updates, OwesNoneBut}
 use Rattle.routes.specs.Facts as facts
-use Rattle.node_links.specs.Network.{Network, facts_of}
-use Rattle.route_management.specs.Told.{shape_of}
-use Rattle.route_management.proofs.Shape.{reset_shape}
-use Rattle.route_management.specs.Updates.{Updates}
-use Rattle.exchange.specs.Pending.{OwesNoneBut}
 use Rattle.exchange.proofs.Pending.{all_may_be}
 use Rattle.exchange.proofs.Rooms.{changed_room}
 use Rattle.exchange.proofs.exchange.Exchange.reset_set.Goals as goal

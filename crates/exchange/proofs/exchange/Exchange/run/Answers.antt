@@ -1,6 +1,5 @@
 -- The answers are those on what is kept, and these are those of the whole.
-use Rattle.std.proofs.Common.{◌∙◌, arith}
-use Rattle.exchange.specs.Calls.{asked_each}
+use Rattle.exchange.proofs.Basics.{◌∙◌, arith, asked_each}
 use Rattle.exchange.proofs.Calls.{answered_at, all_answered, stands-answers, stands-calls}
 use Rattle.exchange.proofs.exchange.Exchange.run.Goals as goal
 

@@ -1,8 +1,5 @@
 -- What has run and what is left to run is all that was due.
-use Rattle.std.proofs.Common.{◌≡◌, ◌-◌}
-use Rattle.exchange_rules.specs.State.{with_node}
-use Rattle.exchange.specs.KeptQueues.{kept}
-use Rattle.exchange_rules.specs.Ticking.{run_times}
+use Rattle.exchange.proofs.Basics.{◌≡◌, ◌-◌, with_node, kept, run_times}
 use Rattle.exchange.proofs.exchange.Exchange.run_all.Given as goal
 
 abbrev pub invariant-loop : goal.invariant-loop

@@ -1,7 +1,5 @@
 -- One message goes out, and one fewer is left.
-use Rattle.std.proofs.Common.{arith, ◌-◌}
-use Rattle.exchange.specs.KeptQueues.{lane_of}
-use Rattle.exchange.specs.Draining.{anew}
+use Rattle.exchange.proofs.Basics.{arith, ◌-◌, lane_of, anew}
 use Rattle.exchange.proofs.Draining.{loop_begins, loop_step, loop_done}
 use Rattle.exchange.proofs.exchange.Exchange.send_all.Goals as goal
 

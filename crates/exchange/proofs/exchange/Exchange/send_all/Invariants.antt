@@ -1,7 +1,5 @@
 -- What is left to go out, and what has gone out, is all that goes out.
-use Rattle.std.proofs.Common.{◌-◌, length}
-use Rattle.exchange.specs.KeptQueues.{link_lane, lane_of}
-use Rattle.exchange.specs.Draining.{anew}
+use Rattle.exchange.proofs.Basics.{◌-◌, length, link_lane, lane_of, anew}
 use Rattle.exchange.proofs.Draining.{Rest}
 use Rattle.exchange.proofs.exchange.Exchange.send_all.Given as goal
 

@@ -1,6 +1,5 @@
 -- The link serves as before.
-use Rattle.std.proofs.Common.{refl}
-use Rattle.node_links.specs.Network.{link_in}
+use Rattle.exchange.proofs.Basics.{refl, link_in}
 use Rattle.exchange.proofs.Rooms.{still_room}
 use Rattle.exchange.proofs.exchange.Exchange.set_peer_busy.Goals as goal
 

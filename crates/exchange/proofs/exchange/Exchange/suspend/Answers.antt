@@ -1,9 +1,5 @@
 -- What the walk holds is what fails with the link.
-use Rattle.std.proofs.Common.{ap, ◌∙◌}
-use Rattle.exchange_rules.specs.State.{State, Parts, with_node, with_parts}
-use Rattle.exchange.specs.KeptQueues.{KeptQueues, kept}
-use Rattle.exchange.specs.Head.{with_holds}
-use Rattle.exchange.specs.Suspending.{with_messages}
+use Rattle.exchange.proofs.Basics.{ap, ◌∙◌, State, Parts, with_node, with_parts, KeptQueues, kept, with_holds, with_messages}
 use Rattle.exchange.proofs.Suspending.{walked}
 use Rattle.exchange.proofs.exchange.Exchange.suspend.Goals as goal
 

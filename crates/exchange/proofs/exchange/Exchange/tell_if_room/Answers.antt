@@ -1,8 +1,5 @@
 -- Where there is no room, nothing is told.
-use Rattle.std.proofs.Common.{ap, sym, ◌∙◌}
-use Rattle.exchange_rules.specs.State.{State, Node, with_node}
-use Rattle.exchange.specs.KeptQueues.{KeptQueues, kept}
-use Rattle.exchange_rules.proofs.Telling.{no_room_told}
+use Rattle.exchange.proofs.Basics.{ap, sym, ◌∙◌, State, Node, with_node, KeptQueues, kept, no_room_told}
 use Rattle.exchange.proofs.exchange.Exchange.tell_if_room.Goals as goal
 
 pub returns-else-may_tell : goal.returns-else-may_tell

@@ -1,12 +1,5 @@
 -- Where nothing may be pending, nothing is owed.
-use Rattle.std.proofs.Common.{ap, sym, ◌∙◌, length}
-use Rattle.routes.specs.Facts.{Facts}
-use Rattle.route_management.specs.Told.{ToldTable}
-use Rattle.route_management.proofs.Settled.{nothing_is_listed, owes_nothing_from_none}
-use Rattle.exchange_rules.specs.State.{State, Node, with_node}
-use Rattle.exchange_rules.proofs.Telling.{nothing_told}
-use Rattle.exchange.specs.KeptQueues.{KeptQueues, kept}
-use Rattle.exchange.specs.Telling.{known}
+use Rattle.exchange.proofs.Basics.{ap, sym, ◌∙◌, length, Facts, ToldTable, nothing_is_listed, owes_nothing_from_none, State, Node, with_node, nothing_told, KeptQueues, kept, known}
 use Rattle.exchange.proofs.Pending.{none_is_owed}
 use Rattle.exchange.proofs.Rooms.{view_pending}
 use Rattle.exchange.proofs.exchange.Exchange.tell_owed.Goals as goal

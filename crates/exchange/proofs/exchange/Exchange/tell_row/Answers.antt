@@ -1,14 +1,5 @@
 -- One destination that may be pending after the other, while there is room.
-use Rattle.std.proofs.Common.{◌≡◌, ◌<◌, ◌≤◌, ◌+◌, ◌-◌, ℕ, true, false, length, arith, refl, ap, sym, subst, ◌∙◌}
-use Rattle.route_management.specs.Told.{row_of, shape_of}
-use Rattle.route_management.specs.Owed.{owed_at, owed_from}
-use Rattle.route_management.proofs.Shape.{row_by_shape}
-use Rattle.exchange_rules.specs.State.{State, Node, with_node}
-use Rattle.exchange_rules.specs.Telling.{may_tell}
-use Rattle.exchange_rules.proofs.Telling.{none_told}
-use Rattle.exchange.specs.KeptQueues.{KeptQueues, kept}
-use Rattle.exchange.specs.Pending.{OwesNoneBefore}
-use Rattle.exchange.specs.Telling.{known}
+use Rattle.exchange.proofs.Basics.{◌≡◌, ◌<◌, ◌≤◌, ◌+◌, ◌-◌, ℕ, true, false, length, arith, refl, ap, sym, subst, ◌∙◌, row_of, shape_of, owed_at, owed_from, row_by_shape, State, Node, with_node, may_tell, none_told, KeptQueues, kept, OwesNoneBefore, known}
 use Rattle.exchange.proofs.Pending.{row_from, row_done, next_places, place_done, place_shape}
 use Rattle.exchange.proofs.Telling.{row_rest, row_step, row_end, row_whole}
 use Rattle.exchange.proofs.Rooms.{view_shape}

@@ -1,8 +1,5 @@
 -- What is left to tell, and what was told, is all that the row says; nothing is owed of what the walk has passed.
-use Rattle.std.proofs.Common.{◌≡◌, ◌-◌, length}
-use Rattle.route_management.specs.Told.{shape_of}
-use Rattle.exchange.specs.Pending.{OwesNoneBefore}
-use Rattle.exchange.specs.Telling.{known}
+use Rattle.exchange.proofs.Basics.{◌≡◌, ◌-◌, length, shape_of, OwesNoneBefore, known}
 use Rattle.exchange.proofs.Telling.{row_rest}
 use Rattle.exchange.proofs.exchange.Exchange.tell_row.Given as goal
 

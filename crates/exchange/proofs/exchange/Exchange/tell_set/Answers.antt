@@ -1,13 +1,5 @@
 -- A point that can't be reached is owed nothing.
-use Rattle.std.proofs.Common.{List, ap, sym, ◌∙◌}
-use Rattle.routes.specs.Preference.{has_link}
-use Rattle.routes.specs.Facts.{Facts, set_at}
-use Rattle.route_management.specs.Owed.{Owed}
-use Rattle.route_management.proofs.Walking.{unreached_is_owed_nothing}
-use Rattle.exchange_rules.specs.State.{State, with_node}
-use Rattle.exchange.specs.KeptQueues.{KeptQueues, kept}
-use Rattle.exchange_rules.specs.Routing.{facts}
-use Rattle.exchange_rules.specs.Telling.{tell_each}
+use Rattle.exchange.proofs.Basics.{List, ap, sym, ◌∙◌, has_link, Facts, set_at, Owed, unreached_is_owed_nothing, State, with_node, KeptQueues, kept, facts, tell_each}
 use Rattle.exchange.proofs.Pending.{unreached_done}
 use Rattle.exchange.proofs.Rooms.{view_facts}
 use Rattle.exchange.proofs.exchange.Exchange.tell_set.Goals as goal
@@ -18,12 +10,12 @@ returns-else-has_link-clause-state c =
     let f : Facts = facts s.settings s.node.parts in
     ap (λ (os : List Owed). with_node s (tell_each kept s.settings os s.node))
     (sym (unreached_is_owed_nothing f s.node.parts.told c.args.set
-    (ap (λ (f : Facts). has_link f.in_service (set_at f c.args.set)) (view_facts c.self.inside s c.self.invariant c.self.view_is)
+    (ap (λ (f : Facts). has_link f.in_service (set_at f c.args.set)) (view_facts c.self.inside s c.self.invariant c.self.view_is ∙ sym c.facts.ensures)
     ∙ sym c.has_link.ensures ∙ c.if-has_link.false)))
 
 pub returns-else-has_link-clause-pending : goal.returns-else-has_link-clause-pending
 returns-else-has_link-clause-pending c =
     let s : State KeptQueues = c.args.self.now in
     unreached_done (facts s.settings s.node.parts) s.node.parts.told c.args.set 0 c.requires.before
-    (ap (λ (f : Facts). has_link f.in_service (set_at f c.args.set)) (view_facts c.self.inside s c.self.invariant c.self.view_is)
+    (ap (λ (f : Facts). has_link f.in_service (set_at f c.args.set)) (view_facts c.self.inside s c.self.invariant c.self.view_is ∙ sym c.facts.ensures)
     ∙ sym c.has_link.ensures ∙ c.if-has_link.false)

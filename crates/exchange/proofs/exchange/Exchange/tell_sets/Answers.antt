@@ -1,13 +1,5 @@
 -- One set after the other, until there is no room.
-use Rattle.std.proofs.Common.{◌≡◌, ◌<◌, ◌≤◌, ◌+◌, ◌-◌, ℕ, length, arith, refl, ap, sym, subst, ◌∙◌}
-use Rattle.route_management.specs.Told.{shape_of}
-use Rattle.route_management.specs.Owed.{owed_to, owed_by_sets}
-use Rattle.route_management.proofs.Shape.{rows_by_shape}
-use Rattle.exchange_rules.specs.State.{State, Node, with_node}
-use Rattle.exchange_rules.proofs.Telling.{none_told}
-use Rattle.exchange.specs.KeptQueues.{KeptQueues, kept}
-use Rattle.exchange.specs.Pending.{OwesNoneBefore}
-use Rattle.exchange.specs.Telling.{known, told_set}
+use Rattle.exchange.proofs.Basics.{◌≡◌, ◌<◌, ◌≤◌, ◌+◌, ◌-◌, ℕ, length, arith, refl, ap, sym, subst, ◌∙◌, shape_of, owed_to, owed_by_sets, rows_by_shape, State, Node, with_node, none_told, KeptQueues, kept, OwesNoneBefore, known, told_set}
 use Rattle.exchange.proofs.Pending.{before_all, sets_done, each_shape}
 use Rattle.exchange.proofs.Telling.{sets_rest, set_step, sets_end, sets_whole}
 use Rattle.exchange.proofs.Rooms.{view_shape}

@@ -1,5 +1,4 @@
-use Rattle.std.proofs.Common.{◌≡◌, replicate}
-use Rattle.link.specs.Counts.{kept_first}
+use Rattle.exchange.proofs.Basics.{◌≡◌, replicate, kept_first}
 use Rattle.exchange.proofs.exchange.boot.first_sequences.Given as goal
 
 -- as many as the loop has gone round

@@ -1,9 +1,5 @@
 -- What is told at first has the shape of the settings.
-use Rattle.std.proofs.Common.{◌≡◌, List, Ok, Err, replicate, length, ap, ◌∙◌}
-use Rattle.std.specs.Prelude.{IfOk}
-use Rattle.settings_rows.specs.Configuration.{SetEntry, DestinationEntry}
-use Rattle.route_management.specs.Told.{first_told, shape_of}
-use Rattle.route_management.proofs.Shape.{first_shape}
+use Rattle.exchange.proofs.Basics.{◌≡◌, List, Ok, Err, replicate, length, ap, ◌∙◌, IfOk, SetEntry, DestinationEntry, first_told, shape_of, first_shape}
 use Rattle.exchange.proofs.exchange.boot.nothing_told.Goals as goal
 
 pub returns-clause-shape : goal.returns-clause-shape

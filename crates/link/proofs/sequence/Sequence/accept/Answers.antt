@@ -1,7 +1,4 @@
-use Rattle.std.proofs.Common.{◌≡◌, ◌∙◌, ap, sym, refl, drop}
-use Rattle.cell_pool.specs.Lanes.{lane_at}
-use Rattle.link.specs.Queue.{count_confirmed}
-use Rattle.link.specs.Counts.{kept_accept_answer}
+use Rattle.link.proofs.Basics.{◌≡◌, ◌∙◌, ap, sym, refl, drop, lane_at, count_confirmed, kept_accept_answer}
 use Rattle.link.proofs.Keeping.{answers-accept, keeps-accepted}
 use Rattle.link.proofs.Lanes.{lane_at-dropped}
 use Rattle.link.proofs.sequence.Sequence.accept.Goals as goal

@@ -1,6 +1,4 @@
-use Rattle.std.proofs.Common.{arith, ◌≡◌, ◌∙◌}
-use Rattle.std.proofs.lemmas.Grind.{common_steps}
-use Rattle.link.specs.Counts.{kept_newly_confirmed}
+use Rattle.link.proofs.Basics.{arith, ◌≡◌, ◌∙◌, common_steps, kept_newly_confirmed}
 use Rattle.link.proofs.Keeping.{answers-newly_confirmed}
 use Rattle.link.proofs.sequence.Sequence.retrieve.Goals as goal
 

@@ -1,8 +1,5 @@
 -- The routes know which links are in service, and a link that is in service is there.
-use Rattle.std.proofs.Common.{ap, ◌∙◌}
-use Rattle.routes.specs.Facts.{Facts}
-use Rattle.routes.specs.Chosen.{chosen_link}
-use Rattle.node_links.specs.Network.{facts_of}
+use Rattle.node_links.proofs.Basics.{ap, ◌∙◌, Facts, chosen_link, facts_of}
 use Rattle.node_links.proofs.Chosen.{facts_kept, answer_is_there}
 use Rattle.node_links.proofs.node_links.NodeLinks.link_of.Goals as goal
 

@@ -1,7 +1,5 @@
 -- The link carries messages as before.
-use Rattle.std.proofs.Common.{◌∙◌, sym, ap}
-use Rattle.node_links.specs.Link.{Link}
-use Rattle.node_links.specs.LinkState.{is_in_service}
+use Rattle.node_links.proofs.Basics.{◌∙◌, sym, ap, Link, is_in_service}
 use Rattle.node_links.proofs.Serving.{serving_alike}
 use Rattle.node_links.proofs.node_links.NodeLinks.set_owed.Goals as goal
 

@@ -1,6 +1,5 @@
 -- None of the blocks that were looked at has a marked number, from that one on.
-use Rattle.std.proofs.Common.{◌*◌}
-use Rattle.route_management.specs.Marks.{NoneBetween}
+use Rattle.route_management.proofs.Basics.{◌*◌, NoneBetween}
 use Rattle.route_management.proofs.marks.Marks.next.Given as goal
 
 abbrev pub invariant-loop-block : goal.invariant-loop-block

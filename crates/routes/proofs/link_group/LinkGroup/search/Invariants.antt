@@ -1,6 +1,4 @@
-use Rattle.std.proofs.Common.{◌≡◌, ◌+◌}
-use Rattle.arrayvec.specs.ArrayVec.{array_vec_len}
-use Rattle.routes.specs.Preference.{first_member}
+use Rattle.routes.proofs.Basics.{◌≡◌, ◌+◌, array_vec_len, first_member}
 use Rattle.routes.proofs.link_group.LinkGroup.search.Given as goal
 
 abbrev pub invariant-loop : goal.invariant-loop

@@ -1,6 +1,4 @@
-use Rattle.std.proofs.Common.{◌≡◌, ◌≤◌}
-use Rattle.arrayvec.specs.ArrayVec.{array_vec_len}
-use Rattle.routes.specs.Members.{links_below}
+use Rattle.routes.proofs.Basics.{◌≡◌, ◌≤◌, array_vec_len, links_below}
 use Rattle.routes.proofs.link_set.LinkSet.of.Given as goal
 
 abbrev pub invariant-loop-slc : goal.invariant-loop-slc

@@ -1,6 +1,4 @@
-use Rattle.std.proofs.Common.{◌≡◌, map, take}
-use Rattle.arrayvec.specs.ArrayVec.{array_vec_len}
-use Rattle.routes.specs.Facts.{first_route}
+use Rattle.routes.proofs.Basics.{◌≡◌, map, take, array_vec_len, first_route}
 use Rattle.routes.proofs.route.RouteList.new.Given as goal
 
 abbrev pub invariant-loop-set : goal.invariant-loop-set

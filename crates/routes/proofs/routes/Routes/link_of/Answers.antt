@@ -1,8 +1,5 @@
 -- The row of the destination has the link.
-use Rattle.std.proofs.Common.{◌∙◌, ap, arith, rules}
-use Rattle.std.proofs.lemmas.Bool.Decides.{nat_tests}
-use Rattle.routes.specs.Facts.{Facts}
-use Rattle.routes.specs.Chosen.{chosen_link}
+use Rattle.routes.proofs.Basics.{◌∙◌, ap, arith, rules, nat_tests, Facts, chosen_link}
 use Rattle.routes.proofs.Compiling.{found_row, no_row}
 use Rattle.routes.proofs.routes.Routes.link_of.Goals as goal
 

@@ -1,8 +1,6 @@
 -- The rows of the destinations to which the set of the link leads are made anew, and no other changes.
-use Rattle.std.proofs.Common.{◌≡◌, ◌∙◌, ap, refl, sym, length}
-use Rattle.std.proofs.lemmas.List.{with_items_is}
-use Rattle.routes.specs.Facts.{Facts, with_link}
-use Rattle.routes.specs.Table.{goes_by_link, mended_below, table_of}
+use Rattle.routes.proofs.Basics.{◌≡◌, ◌∙◌, ap, refl, sym, length, with_items_is, Facts, with_link, goes_by_link, mended_below, table_of}
+use Rattle.routes.proofs.Compiling.{known_facts}
 use Rattle.routes.proofs.Mending.{as_long, compiled_by_link}
 use Rattle.routes.proofs.routes.Routes.set_link.Goals as goal
 
@@ -12,7 +10,7 @@ invariant_of-self c =
     let after : Facts = with_link c.args.link c.args.in_service before in
     let rows : c.mend_by_link.new.rows ≡ table_of after =
     c.mend_by_link.ensures
-    ∙ ap (λ (f : Facts). mended_below (length f.routes) (goes_by_link f c.args.link) f c.deref_mut.result.now) c.set_link.ensures
+    ∙ ap (λ (f : Facts). mended_below (length f.routes) (goes_by_link f c.args.link) f c.deref_mut.result.now) (known_facts c.set_link.new.self _ c.of-facts.result c.in_service.ensures c.of-facts.ensures ∙ c.set_link.ensures)
     ∙ ap (mended_below (length after.routes) (goes_by_link after c.args.link) after) (c.deref_mut.ensures.value ∙ c.self.invariant.table)
     ∙ compiled_by_link before c.args.link c.args.in_service in
     let size : length c.mend_by_link.new.rows ≡ length c.deref_mut.result.now =

@@ -1,9 +1,6 @@
 -- The row of the destination is made anew, and no other changes.
-use Rattle.std.proofs.Common.{◌≡◌, ◌∙◌, ap, sym, length, map}
-use Rattle.std.proofs.lemmas.List.{with_items_is, length-set}
-use Rattle.routes.specs.Facts.{Facts, with_status, with_status_over, routes_to}
-use Rattle.routes.specs.Table.{mended_at, table_of}
-use Rattle.routes.proofs.Compiling.{compiled_told}
+use Rattle.routes.proofs.Basics.{◌≡◌, ◌∙◌, ap, sym, length, map, with_items_is, length-set, Facts, with_status, with_status_over, routes_to, mended_at, table_of}
+use Rattle.routes.proofs.Compiling.{known_facts, compiled_told}
 use Rattle.routes.proofs.Mending.{as_long}
 use Rattle.routes.proofs.routes.Routes.set_status.Goals as goal
 
@@ -13,7 +10,7 @@ invariant_of-self c =
     let after : Facts = with_status c.args.destination c.args.set c.args.status before in
     let rows : c.mend.new.rows ≡ table_of after =
     c.mend.ensures
-    ∙ ap (λ (f : Facts). mended_at f c.args.destination c.deref_mut.result.now) c.set_status.ensures
+    ∙ ap (λ (f : Facts). mended_at f c.args.destination c.deref_mut.result.now) (known_facts c.set_status.new.self _ c.of-facts.result c.in_service.ensures c.of-facts.ensures ∙ c.set_status.ensures)
     ∙ ap (mended_at after c.args.destination) (c.deref_mut.ensures.value ∙ c.self.invariant.table)
     ∙ compiled_told before c.args.destination c.args.set c.args.status in
     let size : length c.mend.new.rows ≡ length c.deref_mut.result.now =

@@ -1,5 +1,4 @@
-use Rattle.std.proofs.Common.{◌∙◌, arith, length, ap}
-use Rattle.sccp_relay.specs.Ways.{leads_of}
+use Rattle.sccp_relay.proofs.Basics.{◌∙◌, arith, length, ap, leads_of}
 use Rattle.sccp_relay.proofs.SortedRows.{ordered-table}
 use Rattle.sccp_relay.proofs.translations.Translations.of_rows.Goals as goal
 

@@ -1,6 +1,4 @@
-use Rattle.std.proofs.Common.{◌≡◌, List, ℕ, length, sym, ap, ◌∙◌, arith}
-use Rattle.sccp_relay.specs.Digits.{DigitMap, without}
-use Rattle.sccp_relay.specs.Ways.{way_of, leads_of}
+use Rattle.sccp_relay.proofs.Basics.{◌≡◌, List, ℕ, length, sym, ap, ◌∙◌, arith, DigitMap, without, way_of, leads_of}
 use Rattle.sccp_relay.proofs.TableRows.{fine-removed}
 use Rattle.sccp_relay.proofs.RowWays.{all-removed, leads-removed}
 use Rattle.sccp_relay.proofs.translations.Translations.remove.Goals as goal

@@ -1,7 +1,4 @@
-use Rattle.std.proofs.Common.{true, false, ap, subst, sym, ◌∙◌}
-use Rattle.std.proofs.lemmas.List.{length-take-le}
-use Rattle.std.specs.List.{list_any}
-use Rattle.sccp_relay.specs.Translation.{IsTranslation, has_key}
+use Rattle.sccp_relay.proofs.Basics.{true, false, ap, subst, sym, ◌∙◌, length-take-le, list_any, IsTranslation, has_key}
 use Rattle.sccp_relay.proofs.OneRow.{translation-is_translation}
 use Rattle.sccp_relay.proofs.Translating.{Translated, walked, translated, refused_by}
 use Rattle.sccp_relay.proofs.translations.Translations.translate.Goals as goal

@@ -1,6 +1,4 @@
-use Rattle.std.proofs.Common.{Some, ap, ◌∙◌}
-use Rattle.sccp_relay.specs.Digits.{DigitMap}
-use Rattle.sccp_relay.specs.Nodes.{stored}
+use Rattle.sccp_relay.proofs.Basics.{Some, ap, ◌∙◌, DigitMap, stored}
 use Rattle.sccp_relay.proofs.Trees.{but_at, put-stored}
 use Rattle.sccp_relay.proofs.trie.Trie.insert.Goals as goal
 

@@ -1,7 +1,4 @@
-use Rattle.std.proofs.Common.{List, ap, sym, ◌∙◌}
-use Rattle.sccp_relay.specs.declared.node.Node.{Node}
-use Rattle.sccp_relay.specs.Digits.{DigitMap, behind, longest}
-use Rattle.sccp_relay.specs.Nodes.{stored, stored_from}
+use Rattle.sccp_relay.proofs.Basics.{List, ap, sym, ◌∙◌, Node, DigitMap, behind, longest, stored, stored_from}
 use Rattle.sccp_relay.proofs.Behind.{is-node, from-node, none-behind-node, longest-none}
 use Rattle.sccp_relay.proofs.trie.Trie.longest_behind.Goals as goal
 

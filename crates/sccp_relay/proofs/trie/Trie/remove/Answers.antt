@@ -1,6 +1,4 @@
-use Rattle.std.proofs.Common.{◌≡◌, ◌<◌, List, length, Some, None, rules, ap, sym, ◌∙◌}
-use Rattle.sccp_relay.specs.declared.node.Node.{Node}
-use Rattle.sccp_relay.specs.Nodes.{child, node_of, reached, root, stored}
+use Rattle.sccp_relay.proofs.Basics.{◌≡◌, ◌<◌, List, length, Some, None, rules, ap, sym, ◌∙◌, Node, child, node_of, reached, root, stored}
 use Rattle.sccp_relay.proofs.Behind.{is-node, none-at-node}
 use Rattle.sccp_relay.proofs.Trees.{but_at, none-there, put-stored}
 use Rattle.sccp_relay.proofs.trie.Trie.remove.Goals as goal

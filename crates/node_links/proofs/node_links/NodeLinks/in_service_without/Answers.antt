@@ -1,0 +1,9 @@
+-- The routes know which links are in service.
+use Rattle.node_links.proofs.Basics.{ap, ◌∙◌, false, List, Bool, slice_set}
+use Rattle.node_links.specs.Network.{Network, serving}
+use Rattle.node_links.proofs.node_links.NodeLinks.in_service_without.Goals as goal
+
+pub returns : goal.returns
+returns c =
+    c.in_service_without.ensures
+    ∙ ap (λ (bs : List Bool). slice_set bs c.args.link false) (c.self.invariant.serving ∙ ap (λ (n : Network). serving n.links) c.self.view_is)

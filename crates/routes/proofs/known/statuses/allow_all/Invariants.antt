@@ -1,8 +1,0 @@
-use Rattle.std.proofs.Common.{◌≡◌, ◌++◌, map, take, drop}
-use Rattle.routes.specs.declared.route.RouteStatus.TheVariants.{Allowed}
-use Rattle.routes.specs.Facts.{with_status_over}
-use Rattle.routes.proofs.known.statuses.allow_all.Given as goal
-
-abbrev pub invariant-loop-routes : goal.invariant-loop-routes
-invariant-loop-routes l =
-    l.destinations ≡ map (map (with_status_over l.fn.set Allowed)) (take l.routes-index l.fn.destinations) ++ drop l.routes-index l.fn.destinations
