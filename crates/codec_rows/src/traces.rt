@@ -5,7 +5,7 @@ use crate::said::Said;
 use point_format::{PointFormat, parse_point};
 use signalling_types::{Limits, LinkId};
 use std::time::Duration;
-use trace::{Capture, Direction, UntilFailure, frame_words};
+use trace::{Capture, Direction, ObservedFrame, UntilFailure, frame_words};
 
 /// The format in which point 4237 is written so.
 fn format(word: &str) -> PointFormat {
@@ -26,7 +26,8 @@ fn direction(row: &str) -> Direction {
 /// Says a frame that passed on the link e0, in words.
 pub fn say_words(said: &mut Said, row: &str, frame: &[u8]) {
     if frame.len() <= Limits::FRAME_OCTETS {
-        let words = frame_words("e0", direction(row), frame, format(word(row, 2)));
+        let frame = ObservedFrame::new(frame);
+        let words = frame_words("e0", direction(row), &frame, format(word(row, 2)));
         said.say(str::from_utf8(words.as_slice()).unwrap_or("no text"));
     }
 }
@@ -43,11 +44,12 @@ pub fn capture(said: &mut Said, row: &str, frame: &[u8]) {
     let Some(front) = room.get_mut(..count) else {
         return;
     };
+    let frame = ObservedFrame::new(frame);
     let since_1970 = Duration::from_secs(word(row, 4).parse().unwrap_or(0));
     let mut capture = Capture::begin(UntilFailure::new(front), since_1970);
     for _ in 0..word(row, 3).parse().unwrap_or(0u8) {
         let link = LinkId::new(word(row, 5).parse().unwrap_or(0));
-        capture.write(Duration::from_nanos(6_789), link, direction(row), frame);
+        capture.write(Duration::from_nanos(6_789), link, direction(row), &frame);
     }
     said.name("failed", capture.has_failed());
     said.octets(room.get(..count).unwrap_or(&[]));

@@ -4,12 +4,12 @@ use Rattle.std.proofs.Math.Seq.{take-suc, get_or-append_seam}
 use Rattle.std.proofs.lemmas.Bool.{cases_lt}
 use Rattle.std.proofs.lemmas.List.{length-take, length-take-le, length-append, take-take, take_all, take_at, get_or-take, get_or_append_left}
 use Rattle.exchange.specs.Stands.{Kept}
-use Rattle.console_session.specs.Callers.{CallerState, EndsNoLine, IsOneLine, without_return}
+use Rattle.console_session.specs.Clients.{ClientState, EndsNoLine, IsOneLine, without_return}
 use Rattle.console_session.specs.WholeLines.{DoesLine}
 use Rattle.served_link.specs.declared.row.LinkCounters.{LinkCounters}
 use Rattle.point_format.specs.declared.point.PointFormat.{PointFormat}
-use Rattle.console_session.specs.declared.caller.Ending.{Ending}
-use Rattle.console_session.specs.declared.caller.TheConstants.{LINE_OCTETS}
+use Rattle.console_session.specs.declared.client.Ending.{Ending}
+use Rattle.console_session.specs.declared.client.TheConstants.{LINE_OCTETS}
 
 -- an octet behind some that end no line may end it
 pub up-to : (octets : List ℕ) (k : ℕ) → k < length octets → EndsNoLine (take k octets) → IsOneLine (take (k + 1) octets)
@@ -20,14 +20,14 @@ up-to octets k within none =
     subst (λ (n : ℕ). EndsNoLine (take n (take (k + 1) octets))) (sym most) (subst EndsNoLine (sym front) none)
 
 -- an octet that is part of the line
-pub grown : (octets : List ℕ) (k : ℕ) (line : List ℕ) (now old : CallerState) → k < length octets → now ≡ record old { line = old.line ++ take k octets }
+pub grown : (octets : List ℕ) (k : ℕ) (line : List ℕ) (now old : ClientState) → k < length octets → now ≡ record old { line = old.line ++ take k octets }
     → line ≡ now.line ++ slice_index_or octets k 0 ∷ [] → record now { line = line } ≡ record old { line = old.line ++ take (k + 1) octets }
 grown octets k line now old within same longer =
     let more = slice_index_or octets k 0 ∷ [] in
     let joined : (old.line ++ take k octets) ++ more ≡ old.line ++ take (k + 1) octets =
     append_assoc old.line (take k octets) more ∙ ap (λ (xs : List ℕ). old.line ++ xs) (sym (ap (λ (n : ℕ). take n octets) (add-one k) ∙ take-suc octets k 0 within))
     in
-    (λ i. record now { line = longer i }) ∙ ap (λ (c : CallerState). record c { line = c.line ++ more }) same ∙ (λ i. record old { line = joined i })
+    (λ i. record now { line = longer i }) ∙ ap (λ (c : ClientState). record c { line = c.line ++ more }) same ∙ (λ i. record old { line = joined i })
 
 -- ---- where a line ends
 
@@ -47,17 +47,17 @@ no-room octets front behind k line parts more some room long =
     let len : length octets ≡ length front + length behind = ap length parts ∙ length-append front behind in
     absurd (omega (arith, fits, len, long, more, length-append line (take k octets), length-take k octets))
 
-pub ends-too-late : (octets front behind : List ℕ) (k : ℕ) (now old : CallerState) → octets ≡ front ++ behind → EndsNoLine front → slice_index_or octets k 0 ≡ 10 → 0 < length front
+pub ends-too-late : (octets front behind : List ℕ) (k : ℕ) (now old : ClientState) → octets ≡ front ++ behind → EndsNoLine front → slice_index_or octets k 0 ≡ 10 → 0 < length front
     → now ≡ record old { line = old.line ++ take k octets } → (0 < k → length now.line ≤ LINE_OCTETS) → LINE_OCTETS < length old.line + length front → ⊥
 ends-too-late octets front behind k now old parts none ends some same room long =
     no-room octets front behind k old.line parts (front-within octets front behind k parts none ends) some
-    (λ more. subst (λ (c : CallerState). length c.line ≤ LINE_OCTETS) same (room more)) long
+    (λ more. subst (λ (c : ClientState). length c.line ≤ LINE_OCTETS) same (room more)) long
 
-pub never-ends : (octets front behind : List ℕ) (k : ℕ) (now old : CallerState) → octets ≡ front ++ behind → length octets ≤ k → 0 < length front
+pub never-ends : (octets front behind : List ℕ) (k : ℕ) (now old : ClientState) → octets ≡ front ++ behind → length octets ≤ k → 0 < length front
     → now ≡ record old { line = old.line ++ take k octets } → (0 < k → length now.line ≤ LINE_OCTETS) → LINE_OCTETS < length old.line + length front → ⊥
 never-ends octets front behind k now old parts all some same room long =
     no-room octets front behind k old.line parts (omega (arith, all, ap length parts, length-append front behind)) some
-    (λ more. subst (λ (c : CallerState). length c.line ≤ LINE_OCTETS) same (room more)) long
+    (λ more. subst (λ (c : ClientState). length c.line ≤ LINE_OCTETS) same (room more)) long
 
 module _ (octets front behind : List ℕ) (k : ℕ) (parts : octets ≡ front ++ 10 ∷ behind) where
   -- octets that end no line stand in front of the end
@@ -71,7 +71,7 @@ module _ (octets front behind : List ℕ) (k : ℕ) (parts : octets ≡ front ++
       ]
 
   -- the line that ended is done
-  pub done-at : (p points : PointFormat) → p ≡ points → (rows was : List LinkCounters) → rows ≡ was → (ending : Ending) (s t after : Kept) (old now new : CallerState) → EndsNoLine front → EndsNoLine (take k octets) → k < length octets → slice_index_or octets k 0 ≡ 10
+  pub done-at : (p points : PointFormat) → p ≡ points → (rows was : List LinkCounters) → rows ≡ was → (ending : Ending) (s t after : Kept) (old now new : ClientState) → EndsNoLine front → EndsNoLine (take k octets) → k < length octets → slice_index_or octets k 0 ≡ 10
       → now ≡ record old { line = old.line ++ take k octets } → t ≡ s → DoesLine p (without_return now.line) rows ending t after (record now { line = [] }) new
       → (k + 1 ≡ length front + 1) × DoesLine points (without_return (old.line ++ front)) was ending s after (record old { line = [] }) new
   done-at p points read rows was kept ending s t after old now new front_ends none within ends same same_state does =
@@ -79,7 +79,7 @@ module _ (octets front behind : List ℕ) (k : ℕ) (parts : octets ≡ front ++
       let text : take k octets ≡ front = ap (take k) parts ∙ take_at front (10 ∷ behind) k (sym at) in
       let is : now ≡ record old { line = old.line ++ front } = same ∙ (λ i. record old { line = old.line ++ text i }) in (
         ap (λ (n : ℕ). n + 1) at,
-        subst (λ (c : CallerState). DoesLine points (without_return c.line) was ending s after (record c { line = [] }) new) is
+        subst (λ (c : ClientState). DoesLine points (without_return c.line) was ending s after (record c { line = [] }) new) is
             (subst (λ (u : Kept). DoesLine points (without_return now.line) was ending u after (record now { line = [] }) new) same_state
             (subst (λ (r : List LinkCounters). DoesLine points (without_return now.line) r ending t after (record now { line = [] }) new) kept
             (subst (λ (q : PointFormat). DoesLine q (without_return now.line) rows ending t after (record now { line = [] }) new) read does))),

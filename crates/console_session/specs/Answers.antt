@@ -1,4 +1,4 @@
--- What a caller is answered.
+-- What a client is answered.
 use Rattle.std.specs.Prelude.{◌≡◌, ℕ, Bool, List, Result, Ok, Err}
 use Rattle.std.specs.Io.KnownBytes.{Appends}
 use Rattle.exchange.specs.KeptQueues.{kept}
@@ -8,12 +8,12 @@ use Rattle.script.specs.Doing.{printed, done}
 use Rattle.script.specs.Streams.{Output, AppendsFirst, failures_after}
 use Rattle.script.specs.declared.sink.WriteFailed.{WriteFailed}
 
--- the octets that wait to be written to a caller, and how many writes there was no room for
+-- the octets that wait to be written to a client, and how many writes there was no room for
 pub record Waiting : Type 0 where
   pub octets : List ℕ
   pub failures : ℕ
 
--- the text went out, or the first of it where the write failed
+-- the text went out, or the first of it if the write failed
 abbrev pub Answers : List ℕ → Result Unit WriteFailed → (output output_new : Output) → Type 0
 Answers text (Ok x) output output_new = Appends output.written output_new.written text
 Answers text (Err failed) output output_new = AppendsFirst output.written output_new.written text

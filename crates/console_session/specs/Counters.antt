@@ -1,4 +1,4 @@
--- The counters of all links, as a caller is shown them.
+-- The counters of all links, as a client is shown them.
 use Rattle.std.specs.Prelude.{ℕ, zero, suc, List, [], ◌++◌, codes, length, slice_get, Option, Some, None}
 use Rattle.exchange.specs.Stands.{Kept}
 use Rattle.console.specs.Names.{name_in}

@@ -1,5 +1,5 @@
 pub mod Lines
 pub mod Answers
-pub mod Callers
+pub mod Clients
 pub mod Counters
 pub mod WholeLines

@@ -1,4 +1,4 @@
--- What a caller of the console asks for by a line.
+-- What a client of the console asks for by a line.
 use Rattle.std.specs.Prelude.{ℕ, Bool, true, false, if◌then◌else◌, List, codes, Option, None, Some, Result, Ok, Err}
 use Rattle.std.specs.Prelude.{bytes_eq}
 use Rattle.point_format.specs.declared.point.PointFormat.{PointFormat}
@@ -8,7 +8,7 @@ use Rattle.script.specs.declared.line.Malformed.{Malformed}
 use Rattle.console_session.specs.declared.command.ConsoleLine.{ConsoleLine}
 use Rattle.console_session.specs.declared.command.ConsoleLine.TheVariants as line
 
--- what a line asks for: nothing, what a script asks for too, what only a caller asks for; or it is malformed
+-- what a line asks for: nothing, what a script asks for too, what only a client asks for; or it is malformed
 pub data Heard : Type 0 where
   HearsNothing : Heard
   HearsScript : Asked → Heard
@@ -20,7 +20,7 @@ pub data Heard : Type 0 where
   HearsStop : Heard
   HearsNoLine : Heard
 
--- the lines that only a caller writes
+-- the lines that only a client writes
 abbrev pub own_line : List ℕ → Option Heard
 own_line text =
     if bytes_eq text (codes "help") then Some HearsHelp
@@ -31,23 +31,23 @@ own_line text =
     else if bytes_eq text (codes "stop") then Some HearsStop
     else None
 
--- a caller submits messages, gives orders and is shown texts; frames, associations and ticks come from the network and
+-- a client submits messages, gives orders and is shown texts; frames, associations and ticks come from the network and
 -- the clock
-abbrev pub is_for_callers : Asked → Bool
-is_for_callers (AskUp link) = false
-is_for_callers (AskDown link) = false
-is_for_callers (AskFrame link octets) = false
-is_for_callers (AskTick ticks) = false
-is_for_callers (AskTake link) = false
-is_for_callers (AskWants link) = false
-is_for_callers (AskSubmit octets) = true
-is_for_callers (AskOrder order) = true
-is_for_callers (AskShow what) = true
+abbrev pub is_for_clients : Asked → Bool
+is_for_clients (AskUp link) = false
+is_for_clients (AskDown link) = false
+is_for_clients (AskFrame link octets) = false
+is_for_clients (AskTick ticks) = false
+is_for_clients (AskTake link) = false
+is_for_clients (AskWants link) = false
+is_for_clients (AskSubmit octets) = true
+is_for_clients (AskOrder order) = true
+is_for_clients (AskShow what) = true
 
 abbrev pub heard_in_script : Reading → Heard
 heard_in_script Skips = HearsNothing
 heard_in_script IsMalformed = HearsNoLine
-heard_in_script (Asks asked) = if is_for_callers asked then HearsScript asked else HearsNoLine
+heard_in_script (Asks asked) = if is_for_clients asked then HearsScript asked else HearsNoLine
 
 abbrev pub heard_unless : Option Heard → PointFormat → List ℕ → Heard
 heard_unless (Some own) points text = own

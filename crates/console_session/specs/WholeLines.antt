@@ -1,4 +1,4 @@
--- What a whole line of a caller does.
+-- What a whole line of a client does.
 use Rattle.std.specs.Prelude.{◌≡◌, ℕ, ◌⊎◌, Bool, true, false, List, ◌++◌, take, Some, Result, Ok, Err}
 use Rattle.exchange.specs.Stands.{Kept}
 use Rattle.script.specs.Asking.{Asked}
@@ -7,69 +7,69 @@ use Rattle.script.specs.declared.sink.WriteFailed.{WriteFailed}
 use Rattle.console_session.specs.Lines.{Heard, heard, HearsNothing, HearsScript, HearsCounters, HearsHelp, HearsUsers}
 use Rattle.console_session.specs.Lines.{HearsNotices, HearsFrames, HearsStop, HearsNoLine}
 use Rattle.console_session.specs.Answers.{Waiting, IsAnswered}
-use Rattle.console_session.specs.Callers.{CallerState, begun, OnlyOutboxChanges, told_of}
+use Rattle.console_session.specs.Clients.{ClientState, begun, OnlyOutboxChanges, told_of}
 use Rattle.console_session.specs.Counters.{counters_text}
 use Rattle.console_session.specs.declared.help.TheConstants.{HELP}
-use Rattle.console_session.specs.declared.caller.TheConstants.{MALFORMED, WATCHING, STOPPING}
+use Rattle.console_session.specs.declared.client.TheConstants.{MALFORMED, WATCHING, STOPPING}
 use Rattle.served_link.specs.declared.row.LinkCounters.{LinkCounters}
 use Rattle.point_format.specs.declared.point.PointFormat.{PointFormat}
-use Rattle.console_session.specs.declared.caller.Ending.{Ending}
-use Rattle.console_session.specs.declared.caller.Ending.TheVariants.{Stays, Closes, Stops}
-use Rattle.console_session.specs.declared.caller.News.TheVariants.{Message, Notice, Frame}
+use Rattle.console_session.specs.declared.client.Ending.{Ending}
+use Rattle.console_session.specs.declared.client.Ending.TheVariants.{Stays, Closes, Stops}
+use Rattle.console_session.specs.declared.client.News.TheVariants.{Message, Notice, Frame}
 
--- a caller's outbox as what is written to
+-- a client's outbox as what is written to
 abbrev pub output_of : Waiting → Output
 output_of w = record { written = Some w.octets; failures = w.failures }
 
--- a caller that there was no room to answer is to be closed
+-- a client that there was no room to answer is to be closed
 abbrev pub ending_of : Result Ending WriteFailed → Ending
 ending_of (Ok ending) = ending
 ending_of (Err failed) = Closes
 
--- a line of a script is done and answered, and the caller stays where there was room for the answer
+-- a line of a script is done and answered, and the client stays if there was room for the answer
 abbrev pub IsDone : Asked → Ending → (s after : Kept) → (old new : Waiting) → Type 0
 IsDone asked Stays s after old new = IsAnswered asked s (Ok tt) after (output_of old) (output_of new)
 IsDone asked Closes s after old new =
     (failed : WriteFailed) × IsAnswered asked s (Err failed) after (output_of old) (output_of new)
 IsDone asked Stops s after old new = ⊥
 
--- a text was put behind what waits for the caller
-abbrev pub answered : CallerState → List ℕ → CallerState
+-- a text was added to what waits for the client
+abbrev pub answered : ClientState → List ℕ → ClientState
 answered old text = record old { outbox = record old.outbox { octets = old.outbox.octets ++ text } }
 
 -- there was no room for a text: nothing waits besides what did
-abbrev pub unanswered : CallerState → CallerState
+abbrev pub unanswered : ClientState → ClientState
 unanswered old = record old { outbox = record old.outbox { failures = counted old.outbox.failures } }
 
 -- one or the other
-abbrev pub IsAnsweredBy : (text : List ℕ) → Result Unit WriteFailed → (old new : CallerState) → Type 0
+abbrev pub IsAnsweredBy : (text : List ℕ) → Result Unit WriteFailed → (old new : ClientState) → Type 0
 IsAnsweredBy text (Ok x) old new = new ≡ answered old text
 IsAnsweredBy text (Err failed) old new = new ≡ unanswered old
 
--- a line has one text for its answer; then the caller stays, or the node stops
-abbrev pub IsTold : (text : List ℕ) → (last : Ending) → Ending → (old new : CallerState) → Type 0
+-- a line has one text for its answer; then the client stays, or the node stops
+abbrev pub IsTold : (text : List ℕ) → (last : Ending) → Ending → (old new : ClientState) → Type 0
 IsTold text last Closes old new = new ≡ unanswered old
 IsTold text last Stays old new = (Stays ≡ last) × (new ≡ answered old text)
 IsTold text last Stops old new = (Stops ≡ last) × (new ≡ answered old text)
 
 -- a text of many lines is answered, or its first octets, as far as there was room
-abbrev pub IsShown : (text : List ℕ) → Ending → (old new : CallerState) → Type 0
+abbrev pub IsShown : (text : List ℕ) → Ending → (old new : ClientState) → Type 0
 IsShown text Stays old new = new ≡ answered old text
 IsShown text Closes old new = (count : ℕ) × (new ≡ unanswered (answered old (take count text)))
 IsShown text Stops old new = ⊥
 
--- A line that isn't one of a caller's has one text for its answer. Then the caller stays; if it was its first line, it
+-- A line that isn't one of a client's has one text for its answer. Then the client stays; if it was its first line, it
 -- is to be closed.
-abbrev pub IsRefused : (is_first : Bool) → Ending → (old new : CallerState) → Type 0
+abbrev pub IsRefused : (is_first : Bool) → Ending → (old new : ClientState) → Type 0
 IsRefused is_first Stays old new = (is_first ≡ false) × (new ≡ answered old MALFORMED.now)
 IsRefused is_first Closes old new =
     (new ≡ unanswered old) ⊎ ((is_first ≡ true) × (new ≡ answered old MALFORMED.now))
 IsRefused is_first Stops old new = ⊥
 
--- What a line does to the node and to its caller, and what becomes of the caller. Only a line of a script changes the
+-- What a line does to the node and to its client, and what becomes of the client. Only a line of a script changes the
 -- node, and only `stop` asks it to stop.
 abbrev pub DoesHeard :
-    Heard → (is_first : Bool) → List LinkCounters → Ending → (s after : Kept) → (old new : CallerState) → Type 0
+    Heard → (is_first : Bool) → List LinkCounters → Ending → (s after : Kept) → (old new : ClientState) → Type 0
 DoesHeard HearsNothing is_first rows ending s after old new = (ending ≡ Stays) × (after ≡ s) × (new ≡ old)
 DoesHeard (HearsScript asked) is_first rows ending s after old new =
     IsDone asked ending s after old.outbox new.outbox × OnlyOutboxChanges old new
@@ -85,14 +85,14 @@ DoesHeard HearsFrames is_first rows ending s after old new =
 DoesHeard HearsStop is_first rows ending s after old new = (after ≡ s) × IsTold STOPPING.now Stops ending old new
 DoesHeard HearsNoLine is_first rows ending s after old new = (after ≡ s) × IsRefused is_first ending old new
 
--- what a line of a caller does that is its first or isn't, with points in this format
+-- what a line of a client does that is its first or isn't, with points in this format
 abbrev pub DoesLineAt : PointFormat → (is_first : Bool) → List ℕ → List LinkCounters → Ending → (s after : Kept)
-    → (old new : CallerState) → Type 0
+    → (old new : ClientState) → Type 0
 DoesLineAt points is_first line rows ending s after old new =
     DoesHeard (heard points line) is_first rows ending s after old new
 
--- what a line of a caller does. Behind it no line is the caller's first
+-- what a line of a client does. Behind it no line is the client's first
 abbrev pub DoesLine :
-    PointFormat → List ℕ → List LinkCounters → Ending → (s after : Kept) → (old new : CallerState) → Type 0
+    PointFormat → List ℕ → List LinkCounters → Ending → (s after : Kept) → (old new : ClientState) → Type 0
 DoesLine points line rows ending s after old new =
     DoesLineAt points old.is_first line rows ending s after (begun old) new

@@ -1,6 +1,5 @@
-//! Lines of a script that a caller writes.
+//! Lines of a script that a client writes.
 
-ghost use Rattle.std.specs.Prelude.{◌≡◌};
 ghost use Rattle.script.specs.Asking.{asked_line};
 ghost use Rattle.console_session.specs.Answers.{IsAnswered};
 

@@ -1,17 +1,17 @@
-//! The lines of a caller.
+//! The lines of a client.
 
 ghost use Rattle.std.specs.Prelude.{◌≡◌};
-ghost use Rattle.console_session.specs.Lines.{heard, heard_of, own_line, own_line_of, is_for_callers};
-ghost use Rattle.console_session.specs.Callers.{without_return};
+ghost use Rattle.console_session.specs.Lines.{heard, heard_of, own_line, own_line_of, is_for_clients};
+ghost use Rattle.console_session.specs.Clients.{without_return};
 ghost use Rattle.script.specs.Asking.{asked_line};
 
 use point_format::PointFormat;
 use script::{Line, Malformed, parse_line};
 
-/// What may stand in front of the line feed.
+/// What may come before the line feed.
 const CARRIAGE_RETURN: u8 = b'\r';
 
-/// What a line of a caller asks for.
+/// What a line of a client asks for.
 #[derive(Drop)]
 pub enum ConsoleLine<'a> {
     /// Nothing: an empty line, or one that begins with `#`.
@@ -20,7 +20,7 @@ pub enum ConsoleLine<'a> {
     Script(Line<'a>),
     /// `show counters`: the counters of each link.
     Counters,
-    /// `help`: what a caller may write.
+    /// `help`: what a client may write.
     Help,
     /// `users`: from now on the messages for this point.
     Users,
@@ -41,13 +41,13 @@ pub fn parse_console_line(line: &[u8], points: PointFormat) -> Result<ConsoleLin
         return Ok(own);
     }
     match parse_line(line, points) {
-        Ok(Some(line)) if is_for_callers(&line) => Ok(ConsoleLine::Script(line)),
+        Ok(Some(line)) if is_for_clients(&line) => Ok(ConsoleLine::Script(line)),
         Ok(None) => Ok(ConsoleLine::Skipped),
         Ok(Some(_)) | Err(Malformed) => Err(Malformed),
     }
 }
 
-/// What a line asks for that only a caller writes.
+/// What a line asks for that only a client writes.
 fn own_line(line: &[u8]) -> Option<ConsoleLine<'_>>
     ensures { own_line_of result ≡ own_line line.now }
 {
@@ -68,9 +68,9 @@ fn own_line(line: &[u8]) -> Option<ConsoleLine<'_>>
     }
 }
 
-/// Whether a line of a script may come from a caller.
-fn is_for_callers(line: &Line<'_>) -> bool
-    ensures { result ≡ is_for_callers (asked_line line.now) }
+/// Whether a line of a script may come from a client.
+fn is_for_clients(line: &Line<'_>) -> bool
+    ensures { result ≡ is_for_clients (asked_line line.now) }
 {
     match line {
         Line::Submit { .. } | Line::Order { .. } | Line::Show { .. } => true,
@@ -83,7 +83,7 @@ fn is_for_callers(line: &Line<'_>) -> bool
     }
 }
 
-/// A line without the carriage return at its end, where it has one.
+/// A line without the carriage return at its end, if it has one.
 pub(crate) fn without_return(line: &[u8]) -> &[u8]
     ensures { result.now ≡ without_return line.now }
 {

@@ -34,7 +34,7 @@ pub fn print_counters<W: Sink>(
     Ok(())
 }
 
-/// Prints the counters of the link of this name, where it has some.
+/// Prints the counters of the link of this name, if it has some.
 #[tactic(auto, using(crate::proofs::Counted::text_steps))]
 fn print_row<W: Sink>(
     name: &str,

@@ -1,4 +1,4 @@
-//! What a caller may write.
+//! What a client may write.
 
 /// Each command with a line.
 pub const HELP: &[u8] = b"\

@@ -1,15 +1,15 @@
-//! A caller of the console, octet by octet: the lines that it writes, and what it is answered and told.
+//! A client of the console, octet by octet: the lines that it writes, and what it is answered and told.
 #![tactic(auto)]
 
 mod answering;
-mod caller;
+mod client;
 mod command;
 mod counting;
 mod help;
 mod outbox;
 
 pub use answering::do_script_line;
-pub use caller::{Caller, Desk, Ending, LINE_OCTETS, News};
+pub use client::{ConsoleClient, ConsoleContext, Ending, LINE_OCTETS, News};
 pub use command::{ConsoleLine, parse_console_line};
 pub use counting::print_counters;
 pub use help::HELP;

@@ -1,4 +1,4 @@
-//! What waits to be written to a caller.
+//! What waits to be written to a client.
 
 ghost use Rattle.std.specs.Prelude.{◌≡◌, ◌+◌, ◌<◌, ◌≤◌, [], drop, length, IsErr, OnOk, OnErr, Some};
 ghost use Rattle.std.specs.Io.KnownBytes.{Appends};
@@ -8,10 +8,10 @@ use script::{Sink, WriteFailed};
 use std::alloc::Global;
 use std::marker::Model;
 
-/// Octets that wait for one caller, at most. The longest answer, of 65,535 translation rows, fits in it.
+/// Octets that wait for one client, at most. The longest answer, of 65,535 translation rows, fits in it.
 pub const OUTBOX_OCTETS: usize = 8_388_608;
 
-/// Octets that are to be written to a caller. A write for which there is no room fails, and nothing of it is kept.
+/// Octets that are to be written to a client. A write for which there is no room fails, and nothing of it is kept.
 #[derive(Drop)]
 pub struct Outbox {
     octets: Vec<u8>,
@@ -49,7 +49,7 @@ impl Outbox {
         self.octets.as_slice()
     }
 
-    /// The first of them were written, so many.
+    /// The first `count` of them were written.
     pub fn written(&mut self, count: usize)
         requires { count ≤ length self.old.octets }
         ensures { self.new ≡ record self.old { octets = drop count self.old.octets } }

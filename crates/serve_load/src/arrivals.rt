@@ -1,8 +1,8 @@
 //! What came to a node.
 
-use exchange::{Frame, decode};
 use served_link::Watch;
 use settings::{LinkId, Outcome};
+use trace::ObservedFrame;
 
 /// Flows: one for each signalling link selection.
 const FLOWS: usize = 16;
@@ -43,10 +43,10 @@ impl Arrivals {
 impl Watch for Arrivals {
     ghost sees = { λ _ _ _. Unit {0} };
 
-    fn came_in(&mut self, _link: LinkId, frame: &[u8], outcome: &Outcome) {
-        if let Ok(Frame::Message { sif, .. }) = decode(frame)
+    fn came_in(&mut self, _link: LinkId, frame: &ObservedFrame<'_>, outcome: &Outcome) {
+        if let Some(message) = frame.message()
             && *outcome == Outcome::Local
-            && let [_, _, _, label, n3, n2, n1, n0, ..] = *sif
+            && let [_, _, _, label, n3, n2, n1, n0, ..] = *message.sif
         {
             self.note(
                 usize::from(label / 16),

@@ -1,15 +1,14 @@
 -- What is counted of a link, and what it adds to each counter.
-use Rattle.std.specs.Prelude.{ℕ, ◌+◌, ◌-◌, ◌%◌, ◌^◌, min, nat_le, Bool, false, if◌then◌else◌, Result, Ok, Err}
+use Rattle.std.specs.Prelude.{ℕ, ◌+◌, ◌-◌, ◌^◌, min, Bool, false, not, if◌then◌else◌, Option, None, Some}
 use Rattle.std.specs.Prelude.{List, length, replicate, slice_index, slice_index_or, slice_set}
-use Rattle.m2pa_codec.specs.Frames.{FrameValue, EmptyFrame, MessageFrame, StatusFrame}
-use Rattle.m2pa_codec.specs.Reading.{read_frame}
 use Rattle.signalling_types.specs.Causes.{cause_number}
-use Rattle.signalling_types.specs.declared.notice.FrameFault.{FrameFault}
+use Rattle.signalling_types.specs.Message.{Message, is_management}
 use Rattle.signalling_types.specs.declared.notice.FailureReason.{FailureReason}
 use Rattle.signalling_types.specs.declared.notice.FailureReason.TheVariants.{Association, Timer, Sequence, Status}
 use Rattle.signalling_types.specs.declared.notice.FailureReason.TheVariants.{Length, Changeover, Operator}
 use Rattle.signalling_types.specs.declared.outcome.Outcome.{Outcome}
 use Rattle.signalling_types.specs.declared.outcome.Outcome.TheVariants.{Queued, Held, Local, Handled, Ignored, Refused}
+use Rattle.trace.specs.Observed.{message_in}
 use Rattle.served_link.specs.declared.counter.TheConstants.{CAUSES, REASONS}
 use Rattle.served_link.specs.declared.counter.Counter.{Counter}
 use Rattle.served_link.specs.declared.counter.Counter.TheVariants.{FramesIn, OctetsIn, FramesOut, OctetsOut}
@@ -28,19 +27,14 @@ pub data Counted : Type 0 where
   -- its connection was tried again
   Retry : Counted
 
--- a message of a service indicator from 2 on is a user's: 0 is network management, and 1 link tests (Q.704 §14.2.1)
-abbrev pub is_users : FrameValue → Bool
-is_users (EmptyFrame bsn fsn) = false
-is_users (MessageFrame bsn fsn sio sif) = nat_le 2 (sio % 16)
-is_users (StatusFrame bsn fsn status) = false
-
-abbrev pub is_read_as_users : Result FrameValue FrameFault → Bool
-is_read_as_users (Ok frame) = is_users frame
-is_read_as_users (Err fault) = false
+-- a message is a user's unless it is of network management or of link tests (Q.704 §14.2.1)
+abbrev pub is_users : Option Message → Bool
+is_users None = false
+is_users (Some message) = not (is_management message)
 
 -- whether octets are a frame with a message of a user
 abbrev pub has_user_message : List ℕ → Bool
-has_user_message frame = is_read_as_users (read_frame frame)
+has_user_message frame = is_users (message_in frame)
 
 -- what is counted of a frame that came in, and of one that went out
 abbrev pub came : (frame : List ℕ) → Outcome → Counted

@@ -9,8 +9,9 @@ use crate::row::LinkCounters;
 use signalling_types::{FailureReason, LinkId, Outcome};
 use std::alloc::{AllocError, Global};
 use std::marker::Model;
+use trace::ObservedFrame;
 
-/// The counters of each link since start. What is counted of a link that isn't there is left aside.
+/// The counters of each link since start. What is counted of a link that isn't there is ignored.
 #[derive(Drop)]
 pub struct Counters {
     rows: Vec<LinkCounters>,
@@ -26,7 +27,7 @@ impl Model for Counters {
 }
 
 impl Counters {
-    /// The counters of so many links, all 0. The error means that memory ran out.
+    /// The counters of `links` links, all 0. The error means that memory ran out.
     pub fn new(alloc: Global, links: usize) -> Result<Counters, AllocError>
         ensures { IfOk result (λ counters. counters ≡ replicate links no_counts) }
     {
@@ -35,7 +36,7 @@ impl Counters {
         })
     }
 
-    /// The counters of a link, where it is there.
+    /// The counters of a link, if there is one.
     pub fn row(&self, link: LinkId) -> Option<&LinkCounters>
         ensures { option_copied result ≡ slice_get self.now link }
     {
@@ -43,11 +44,11 @@ impl Counters {
     }
 
     /// A frame came in on a link, and was handed in with this outcome.
-    pub fn count_in(&mut self, link: LinkId, frame: &[u8], outcome: &Outcome)
+    pub fn count_in(&mut self, link: LinkId, frame: &ObservedFrame<'_>, outcome: &Outcome)
         ensures { self.new ≡ counted_at link (came frame.now outcome.now) self.old }
     {
         if let Some(row) = self.rows.get_mut(link.index()) {
-            row.count_in(frame.len(), has_user_message(frame), outcome);
+            row.count_in(frame.octets().len(), has_user_message(frame), outcome);
         }
     }
 

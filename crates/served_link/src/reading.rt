@@ -12,6 +12,7 @@ use crate::association::Broken;
 use crate::watch::Watch;
 use exchange::{Event, Exchange, Framer, Next};
 use settings::{Limits, LinkId};
+use trace::ObservedFrame;
 
 /// Takes octets that came, and hands in each frame that is whole. It lies in `text` meanwhile.
 pub(crate) fn read_all<W: Watch>(
@@ -72,5 +73,5 @@ fn hand_in<W: Watch>(link: LinkId, frame: &[u8], exchange: &mut Exchange, watch:
         watch.new }
 {
     let outcome = exchange.step(&Event::Frame(link, frame));
-    watch.came_in(link, frame, &outcome);
+    watch.came_in(link, &ObservedFrame::new(frame), &outcome);
 }

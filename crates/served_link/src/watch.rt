@@ -3,17 +3,19 @@
 ghost use Rattle.served_link.specs.Watching.{Sight, CameIn, WentOut};
 
 use settings::{LinkId, Outcome};
+use trace::ObservedFrame;
 
 /// What sees the frames of an association as they pass, such as counters or a capture.
 pub trait Watch {
     // How what is seen changes the watch: its state before, what it sees, and its state after.
     ghost sees: { Self → Sight → Self → Type 0 };
 
-    /// A frame came in on the link and was handed in, with this outcome.
-    fn came_in(&mut self, link: LinkId, frame: &[u8], outcome: &Outcome)
+    /// A frame came in on the link and was handed in, with this outcome. It is read once, for all who see it.
+    fn came_in(&mut self, link: LinkId, frame: &ObservedFrame<'_>, outcome: &Outcome)
         ensures { sees self.old (CameIn link frame.now outcome.now) self.new };
 
-    /// A frame was taken to go out on the link, behind those before it.
+    /// A frame of these octets was taken to go out on the link, after those before it. Who wants to know what they say
+    /// reads them.
     fn went_out(&mut self, link: LinkId, frame: &[u8])
         ensures { sees self.old (WentOut link frame.now) self.new };
 }
@@ -25,7 +27,7 @@ pub struct Unwatched;
 impl Watch for Unwatched {
     ghost sees = { λ _ _ _. Unit {0} };
 
-    fn came_in(&mut self, _link: LinkId, _frame: &[u8], _outcome: &Outcome) {}
+    fn came_in(&mut self, _link: LinkId, _frame: &ObservedFrame<'_>, _outcome: &Outcome) {}
 
     fn went_out(&mut self, _link: LinkId, _frame: &[u8]) {}
 }

@@ -1,3 +1,3 @@
 pub mod Naming
-pub mod Audience
-pub mod Moving
+pub mod Observers
+pub mod Progress

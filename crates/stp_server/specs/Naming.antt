@@ -2,10 +2,10 @@
 use Rattle.std.specs.Prelude.{ℕ, ◌+◌, ◌*◌}
 use Rattle.stp_server.specs.declared.naming.TheConstants.{KIND}
 use Rattle.stp_server.specs.declared.naming.SocketName.{SocketName}
-use Rattle.stp_server.specs.declared.naming.SocketName.TheVariants.{Listener, Link, Caller, Console}
+use Rattle.stp_server.specs.declared.naming.SocketName.TheVariants.{Listener, Link, Client, Console}
 
 abbrev pub number_of : SocketName → ℕ
 number_of (Listener link) = link
 number_of (Link link) = KIND + link
-number_of (Caller place) = 2 * KIND + place
+number_of (Client place) = 2 * KIND + place
 number_of Console = 3 * KIND

@@ -3,10 +3,10 @@
 ghost use Rattle.std.specs.Prelude.{◌≡◌, ◌<◌, true, length};
 ghost use Rattle.served_link.specs.Connections.{is_pending};
 
-use crate::audience::Watching;
-use crate::journal::Journal;
+use crate::log::Log;
 use crate::node::Node;
-use crate::socket::{Moved, read_some, write_some};
+use crate::observers::FrameObserver;
+use crate::socket::{Progress, read_some, write_some};
 use exchange::Exchange;
 use mio::event::Event as Readiness;
 use mio::net::TcpStream;
@@ -32,7 +32,7 @@ pub(crate) struct Connection {
 
 /// Why a connection ends.
 #[derive(Clone, Copy)]
-pub(crate) enum Why {
+pub(crate) enum CloseReason {
     /// The peer closed it.
     Peer,
     /// A read failed.
@@ -45,27 +45,27 @@ pub(crate) enum Why {
     Node,
 }
 
-impl Why {
+impl CloseReason {
     /// The word of the log.
     pub(crate) fn word(self) -> &'static str {
         match self {
-            Why::Peer => "peer",
-            Why::Read => "read",
-            Why::Write => "write",
-            Why::Framing => "framing",
-            Why::Node => "node",
+            CloseReason::Peer => "peer",
+            CloseReason::Read => "read",
+            CloseReason::Write => "write",
+            CloseReason::Framing => "framing",
+            CloseReason::Node => "node",
         }
     }
 }
 
 /// What a call of a connection came to.
-pub(crate) enum Progress {
+pub(crate) enum Transfer {
     /// Some octets moved, and more may.
     Some,
     /// None can now.
     None,
     /// The connection is over.
-    Over(Why),
+    Over(CloseReason),
 }
 
 impl Connection {
@@ -82,7 +82,7 @@ impl Connection {
         }
     }
 
-    /// A connection that was accepted. Its association is up, where the link wants that.
+    /// A connection that was accepted. Its association is up, if the link wants that.
     pub(crate) fn accepted(
         link: LinkId,
         stream: TcpStream,
@@ -126,7 +126,7 @@ impl Connection {
         self.can_read
     }
 
-    /// Learns whether it is made, where the socket knows. False where it couldn't be.
+    /// Learns whether it is made, if the socket knows. False if it couldn't be made.
     pub(crate) fn is_possible(&mut self) -> bool {
         if self.is_made || !self.can_read {
             return true;
@@ -137,14 +137,14 @@ impl Connection {
     }
 
     /// Tells that its association is up.
-    pub(crate) fn tell_open<W: Sink>(&self, node: &mut Node, journal: &mut Journal<'_, W>) {
-        journal.tell_at(
+    pub(crate) fn tell_open<W: Sink>(&self, node: &mut Node, log: &mut Log<'_, W>) {
+        log.tell_at(
             "open",
-            node.audience.name(self.association.link()),
+            node.observers.name(self.association.link()),
             self.peer,
         );
         node.note_up();
-        node.look(FailureReason::Association, journal);
+        node.look(FailureReason::Association, log);
     }
 
     /// Makes one read, to the front of the buffer, and hands in what came.
@@ -152,21 +152,21 @@ impl Connection {
         &mut self,
         buffer: &mut [u8],
         node: &mut Node,
-        journal: &mut Journal<'_, W>,
+        log: &mut Log<'_, W>,
         user: &mut U,
-    ) -> Progress {
+    ) -> Transfer {
         if !self.is_made || !self.can_read {
-            return Progress::None;
+            return Transfer::None;
         }
         match read_some(&mut self.stream, buffer) {
-            Moved::Octets(count) => self.take_in(&buffer[..count], node, journal, user),
-            Moved::Later => {
+            Progress::Octets(count) => self.take_in(&buffer[..count], node, log, user),
+            Progress::Later => {
                 self.can_read = false;
-                Progress::None
+                Transfer::None
             }
-            Moved::Again => Progress::None,
-            Moved::End => Progress::Over(Why::Peer),
-            Moved::Failed => Progress::Over(Why::Read),
+            Progress::Again => Transfer::None,
+            Progress::End => Transfer::Over(CloseReason::Peer),
+            Progress::Failed => Transfer::Over(CloseReason::Read),
         }
     }
 
@@ -176,25 +176,20 @@ impl Connection {
         &mut self,
         octets: &[u8],
         node: &mut Node,
-        journal: &mut Journal<'_, W>,
+        log: &mut Log<'_, W>,
         user: &mut U,
-    ) -> Progress
+    ) -> Transfer
         requires { 0 < length octets.now }
     {
-        if self.hear(octets, node, journal) {
-            self.hand_in(octets, node, journal, user)
+        if self.hear(octets, node, log) {
+            self.hand_in(octets, node, log, user)
         } else {
-            Progress::Over(Why::Node)
+            Transfer::Over(CloseReason::Node)
         }
     }
 
     /// Octets came: the association comes up, if it isn't, and if the link wants that. Returns whether it is up.
-    fn hear<W: Sink>(
-        &mut self,
-        octets: &[u8],
-        node: &mut Node,
-        journal: &mut Journal<'_, W>,
-    ) -> bool
+    fn hear<W: Sink>(&mut self, octets: &[u8], node: &mut Node, log: &mut Log<'_, W>) -> bool
         requires { 0 < length octets.now }
         ensures { result ≡ self.new.association.is_up }
     {
@@ -203,7 +198,7 @@ impl Connection {
         }
         let is_up = self.association.hear(octets, &mut node.exchange);
         if is_up {
-            self.tell_open(node, journal);
+            self.tell_open(node, log);
         }
         is_up
     }
@@ -213,19 +208,19 @@ impl Connection {
         &mut self,
         octets: &[u8],
         node: &mut Node,
-        journal: &mut Journal<'_, W>,
+        log: &mut Log<'_, W>,
         user: &mut U,
-    ) -> Progress
+    ) -> Transfer
         requires { self.old.association.is_up ≡ true }
     {
         for part in octets.chunks(LOOK_OCTETS) {
             let read = self.hand_in_part(part, node, user);
-            node.look(FailureReason::Changeover, journal);
+            node.look(FailureReason::Changeover, log);
             if let Err(Broken) = read {
-                return Progress::Over(Why::Framing);
+                return Transfer::Over(CloseReason::Framing);
             }
         }
-        Progress::Some
+        Transfer::Some
     }
 
     /// Hands in octets.
@@ -238,31 +233,31 @@ impl Connection {
         requires { self.old.association.is_up ≡ true }
         ensures { self.new.association.is_up ≡ true }
     {
-        let mut watching = Watching {
-            audience: &mut node.audience,
+        let mut observer = FrameObserver {
+            observers: &mut node.observers,
             user,
         };
         self.association
-            .read(&mut node.exchange, part, &mut watching)
+            .read(&mut node.exchange, part, &mut observer)
     }
 
     /// Takes frames while there is room for them, and makes one write. Nothing is taken before the association is up,
     /// nor while the socket takes nothing.
-    pub(crate) fn write<U: Watch>(&mut self, node: &mut Node, user: &mut U) -> Progress {
+    pub(crate) fn write<U: Watch>(&mut self, node: &mut Node, user: &mut U) -> Transfer {
         if !self.can_write || !self.association.is_up() || !self.fill(node, user) {
-            return Progress::None;
+            return Transfer::None;
         }
         match write_some(&mut self.stream, self.association.pending()) {
-            Moved::Octets(count) => {
+            Progress::Octets(count) => {
                 self.association.written(count);
-                Progress::Some
+                Transfer::Some
             }
-            Moved::Later => {
+            Progress::Later => {
                 self.can_write = false;
-                Progress::None
+                Transfer::None
             }
-            Moved::Again => Progress::Some,
-            Moved::End | Moved::Failed => Progress::Over(Why::Write),
+            Progress::Again => Transfer::Some,
+            Progress::End | Progress::Failed => Transfer::Over(CloseReason::Write),
         }
     }
 
@@ -271,11 +266,11 @@ impl Connection {
         requires { self.old.association.is_up ≡ true }
         ensures { result ≡ is_pending self.new.association.pending }
     {
-        let mut watching = Watching {
-            audience: &mut node.audience,
+        let mut observer = FrameObserver {
+            observers: &mut node.observers,
             user,
         };
-        self.association.fill(&mut node.exchange, &mut watching)
+        self.association.fill(&mut node.exchange, &mut observer)
     }
 }
 

@@ -15,7 +15,7 @@ const STANDARD_OUTPUT: RawFd = 1;
 const LINE_OCTETS: usize = 64;
 
 /// A log over standard output. A line that it doesn't take at once, since its reader is slow, is dropped, and so is one
-/// whose write fails; the next line that is taken stands behind one that tells how many were missed.
+/// whose write fails; the next line that is taken follows one that tells how many were missed.
 #[derive(Drop)]
 pub(crate) struct DroppingLog<'a, W> {
     sink: &'a mut W,
@@ -33,7 +33,7 @@ impl<'a, W: Sink> DroppingLog<'a, W> {
         }
     }
 
-    /// Writes a line. False where it isn't taken at once, or the write fails.
+    /// Writes a line. False if it isn't taken at once, or the write fails.
     fn put(&mut self, line: &[u8]) -> bool {
         is_ready(&mut self.readiness) && self.sink.write(line).is_ok()
     }
@@ -67,7 +67,7 @@ impl<W: Sink> Sink for DroppingLog<'_, W> {
     }
 }
 
-/// The time in front of a line.
+/// The time at the beginning of a line.
 fn time_of(line: &[u8]) -> &[u8] {
     for (k, octet) in line.iter().enumerate() {
         if *octet == b' ' {

@@ -17,7 +17,7 @@ pub enum OpenFault {
     Listen(SocketAddr, ErrorKind),
 }
 
-/// Why a node isn't served any more, where nobody stopped it.
+/// Why a node isn't served any more, although nobody stopped it.
 pub enum ServeFailure {
     /// The server couldn't be opened.
     Open(OpenFault),

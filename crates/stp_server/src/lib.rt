@@ -1,18 +1,18 @@
 //! A node on sockets: its links over TCP, its clock, its console, its counters, its log and its capture.
 #![tactic(auto)]
 
-mod audience;
-mod caller_socket;
-mod callers;
+mod client_socket;
+mod clients;
 mod connection;
 mod dropping;
 mod fault;
-mod gate;
 mod held_file;
-mod journal;
+mod link_socket;
+mod log;
 mod naming;
 mod node;
 mod noticing;
+mod observers;
 mod readiness;
 mod server;
 mod serving;

@@ -15,8 +15,8 @@ pub enum SocketName {
     Listener(u8),
     /// The connection of the link of this number.
     Link(u8),
-    /// The connection of the caller in this place.
-    Caller(u8),
+    /// The connection of the client in this place.
+    Client(u8),
     /// The listener of the console.
     Console,
 }
@@ -29,12 +29,12 @@ impl SocketName {
         match self {
             SocketName::Listener(link) => Token(usize::from(link)),
             SocketName::Link(link) => Token(KIND + usize::from(link)),
-            SocketName::Caller(place) => Token(2 * KIND + usize::from(place)),
+            SocketName::Client(place) => Token(2 * KIND + usize::from(place)),
             SocketName::Console => Token(3 * KIND),
         }
     }
 
-    /// The socket of a token, where one has it.
+    /// The socket of a token, if one has it.
     pub fn of(token: Token) -> Option<SocketName>
         ensures named { IfSome result (λ name. number_of name ≡ token.0) }
         ensures found { token.0 ≤ number_of SocketName.Console → IsSome result }
@@ -43,7 +43,7 @@ impl SocketName {
         match token.0 / KIND {
             0 => Some(SocketName::Listener(number)),
             1 => Some(SocketName::Link(number)),
-            2 => Some(SocketName::Caller(number)),
+            2 => Some(SocketName::Client(number)),
             3 if number == 0 => Some(SocketName::Console),
             _ => None,
         }

@@ -10,8 +10,14 @@ pub struct Seen {
     notices: u64,
     times_lost: u64,
     times_late: u64,
-    up: [bool; Limits::LINKS],
-    fell: [bool; Limits::LINKS],
+    links: [SeenLink; Limits::LINKS],
+}
+
+/// What was last seen of a link: whether it wasn't down, and whether it failed between the last look and the one before.
+#[derive(Clone, Copy)]
+struct SeenLink {
+    is_up: bool,
+    fell: bool,
 }
 
 impl Seen {
@@ -21,8 +27,10 @@ impl Seen {
             notices: 0,
             times_lost: 0,
             times_late: 0,
-            up: [false; Limits::LINKS],
-            fell: [false; Limits::LINKS],
+            links: [SeenLink {
+                is_up: false,
+                fell: false,
+            }; Limits::LINKS],
         }
     }
 
@@ -33,9 +41,8 @@ impl Seen {
 
     /// A link is up now, which the next look counts as failed if it is down by then.
     pub fn note_up(&mut self, exchange: &Exchange) {
-        let links = exchange.settings().link_count();
-        for (k, up) in self.up.iter_mut().enumerate().take(links) {
-            *up = *up || is_up(exchange, LinkId::new(k as u8));
+        for (k, link) in self.links.iter_mut().enumerate() {
+            link.is_up = link.is_up || is_up(exchange, LinkId::new(k as u8));
         }
     }
 
@@ -65,17 +72,18 @@ impl Seen {
 
     /// Whether a link failed between the last look and the one before.
     pub fn fell(&self, link: LinkId) -> bool {
-        self.fell.get(link.index()).copied().unwrap_or(false)
+        match self.links.get(link.index()) {
+            Some(link) => link.fell,
+            None => false,
+        }
     }
 
     /// Notes which links failed since the last look.
     fn note_failures(&mut self, exchange: &Exchange) {
-        let marks = self.up.iter_mut().zip(self.fell.iter_mut());
-        let links = exchange.settings().link_count();
-        for (k, (up, fell)) in marks.enumerate().take(links) {
+        for (k, link) in self.links.iter_mut().enumerate() {
             let is_up = is_up(exchange, LinkId::new(k as u8));
-            *fell = *up && !is_up;
-            *up = is_up;
+            link.fell = link.is_up && !is_up;
+            link.is_up = is_up;
         }
     }
 }

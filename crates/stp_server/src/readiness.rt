@@ -7,7 +7,7 @@ use std::net::Net;
 use std::os::fd::RawFd;
 use std::time::Duration;
 
-/// Octets that a pipe takes at once where it is ready, at most (pipe(7)).
+/// Octets that a pipe takes at once when it is ready, at most (pipe(7)).
 pub(crate) const AT_ONCE: usize = 4096;
 
 /// The one token of the poll.
@@ -22,8 +22,7 @@ pub(crate) struct Readiness {
 }
 
 impl Readiness {
-    /// A poll of this descriptor. None of one that has nothing to wait for, as a file, and where there is no poll to be
-    /// had.
+    /// A poll of this descriptor. None if it has nothing to wait for, as a file, or if there is no poll to be had.
     pub(crate) fn of<N: Net>(net: &N, alloc: Global, descriptor: RawFd) -> Option<Readiness> {
         let events = Events::with_capacity(alloc, 1).ok()?;
         let poll = Poll::new(net).ok()?;
@@ -51,7 +50,7 @@ impl Readiness {
         self.events.iter().next().is_some()
     }
 
-    /// Asks the poll. False where that fails.
+    /// Asks the poll. False if that fails.
     fn is_polled(&mut self) -> bool {
         self.poll
             .poll(&mut self.events, Some(Duration::ZERO))
@@ -59,7 +58,7 @@ impl Readiness {
     }
 }
 
-/// Whether octets are taken at once, by what tells so where anything does.
+/// Whether octets are taken at once; true if nothing tells.
 pub(crate) fn is_ready(readiness: &mut Option<Readiness>) -> bool {
     match readiness {
         Some(readiness) => readiness.is_there(),

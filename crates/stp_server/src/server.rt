@@ -2,9 +2,9 @@
 
 mod opening;
 
-use crate::gate::Gate;
 use crate::held_file::HeldFile;
-use crate::journal::Journal;
+use crate::link_socket::LinkSocket;
+use crate::log::Log;
 use crate::naming::SocketName;
 use crate::node::Node;
 use exchange::{Event, Exchange, Wants};
@@ -42,12 +42,12 @@ pub struct Places<'a> {
 
 /// A node whose links are TCP connections: an association of a link is a connection.
 ///
-/// It has no clock: `tick` lets ticks pass, and `now` is the time since the start, as the caller reads it.
+/// It has no clock: `tick` lets ticks pass, and `now` is the time since the start, as the client reads it.
 #[derive(Drop)]
 pub struct Server {
     alloc: Global,
     node: Node,
-    gates: Vec<Gate>,
+    links: Vec<LinkSocket>,
     buffer: Vec<u8>,
     poll: Poll,
     events: Events,
@@ -65,7 +65,7 @@ impl Model for Server {
 impl Server {
     /// Each frame goes into this file too from now on.
     pub fn capture_to(&mut self, capture: FileCapture) {
-        self.node.audience.capture = Some(capture);
+        self.node.observers.capture_to(Some(capture));
     }
 
     /// The node.
@@ -73,7 +73,7 @@ impl Server {
         &self.node.exchange
     }
 
-    /// Whether a caller asked the node to stop.
+    /// Whether a client asked the node to stop.
     pub fn is_stopping(&self) -> bool {
         self.is_stopping
     }
@@ -82,7 +82,7 @@ impl Server {
     pub fn step<W: Sink>(&mut self, event: &Event<'_>, now: Duration, log: &mut W) -> Outcome {
         let outcome = self.node.exchange.step(event);
         self.node
-            .look(FailureReason::Operator, &mut Journal::new(log, now));
+            .look(FailureReason::Operator, &mut Log::new(log, now));
         self.is_busy = true;
         outcome
     }
@@ -90,9 +90,9 @@ impl Server {
     /// Lets so many ticks pass. The next turn then asks each listener for connections again: one that came may still
     /// be waiting because there were no sockets left.
     pub fn tick<W: Sink>(&mut self, ticks: u64, now: Duration, log: &mut W) {
-        let mut journal = Journal::new(log, now);
+        let mut log = Log::new(log, now);
         for _ in 0..ticks {
-            self.node.tick(&mut journal);
+            self.node.tick(&mut log);
         }
         if ticks > 0 {
             self.mark_listeners();
@@ -102,10 +102,10 @@ impl Server {
 
     /// A connection may have come to any listener.
     fn mark_listeners(&mut self) {
-        for gate in self.gates.iter_mut() {
-            gate.mark_listener();
+        for socket in self.links.iter_mut() {
+            socket.mark_listener();
         }
-        self.node.audience.callers.mark_console();
+        self.node.observers.clients.mark_console();
     }
 
     /// Closes its sockets. Only this drops a server: its parts are many, and so are the states of a body that drops
@@ -123,16 +123,16 @@ impl Server {
             self.until_next_try(now).min(most)
         };
         self.poll.poll(&mut self.events, Some(wait))?;
-        mark_ready(&self.events, &mut self.gates, &mut self.node);
+        mark_ready(&self.events, &mut self.links, &mut self.node);
         Ok(())
     }
 
     /// How long it takes until the next connection is to be tried.
     fn until_next_try(&self, now: Duration) -> Duration {
         let mut least = Duration::MAX;
-        for gate in self.gates.iter() {
-            let wants = self.node.exchange.wants(gate.link());
-            if let (Wants::Open, Some(next)) = (wants, gate.next_try()) {
+        for socket in self.links.iter() {
+            let wants = self.node.exchange.wants(socket.link());
+            if let (Wants::Open, Some(next)) = (wants, socket.next_try()) {
                 least = least.min(next.saturating_sub(now));
             }
         }
@@ -148,86 +148,86 @@ impl Server {
         log: &mut W,
         user: &mut U,
     ) {
-        let mut journal = Journal::new(log, now);
-        self.node.audience.now = now;
+        let mut log = Log::new(log, now);
+        self.node.observers.now = now;
         self.is_busy = false;
-        self.read(&mut journal, user);
-        self.take_connections(&mut journal);
-        self.read_callers(&mut journal);
-        self.settle(net, &mut journal);
-        self.write(&mut journal, user);
-        self.finish(&mut journal);
+        self.read(&mut log, user);
+        self.take_connections(&mut log);
+        self.read_clients(&mut log);
+        self.settle(net, &mut log);
+        self.write(&mut log, user);
+        self.finish(&mut log);
     }
 
     /// Takes the connections that came.
-    fn take_connections<W: Sink>(&mut self, journal: &mut Journal<'_, W>) {
+    fn take_connections<W: Sink>(&mut self, log: &mut Log<'_, W>) {
         let registry = self.poll.registry();
-        for gate in self.gates.iter_mut() {
-            gate.accept(&mut self.node, registry, journal);
+        for socket in self.links.iter_mut() {
+            socket.accept(&mut self.node, registry, log);
         }
         self.node
-            .audience
-            .callers
-            .accept(self.alloc, registry, journal);
+            .observers
+            .clients
+            .accept(self.alloc, registry, log);
     }
 
     /// Reads what came on the links.
-    fn read<W: Sink, U: Watch>(&mut self, journal: &mut Journal<'_, W>, user: &mut U) {
-        for gate in self.gates.iter_mut() {
-            gate.read(&mut self.buffer, &mut self.node, journal, user);
+    fn read<W: Sink, U: Watch>(&mut self, log: &mut Log<'_, W>, user: &mut U) {
+        for socket in self.links.iter_mut() {
+            socket.read(&mut self.buffer, &mut self.node, log, user);
         }
     }
 
-    /// Does the lines that callers wrote.
-    fn read_callers<W: Sink>(&mut self, journal: &mut Journal<'_, W>) {
-        if self.node.read_callers() {
+    /// Does the lines that clients wrote.
+    fn read_clients<W: Sink>(&mut self, log: &mut Log<'_, W>) {
+        if self.node.read_clients() {
             self.is_stopping = true;
         }
-        self.node.look(FailureReason::Operator, journal);
+        self.node.look(FailureReason::Operator, log);
     }
 
     /// Opens and closes connections as the links want.
-    fn settle<N: Net, W: Sink>(&mut self, net: &N, journal: &mut Journal<'_, W>) {
+    fn settle<N: Net, W: Sink>(&mut self, net: &N, log: &mut Log<'_, W>) {
         let registry = self.poll.registry();
-        for gate in self.gates.iter_mut() {
-            gate.settle(net, &mut self.node, registry, journal);
+        for socket in self.links.iter_mut() {
+            socket.settle(net, &mut self.node, registry, log);
         }
     }
 
-    /// Writes to the links and to the callers.
-    fn write<W: Sink, U: Watch>(&mut self, journal: &mut Journal<'_, W>, user: &mut U) {
-        for gate in self.gates.iter_mut() {
-            let has_more = gate.write(&mut self.node, journal, user);
-            self.is_busy = self.is_busy || has_more || gate.is_busy();
+    /// Writes to the links and to the clients.
+    fn write<W: Sink, U: Watch>(&mut self, log: &mut Log<'_, W>, user: &mut U) {
+        for socket in self.links.iter_mut() {
+            let has_more = socket.write(&mut self.node, log, user);
+            self.is_busy = self.is_busy || has_more || socket.is_busy();
         }
-        self.node.audience.callers.write(journal);
-        self.is_busy = self.is_busy || self.node.audience.callers.is_busy();
+        self.node.observers.clients.write(log);
+        self.is_busy = self.is_busy || self.node.observers.clients.is_busy();
     }
 
     /// Ends a round: what was captured goes out, as far as the file takes it.
-    fn finish<W: Sink>(&mut self, journal: &mut Journal<'_, W>) {
-        self.node.audience.flush_capture(journal);
+    fn finish<W: Sink>(&mut self, log: &mut Log<'_, W>) {
+        self.node.observers.flush_capture(log);
     }
 }
 
 /// Marks the sockets that the last wait told of.
-fn mark_ready(events: &Events, gates: &mut [Gate], node: &mut Node) {
+fn mark_ready(events: &Events, links: &mut [LinkSocket], node: &mut Node) {
     for event in events.iter() {
         match SocketName::of(event.token()) {
             Some(SocketName::Listener(link)) => {
-                if let Some(gate) = gates.get_mut(usize::from(link)) {
-                    gate.mark_listener();
+                if let Some(socket) = links.get_mut(usize::from(link)) {
+                    socket.mark_listener();
                 }
             }
             Some(SocketName::Link(link)) => {
-                if let Some(gate) = gates.get_mut(usize::from(link)) {
-                    gate.mark(event);
+                if let Some(socket) = links.get_mut(usize::from(link)) {
+                    socket.mark(event);
                 }
             }
-            Some(SocketName::Caller(place)) => {
-                node.audience.callers.mark(usize::from(place), event);
+            Some(SocketName::Client(place)) => {
+                node.observers.clients.mark(usize::from(place), event);
             }
-            Some(SocketName::Console) => node.audience.callers.mark_console(),
+            Some(SocketName::Console) => node.observers.clients.mark_console(),
             None => {}
         }
     }

@@ -5,7 +5,7 @@ ghost use Rattle.std.specs.Prelude.{◌≤◌};
 use crate::dropping::DroppingLog;
 use crate::fault::{OpenFault, ServeFailure};
 use crate::held_file::HeldFile;
-use crate::journal::Journal;
+use crate::log::Log;
 use crate::server::{FileCapture, Places, Server};
 use script::Sink;
 use serve_settings::ServeSettings;
@@ -15,7 +15,7 @@ use std::time::{Duration, Instant, SystemTime};
 use std::{fs, io};
 use trace::{Capture, UntilFailure};
 
-/// Serves a node with these settings until a caller stops it. The log writes to standard output; lines that it doesn't
+/// Serves a node with these settings until a client stops it. The log writes to standard output; lines that it doesn't
 /// take at once are dropped.
 pub fn serve<W: Sink>(
     rt: &HostRuntime,
@@ -55,7 +55,7 @@ fn serve_opened<W: Sink>(
 ) -> Result<(), ServeFailure> {
     if let Some(file) = serve.capture() {
         server.capture_to(capture(rt, file)?);
-        Journal::new(log, Duration::ZERO).tell(&format_args!("capture {file}"));
+        Log::new(log, Duration::ZERO).tell(&format_args!("capture {file}"));
     }
     let started = now(rt)?;
     run(rt, server, serve.tick_ms(), started, log)
@@ -110,7 +110,7 @@ fn run<W: Sink>(
         server.turn(rt, elapsed, log, &mut Unwatched);
         was_behind = pass_tick(&mut clock, was_behind, server, elapsed, log);
         if server.is_stopping() {
-            Journal::new(log, elapsed).tell(&"stop");
+            Log::new(log, elapsed).tell(&"stop");
             return Ok(());
         }
     }
@@ -132,7 +132,7 @@ fn wait(
     }
 }
 
-/// Lets a tick pass where one is due. Returns whether the clock is behind; the log is told where that begins.
+/// Lets a tick pass if one is due. Returns whether the clock is late; the log is told when that begins.
 fn pass_tick<W: Sink>(
     clock: &mut TickClock,
     was_behind: bool,
@@ -143,7 +143,7 @@ fn pass_tick<W: Sink>(
     let elapsed = millis(now);
     let is_behind = clock.is_behind(elapsed);
     if is_behind && !was_behind {
-        Journal::new(log, now).tell(&format_args!("behind: more than {MOST_TICKS} ticks are due"));
+        Log::new(log, now).tell(&format_args!("behind: more than {MOST_TICKS} ticks are due"));
     }
     if clock.is_due(elapsed) {
         server.tick(1, now, log);
@@ -155,7 +155,7 @@ fn pass_tick<W: Sink>(
 fn tell_start<W: Sink>(settings: &Settings, serve: &ServeSettings, log: &mut W) {
     let links = settings.link_count();
     let tick_ms = serve.tick_ms();
-    Journal::new(log, Duration::ZERO).tell(&format_args!("start {links} links, tick {tick_ms} ms"));
+    Log::new(log, Duration::ZERO).tell(&format_args!("start {links} links, tick {tick_ms} ms"));
 }
 
 /// Where the server is reached, and how it shows points.

@@ -1,14 +1,14 @@
 //! Reads and writes of a socket.
 
 ghost use Rattle.std.specs.Prelude.{ℕ, length};
-ghost use Rattle.stp_server.specs.Moving.{IsWithin};
+ghost use Rattle.stp_server.specs.Progress.{IsWithin};
 
 use mio::net::TcpStream;
 use std::io::{ErrorKind, Read, Write};
 
 /// What a read or a write of a socket came to.
 #[derive(Clone, Copy)]
-pub(crate) enum Moved {
+pub(crate) enum Progress {
     /// So many octets moved, one at least, and more may.
     Octets(usize),
     /// None can now: the socket tells when one may.
@@ -22,34 +22,34 @@ pub(crate) enum Moved {
 }
 
 /// Makes one read, to the front of the buffer.
-pub(crate) fn read_some(stream: &mut TcpStream, buffer: &mut [u8]) -> Moved
+pub(crate) fn read_some(stream: &mut TcpStream, buffer: &mut [u8]) -> Progress
     ensures { IsWithin result (length buffer.new) }
 {
     match stream.read(buffer) {
-        Ok(0) => Moved::End,
-        Ok(count) => Moved::Octets(count),
+        Ok(0) => Progress::End,
+        Ok(count) => Progress::Octets(count),
         Err(error) => unmoved(error.kind()),
     }
 }
 
 /// Makes one write, from the first of the octets on.
-pub(crate) fn write_some(stream: &mut TcpStream, octets: &[u8]) -> Moved
+pub(crate) fn write_some(stream: &mut TcpStream, octets: &[u8]) -> Progress
     ensures { IsWithin result (length octets.now) }
 {
     match stream.write(octets) {
-        Ok(0) => Moved::Failed,
-        Ok(count) => Moved::Octets(count),
+        Ok(0) => Progress::Failed,
+        Ok(count) => Progress::Octets(count),
         Err(error) => unmoved(error.kind()),
     }
 }
 
 /// What an error of this kind says of a socket.
-fn unmoved(kind: ErrorKind) -> Moved
+fn unmoved(kind: ErrorKind) -> Progress
     ensures { (most : ℕ) → IsWithin result most }
 {
     match kind {
-        ErrorKind::WouldBlock => Moved::Later,
-        ErrorKind::Interrupted => Moved::Again,
-        _ => Moved::Failed,
+        ErrorKind::WouldBlock => Progress::Later,
+        ErrorKind::Interrupted => Progress::Again,
+        _ => Progress::Failed,
     }
 }

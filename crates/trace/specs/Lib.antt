@@ -1,3 +1,4 @@
 pub mod Words
 pub mod Packets
 pub mod Captures
+pub mod Observed

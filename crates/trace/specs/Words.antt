@@ -2,7 +2,7 @@
 use Rattle.std.specs.Prelude.{ℕ, List, [], ◌∷◌, ◌++◌, drop, codes, decimal, Option, None, Some, Result, Ok, Err}
 use Rattle.hex.specs.Hex.{encode_lower}
 use Rattle.signalling_types.specs.declared.notice.FrameFault.{FrameFault}
-use Rattle.signalling_types.specs.Message.{service_indicator}
+use Rattle.signalling_types.specs.Message.{Message, service_indicator}
 use Rattle.m2pa_codec.specs.declared.status.LinkStatus.{LinkStatus}
 use Rattle.m2pa_codec.specs.declared.status.LinkStatus.TheVariants.{Alignment, ProvingNormal, ProvingEmergency, Ready}
 use Rattle.m2pa_codec.specs.declared.status.LinkStatus.TheVariants.{ProcessorOutage, ProcessorRecovered, Busy}
@@ -47,24 +47,24 @@ label_words points label =
     codes " opc " ++ point_text points label.opc ++ codes " dpc " ++ point_text points label.dpc
     ++ codes " sls " ++ decimal label.sls
 
--- the service indicator of a service information octet
-abbrev pub service_words : (sio : ℕ) → List ℕ
-service_words sio = codes " si " ++ decimal (service_indicator (record { sio = sio; sif = [] }))
+-- the service indicator of a message
+abbrev pub service_words : Message → List ℕ
+service_words m = codes " si " ++ decimal (service_indicator m)
 
 -- a message: its label, its service indicator, and the octets behind its label; or all of them where it has no whole
 -- label
-abbrev pub labelled_words : PointFormat → (sio : ℕ) (sif : List ℕ) → Option Label → List ℕ
-labelled_words points sio sif (Some label) =
-    label_words points label ++ service_words sio ++ octets_words (drop 4 sif)
-labelled_words points sio sif None = codes " no label" ++ service_words sio ++ octets_words sif
+abbrev pub labelled_words : PointFormat → Message → Option Label → List ℕ
+labelled_words points m (Some label) = label_words points label ++ service_words m ++ octets_words (drop 4 m.sif)
+labelled_words points m None = codes " no label" ++ service_words m ++ octets_words m.sif
 
-abbrev pub message_words : PointFormat → (sio : ℕ) (sif : List ℕ) → List ℕ
-message_words points sio sif = labelled_words points sio sif (label_in sif)
+abbrev pub message_words : PointFormat → Message → List ℕ
+message_words points m = labelled_words points m (label_in m.sif)
 
 -- what a frame says
 abbrev pub value_words : PointFormat → FrameValue → List ℕ
 value_words points (EmptyFrame bsn fsn) = numbers_words fsn bsn ++ codes " ack"
-value_words points (MessageFrame bsn fsn sio sif) = numbers_words fsn bsn ++ message_words points sio sif
+value_words points (MessageFrame bsn fsn sio sif) =
+    numbers_words fsn bsn ++ message_words points (record { sio = sio; sif = sif })
 value_words points (StatusFrame bsn fsn status) = numbers_words fsn bsn ++ codes " status " ++ status_word status
 
 -- what octets say as a frame, or that they are none

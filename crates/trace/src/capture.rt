@@ -3,11 +3,11 @@
 ghost use Rattle.std.specs.Prelude.{◌≡◌, ◌+◌, ◌≤◌, ◌<◌, ◌++◌, length, take, replicate};
 ghost use Rattle.std.specs.Duration.{as_nanos};
 ghost use Rattle.trace.specs.Packets.{file_header, record_header, common_header, chunk_header, padding, packet_octets};
-ghost use Rattle.trace.specs.Packets.{stream_of, packet_length, chunk_front, chunk_stream};
+ghost use Rattle.trace.specs.Packets.{packet_length, chunk_front, chunk_stream};
 
 use crate::direction::Direction;
+use crate::observed_frame::ObservedFrame;
 use crate::writing::write_at;
-use m2pa_codec::{Frame, decode};
 use signalling_types::{Limits, LinkId};
 use std::time::Duration;
 
@@ -44,12 +44,6 @@ const WHOLE: u8 = 3;
 /// The payload protocol identifier of M2PA (RFC 4165 §7).
 const M2PA: u32 = 5;
 
-/// The stream of Link Status (RFC 4165).
-const STATUS_STREAM: u16 = 0;
-
-/// The stream of User Data (RFC 4165).
-const DATA_STREAM: u16 = 1;
-
 /// A chunk is padded to a multiple of so many octets (RFC 9260 §3.2).
 const ALIGNMENT: usize = 4;
 
@@ -84,17 +78,18 @@ pub fn packet(
     link: LinkId,
     direction: Direction,
     number: u32,
-    frame: &[u8],
+    frame: &ObservedFrame<'_>,
 ) -> usize
     requires { length frame.now ≤ Limits.FRAME_OCTETS }
     ensures count { result ≡ length (packet_octets (as_nanos time) link direction number frame.now) }
     ensures text { take result buffer.new ≡ packet_octets (as_nanos time) link direction number frame.now }
 {
-    let at = write_record_header(buffer, time, packet_length(frame.len()));
+    let octets = frame.octets();
+    let at = write_record_header(buffer, time, packet_length(octets.len()));
     let at = write_common_header(buffer, at, link, direction);
     let at = write_chunk_header(buffer, at, number, frame);
-    let at = write_at(buffer, at, frame);
-    write_padding(buffer, at, padding(frame.len()))
+    let at = write_at(buffer, at, octets);
+    write_padding(buffer, at, padding(octets.len()))
 }
 
 /// How many octets of padding are behind a frame of so many.
@@ -149,15 +144,20 @@ fn write_common_header(
 }
 
 /// Writes the header of the DATA chunk of a frame, and answers the place behind it.
-fn write_chunk_header(out: &mut [u8; PACKET_OCTETS], at: usize, number: u32, frame: &[u8]) -> usize
+fn write_chunk_header(
+    out: &mut [u8; PACKET_OCTETS],
+    at: usize,
+    number: u32,
+    frame: &ObservedFrame<'_>,
+) -> usize
     requires place { at ≡ 28 }
     requires few { length frame.now ≤ Limits.FRAME_OCTETS }
     ensures count { result ≡ at + 16 }
     ensures text { take result out.new ≡ take at out.old ++ chunk_header number frame.now }
 {
-    let length = (CHUNK_HEADER_OCTETS + frame.len()) as u16;
+    let length = (CHUNK_HEADER_OCTETS + frame.octets().len()) as u16;
     let at = write_chunk_front(out, at, length, number);
-    write_chunk_stream(out, at, stream_of(frame), (number % (1 << 16)) as u16)
+    write_chunk_stream(out, at, frame.stream(), (number % (1 << 16)) as u16)
 }
 
 /// Writes the front of the header of a DATA chunk, and answers the place behind it.
@@ -180,16 +180,6 @@ fn write_chunk_stream(out: &mut [u8; PACKET_OCTETS], at: usize, stream: u16, num
     let at = write_at(out, at, &stream.to_be_bytes());
     let at = write_at(out, at, &number.to_be_bytes());
     write_at(out, at, &M2PA.to_be_bytes())
-}
-
-/// The stream of a frame: Link Status has one, and all else the other.
-fn stream_of(frame: &[u8]) -> u16
-    ensures { result ≡ stream_of frame.now }
-{
-    match decode(frame) {
-        Ok(Frame::Status { .. }) => STATUS_STREAM,
-        _ => DATA_STREAM,
-    }
 }
 
 /// Writes so many octets of padding from a place on, and answers the place behind them.

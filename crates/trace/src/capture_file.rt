@@ -8,6 +8,7 @@ ghost use Rattle.trace.specs.Captures.{AppendsPart, Captures, Seen, packet_behin
 use crate::capture::{PACKET_OCTETS, file_header, packet};
 use crate::capture_output::CaptureOutput;
 use crate::direction::Direction;
+use crate::observed_frame::ObservedFrame;
 use crate::packet_numbers::PacketNumbers;
 use signalling_types::{Limits, LinkId};
 use std::marker::Model;
@@ -73,7 +74,13 @@ impl<O: CaptureOutput> Capture<O> {
     /// Writes the packet of a frame that passed on a link so long after the node's start. Where that fails, no more is
     /// written. A frame of more octets than any frame has is left out.
     #[inline(never)]
-    pub fn write(&mut self, now: Duration, link: LinkId, direction: Direction, frame: &[u8])
+    pub fn write(
+        &mut self,
+        now: Duration,
+        link: LinkId,
+        direction: Direction,
+        frame: &ObservedFrame<'_>,
+    )
         ensures captured { (before : Option (List ℕ)) (frames : List Seen) → Captures O.written before self.old frames
             → length frame.now ≤ Limits.FRAME_OCTETS → O.failed self.new.output ≡ false
             → Captures O.written before self.new
@@ -87,7 +94,7 @@ impl<O: CaptureOutput> Capture<O> {
         ensures ended { O.failed self.old.output ≡ true → self.new ≡ self.old }
         ensures too_long { Limits.FRAME_OCTETS < length frame.now → self.new ≡ self.old }
     {
-        if self.output.has_failed() || frame.len() > Limits::FRAME_OCTETS {
+        if self.output.has_failed() || frame.octets().len() > Limits::FRAME_OCTETS {
             return;
         }
         let number = self.numbers.take(link, direction);

@@ -5,23 +5,22 @@ ghost use Rattle.m2pa_codec.specs.Frames.{sif_of};
 ghost use Rattle.m2pa_codec.specs.Reading.{read_frame};
 ghost use Rattle.m2pa_codec.specs.Values.{value_of};
 ghost use Rattle.point_format.specs.Points.{point_text};
+ghost use Rattle.signalling_types.specs.Lent.{lent};
 ghost use Rattle.trace.specs.Words.{frame_words, numbers_words, status_word, message_words, label_words};
 ghost use Rattle.trace.specs.Words.{said_words, value_words, service_words, octets_words};
 
 use crate::direction::Direction;
+use crate::observed_frame::ObservedFrame;
 use arrayvec::ArrayVec;
 use itoa::Buffer;
-use m2pa_codec::{Frame, LinkStatus, decode};
+use m2pa_codec::{Frame, LinkStatus};
 use mtp3_codec::Label;
 use point_format::{PointFormat, point_text};
-use signalling_types::{Limits, Number24, PointCode};
+use signalling_types::{Limits, MsuRef, Number24, PointCode};
 use std::marker::Model;
 
 /// Octets of a frame in words, at most: two digits for each of its octets, and the words before them.
 pub const WORDS_OCTETS: usize = 2 * Limits::FRAME_OCTETS + 192;
-
-/// What says which of the 16 kinds of message an octet names: its low four bits (Q.704 §14.2).
-const SERVICE_INDICATORS: u8 = 16;
 
 /// A frame in words, in place.
 #[derive(Drop)]
@@ -47,7 +46,7 @@ impl Model for FrameWords {
 pub fn frame_words(
     link: &str,
     direction: Direction,
-    frame: &[u8],
+    frame: &ObservedFrame<'_>,
     points: PointFormat,
 ) -> FrameWords
     requires name { length link.now ≤ Limits.NAME_OCTETS }
@@ -109,39 +108,39 @@ impl FrameWords {
     }
 
     /// Appends what octets say as a frame, or that they are none.
-    fn push_said(&mut self, frame: &[u8], points: PointFormat)
+    fn push_said(&mut self, frame: &ObservedFrame<'_>, points: PointFormat)
         requires few { length frame.now ≤ Limits.FRAME_OCTETS }
         requires room { length self.old + 120 + 2 * length frame.now ≤ WORDS_OCTETS }
         ensures { self.new ≡ self.old ++ said_words points frame.now (read_frame frame.now) }
     {
-        match decode(frame) {
-            Ok(frame) => self.push_frame(frame, points),
+        match &frame.said {
+            Ok(said) => self.push_frame(said, points),
             Err(_) => {
                 self.push(b" malformed");
-                self.push_octets(frame);
+                self.push_octets(frame.octets);
             }
         }
     }
 
     /// Appends what a frame says.
-    fn push_frame(&mut self, frame: Frame<'_>, points: PointFormat)
-        requires few { length (sif_of (value_of frame)) ≤ Limits.FRAME_OCTETS }
-        requires room { length self.old + 120 + 2 * length (sif_of (value_of frame)) ≤ WORDS_OCTETS }
-        ensures { self.new ≡ self.old ++ value_words points (value_of frame.entry) }
+    fn push_frame(&mut self, frame: &Frame<'_>, points: PointFormat)
+        requires few { length (sif_of (value_of frame.now)) ≤ Limits.FRAME_OCTETS }
+        requires room { length self.old + 120 + 2 * length (sif_of (value_of frame.now)) ≤ WORDS_OCTETS }
+        ensures { self.new ≡ self.old ++ value_words points (value_of frame.now) }
     {
         match frame {
             Frame::Empty { bsn, fsn } => {
-                self.push_numbers(fsn, bsn);
+                self.push_numbers(*fsn, *bsn);
                 self.push(b" ack");
             }
             Frame::Message { bsn, fsn, sio, sif } => {
-                self.push_numbers(fsn, bsn);
-                self.push_message(sio, sif, points);
+                self.push_numbers(*fsn, *bsn);
+                self.push_message(MsuRef { sio: *sio, sif }, points);
             }
             Frame::Status { bsn, fsn, status } => {
-                self.push_numbers(fsn, bsn);
+                self.push_numbers(*fsn, *bsn);
                 self.push(b" status ");
-                self.push(status_word(status).as_bytes());
+                self.push(status_word(*status).as_bytes());
             }
         }
     }
@@ -157,21 +156,21 @@ impl FrameWords {
     }
 
     /// Appends a message.
-    fn push_message(&mut self, sio: u8, sif: &[u8], points: PointFormat)
-        requires few { length sif.now ≤ Limits.FRAME_OCTETS }
-        requires room { length self.old + 80 + 2 * length sif.now ≤ WORDS_OCTETS }
-        ensures { self.new ≡ self.old ++ message_words points sio sif.now }
+    fn push_message(&mut self, message: MsuRef<'_>, points: PointFormat)
+        requires few { length message.sif.now ≤ Limits.FRAME_OCTETS }
+        requires room { length self.old + 80 + 2 * length message.sif.now ≤ WORDS_OCTETS }
+        ensures { self.new ≡ self.old ++ message_words points (lent message.entry) }
     {
-        match Label::read(sif) {
+        match Label::read(message.sif) {
             Some(label) => {
                 self.push_label(label, points);
-                self.push_service(sio);
-                self.push_octets(&sif[4..]);
+                self.push_service(message);
+                self.push_octets(&message.sif[4..]);
             }
             None => {
                 self.push(b" no label");
-                self.push_service(sio);
-                self.push_octets(sif);
+                self.push_service(message);
+                self.push_octets(message.sif);
             }
         }
     }
@@ -187,13 +186,13 @@ impl FrameWords {
         self.push_number(b" sls ", u32::from(label.sls.number()));
     }
 
-    /// Appends the service indicator of a service information octet.
-    fn push_service(&mut self, sio: u8)
+    /// Appends the service indicator of a message.
+    fn push_service(&mut self, message: MsuRef<'_>)
         requires { length self.old + 14 ≤ WORDS_OCTETS }
-        ensures text { self.new ≡ self.old ++ service_words sio }
+        ensures text { self.new ≡ self.old ++ service_words (lent message.entry) }
         ensures short { length self.new ≤ length self.old + 14 }
     {
-        self.push_number(b" si ", u32::from(sio % SERVICE_INDICATORS));
+        self.push_number(b" si ", u32::from(message.service_indicator()));
     }
 
     /// Appends octets in two hexadecimal digits each, behind a space; nothing where there are none.

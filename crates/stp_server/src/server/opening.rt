@@ -2,8 +2,8 @@
 
 use super::{EVENTS, Places, READ_OCTETS, Server};
 use crate::fault::{OpenFault, listen_fault};
-use crate::gate::Gate;
-use crate::journal::Journal;
+use crate::link_socket::LinkSocket;
+use crate::log::Log;
 use crate::naming::SocketName;
 use crate::node::Node;
 use mio::net::TcpListener;
@@ -25,9 +25,9 @@ impl Server {
         places: Places<'_>,
         log: &mut W,
     ) -> Result<Server, OpenFault> {
-        let mut journal = Journal::new(log, Duration::ZERO);
+        let mut log = Log::new(log, Duration::ZERO);
         let mut server = Server::boot(net, alloc, settings, places.points)?;
-        match server.add_listeners(net, places, &mut journal) {
+        match server.add_listeners(net, places, &mut log) {
             Ok(()) => Ok(server),
             Err(fault) => {
                 server.close();
@@ -36,85 +36,82 @@ impl Server {
         }
     }
 
-    /// Adds the gates of all links, and the console.
+    /// Adds the sockets of all links, and the console.
     fn add_listeners<N: Net, W: Sink>(
         &mut self,
         net: &N,
         places: Places<'_>,
-        journal: &mut Journal<'_, W>,
+        log: &mut Log<'_, W>,
     ) -> Result<(), OpenFault> {
-        self.add_gates(net, places.links, journal)?;
-        self.add_console(net, places.console, journal)
+        self.add_link_sockets(net, places.links, log)?;
+        self.add_console(net, places.console, log)
     }
 
-    /// A server of a node with these settings that has no gates, and no console.
+    /// A server of a node with these settings that has no sockets of links, and no console.
     fn boot<N: Net>(
         net: &N,
         alloc: Global,
         settings: Settings,
         points: PointFormat,
     ) -> Result<Server, OpenFault> {
-        let node = Node::boot(alloc, settings, points)?;
         match polled(net, alloc) {
-            Ok((poll, events, buffer)) => Ok(Server::around(alloc, node, buffer, poll, events)),
+            Ok((poll, events, buffer)) => {
+                let node = Node::boot(alloc, settings, points)?;
+                Ok(Server {
+                    alloc,
+                    node,
+                    links: Vec::new(alloc),
+                    buffer,
+                    poll,
+                    events,
+                    is_busy: true,
+                    is_stopping: false,
+                })
+            }
             Err(fault) => {
-                node.close();
+                drop(settings);
                 Err(fault)
             }
         }
     }
 
-    /// A server of a node.
-    fn around(alloc: Global, node: Node, buffer: Vec<u8>, poll: Poll, events: Events) -> Server {
-        Server {
-            alloc,
-            node,
-            gates: Vec::new(alloc),
-            buffer,
-            poll,
-            events,
-            is_busy: true,
-            is_stopping: false,
-        }
-    }
-
-    /// Adds the gates of all links.
-    fn add_gates<N: Net, W: Sink>(
+    /// Adds the sockets of all links.
+    fn add_link_sockets<N: Net, W: Sink>(
         &mut self,
         net: &N,
         links: &[Endpoint],
-        journal: &mut Journal<'_, W>,
+        log: &mut Log<'_, W>,
     ) -> Result<(), OpenFault> {
         for (k, endpoint) in links.iter().enumerate() {
             let link = LinkId::new(u8::try_from(k).unwrap_or(u8::MAX));
-            self.add_gate(net, link, *endpoint, journal)?;
+            self.add_link_socket(net, link, *endpoint, log)?;
         }
         Ok(())
     }
 
-    /// Adds the gate of a link.
-    fn add_gate<N: Net, W: Sink>(
+    /// Adds the socket of a link.
+    fn add_link_socket<N: Net, W: Sink>(
         &mut self,
         net: &N,
         link: LinkId,
         endpoint: Endpoint,
-        journal: &mut Journal<'_, W>,
+        log: &mut Log<'_, W>,
     ) -> Result<(), OpenFault> {
         match endpoint {
             Endpoint::Listen(address) => {
-                let listener = self.listen(net, link, address, journal)?;
-                self.push_gate(Gate::new(link, endpoint, Some(listener)))
+                let listener = self.listen(net, link, address, log)?;
+                self.push_link_socket(LinkSocket::new(link, endpoint, Some(listener)))
             }
             Endpoint::Connect(address) => {
-                journal.tell_at("connect", self.node.audience.name(link), address);
-                self.push_gate(Gate::new(link, endpoint, None))
+                log.tell_at("connect", self.node.observers.name(link), address);
+                self.push_link_socket(LinkSocket::new(link, endpoint, None))
             }
         }
     }
 
-    /// Adds a gate.
-    fn push_gate(&mut self, gate: Gate) -> Result<(), OpenFault> {
-        self.gates.push(gate)?;
+    /// Adds the socket of the next link.
+    fn push_link_socket(&mut self, socket: LinkSocket) -> Result<(), OpenFault> {
+        self.links.push(socket)?;
         Ok(())
     }
 
@@ -124,27 +121,27 @@ impl Server {
         net: &N,
         link: LinkId,
         address: SocketAddr,
-        journal: &mut Journal<'_, W>,
+        log: &mut Log<'_, W>,
     ) -> Result<TcpListener, OpenFault> {
         let name = SocketName::Listener(link.index() as u8);
         let (listener, address) = self.listener(net, address, name)?;
-        journal.tell_at("listen", self.node.audience.name(link), address);
+        log.tell_at("listen", self.node.observers.name(link), address);
         Ok(listener)
     }
 
-    /// Adds the console, where it has an address.
+    /// Adds the console, if it has an address.
     fn add_console<N: Net, W: Sink>(
         &mut self,
         net: &N,
         address: Option<SocketAddr>,
-        journal: &mut Journal<'_, W>,
+        log: &mut Log<'_, W>,
     ) -> Result<(), OpenFault> {
         let Some(address) = address else {
             return Ok(());
         };
         let (listener, address) = self.listener(net, address, SocketName::Console)?;
-        journal.tell(&format_args!("console {address}"));
-        self.node.audience.callers.listen(listener);
+        log.tell(&format_args!("console {address}"));
+        self.node.observers.clients.listen(listener);
         Ok(())
     }
 

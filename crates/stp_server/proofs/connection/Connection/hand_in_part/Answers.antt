@@ -4,4 +4,4 @@ use Rattle.stp_server.proofs.connection.Connection.hand_in_part.Goals as goal
 
 pub shape_of-node : goal.shape_of-node
 shape_of-node g c =
-    sym (kept (λ w. w.audience.ghost_name) _ (λ _ _ _ seen. seen.0) _ _ _ c.read.ensures.kept_read.seen)
+    sym (kept (λ w. w.observers.ghost_name) _ (λ _ _ _ seen. seen.0) _ _ _ c.read.ensures.kept_read.seen)

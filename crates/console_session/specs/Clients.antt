@@ -1,13 +1,13 @@
--- A caller of the console.
+-- A client of the console.
 use Rattle.std.specs.Prelude.{◌≡◌, ℕ, ◌-◌, ◌≢◌, Bool, true, false, List, [], ◌==◌, if◌then◌else◌, length}
 use Rattle.std.specs.Prelude.{slice_index_or, take, All}
 use Rattle.console_session.specs.Answers.{Waiting}
-use Rattle.console_session.specs.declared.caller.News.{News}
-use Rattle.console_session.specs.declared.caller.News.TheVariants.{Message, Notice, Frame}
+use Rattle.console_session.specs.declared.client.News.{News}
+use Rattle.console_session.specs.declared.client.News.TheVariants.{Message, Notice, Frame}
 
 -- the octets of its line that isn't whole yet, whether that is its first one, what waits to be written to it, and what
 -- it asked to be told
-pub record CallerState : Type 0 where
+pub record ClientState : Type 0 where
   pub line : List ℕ
   pub is_first : Bool
   pub outbox : Waiting
@@ -16,7 +16,7 @@ pub record CallerState : Type 0 where
   pub sees_frames : Bool
 
 -- it wrote nothing yet, nothing waits for it, and it asked to be told nothing
-abbrev pub just_came : CallerState
+abbrev pub just_came : ClientState
 just_came = record {
   line = [];
   is_first = true;
@@ -27,26 +27,26 @@ just_came = record {
 }
 
 -- whether it asked to be told such news
-abbrev pub sees_of : CallerState → News → Bool
-sees_of caller Message = caller.sees_messages
-sees_of caller Notice = caller.sees_notices
-sees_of caller Frame = caller.sees_frames
+abbrev pub sees_of : ClientState → News → Bool
+sees_of client Message = client.sees_messages
+sees_of client Notice = client.sees_notices
+sees_of client Frame = client.sees_frames
 
 -- it is told such news from now on
-abbrev pub told_of : CallerState → News → CallerState
-told_of caller Message = record caller { sees_messages = true }
-told_of caller Notice = record caller { sees_notices = true }
-told_of caller Frame = record caller { sees_frames = true }
+abbrev pub told_of : ClientState → News → ClientState
+told_of client Message = record client { sees_messages = true }
+told_of client Notice = record client { sees_notices = true }
+told_of client Frame = record client { sees_frames = true }
 
 -- its next line isn't its first
-abbrev pub begun : CallerState → CallerState
-begun caller = record caller { is_first = false }
+abbrev pub begun : ClientState → ClientState
+begun client = record client { is_first = false }
 
 -- nothing of it changes but what waits for it
-abbrev pub OnlyOutboxChanges : (old new : CallerState) → Type 0
+abbrev pub OnlyOutboxChanges : (old new : ClientState) → Type 0
 OnlyOutboxChanges old new = new ≡ record old { outbox = new.outbox }
 
--- what ends a line, and what may stand in front of that
+-- what ends a line, and what may come before that
 abbrev pub line_feed : ℕ
 line_feed = 10
 
@@ -61,7 +61,7 @@ EndsNoLine octets = All (λ (octet : ℕ). octet ≢ line_feed) octets
 abbrev pub IsOneLine : List ℕ → Type 0
 IsOneLine octets = EndsNoLine (take (length octets - 1) octets)
 
--- a line without the carriage return at its end, where it has one
+-- a line without the carriage return at its end, if it has one
 abbrev pub without_return : List ℕ → List ℕ
 without_return line =
     if slice_index_or line (length line - 1) 0 == carriage_return then take (length line - 1) line else line

@@ -1,9 +1,9 @@
-//! The gate of a link: its listener or the address that it connects to, and its connection.
+//! The socket of a link: its listener or the address that it connects to, and its connection.
 
 mod dialling;
 
-use crate::connection::{Connection, Progress, Why};
-use crate::journal::Journal;
+use crate::connection::{CloseReason, Connection, Transfer};
+use crate::log::Log;
 use crate::naming::SocketName;
 use crate::node::Node;
 use exchange::Wants;
@@ -29,7 +29,7 @@ const ACCEPTS: usize = 64;
 
 /// How far a link's connection is.
 #[derive(Clone, Copy)]
-enum Stage {
+enum ConnectionState {
     /// There is none.
     Closed,
     /// This end makes it, or has made it, and nothing has come on it yet: the association isn't up.
@@ -40,7 +40,7 @@ enum Stage {
 
 /// What a link's connection is made of, and the connection.
 #[derive(Drop)]
-pub(crate) struct Gate {
+pub(crate) struct LinkSocket {
     link: LinkId,
     endpoint: Endpoint,
     listener: Option<TcpListener>,
@@ -52,10 +52,14 @@ pub(crate) struct Gate {
     was_tried: bool,
 }
 
-impl Gate {
-    /// The gate of a link without a connection. It listens by `listener`, where it is one that listens.
-    pub(crate) fn new(link: LinkId, endpoint: Endpoint, listener: Option<TcpListener>) -> Gate {
-        Gate {
+impl LinkSocket {
+    /// The socket of a link without a connection. It listens by `listener`, if it is one that listens.
+    pub(crate) fn new(
+        link: LinkId,
+        endpoint: Endpoint,
+        listener: Option<TcpListener>,
+    ) -> LinkSocket {
+        LinkSocket {
             link,
             endpoint,
             can_accept: listener.is_some(),
@@ -74,11 +78,11 @@ impl Gate {
     }
 
     /// How far the connection is.
-    fn stage(&self) -> Stage {
+    fn state(&self) -> ConnectionState {
         match &self.connection {
-            None => Stage::Closed,
-            Some(connection) if connection.is_up() => Stage::Up,
-            Some(_) => Stage::Silent,
+            None => ConnectionState::Closed,
+            Some(connection) if connection.is_up() => ConnectionState::Up,
+            Some(_) => ConnectionState::Silent,
         }
     }
 
@@ -102,29 +106,29 @@ impl Gate {
         }
     }
 
-    /// When the connection is to be tried, or given up, where the link is one that connects and its association isn't
+    /// When the connection is to be tried, or given up, if the link is one that connects and its association isn't
     /// up.
     pub(crate) fn next_try(&self) -> Option<Duration> {
-        match (&self.endpoint, self.stage()) {
-            (Endpoint::Connect(_), Stage::Closed) => Some(self.next_try),
-            (Endpoint::Connect(_), Stage::Silent) => Some(self.given_up_at),
+        match (&self.endpoint, self.state()) {
+            (Endpoint::Connect(_), ConnectionState::Closed) => Some(self.next_try),
+            (Endpoint::Connect(_), ConnectionState::Silent) => Some(self.given_up_at),
             _ => None,
         }
     }
 
-    /// Takes the connections that came: one where the link wants to open, and further ones are closed.
+    /// Takes the connections that came: one if the link wants to open; the others are closed.
     pub(crate) fn accept<W: Sink>(
         &mut self,
         node: &mut Node,
         registry: &Registry,
-        journal: &mut Journal<'_, W>,
+        log: &mut Log<'_, W>,
     ) {
         for _ in 0..ACCEPTS {
             if !self.can_accept {
                 return;
             }
             match self.accepted() {
-                Some((stream, peer)) => self.admit(stream, peer, node, registry, journal),
+                Some((stream, peer)) => self.admit(stream, peer, node, registry, log),
                 None => self.can_accept = false,
             }
         }
@@ -135,19 +139,19 @@ impl Gate {
         self.listener.as_ref()?.accept().ok()
     }
 
-    /// Takes a connection, where the link wants to open.
+    /// Takes a connection, if the link wants to open.
     fn admit<W: Sink>(
         &mut self,
         mut stream: TcpStream,
         peer: SocketAddr,
         node: &mut Node,
         registry: &Registry,
-        journal: &mut Journal<'_, W>,
+        log: &mut Log<'_, W>,
     ) {
         if self.admits(&mut stream, node, registry) {
-            self.open(stream, peer, node, journal);
+            self.open(stream, peer, node, log);
         } else {
-            journal.tell_at("refuse", node.audience.name(self.link), peer);
+            log.tell_at("refuse", node.observers.name(self.link), peer);
         }
     }
 
@@ -156,7 +160,7 @@ impl Gate {
         node.exchange.wants(self.link) == Wants::Open && self.is_registered(stream, registry)
     }
 
-    /// Has the poll tell of a connection's socket. False where it doesn't.
+    /// Has the poll tell of a connection's socket. False if it doesn't.
     fn is_registered(&self, stream: &mut TcpStream, registry: &Registry) -> bool {
         let interests = Interest::READABLE | Interest::WRITABLE;
         let token = SocketName::Link(self.link.index() as u8).token();
@@ -169,16 +173,16 @@ impl Gate {
         stream: TcpStream,
         peer: SocketAddr,
         node: &mut Node,
-        journal: &mut Journal<'_, W>,
+        log: &mut Log<'_, W>,
     ) {
         self.hold(Connection::accepted(self.link, stream, peer, &mut node.exchange));
-        self.tell_open(node, journal);
+        self.tell_open(node, log);
     }
 
-    /// Tells that the link's association is up. The connection ends where it isn't.
-    fn tell_open<W: Sink>(&mut self, node: &mut Node, journal: &mut Journal<'_, W>) {
+    /// Tells that the link's association is up. The connection ends if it isn't.
+    fn tell_open<W: Sink>(&mut self, node: &mut Node, log: &mut Log<'_, W>) {
         match &self.connection {
-            Some(connection) if connection.is_up() => connection.tell_open(node, journal),
+            Some(connection) if connection.is_up() => connection.tell_open(node, log),
             _ => self.leave(),
         }
     }
@@ -194,25 +198,29 @@ impl Gate {
     }
 
     /// A connection is over. Where the association wasn't up, nothing is lost with it, and it couldn't be made.
-    fn end<W: Sink>(&mut self, why: Why, node: &mut Node, journal: &mut Journal<'_, W>) {
-        match (self.stage(), why) {
-            (Stage::Up, _) => self.close(why, node, journal),
-            (_, Why::Node) => self.leave(),
-            _ => self.fail(node, journal),
+    fn end<W: Sink>(&mut self, why: CloseReason, node: &mut Node, log: &mut Log<'_, W>) {
+        match (self.state(), why) {
+            (ConnectionState::Up, _) => self.close(why, node, log),
+            (_, CloseReason::Node) => self.leave(),
+            _ => self.fail(node, log),
         }
     }
 
     /// The link's association is gone: its connection is closed.
-    fn close<W: Sink>(&mut self, why: Why, node: &mut Node, journal: &mut Journal<'_, W>) {
+    fn close<W: Sink>(&mut self, why: CloseReason, node: &mut Node, log: &mut Log<'_, W>) {
         let Some(connection) = &mut self.connection else {
             return;
         };
-        let (name, peer, word) = (node.audience.name(self.link), connection.peer(), why.word());
-        journal.tell(&format_args!("close {name} {peer} {word}"));
+        let (name, peer, word) = (
+            node.observers.name(self.link),
+            connection.peer(),
+            why.word(),
+        );
+        log.tell(&format_args!("close {name} {peer} {word}"));
         connection.fall(&mut node.exchange);
         self.leave();
-        self.wait(journal.now());
-        node.look(FailureReason::Association, journal);
+        self.wait(log.now());
+        node.look(FailureReason::Association, log);
     }
 
     /// The next try of the connection is a while from now.
@@ -227,27 +235,27 @@ impl Gate {
         &mut self,
         buffer: &mut [u8],
         node: &mut Node,
-        journal: &mut Journal<'_, W>,
+        log: &mut Log<'_, W>,
         user: &mut U,
     ) {
         for _ in 0..READS {
             let Some(connection) = &mut self.connection else {
                 return;
             };
-            match connection.read(buffer, node, journal, user) {
-                Progress::Some => self.retry.start_again(),
-                Progress::None => return,
-                Progress::Over(why) => self.end(why, node, journal),
+            match connection.read(buffer, node, log, user) {
+                Transfer::Some => self.retry.start_again(),
+                Transfer::None => return,
+                Transfer::Over(why) => self.end(why, node, log),
             }
         }
     }
 
-    /// Takes frames and writes them, as far as the socket takes them. True where more may be written at once, here or,
-    /// where the connection is over, on other links.
+    /// Takes frames and writes them, as far as the socket takes them. True if more may be written at once, here or,
+    /// if the connection is over, on other links.
     pub(crate) fn write<W: Sink, U: Watch>(
         &mut self,
         node: &mut Node,
-        journal: &mut Journal<'_, W>,
+        log: &mut Log<'_, W>,
         user: &mut U,
     ) -> bool {
         for _ in 0..WRITES {
@@ -255,10 +263,10 @@ impl Gate {
                 return false;
             };
             match connection.write(node, user) {
-                Progress::Some => {}
-                Progress::None => return false,
-                Progress::Over(why) => {
-                    self.end(why, node, journal);
+                Transfer::Some => {}
+                Transfer::None => return false,
+                Transfer::Over(why) => {
+                    self.end(why, node, log);
                     return true;
                 }
             }
@@ -272,13 +280,13 @@ impl Gate {
         net: &N,
         node: &mut Node,
         registry: &Registry,
-        journal: &mut Journal<'_, W>,
+        log: &mut Log<'_, W>,
     ) {
-        match (node.exchange.wants(self.link), self.stage()) {
-            (Wants::Close, Stage::Up) => self.close(Why::Node, node, journal),
-            (Wants::Open, Stage::Closed) => self.begin(net, node, registry, journal),
-            (Wants::Open, Stage::Silent) => self.go_on(node, journal),
-            (Wants::Nothing, Stage::Silent) => self.leave(),
+        match (node.exchange.wants(self.link), self.state()) {
+            (Wants::Close, ConnectionState::Up) => self.close(CloseReason::Node, node, log),
+            (Wants::Open, ConnectionState::Closed) => self.begin(net, node, registry, log),
+            (Wants::Open, ConnectionState::Silent) => self.go_on(node, log),
+            (Wants::Nothing, ConnectionState::Silent) => self.leave(),
             _ => {}
         }
     }

@@ -12,15 +12,15 @@ const LINE_OCTETS: usize = 256;
 
 /// The log: each line begins with the seconds since start.
 #[derive(Drop)]
-pub struct Journal<'a, W> {
+pub struct Log<'a, W> {
     sink: &'a mut W,
     now: Duration,
 }
 
-impl<'a, W: Sink> Journal<'a, W> {
+impl<'a, W: Sink> Log<'a, W> {
     /// The log on this sink, so long after the start.
-    pub fn new(sink: &'a mut W, now: Duration) -> Journal<'a, W> {
-        Journal { sink, now }
+    pub fn new(sink: &'a mut W, now: Duration) -> Log<'a, W> {
+        Log { sink, now }
     }
 
     /// How long after the start it is.

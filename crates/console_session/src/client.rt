@@ -1,11 +1,11 @@
-//! One caller.
+//! One client.
 
-ghost use Rattle.std.specs.Prelude.{◌≡◌, ◌≢◌, ℕ, ◌+◌, ◌<◌, ◌≤◌, Bool, true, false, List, [], ◌∷◌, ◌++◌};
+ghost use Rattle.std.specs.Prelude.{◌≡◌, ◌≢◌, ℕ, ◌+◌, ◌<◌, ◌≤◌, true, false, List, [], ◌∷◌, ◌++◌};
 ghost use Rattle.std.specs.Prelude.{length, take, drop};
 ghost use Rattle.script.specs.Asking.{asked_line};
 ghost use Rattle.console_session.specs.Answers.{IsAnswered};
-ghost use Rattle.console_session.specs.Callers.{just_came, sees_of, told_of, OnlyOutboxChanges};
-ghost use Rattle.console_session.specs.Callers.{line_feed, without_return, EndsNoLine, IsOneLine};
+ghost use Rattle.console_session.specs.Clients.{just_came, sees_of, told_of, OnlyOutboxChanges};
+ghost use Rattle.console_session.specs.Clients.{line_feed, without_return, EndsNoLine, IsOneLine};
 ghost use Rattle.console_session.specs.WholeLines.{DoesLine, DoesLineAt, IsAnsweredBy, ending_of, output_of};
 ghost use Rattle.console_session.specs.declared.outbox.TheConstants.{OUTBOX_OCTETS};
 
@@ -22,10 +22,10 @@ use std::alloc::Global;
 use std::marker::Model;
 use std::mem;
 
-/// Octets of a line of a caller, at most, without the line feed that ends it: as many as in a script.
+/// Octets of a line of a client, at most, without the line feed that ends it: as many as in a script.
 pub const LINE_OCTETS: usize = 8300;
 
-/// The answer to a line that isn't one of a caller's.
+/// The answer to a line that isn't one of a client's.
 const MALFORMED: &[u8] = b"malformed: help lists the lines\n";
 
 /// The answer to a line that asks to be told something from now on.
@@ -34,7 +34,7 @@ const WATCHING: &[u8] = b"handled\n";
 /// The answer to `stop`.
 const STOPPING: &[u8] = b"stopping\n";
 
-/// What a caller is told from the time on at which it asks for it.
+/// What a client is told from the time on at which it asks for it.
 #[derive(Clone, Copy, Debug, PartialEq, Eq)]
 pub enum News {
     /// A message for this point.
@@ -45,7 +45,7 @@ pub enum News {
     Frame,
 }
 
-/// What becomes of a caller.
+/// What becomes of a client.
 #[derive(Clone, Copy, Debug, PartialEq, Eq)]
 pub enum Ending {
     /// Its connection stays open.
@@ -56,9 +56,9 @@ pub enum Ending {
     Stops,
 }
 
-/// What the lines of callers are done on.
+/// What the lines of clients are done on.
 #[derive(Drop)]
-pub struct Desk<'a> {
+pub struct ConsoleContext<'a> {
     /// The node.
     pub exchange: &'a mut Exchange,
     /// The counters of its links.
@@ -67,11 +67,11 @@ pub struct Desk<'a> {
     pub points: PointFormat,
 }
 
-/// A caller of the console: the line that it is writing, what waits to be written to it, and what it is told.
+/// A client of the console: the line that it is writing, what waits to be written to it, and what it is told.
 ///
 /// One whose first line is malformed is closed, so a web page that posts to the console's port does nothing.
 #[derive(Drop)]
-pub struct Caller {
+pub struct ConsoleClient {
     line: OpenLine,
     is_first: bool,
     outbox: Outbox,
@@ -80,10 +80,10 @@ pub struct Caller {
     sees_frames: bool,
 }
 
-impl Model for Caller {
-    ghost use Rattle.console_session.specs.Callers.{CallerState};
+impl Model for ConsoleClient {
+    ghost use Rattle.console_session.specs.Clients.{ClientState};
 
-    ghost Value = { CallerState };
+    ghost Value = { ClientState };
 
     ghost view = { λ c. record {
       line = c.line.octets;
@@ -95,12 +95,12 @@ impl Model for Caller {
     } };
 }
 
-impl Caller {
-    /// A caller that just came.
-    pub fn new(alloc: Global) -> Caller
+impl ConsoleClient {
+    /// A client that just came.
+    pub fn new(alloc: Global) -> ConsoleClient
         ensures { result ≡ just_came }
     {
-        Caller {
+        ConsoleClient {
             line: OpenLine::first(),
             is_first: true,
             outbox: Outbox::new(alloc),
@@ -111,9 +111,9 @@ impl Caller {
     }
 
     /// Takes octets that came, up to the end of the first line in them, and does that line. If no line ends in them, it
-    /// takes them all, but for those behind the octet that makes the line too long. Returns how many it took, and what
-    /// becomes of the caller.
-    pub fn read(&mut self, octets: &[u8], desk: &mut Desk<'_>) -> (usize, Ending)
+    /// takes them all, but for those after the octet that makes the line too long. Returns how many it took, and what
+    /// becomes of the client.
+    pub fn read(&mut self, octets: &[u8], context: &mut ConsoleContext<'_>) -> (usize, Ending)
         ensures within { result.0 ≤ length octets.now }
         ensures one_line { IsOneLine (take result.0 octets.now) }
         // So whoever calls it again with the octets that are left comes to their end.
@@ -126,62 +126,62 @@ impl Caller {
         ensures too_long { (front behind : List ℕ) → octets.now ≡ front ++ behind → EndsNoLine front → 0 < length front
             → LINE_OCTETS < length self.old.line + length front → result.1 ≡ Ending.Closes }
         // They do nothing to the node, and don't stop it.
-        ensures still { EndsNoLine octets.now → desk.new.exchange.now ≡ desk.old.exchange.now }
+        ensures still { EndsNoLine octets.now → context.new.exchange.now ≡ context.old.exchange.now }
         ensures goes_on { EndsNoLine octets.now → result.1 ≢ Ending.Stops }
         // How points are read, and the counters, stay whatever comes.
-        ensures points { desk.new.points ≡ desk.old.points }
-        ensures counters { desk.new.counters.now ≡ desk.old.counters.now }
+        ensures points { context.new.points ≡ context.old.points }
+        ensures counters { context.new.counters.now ≡ context.old.counters.now }
         // A line that comes to its end, and isn't too long, is done.
         ensures done { (front behind : List ℕ) → octets.now ≡ front ++ line_feed ∷ behind → EndsNoLine front
             → length self.old.line + length front ≤ LINE_OCTETS
             → (result.0 ≡ length front + 1)
-            × DoesLine desk.old.points (without_return (self.old.line ++ front)) desk.old.counters.now result.1
-            desk.old.exchange.now desk.new.exchange.now
+            × DoesLine context.old.points (without_return (self.old.line ++ front)) context.old.counters.now result.1
+            context.old.exchange.now context.new.exchange.now
             (record self.old { line = [] }) self.new }
     {
         for (k, octet) in octets.iter().enumerate() {
             match self.line.add(*octet) {
                 Grown::Open => {}
                 Grown::TooLong => return (k + 1, Ending::Closes),
-                Grown::Whole => return (k + 1, self.end_line(desk)),
+                Grown::Whole => return (k + 1, self.end_line(context)),
             }
         }
         (octets.len(), Ending::Stays)
     }
 
     /// Does the line that just ended, and begins the next one.
-    fn end_line(&mut self, desk: &mut Desk<'_>) -> Ending
-        ensures points { desk.new.points ≡ desk.old.points }
-        ensures counters { desk.new.counters.now ≡ desk.old.counters.now }
-        ensures done { DoesLine desk.old.points (without_return self.old.line)
-            desk.old.counters.now result desk.old.exchange.now desk.new.exchange.now
+    fn end_line(&mut self, context: &mut ConsoleContext<'_>) -> Ending
+        ensures points { context.new.points ≡ context.old.points }
+        ensures counters { context.new.counters.now ≡ context.old.counters.now }
+        ensures done { DoesLine context.old.points (without_return self.old.line)
+            context.old.counters.now result context.old.exchange.now context.new.exchange.now
             (record self.old { line = [] }) self.new }
     {
         let line = mem::replace(&mut self.line, OpenLine::first());
         let is_first = mem::replace(&mut self.is_first, false);
-        match self.do_line(without_return(line.octets()), is_first, desk) {
+        match self.do_line(without_return(line.octets()), is_first, context) {
             Ok(ending) => ending,
             Err(WriteFailed) => Ending::Closes,
         }
     }
 
-    /// Does a whole line, the caller's first one or a later one. The error means that there is no room for its answer.
+    /// Does a whole line, the client's first one or a later one. The error means that there is no room for its answer.
     fn do_line(
         &mut self,
         line: &[u8],
         is_first: bool,
-        desk: &mut Desk<'_>,
+        context: &mut ConsoleContext<'_>,
     ) -> Result<Ending, WriteFailed>
-        ensures points { desk.new.points ≡ desk.old.points }
-        ensures counters { desk.new.counters.now ≡ desk.old.counters.now }
-        ensures done { DoesLineAt desk.old.points is_first line.now desk.old.counters.now
-            (ending_of result) desk.old.exchange.now desk.new.exchange.now self.old self.new }
+        ensures points { context.new.points ≡ context.old.points }
+        ensures counters { context.new.counters.now ≡ context.old.counters.now }
+        ensures done { DoesLineAt context.old.points is_first line.now context.old.counters.now
+            (ending_of result) context.old.exchange.now context.new.exchange.now self.old self.new }
     {
-        match parse_console_line(line, desk.points) {
+        match parse_console_line(line, context.points) {
             Ok(ConsoleLine::Skipped) => {}
-            Ok(ConsoleLine::Script(line)) => self.do_script(line, desk)?,
+            Ok(ConsoleLine::Script(line)) => self.do_script(line, context)?,
             Ok(ConsoleLine::Counters) => {
-                print_counters(desk.exchange, desk.counters, &mut self.outbox)?;
+                print_counters(context.exchange, context.counters, &mut self.outbox)?;
             }
             Ok(ConsoleLine::Help) => self.answer(HELP)?,
             Ok(ConsoleLine::Users) => self.begin(News::Message)?,
@@ -202,14 +202,18 @@ impl Caller {
     }
 
     /// Does a line of a script, and answers what a script prints for it.
-    fn do_script(&mut self, line: Line<'_>, desk: &mut Desk<'_>) -> Result<(), WriteFailed>
-        ensures points { desk.new.points ≡ desk.old.points }
-        ensures counters { desk.new.counters.now ≡ desk.old.counters.now }
+    fn do_script(
+        &mut self,
+        line: Line<'_>,
+        context: &mut ConsoleContext<'_>,
+    ) -> Result<(), WriteFailed>
+        ensures points { context.new.points ≡ context.old.points }
+        ensures counters { context.new.counters.now ≡ context.old.counters.now }
         ensures same { OnlyOutboxChanges self.old self.new }
-        ensures answer { IsAnswered (asked_line line.entry) desk.old.exchange.now result desk.new.exchange.now
+        ensures answer { IsAnswered (asked_line line.entry) context.old.exchange.now result context.new.exchange.now
             (output_of self.old.outbox) (output_of self.new.outbox) }
     {
-        do_script_line(desk.exchange, line, &mut self.outbox)
+        do_script_line(context.exchange, line, &mut self.outbox)
     }
 
     /// Answers a text.
@@ -219,7 +223,7 @@ impl Caller {
         self.outbox.write(text)
     }
 
-    /// The caller is told such news from now on.
+    /// The client is told such news from now on.
     fn begin(&mut self, news: News) -> Result<(), WriteFailed>
         ensures { IsAnsweredBy WATCHING.now result (told_of self.old news) self.new }
     {
@@ -231,7 +235,7 @@ impl Caller {
         self.answer(WATCHING)
     }
 
-    /// Whether the caller asked for such news.
+    /// Whether the client asked for such news.
     pub fn sees(&self, news: News) -> bool
         ensures { result ≡ sees_of self.now news }
     {
@@ -242,7 +246,7 @@ impl Caller {
         }
     }
 
-    /// Tells the caller news, where it asked for such. It is to be closed where there is no room for them.
+    /// Tells the client news, if it asked for such. It is to be closed if there is no room for them.
     pub fn tell(&mut self, news: News, line: &[u8]) -> Ending
         ensures unasked { sees_of self.old news ≡ false → self.new ≡ self.old }
         ensures stays { sees_of self.old news ≡ false → result ≡ Ending.Stays }
@@ -263,7 +267,7 @@ impl Caller {
         }
     }
 
-    /// What waits to be written to the caller.
+    /// What waits to be written to the client.
     pub fn pending(&self) -> &[u8]
         ensures { result.now ≡ self.now.outbox.octets }
     {

@@ -1,30 +1,30 @@
-//! A caller of the console and its socket.
+//! A client of the console and its socket.
 
-use crate::socket::{Moved, read_some, write_some};
-use console_session::{Caller, Desk, Ending, News};
+use crate::socket::{Progress, read_some, write_some};
+use console_session::{ConsoleClient, ConsoleContext, Ending, News};
 use mio::event::Event;
 use mio::net::TcpStream;
 use std::alloc::Global;
 use std::net::SocketAddr;
 
-/// Octets that one read of a caller asks for.
+/// Octets that one read of a client asks for.
 const PIECE_OCTETS: usize = 4096;
 
-/// Lines of a caller in one round, at most.
+/// Lines of a client in one round, at most.
 const LINES: usize = 64;
 
-/// Writes of a caller in one round, at most.
+/// Writes of a client in one round, at most.
 const WRITES: usize = 16;
 
-/// A caller for whom more octets than so many wait has no further line done until it reads them.
+/// While more octets than this wait for a client, none of its further lines is done.
 const LOW_OCTETS: usize = 65_536;
 
-/// A caller and its connection.
+/// A client and its connection.
 #[derive(Drop)]
-pub(crate) struct CallerSocket {
+pub(crate) struct ClientSocket {
     stream: TcpStream,
     peer: SocketAddr,
-    caller: Caller,
+    client: ConsoleClient,
     piece: [u8; PIECE_OCTETS],
     start: usize,
     end: usize,
@@ -34,13 +34,13 @@ pub(crate) struct CallerSocket {
     is_closing: bool,
 }
 
-impl CallerSocket {
-    /// A caller that just came.
-    pub(crate) fn new(alloc: Global, stream: TcpStream, peer: SocketAddr) -> CallerSocket {
-        CallerSocket {
+impl ClientSocket {
+    /// A client that just came.
+    pub(crate) fn new(alloc: Global, stream: TcpStream, peer: SocketAddr) -> ClientSocket {
+        ClientSocket {
             stream,
             peer,
-            caller: Caller::new(alloc),
+            client: ConsoleClient::new(alloc),
             piece: [0; PIECE_OCTETS],
             start: 0,
             end: 0,
@@ -67,9 +67,9 @@ impl CallerSocket {
         self.is_closing
     }
 
-    /// Whether the caller asked for such news.
+    /// Whether the client asked for such news.
     pub(crate) fn sees(&self, news: News) -> bool {
-        self.caller.sees(news)
+        self.client.sees(news)
     }
 
     /// Whether there is something to read or to write now.
@@ -79,31 +79,31 @@ impl CallerSocket {
         }
         self.can_read
             || self.start < self.end
-            || self.can_write && !self.caller.pending().is_empty()
+            || self.can_write && !self.client.pending().is_empty()
     }
 
-    /// Whether so much waits for the caller that no further line is done.
+    /// Whether so much waits for the client that no further line is done.
     fn has_much(&self) -> bool {
-        self.caller.pending().len() > LOW_OCTETS
+        self.client.pending().len() > LOW_OCTETS
     }
 
-    /// Tells the caller a line, where it asked for such news.
+    /// Tells the client a line, if it asked for such news.
     pub(crate) fn tell(&mut self, news: News, line: &[u8]) {
-        let told = self.caller.tell(news, line);
+        let told = self.client.tell(news, line);
         self.obey(told);
-        let ended = self.caller.tell(news, b"\n");
+        let ended = self.client.tell(news, b"\n");
         self.obey(ended);
     }
 
-    /// The connection is over where a call of the caller says so.
+    /// The connection is over if a call of the client says so.
     fn obey(&mut self, ending: Ending) {
         if ending == Ending::Closes {
             self.is_closing = true;
         }
     }
 
-    /// Reads what came, and does some of its lines. True where one of them stops the node.
-    pub(crate) fn read(&mut self, desk: &mut Desk<'_>) -> bool {
+    /// Reads what came, and does some of its lines. True if one of them stops the node.
+    pub(crate) fn read(&mut self, context: &mut ConsoleContext<'_>) -> bool {
         for _ in 0..LINES {
             if self.is_closing || self.has_much() {
                 return false;
@@ -111,51 +111,51 @@ impl CallerSocket {
             if self.start >= self.end && !self.fill() {
                 return false;
             }
-            if self.do_first(desk) {
+            if self.do_first(context) {
                 return true;
             }
         }
         false
     }
 
-    /// Does the first line of what was read. True where it stops the node.
-    fn do_first(&mut self, desk: &mut Desk<'_>) -> bool {
+    /// Does the first line of what was read. True if it stops the node.
+    fn do_first(&mut self, context: &mut ConsoleContext<'_>) -> bool {
         let Some(octets) = self.piece.get(self.start..self.end) else {
             return false;
         };
-        let (count, ending) = self.caller.read(octets, desk);
+        let (count, ending) = self.client.read(octets, context);
         self.start = self.start.saturating_add(count);
         self.obey(ending);
         ending == Ending::Stops
     }
 
-    /// Reads the next octets. False where none came.
+    /// Reads the next octets. False if none came.
     fn fill(&mut self) -> bool {
         if !self.can_read {
             return false;
         }
         match read_some(&mut self.stream, &mut self.piece) {
-            Moved::Octets(count) => {
+            Progress::Octets(count) => {
                 self.start = 0;
                 self.end = count;
                 return true;
             }
-            Moved::Later => self.can_read = false,
-            Moved::Again => {}
-            Moved::End => {
+            Progress::Later => self.can_read = false,
+            Progress::Again => {}
+            Progress::End => {
                 self.can_read = false;
                 self.has_ended = true;
             }
-            Moved::Failed => self.is_closing = true,
+            Progress::Failed => self.is_closing = true,
         }
         false
     }
 
-    /// Writes what waits, as far as the socket takes it. The connection is over once the caller has ended its lines
+    /// Writes what waits, as far as the socket takes it. The connection is over once the client has ended its lines
     /// and all is written.
     pub(crate) fn write(&mut self) {
         for _ in 0..WRITES {
-            if self.caller.pending().is_empty() {
+            if self.client.pending().is_empty() {
                 self.is_closing = self.is_closing || self.has_ended;
                 return;
             }
@@ -168,11 +168,11 @@ impl CallerSocket {
 
     /// Makes one write.
     fn write_once(&mut self) {
-        match write_some(&mut self.stream, self.caller.pending()) {
-            Moved::Octets(count) => self.caller.written(count),
-            Moved::Later => self.can_write = false,
-            Moved::Again => {}
-            Moved::End | Moved::Failed => self.end(),
+        match write_some(&mut self.stream, self.client.pending()) {
+            Progress::Octets(count) => self.client.written(count),
+            Progress::Later => self.can_write = false,
+            Progress::Again => {}
+            Progress::End | Progress::Failed => self.end(),
         }
     }
 

@@ -1,10 +1,10 @@
-//! The callers of the console, and their sockets.
+//! The clients of the console, and their sockets.
 
-use crate::caller_socket::CallerSocket;
-use crate::journal::Journal;
+use crate::client_socket::ClientSocket;
+use crate::log::Log;
 use crate::naming::SocketName;
 use arrayvec::ArrayString;
-use console_session::{Desk, News};
+use console_session::{ConsoleContext, News};
 use mio::event::Event;
 use mio::net::{TcpListener, TcpStream};
 use mio::{Interest, Registry};
@@ -14,80 +14,85 @@ use std::fmt::Write as _;
 use std::io::Write;
 use std::net::SocketAddr;
 
-/// Octets of the line for a caller that finds no place, at most.
+/// Octets of the line for a client that finds no place, at most.
 const LINE_OCTETS: usize = 64;
 
-/// Callers at once, at most.
-const MOST_CALLERS: usize = 16;
+/// Clients at once, at most.
+const MOST_CLIENTS: usize = 16;
 
-/// Callers that are taken in one round, at most.
+/// Clients that are taken in one round, at most.
 const ACCEPTS: usize = 16;
 
-/// Has the poll tell of a caller's socket, if there is a place for it. The log is told of the caller, and the caller if
-/// there is none. False where it has no place.
+/// Has the poll tell of a client's socket, if there is a place for it. The log is told of the client, and the client if
+/// there is none. False if it has no place.
 fn is_seated<W: Sink>(
     free: usize,
     stream: &mut TcpStream,
     peer: SocketAddr,
     registry: &Registry,
-    journal: &mut Journal<'_, W>,
+    log: &mut Log<'_, W>,
 ) -> bool {
-    if free >= MOST_CALLERS {
+    if free >= MOST_CLIENTS {
         tell_no_place(stream);
-        journal.tell(&format_args!("caller {peer} no place"));
+        log.tell(&format_args!("caller {peer} no place"));
         return false;
     }
     let interests = Interest::READABLE | Interest::WRITABLE;
-    let token = SocketName::Caller(free as u8).token();
+    let token = SocketName::Client(free as u8).token();
     let is_registered = registry.register(stream, token, interests).is_ok();
     if is_registered {
-        journal.tell(&format_args!("caller {peer}"));
+        log.tell(&format_args!("caller {peer}"));
     }
     is_registered
 }
 
-/// Tells a caller that there is no place for it.
+/// Tells a client that there is no place for it.
 fn tell_no_place(stream: &mut TcpStream) {
     let mut line = ArrayString::<LINE_OCTETS>::new();
-    let _fits = writeln!(line, "no place: {MOST_CALLERS} callers are connected");
+    let _fits = writeln!(line, "no place: {MOST_CLIENTS} callers are connected");
     let _told = stream.write(line.as_bytes());
 }
 
-/// Writes what waits for a caller. True where its connection is over; the log is told of it.
-fn is_over<W: Sink>(socket: &mut CallerSocket, journal: &mut Journal<'_, W>) -> bool {
+/// Writes what waits for a client. True if its connection is over; the log is told of it.
+fn is_over<W: Sink>(socket: &mut ClientSocket, log: &mut Log<'_, W>) -> bool {
     socket.write();
     let is_over = socket.is_over();
     if is_over {
         let peer = socket.peer();
-        journal.tell(&format_args!("caller {peer} gone"));
+        log.tell(&format_args!("caller {peer} gone"));
     }
     is_over
 }
 
-/// The callers of the console, each in a place of its own, and the listener of the console.
+/// A place is free from now on. The connection of the client in it is closed.
+fn clear(place: &mut Option<ClientSocket>) {
+    *place = None;
+}
+
+/// The clients of the console, each in a place of its own, and the listener of the console.
 #[derive(Drop)]
-pub(crate) struct Callers {
+pub(crate) struct ConsoleClients {
     listener: Option<TcpListener>,
     can_accept: bool,
-    places: Vec<Option<CallerSocket>>,
+    places: Vec<Option<ClientSocket>>,
     asked: Asked,
 }
 
-/// Which news any caller asked for, so that nobody has to be asked for each frame.
+/// Which news any client asked for, so that nobody has to be asked for each frame.
 #[derive(Clone, Copy)]
 struct Asked {
     messages: bool,
     frames: bool,
 }
 
-impl Callers {
-    /// No caller is there, and none can come.
-    pub(crate) fn new(alloc: Global) -> Result<Callers, AllocError> {
-        let mut places = Vec::with_capacity(alloc, MOST_CALLERS)?;
-        for _ in 0..MOST_CALLERS {
+impl ConsoleClients {
+    /// No client is there, and none can come.
+    pub(crate) fn new(alloc: Global) -> Result<ConsoleClients, AllocError> {
+        let mut places = Vec::with_capacity(alloc, MOST_CLIENTS)?;
+        for _ in 0..MOST_CLIENTS {
             places.push(None)?;
         }
-        Ok(Callers {
+        Ok(ConsoleClients {
             listener: None,
             can_accept: false,
             places,
@@ -98,7 +103,7 @@ impl Callers {
         })
     }
 
-    /// Callers come by this listener.
+    /// Clients come by this listener.
     pub(crate) fn listen(&mut self, listener: TcpListener) {
         self.listener = Some(listener);
         self.can_accept = true;
@@ -116,74 +121,74 @@ impl Callers {
         }
     }
 
-    /// Takes the callers that came.
+    /// Takes the clients that came.
     pub(crate) fn accept<W: Sink>(
         &mut self,
         alloc: Global,
         registry: &Registry,
-        journal: &mut Journal<'_, W>,
+        log: &mut Log<'_, W>,
     ) {
         for _ in 0..ACCEPTS {
             if !self.can_accept {
                 return;
             }
             match self.accepted() {
-                Some((stream, peer)) => self.seat(alloc, stream, peer, registry, journal),
+                Some((stream, peer)) => self.seat(alloc, stream, peer, registry, log),
                 None => self.can_accept = false,
             }
         }
     }
 
-    /// The next caller that came.
+    /// The next client that came.
     fn accepted(&self) -> Option<(TcpStream, SocketAddr)> {
         self.listener.as_ref()?.accept().ok()
     }
 
-    /// Gives a caller a place, where there is one, and closes its connection otherwise.
+    /// Gives a client a place, if there is one, and closes its connection otherwise.
     fn seat<W: Sink>(
         &mut self,
         alloc: Global,
         mut stream: TcpStream,
         peer: SocketAddr,
         registry: &Registry,
-        journal: &mut Journal<'_, W>,
+        log: &mut Log<'_, W>,
     ) {
         let free = self.free_place();
-        if is_seated(free, &mut stream, peer, registry, journal) {
-            self.put(free, CallerSocket::new(alloc, stream, peer));
+        if is_seated(free, &mut stream, peer, registry, log) {
+            self.put(free, ClientSocket::new(alloc, stream, peer));
         }
     }
 
-    /// The first place that is free; behind the last one where none is.
+    /// The first free place; if there is none, the number of places.
     fn free_place(&self) -> usize {
         for (k, place) in self.places.iter().enumerate() {
             if place.is_none() {
                 return k;
             }
         }
-        MOST_CALLERS
+        MOST_CLIENTS
     }
 
-    /// A caller has this place from now on.
-    fn put(&mut self, free: usize, socket: CallerSocket) {
+    /// A client has this place from now on.
+    fn put(&mut self, free: usize, socket: ClientSocket) {
         if let Some(place) = self.places.get_mut(free) {
             *place = Some(socket);
         }
     }
 
-    /// Does the lines that callers wrote. True where one of them stops the node.
-    pub(crate) fn read(&mut self, desk: &mut Desk<'_>) -> bool {
+    /// Does the lines that clients wrote. True if one of them stops the node.
+    pub(crate) fn read(&mut self, context: &mut ConsoleContext<'_>) -> bool {
         let mut stops = false;
         for place in self.places.iter_mut() {
             if let Some(socket) = place {
-                stops = socket.read(desk) || stops;
+                stops = socket.read(context) || stops;
             }
         }
         self.asked = self.asked_now();
         stops
     }
 
-    /// Which news any caller asked for by now.
+    /// Which news any client asked for by now.
     fn asked_now(&self) -> Asked {
         let mut asked = Asked {
             messages: false,
@@ -198,18 +203,18 @@ impl Callers {
         asked
     }
 
-    /// Writes what waits for the callers, and closes the connections that are over.
-    pub(crate) fn write<W: Sink>(&mut self, journal: &mut Journal<'_, W>) {
+    /// Writes what waits for the clients, and closes the connections that are over.
+    pub(crate) fn write<W: Sink>(&mut self, log: &mut Log<'_, W>) {
         for place in self.places.iter_mut() {
             if let Some(socket) = place
-                && is_over(socket, journal)
+                && is_over(socket, log)
             {
-                *place = None;
+                clear(place);
             }
         }
     }
 
-    /// Whether a caller has something to read or to write now.
+    /// Whether a client has something to read or to write now.
     pub(crate) fn is_busy(&self) -> bool {
         let mut is_busy = self.can_accept;
         for place in self.places.iter() {
@@ -220,17 +225,17 @@ impl Callers {
         is_busy
     }
 
-    /// Whether any caller asked for the messages for this point.
+    /// Whether any client asked for the messages for this point.
     pub(crate) fn any_sees_messages(&self) -> bool {
         self.asked.messages
     }
 
-    /// Whether any caller asked for the frames.
+    /// Whether any client asked for the frames.
     pub(crate) fn any_sees_frames(&self) -> bool {
         self.asked.frames
     }
 
-    /// Tells the callers that asked for such news a line, which is given without its line feed.
+    /// Tells the clients that asked for such news a line, which is given without its line feed.
     pub(crate) fn tell_line(&mut self, news: News, line: &[u8]) {
         for place in self.places.iter_mut() {
             if let Some(socket) = place {

@@ -1,10 +1,10 @@
 use Rattle.std.proofs.Common.{◌≢◌, ◌≤◌, ◌∙◌, ℕ, length, ap, subst}
 use Rattle.std.proofs.lemmas.List.Elements.{All-more}
 use Rattle.script.specs.Steps.{LineSoFar}
-use Rattle.console_session.specs.Callers.{CallerState}
-use Rattle.console_session.specs.contracts.caller.Caller.{the_view}
+use Rattle.console_session.specs.Clients.{ClientState}
+use Rattle.console_session.specs.contracts.client.ConsoleClient.{the_view}
 use Rattle.console_session.proofs.Taking.{up-to, grown, done-at, has-room, ends-somewhere, ends-too-late, never-ends}
-use Rattle.console_session.proofs.caller.Caller.read.Goals as goal
+use Rattle.console_session.proofs.client.ConsoleClient.read.Goals as goal
 
 pub returns-in-TooLong-clause-one_line : goal.returns-in-TooLong-clause-one_line
 returns-in-TooLong-clause-one_line c = up-to c.args.octets.now c.loop-k.k c.loop-k-test.true c.loop-k.invariant.none
@@ -28,12 +28,12 @@ pub returns-in-TooLong-clause-done : goal.returns-in-TooLong-clause-done
 returns-in-TooLong-clause-done c = λ front behind parts ends room.
     let now = c.self.view_is ∙ c.loop-k.invariant.line in
     absurd (has-room c.args.octets.now front behind c.loop-k.k parts c.args.self.now.line c.loop-k.invariant.none c.loop-k-test.true c.in-TooLong.ensures.line.0
-    (subst (λ (n : ℕ). 8300 ≤ n) (ap (λ (s : CallerState). length s.line) now) c.in-TooLong.ensures.line.1) room)
+    (subst (λ (n : ℕ). 8300 ≤ n) (ap (λ (s : ClientState). length s.line) now) c.in-TooLong.ensures.line.1) room)
 
 pub returns-in-Whole-clause-done : goal.returns-in-Whole-clause-done
 returns-in-Whole-clause-done c = λ front behind parts ends room.
     let now = c.self.view_is ∙ c.loop-k.invariant.line in
-    done-at c.args.octets.now front behind c.loop-k.k parts c.loop-k.desk.points c.args.desk.now.points c.loop-k.invariant.points c.loop-k.desk.counters.now c.args.desk.now.counters.now c.loop-k.invariant.counters c.end_line.result c.args.desk.now.exchange.now c.loop-k.desk.exchange.now c.end_line.new.desk.exchange.now c.args.self.now _
+    done-at c.args.octets.now front behind c.loop-k.k parts c.loop-k.context.points c.args.context.now.points c.loop-k.invariant.points c.loop-k.context.counters.now c.args.context.now.counters.now c.loop-k.invariant.counters c.end_line.result c.args.context.now.exchange.now c.loop-k.context.exchange.now c.end_line.new.context.exchange.now c.args.self.now _
     c.end_line.new.self ends c.loop-k.invariant.none c.loop-k-test.true c.in-Whole.ensures.line.0
     ((λ i. record (the_view c.self.inside) { line = (c.in-Whole.ensures.line.1 i).octets }) ∙ now) c.loop-k.invariant.exchange c.end_line.ensures.done
 

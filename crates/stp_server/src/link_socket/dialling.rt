@@ -1,8 +1,8 @@
 //! Making the connection of a link that connects.
 
-use super::Gate;
+use super::LinkSocket;
 use crate::connection::Connection;
-use crate::journal::Journal;
+use crate::log::Log;
 use crate::node::Node;
 use mio::Registry;
 use mio::net::TcpStream;
@@ -12,29 +12,29 @@ use served_link::LONGEST_WAIT;
 use std::net::{Net, SocketAddr};
 use std::time::Duration;
 
-/// After so many seconds a connection that isn't made, or on which nothing came, is given up.
+/// After this many seconds a connection that isn't made, or on which nothing came, is given up.
 const GIVEN_UP_AFTER_SECONDS: u64 = LONGEST_WAIT;
 
-impl Gate {
-    /// Begins to connect, where the link is one that does and it is time.
+impl LinkSocket {
+    /// Begins to connect, if the link is one that does and it is time.
     pub(super) fn begin<N: Net, W: Sink>(
         &mut self,
         net: &N,
         node: &mut Node,
         registry: &Registry,
-        journal: &mut Journal<'_, W>,
+        log: &mut Log<'_, W>,
     ) {
         let Endpoint::Connect(address) = self.endpoint else {
             return;
         };
-        if journal.now() < self.next_try {
+        if log.now() < self.next_try {
             return;
         }
         if self.was_tried {
-            node.audience.counters.count_retry(self.link);
+            node.observers.counters.count_retry(self.link);
         }
         self.was_tried = true;
-        self.connect(net, address, node, registry, journal);
+        self.connect(net, address, node, registry, log);
     }
 
     /// Begins to connect.
@@ -44,15 +44,15 @@ impl Gate {
         address: SocketAddr,
         node: &Node,
         registry: &Registry,
-        journal: &mut Journal<'_, W>,
+        log: &mut Log<'_, W>,
     ) {
         match self.connecting(net, address, registry) {
             Some(stream) => {
                 let most = Duration::from_secs(GIVEN_UP_AFTER_SECONDS);
-                self.given_up_at = journal.now().saturating_add(most);
+                self.given_up_at = log.now().saturating_add(most);
                 self.hold(Connection::begun(self.link, stream, address));
             }
-            None => self.fail(node, journal),
+            None => self.fail(node, log),
         }
     }
 
@@ -71,24 +71,24 @@ impl Gate {
         }
     }
 
-    /// Goes on with a connection whose association isn't up. It is given up where it couldn't be made, or where it
+    /// Goes on with a connection whose association isn't up. It is given up if it couldn't be made, or if it
     /// takes too long until something comes on it.
-    pub(super) fn go_on<W: Sink>(&mut self, node: &Node, journal: &mut Journal<'_, W>) {
+    pub(super) fn go_on<W: Sink>(&mut self, node: &Node, log: &mut Log<'_, W>) {
         let is_possible = match &mut self.connection {
             Some(connection) => connection.is_possible(),
             None => true,
         };
-        if !is_possible || self.given_up_at <= journal.now() {
-            self.fail(node, journal);
+        if !is_possible || self.given_up_at <= log.now() {
+            self.fail(node, log);
         }
     }
 
     /// The connection couldn't be made, or ended before something came on it.
-    pub(super) fn fail<W: Sink>(&mut self, node: &Node, journal: &mut Journal<'_, W>) {
+    pub(super) fn fail<W: Sink>(&mut self, node: &Node, log: &mut Log<'_, W>) {
         self.leave();
-        self.wait(journal.now());
+        self.wait(log.now());
         if let Endpoint::Connect(address) = self.endpoint {
-            journal.tell_at("fail", node.audience.name(self.link), address);
+            log.tell_at("fail", node.observers.name(self.link), address);
         }
     }
 }

@@ -1,10 +1,10 @@
 -- What a read or a write of a socket may come to.
 use Rattle.std.specs.Prelude.{ℕ, ◌<◌, ◌≤◌}
-use Rattle.stp_server.specs.declared.socket.Moved.{Moved}
-use Rattle.stp_server.specs.declared.socket.Moved.TheVariants.{Octets, Later, Again, End, Failed}
+use Rattle.stp_server.specs.declared.socket.Progress.{Progress}
+use Rattle.stp_server.specs.declared.socket.Progress.TheVariants.{Octets, Later, Again, End, Failed}
 
--- some octets moved, and at most so many, or none
-abbrev pub IsWithin : Moved → (most : ℕ) → Type 0
+-- some octets moved, no more than this, or none did
+abbrev pub IsWithin : Progress → (most : ℕ) → Type 0
 IsWithin (Octets count) most = (0 < count) × (count ≤ most)
 IsWithin Later most = Unit {0}
 IsWithin Again most = Unit {0}

@@ -1,0 +1,224 @@
+//! Who is told of what passes: the counters, the capture, and the clients of the console.
+
+ghost use Rattle.std.specs.Prelude.{◌≡◌, ◌≤◌, length};
+ghost use Rattle.stp_server.specs.Observers.{counted_sight};
+
+use crate::clients::ConsoleClients;
+use crate::log::Log;
+use crate::server::FileCapture;
+use arrayvec::ArrayString;
+use console_session::News;
+use script::Sink;
+use served_link::{Counters, Watch};
+use settings::{Limits, LinkId, MsuRef, Outcome, Settings};
+use std::alloc::{AllocError, Global};
+use std::fmt::Write;
+use std::time::Duration;
+use trace::{Direction, ObservedFrame, PointFormat, frame_words};
+
+/// Octets of the line of a message for this point, at most: its link, two digits for each octet of the longest message,
+/// and the word in front.
+const MESSAGE_OCTETS: usize = 640;
+
+/// Who is told of the frames of a server.
+#[derive(Drop)]
+pub(crate) struct Observers {
+    pub(crate) names: Vec<String>,
+    pub(crate) counters: Counters,
+    capture: Option<FileCapture>,
+    missed_frames: u64,
+    pub(crate) clients: ConsoleClients,
+    pub(crate) points: PointFormat,
+    pub(crate) now: Duration,
+}
+
+impl Observers {
+    /// Nobody is there yet but the counters.
+    pub(crate) fn new(
+        alloc: Global,
+        settings: &Settings,
+        points: PointFormat,
+    ) -> Result<Observers, AllocError> {
+        let names = names_of(alloc, settings)?;
+        let counters = Counters::new(alloc, settings.link_count())?;
+        Ok(Observers {
+            names,
+            counters,
+            capture: None,
+            missed_frames: 0,
+            clients: ConsoleClients::new(alloc)?,
+            points,
+            now: Duration::ZERO,
+        })
+    }
+
+    /// The name of a link; nothing if no link has this number.
+    pub(crate) fn name(&self, link: LinkId) -> &str
+        ensures { length result.now ≤ Limits.NAME_OCTETS }
+    {
+        match self.names.get(link.index()) {
+            Some(name) if name.len() <= Limits::NAME_OCTETS => name.as_str(),
+            _ => "",
+        }
+    }
+
+    /// Whether there is a capture, or a client that watches frames.
+    fn is_watched(&self) -> bool {
+        self.capture.is_some() || self.clients.any_sees_frames()
+    }
+
+    /// A frame came in: whoever watches is told.
+    #[inline(always)]
+    fn frame_came_in(&mut self, link: LinkId, frame: &ObservedFrame<'_>)
+        ensures { self.new.counters ≡ self.old.counters }
+    {
+        if self.is_watched() {
+            self.frame_passed(link, Direction::In, frame);
+        }
+    }
+
+    /// A frame of these octets went out: they are read only if someone watches, who is told.
+    #[inline(always)]
+    fn frame_went_out(&mut self, link: LinkId, octets: &[u8])
+        ensures { self.new.counters ≡ self.old.counters }
+    {
+        if self.is_watched() {
+            self.frame_passed(link, Direction::Out, &ObservedFrame::new(octets));
+        }
+    }
+
+    /// A frame passed: the capture has it, and clients that watch frames are told.
+    #[inline(never)]
+    fn frame_passed(&mut self, link: LinkId, direction: Direction, frame: &ObservedFrame<'_>)
+        ensures { self.new.counters ≡ self.old.counters }
+    {
+        self.capture_frame(link, direction, frame);
+        if self.clients.any_sees_frames() {
+            self.tell_frame(link, direction, frame);
+        }
+    }
+
+    /// The capture has a frame, if there is one and it has room for it. Else the frame is counted as missed.
+    fn capture_frame(&mut self, link: LinkId, direction: Direction, frame: &ObservedFrame<'_>)
+        ensures { self.new.counters ≡ self.old.counters }
+    {
+        let Some(capture) = &mut self.capture else {
+            return;
+        };
+        if capture.output().writer().has_room() {
+            capture.write(self.now, link, direction, frame);
+        } else {
+            self.missed_frames = self.missed_frames.saturating_add(1);
+        }
+    }
+
+    /// What was captured goes out, as far as its file takes it. The log is told if that fails, which ends the
+    /// capture, and how many frames were missed once there is room for others.
+    pub(crate) fn flush_capture<W: Sink>(&mut self, log: &mut Log<'_, W>) {
+        let Some(capture) = &mut self.capture else {
+            return;
+        };
+        capture.flush();
+        if capture.has_failed() {
+            log.tell(&"capture failed");
+            self.capture_to(None);
+        } else if capture.output().writer().has_room() {
+            self.tell_missed(log);
+        }
+    }
+
+    /// Each frame goes into this capture from now on; into none, if there is none.
+    pub(crate) fn capture_to(&mut self, capture: Option<FileCapture>) {
+        self.capture = capture;
+    }
+
+    /// Tells the log how many frames the capture missed, if it missed some.
+    fn tell_missed<W: Sink>(&mut self, log: &mut Log<'_, W>) {
+        let missed = self.missed_frames;
+        if missed > 0 {
+            log.tell(&format_args!("capture missed {missed} frames"));
+            self.missed_frames = 0;
+        }
+    }
+
+    /// Tells clients of a frame in words.
+    #[inline(never)]
+    fn tell_frame(&mut self, link: LinkId, direction: Direction, frame: &ObservedFrame<'_>)
+        ensures { self.new.counters ≡ self.old.counters }
+    {
+        if frame.octets().len() > Limits::FRAME_OCTETS {
+            return;
+        }
+        let words = frame_words(self.name(link), direction, frame, self.points);
+        self.clients.tell_line(News::Frame, words.as_slice());
+    }
+
+    /// A message for this point came: clients that asked for such are told.
+    fn delivered(&mut self, link: LinkId, frame: &ObservedFrame<'_>)
+        ensures { self.new.counters ≡ self.old.counters }
+    {
+        if self.clients.any_sees_messages() {
+            self.tell_message(link, frame);
+        }
+    }
+
+    /// Tells clients of a message for this point.
+    #[inline(never)]
+    fn tell_message(&mut self, link: LinkId, frame: &ObservedFrame<'_>)
+        ensures { self.new.counters ≡ self.old.counters }
+    {
+        if let Some(message) = frame.message() {
+            let line = message_line(self.name(link), message);
+            self.clients.tell_line(News::Message, line.as_bytes());
+        }
+    }
+}
+
+/// The names of the links, in the order of the settings.
+fn names_of(alloc: Global, settings: &Settings) -> Result<Vec<String>, AllocError> {
+    let mut names = Vec::new(alloc);
+    for row in settings.links() {
+        names.push(String::from_str(alloc, row.name())?)?;
+    }
+    Ok(names)
+}
+
+/// The line of a message for this point, without its line feed: `local LINK HEX`.
+fn message_line(name: &str, message: MsuRef<'_>) -> ArrayString<MESSAGE_OCTETS> {
+    let sio = message.sio;
+    let mut line = ArrayString::new();
+    let _fits = write!(line, "local {name} {sio:02x}");
+    for octet in message.sif {
+        let _fits = write!(line, "{octet:02x}");
+    }
+    line
+}
+
+/// The observers, and what else watches the frames.
+#[derive(Drop)]
+pub(crate) struct FrameObserver<'a, U> {
+    pub(crate) observers: &'a mut Observers,
+    pub(crate) user: &'a mut U,
+}
+
+impl<U: Watch> Watch for FrameObserver<'_, U> {
+    // It is still what was lent, and what was seen is counted.
+    ghost sees = { λ before sight after. (after.observers.ghost_name ≡ before.observers.ghost_name)
+        × (after.user.ghost_name ≡ before.user.ghost_name)
+        × (after.observers.now.counters ≡ counted_sight sight before.observers.now.counters) };
+
+    fn came_in(&mut self, link: LinkId, frame: &ObservedFrame<'_>, outcome: &Outcome) {
+        self.observers.counters.count_in(link, frame, outcome);
+        self.observers.frame_came_in(link, frame);
+        if *outcome == Outcome::Local {
+            self.observers.delivered(link, frame);
+        }
+        self.user.came_in(link, frame, outcome);
+    }
+
+    fn went_out(&mut self, link: LinkId, frame: &[u8]) {
+        self.observers.counters.count_out(link, frame);
+        self.observers.frame_went_out(link, frame);
+        self.user.went_out(link, frame);
+    }
+}
