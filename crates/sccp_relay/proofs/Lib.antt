@@ -14,3 +14,4 @@ pub mod RowWays
 pub mod Translating
 pub mod KeyRows
 pub mod TitleExamples
+pub mod Led
