@@ -54,6 +54,7 @@ pub mod LastingFlags
 pub mod LastingNotices
 pub mod LastingPlaces
 pub mod LastingLinks
+pub mod Answers
 pub mod LastingMessages
 pub mod LastingRoutes
 pub mod Receiving

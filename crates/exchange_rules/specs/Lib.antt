@@ -32,6 +32,7 @@ pub mod Places
 pub mod Laws
 pub mod LawsOfFailures
 pub mod LawsOfReturns
+pub mod LawsOfAnswers
 pub mod Lasting
 pub mod LastingLinks
 pub mod Touching

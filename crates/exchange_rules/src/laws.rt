@@ -22,6 +22,7 @@ ghost use Rattle.exchange_rules.specs.Lasting.{notices_keep_their_limits};
 ghost use Rattle.exchange_rules.specs.LawsOfFailures.{failures_hold_their_flows, failures_by_peer_hold_their_flows};
 ghost use Rattle.exchange_rules.specs.LawsOfFailures.{idle_failures_hold_nothing, idle_failures_by_peer_hold_nothing};
 ghost use Rattle.exchange_rules.specs.LawsOfReturns.{entries_hold_changed_flows, changed_flows_are_held};
+ghost use Rattle.exchange_rules.specs.LawsOfAnswers.{wanted_links_open, queued_stands_last};
 ghost use Rattle.exchange_rules.specs.LawsOfReturns.{returns_keep_holds};
 ghost use Rattle.exchange_rules.specs.LawsOfReturns.{flows_return_by_their_procedures, entries_are_returns};
 
@@ -54,6 +55,17 @@ pub fn only_links_in_service_are_given_messages()
     ensures declared { declared_in_service }
     ensures anew { queued_anew_in_service }
     ensures settled { settled_in_service }
+{}
+
+/// A link wants to open exactly where its association, if it came up, would be taken.
+pub fn links_open_where_they_want_to()
+    ensures { wanted_links_open }
+{}
+
+/// An answer Queued names the link that the flow of the message had before it came, and the message goes behind all that
+/// stands there; only what the end of the event releases and tells may follow.
+pub fn queued_messages_stand_last()
+    ensures { queued_stands_last }
 {}
 
 /// The move of a completed changeover touches the queue of no other link. In Held the messages that it moves stand

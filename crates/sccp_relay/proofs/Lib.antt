@@ -15,3 +15,4 @@ pub mod RowWays
 pub mod Translating
 pub mod KeyRows
 pub mod TitleExamples
+pub mod Led

@@ -11,4 +11,5 @@ pub mod Ways
 pub mod Translation
 pub mod Table
 pub mod Laws
+pub mod Led
 pub mod TitleExamples

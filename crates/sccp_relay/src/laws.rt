@@ -7,6 +7,7 @@ ghost use Rattle.sccp_codec.specs.declared.title.TitleKey.{TitleKey};
 ghost use Rattle.sccp_relay.specs.Rows.{IsOrdered};
 ghost use Rattle.sccp_relay.specs.Translation.{IsTranslation, translation};
 ghost use Rattle.sccp_relay.specs.Laws.{added_stands, added_leaves, removed_is_gone, removed_leaves};
+ghost use Rattle.sccp_relay.specs.Led as led;
 
 /// An address has one translation at most, and it is the one that a table in its order answers.
 pub fn one_translation()
@@ -24,4 +25,16 @@ pub fn adding_a_row_leaves_the_others()
 pub fn removing_a_row_leaves_the_others()
     ensures own { removed_is_gone }
     ensures others { removed_leaves }
+{}
+
+/// A message that goes on has the class or the return cause, the data, the selection and the title of the one that came,
+/// and its addresses say at the point of its row what they are to say there (Q.714 §2.3, §2.4, §2.7).
+pub fn what_goes_on_reads_back()
+    ensures { led.what_goes_on_reads_back }
+{}
+
+/// A UDTS returns a UDT that asked for it, and nothing else: with the addresses exchanged and the same data
+/// (Q.714 §4.2).
+pub fn a_udts_returns_a_udt()
+    ensures { led.a_udts_returns_a_udt }
 {}
