@@ -39,6 +39,7 @@ pub mod CarriedTexts
 pub mod SaidWords
 pub mod MadeWords
 pub mod FourLaws
+pub mod Awaited
 pub mod Outcomes
 pub mod Accepted
 pub mod RunSettings
