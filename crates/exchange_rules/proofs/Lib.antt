@@ -35,6 +35,7 @@ pub mod SteppingTimers
 pub mod SteppingMessages
 pub mod SteppingFailures
 pub mod SteppingReturns
+pub mod Rules
 pub mod SteppingLinks
 pub mod SteppingRelaying
 pub mod SteppingLocal

@@ -4,7 +4,8 @@ use Rattle.exchange_rules.proofs.Definitions.{TimerName, L7, has_name, is_same, 
 use Rattle.std.specs.Prelude.{Option, Some, None}
 use Rattle.timers.specs.declared.name.RouteTimer.{RouteTimer}
 use Rattle.timers.specs.declared.name.RouteTimer.TheVariants as route
-use Rattle.exchange_rules.proofs.Steps.{AreTimed}
+use Rattle.timers.specs.declared.name.TimerName.TheVariants as name
+use Rattle.exchange_rules.proofs.Steps.{AreTimed, AreQuiet, ends_holds}
 
 -- where a timer that is due is due still, or has what is never due
 due-of : (b : Bool) (o p q : Option ℕ) → no_tick_left p ≡ false → no_tick_left (cond b (cond true p o) None) ≡ true → no_tick_left q ≡ true
@@ -82,3 +83,47 @@ clear_set-timed timer set r = record {
     of_route : (timer : RouteTimer) (link : ℕ) → is_of_set timer set (L7 link) ≡ false
     of_route route.T8 link = refl
     of_route route.T10 link = refl
+
+-- ---- and none that ends a hold
+
+pub same-quiet : (r : Running) → AreQuiet r r
+same-quiet r = record { timed = same-timed r; endings = λ name e. refl }
+
+pub both-quiet : (r s t : Running) → AreQuiet r s → AreQuiet s t → AreQuiet r t
+both-quiet r s t e f = record { timed = both-timed r s t e.timed f.timed; endings = λ name h. f.endings name h ∙ e.endings name h }
+
+-- a name that ends no hold is another than each that does
+apart-from : (name ending : TimerName) → ends_holds name ≡ false → ends_holds ending ≡ true → name ≢ ending
+apart-from name ending quiet ends same = (let goal : true ≡ false = sym ends ∙ sym (ap ends_holds same) ∙ quiet in cc)
+
+pub set-quiet : (name : TimerName) (ticks : ℕ) (r : Running) → ((link : ℕ) → name ≢ L7 link) → ends_holds name ≡ false → AreQuiet r (set_timer name ticks r)
+set-quiet name ticks r other quiet = record {
+  timed = set-timed name ticks r other;
+  endings = λ ending e. left-set_other name ending ticks r (apart-from name ending quiet e);
+}
+
+pub clear-quiet : (name : TimerName) (r : Running) → ((link : ℕ) → name ≢ L7 link) → ends_holds name ≡ false → AreQuiet r (clear_timer name r)
+clear-quiet name r other quiet = record {
+  timed = clear-timed name r other;
+  endings = λ ending e. left-clear_other name ending r (apart-from name ending quiet e);
+}
+
+pub clear_set-quiet : (timer : RouteTimer) (set : ℕ) (r : Running) → AreQuiet r (clear_set timer set r)
+clear_set-quiet timer set r = record {
+  timed = clear_set-timed timer set r;
+  endings = λ ending e. left-clear_set_other timer set ending r (unlike timer ending e);
+}
+  where
+    unlike : (timer : RouteTimer) (ending : TimerName) → ends_holds ending ≡ true → is_of_set timer set ending ≡ false
+    unlike route.T8 (name.T1 link) e = refl
+    unlike route.T8 (name.T2 link) e = refl
+    unlike route.T8 (name.T3 link) e = refl
+    unlike route.T8 (name.T4 its code) e = refl
+    unlike route.T8 (name.T6 destination) e = refl
+    unlike route.T8 _ e = absurd cc
+    unlike route.T10 (name.T1 link) e = refl
+    unlike route.T10 (name.T2 link) e = refl
+    unlike route.T10 (name.T3 link) e = refl
+    unlike route.T10 (name.T4 its code) e = refl
+    unlike route.T10 (name.T6 destination) e = refl
+    unlike route.T10 _ e = absurd cc
