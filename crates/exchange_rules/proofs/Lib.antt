@@ -57,6 +57,10 @@ pub mod LastingPlaces
 pub mod LastingLinks
 pub mod LastingMessages
 pub mod LastingRoutes
+pub mod WillEnding
+pub mod EndingProcedures
+pub mod EndingChangeovers
+pub mod LastingHolds
 pub mod Receiving
 pub mod Received
 pub mod Tallies

@@ -93,7 +93,7 @@ pub both-quiet : (r s t : Running) → AreQuiet r s → AreQuiet s t → AreQuie
 both-quiet r s t e f = record { timed = both-timed r s t e.timed f.timed; endings = λ name h. f.endings name h ∙ e.endings name h }
 
 -- a name that ends no hold is another than each that does
-apart-from : (name ending : TimerName) → ends_holds name ≡ false → ends_holds ending ≡ true → name ≢ ending
+pub apart-from : (name ending : TimerName) → ends_holds name ≡ false → ends_holds ending ≡ true → name ≢ ending
 apart-from name ending quiet ends same = (let goal : true ≡ false = sym ends ∙ sym (ap ends_holds same) ∙ quiet in cc)
 
 pub set-quiet : (name : TimerName) (ticks : ℕ) (r : Running) → ((link : ℕ) → name ≢ L7 link) → ends_holds name ≡ false → AreQuiet r (set_timer name ticks r)

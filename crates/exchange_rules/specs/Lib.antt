@@ -34,6 +34,7 @@ pub mod LawsOfFailures
 pub mod LawsOfReturns
 pub mod Lasting
 pub mod LastingLinks
+pub mod LastingHolds
 pub mod Touching
 pub mod LastingMessages
 pub mod LastingRoutes

@@ -6,6 +6,7 @@ ghost use Rattle.exchange_rules.specs.Laws.{settled_in_service};
 ghost use Rattle.exchange_rules.specs.Laws.{first_is_told, events_tell_all, takes_owe_nothing};
 ghost use Rattle.exchange_rules.specs.Laws.{completion_leaves_others, release_keeps_order, moved_before_held};
 ghost use Rattle.exchange_rules.specs.LastingLinks.{links_first_steady, links_stay_steady, l7_watches};
+ghost use Rattle.exchange_rules.specs.LastingHolds.{holds_stay_timed, every_hold_has_its_timer_or_its_word};
 ghost use Rattle.exchange_rules.specs.Touching.{other_links_are_left, takes_leave_other_queues};
 ghost use Rattle.exchange_rules.specs.LastingMessages.{first_is_onward, messages_stay_onward};
 ghost use Rattle.exchange_rules.specs.LastingRoutes.{own_routes_stay_allowed};
@@ -139,6 +140,15 @@ pub fn links_stay_steady()
     ensures first { links_first_steady }
     ensures always { links_stay_steady }
     ensures watched { l7_watches }
+{}
+
+/// Every hold has its timer or its word, whatever happens and whatever is taken. The changeover that holds a flow isn't
+/// complete; T4 of a code that holds one runs, T3 of a link that holds one by time, and T6 of a destination whose flows
+/// are rerouted. While a changeover isn't complete T1 runs, or the answer to its order is awaited; and while that is
+/// awaited T2 runs. So nothing is held that neither a timer nor a word of the peer ends.
+pub fn every_hold_has_its_timer_or_its_word()
+    ensures stays { holds_stay_timed }
+    ensures always { every_hold_has_its_timer_or_its_word }
 {}
 
 /// An event leaves each link that it isn't about: messages go behind the link's queue while it is in service, or a
