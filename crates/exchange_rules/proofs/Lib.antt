@@ -61,6 +61,10 @@ pub mod WillEnding
 pub mod EndingProcedures
 pub mod EndingChangeovers
 pub mod LastingHolds
+pub mod DueTimers
+pub mod Eased
+pub mod WithinTimes
+pub mod TickingAlone
 pub mod Receiving
 pub mod Received
 pub mod Tallies
