@@ -11,6 +11,7 @@ use Rattle.signalling_types.specs.declared.notice.FailureReason.TheVariants as r
 use Rattle.link.specs.declared.action.Action.TheVariants as act
 use Rattle.link.specs.declared.action.LinkTimer.TheVariants as timer
 use Rattle.link.specs.declared.alignment.Alignment.TheVariants.{Down, NotAligned, Aligned, Proving, AlignedReady, InService}
+use Rattle.exchange_rules.proofs.Steps.{takes_links}
 use Rattle.exchange_rules.proofs.WillEnding.{no-way}
 
 -- the timers that may take a link into service or out of it, and those that complete changeovers and end holds
@@ -21,6 +22,21 @@ is_waited_for (name.L3 link) = false
 is_waited_for (name.T8 set destination) = false
 is_waited_for (name.T10 set destination) = false
 is_waited_for _ = true
+
+pub link-waited : (timer : TimerName) → takes_links timer ≡ true → is_waited_for timer ≡ true
+link-waited (name.L4 link) e = refl
+link-waited (name.L6 link) e = refl
+link-waited (name.L7 link) e = refl
+link-waited (name.L1 link) e = absurd cc
+link-waited (name.L2 link) e = absurd cc
+link-waited (name.L3 link) e = absurd cc
+link-waited (name.T1 link) e = refl
+link-waited (name.T2 link) e = refl
+link-waited (name.T3 link) e = refl
+link-waited (name.T4 set code) e = refl
+link-waited (name.T6 destination) e = refl
+link-waited (name.T8 set destination) e = absurd cc
+link-waited (name.T10 set destination) e = absurd cc
 
 -- none of these is set
 abbrev pub Less : (r s : Running) → Type 0
@@ -58,7 +74,7 @@ less-set : (its : TimerName) (ticks : ℕ) (r : Running) → is_waited_for its �
 less-set its ticks r none timer w x h =
     sym (left-set_other its timer ticks r (λ same. no-way (is_waited_for its) none (ap is_waited_for same ∙ w))) ∙ h
 
-less-without : (link : ℕ) (r : Running) → Less r (without_timers link r)
+pub less-without : (link : ℕ) (r : Running) → Less r (without_timers link r)
 less-without link r timer w x h =
     let one : Running = clear_timer (name.L1 link) r in
     let two : Running = clear_timer (name.L2 link) one in
@@ -77,13 +93,6 @@ losses-timers (m ∷ ms) p = losses-timers ms _
 judged-timers : (reasonable : Bool) (p : Parts) → (judged reasonable p).timers ≡ p.timers
 judged-timers true p = refl
 judged-timers false p = refl
-
--- L4, L6 and L7
-abbrev pub takes_links : TimerName → Bool
-takes_links (name.L4 link) = true
-takes_links (name.L6 link) = true
-takes_links (name.L7 link) = true
-takes_links _ = false
 
 -- ---- by the table of the alignment: where L1, L2 or L3 runs out nothing happens, or a link fails that isn't in service
 
@@ -120,7 +129,7 @@ idle-l3 InService = inl refl
 module _ (c : Configuration) where
   -- ---- messages
 
-  send-eased : (room : Option Cause) (link : Option ℕ) (m : Message) (n : Node WholeQueues) → Eased n (send whole c room link m n)
+  pub send-eased : (room : Option Cause) (link : Option ℕ) (m : Message) (n : Node WholeQueues) → Eased n (send whole c room link m n)
   send-eased (Some cause) link m n = eased-same n _ refl
   send-eased None None m n = eased-same n _ refl
   send-eased None (Some link) m n = eased-same n _ refl

@@ -64,6 +64,8 @@ pub mod LastingHolds
 pub mod DueTimers
 pub mod Eased
 pub mod WithinTimes
+pub mod LinkTimes
+pub mod LinkTurns
 pub mod TickingAlone
 pub mod Receiving
 pub mod Received

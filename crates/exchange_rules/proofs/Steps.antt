@@ -132,10 +132,18 @@ ends_holds (name.T4 set code) = true
 ends_holds (name.T6 destination) = true
 ends_holds _ = false
 
+-- L4, L6 and L7 may take a link into service, or out of it
+abbrev pub takes_links : TimerName → Bool
+takes_links (name.L4 link) = true
+takes_links (name.L6 link) = true
+takes_links (name.L7 link) = true
+takes_links _ = false
+
 -- timers change, but none of these
 pub record AreQuiet (r s : Running) : Type 0 where
   pub timed : AreTimed r s
   pub endings : (name : TimerName) → ends_holds name ≡ true → s.left name ≡ r.left name
+  pub links : (name : TimerName) → takes_links name ≡ true → s.left name ≡ r.left name
 
 -- R holds of the steps of which it is made that a message goes out or is dropped
 pub record IsOfSends (c : Configuration) (R : Node WholeQueues → Node WholeQueues → Type 0) : Type 0 where

@@ -29,12 +29,13 @@ waited (name.L7 link) e = refl
 waited (name.T8 set destination) e = absurd cc
 waited (name.T10 set destination) e = absurd cc
 
-pub record Within (most : ℕ) (r : Running) : Type 0 where
-  pub each : (timer : TimerName) → ends_holds timer ≡ true → (x : ℕ) → r.left timer ≡ Some x → x ≤ most
+-- those of a kind have no more ticks left than so many
+pub record Within (kind : TimerName → Bool) (most : ℕ) (r : Running) : Type 0 where
+  pub each : (timer : TimerName) → kind timer ≡ true → (x : ℕ) → r.left timer ≡ Some x → x ≤ most
 
 -- from one node to another
 pub record Bounds (most : ℕ) (n m : Node WholeQueues) : Type 0 where
-  pub stay : Within most n.parts.timers → Within most m.parts.timers
+  pub stay : Within ends_holds most n.parts.timers → Within ends_holds most m.parts.timers
 
 bounds-same : (most : ℕ) (n m : Node WholeQueues) → ((timer : TimerName) → ends_holds timer ≡ true → m.parts.timers.left timer ≡ n.parts.timers.left timer) → Bounds most n m
 bounds-same most n m e = record { stay = λ w. record { each = λ timer ends x h. w.each timer ends x (sym (e timer ends) ∙ h) } }
@@ -52,17 +53,17 @@ same-ticks : (m n : ℕ) → Some m ≡ Some n → m ≡ n
 same-ticks m n e = cc
 
 -- a timer is set
-within-set : (most : ℕ) (its : TimerName) (ticks : ℕ) (r : Running) → max 1 ticks ≤ most → Within most r → Within most (set_timer its ticks r)
-within-set most its ticks r l w = by (has_name r.counts its) refl
+pub within-set : (kind : TimerName → Bool) (most : ℕ) (its : TimerName) (ticks : ℕ) (r : Running) → (kind its ≡ true → max 1 ticks ≤ most) → Within kind most r → Within kind most (set_timer its ticks r)
+within-set kind most its ticks r l w = by (has_name r.counts its) refl
   where
-    by : (has : Bool) → has_name r.counts its ≡ has → Within most (set_timer its ticks r)
-    by false e = subst (Within most) (sym (set-absent its ticks r e)) w
+    by : (has : Bool) → has_name r.counts its ≡ has → Within kind most (set_timer its ticks r)
+    by false e = subst (Within kind most) (sym (set-absent its ticks r e)) w
     by true e = record {
-      each = λ timer ends x h. ⊎_elim
+      each = λ timer of x h. ⊎_elim
           (λ (same : its ≡ timer).
           let left : max 1 ticks ≡ x = same-ticks (max 1 ticks) x (sym (left-set its ticks r e) ∙ ap (λ (y : TimerName). (set_timer its ticks r).left y) same ∙ h) in
-          omega (arith, l, left))
-          (λ (d : its ≢ timer). w.each timer ends x (sym (left-set_other its timer ticks r d) ∙ h)) (cases-name its timer);
+          omega (arith, l (ap kind same ∙ of), left))
+          (λ (d : its ≢ timer). w.each timer of x (sym (left-set_other its timer ticks r d) ∙ h)) (cases-name its timer);
     }
 
 module _ (c : Configuration) where
@@ -101,9 +102,9 @@ module _ (c : Configuration) where
   begun-bounds : (ordered : Bool) (link : ℕ) (n : Node WholeQueues) → Bounds most n (begin whole c ordered link n)
   begun-bounds true link n =
       let next : Node WholeQueues = with_parts n (changing c true link n.parts) in
-      bounds-both most n next _ (record { stay = within-set most (name.T2 link) c.timers.t2 n.parts.timers t2-within })
+      bounds-both most n next _ (record { stay = within-set ends_holds most (name.T2 link) c.timers.t2 n.parts.timers (λ e. t2-within) })
       (send_routed-steps bounds-sends (changeover_order c link (whole.last_accepted n.queues link)) next)
-  begun-bounds false link n = record { stay = within-set most (name.T1 link) c.timers.t1 n.parts.timers t1-within }
+  begun-bounds false link n = record { stay = within-set ends_holds most (name.T1 link) c.timers.t1 n.parts.timers (λ e. t1-within) }
 
   fails-bounds : (served : Bool) (link : ℕ) (why : FailureReason) (n : Node WholeQueues) → Bounds most n (change_over whole c served link (make_unavailable whole c served link why n))
   fails-bounds false link why n = bounds-same most n _ (without_timers-for link n.parts.timers).endings
@@ -140,12 +141,12 @@ module _ (c : Configuration) where
       (bounds-eased most next _ (completed-eased c (changeover_of n.parts link).incomplete link number next))
 
   returns-bounds : (before after : Facts) (code : Option ℕ) (link other : ℕ) (n : Node WholeQueues) → Bounds most n (hold_flows whole c before after code link other n)
-  returns-bounds before after (Some code) link other n = record { stay = within-set most (name.T4 (set_of c link) code) c.timers.t4 n.parts.timers t4-within }
-  returns-bounds before after None link other n = record { stay = within-set most (name.T3 link) c.timers.t3 n.parts.timers t3-within }
+  returns-bounds before after (Some code) link other n = record { stay = within-set ends_holds most (name.T4 (set_of c link) code) c.timers.t4 n.parts.timers (λ e. t4-within) }
+  returns-bounds before after None link other n = record { stay = within-set ends_holds most (name.T3 link) c.timers.t3 n.parts.timers (λ e. t3-within) }
 
   reroutes-bounds : (destination : ℕ) (selections : List ℕ) (n : Node WholeQueues) → Bounds most n (with_parts n (held_by_rerouting c destination selections n.parts))
   reroutes-bounds destination [] n = bounds-as most n n refl
-  reroutes-bounds destination (sls ∷ others) n = record { stay = within-set most (name.T6 destination) c.timers.t6 n.parts.timers t6-within }
+  reroutes-bounds destination (sls ∷ others) n = record { stay = within-set ends_holds most (name.T6 destination) c.timers.t6 n.parts.timers (λ e. t6-within) }
 
   bounds-rules : IsOfRules c any any (Bounds most)
   bounds-rules = record {
@@ -180,7 +181,7 @@ module _ (c : Configuration) where
 
   -- a tick lowers each, and one that is handed out runs no longer
 
-  lower : (most x : ℕ) (o : Option ℕ) → ((y : ℕ) → o ≡ Some y → y ≤ most) → one_less o ≡ Some x → x ≤ most
+  pub lower : (most x : ℕ) (o : Option ℕ) → ((y : ℕ) → o ≡ Some y → y ≤ most) → one_less o ≡ Some x → x ≤ most
   lower most x None all e = absurd cc
   lower most x (Some y) all e = omega (arith, all y refl, same-ticks (y - 1) x e)
 
@@ -199,5 +200,5 @@ module _ (c : Configuration) where
     next = λ n. run_next-steps bounds-rules n (bounds-eased most n _ (handed_out-eased (due_name n.parts.timers) n refl)) (λ link. tt);
   }
 
-  pub first-within : Within most (first_state c).node.parts.timers
+  pub first-within : Within ends_holds most (first_state c).node.parts.timers
   first-within = record { each = λ timer ends x h. (let no : None ≡ Some x = sym (left-none timer (first_state c).node.parts.timers.counts) ∙ h in absurd cc) }

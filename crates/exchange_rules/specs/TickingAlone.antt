@@ -1,5 +1,5 @@
 -- What ticks alone end: laws.
-use Rattle.std.specs.Prelude.{◌≡◌, ◌≤◌, ℕ, zero, suc, max, false, length, List, [], ◌∷◌}
+use Rattle.std.specs.Prelude.{◌≡◌, ◌≤◌, ◌+◌, ℕ, zero, suc, max, false, length, List, [], ◌∷◌}
 use Rattle.signalling_types.specs.declared.limits.TheConstants.Limits.{LINKS}
 use Rattle.settings_rows.specs.Configuration.{Configuration}
 use Rattle.settings_rows.specs.declared.timer_ticks.TimerTicks.{TimerTicks}
@@ -24,7 +24,11 @@ pub record IsQuiet (r : Running) : Type 0 where
   pub l6 : (link : ℕ) → is_running (L6 link) r ≡ false
   pub l7 : (link : ℕ) → is_running (L7 link) r ≡ false
 
--- the longest of the timers that complete changeovers and end holds; each runs one tick at least
+-- the longest of those timers; each runs one tick at least
+abbrev pub longest_turn : TimerTicks → ℕ
+longest_turn ticks = max 1 (max ticks.l4 (max ticks.l6 ticks.l7))
+
+-- the longest of the timers that complete changeovers and end holds
 abbrev pub longest_wait : TimerTicks → ℕ
 longest_wait ticks = max 1 (max ticks.t1 (max ticks.t2 (max ticks.t3 (max ticks.t4 ticks.t6))))
 
@@ -35,8 +39,16 @@ pub record HoldsNothing (a : Abstract) : Type 0 where
   pub messages : a.node.queues.held ≡ []
 
 -- so it is where nothing but ticks happens for as long, from each state that comes of the first and is quiet
+abbrev pub ticks_end_holds_where_it_is_quiet : Type 0
+ticks_end_holds_where_it_is_quiet =
+    (c : Configuration) (asked : List Asking) (many : ℕ) → length c.links ≤ LINKS →
+    IsQuiet (after_each asked (first_state c)).node.parts.timers → longest_wait c.timers ≤ many →
+    HoldsNothing (after_each (ticks_alone many) (after_each asked (first_state c)))
+
+-- from any other, where it happens for as long as the two times together: what takes links into service or out of it
+-- runs out first
 abbrev pub ticks_end_all_holds : Type 0
 ticks_end_all_holds =
     (c : Configuration) (asked : List Asking) (many : ℕ) → length c.links ≤ LINKS →
-    IsQuiet (after_each asked (first_state c)).node.parts.timers → longest_wait c.timers ≤ many →
+    longest_turn c.timers + longest_wait c.timers ≤ many →
     HoldsNothing (after_each (ticks_alone many) (after_each asked (first_state c)))

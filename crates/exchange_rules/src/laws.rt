@@ -7,7 +7,7 @@ ghost use Rattle.exchange_rules.specs.Laws.{first_is_told, events_tell_all, take
 ghost use Rattle.exchange_rules.specs.Laws.{completion_leaves_others, release_keeps_order, moved_before_held};
 ghost use Rattle.exchange_rules.specs.LastingLinks.{links_first_steady, links_stay_steady, l7_watches};
 ghost use Rattle.exchange_rules.specs.LastingHolds.{holds_stay_timed, every_hold_has_its_timer_or_its_word};
-ghost use Rattle.exchange_rules.specs.TickingAlone.{ticks_end_all_holds};
+ghost use Rattle.exchange_rules.specs.TickingAlone.{ticks_end_holds_where_it_is_quiet, ticks_end_all_holds};
 ghost use Rattle.exchange_rules.specs.Touching.{other_links_are_left, takes_leave_other_queues};
 ghost use Rattle.exchange_rules.specs.LastingMessages.{first_is_onward, messages_stay_onward};
 ghost use Rattle.exchange_rules.specs.LastingRoutes.{own_routes_stay_allowed};
@@ -152,12 +152,13 @@ pub fn every_hold_has_its_timer_or_its_word()
     ensures always { every_hold_has_its_timer_or_its_word }
 {}
 
-/// So where nothing but ticks happens, all holds end: after as many ticks as the longest of T1, T2, T3, T4 and T6 takes,
-/// no flow is held and no message waits in Held. This is of each state that comes of the first in which no L4, L6 or L7
-/// runs, since these may take a link into service or out of it, and so begin another wait: no link is being proved, no
-/// peer is busy, and nothing that was sent isn't confirmed.
+/// So where nothing but ticks happens, all holds end, from each state that comes of the first: after as many ticks as the
+/// longest of T1, T2, T3, T4 and T6 takes no flow is held and no message waits in Held, if no L4, L6 or L7 runs. These may
+/// take a link into service or out of it, and so begin another wait. They run while a link is being proved, while a peer
+/// is busy, and while something that was sent isn't confirmed; then it takes as many ticks more as the longest of them.
 pub fn ticks_end_all_holds()
-    ensures { ticks_end_all_holds }
+    ensures quiet { ticks_end_holds_where_it_is_quiet }
+    ensures always { ticks_end_all_holds }
 {}
 
 /// An event leaves each link that it isn't about: messages go behind the link's queue while it is in service, or a
