@@ -40,6 +40,7 @@ pub mod SaidWords
 pub mod MadeWords
 pub mod FourLaws
 pub mod Awaited
+pub mod HeldFlows
 pub mod Outcomes
 pub mod Accepted
 pub mod RunSettings
