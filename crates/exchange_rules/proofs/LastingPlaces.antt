@@ -32,7 +32,7 @@ module _ (c : Configuration) where
   queue-keeps held link q n = queues-keep (record { held = held; links = slice_set n.queues.links link q }) n (length-set n.queues.links link q)
 
   -- notices and flags are no places
-  notices-keep : (notices : Noted) (lost late : ℕ) (n : Node WholeQueues)
+  pub notices-keep : (notices : Noted) (lost late : ℕ) (n : Node WholeQueues)
       → Keeps c n (with_parts n (record n.parts { notices = notices; times_lost = lost; times_late = late }))
   notices-keep notices lost late n = record {
     stay = λ h. record {

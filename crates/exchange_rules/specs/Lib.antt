@@ -35,6 +35,8 @@ pub mod LawsOfReturns
 pub mod LawsOfAnswers
 pub mod Lasting
 pub mod LastingLinks
+pub mod LastingHolds
+pub mod TickingAlone
 pub mod Touching
 pub mod LastingMessages
 pub mod LastingRoutes

@@ -1,6 +1,6 @@
 -- The four laws, of two exchanges.
-use Rattle.pair_rules.proofs.Basics.{◌≡◌, ◌≢◌, ◌⊎◌, inl, inr, ◌<◌, ◌≤◌, ◌+◌, ◌-◌, ◌||◌, ◌&&◌, ℕ, Bool, true, false, not, List, [], ◌∷◌, length, map, Option, Some, refl, ap, sym, subst, ◌∙◌, arith, nat_eq, Contains, count_by, slice_get, ⊎_elim, cases_lt, get_or_past, Contains-append_left}
-use Rattle.pair_rules.proofs.Definitions.{Message, Configuration, first_queue, last_accepted, named_count, behind, Open, down, wants_of, new_message, Saying, Order, Answer, is_answer, is_order, is_untrue, Pair, MayOpen, PairState, after_steps, first_pair, in_flight, may_follow, may_open_at, turned, LostNothing, queue_of, AreFinal, FramesCarry, IsCarried, IsFinal, IsInFlight, IsUnderWay, MovesLacked, NextIsFirst, NoneIsLeft, OpenedAlone, WhileNothingIsLost, Word, is_down_at, is_in_use, is_incomplete_at, messages_in, unreceived, unreceived_on, word_of, frames_carry, moves_are_lacked, none_is_left, words_are_final, FrameValue, spelled, changeover_of}
+use Rattle.pair_rules.proofs.Basics.{◌≡◌, ◌≢◌, ◌⊎◌, inl, inr, ◌<◌, ◌≤◌, ◌+◌, ◌-◌, ◌||◌, ℕ, Bool, true, false, not, List, [], length, map, Option, Some, ap, sym, subst, ◌∙◌, arith, nat_eq, Contains, count_by, slice_get, ⊎_elim, cases_lt, get_or_past, Contains-append_left}
+use Rattle.pair_rules.proofs.Definitions.{Message, Configuration, first_queue, last_accepted, named_count, behind, Open, down, wants_of, new_message, Saying, Order, Answer, is_answer, is_order, is_untrue, MayOpen, PairState, after_steps, first_pair, in_flight, may_follow, may_open_at, turned, LostNothing, queue_of, AreFinal, FramesCarry, IsCarried, IsFinal, IsInFlight, IsUnderWay, MovesLacked, NextIsFirst, NoneIsLeft, OpenedAlone, WhileNothingIsLost, Word, is_down_at, is_in_use, is_incomplete_at, messages_in, unreceived, unreceived_on, word_of, frames_carry, moves_are_lacked, none_is_left, words_are_final, FrameValue, spelled, changeover_of}
 use Rattle.exchange_rules.proofs.CarriedMessages.{new-carried}
 use Rattle.pair_moves.specs.Ends as ends
 use Rattle.pair_moves.specs.Flowing.{Flows, IsFlowing, NamesReceived, OpensAlone}
@@ -12,7 +12,7 @@ use Rattle.pair_moves.proofs.Concluded.{first_ends_are_alone-always, follows_wit
 use Rattle.pair_moves.proofs.Counts.{count-append}
 use Rattle.pair_moves.proofs.Lines.{or-third, unless-true, used-by}
 use Rattle.pair_moves.proofs.Words.{same-link, true-answer, true-order}
-use Rattle.pair_rules.proofs.World.{World, frame_of, says_of, shown, line_of}
+use Rattle.pair_rules.proofs.World.{World, says_of, shown, line_of}
 use Rattle.pair_rules.proofs.Good.{Each, IsBetween, each-behind}
 use Rattle.pair_rules.proofs.Opening.{may_open-at, may_open-end, wants-open}
 use Rattle.pair_rules.proofs.Flights.{first-flies, first-frame}
@@ -97,7 +97,7 @@ module _ (c z : Configuration) (a : AreFacing c z) (p : PairState) (s : Stands c
 
   -- ---- what is under way
 
-  counted : (test : Message → Bool) → count_by test (unreceived p) ≡ under_way test (shown c z w)
+  pub counted : (test : Message → Bool) → count_by test (unreceived p) ≡ under_way test (shown c z w)
   counted test =
       let both : count_by test (unreceived p) ≡ count_by test (join_to (unreceived_on p) (length p.near.exchange.settings.links)) + count_by test p.near.exchange.node.queues.held =
       count-append test (join_to (unreceived_on p) (length p.near.exchange.settings.links)) p.near.exchange.node.queues.held in
@@ -105,7 +105,7 @@ module _ (c z : Configuration) (a : AreFacing c z) (p : PairState) (s : Stands c
       ap (λ (many : ℕ). count_by test (join_to (unreceived_on p) many)) (same-links c z a p s kept) ∙ count-join test (unreceived_on p) (length c.links) in
       omega (arith, both, links)
 
-  between : Each (IsBetween c z) (unreceived p)
+  pub between : Each (IsBetween c z) (unreceived p)
   between =
       each-behind (IsBetween c z) (join_to (unreceived_on p) (length p.near.exchange.settings.links)) p.near.exchange.node.queues.held
       (each-join (IsBetween c z) (unreceived_on p) (length p.near.exchange.settings.links)
@@ -274,7 +274,7 @@ lacked-there c z a p s kept = record {
 
 -- ---- always
 
-always : (Statement : PairState → Type 0) → ((c z : Configuration) (a : AreFacing c z) (p : PairState) → Stands c z p → LostNothing p → Statement p) → WhileNothingIsLost Statement
+pub always : (Statement : PairState → Type 0) → ((c z : Configuration) (a : AreFacing c z) (p : PairState) → Stands c z p → LostNothing p → Statement p) → WhileNothingIsLost Statement
 always Statement holds near far steps g kept =
     let p : PairState = after_steps steps (first_pair near far) in
     let s : Stands near far p = all-stand near far steps g in

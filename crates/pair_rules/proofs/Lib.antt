@@ -39,6 +39,8 @@ pub mod CarriedTexts
 pub mod SaidWords
 pub mod MadeWords
 pub mod FourLaws
+pub mod Awaited
+pub mod HeldFlows
 pub mod Outcomes
 pub mod Accepted
 pub mod RunSettings
