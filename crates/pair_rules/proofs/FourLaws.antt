@@ -1,6 +1,6 @@
 -- The four laws, of two exchanges.
-use Rattle.pair_rules.proofs.Basics.{◌≡◌, ◌≢◌, ◌⊎◌, inl, inr, ◌<◌, ◌≤◌, ◌+◌, ◌-◌, ◌||◌, ◌&&◌, ℕ, Bool, true, false, not, List, [], ◌∷◌, length, map, Option, Some, refl, ap, sym, subst, ◌∙◌, arith, nat_eq, Contains, count_by, slice_get, ⊎_elim, cases_lt, get_or_past, Contains-append_left}
-use Rattle.pair_rules.proofs.Definitions.{Message, Configuration, first_queue, last_accepted, named_count, behind, Open, down, wants_of, new_message, Saying, Order, Answer, is_answer, is_order, is_untrue, Pair, MayOpen, PairState, after_steps, first_pair, in_flight, may_follow, may_open_at, turned, LostNothing, queue_of, AreFinal, FramesCarry, IsCarried, IsFinal, IsInFlight, IsUnderWay, MovesLacked, NextIsFirst, NoneIsLeft, OpenedAlone, WhileNothingIsLost, Word, is_down_at, is_in_use, is_incomplete_at, messages_in, unreceived, unreceived_on, word_of, frames_carry, moves_are_lacked, none_is_left, words_are_final, FrameValue, spelled, changeover_of}
+use Rattle.pair_rules.proofs.Basics.{◌≡◌, ◌≢◌, ◌⊎◌, inl, inr, ◌<◌, ◌≤◌, ◌+◌, ◌-◌, ◌||◌, ℕ, Bool, true, false, not, List, [], length, map, Option, Some, ap, sym, subst, ◌∙◌, arith, nat_eq, Contains, count_by, slice_get, ⊎_elim, cases_lt, get_or_past, Contains-append_left}
+use Rattle.pair_rules.proofs.Definitions.{Message, Configuration, first_queue, last_accepted, named_count, behind, Open, down, wants_of, new_message, Saying, Order, Answer, is_answer, is_order, is_untrue, MayOpen, PairState, after_steps, first_pair, in_flight, may_follow, may_open_at, turned, LostNothing, queue_of, AreFinal, FramesCarry, IsCarried, IsFinal, IsInFlight, IsUnderWay, MovesLacked, NextIsFirst, NoneIsLeft, OpenedAlone, WhileNothingIsLost, Word, is_down_at, is_in_use, is_incomplete_at, messages_in, unreceived, unreceived_on, word_of, frames_carry, moves_are_lacked, none_is_left, words_are_final, FrameValue, spelled, changeover_of}
 use Rattle.exchange_rules.proofs.CarriedMessages.{new-carried}
 use Rattle.pair_moves.specs.Ends as ends
 use Rattle.pair_moves.specs.Flowing.{Flows, IsFlowing, NamesReceived, OpensAlone}
@@ -12,7 +12,7 @@ use Rattle.pair_moves.proofs.Concluded.{first_ends_are_alone-always, follows_wit
 use Rattle.pair_moves.proofs.Counts.{count-append}
 use Rattle.pair_moves.proofs.Lines.{or-third, unless-true, used-by}
 use Rattle.pair_moves.proofs.Words.{same-link, true-answer, true-order}
-use Rattle.pair_rules.proofs.World.{World, frame_of, says_of, shown, line_of}
+use Rattle.pair_rules.proofs.World.{World, says_of, shown, line_of}
 use Rattle.pair_rules.proofs.Good.{Each, IsBetween, each-behind}
 use Rattle.pair_rules.proofs.Opening.{may_open-at, may_open-end, wants-open}
 use Rattle.pair_rules.proofs.Flights.{first-flies, first-frame}

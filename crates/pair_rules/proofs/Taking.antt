@@ -1,6 +1,6 @@
 -- A frame is fetched at the near node, and is in flight to the far one: by moves.
-use Rattle.pair_rules.proofs.Basics.{suc, ◌-◌, ◌≡◌, ◌≢◌, ◌<◌, ◌≤◌, ◌^◌, ◌+◌, ◌&&◌, ℕ, Bool, true, false, not, List, [], ◌∷◌, ◌++◌, length, map, Option, Some, None, refl, ap, sym, subst, ◌∙◌, nat_lt, arith, if◌then◌else◌, slice_get, length-set, drop, nat_tests}
-use Rattle.pair_rules.proofs.Definitions.{Message, SIF_OCTETS, WINDOW, Configuration, FrameValue, EmptyFrame, MessageFrame, StatusFrame, IsSayable, spelled, LinkStatus, Queue, Sending, to_send, forward_number, numbered, sent_one, last_accepted, last_sent, Node, down, in_service, link_at, WholeQueues, queue_at, whole, Outgoing, SendsStatus, SendsMessage, Acknowledges, SendsNothing, after_sending, after_take, carried, frame_from, goes_out, may_send, next_message, without_owed, Fits, StaysFit, fit-steps, LinkEnd, Frame, each-set, take-steps, frame_taken, message_first, status_first, IsQueue, first_queue, BecomeAt}
+use Rattle.pair_rules.proofs.Basics.{suc, ◌≡◌, ◌≢◌, ◌<◌, ◌≤◌, ◌^◌, ◌+◌, ℕ, Bool, true, false, not, List, [], ◌∷◌, ◌++◌, length, map, Option, Some, None, refl, ap, sym, subst, ◌∙◌, nat_lt, arith, if◌then◌else◌, slice_get, length-set, drop, nat_tests}
+use Rattle.pair_rules.proofs.Definitions.{Message, SIF_OCTETS, WINDOW, Configuration, FrameValue, EmptyFrame, MessageFrame, StatusFrame, IsSayable, spelled, LinkStatus, Queue, Sending, to_send, forward_number, sent_one, last_accepted, last_sent, Node, down, in_service, link_at, WholeQueues, queue_at, whole, Outgoing, SendsStatus, SendsMessage, Acknowledges, SendsNothing, after_sending, after_take, carried, frame_from, goes_out, may_send, next_message, without_owed, Fits, StaysFit, fit-steps, LinkEnd, Frame, each-set, take-steps, frame_taken, IsQueue, first_queue, BecomeAt}
 use Rattle.link.specs.Queue as queue
 use Rattle.pair_moves.specs.Moves as moves
 use Rattle.pair_rules.proofs.World.{World, says_of, shown, line_of, end_of, frame_of}
