@@ -11,6 +11,7 @@ use Rattle.exchange_rules.proofs.SteppingEvents.{owing-steps}
 use Rattle.exchange_rules.proofs.SteppingLinks.{advance-serves, advance-steps}
 use Rattle.exchange_rules.proofs.Steps.{confirming}
 use Rattle.exchange_rules.proofs.Tallies.{append, none-more, queue-less, queue-same}
+use Rattle.exchange_rules.proofs.Rules.{rules-of}
 use Rattle.link.specs.declared.action.Action.TheVariants as act
 use Rattle.signalling_types.specs.declared.cause.Cause.TheVariants as causes
 use Rattle.signalling_types.specs.declared.notice.FailureReason.TheVariants as reasons
@@ -79,7 +80,7 @@ module _ (of : Message → Bool) (c : Configuration) where
 
   accept-fits : (link : ℕ) (d : Carrying) (count : ℕ) (n : Node WholeQueues) → in_service n.parts link ≡ true → numbers whole c link d n ≡ Ok count → Fits c n → Fits c (accept whole c link d count n)
   accept-fits link d count n serves e f =
-      (owing-steps (fit-steps c) link d.message (confirming c link d count n)).stay (((fit-steps c).accepted link d count n tt serves e).stay f)
+      (owing-steps (rules-of (fit-steps c)) link d.message (confirming c link d count n)).stay (((fit-steps c).accepted link d count n tt serves e).stay f)
 
   handle-moves : (r : Result ℕ SeqFault) (link : ℕ) (d : Carrying) (n : Node WholeQueues) → Fits c n → in_service n.parts link ≡ true → numbers whole c link d n ≡ r
       → stands of n + users_that of (brought_by (new_by r d) (handle_by whole c r link d n).outcome c (accept whole c link d (count_confirmed r) n))
@@ -104,7 +105,7 @@ module _ (of : Message → Bool) (c : Configuration) where
       let r : Result ℕ SeqFault = numbers whole c link d next in
       let took : Node WholeQueues = accept whole c link d (count_confirmed r) next in
       ap (λ (k : ℕ). k + users_that of (brought_by (new_by r d) (handle_by whole c r link d next).outcome c took)) (sym (advance-stand of c link step n))
-      ∙ handle-moves r link d next ((advance-steps (fit-steps c) link UserData step n tt e).stay f)
+      ∙ handle-moves r link d next ((advance-steps (rules-of (fit-steps c)) link UserData step n tt e).stay f)
       (advance-serves c link UserData step n e ∙ data-serves (link_at n.parts link).alignment step e) refl
 
   data-moves : (link : ℕ) (d : Carrying) (n : Node WholeQueues) → Fits c n

@@ -6,6 +6,7 @@ use Rattle.exchange_rules.proofs.Fitting.{Fits, fit-steps, handed-fit, next-fit,
 use Rattle.exchange_rules.proofs.Moves.{completed-lets, queued-more}
 use Rattle.exchange_rules.proofs.SteppingEvents.{go_by-steps}
 use Rattle.exchange_rules.proofs.Tallies.{append, held-more-by, held-taken-out, none-first, none-more, one-first}
+use Rattle.exchange_rules.proofs.Rules.{rules-of}
 use Rattle.signalling_types.specs.declared.cause.Cause.TheVariants as causes
 use Rattle.timers.specs.declared.name.TimerName.TheVariants as name
 use Rattle.signalling_types.specs.declared.notice.ChangeoverTimer.TheVariants as which
@@ -181,7 +182,7 @@ module _ (of : Message → Bool) (c : Configuration) where
       both-let (stands of n) (stands of one) (stands of (go_each whole c ms one)) (users_that of (m ∷ [])) (users_that of ms)
       (users_that of (if left then m ∷ [] else [])) (users_that of (filter (is_stranded c one.parts) ms)) (users_that of (m ∷ ms)) (users_that of (filter (is_stranded c n.parts) (m ∷ ms)))
       (go_by-lets (waits c n.parts.holds m) m n f)
-      (go_each-lets ms one ((go_by-steps (fit-steps c) (waits c n.parts.holds m) m n refl).stay f))
+      (go_each-lets ms one ((go_by-steps (rules-of (fit-steps c)) (waits c n.parts.holds m) m n refl).stay f))
       (append of (m ∷ []) ms)
       (one-first of left m (filter (is_stranded c n.parts) ms)
       ∙ ap (λ (xs : List Message). users_that of (if left then m ∷ [] else []) + users_that of xs)

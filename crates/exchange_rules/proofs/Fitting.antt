@@ -7,6 +7,7 @@ use Rattle.exchange_rules.proofs.Lists.{each-set}
 use Rattle.exchange_rules.proofs.SteppingEvents.{handle_event-steps, run_next-steps, tick-steps}
 use Rattle.exchange_rules.proofs.Steps.{IsOfSteps}
 use Rattle.exchange_rules.proofs.LastingPlaces as kept
+use Rattle.exchange_rules.proofs.Rules.{rules-of}
 
 -- what the counts need
 pub record Fits (c : Configuration) (n : Node WholeQueues) : Type 0 where
@@ -83,9 +84,9 @@ pub handed-fit : (c : Configuration) (n : Node WholeQueues) → StaysFit c n (wi
 handed-fit c n = parts-fit c n _ (timers-keep c (after_due n.parts.timers) n (counts-after n.parts.timers)) refl
 
 pub next-fit : (c : Configuration) (n : Node WholeQueues) → StaysFit c n (run_next whole c n)
-next-fit c n = run_next-steps (fit-steps c) n (handed-fit c n) (λ link. tt)
+next-fit c n = run_next-steps (rules-of (fit-steps c)) n (handed-fit c n) (λ link. tt)
 
 pub event-fit : (c : Configuration) (what : Happening) (n : Node WholeQueues) → StaysFit c n (handle_event whole c what n).left
 event-fit c what n =
-    handle_event-steps (fit-steps c) what n (λ link own. tt) (λ link own. tt)
-    (λ e. tick-steps (fit-steps c) n (ticked-fit c n) (next-fit c))
+    handle_event-steps (rules-of (fit-steps c)) what n (λ link own. tt) (λ link own. tt)
+    (λ e. tick-steps (rules-of (fit-steps c)) n (ticked-fit c n) (next-fit c))

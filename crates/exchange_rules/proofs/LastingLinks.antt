@@ -7,9 +7,10 @@ use Rattle.exchange_rules.proofs.SteadySteps.{At, Keeps}
 use Rattle.exchange_rules.proofs.SteadyAll.{steady-steps, ticked-keeps, run_next-keeps}
 use Rattle.exchange_rules.proofs.LastingPlaces.{places-first, places-stay}
 use Rattle.exchange_rules.proofs.Asked.{IsOfAll, asked-all}
+use Rattle.exchange_rules.proofs.Rules.{rules-of}
 
 steady-all : (c : Configuration) (l : ℕ) → IsOfAll c (Keeps true c l)
-steady-all c l = record { steps = steady-steps true c l; ticks = ticked-keeps c l; next = run_next-keeps c l }
+steady-all c l = record { rules = rules-of (steady-steps true c l); ticks = ticked-keeps c l; next = run_next-keeps c l }
 
 -- ---- a link that isn't there
 

@@ -6,7 +6,7 @@ use Rattle.circular_buffer.specs.Buffer.{keep_last}
 use Rattle.signalling_types.specs.declared.notice.Notice.TheVariants as notices
 use Rattle.exchange_rules.proofs.LastingFlags.{flags-steps}
 use Rattle.exchange_rules.proofs.SteppingMessages.{send_each-steps}
-use Rattle.exchange_rules.proofs.Steps.{IsOfSteps}
+use Rattle.exchange_rules.proofs.Steps.{IsOfSteps, sends-of}
 use Rattle.exchange_rules.proofs.Asked.{any, IsOfAll, all-of, asked-all}
 
 -- ---- lists
@@ -116,4 +116,4 @@ pub unreasonable-raises : unreasonable_numbers_raise_it
 unreasonable-raises c link number n e =
     let found : Found = whole.found n.queues link number in
     let done : Node WholeQueues = record { queues = whole.completed n.queues link number; parts = concluded link found n.parts } in
-    (send_each-steps (flags-steps c) found.queued_anew done).lost (raised-by link found n.parts found.is_reasonable e)
+    (send_each-steps (sends-of (flags-steps c)) found.queued_anew done).lost (raised-by link found n.parts found.is_reasonable e)

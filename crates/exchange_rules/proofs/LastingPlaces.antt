@@ -1,5 +1,5 @@
 -- A node keeps a place for all that its settings name.
-use Rattle.exchange_rules.proofs.Basics.{◌≡◌, ℕ, Bool, true, List, length, refl, ap, ◌∙◌, false, slice_set, length-set, length-replicate, length-map}
+use Rattle.exchange_rules.proofs.Basics.{◌≡◌, ℕ, Bool, List, length, refl, ap, ◌∙◌, false, slice_set, length-set, length-replicate, length-map}
 use Rattle.exchange_rules.proofs.Definitions.{Message, FailureReason, Configuration, TitleEntry, opening, Queue, first_queue, appended, emptied, down_link, after_failure, with_code, HoldSet, NodeCounts, Running, ticked, after_due, counts-after, Route, first_routes, ToldTable, shape_of, first_shape, Link, Standing, no_changeover, Node, Noted, with_parts, link_at, links_with, note, flagged, flagged_late, without_timers, with_changeover, fail_link, declaration, test_answer, carries, WholeQueues, queue_at, whole, with_titles, HasTimersFor, HasAllPlaces, places_at_first, places_stay}
 use Rattle.signalling_types.specs.declared.notice.Notice.TheVariants as notices
 use Rattle.link.specs.Queue as queue
@@ -32,7 +32,7 @@ module _ (c : Configuration) where
   queue-keeps held link q n = queues-keep (record { held = held; links = slice_set n.queues.links link q }) n (length-set n.queues.links link q)
 
   -- notices and flags are no places
-  notices-keep : (notices : Noted) (lost late : ℕ) (n : Node WholeQueues)
+  pub notices-keep : (notices : Noted) (lost late : ℕ) (n : Node WholeQueues)
       → Keeps c n (with_parts n (record n.parts { notices = notices; times_lost = lost; times_late = late }))
   notices-keep notices lost late n = record {
     stay = λ h. record {

@@ -10,6 +10,7 @@ use Rattle.exchange_rules.proofs.OnLink.{link-on, opened-on, accepted-on, sent-o
 use Rattle.exchange_rules.proofs.LeftLinks.{Left, same-left, both-left, both-lefts, alike, other-left, queued-left, failed-left, dropped-left, completed-left, answered-left, linked-left}
 use Rattle.exchange_rules.proofs.Steps.{IsOfSteps}
 use Rattle.exchange_rules.proofs.SteppingEvents.{IsOf, run_due-steps, apply-steps}
+use Rattle.exchange_rules.proofs.Rules.{rules-of}
 
 -- any link but this
 abbrev but : ℕ → ℕ → Type 0
@@ -84,7 +85,7 @@ module _ (c : Configuration) (l : ℕ) where
     run_next-left : (n : Node WholeQueues) → Left true l begun n → Left true l n (run_next whole c n)
     run_next-left n h =
         both-lefts true l n _ _ (handed_out-left n)
-        (run_due-steps (left-steps true c l) (due_name n.parts.timers) (with_timers n (after_due n.parts.timers))
+        (run_due-steps (rules-of (left-steps true c l)) (due_name n.parts.timers) (with_timers n (after_due n.parts.timers))
         (λ link its e same.
         let due : is_due n.parts.timers (timer_name link its) ≡ true = ap no_tick_left (due-left (timer_name link its) n.parts.timers e) in
         let was : is_due begun.parts.timers (timer_name l its) ≡ true =
@@ -121,7 +122,7 @@ not-about (TitleRemoved key digits) p l e link of same = of
 
 pub others-left : other_links_are_left
 others-left what a l e =
-    (apply-steps (left-steps false a.settings l) what a.node (not-about what a.node.parts l e) (not-about what a.node.parts l e)
+    (apply-steps (rules-of (left-steps false a.settings l)) what a.node (not-about what a.node.parts l e) (not-about what a.node.parts l e)
     (λ is. tick-left a.settings l a.node (sym (ap (λ (w : Happening). is_about w a.node.parts l) is) ∙ e))).left
 
 -- ---- takes

@@ -35,6 +35,7 @@ pub mod SteppingTimers
 pub mod SteppingMessages
 pub mod SteppingFailures
 pub mod SteppingReturns
+pub mod Rules
 pub mod SteppingLinks
 pub mod SteppingRelaying
 pub mod SteppingLocal
@@ -56,6 +57,16 @@ pub mod LastingPlaces
 pub mod LastingLinks
 pub mod LastingMessages
 pub mod LastingRoutes
+pub mod WillEnding
+pub mod EndingProcedures
+pub mod EndingChangeovers
+pub mod LastingHolds
+pub mod DueTimers
+pub mod Eased
+pub mod WithinTimes
+pub mod LinkTimes
+pub mod LinkTurns
+pub mod TickingAlone
 pub mod Receiving
 pub mod Received
 pub mod Tallies

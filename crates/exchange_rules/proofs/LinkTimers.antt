@@ -1,14 +1,17 @@
--- The timers of one link are set and stopped: the same names exist, the L7 of no other link changes, and no timer becomes due.
+-- The timers of one link are set and stopped: the same names exist, the L7 of no other link changes, no timer becomes due, and none changes that ends
+-- a hold.
 use Rattle.exchange_rules.proofs.Basics.{◌≡◌, ◌≢◌, ℕ, Bool, true, false, refl, sym, ap, ◌∙◌, if◌then◌else◌, is_some}
 use Rattle.exchange_rules.proofs.Definitions.{Configuration, LinkTimer, Transition, TimerName, L7, key_of, Running, set_timer, start_unless_running, is_due, is_running, left-set_other, left-clear_other, counts-set, counts-clear, timer_name, ticks_of, without_timer, without_timers, with_timer, without_timer_if, with_timer_if, timed, timed_sending, timed_confirming, timed_busy, timed_busy_ended}
 use Rattle.std.specs.Prelude.{nat_eq, Option, Some, None}
 use Rattle.link.specs.declared.action.LinkTimer.TheVariants as timer
-use Rattle.exchange_rules.proofs.SteppingTimers.{due-set, due-clear}
+use Rattle.exchange_rules.proofs.Steps.{ends_holds}
+use Rattle.exchange_rules.proofs.SteppingTimers.{apart-from, due-set, due-clear}
 
 pub record AreTimedFor (link : ℕ) (r s : Running) : Type 0 where
   pub counts : s.counts ≡ r.counts
   pub others : (other : ℕ) → other ≢ link → is_running (L7 other) s ≡ is_running (L7 other) r
   pub due : (name : TimerName) → is_due s name ≡ true → is_due r name ≡ true
+  pub endings : (name : TimerName) → ends_holds name ≡ true → s.left name ≡ r.left name
 
 apart-name : (link other : ℕ) (t : LinkTimer) → other ≢ link → timer_name link t ≢ L7 other
 apart-name link other timer.L1 apart e = cc
@@ -18,15 +21,24 @@ apart-name link other timer.L4 apart e = cc
 apart-name link other timer.L6 apart e = cc
 apart-name link other timer.L7 apart e = apart (sym (ap (λ (x : TimerName). (key_of x).row) e))
 
+ends-none : (link : ℕ) (t : LinkTimer) → ends_holds (timer_name link t) ≡ false
+ends-none link timer.L1 = refl
+ends-none link timer.L2 = refl
+ends-none link timer.L3 = refl
+ends-none link timer.L4 = refl
+ends-none link timer.L6 = refl
+ends-none link timer.L7 = refl
+
 module _ (link : ℕ) where
   pub same-for : (r : Running) → AreTimedFor link r r
-  same-for r = record { counts = refl; others = λ other apart. refl; due = λ name e. e }
+  same-for r = record { counts = refl; others = λ other apart. refl; due = λ name e. e; endings = λ name e. refl }
 
   both-for : (r s t : Running) → AreTimedFor link r s → AreTimedFor link s t → AreTimedFor link r t
   both-for r s t e f = record {
     counts = f.counts ∙ e.counts;
     others = λ other apart. f.others other apart ∙ e.others other apart;
     due = λ name h. e.due name (f.due name h);
+    endings = λ name h. f.endings name h ∙ e.endings name h;
   }
 
   either-for : (b : Bool) (r s t : Running) → AreTimedFor link r s → AreTimedFor link r t → AreTimedFor link r (if b then s else t)
@@ -38,6 +50,7 @@ module _ (link : ℕ) where
     counts = counts-set (timer_name link t) ticks r;
     others = λ other apart. ap is_some (left-set_other (timer_name link t) (L7 other) ticks r (apart-name link other t apart));
     due = λ name e. due-set (timer_name link t) name ticks r e;
+    endings = λ name e. left-set_other (timer_name link t) name ticks r (apart-from (timer_name link t) name (ends-none link t) e);
   }
 
   clear-for : (t : LinkTimer) (r : Running) → AreTimedFor link r (without_timer link t r)
@@ -45,6 +58,7 @@ module _ (link : ℕ) where
     counts = counts-clear (timer_name link t) r;
     others = λ other apart. ap is_some (left-clear_other (timer_name link t) (L7 other) r (apart-name link other t apart));
     due = λ name e. due-clear (timer_name link t) name r e;
+    endings = λ name e. left-clear_other (timer_name link t) name r (apart-from (timer_name link t) name (ends-none link t) e);
   }
 
   pub without_timers-for : (r : Running) → AreTimedFor link r (without_timers link r)

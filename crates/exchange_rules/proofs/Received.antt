@@ -13,6 +13,7 @@ use Rattle.exchange_rules.proofs.Steps.{confirming}
 use Rattle.exchange_rules.proofs.SteppingFailures.{fail-steps}
 use Rattle.exchange_rules.proofs.SteppingLinks.{advance-serves, advance-steps, on_link_status-steps}
 use Rattle.exchange_rules.proofs.SteppingEvents.{IsOf, owing-serves, owing-steps, carry-steps, leave_aside-steps, settled-steps, tick-steps, run_next-steps, take-steps, apply-steps}
+use Rattle.exchange_rules.proofs.Rules.{rules-of}
 
 -- as many as there are
 abbrev one_if : Bool → ℕ
@@ -40,9 +41,9 @@ module _ (c : Configuration) (link : ℕ) where
   handle-count (Ok count) d n there serves e =
       let taken : Node WholeQueues = confirming c link d count n in
       let next : Node WholeQueues = accept whole c link d count n in
-      (carry-steps (same-steps link c) link d.message next
+      (carry-steps (rules-of (same-steps link c)) link d.message next
       (owing-serves link d.message (timed_parts c link count (whole.outstanding next.queues link) n.parts) ∙ serves)).same
-      ∙ (owing-steps (same-steps link c) link d.message taken).same
+      ∙ (owing-steps (rules-of (same-steps link c)) link d.message taken).same
       ∙ confirming-count d count n there e
   handle-count (Err fault) d n there serves e = (fail-steps (same-steps link c) link reasons.Sequence n).same ∙ none-more (received n link)
 
@@ -52,11 +53,11 @@ module _ (c : Configuration) (link : ℕ) where
   act-count act.Fail d n h there e = (fail-steps (same-steps link c) link reasons.Sequence n).same ∙ none-more (received n link)
   act-count (act.Go step) d n h there e =
       let next : Node WholeQueues = advance whole c link step n in
-      let places : HasAllPlaces c next = (advance-steps (places-steps c) link UserData step n tt e).stay h in
+      let places : HasAllPlaces c next = (advance-steps (rules-of (places-steps c)) link UserData step n tt e).stay h in
       let more : ℕ = one_if (is_some (new_by (numbers whole c link d next) d)) in
       handle-count (numbers whole c link d next) d next (omega (arith, there, places.queues))
       (advance-serves c link UserData step n e ∙ data-serves (link_at n.parts link).alignment step e) refl
-      ∙ ap (λ (k : ℕ). k + more) (advance-steps (same-steps link c) link UserData step n tt e).same
+      ∙ ap (λ (k : ℕ). k + more) (advance-steps (rules-of (same-steps link c)) link UserData step n tt e).same
 
   data-count : (d : Carrying) (n : Node WholeQueues) → HasAllPlaces c n → link < length c.links
       → received (receive_data whole c link d n).left link ≡ received n link + one_if (is_some (new_in (Some d) link c n))
@@ -66,8 +67,8 @@ module _ (c : Configuration) (link : ℕ) where
       → received (read whole c link r n).left link ≡ received n link + one_if (is_some (new_of r link c n))
   frame-count (Ok (EmptyFrame bsn fsn)) n h there = data-count (empty_data bsn fsn) n h there
   frame-count (Ok (MessageFrame bsn fsn sio sif)) n h there = data-count (message_data bsn fsn sio sif) n h there
-  frame-count (Ok (StatusFrame bsn fsn status)) n h there = (on_link_status-steps (same-steps link c) link status n tt).same ∙ none-more (received n link)
-  frame-count (Err fault) n h there = (leave_aside-steps (same-steps link c) link fault n).same ∙ none-more (received n link)
+  frame-count (Ok (StatusFrame bsn fsn status)) n h there = (on_link_status-steps (rules-of (same-steps link c)) link status n tt).same ∙ none-more (received n link)
+  frame-count (Err fault) n h there = (leave_aside-steps (rules-of (same-steps link c)) link fault n).same ∙ none-more (received n link)
 
   -- where the link is there, and isn't down
   receive-count : (there is_down : Bool) (r : Result FrameValue FrameFault) (n : Node WholeQueues) → HasAllPlaces c n → (there ≡ true → link < length c.links)
@@ -82,7 +83,7 @@ module _ (c : Configuration) (link : ℕ) where
       ≡ received n link + one_if (is_some (if is_link n.parts link && not (down n.parts link) then new_of (read_frame text) link c n else None))
   unfolding apply
   own-frame text n h =
-      (settled-steps (same-steps link c) (receive whole c link text n).left).same
+      (settled-steps (rules-of (same-steps link c)) (receive whole c link text n).left).same
       ∙ receive-count (is_link n.parts link) (down n.parts link) (read_frame text) n h
       (λ e. let known : link < length n.parts.links = grind (arith, nat_tests, e) in omega (arith, known, h.parts.links))
 
@@ -91,8 +92,8 @@ module _ (c : Configuration) (link : ℕ) where
 other-event : (c : Configuration) (what : Happening) (n : Node WholeQueues) (l : ℕ) → ((link : ℕ) → IsOf what link → link ≢ l)
     → received (apply whole c what n).left l ≡ received n l + 0
 other-event c what n l other =
-    (apply-steps (same-steps l c) what n (λ link of. tt) other
-    (λ e. tick-steps (same-steps l c) n (same-queues l n _ refl) (λ m. run_next-steps (same-steps l c) m (same-queues l m _ refl) (λ link. tt)))).same
+    (apply-steps (rules-of (same-steps l c)) what n (λ link of. tt) other
+    (λ e. tick-steps (rules-of (same-steps l c)) n (same-queues l n _ refl) (λ m. run_next-steps (rules-of (same-steps l c)) m (same-queues l m _ refl) (λ link. tt)))).same
     ∙ none-more (received n l)
 
 apart : (its l : ℕ) → nat_eq its l ≡ false → (link : ℕ) → link ≡ its → link ≢ l
@@ -118,7 +119,7 @@ received-counted (TitleAdded row refused) a l h e = other-event a.settings (Titl
 received-counted (TitleRemoved key digits) a l h e = other-event a.settings (TitleRemoved key digits) a.node l (λ link of same. of)
 
 pub takes-receive : takes_receive_nothing
-takes-receive a link other = (take-steps (same-steps other a.settings) link a.node tt).same
+takes-receive a link other = (take-steps (rules-of (same-steps other a.settings)) link a.node tt).same
 
 -- ---- what comes of a frame that newly carries nothing
 

@@ -1,6 +1,6 @@
 -- Laws of the exchange at nodes of one link, by computation.
 use Rattle.exchange_rules.proofs.Basics.{◌≡◌, Bool, true, false, refl, ap, sym, ◌∙◌, [], ◌∷◌, true≢false}
-use Rattle.exchange_rules.proofs.Definitions.{choice_among, link_by, first_sets, Procedure, Changeover, with_flows, holds, is_held, flows_add, holds_its_flow, held_by, none_at_first, Node, WholeQueues, queue_at, whole, apply, tell_owed, go_by, facts, is_failed}
+use Rattle.exchange_rules.proofs.Definitions.{set_timer, Time, is_taken_back, choice_among, link_by, first_sets, Procedure, Changeover, with_flows, holds, is_held, flows_add, holds_its_flow, held_by, none_at_first, Node, WholeQueues, queue_at, whole, apply, tell_owed, go_by, facts, is_failed}
 use Rattle.routes.specs.Members.{links_below}
 use Rattle.exchange_rules.specs.RuleExamples as examples
 use Rattle.exchange_rules.specs.RuleExamples.{settings, message, nothing_held, flow_held, node_with, the_routes}
@@ -49,3 +49,13 @@ unfolding choice_among link_by first_sets links_below with_flows
 failure_holds_the_flow =
     let node : Node WholeQueues = node_with nothing_held [] [] (message ∷ []) in
     flows_add nothing_held (Changeover 0) (is_failed settings (facts settings node.parts) 0 (message ∷ [])) 0 0
+
+-- ---- a return
+
+pub return_holds_the_flow : examples.return_holds_the_flow
+unfolding choice_among link_by
+return_holds_the_flow = flows_add nothing_held (Time 0) (is_taken_back (examples.two_sets false) (examples.two_sets true) 1 0) 0 0
+
+pub return_has_its_timer : examples.return_has_its_timer
+unfolding set_timer
+return_has_its_timer = refl

@@ -17,6 +17,7 @@ use Rattle.exchange_rules.proofs.Steps.{confirming, IsOfSteps}
 use Rattle.exchange_rules.proofs.Asked.{any}
 use Rattle.exchange_rules.proofs.SteppingFailures.{fail-links, fail-steps}
 use Rattle.exchange_rules.proofs.SteppingEvents.{run_timer-steps}
+use Rattle.exchange_rules.proofs.Rules.{rules-of}
 
 not-associated : (association active : Bool) → (not association && active) ≡ true → association ≡ false
 not-associated true active e = absurd cc
@@ -190,7 +191,7 @@ module _ (c : Configuration) (l : ℕ) where
       (record { stay = λ h. l7-runs_out next (l7-gone n (e ∙ ap Some (sym is)) h) })
   handed_out-keeps false name n e f =
       let next : Node WholeQueues = with_timers n (after_due n.parts.timers) in
-      record { stay = λ h. (run_timer-steps (steady-steps true c l) name next (λ link its e. tt)).stay ((other-gone name n e f).stay h) }
+      record { stay = λ h. (run_timer-steps (rules-of (steady-steps true c l)) name next (λ link its e. tt)).stay ((other-gone name n e f).stay h) }
 
   due-keeps : (due : Option TimerName) (n : Node WholeQueues) → due_name n.parts.timers ≡ due
       → Keeps true c l n (run_due whole c due (with_timers n (after_due n.parts.timers)))

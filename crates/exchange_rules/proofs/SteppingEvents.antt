@@ -10,12 +10,10 @@ use Rattle.signalling_types.specs.declared.notice.ChangeoverTimer.TheVariants as
 use Rattle.link.specs.declared.action.Action.TheVariants as act
 use Rattle.link.specs.declared.action.LinkTimer.TheVariants as timer
 use Rattle.timers.specs.declared.name.TimerName.TheVariants as name
-use Rattle.exchange_rules.proofs.Places.{lifted-fits}
 use Rattle.exchange_rules.proofs.Lists.{alike-at}
 use Rattle.exchange_rules.proofs.Serving.{data-serves}
-use Rattle.exchange_rules.proofs.Steps.{IsOfSteps, confirming, either_done-steps}
+use Rattle.exchange_rules.proofs.Steps.{IsOfRules, confirming, either_done-steps}
 use Rattle.exchange_rules.proofs.SteppingMessages.{ask_again-steps, tell_owed-steps}
-use Rattle.exchange_rules.proofs.SteppingFailures.{fail-steps, on_changeover_timer-steps}
 use Rattle.exchange_rules.proofs.SteppingRelaying.{add_title-steps, remove_title-steps}
 use Rattle.exchange_rules.proofs.SteppingLinks.{advance-serves, advance-steps, on_link_status-steps, run_out-steps, association_up-steps, association_down-steps, activate-steps, deactivate-steps}
 use Rattle.exchange_rules.proofs.SteppingLocal.{deliver-steps, submit-steps}
@@ -37,32 +35,32 @@ IsOf (Deactivated link) l = ⊥
 IsOf (TitleAdded row is_memory_refused) l = ⊥
 IsOf (TitleRemoved key digits) l = ⊥
 
-module _ {c : Configuration} {Own Counts : ℕ → Type 0} {R : Node WholeQueues → Node WholeQueues → Type 0} (s : IsOfSteps c Own Counts R) where
+module _ {c : Configuration} {Own Counts : ℕ → Type 0} {R : Node WholeQueues → Node WholeQueues → Type 0} (s : IsOfRules c Own Counts R) where
   -- ---- a frame
 
   pub carry-steps : (link : ℕ) (m : Option Message) (n : Node WholeQueues) → in_service n.parts link ≡ true → R n (carry whole c link m n).left
-  carry-steps link None n e = s.none n
+  carry-steps link None n e = s.sends.none n
   carry-steps link (Some m) n e = deliver-steps s link m n e
 
   pub owing-steps : (link : ℕ) (m : Option Message) (n : Node WholeQueues) → R n (with_parts n (owing link m n.parts))
-  owing-steps link None n = s.none n
+  owing-steps link None n = s.sends.none n
   owing-steps link (Some m) n = s.linked link (record (link_at n.parts link) { acknowledgement_owed = true }) n (record { alignment = refl; association = refl; busy = refl })
 
   handle_by-steps : (answer : Result ℕ SeqFault) (link : ℕ) (d : Carrying) (n : Node WholeQueues) → Counts link → in_service n.parts link ≡ true → numbers whole c link d n ≡ answer
       → R n (handle_by whole c answer link d n).left
   handle_by-steps (Ok confirmed) link d n own e f =
       let next : Node WholeQueues = accept whole c link d confirmed n in
-      s.both _ _ _ (s.both _ _ _ (s.accepted link d confirmed n own e f) (owing-steps link d.message (confirming c link d confirmed n)))
+      s.sends.both _ _ _ (s.sends.both _ _ _ (s.accepted link d confirmed n own e f) (owing-steps link d.message (confirming c link d confirmed n)))
       (carry-steps link d.message next (owing-serves link d.message (timed_parts c link confirmed (whole.outstanding next.queues link) n.parts) ∙ e))
-  handle_by-steps (Err fault) link d n own e f = fail-steps s link reasons.Sequence n
+  handle_by-steps (Err fault) link d n own e f = s.fails link reasons.Sequence n
 
   act_by_data-steps : (a : Action) (link : ℕ) (d : Carrying) (n : Node WholeQueues) → Own link → Counts link → action_at (link_at n.parts link).alignment UserData ≡ a
       → R n (act_by_data whole c a link d n).left
-  act_by_data-steps act.Ignored link d n own counts e = s.none n
-  act_by_data-steps act.Fail link d n own counts e = fail-steps s link reasons.Sequence n
+  act_by_data-steps act.Ignored link d n own counts e = s.sends.none n
+  act_by_data-steps act.Fail link d n own counts e = s.fails link reasons.Sequence n
   act_by_data-steps (act.Go step) link d n own counts e =
       let next : Node WholeQueues = advance whole c link step n in
-      s.both _ _ _ (advance-steps s link UserData step n own e)
+      s.sends.both _ _ _ (advance-steps s link UserData step n own e)
       (handle_by-steps (numbers whole c link d next) link d next counts
       (advance-serves c link UserData step n e ∙ data-serves (link_at n.parts link).alignment step e) refl)
 
@@ -75,10 +73,10 @@ module _ {c : Configuration} {Own Counts : ℕ → Type 0} {R : Node WholeQueues
   receive_frame-steps link (StatusFrame bsn fsn status) n own counts = on_link_status-steps s link status n own
 
   pub leave_aside-steps : (link : ℕ) (fault : FrameFault) (n : Node WholeQueues) → R n (leave_aside whole c link fault n).left
-  leave_aside-steps link faults.Length n = fail-steps s link reasons.Length n
-  leave_aside-steps link faults.Short n = s.noted (notices.Frame faults.Short link) n (record { lost = λ f. absurd cc; late = λ f. absurd cc })
-  leave_aside-steps link faults.Version n = s.noted (notices.Frame faults.Version link) n (record { lost = λ f. absurd cc; late = λ f. absurd cc })
-  leave_aside-steps link faults.Unknown n = s.noted (notices.Frame faults.Unknown link) n (record { lost = λ f. absurd cc; late = λ f. absurd cc })
+  leave_aside-steps link faults.Length n = s.fails link reasons.Length n
+  leave_aside-steps link faults.Short n = s.sends.noted (notices.Frame faults.Short link) n (record { lost = λ f. absurd cc; late = λ f. absurd cc })
+  leave_aside-steps link faults.Version n = s.sends.noted (notices.Frame faults.Version link) n (record { lost = λ f. absurd cc; late = λ f. absurd cc })
+  leave_aside-steps link faults.Unknown n = s.sends.noted (notices.Frame faults.Unknown link) n (record { lost = λ f. absurd cc; late = λ f. absurd cc })
 
   read-steps : (link : ℕ) (r : Result FrameValue FrameFault) (n : Node WholeQueues) → Own link → Counts link → R n (read whole c link r n).left
   read-steps link (Ok frame) n own counts = receive_frame-steps link frame n own counts
@@ -86,24 +84,24 @@ module _ {c : Configuration} {Own Counts : ℕ → Type 0} {R : Node WholeQueues
 
   pub receive-steps : (link : ℕ) (text : List ℕ) (n : Node WholeQueues) → Own link → Counts link → R n (receive whole c link text n).left
   receive-steps link text n own counts =
-      either_done-steps s (is_link n.parts link) n (if down n.parts link then answer Ignored n else read whole c link (read_frame text) n) (refuse causes.NoSuchName n)
-      (either_done-steps s (down n.parts link) n (answer Ignored n) (read whole c link (read_frame text) n) (s.none n) (read-steps link (read_frame text) n own counts))
-      (s.none n)
+      either_done-steps s.sends (is_link n.parts link) n (if down n.parts link then answer Ignored n else read whole c link (read_frame text) n) (refuse causes.NoSuchName n)
+      (either_done-steps s.sends (down n.parts link) n (answer Ignored n) (read whole c link (read_frame text) n) (s.sends.none n) (read-steps link (read_frame text) n own counts))
+      (s.sends.none n)
 
   -- ---- timers that are due
 
   late_time-steps : (link : ℕ) (n : Node WholeQueues) → R n (with_parts n (late_time link n.parts))
   late_time-steps link n =
-      s.both _ _ _ (s.late n)
-      (s.both _ _ _ (s.noted (notices.Late late_timer.T3 link) _ (record { lost = λ f. absurd cc; late = λ f. refl })) (s.holding _ _ (record { fits = lifted-fits c n.parts.holds (Time link) })))
+      s.sends.both _ _ _ (s.late n)
+      (s.sends.both _ _ _ (s.sends.noted (notices.Late late_timer.T3 link) _ (record { lost = λ f. absurd cc; late = λ f. refl })) (s.lifts (Time link) _))
 
   late_code-steps : (set code : ℕ) (n : Node WholeQueues) → R n (with_parts n (late_code set code n.parts))
   late_code-steps set code n =
-      s.both _ _ _ (s.late n)
-      (s.both _ _ _ (s.noted (notices.Late late_timer.T4 code) _ (record { lost = λ f. absurd cc; late = λ f. refl })) (s.holding _ _ (record { fits = lifted-fits c n.parts.holds (Code set code) })))
+      s.sends.both _ _ _ (s.late n)
+      (s.sends.both _ _ _ (s.sends.noted (notices.Late late_timer.T4 code) _ (record { lost = λ f. absurd cc; late = λ f. refl })) (s.lifts (Code set code) _))
 
   rerouting_ended-steps : (destination : ℕ) (n : Node WholeQueues) → R n (with_parts n (rerouting_ended destination n.parts))
-  rerouting_ended-steps destination n = s.holding _ n (record { fits = lifted-fits c n.parts.holds (Reroute destination) })
+  rerouting_ended-steps destination n = s.lifts (Reroute destination) n
 
   pub run_timer-steps : (timer : TimerName) (n : Node WholeQueues) → ((link : ℕ) (its : LinkTimer) → timer ≡ timer_name link its → Own link) → R n (run_timer whole c timer n)
   run_timer-steps (name.L1 link) n own = run_out-steps s link timer.L1 n (own link timer.L1 refl)
@@ -112,30 +110,30 @@ module _ {c : Configuration} {Own Counts : ℕ → Type 0} {R : Node WholeQueues
   run_timer-steps (name.L4 link) n own = run_out-steps s link timer.L4 n (own link timer.L4 refl)
   run_timer-steps (name.L6 link) n own = run_out-steps s link timer.L6 n (own link timer.L6 refl)
   run_timer-steps (name.L7 link) n own = run_out-steps s link timer.L7 n (own link timer.L7 refl)
-  run_timer-steps (name.T1 link) n own = on_changeover_timer-steps s changeover.T1 link n
-  run_timer-steps (name.T2 link) n own = on_changeover_timer-steps s changeover.T2 link n
+  run_timer-steps (name.T1 link) n own = s.expires changeover.T1 link n
+  run_timer-steps (name.T2 link) n own = s.expires changeover.T2 link n
   run_timer-steps (name.T3 link) n own = late_time-steps link n
   run_timer-steps (name.T4 set code) n own = late_code-steps set code n
   run_timer-steps (name.T6 destination) n own = rerouting_ended-steps destination n
-  run_timer-steps (name.T8 set destination) n own = s.none n
+  run_timer-steps (name.T8 set destination) n own = s.sends.none n
   run_timer-steps (name.T10 set destination) n own = ask_again-steps s set destination n
 
   -- ---- release
 
   go_on-steps : (link : Option ℕ) (m : Message) (n : Node WholeQueues) → link_of c n.parts (flow_of m) ≡ link → R n (go_on whole c link m n)
-  go_on-steps (Some link) m n e = s.routed link m n e
-  go_on-steps None m n e = s.both _ _ _ (s.lost n) (s.noted (notices.Lost causes.NoRoute (flow_of m).point (flow_of m).sls) _ (record { lost = λ f. refl; late = λ f. absurd cc }))
+  go_on-steps (Some link) m n e = s.sends.routed link m n e
+  go_on-steps None m n e = s.sends.both _ _ _ (s.sends.lost n) (s.sends.noted (notices.Lost causes.NoRoute (flow_of m).point (flow_of m).sls) _ (record { lost = λ f. refl; late = λ f. absurd cc }))
 
   pub go_by-steps : (waiting : Bool) (m : Message) (n : Node WholeQueues) → waits c n.parts.holds m ≡ waiting → R n (go_by whole c waiting m n)
   go_by-steps true m n e = s.held m n e
   go_by-steps false m n e = go_on-steps (link_of c n.parts (flow_of m)) m n refl
 
   go_each-steps : (ms : List Message) (n : Node WholeQueues) → R n (go_each whole c ms n)
-  go_each-steps [] n = s.none n
-  go_each-steps (m ∷ ms) n = s.both _ _ _ (go_by-steps (waits c n.parts.holds m) m n refl) (go_each-steps ms (go whole c m n))
+  go_each-steps [] n = s.sends.none n
+  go_each-steps (m ∷ ms) n = s.sends.both _ _ _ (go_by-steps (waits c n.parts.holds m) m n refl) (go_each-steps ms (go whole c m n))
 
   pub release-steps : (n : Node WholeQueues) → R n (release whole c n)
-  release-steps n = s.both _ _ _ (s.taken_out n) (go_each-steps n.queues.held (record n { queues = whole.without_held n.queues }))
+  release-steps n = s.sends.both _ _ _ (s.taken_out n) (go_each-steps n.queues.held (record n { queues = whole.without_held n.queues }))
 
   -- ---- what goes out
 
@@ -147,7 +145,7 @@ module _ {c : Configuration} {Own Counts : ℕ → Type 0} {R : Node WholeQueues
 
   owed-steps : (link : ℕ) (owed : Bool) (n : Node WholeQueues) → R n (after_sending whole c link n (if_owed owed))
   owed-steps link true n = s.linked link (without_owed (link_at n.parts link)) n (record { alignment = refl; association = refl; busy = refl })
-  owed-steps link false n = s.none n
+  owed-steps link false n = s.sends.none n
 
   message-steps : (link : ℕ) (next : Option Sending) (owed : Bool) (n : Node WholeQueues) → Own link → next_message whole c link n ≡ next
       → R n (after_sending whole c link n (message_first next owed))
@@ -164,19 +162,19 @@ module _ {c : Configuration} {Own Counts : ℕ → Type 0} {R : Node WholeQueues
 
   -- a tick, where each timer that is due may be handed out and run
   run_times-steps : (many : ℕ) (n : Node WholeQueues) → ((m : Node WholeQueues) → R m (run_next whole c m)) → R n (run_times whole c many n)
-  run_times-steps zero n each = s.none n
-  run_times-steps (suc more) n each = s.both _ _ _ (each n) (run_times-steps more (run_next whole c n) each)
+  run_times-steps zero n each = s.sends.none n
+  run_times-steps (suc more) n each = s.sends.both _ _ _ (each n) (run_times-steps more (run_next whole c n) each)
 
   pub tick-steps : (n : Node WholeQueues) → R n (with_timers n (ticked n.parts.timers)) → ((m : Node WholeQueues) → R m (run_next whole c m)) → R n (tick whole c n).left
-  tick-steps n e each = s.both _ _ _ e (run_times-steps (due_count (ticked n.parts.timers)) (with_timers n (ticked n.parts.timers)) each)
+  tick-steps n e each = s.sends.both _ _ _ e (run_times-steps (due_count (ticked n.parts.timers)) (with_timers n (ticked n.parts.timers)) each)
 
   pub run_due-steps : (timer : Option TimerName) (n : Node WholeQueues) → ((link : ℕ) (its : LinkTimer) → timer ≡ Some (timer_name link its) → Own link)
       → R n (run_due whole c timer n)
-  run_due-steps None n own = s.none n
+  run_due-steps None n own = s.sends.none n
   run_due-steps (Some timer) n own = run_timer-steps timer n (λ link its e. own link its (ap (λ (x : TimerName). Some x) e))
 
   pub run_next-steps : (n : Node WholeQueues) → R n (with_timers n (after_due n.parts.timers)) → ((link : ℕ) → Own link) → R n (run_next whole c n)
-  run_next-steps n e own = s.both _ _ _ e (run_due-steps (due_name n.parts.timers) (with_timers n (after_due n.parts.timers)) (λ link its e. own link))
+  run_next-steps n e own = s.sends.both _ _ _ e (run_due-steps (due_name n.parts.timers) (with_timers n (after_due n.parts.timers)) (λ link its e. own link))
 
   pub handle_event-steps : (what : Happening) (n : Node WholeQueues) → ((link : ℕ) → IsOf what link → Own link) → ((link : ℕ) → IsOf what link → Counts link)
       → (what ≡ Ticked → R n (tick whole c n).left) → R n (handle_event whole c what n).left
@@ -191,9 +189,9 @@ module _ {c : Configuration} {Own Counts : ℕ → Type 0} {R : Node WholeQueues
   handle_event-steps (TitleRemoved key digits) n own counts ticks = remove_title-steps s key digits n
 
   pub settled-steps : (n : Node WholeQueues) → R n (tell_owed whole c (release whole c n))
-  settled-steps n = s.both _ _ _ (release-steps n) (tell_owed-steps s (release whole c n))
+  settled-steps n = s.sends.both _ _ _ (release-steps n) (tell_owed-steps s (release whole c n))
 
   pub apply-steps : (what : Happening) (n : Node WholeQueues) → ((link : ℕ) → IsOf what link → Own link) → ((link : ℕ) → IsOf what link → Counts link)
       → (what ≡ Ticked → R n (tick whole c n).left) → R n (apply whole c what n).left
   unfolding apply
-  apply-steps what n own counts ticks = s.both _ _ _ (handle_event-steps what n own counts ticks) (settled-steps (handle_event whole c what n).left)
+  apply-steps what n own counts ticks = s.sends.both _ _ _ (handle_event-steps what n own counts ticks) (settled-steps (handle_event whole c what n).left)

@@ -7,7 +7,7 @@ use Rattle.signalling_types.specs.declared.notice.ChangeoverTimer.TheVariants as
 use Rattle.timers.specs.declared.name.TimerName.TheVariants as name
 use Rattle.timers.specs.declared.name.RouteTimer.TheVariants as of_set
 use Rattle.exchange_rules.proofs.Places.{with_flows-fits, lifted-fits}
-use Rattle.exchange_rules.proofs.Steps.{AreTimed, AreHeld, IsOfSteps, either-steps, either_done-steps}
+use Rattle.exchange_rules.proofs.Steps.{AreTimed, AreHeld, IsOfSteps, sends-of, either-steps, either_done-steps}
 use Rattle.exchange_rules.proofs.SteppingTimers.{set-timed, clear-timed, clear_set-timed}
 use Rattle.exchange_rules.proofs.SteppingMessages.{send_routed-steps, send_each-steps}
 
@@ -80,7 +80,7 @@ module _ {c : Configuration} {Own Counts : ℕ → Type 0} {R : Node WholeQueues
       let begins : Node WholeQueues = with_parts gone (changing c true link gone.parts) in
       s.both _ _ _ (fell-steps link why (failed true (changeover_of gone.parts link)) n e refl)
       (s.both _ _ _ (s.timed _ _ (timed_changeover-timed c true link gone.parts.timers))
-      (send_routed-steps s (changeover_order c link (whole.last_accepted gone.queues link)) begins))
+      (send_routed-steps (sends-of s) (changeover_order c link (whole.last_accepted gone.queues link)) begins))
   begun-steps false link why n e =
       let gone : Node WholeQueues = make_unavailable whole c true link why n in
       s.both _ _ _ (fell-steps link why (failed false (changeover_of gone.parts link)) n e refl)
@@ -132,12 +132,12 @@ module _ {c : Configuration} {Own Counts : ℕ → Type 0} {R : Node WholeQueues
       let found : Found = whole.found n.queues link number in
       let done : Node WholeQueues = record { queues = whole.completed n.queues link number; parts = with_changeover link st n.parts } in
       s.both _ _ _ (s.completed link number st n e i)
-      (s.both _ _ _ (concluded-steps link found done) (send_each-steps s found.queued_anew (with_parts done (concluded link found done.parts))))
+      (s.both _ _ _ (concluded-steps link found done) (send_each-steps (sends-of s) found.queued_anew (with_parts done (concluded link found done.parts))))
   ended-steps false link number st n e i = s.answered link st n e i
 
   pub fail_by_order-steps : (link : ℕ) (n : Node WholeQueues) → R n (fail_by_order whole c link n)
   fail_by_order-steps link n =
-      either-steps s (down n.parts link) n n (fail_by_peer whole c link n) (s.none n) (failing_by_peer-steps (in_service n.parts link) link n refl)
+      either-steps (sends-of s) (down n.parts link) n n (fail_by_peer whole c link n) (s.none n) (failing_by_peer-steps (in_service n.parts link) link n refl)
 
   pub complete_by_order-steps : (link : ℕ) (number : Option ℕ) (n : Node WholeQueues) → R n (complete_by_order whole c link number n)
   complete_by_order-steps link number n = ended-steps (changeover_of n.parts link).incomplete link number (completed (changeover_of n.parts link)) n refl refl
@@ -147,7 +147,7 @@ module _ {c : Configuration} {Own Counts : ℕ → Type 0} {R : Node WholeQueues
       let one : Node WholeQueues = fail_by_order whole c link n in
       let two : Node WholeQueues = complete_by_order whole c link number one in
       s.both _ _ _ (fail_by_order-steps link n)
-      (s.both _ _ _ (complete_by_order-steps link number one) (send_routed-steps s (changeover_acknowledgement c link (whole.last_accepted two.queues link)) two))
+      (s.both _ _ _ (complete_by_order-steps link number one) (send_routed-steps (sends-of s) (changeover_acknowledgement c link (whole.last_accepted two.queues link)) two))
 
   acknowledged-steps : (link : ℕ) (number : Option ℕ) (n : Node WholeQueues)
       → R n (complete_if whole c (changeover_of n.parts link).incomplete link number (with_parts n (with_changeover_acknowledged link n.parts)))
@@ -159,7 +159,7 @@ module _ {c : Configuration} {Own Counts : ℕ → Type 0} {R : Node WholeQueues
   pub on_changeover_acknowledgement-steps : (link : ℕ) (number : Option ℕ) (n : Node WholeQueues) → R n (on_changeover_acknowledgement whole c link number n).left
   on_changeover_acknowledgement-steps link number n =
       let done : Node WholeQueues = complete_if whole c (changeover_of n.parts link).incomplete link number (with_parts n (with_changeover_acknowledged link n.parts)) in
-      either_done-steps s (changeover_of n.parts link).awaited n (answer Handled done) (answer Ignored n) (acknowledged-steps link number n) (s.none n)
+      either_done-steps (sends-of s) (changeover_of n.parts link).awaited n (answer Handled done) (answer Ignored n) (acknowledged-steps link number n) (s.none n)
 
   -- ---- a timer of the changeover ran out
 
@@ -177,4 +177,4 @@ module _ {c : Configuration} {Own Counts : ℕ → Type 0} {R : Node WholeQueues
   pub on_changeover_timer-steps : (timer : ChangeoverTimer) (link : ℕ) (n : Node WholeQueues) → R n (on_changeover_timer whole c timer link n)
   on_changeover_timer-steps timer link n =
       let done : Node WholeQueues = complete_if whole c (changeover_of n.parts link).incomplete link None (with_parts n (with_expiry timer link n.parts)) in
-      either-steps s (is_link n.parts link) n done n (expired-steps timer link n) (s.none n)
+      either-steps (sends-of s) (is_link n.parts link) n done n (expired-steps timer link n) (s.none n)

@@ -9,10 +9,10 @@ use Rattle.timers.specs.declared.name.RouteTimer.TheVariants as of_set
 use Rattle.node_links.specs.Network.{link_in}
 use Rattle.exchange_rules.proofs.TakenPairs.{take_back_each-alike}
 use Rattle.exchange_rules.proofs.Serving.{serves-in}
-use Rattle.exchange_rules.proofs.Steps.{IsOfSteps, with_busy, without_busy, either-steps, either_done-steps}
+use Rattle.exchange_rules.proofs.Steps.{IsOfRules, with_busy, without_busy, either-steps, either_done-steps}
 use Rattle.exchange_rules.proofs.OwnRoutes.{rerouted-reset}
-use Rattle.exchange_rules.proofs.SteppingTimers.{both-timed, clear_set-timed}
-use Rattle.exchange_rules.proofs.SteppingFailures.{fail-links, fail-steps}
+use Rattle.exchange_rules.proofs.SteppingTimers.{both-quiet, clear_set-quiet}
+use Rattle.exchange_rules.proofs.SteppingFailures.{fail-links}
 use Rattle.exchange_rules.proofs.SteppingReturns.{change_back-steps}
 
 -- ---- a link that takes a step of its alignment is there
@@ -83,19 +83,19 @@ complete st e = by st.incomplete st.awaited e
     by true awaited h = absurd cc
     by false awaited h = refl
 
-module _ {c : Configuration} {Own Counts : ℕ → Type 0} {R : Node WholeQueues → Node WholeQueues → Type 0} (s : IsOfSteps c Own Counts R) where
+module _ {c : Configuration} {Own Counts : ℕ → Type 0} {R : Node WholeQueues → Node WholeQueues → Type 0} (s : IsOfRules c Own Counts R) where
   -- ---- a step of an alignment
 
   set_reset-steps : (set : ℕ) (n : Node WholeQueues) → R n (with_parts n (with_set_reset c set n.parts))
   set_reset-steps set n =
       let reset : Parts = with_set_reset c set n.parts in
-      s.both _ _ _ (s.rerouted reset.routes n (rerouted-reset n.parts.told n.parts.routes set))
-      (s.both _ _ _ (s.told reset.told _ (record { shape = reset_shape n.parts.told set; adjacents = refl }))
-      (s.timed reset.timers _ (both-timed _ _ _ (clear_set-timed of_set.T8 set n.parts.timers) (clear_set-timed of_set.T10 set (clear_set of_set.T8 set n.parts.timers)))))
+      s.sends.both _ _ _ (s.rerouted reset.routes n (rerouted-reset n.parts.told n.parts.routes set))
+      (s.sends.both _ _ _ (s.told reset.told _ (record { shape = reset_shape n.parts.told set; adjacents = refl }))
+      (s.timed reset.timers _ (both-quiet _ _ _ (clear_set-quiet of_set.T8 set n.parts.timers) (clear_set-quiet of_set.T10 set (clear_set of_set.T8 set n.parts.timers)))))
 
   pub anew-steps : (first : Bool) (link : ℕ) (n : Node WholeQueues) → R n (with_parts n (begun_anew_if first c link n.parts))
   anew-steps true link n = set_reset-steps (set_of c link) n
-  anew-steps false link n = s.none n
+  anew-steps false link n = s.sends.none n
 
   -- a link that entered service takes its flows back
   entered-steps : (entered : Bool) (link : ℕ) (step : Transition) (n : Node WholeQueues) → link < length n.parts.links → enters link step n.parts ≡ entered
@@ -105,49 +105,49 @@ module _ {c : Configuration} {Own Counts : ℕ → Type 0} {R : Node WholeQueues
       change_back-steps s link n.parts (with_parts n moved)
       (ap (λ (l : Link). is_in_service l.alignment) (moved-at c link link step n.parts ∙ stepped-at c link step n.parts there) ∙ front (is_in_service step.state) _ e)
       (λ other apart serves. ap (λ (l : Link). is_in_service l.alignment) (moved-at c link other step n.parts ∙ stepped-other c link other step n.parts apart) ∙ serves)
-  entered-steps false link step n there e = s.none (with_parts n (moved_on c link step n.parts))
+  entered-steps false link step n there e = s.sends.none (with_parts n (moved_on c link step n.parts))
 
   pub advance-steps : (link : ℕ) (input : Input) (step : Transition) (n : Node WholeQueues) → Own link → action_at (link_at n.parts link).alignment input ≡ act.Go step
       → R n (advance whole c link step n)
   advance-steps link input step n own e =
       let first : Bool = enters link step n.parts && not (has_other c link n.parts) in
-      s.both _ _ _ (s.both _ _ _ (s.stepped link input step n own e) (anew-steps first link (with_parts n (step_on c link step n.parts))))
+      s.sends.both _ _ _ (s.sends.both _ _ _ (s.stepped link input step n own e) (anew-steps first link (with_parts n (step_on c link step n.parts))))
       (entered-steps (enters link step n.parts) link step n (stepping-there n.parts link input step e) refl)
 
   -- ---- statuses and timers of a link
 
   busy-steps : (busy : Bool) (link : ℕ) (n : Node WholeQueues) → Own link → in_service n.parts link ≡ true → (link_at n.parts link).peer_busy ≡ busy
       → R n (with_parts n (if busy then n.parts else with_busy c link n.parts))
-  busy-steps true link n own e f = s.none n
+  busy-steps true link n own e f = s.sends.none n
   busy-steps false link n own e f = s.busied link n own e f
 
   resuming-steps : (busy : Bool) (link : ℕ) (n : Node WholeQueues) → Own link → in_service n.parts link ≡ true → (link_at n.parts link).peer_busy ≡ busy
       → R n (with_parts n (if busy then without_busy c link (whole.outstanding n.queues link) n.parts else n.parts))
   resuming-steps true link n own e f = s.resumed link n own e f
-  resuming-steps false link n own e f = s.none n
+  resuming-steps false link n own e f = s.sends.none n
 
   serve_status-steps : (link : ℕ) (status : LinkStatus) (n : Node WholeQueues) → Own link → in_service n.parts link ≡ true → R n (serve_status whole c link status n)
   serve_status-steps link says.Busy n own e = busy-steps (link_at n.parts link).peer_busy link n own e refl
   serve_status-steps link says.BusyEnded n own e = resuming-steps (link_at n.parts link).peer_busy link n own e refl
-  serve_status-steps link says.Alignment n own e = s.none n
-  serve_status-steps link says.ProvingNormal n own e = s.none n
-  serve_status-steps link says.ProvingEmergency n own e = s.none n
-  serve_status-steps link says.Ready n own e = s.none n
-  serve_status-steps link says.ProcessorOutage n own e = s.none n
-  serve_status-steps link says.ProcessorRecovered n own e = s.none n
-  serve_status-steps link says.OutOfService n own e = s.none n
+  serve_status-steps link says.Alignment n own e = s.sends.none n
+  serve_status-steps link says.ProvingNormal n own e = s.sends.none n
+  serve_status-steps link says.ProvingEmergency n own e = s.sends.none n
+  serve_status-steps link says.Ready n own e = s.sends.none n
+  serve_status-steps link says.ProcessorOutage n own e = s.sends.none n
+  serve_status-steps link says.ProcessorRecovered n own e = s.sends.none n
+  serve_status-steps link says.OutOfService n own e = s.sends.none n
 
   served-steps : (serve : Bool) (link : ℕ) (status : LinkStatus) (n : Node WholeQueues) → Own link → (serve ≡ true → in_service n.parts link ≡ true)
       → R n (if serve then serve_status whole c link status n else n)
   served-steps true link status n own e = serve_status-steps link status n own (e refl)
-  served-steps false link status n own e = s.none n
+  served-steps false link status n own e = s.sends.none n
 
   act_by_status-steps : (a : Action) (link : ℕ) (status : LinkStatus) (n : Node WholeQueues) → Own link → action_at (link_at n.parts link).alignment (Status status) ≡ a
       → R n (act_by_status whole c a link status n).left
-  act_by_status-steps act.Ignored link status n own e = s.none n
-  act_by_status-steps act.Fail link status n own e = fail-steps s link reasons.Status n
+  act_by_status-steps act.Ignored link status n own e = s.sends.none n
+  act_by_status-steps act.Fail link status n own e = s.fails link reasons.Status n
   act_by_status-steps (act.Go step) link status n own e =
-      s.both _ _ _ (advance-steps link (Status status) step n own e)
+      s.sends.both _ _ _ (advance-steps link (Status status) step n own e)
       (served-steps step.serve link status (advance whole c link step n) own
       (λ h. advance-serves c link (Status status) step n e ∙ serves-in (link_at n.parts link).alignment (Status status) step e h))
 
@@ -156,8 +156,8 @@ module _ {c : Configuration} {Own Counts : ℕ → Type 0} {R : Node WholeQueues
 
   act_by_timer-steps : (a : Action) (link : ℕ) (timer : LinkTimer) (n : Node WholeQueues) → Own link → action_at (link_at n.parts link).alignment (Expiry timer) ≡ a
       → R n (act_by_timer whole c a link n)
-  act_by_timer-steps act.Ignored link timer n own e = s.none n
-  act_by_timer-steps act.Fail link timer n own e = fail-steps s link reasons.Timer n
+  act_by_timer-steps act.Ignored link timer n own e = s.sends.none n
+  act_by_timer-steps act.Fail link timer n own e = s.fails link reasons.Timer n
   act_by_timer-steps (act.Go step) link timer n own e = advance-steps link (Expiry timer) step n own e
 
   pub run_out-steps : (link : ℕ) (timer : LinkTimer) (n : Node WholeQueues) → Own link → R n (run_out whole c link timer n)
@@ -169,40 +169,40 @@ module _ {c : Configuration} {Own Counts : ℕ → Type 0} {R : Node WholeQueues
       → may_restart (changeover_of n.parts link) ≡ restarts
       → R n (if opens then (if restarts then answer Handled (open_link whole c link n) else refuse causes.ChangeoverPending n) else refuse causes.LinkNotReady n).left
   opened-steps true true link n own there e f = s.opened link n own there e (complete (changeover_of n.parts link) f)
-  opened-steps true false link n own there e f = s.none n
-  opened-steps false restarts link n own there e f = s.none n
+  opened-steps true false link n own there e f = s.sends.none n
+  opened-steps false restarts link n own there e f = s.sends.none n
 
   known-steps : (there : Bool) (link : ℕ) (n : Node WholeQueues) → Counts link → is_link n.parts link ≡ there
       → R n (if there then (if may_open (link_at n.parts link)
       then (if may_restart (changeover_of n.parts link) then answer Handled (open_link whole c link n) else refuse causes.ChangeoverPending n)
       else refuse causes.LinkNotReady n) else refuse causes.NoSuchName n).left
   known-steps true link n own e = opened-steps (may_open (link_at n.parts link)) (may_restart (changeover_of n.parts link)) link n own e refl refl
-  known-steps false link n own e = s.none n
+  known-steps false link n own e = s.sends.none n
 
   pub association_up-steps : (link : ℕ) (n : Node WholeQueues) → Counts link → R n (association_up whole c link n).left
   association_up-steps link n own = known-steps (is_link n.parts link) link n own refl
 
   fail_if_up-steps : (link : ℕ) (why : FailureReason) (n : Node WholeQueues) → R n (fail_if_up whole c link why n)
-  fail_if_up-steps link why n = either-steps s (down n.parts link) n n (fail whole c link why n) (s.none n) (fail-steps s link why n)
+  fail_if_up-steps link why n = either-steps s.sends (down n.parts link) n n (fail whole c link why n) (s.sends.none n) (s.fails link why n)
 
   pub association_down-steps : (link : ℕ) (n : Node WholeQueues) → R n (association_down whole c link n).left
   association_down-steps link n =
       let gone : Node WholeQueues = fail_if_up whole c link reasons.Association n in
       let ended : Done WholeQueues = answer Handled (end_association whole c link gone) in
-      either_done-steps s (is_link n.parts link) n (if (link_at n.parts link).association then ended else answer Ignored n) (refuse causes.NoSuchName n)
-      (either_done-steps s (link_at n.parts link).association n ended (answer Ignored n)
-      (s.both _ _ _ (fail_if_up-steps link reasons.Association n)
-      (s.parted link gone (failed_if_up-down c (down n.parts link) link reasons.Association n refl))) (s.none n)) (s.none n)
+      either_done-steps s.sends (is_link n.parts link) n (if (link_at n.parts link).association then ended else answer Ignored n) (refuse causes.NoSuchName n)
+      (either_done-steps s.sends (link_at n.parts link).association n ended (answer Ignored n)
+      (s.sends.both _ _ _ (fail_if_up-steps link reasons.Association n)
+      (s.parted link gone (failed_if_up-down c (down n.parts link) link reasons.Association n refl))) (s.sends.none n)) (s.sends.none n)
 
   pub set_active-steps : (active : Bool) (link : ℕ) (n : Node WholeQueues) → R n (set_active whole c active link n)
   set_active-steps active link n = s.linked link (record (link_at n.parts link) { active = active }) n (record { alignment = refl; association = refl; busy = refl })
 
   pub activate-steps : (link : ℕ) (n : Node WholeQueues) → R n (activate whole c link n).left
   activate-steps link n =
-      either_done-steps s (is_link n.parts link) n (answer Handled (set_active whole c true link n)) (refuse causes.NoSuchName n) (set_active-steps true link n) (s.none n)
+      either_done-steps s.sends (is_link n.parts link) n (answer Handled (set_active whole c true link n)) (refuse causes.NoSuchName n) (set_active-steps true link n) (s.sends.none n)
 
   pub deactivate-steps : (link : ℕ) (n : Node WholeQueues) → R n (deactivate whole c link n).left
   deactivate-steps link n =
       let gone : Node WholeQueues = fail_if_up whole c link reasons.Operator n in
-      either_done-steps s (is_link n.parts link) n (answer Handled (set_active whole c false link gone)) (refuse causes.NoSuchName n)
-      (s.both _ _ _ (fail_if_up-steps link reasons.Operator n) (set_active-steps false link gone)) (s.none n)
+      either_done-steps s.sends (is_link n.parts link) n (answer Handled (set_active whole c false link gone)) (refuse causes.NoSuchName n)
+      (s.sends.both _ _ _ (fail_if_up-steps link reasons.Operator n) (set_active-steps false link gone)) (s.sends.none n)

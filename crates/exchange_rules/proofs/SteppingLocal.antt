@@ -1,71 +1,62 @@
 -- Messages for this point, and those that frames carry and user parts hand over: each rule is made of steps.
 use Rattle.exchange_rules.proofs.Basics.{◌≡◌, ℕ, Bool, true, false, Option, Some, None, Result, Ok, Err, refl, if◌then◌else◌}
-use Rattle.exchange_rules.proofs.Definitions.{Message, dpc_of, opc_of, service_indicator, is_management, Configuration, Cause, Outcome, Queued, Held, Local, Handled, Ignored, Refused, set_place, destination_place, MgmtFault, TestKind, Test, Acknowledgement, Management, TrafficRestartAllowed, ExtendedChangeoverOrder, ExtendedChangeoverAcknowledgement, EmergencyChangeoverOrder, EmergencyChangeoverAcknowledgement, ChangebackDeclaration, ChangebackAcknowledgement, TransferProhibited, TransferRestricted, TransferAllowed, RouteSetTestProhibited, RouteSetTestRestricted, LinkTestValue, read_link_test, read_management, Allowed, Restricted, Prohibited, is_outstanding, Code, Discrimination, Node, Done, with_parts, answer, refuse, in_service, note_outcome, route_about, no_room, send, changeback_acknowledgement, freed, on_changeback_acknowledgement, sccp, is_user, is_adjacent, test_answer, link_with_code, local, do_order, do_acknowledgement, do_management, do_kind, do_test, manage, distribute, transfer, on_unitdata, whither_goes, deliver_to, deliver, submit_to, submit, WholeQueues, whole}
+use Rattle.exchange_rules.proofs.Definitions.{Message, dpc_of, opc_of, service_indicator, is_management, Configuration, Cause, Outcome, Queued, Held, Local, Handled, Ignored, Refused, set_place, destination_place, MgmtFault, TestKind, Test, Acknowledgement, Management, TrafficRestartAllowed, ExtendedChangeoverOrder, ExtendedChangeoverAcknowledgement, EmergencyChangeoverOrder, EmergencyChangeoverAcknowledgement, ChangebackDeclaration, ChangebackAcknowledgement, TransferProhibited, TransferRestricted, TransferAllowed, RouteSetTestProhibited, RouteSetTestRestricted, LinkTestValue, read_link_test, read_management, Allowed, Restricted, Prohibited, is_outstanding, Discrimination, Node, Done, with_parts, answer, refuse, in_service, note_outcome, route_about, no_room, send, changeback_acknowledgement, freed, on_changeback_acknowledgement, sccp, is_user, is_adjacent, test_answer, link_with_code, local, do_order, do_acknowledgement, do_management, do_kind, do_test, manage, distribute, transfer, on_unitdata, whither_goes, deliver_to, deliver, submit_to, submit, WholeQueues, whole}
 use Rattle.std.specs.Prelude.{nat_eq}
 use Rattle.signalling_types.specs.declared.cause.Cause.TheVariants as causes
 use Rattle.signalling_types.specs.declared.notice.Notice.TheVariants as notices
-use Rattle.timers.specs.declared.name.TimerName.TheVariants as name
 use Rattle.route_management.specs.declared.heard.RouteTest.TheVariants as tests
 use Rattle.mtp3_codec.specs.declared.discrimination.Discrimination.TheVariants as whither
-use Rattle.exchange_rules.proofs.Places.{lifted-fits}
-use Rattle.exchange_rules.proofs.Steps.{IsOfSteps, either_done-steps}
-use Rattle.exchange_rules.proofs.SteppingTimers.{clear-timed}
+use Rattle.exchange_rules.proofs.Steps.{IsOfRules, either_done-steps}
 use Rattle.exchange_rules.proofs.SteppingMessages.{send_routed-steps, on_route_test-steps, on_route_status-steps, transfer-steps}
 use Rattle.exchange_rules.proofs.SteppingRelaying.{on_unitdata-steps}
-use Rattle.exchange_rules.proofs.SteppingFailures.{on_changeover_order-steps, on_changeover_acknowledgement-steps}
 
-module _ {c : Configuration} {Own Counts : ℕ → Type 0} {R : Node WholeQueues → Node WholeQueues → Type 0} (s : IsOfSteps c Own Counts R) where
+module _ {c : Configuration} {Own Counts : ℕ → Type 0} {R : Node WholeQueues → Node WholeQueues → Type 0} (s : IsOfRules c Own Counts R) where
   local-steps : (m : Message) (n : Node WholeQueues) → R n (local whole c m n).left
   local-steps m n =
-      either_done-steps s (nat_eq (service_indicator m) sccp) n (on_unitdata whole c m n) (if is_user c (service_indicator m) then answer Local n else refuse causes.NoUserPart n) (on_unitdata-steps s m n)
-      (either_done-steps s (is_user c (service_indicator m)) n (answer Local n) (refuse causes.NoUserPart n) (s.none n) (s.none n))
+      either_done-steps s.sends (nat_eq (service_indicator m) sccp) n (on_unitdata whole c m n) (if is_user c (service_indicator m) then answer Local n else refuse causes.NoUserPart n) (on_unitdata-steps s m n)
+      (either_done-steps s.sends (is_user c (service_indicator m)) n (answer Local n) (refuse causes.NoUserPart n) (s.sends.none n) (s.sends.none n))
 
   -- ---- tests of a link
 
   send_answer-steps : (room : Option Cause) (link point : ℕ) (test : LinkTestValue) (n : Node WholeQueues) → in_service n.parts link ≡ true → is_adjacent c point ≡ true
       → R n (send whole c room (Some link) (test_answer c point test) n)
-  send_answer-steps (Some cause) link point test n e f = s.both _ _ _ (s.lost n) (s.noted (notices.Unsent cause (dpc_of (test_answer c point test))) _ (record { lost = λ f. refl; late = λ f. absurd cc }))
+  send_answer-steps (Some cause) link point test n e f = s.sends.both _ _ _ (s.sends.lost n) (s.sends.noted (notices.Unsent cause (dpc_of (test_answer c point test))) _ (record { lost = λ f. refl; late = λ f. absurd cc }))
   send_answer-steps None link point test n e f = s.tested link point test n e f
 
   do_kind-steps : (kind : TestKind) (link point : ℕ) (test : LinkTestValue) (n : Node WholeQueues) → in_service n.parts link ≡ true → is_adjacent c point ≡ true
       → R n (do_kind whole c kind link point test n).left
   do_kind-steps Test link point test n e f = send_answer-steps (no_room whole c (test_answer c point test) n.queues) link point test n e f
-  do_kind-steps Acknowledgement link point test n e f = s.none n
+  do_kind-steps Acknowledgement link point test n e f = s.sends.none n
 
   do_test-steps : (r : Result LinkTestValue MgmtFault) (link point : ℕ) (n : Node WholeQueues) → in_service n.parts link ≡ true → is_adjacent c point ≡ true
       → R n (do_test whole c r link point n).left
-  do_test-steps (Err fault) link point n e f = s.none n
+  do_test-steps (Err fault) link point n e f = s.sends.none n
   do_test-steps (Ok test) link point n e f = do_kind-steps test.kind link point test n e f
 
   -- ---- management
 
   do_order-steps : (link number : Option ℕ) (n : Node WholeQueues) → R n (do_order whole c link number n).left
-  do_order-steps (Some link) number n = on_changeover_order-steps s link number n
-  do_order-steps None number n = s.none n
+  do_order-steps (Some link) number n = s.orders link number n
+  do_order-steps None number n = s.sends.none n
 
   do_acknowledgement-steps : (link number : Option ℕ) (n : Node WholeQueues) → R n (do_acknowledgement whole c link number n).left
-  do_acknowledgement-steps (Some link) number n = on_changeover_acknowledgement-steps s link number n
-  do_acknowledgement-steps None number n = s.none n
-
-  pub freed-steps : (set code : ℕ) (n : Node WholeQueues) → R n (with_parts n (freed set code n.parts))
-  freed-steps set code n =
-      s.both _ _ _ (s.coded set code false n)
-      (s.both _ _ _ (s.holding _ _ (record { fits = lifted-fits c n.parts.holds (Code set code) })) (s.timed _ _ (clear-timed (name.T4 set code) n.parts.timers (λ l e. cc))))
+  do_acknowledgement-steps (Some link) number n = s.acknowledges link number n
+  do_acknowledgement-steps None number n = s.sends.none n
 
   on_changeback_acknowledgement-steps : (set : Option ℕ) (code : ℕ) (n : Node WholeQueues) → R n (on_changeback_acknowledgement whole c set code n).left
   on_changeback_acknowledgement-steps (Some set) code n =
-      either_done-steps s (is_outstanding n.parts.codes set code) n (answer Handled (with_parts n (freed set code n.parts))) (answer Ignored n)
-      (freed-steps set code n) (s.none n)
-  on_changeback_acknowledgement-steps None code n = s.none n
+      either_done-steps s.sends (is_outstanding n.parts.codes set code) n (answer Handled (with_parts n (freed set code n.parts))) (answer Ignored n)
+      (s.frees set code n) (s.sends.none n)
+  on_changeback_acknowledgement-steps None code n = s.sends.none n
 
   do_management-steps : (r : Result Management MgmtFault) (point : ℕ) (n : Node WholeQueues) → R n (do_management whole c r point n).left
-  do_management-steps (Err fault) point n = s.none n
-  do_management-steps (Ok TrafficRestartAllowed) point n = s.none n
+  do_management-steps (Err fault) point n = s.sends.none n
+  do_management-steps (Ok TrafficRestartAllowed) point n = s.sends.none n
   do_management-steps (Ok (ExtendedChangeoverOrder slc number)) point n = do_order-steps (link_with_code c point slc) (Some number) n
   do_management-steps (Ok (ExtendedChangeoverAcknowledgement slc number)) point n = do_acknowledgement-steps (link_with_code c point slc) (Some number) n
   do_management-steps (Ok (EmergencyChangeoverOrder slc)) point n = do_order-steps (link_with_code c point slc) None n
   do_management-steps (Ok (EmergencyChangeoverAcknowledgement slc)) point n = do_acknowledgement-steps (link_with_code c point slc) None n
-  do_management-steps (Ok (ChangebackDeclaration slc code)) point n = send_routed-steps s (changeback_acknowledgement c point slc code) n
+  do_management-steps (Ok (ChangebackDeclaration slc code)) point n = send_routed-steps s.sends (changeback_acknowledgement c point slc code) n
   do_management-steps (Ok (ChangebackAcknowledgement slc code)) point n = on_changeback_acknowledgement-steps (set_place c point) code n
   do_management-steps (Ok (TransferProhibited about)) point n = on_route_status-steps s Prohibited (route_about (set_place c point) (destination_place c about)) n
   do_management-steps (Ok (TransferRestricted about)) point n = on_route_status-steps s Restricted (route_about (set_place c point) (destination_place c about)) n
@@ -77,39 +68,39 @@ module _ {c : Configuration} {Own Counts : ℕ → Type 0} {R : Node WholeQueues
       → R n (if adjacent then (if nat_eq (service_indicator m) 1 then do_test whole c (read_link_test m.sif) link (opc_of m) n
       else do_management whole c (read_management m.sif) (opc_of m) n) else refuse causes.NotFromAdjacent n).left
   heard-steps true link m n e f =
-      either_done-steps s (nat_eq (service_indicator m) 1) n (do_test whole c (read_link_test m.sif) link (opc_of m) n) (do_management whole c (read_management m.sif) (opc_of m) n)
+      either_done-steps s.sends (nat_eq (service_indicator m) 1) n (do_test whole c (read_link_test m.sif) link (opc_of m) n) (do_management whole c (read_management m.sif) (opc_of m) n)
       (do_test-steps (read_link_test m.sif) link (opc_of m) n e f) (do_management-steps (read_management m.sif) (opc_of m) n)
-  heard-steps false link m n e f = s.none n
+  heard-steps false link m n e f = s.sends.none n
 
   distribute-steps : (link : ℕ) (m : Message) (n : Node WholeQueues) → in_service n.parts link ≡ true → R n (distribute whole c link m n).left
   distribute-steps link m n e =
-      either_done-steps s (is_management m) n (manage whole c link m n) (local whole c m n) (heard-steps (is_adjacent c (opc_of m)) link m n e refl) (local-steps m n)
+      either_done-steps s.sends (is_management m) n (manage whole c link m n) (local whole c m n) (heard-steps (is_adjacent c (opc_of m)) link m n e refl) (local-steps m n)
 
   -- ---- messages in frames, and those that are handed over
 
   deliver_to-steps : (d : Discrimination) (link : ℕ) (m : Message) (n : Node WholeQueues) → in_service n.parts link ≡ true → R n (deliver_to whole c d link m n).left
-  deliver_to-steps (whither.Refused cause) link m n e = s.none n
+  deliver_to-steps (whither.Refused cause) link m n e = s.sends.none n
   deliver_to-steps (whither.Here label) link m n e = distribute-steps link m n e
   deliver_to-steps (whither.Transfer label) link m n e = transfer-steps s (Some link) m n
 
   note_outcome-steps : (link : ℕ) (outcome : Outcome) (n : Node WholeQueues) → R n (with_parts n (note_outcome link outcome n.parts))
-  note_outcome-steps link (Refused cause) n = s.noted (notices.Refused cause link) n (record { lost = λ f. absurd cc; late = λ f. absurd cc })
-  note_outcome-steps link (Queued other) n = s.none n
-  note_outcome-steps link Held n = s.none n
-  note_outcome-steps link Local n = s.none n
-  note_outcome-steps link Handled n = s.none n
-  note_outcome-steps link Ignored n = s.none n
+  note_outcome-steps link (Refused cause) n = s.sends.noted (notices.Refused cause link) n (record { lost = λ f. absurd cc; late = λ f. absurd cc })
+  note_outcome-steps link (Queued other) n = s.sends.none n
+  note_outcome-steps link Held n = s.sends.none n
+  note_outcome-steps link Local n = s.sends.none n
+  note_outcome-steps link Handled n = s.sends.none n
+  note_outcome-steps link Ignored n = s.sends.none n
 
   pub deliver-steps : (link : ℕ) (m : Message) (n : Node WholeQueues) → in_service n.parts link ≡ true → R n (deliver whole c link m n).left
   deliver-steps link m n e =
       let d : Done WholeQueues = deliver_to whole c (whither_goes c m) link m n in
-      s.both _ _ _ (deliver_to-steps (whither_goes c m) link m n e) (note_outcome-steps link d.outcome d.left)
+      s.sends.both _ _ _ (deliver_to-steps (whither_goes c m) link m n e) (note_outcome-steps link d.outcome d.left)
 
   submit_to-steps : (d : Discrimination) (m : Message) (n : Node WholeQueues) → R n (submit_to whole c d m n).left
-  submit_to-steps (whither.Refused cause) m n = s.none n
-  submit_to-steps (whither.Here label) m n = either_done-steps s (is_management m) n (refuse causes.NotInProfile n) (local whole c m n) (s.none n) (local-steps m n)
+  submit_to-steps (whither.Refused cause) m n = s.sends.none n
+  submit_to-steps (whither.Here label) m n = either_done-steps s.sends (is_management m) n (refuse causes.NotInProfile n) (local whole c m n) (s.sends.none n) (local-steps m n)
   submit_to-steps (whither.Transfer label) m n =
-      either_done-steps s (is_management m) n (refuse causes.NotInProfile n) (transfer whole c None m n) (s.none n) (transfer-steps s None m n)
+      either_done-steps s.sends (is_management m) n (refuse causes.NotInProfile n) (transfer whole c None m n) (s.sends.none n) (transfer-steps s None m n)
 
   pub submit-steps : (m : Message) (n : Node WholeQueues) → R n (submit whole c m n).left
   submit-steps m n = submit_to-steps (whither_goes c m) m n

@@ -1,37 +1,36 @@
 -- Messages that are made here or go to other points, and what adjacent points are told and say: each rule is made of steps.
 use Rattle.exchange_rules.proofs.Basics.{◌≡◌, ℕ, Bool, true, false, List, [], ◌∷◌, Option, Some, None, Result, Ok, Err, refl, if◌then◌else◌}
-use Rattle.exchange_rules.proofs.Definitions.{Message, dpc_of, flow_of, Configuration, Cause, Outcome, Handled, Ignored, destination_place, Running, RouteStatus, Allowed, Restricted, Prohibited, status_of, told_shape, Heard, RouteTest, Owed, owed, Parts, Node, with_parts, answer, refuse, waits, facts, link_of, set_of, no_room, is_destination, offer, transfer, timed_telling, route_message, told_parts, answered_parts, inhibited, is_inhibited, may_tell, tell, tell_if, tell_each, tell_owed, prohibit, answer_no_route, send_route_status, on_route_test, timed_status, forced, held_by_rerouting, controlled, rerouted_by, with_next_test, prohibited_test, restricted_test, apply_route_status, on_route_status, ask, ask_by, ask_again, send, send_routed, send_anew, send_each, WholeQueues, whole}
+use Rattle.exchange_rules.proofs.Definitions.{Message, dpc_of, flow_of, Configuration, Cause, Outcome, Handled, Ignored, destination_place, Running, RouteStatus, Allowed, Restricted, Prohibited, status_of, told_shape, Heard, RouteTest, Owed, owed, Parts, Node, with_parts, answer, refuse, waits, facts, link_of, set_of, no_room, is_destination, offer, transfer, timed_telling, route_message, told_parts, answered_parts, inhibited, is_inhibited, may_tell, tell, tell_if, tell_each, tell_owed, prohibit, answer_no_route, send_route_status, on_route_test, timed_status, forced, controlled, rerouted_by, with_next_test, prohibited_test, restricted_test, apply_route_status, on_route_status, ask, ask_by, ask_again, send, send_routed, send_anew, send_each, WholeQueues, whole}
 use Rattle.std.specs.Prelude.{nat_lt, length, ◌&&◌, not}
 use Rattle.signalling_types.specs.declared.notice.Notice.TheVariants as notices
 use Rattle.signalling_types.specs.declared.cause.Cause.TheVariants as causes
 use Rattle.timers.specs.declared.name.TimerName.TheVariants as name
-use Rattle.changeback.specs.Rerouting.{rerouted, held_for}
+use Rattle.changeback.specs.Rerouting.{rerouted}
 use Rattle.route_management.specs.Told as told
 use Rattle.route_management.specs.declared.heard.Heard.TheVariants as hears
 use Rattle.route_management.specs.Hearing as hearing
-use Rattle.exchange_rules.proofs.Places.{held_for-fits}
-use Rattle.exchange_rules.proofs.Steps.{AreTimed, IsOfSteps, either-steps, either_done-steps}
+use Rattle.exchange_rules.proofs.Steps.{AreQuiet, IsOfSends, IsOfRules, either-steps, either_done-steps}
 use Rattle.exchange_rules.proofs.OwnRoutes.{rerouted-one}
-use Rattle.exchange_rules.proofs.SteppingTimers.{same-timed, set-timed, clear-timed}
+use Rattle.exchange_rules.proofs.SteppingTimers.{same-quiet, set-quiet, clear-quiet}
 
--- ---- timers and holds
+-- ---- timers
 
-timed_telling-timed : (c : Configuration) (set destination : ℕ) (status : RouteStatus) (r : Running) → AreTimed r (timed_telling c set destination status r)
-timed_telling-timed c set destination Prohibited r = set-timed (name.T8 set destination) c.timers.t8 r (λ link e. cc)
-timed_telling-timed c set destination Restricted r = same-timed r
-timed_telling-timed c set destination Allowed r = same-timed r
+timed_telling-quiet : (c : Configuration) (set destination : ℕ) (status : RouteStatus) (r : Running) → AreQuiet r (timed_telling c set destination status r)
+timed_telling-quiet c set destination Prohibited r = set-quiet (name.T8 set destination) c.timers.t8 r (λ link e. cc) refl refl
+timed_telling-quiet c set destination Restricted r = same-quiet r
+timed_telling-quiet c set destination Allowed r = same-quiet r
 
-timed_status-timed : (c : Configuration) (set destination : ℕ) (status : RouteStatus) (r : Running) → AreTimed r (timed_status c set destination status r)
-timed_status-timed c set destination Prohibited r = set-timed (name.T10 set destination) c.timers.t10 r (λ link e. cc)
-timed_status-timed c set destination Restricted r = set-timed (name.T10 set destination) c.timers.t10 r (λ link e. cc)
-timed_status-timed c set destination Allowed r = clear-timed (name.T10 set destination) r (λ link e. cc)
+timed_status-quiet : (c : Configuration) (set destination : ℕ) (status : RouteStatus) (r : Running) → AreQuiet r (timed_status c set destination status r)
+timed_status-quiet c set destination Prohibited r = set-quiet (name.T10 set destination) c.timers.t10 r (λ link e. cc) refl refl
+timed_status-quiet c set destination Restricted r = set-quiet (name.T10 set destination) c.timers.t10 r (λ link e. cc) refl refl
+timed_status-quiet c set destination Allowed r = clear-quiet (name.T10 set destination) r (λ link e. cc) refl refl
 
 -- of a point itself nothing is heard that changes anything
 heard-away : (is_own : Bool) (x : Heard) → (if is_own then hears.Ignored else x) ≡ hears.Changed → is_own ≡ false
 heard-away true x e = absurd cc
 heard-away false x e = refl
 
-module _ {c : Configuration} {Own Counts : ℕ → Type 0} {R : Node WholeQueues → Node WholeQueues → Type 0} (s : IsOfSteps c Own Counts R) where
+module _ {c : Configuration} {R : Node WholeQueues → Node WholeQueues → Type 0} (s : IsOfSends c R) where
   -- ---- management made here
 
   -- a message that is dropped
@@ -50,77 +49,72 @@ module _ {c : Configuration} {Own Counts : ℕ → Type 0} {R : Node WholeQueues
   send_each-steps [] n = s.none n
   send_each-steps (m ∷ ms) n = s.both _ _ _ (by_link-steps None (link_of c n.parts (flow_of m)) m n refl) (send_each-steps ms (send_anew whole c m n))
 
+module _ {c : Configuration} {Own Counts : ℕ → Type 0} {R : Node WholeQueues → Node WholeQueues → Type 0} (s : IsOfRules c Own Counts R) where
   -- ---- what adjacent points are told
 
   told_parts-steps : (o : Owed) (n : Node WholeQueues) → R n (with_parts n (told_parts c o n.parts))
   told_parts-steps o n =
-      s.both _ _ _ (s.told (told.with_told o.set o.destination o.status n.parts.told) n (record { shape = told_shape n.parts.told o.set o.destination o.status; adjacents = refl }))
-      (s.timed _ _ (timed_telling-timed c o.set o.destination o.status n.parts.timers))
+      s.sends.both _ _ _ (s.told (told.with_told o.set o.destination o.status n.parts.told) n (record { shape = told_shape n.parts.told o.set o.destination o.status; adjacents = refl }))
+      (s.timed _ _ (timed_telling-quiet c o.set o.destination o.status n.parts.timers))
 
   tell-steps : (o : Owed) (n : Node WholeQueues) → R n (tell whole c o n)
   tell-steps o n =
-      s.both _ _ _ (told_parts-steps o n) (send_routed-steps (route_message c o.set o.destination o.status) (with_parts n (told_parts c o n.parts)))
+      s.sends.both _ _ _ (told_parts-steps o n) (send_routed-steps s.sends (route_message c o.set o.destination o.status) (with_parts n (told_parts c o n.parts)))
 
   tell_each-steps : (os : List Owed) (n : Node WholeQueues) → R n (tell_each whole c os n)
-  tell_each-steps [] n = s.none n
+  tell_each-steps [] n = s.sends.none n
   tell_each-steps (o ∷ os) n =
-      s.both _ _ _ (either-steps s (may_tell whole c n) n (tell whole c o n) n (tell-steps o n) (s.none n)) (tell_each-steps os (tell_if whole c o n))
+      s.sends.both _ _ _ (either-steps s.sends (may_tell whole c n) n (tell whole c o n) n (tell-steps o n) (s.sends.none n)) (tell_each-steps os (tell_if whole c o n))
 
   pub tell_owed-steps : (n : Node WholeQueues) → R n (tell_owed whole c n)
   unfolding tell_owed
   tell_owed-steps n = tell_each-steps (owed (facts c n.parts) n.parts.told) n
 
   inhibited-steps : (set destination : ℕ) (n : Node WholeQueues) → R n (with_parts n (inhibited c set destination n.parts))
-  inhibited-steps set destination n = s.timed _ n (set-timed (name.T8 set destination) c.timers.t8 n.parts.timers (λ link e. cc))
+  inhibited-steps set destination n = s.timed _ n (set-quiet (name.T8 set destination) c.timers.t8 n.parts.timers (λ link e. cc) refl refl)
 
   prohibit-steps : (set destination : ℕ) (n : Node WholeQueues) → R n (prohibit whole c set destination n)
   prohibit-steps set destination n =
-      s.both _ _ _ (inhibited-steps set destination n) (send_routed-steps (route_message c set destination Prohibited) (with_parts n (inhibited c set destination n.parts)))
+      s.sends.both _ _ _ (inhibited-steps set destination n) (send_routed-steps s.sends (route_message c set destination Prohibited) (with_parts n (inhibited c set destination n.parts)))
 
   pub answer_no_route-steps : (link destination : Option ℕ) (n : Node WholeQueues) → R n (answer_no_route whole c link destination n)
   answer_no_route-steps (Some link) (Some destination) n =
       let set : ℕ = set_of c link in
-      either-steps s (may_tell whole c n && not (is_inhibited set destination n.parts)) n (prohibit whole c set destination n) n (prohibit-steps set destination n) (s.none n)
-  answer_no_route-steps (Some link) None n = s.none n
-  answer_no_route-steps None destination n = s.none n
+      either-steps s.sends (may_tell whole c n && not (is_inhibited set destination n.parts)) n (prohibit whole c set destination n) n (prohibit-steps set destination n) (s.sends.none n)
+  answer_no_route-steps (Some link) None n = s.sends.none n
+  answer_no_route-steps None destination n = s.sends.none n
 
   -- ---- tests
 
   send_route_status-steps : (status : Option RouteStatus) (set destination : ℕ) (n : Node WholeQueues) → R n (send_route_status whole c status set destination n)
   send_route_status-steps (Some status) set destination n =
-      s.both _ _ _ (s.told (told.with_told set destination status n.parts.told) n (record { shape = told_shape n.parts.told set destination status; adjacents = refl }))
-      (send_routed-steps (route_message c set destination status) (with_parts n (answered_parts set destination status n.parts)))
-  send_route_status-steps None set destination n = s.none n
+      s.sends.both _ _ _ (s.told (told.with_told set destination status n.parts.told) n (record { shape = told_shape n.parts.told set destination status; adjacents = refl }))
+      (send_routed-steps s.sends (route_message c set destination status) (with_parts n (answered_parts set destination status n.parts)))
+  send_route_status-steps None set destination n = s.sends.none n
 
   pub on_route_test-steps : (test : RouteTest) (route : Result (ℕ × ℕ) Outcome) (n : Node WholeQueues) → R n (on_route_test whole c test route n).left
   on_route_test-steps test (Ok (set, destination)) n =
       let status : Option RouteStatus = hearing.answer_to_test (facts c n.parts) n.parts.told set destination test in
-      either_done-steps s (told.is_own_point n.parts.told set destination) n (answer Ignored n) (answer Handled (send_route_status whole c status set destination n))
-      (s.none n) (send_route_status-steps status set destination n)
-  on_route_test-steps test (Err outcome) n = s.none n
+      either_done-steps s.sends (told.is_own_point n.parts.told set destination) n (answer Ignored n) (answer Handled (send_route_status whole c status set destination n))
+      (s.sends.none n) (send_route_status-steps status set destination n)
+  on_route_test-steps test (Err outcome) n = s.sends.none n
 
   -- ---- what they say
 
   timed_status-steps : (set destination : ℕ) (status : RouteStatus) (n : Node WholeQueues)
       → R n (with_parts n (record n.parts { timers = timed_status c set destination status n.parts.timers }))
-  timed_status-steps set destination status n = s.timed _ n (timed_status-timed c set destination status n.parts.timers)
+  timed_status-steps set destination status n = s.timed _ n (timed_status-quiet c set destination status n.parts.timers)
 
   -- what is heard isn't about the point that says it
   forced-steps : (set destination : ℕ) (status : RouteStatus) (n : Node WholeQueues) → told.is_own_point n.parts.told set destination ≡ false
       → R n (with_parts n (forced c set destination status n.parts))
   forced-steps set destination status n away = s.rerouted _ n (rerouted-one n.parts.told n.parts.routes set destination status away)
 
-  held_by_rerouting-steps : (destination : ℕ) (selections : List ℕ) (n : Node WholeQueues) → R n (with_parts n (held_by_rerouting c destination selections n.parts))
-  held_by_rerouting-steps destination [] n = s.none n
-  held_by_rerouting-steps destination (sls ∷ others) n =
-      s.both _ _ _ (s.holding (held_for destination (sls ∷ others) n.parts.holds) n (record { fits = held_for-fits c n.parts.holds destination (sls ∷ others) }))
-      (s.timed _ _ (set-timed (name.T6 destination) c.timers.t6 n.parts.timers (λ link e. cc)))
-
   controlled-steps : (set destination : ℕ) (status : RouteStatus) (n : Node WholeQueues) → told.is_own_point n.parts.told set destination ≡ false → R n (with_parts n (controlled c set destination status n.parts))
   controlled-steps set destination status n away =
       let next : Parts = forced c set destination status n.parts in
-      s.both _ _ _ (forced-steps set destination status n away)
-      (held_by_rerouting-steps destination (rerouted (facts c n.parts) (facts c next) destination) (with_parts n next))
+      s.sends.both _ _ _ (forced-steps set destination status n away)
+      (s.reroutes destination (rerouted (facts c n.parts) (facts c next) destination) (with_parts n next))
 
   rerouted_by-steps : (status : RouteStatus) (set destination : ℕ) (n : Node WholeQueues) → told.is_own_point n.parts.told set destination ≡ false
       → R n (with_parts n (rerouted_by status c set destination n.parts))
@@ -130,49 +124,49 @@ module _ {c : Configuration} {Own Counts : ℕ → Type 0} {R : Node WholeQueues
 
   apply_route_status-steps : (x : Heard) (set destination : ℕ) (status : RouteStatus) (n : Node WholeQueues)
       → (x ≡ hears.Changed → told.is_own_point n.parts.told set destination ≡ false) → R n (apply_route_status whole c x set destination status n).left
-  apply_route_status-steps hears.Ignored set destination status n away = s.none n
-  apply_route_status-steps hears.Unchanged set destination status n away = s.none n
+  apply_route_status-steps hears.Ignored set destination status n away = s.sends.none n
+  apply_route_status-steps hears.Unchanged set destination status n away = s.sends.none n
   apply_route_status-steps hears.Changed set destination status n away =
-      s.both _ _ _ (timed_status-steps set destination status n)
+      s.sends.both _ _ _ (timed_status-steps set destination status n)
       (rerouted_by-steps status set destination (with_parts n (record n.parts { timers = timed_status c set destination status n.parts.timers })) (away refl))
 
   pub on_route_status-steps : (status : RouteStatus) (route : Result (ℕ × ℕ) Outcome) (n : Node WholeQueues) → R n (on_route_status whole c status route n).left
   on_route_status-steps status (Ok (set, destination)) n =
       apply_route_status-steps (hearing.heard (facts c n.parts) n.parts.told set destination status) set destination status n
       (heard-away (told.is_own_point n.parts.told set destination) (hearing.heard_of (status_of (facts c n.parts) destination set) status))
-  on_route_status-steps status (Err outcome) n = s.none n
+  on_route_status-steps status (Err outcome) n = s.sends.none n
 
   -- ---- tests of our own
 
   ask-steps : (m : Message) (set destination : ℕ) (n : Node WholeQueues) → R n (ask whole c m set destination n)
   ask-steps m set destination n =
-      s.both _ _ _ (s.timed _ n (set-timed (name.T10 set destination) c.timers.t10 n.parts.timers (λ link e. cc)))
-      (send_routed-steps m (with_parts n (with_next_test whole c set destination n.parts)))
+      s.sends.both _ _ _ (s.timed _ n (set-quiet (name.T10 set destination) c.timers.t10 n.parts.timers (λ link e. cc) refl refl))
+      (send_routed-steps s.sends m (with_parts n (with_next_test whole c set destination n.parts)))
 
   ask_by-steps : (status : Option RouteStatus) (set destination : ℕ) (n : Node WholeQueues) → R n (ask_by whole c status set destination n)
   ask_by-steps (Some Prohibited) set destination n = ask-steps (prohibited_test whole c set destination) set destination n
   ask_by-steps (Some Restricted) set destination n = ask-steps (restricted_test whole c set destination) set destination n
-  ask_by-steps (Some Allowed) set destination n = s.none n
-  ask_by-steps None set destination n = s.none n
+  ask_by-steps (Some Allowed) set destination n = s.sends.none n
+  ask_by-steps None set destination n = s.sends.none n
 
   pub ask_again-steps : (set destination : ℕ) (n : Node WholeQueues) → R n (ask_again whole c set destination n)
   ask_again-steps set destination n =
       let status : Option RouteStatus = status_of (facts c n.parts) destination set in
-      either-steps s (nat_lt set (length c.sets) && nat_lt destination (length c.destinations)) n (ask_by whole c status set destination n) n
-      (ask_by-steps status set destination n) (s.none n)
+      either-steps s.sends (nat_lt set (length c.sets) && nat_lt destination (length c.destinations)) n (ask_by whole c status set destination n) n
+      (ask_by-steps status set destination n) (s.sends.none n)
 
   -- ---- messages for other points
 
   offer-steps : (room : Option Cause) (waiting : Bool) (link from : Option ℕ) (m : Message) (n : Node WholeQueues) → waits c n.parts.holds m ≡ waiting
       → link_of c n.parts (flow_of m) ≡ link → R n (offer whole c room waiting link from m n).left
-  offer-steps (Some cause) waiting link from m n e f = s.none n
+  offer-steps (Some cause) waiting link from m n e f = s.sends.none n
   offer-steps None true link from m n e f = s.held m n e
   offer-steps None false None from m n e f = answer_no_route-steps from (destination_place c (dpc_of m)) n
-  offer-steps None false (Some link) from m n e f = s.routed link m n f
+  offer-steps None false (Some link) from m n e f = s.sends.routed link m n f
 
   pub transfer-steps : (from : Option ℕ) (m : Message) (n : Node WholeQueues) → R n (transfer whole c from m n).left
   transfer-steps from m n =
       let waiting : Bool = waits c n.parts.holds m in
       let link : Option ℕ = link_of c n.parts (flow_of m) in
-      either_done-steps s (is_destination c (dpc_of m)) n (offer whole c (no_room whole c m n.queues) waiting link from m n) (refuse causes.UnknownDestination n)
-      (offer-steps (no_room whole c m n.queues) waiting link from m n refl refl) (s.none n)
+      either_done-steps s.sends (is_destination c (dpc_of m)) n (offer whole c (no_room whole c m n.queues) waiting link from m n) (refuse causes.UnknownDestination n)
+      (offer-steps (no_room whole c m n.queues) waiting link from m n refl refl) (s.sends.none n)

@@ -2,36 +2,36 @@
 use Rattle.exchange_rules.proofs.Basics.{ℕ, Bool, List, Option, Some, None}
 use Rattle.exchange_rules.proofs.Definitions.{Message, Configuration, TitleEntry, Cause, NoSuchName, Outcome, Queued, Held, Local, Handled, Ignored, Refused, TitleKey, place_of, has_row, without_row, RelayedValue, relay, returned, Node, Done, with_parts, answer, refuse, own_of, in_place_of, send_udts, return_outcome, relay_by, on_unitdata, with_titles, title_refusal, add_title_unless, add_title, remove_title, WholeQueues, whole}
 use Rattle.sccp_relay.specs.Relay as relays
-use Rattle.exchange_rules.proofs.Steps.{IsOfSteps, either_done-steps}
+use Rattle.exchange_rules.proofs.Steps.{IsOfRules, either_done-steps}
 use Rattle.exchange_rules.proofs.SteppingMessages.{transfer-steps}
 
-module _ {c : Configuration} {Own Counts : ℕ → Type 0} {R : Node WholeQueues → Node WholeQueues → Type 0} (s : IsOfSteps c Own Counts R) where
+module _ {c : Configuration} {Own Counts : ℕ → Type 0} {R : Node WholeQueues → Node WholeQueues → Type 0} (s : IsOfRules c Own Counts R) where
   send_udts-steps : (udts : Option (List ℕ)) (m : Message) (n : Node WholeQueues) → R n (send_udts whole c udts m n)
   send_udts-steps (Some sif) m n = transfer-steps s None (in_place_of m sif) n
-  send_udts-steps None m n = s.none n
+  send_udts-steps None m n = s.sends.none n
 
   return-steps : (outcome : Outcome) (m : Message) (n : Node WholeQueues) → R n (return_outcome whole c outcome m n)
   return-steps (Refused cause) m n = send_udts-steps (returned (own_of c) n.parts.titles m.sif cause) m n
-  return-steps (Queued link) m n = s.none n
-  return-steps Held m n = s.none n
-  return-steps Local m n = s.none n
-  return-steps Handled m n = s.none n
-  return-steps Ignored m n = s.none n
+  return-steps (Queued link) m n = s.sends.none n
+  return-steps Held m n = s.sends.none n
+  return-steps Local m n = s.sends.none n
+  return-steps Handled m n = s.sends.none n
+  return-steps Ignored m n = s.sends.none n
 
   relay-steps : (becomes : RelayedValue) (m : Message) (n : Node WholeQueues) → R n (relay_by whole c becomes m n).left
-  relay-steps relays.Delivered m n = s.none n
+  relay-steps relays.Delivered m n = s.sends.none n
   relay-steps (relays.Onward sif) m n = transfer-steps s None (in_place_of m sif) n
-  relay-steps (relays.Refused cause) m n = s.none n
+  relay-steps (relays.Refused cause) m n = s.sends.none n
 
   pub on_unitdata-steps : (m : Message) (n : Node WholeQueues) → R n (on_unitdata whole c m n).left
   on_unitdata-steps m n =
       let d : Done WholeQueues = relay_by whole c (relay (own_of c) n.parts.titles m.sif) m n in
-      s.both _ _ _ (relay-steps (relay (own_of c) n.parts.titles m.sif) m n) (return-steps d.outcome m d.left)
+      s.sends.both _ _ _ (relay-steps (relay (own_of c) n.parts.titles m.sif) m n) (return-steps d.outcome m d.left)
 
   -- ---- translation rows
 
   add_by-steps : (refusal : Option Cause) (row : TitleEntry) (n : Node WholeQueues) → R n (add_title_unless refusal row n).left
-  add_by-steps (Some cause) row n = s.none n
+  add_by-steps (Some cause) row n = s.sends.none n
   add_by-steps None row n = s.titled _ n
 
   pub add_title-steps : (row : TitleEntry) (is_memory_refused : Bool) (n : Node WholeQueues) → R n (add_title row is_memory_refused n).left
@@ -39,6 +39,6 @@ module _ {c : Configuration} {Own Counts : ℕ → Type 0} {R : Node WholeQueues
 
   pub remove_title-steps : (key : TitleKey) (digits : List ℕ) (n : Node WholeQueues) → R n (remove_title key digits n).left
   remove_title-steps key digits n =
-      either_done-steps s (has_row n.parts.titles (place_of key digits))
+      either_done-steps s.sends (has_row n.parts.titles (place_of key digits))
       n (answer Handled (with_parts n (with_titles (without_row (place_of key digits) n.parts.titles) n.parts))) (refuse NoSuchName n)
-      (s.titled (without_row (place_of key digits) n.parts.titles) n) (s.none n)
+      (s.titled (without_row (place_of key digits) n.parts.titles) n) (s.sends.none n)

@@ -1,12 +1,12 @@
 -- A link that enters service takes its flows back: the rule is made of steps, and each declaration goes out on a link in service.
 use Rattle.exchange_rules.proofs.Basics.{◌≡◌, ◌≢◌, ℕ, zero, suc, Bool, true, false, not, length, nat_eq, Option, Some, None, refl, ap, ◌∙◌, arith, if◌then◌else◌, and_parts, eqb-true, nat_tests}
-use Rattle.exchange_rules.proofs.Definitions.{Configuration, Facts, chosen_link, Procedure, any_flow, IsAnyFlow, some_passes, Parts, Node, with_parts, in_service, network_of, facts, goes_by, set_of, is_taken_back, loses_flows, procedure_by, code_in_use, code_for, declare_by, hold_flows, take_back_each, change_back, WholeQueues, whole}
+use Rattle.exchange_rules.proofs.Definitions.{Configuration, Facts, chosen_link, Procedure, Code, any_flow, IsAnyFlow, some_passes, Parts, Node, with_parts, in_service, network_of, facts, goes_by, set_of, is_taken_back, loses_flows, procedure_by, code_in_use, freed, code_for, declare_by, hold_flows, take_back_each, change_back, WholeQueues, whole}
 use Rattle.timers.specs.declared.name.TimerName.TheVariants as name
 use Rattle.node_links.proofs.Chosen.{chosen_serving}
-use Rattle.exchange_rules.proofs.Places.{with_flows-fits}
+use Rattle.exchange_rules.proofs.Places.{with_flows-fits, lifted-fits}
 use Rattle.exchange_rules.proofs.TakenPairs.{IsAlike, take_back_each-alike}
-use Rattle.exchange_rules.proofs.Steps.{IsOfSteps}
-use Rattle.exchange_rules.proofs.SteppingTimers.{set-timed}
+use Rattle.exchange_rules.proofs.Steps.{IsOfSteps, IsOfRules}
+use Rattle.exchange_rules.proofs.SteppingTimers.{set-timed, clear-timed}
 
 -- ---- the links that lose flows
 
@@ -52,20 +52,26 @@ module _ {c : Configuration} {Own Counts : ℕ → Type 0} {R : Node WholeQueues
       s.both _ _ _ (declare_by-steps code link other n e f)
       (s.holding _ begun (record { fits = with_flows-fits c begun.parts.holds procedure (is_taken_back before after other link) }))
 
+  pub freed-steps : (set code : ℕ) (n : Node WholeQueues) → R n (with_parts n (freed set code n.parts))
+  freed-steps set code n =
+      s.both _ _ _ (s.coded set code false n)
+      (s.both _ _ _ (s.holding _ _ (record { fits = lifted-fits c n.parts.holds (Code set code) })) (s.timed _ _ (clear-timed (name.T4 set code) n.parts.timers (λ l e. cc))))
+
+module _ {c : Configuration} {Own Counts : ℕ → Type 0} {R : Node WholeQueues → Node WholeQueues → Type 0} (s : IsOfRules c Own Counts R) where
   take_back-by : (loses : Bool) (before after : Facts) (code : Option ℕ) (link other : ℕ) (n : Node WholeQueues) → in_service n.parts link ≡ true
       → (loses ≡ true → in_service n.parts other ≡ true) → R n (if loses then hold_flows whole c before after code link other n else n)
-  take_back-by true before after code link other n e f = hold_flows-steps before after code link other n e (f refl)
-  take_back-by false before after code link other n e f = s.none n
+  take_back-by true before after code link other n e f = s.returns before after code link other n e (f refl)
+  take_back-by false before after code link other n e f = s.sends.none n
 
   take_back_each-steps : (before after : Facts) (link many : ℕ) (n : Node WholeQueues) → in_service n.parts link ≡ true
       → ((other : ℕ) → loses_flows c before after other link ≡ true → in_service n.parts other ≡ true) → R n (take_back_each whole c before after link many n)
   unfolding take_back_each
-  take_back_each-steps before after link zero n e f = s.none n
+  take_back_each-steps before after link zero n e f = s.sends.none n
   take_back_each-steps before after link (suc other) n e f =
       let one : Node WholeQueues = take_back_each whole c before after link other n in
       let same : IsAlike whole c one n = take_back_each-alike whole c before after link other n in
       let serves : (l : ℕ) → in_service one.parts l ≡ in_service n.parts l = λ l. ap (λ links. in_service (record n.parts { links = links }) l) same.links in
-      s.both _ _ _ (take_back_each-steps before after link other n e f)
+      s.sends.both _ _ _ (take_back_each-steps before after link other n e f)
       (take_back-by (loses_flows c before after other link) before after (code_for whole c link other one) link other one (serves link ∙ e) (λ h. serves other ∙ f other h))
 
   -- a link that returned takes its flows back: each other link is in service that was

@@ -1,8 +1,9 @@
 -- The steps that rules are made of: each change of a node that a rule makes, with what stands when it makes it. A relation between two nodes that
--- holds of each step, and of one behind another, holds of every rule, every event and every take (`Stepping..`).
+-- holds of each step, and of one behind another, holds of every rule, every event and every take (`Stepping..`, `Rules`).
 use Rattle.exchange_rules.proofs.Basics.{◌≡◌, ℕ, Bool, true, false, List, [], length, Option, Some, find, if◌then◌else◌, slice_index_or, option_map}
-use Rattle.exchange_rules.proofs.Definitions.{Message, flow_of, Notice, FailureReason, Configuration, TitleEntry, Input, Go, Transition, action_at, Sending, LinkTestValue, TimerName, L7, Running, is_running, is_due, Route, RouteStatus, Allowed, leads_by, ToldTable, is_own_point, shape_of, Link, Standing, with_code, HoldSet, Parts, Node, Done, with_parts, lost_any, late_any, is_link, link_at, links_with, with_link, down, in_service, note, flagged, flagged_late, link_of, queue_on, waits, hold, is_adjacent, test_answer, changeover_of, with_changeover, fail_link, declaration, with_titles, step_on, timed_busy, timed_busy_ended, may_open, without_association, open_link, Carrying, carries, numbers, timed_parts, SendsMessage, next_message, after_sending, WholeQueues, whole, HasHoldsFor, tells_of_loss, tells_of_lateness}
+use Rattle.exchange_rules.proofs.Definitions.{Message, flow_of, Notice, FailureReason, Configuration, TitleEntry, Input, Go, Transition, action_at, Sending, LinkTestValue, TimerName, L7, Running, is_running, is_due, Route, RouteStatus, Allowed, leads_by, ToldTable, is_own_point, shape_of, Link, Standing, with_code, HoldSet, Parts, Node, Done, with_parts, lost_any, late_any, is_link, link_at, links_with, with_link, down, in_service, note, flagged, flagged_late, link_of, queue_on, waits, hold, is_adjacent, test_answer, changeover_of, with_changeover, fail_link, declaration, with_titles, step_on, timed_busy, timed_busy_ended, may_open, without_association, open_link, Carrying, carries, numbers, timed_parts, SendsMessage, next_message, after_sending, WholeQueues, whole, HasHoldsFor, tells_of_loss, tells_of_lateness, ChangeoverTimer, Facts, Procedure, lifted, fail, on_changeover_order, on_changeover_acknowledgement, on_changeover_timer, hold_flows, freed, held_by_rerouting}
 use Rattle.std.specs.Prelude.{map, Ok}
+use Rattle.timers.specs.declared.name.TimerName.TheVariants as name
 
 -- timers change, but none that watches a link: the same names exist, each L7 runs that ran, and no timer becomes due
 pub record AreTimed (r s : Running) : Type 0 where
@@ -120,7 +121,81 @@ pub record IsOfSteps (c : Configuration) (Own Counts : ℕ → Type 0) (R : Node
   pub sent : (link : ℕ) (next : Sending) (n : Node WholeQueues) → Own link → next_message whole c link n ≡ Some next
       → R n (after_sending whole c link n (SendsMessage next))
 
-module _ {c : Configuration} {Own Counts : ℕ → Type 0} {R : Node WholeQueues → Node WholeQueues → Type 0} (s : IsOfSteps c Own Counts R) where
+-- ---- rules as a whole, where they change holds, or changeovers, or the timers that end holds
+
+-- T1 and T2 end changeovers, T3, T4 and T6 holds
+abbrev pub ends_holds : TimerName → Bool
+ends_holds (name.T1 link) = true
+ends_holds (name.T2 link) = true
+ends_holds (name.T3 link) = true
+ends_holds (name.T4 set code) = true
+ends_holds (name.T6 destination) = true
+ends_holds _ = false
+
+-- L4, L6 and L7 may take a link into service, or out of it
+abbrev pub takes_links : TimerName → Bool
+takes_links (name.L4 link) = true
+takes_links (name.L6 link) = true
+takes_links (name.L7 link) = true
+takes_links _ = false
+
+-- timers change, but none of these
+pub record AreQuiet (r s : Running) : Type 0 where
+  pub timed : AreTimed r s
+  pub endings : (name : TimerName) → ends_holds name ≡ true → s.left name ≡ r.left name
+  pub links : (name : TimerName) → takes_links name ≡ true → s.left name ≡ r.left name
+
+-- R holds of the steps of which it is made that a message goes out or is dropped
+pub record IsOfSends (c : Configuration) (R : Node WholeQueues → Node WholeQueues → Type 0) : Type 0 where
+  pub none : (n : Node WholeQueues) → R n n
+  pub both : (n m o : Node WholeQueues) → R n m → R m o → R n o
+  pub routed : (link : ℕ) (m : Message) (n : Node WholeQueues) → link_of c n.parts (flow_of m) ≡ Some link → R n (queue_on whole c link m n)
+  pub noted : (notice : Notice) (n : Node WholeQueues) → IsTold notice n.parts → R n (with_parts n (note notice n.parts))
+  pub lost : (n : Node WholeQueues) → R n (with_parts n (flagged n.parts))
+
+abbrev pub sends-of : {c : Configuration} {Own Counts : ℕ → Type 0} {R : Node WholeQueues → Node WholeQueues → Type 0} → IsOfSteps c Own Counts R → IsOfSends c R
+sends-of s = record { none = s.none; both = s.both; routed = s.routed; noted = s.noted; lost = s.lost }
+
+-- R holds of each step that changes none of these, and of each rule that does. So a law may see a hold and its timer as one, which the steps show one
+-- after the other. Where R holds of each step, it holds of each rule (`rules-of`)
+pub record IsOfRules (c : Configuration) (Own Counts : ℕ → Type 0) (R : Node WholeQueues → Node WholeQueues → Type 0) : Type 0 where
+  pub sends : IsOfSends c R
+  pub tested : (link point : ℕ) (test : LinkTestValue) (n : Node WholeQueues) → in_service n.parts link ≡ true → is_adjacent c point ≡ true
+      → R n (queue_on whole c link (test_answer c point test) n)
+  pub held : (m : Message) (n : Node WholeQueues) → waits c n.parts.holds m ≡ true → R n (hold whole m n)
+  pub taken_out : (n : Node WholeQueues) → R n (record n { queues = whole.without_held n.queues })
+  pub late : (n : Node WholeQueues) → R n (with_parts n (flagged_late n.parts))
+  pub timed : (r : Running) (n : Node WholeQueues) → AreQuiet n.parts.timers r → R n (with_parts n (record n.parts { timers = r }))
+  pub rerouted : (routes : List (List Route)) (n : Node WholeQueues) → AreRerouted n.parts.told n.parts.routes routes → R n (with_parts n (record n.parts { routes = routes }))
+  pub told : (t : ToldTable) (n : Node WholeQueues) → AreToldMore n.parts.told t → R n (with_parts n (record n.parts { told = t }))
+  pub titled : (rows : List TitleEntry) (n : Node WholeQueues) → R n (with_parts n (with_titles rows n.parts))
+  pub linked : (link : ℕ) (x : Link) (n : Node WholeQueues) → IsSameLink (link_at n.parts link) x → R n (with_parts n (with_link n.parts link x))
+  pub parted : (link : ℕ) (n : Node WholeQueues) → down n.parts link ≡ true → R n (with_parts n (without_association link n.parts))
+  pub opened : (link : ℕ) (n : Node WholeQueues) → Counts link → is_link n.parts link ≡ true → may_open (link_at n.parts link) ≡ true
+      → (changeover_of n.parts link).incomplete ≡ false → R n (open_link whole c link n)
+  pub stepped : (link : ℕ) (input : Input) (step : Transition) (n : Node WholeQueues) → Own link → action_at (link_at n.parts link).alignment input ≡ Go step
+      → R n (with_parts n (step_on c link step n.parts))
+  pub busied : (link : ℕ) (n : Node WholeQueues) → Own link → in_service n.parts link ≡ true → (link_at n.parts link).peer_busy ≡ false
+      → R n (with_parts n (with_busy c link n.parts))
+  pub resumed : (link : ℕ) (n : Node WholeQueues) → Own link → in_service n.parts link ≡ true → (link_at n.parts link).peer_busy ≡ true
+      → R n (with_parts n (without_busy c link (whole.outstanding n.queues link) n.parts))
+  pub accepted : (link : ℕ) (d : Carrying) (confirmed : ℕ) (n : Node WholeQueues) → Counts link → in_service n.parts link ≡ true → numbers whole c link d n ≡ Ok confirmed
+      → R n (confirming c link d confirmed n)
+  pub sent : (link : ℕ) (next : Sending) (n : Node WholeQueues) → Own link → next_message whole c link n ≡ Some next
+      → R n (after_sending whole c link n (SendsMessage next))
+  -- ---- a link fails, and its changeover goes on and ends
+  pub fails : (link : ℕ) (why : FailureReason) (n : Node WholeQueues) → R n (fail whole c link why n)
+  pub orders : (link : ℕ) (number : Option ℕ) (n : Node WholeQueues) → R n (on_changeover_order whole c link number n).left
+  pub acknowledges : (link : ℕ) (number : Option ℕ) (n : Node WholeQueues) → R n (on_changeover_acknowledgement whole c link number n).left
+  pub expires : (timer : ChangeoverTimer) (link : ℕ) (n : Node WholeQueues) → R n (on_changeover_timer whole c timer link n)
+  -- ---- flows that return are held, a code is free again, flows are rerouted, and a procedure ends all its holds
+  pub returns : (before after : Facts) (code : Option ℕ) (link other : ℕ) (n : Node WholeQueues) → in_service n.parts link ≡ true → in_service n.parts other ≡ true
+      → R n (hold_flows whole c before after code link other n)
+  pub frees : (set code : ℕ) (n : Node WholeQueues) → R n (with_parts n (freed set code n.parts))
+  pub reroutes : (destination : ℕ) (selections : List ℕ) (n : Node WholeQueues) → R n (with_parts n (held_by_rerouting c destination selections n.parts))
+  pub lifts : (procedure : Procedure) (n : Node WholeQueues) → R n (with_parts n (record n.parts { holds = lifted n.parts.holds procedure }))
+
+module _ {c : Configuration} {R : Node WholeQueues → Node WholeQueues → Type 0} (s : IsOfSends c R) where
   -- a test decides
   pub either-steps : (b : Bool) (n m o : Node WholeQueues) → R n m → R n o → R n (if b then m else o)
   either-steps true n m o e f = e

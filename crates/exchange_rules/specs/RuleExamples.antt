@@ -1,5 +1,5 @@
 -- Laws of the exchange at nodes of one link, where wrong definitions make them false.
-use Rattle.std.specs.Prelude.{◌≡◌, true, false, List, [], ◌∷◌, None}
+use Rattle.std.specs.Prelude.{◌≡◌, Bool, true, false, List, [], ◌∷◌, None}
 use Rattle.signalling_types.specs.Message.{Message}
 use Rattle.signalling_types.specs.declared.notice.FailureReason.TheVariants as reasons
 use Rattle.signalling_types.specs.declared.notice.Notice.TheVariants.{Failed}
@@ -10,7 +10,10 @@ use Rattle.link.specs.Queue.{first_queue}
 use Rattle.routes.specs.declared.route.Route.{Route}
 use Rattle.routes.specs.declared.route.RouteStatus.TheVariants.{Allowed}
 use Rattle.node_links.specs.LinkState.{down_link}
-use Rattle.flow_hold.specs.declared.procedure.Procedure.TheVariants.{Changeover}
+use Rattle.timers.specs.declared.name.TimerName.TheVariants.{T3}
+use Rattle.timers.specs.Timers.{is_running}
+use Rattle.routes.specs.Facts.{Facts, first_route}
+use Rattle.flow_hold.specs.declared.procedure.Procedure.TheVariants.{Changeover, Time}
 use Rattle.flow_hold.specs.Holds.{HoldSet, no_holds, holds, with_hold}
 use Rattle.exchange_rules.specs.State.{lost_any, Node, Noted, with_node, with_parts}
 use Rattle.exchange_rules.specs.Queues.{WholeQueues, queue_at, whole}
@@ -20,6 +23,7 @@ use Rattle.exchange_rules.specs.Noting.{flagged, made_since, noted}
 use Rattle.exchange_rules.specs.Holding.{waits}
 use Rattle.exchange_rules.specs.Happening.{Happens, CameUp}
 use Rattle.exchange_rules.specs.ChangingOver.{complete_if}
+use Rattle.exchange_rules.specs.ChangingBack.{hold_flows}
 use Rattle.exchange_rules.specs.Releasing.{release}
 use Rattle.exchange_rules.specs.Failing.{fail}
 use Rattle.exchange_rules.specs.Lasting.{after_each}
@@ -134,3 +138,25 @@ failure_holds_the_flow =
     holds (fail whole settings 0 reasons.Association (node_with nothing_held [] [] (message ∷ []))).parts.holds
     (Changeover 0) 0 0
     ≡ true
+
+-- ---- a return
+
+-- two sets of one link each lead to the destination; the link of the second is in service
+abbrev pub two_sets : (first_serves : Bool) → Facts
+two_sets first_serves = record {
+  sets = (0 ∷ []) ∷ (1 ∷ []) ∷ [];
+  in_service = first_serves ∷ true ∷ [];
+  routes = (first_route 0 ∷ first_route 1 ∷ []) ∷ [];
+}
+
+-- the link of the first returns, and holds the flow by time
+abbrev pub returned : Node WholeQueues
+returned =
+    hold_flows whole settings (two_sets false) (two_sets true) None 0 1 (node_with nothing_held the_routes [] [])
+
+abbrev pub return_holds_the_flow : Type 0
+return_holds_the_flow = holds returned.parts.holds (Time 0) 0 0 ≡ true
+
+-- so T3 runs
+abbrev pub return_has_its_timer : Type 0
+return_has_its_timer = is_running (T3 0) returned.parts.timers ≡ true

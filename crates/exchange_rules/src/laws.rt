@@ -6,6 +6,8 @@ ghost use Rattle.exchange_rules.specs.Laws.{settled_in_service};
 ghost use Rattle.exchange_rules.specs.Laws.{first_is_told, events_tell_all, takes_owe_nothing};
 ghost use Rattle.exchange_rules.specs.Laws.{completion_leaves_others, release_keeps_order, moved_before_held};
 ghost use Rattle.exchange_rules.specs.LastingLinks.{links_first_steady, links_stay_steady, l7_watches};
+ghost use Rattle.exchange_rules.specs.LastingHolds.{holds_stay_timed, every_hold_has_its_timer_or_its_word};
+ghost use Rattle.exchange_rules.specs.TickingAlone.{ticks_end_holds_where_it_is_quiet, ticks_end_all_holds};
 ghost use Rattle.exchange_rules.specs.Touching.{other_links_are_left, takes_leave_other_queues};
 ghost use Rattle.exchange_rules.specs.LastingMessages.{first_is_onward, messages_stay_onward};
 ghost use Rattle.exchange_rules.specs.LastingRoutes.{own_routes_stay_allowed};
@@ -139,6 +141,24 @@ pub fn links_stay_steady()
     ensures first { links_first_steady }
     ensures always { links_stay_steady }
     ensures watched { l7_watches }
+{}
+
+/// Every hold has its timer or its word, whatever happens and whatever is taken. The changeover that holds a flow isn't
+/// complete; T4 of a code that holds one runs, T3 of a link that holds one by time, and T6 of a destination whose flows
+/// are rerouted. While a changeover isn't complete T1 runs, or the answer to its order is awaited; and while that is
+/// awaited T2 runs. So nothing is held that neither a timer nor a word of the peer ends.
+pub fn every_hold_has_its_timer_or_its_word()
+    ensures stays { holds_stay_timed }
+    ensures always { every_hold_has_its_timer_or_its_word }
+{}
+
+/// So where nothing but ticks happens, all holds end, from each state that comes of the first: after as many ticks as the
+/// longest of T1, T2, T3, T4 and T6 takes no flow is held and no message waits in Held, if no L4, L6 or L7 runs. These may
+/// take a link into service or out of it, and so begin another wait. They run while a link is being proved, while a peer
+/// is busy, and while something that was sent isn't confirmed; then it takes as many ticks more as the longest of them.
+pub fn ticks_end_all_holds()
+    ensures quiet { ticks_end_holds_where_it_is_quiet }
+    ensures always { ticks_end_all_holds }
 {}
 
 /// An event leaves each link that it isn't about: messages go behind the link's queue while it is in service, or a

@@ -1,5 +1,5 @@
 -- The laws by counts, kept by a move that is known by what it makes and what it looks at.
-use Rattle.pair_moves.proofs.Basics.{◌≡◌, ◌≢◌, ℕ, Bool, ◌+◌, ◌≤◌, List, count_by, ap, sym, arith, subst, ⊎_elim, cases_eq}
+use Rattle.pair_moves.proofs.Basics.{◌≡◌, ◌≢◌, ℕ, Bool, ◌+◌, List, count_by, ap, sym, arith, subst, ⊎_elim, cases_eq}
 use Rattle.pair_moves.proofs.Definitions.{Message, last_accepted, Saying, is_order, is_answer, is_untrue, is_declaration, is_confirmation, LinkEnd, Line, Side, Pair, turned, turned_line, unreceived, BecomeAt, sum_to, under_way, one_if, saying, OrdersAreAwaited, WordsAreTrue, CodesAreOutstanding, user, EachOnce}
 use Rattle.pair_moves.proofs.Counts.{sum-but}
 
@@ -56,17 +56,17 @@ module _ (read : Message → Saying) where
     pub far : q.far ≡ p.far
     pub orders : (link : ℕ) →
         count_by (saying read (is_order link)) made + one_if (p.line link).near.awaited
-        ≤ one_if (q.line link).near.awaited + count_by (saying read (is_answer link)) looked
+        ≡ one_if (q.line link).near.awaited + count_by (saying read (is_answer link)) looked
     pub answers : (link : ℕ) →
         count_by (saying read (is_answer link)) made + one_if (p.line link).far.awaited
-        ≤ one_if (q.line link).far.awaited + count_by (saying read (is_order link)) looked
+        ≡ one_if (q.line link).far.awaited + count_by (saying read (is_order link)) looked
     pub truth : (link : ℕ) → under_way (untrue_of link (q.line link).near) p + count_by (untrue_of link (q.line link).near) made ≡ 0
     pub far_truth : (link : ℕ) → under_way (untrue_of link (q.line link).far) (turned p) ≡ 0
     pub declarations : (code : ℕ) →
         count_by (saying read (is_declaration code)) made + one_if (p.near.outstanding code)
-        ≤ one_if (q.near.outstanding code) + count_by (saying read (is_confirmation code)) looked
+        ≡ one_if (q.near.outstanding code) + count_by (saying read (is_confirmation code)) looked
     pub confirmations : (code : ℕ) →
-        count_by (saying read (is_confirmation code)) made ≤ count_by (saying read (is_declaration code)) looked
+        count_by (saying read (is_confirmation code)) made ≡ count_by (saying read (is_declaration code)) looked
     pub accepted : (test : Message → Bool) →
         count_by (user read test) q.near.accepted ≡ count_by (user read test) p.near.accepted + count_by (user read test) made
     pub received : (test : Message → Bool) →

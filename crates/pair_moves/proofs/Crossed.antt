@@ -1,6 +1,6 @@
 -- The run of the example is one: each pair of it comes from the one before by a move.
 use Rattle.pair_moves.proofs.Basics.{true, false, [], refl, sym, arith, None}
-use Rattle.pair_moves.proofs.Definitions.{MessageFrame, turned, with_message, with_sent, with_frames_left, with_accepted, with_failure, with_completion, Move, Moves, read_plainly, the_message, the_order, the_answer, lines_with, held_by_changeover, Crosses}
+use Rattle.pair_moves.proofs.Definitions.{MessageFrame, turned, with_message, with_sent, with_frames_left, with_accepted, with_failure, with_completion, Move, Moves, read_plainly, the_message, the_order, the_answer, lines_with, Crosses}
 use Rattle.pair_moves.specs.Moves as moves
 use Rattle.pair_moves.specs.Crossing as run
 use Rattle.pair_moves.proofs.Lines.{false_is_true}
@@ -192,6 +192,8 @@ crosses = record {
     joining run.first_opens 0 run.second_run joins-first
         (opens-second, joining run.second_opens 1 run.crossing_run joins-second crossing),
   );
+  order = record { awaited = refl; one = refl };
+  answer = record { awaited = refl; one = refl };
   crossed = record {
     accepted = refl;
     received = refl;

@@ -1,6 +1,6 @@
 -- The run of the example begins: the link opens, and fails under its message.
-use Rattle.pair_moves.proofs.Basics.{◌≡◌, ◌≢◌, ℕ, Bool, true, false, ◌<◌, List, [], ◌∷◌, ◌++◌, refl, ap, arith, Some, None, if◌then◌else◌, ne_eqb}
-use Rattle.pair_moves.proofs.Definitions.{Line, Procedure, Changeover, Code, Time, Pair, turned, first_pair, BecomeAt, with_message, with_status, with_statuses_left, with_sent, with_heard, with_failure, MayOpen, opened_first, opened_second, with_service, NearMove, Move, Moves, read_plainly, the_message, the_order, the_answer, lines_with, held_by_changeover, Crosses}
+use Rattle.pair_moves.proofs.Basics.{◌≡◌, ◌≢◌, ℕ, Bool, true, false, ◌<◌, List, [], ◌++◌, refl, ap, arith, Some, None, if◌then◌else◌, ne_eqb}
+use Rattle.pair_moves.proofs.Definitions.{Line, Procedure, Changeover, Code, Time, Pair, turned, first_pair, BecomeAt, with_message, with_status, with_statuses_left, with_sent, with_heard, with_failure, MayOpen, opened_first, opened_second, with_service, NearMove, Move, Moves, read_plainly, the_message, the_order, lines_with, held_by_changeover}
 use Rattle.pair_moves.specs.Moves as moves
 use Rattle.pair_moves.specs.Crossing as run
 use Rattle.pair_moves.proofs.Lines.{false_is_true}

@@ -1,12 +1,12 @@
 -- Moves of a failure and its changeover are sound.
-use Rattle.pair_moves.proofs.Basics.{◌≡◌, ◌≢◌, inl, inr, ℕ, Bool, true, false, ◌+◌, ◌≤◌, List, [], ◌∷◌, ◌++◌, drop, count_by, nat_eq, refl, sym, subst, arith, ⊎_elim, cases_eq}
-use Rattle.pair_moves.proofs.Definitions.{Message, last_accepted, Saying, Order, Answer, is_user_message, is_order, is_answer, is_untrue, is_declaration, is_confirmation, Line, Side, Pair, turned, with_failure, with_completion, without_wait, users_of, managements_of, Falls, FallsWithOrder, CompletesByOrder, AnswersOrder, CompletesByAnswer, EndsWait, IgnoresAnswer, under_way, one_if, saying}
+use Rattle.pair_moves.proofs.Basics.{◌≡◌, ◌≢◌, inl, inr, ℕ, Bool, true, false, ◌+◌, List, [], ◌∷◌, ◌++◌, drop, count_by, nat_eq, refl, ap, sym, ◌∙◌, subst, arith, ⊎_elim, cases_eq}
+use Rattle.pair_moves.proofs.Definitions.{Message, last_accepted, Saying, Order, Answer, is_order, is_answer, is_untrue, is_declaration, is_confirmation, Line, Side, Pair, turned, with_failure, with_completion, without_wait, users_of, managements_of, Falls, FallsWithOrder, CompletesByOrder, AnswersOrder, CompletesByAnswer, EndsWait, IgnoresAnswer, under_way, one_if, saying}
 use Rattle.pair_moves.proofs.Counts.{count-append, count-one, count-first}
-use Rattle.pair_moves.proofs.Words.{said, said-no_user, same-link, other-link, told-order, told-answer, told-order_elsewhere, told-answer_elsewhere}
-use Rattle.pair_moves.proofs.Lines.{IsLine, not-beside}
+use Rattle.pair_moves.proofs.Words.{said, said-no_user, same-link, other-link, told-order, told-answer, told-order_elsewhere, told-answer_elsewhere, arrived-not}
+use Rattle.pair_moves.proofs.Lines.{IsLine, not-beside, both}
 use Rattle.pair_moves.proofs.Books.{untrue_of, each-line}
 use Rattle.pair_moves.proofs.Sound.{Sound, kept-sound, books-side, books-line}
-use Rattle.pair_moves.proofs.Quiet.{SameFlags, quiet-line, still-true}
+use Rattle.pair_moves.proofs.Quiet.{quiet-line, still-true}
 use Rattle.pair_moves.proofs.Tells.{one-said, none-said, count-beyond, Tells, order-tells, answer-tells, names-received, moved-counts}
 use Rattle.pair_moves.proofs.LinesChanged.{line-failure, line-completion, line-unawaited}
 
@@ -34,12 +34,7 @@ module _ (read : Message → Saying) (p q : Pair) where
       let last : ℕ = last_accepted z.near.queue in
       let up : z.near.up ≡ true = (h.lines m.link).near.serving m.serving in
       let unawaited : one_if z.near.awaited ≡ 0 = none-said z.near.awaited (not-beside z.near.awaited (h.lines m.link).near.awaited up) in
-      let t : SameFlags read p m.link y = record {
-        awaited = omega (arith, unawaited);
-        far_awaited = omega arith;
-        truth = still-true read p m.link y.near (λ u. up) (inr refl) h;
-        far_truth = h.back.words m.link;
-      } in
+      let truth : under_way (untrue_of read m.link y.near) p ≡ 0 = still-true read p m.link y.near (λ u. up) (inr refl) h in
       let of : (test : Saying → Bool) → count_by (saying read test) (m.order ∷ []) ≡ one_if (test (Order m.link last)) = said read m.order (Order m.link last) m.says in
       subst (Sound read) (sym m.after)
       (kept-sound read p (record p { line = m.lines; near = s }) (m.order ∷ []) []
@@ -48,16 +43,16 @@ module _ (read : Message → Saying) (p q : Pair) where
       (record {
         far = refl;
         orders = each-line p m.link y m.lines m.set
-            (λ k x. count_by (saying read (is_order k)) (m.order ∷ []) + one_if (p.line k).near.awaited ≤ one_if x.near.awaited + 0)
+            (λ k x. count_by (saying read (is_order k)) (m.order ∷ []) + one_if (p.line k).near.awaited ≡ one_if x.near.awaited + 0)
             (λ k d. omega (arith, of (is_order k), none-said (nat_eq m.link k) (other-link m.link k d)))
             (omega (arith, of (is_order m.link), one-said (nat_eq m.link m.link) (same-link m.link), unawaited));
         answers = each-line p m.link y m.lines m.set
-            (λ k x. count_by (saying read (is_answer k)) (m.order ∷ []) + one_if (p.line k).far.awaited ≤ one_if x.far.awaited + 0)
+            (λ k x. count_by (saying read (is_answer k)) (m.order ∷ []) + one_if (p.line k).far.awaited ≡ one_if x.far.awaited + 0)
             (λ k d. omega (arith, of (is_answer k))) (omega (arith, of (is_answer m.link)));
         truth = each-line p m.link y m.lines m.set
             (λ k x. under_way (untrue_of read k x.near) p + count_by (untrue_of read k x.near) (m.order ∷ []) ≡ 0)
             (λ k d. omega (arith, h.there.words k, of (is_untrue k (p.line k).near.up (last_accepted (p.line k).near.queue)), told-order_elsewhere k m.link (p.line k).near.up (last_accepted (p.line k).near.queue) last d))
-            (omega (arith, t.truth, of (is_untrue m.link false last), told-order m.link m.link false last refl));
+            (omega (arith, truth, of (is_untrue m.link false last), told-order m.link m.link false last refl));
         far_truth = each-line p m.link y m.lines m.set (λ k x. under_way (untrue_of read k x.far) (turned p) ≡ 0) (λ k d. h.back.words k) (h.back.words m.link);
         declarations = λ code. omega (arith, of (is_declaration code));
         confirmations = λ code. omega (arith, of (is_confirmation code));
@@ -94,10 +89,10 @@ module _ (read : Message → Saying) (p q : Pair) where
       (record {
         far = refl;
         orders = each-line p m.link y m.lines m.set
-            (λ k x. count_by (saying read (is_order k)) (m.answer ∷ []) + one_if (p.line k).near.awaited ≤ one_if x.near.awaited + count_by (saying read (is_answer k)) (m.heard.message ∷ []))
+            (λ k x. count_by (saying read (is_order k)) (m.answer ∷ []) + one_if (p.line k).near.awaited ≡ one_if x.near.awaited + count_by (saying read (is_answer k)) (m.heard.message ∷ []))
             (λ k d. omega (arith, made (is_order k))) (omega (arith, made (is_order m.link)));
         answers = each-line p m.link y m.lines m.set
-            (λ k x. count_by (saying read (is_answer k)) (m.answer ∷ []) + one_if (p.line k).far.awaited ≤ one_if x.far.awaited + count_by (saying read (is_order k)) (m.heard.message ∷ []))
+            (λ k x. count_by (saying read (is_answer k)) (m.answer ∷ []) + one_if (p.line k).far.awaited ≡ one_if x.far.awaited + count_by (saying read (is_order k)) (m.heard.message ∷ []))
             (λ k d. omega (arith, made (is_answer k), looked (is_order k))) (omega (arith, made (is_answer m.link), looked (is_order m.link)));
         truth = each-line p m.link y m.lines m.set
             (λ k x. under_way (untrue_of read k x.near) p + count_by (untrue_of read k x.near) (m.answer ∷ []) ≡ 0)
@@ -179,10 +174,10 @@ module _ (read : Message → Saying) (p q : Pair) where
       (record {
         far = refl;
         orders = each-line p m.link y m.lines m.set
-            (λ k x. 0 + one_if (p.line k).near.awaited ≤ one_if x.near.awaited + count_by (saying read (is_answer k)) (m.heard.message ∷ []))
-            (λ k d. omega arith) (omega (arith, looked (is_answer m.link), one-said (nat_eq m.link m.link) (same-link m.link), one-said z.near.awaited m.awaited));
+            (λ k x. 0 + one_if (p.line k).near.awaited ≡ one_if x.near.awaited + count_by (saying read (is_answer k)) (m.heard.message ∷ []))
+            (λ k d. omega (arith, looked (is_answer k), none-said (nat_eq m.link k) (other-link m.link k d))) (omega (arith, looked (is_answer m.link), one-said (nat_eq m.link m.link) (same-link m.link), one-said z.near.awaited m.awaited));
         answers = each-line p m.link y m.lines m.set
-            (λ k x. 0 + one_if (p.line k).far.awaited ≤ one_if x.far.awaited + count_by (saying read (is_order k)) (m.heard.message ∷ []))
+            (λ k x. 0 + one_if (p.line k).far.awaited ≡ one_if x.far.awaited + count_by (saying read (is_order k)) (m.heard.message ∷ []))
             (λ k d. omega arith) (omega arith);
         truth = each-line p m.link y m.lines m.set (λ k x. under_way (untrue_of read k x.near) p + 0 ≡ 0)
             (λ k d. omega (arith, h.there.words k)) (omega (arith, h.there.words m.link));
@@ -208,10 +203,10 @@ module _ (read : Message → Saying) (p q : Pair) where
       (record {
         far = refl;
         orders = each-line p m.link y m.lines m.set
-            (λ k x. 0 + one_if (p.line k).near.awaited ≤ one_if x.near.awaited + count_by (saying read (is_answer k)) (m.heard.message ∷ []))
-            (λ k d. omega arith) (omega (arith, looked (is_answer m.link), one-said (nat_eq m.link m.link) (same-link m.link), one-said z.near.awaited m.awaited));
+            (λ k x. 0 + one_if (p.line k).near.awaited ≡ one_if x.near.awaited + count_by (saying read (is_answer k)) (m.heard.message ∷ []))
+            (λ k d. omega (arith, looked (is_answer k), none-said (nat_eq m.link k) (other-link m.link k d))) (omega (arith, looked (is_answer m.link), one-said (nat_eq m.link m.link) (same-link m.link), one-said z.near.awaited m.awaited));
         answers = each-line p m.link y m.lines m.set
-            (λ k x. 0 + one_if (p.line k).far.awaited ≤ one_if x.far.awaited + count_by (saying read (is_order k)) (m.heard.message ∷ []))
+            (λ k x. 0 + one_if (p.line k).far.awaited ≡ one_if x.far.awaited + count_by (saying read (is_order k)) (m.heard.message ∷ []))
             (λ k d. omega arith) (omega arith);
         truth = each-line p m.link y m.lines m.set (λ k x. under_way (untrue_of read k x.near) p + 0 ≡ 0)
             (λ k d. omega (arith, h.there.words k)) (omega (arith, h.there.words m.link));
@@ -224,24 +219,9 @@ module _ (read : Message → Saying) (p q : Pair) where
       (each-line p m.link y m.lines m.set (λ k x. IsLine x) (λ k d. h.lines k) (line-unawaited z (h.lines m.link)))
       h)
 
-  -- a message that is no user message is looked at, and nothing else comes of it
-  pub sound-ignores : (m : Message) (s : Saying) (rest : List Message) → p.near.arrived ≡ m ∷ rest → read m ≡ s → is_user_message s ≡ false →
-      Sound read p → Sound read (record p { near = record p.near { arrived = rest } })
-  sound-ignores m s rest first says other h =
-      kept-sound read p (record p { near = record p.near { arrived = rest } }) [] (m ∷ [])
-      (books-side p (record p.near { arrived = rest }) [] (m ∷ []) (λ test. omega arith) (λ test. omega (arith, count-first test p.near.arrived m rest first, count-one test m)))
-      (record {
-        far = refl;
-        orders = λ k. omega arith;
-        answers = λ k. omega arith;
-        truth = λ k. omega (arith, h.there.words k);
-        far_truth = λ k. h.back.words k;
-        declarations = λ code. omega arith;
-        confirmations = λ code. omega arith;
-        accepted = λ test. omega arith;
-        received = λ test. omega (arith, said-no_user read m s says other test);
-      })
-      h.lines h
-
+  -- no answer comes that isn't awaited
   pub sound-ignores_answer : IgnoresAnswer read p q → Sound read p → Sound read q
-  sound-ignores_answer m h = subst (Sound read) (sym m.after) (sound-ignores m.heard.message (Answer m.link m.number) m.heard.rest m.heard.first m.heard.says refl h)
+  sound-ignores_answer m h =
+      let none : under_way (saying read (is_answer m.link)) (turned p) ≡ 0 = omega (arith, h.there.orders m.link, none-said (p.line m.link).near.awaited m.unawaited) in
+      both (ap (is_answer m.link) m.heard.says ∙ same-link m.link)
+      (arrived-not (saying read (is_answer m.link)) p m.heard.message m.heard.rest m.heard.first none)

@@ -1,5 +1,5 @@
 -- A frame that comes to the near end keeps law (i).
-use Rattle.pair_moves.proofs.Basics.{◌≡◌, ℕ, Bool, true, false, ◌+◌, List, ◌∷◌, slice_get, ap, sym, ◌∙◌, subst, arith, Some, Ok}
+use Rattle.pair_moves.proofs.Basics.{◌≡◌, ℕ, Bool, true, false, ◌+◌, List, ◌∷◌, slice_get, sym, subst, arith, Some, Ok}
 use Rattle.pair_moves.proofs.Definitions.{Message, WINDOW, Queue, IsQueue, first_queue, accept_answer, after_answer, sound-accepted, Frame, EmptyFrame, MessageFrame, Line, turned_line, with_frames_left, with_accepted, Carry, Name, Flows, OpenedAlone}
 use Rattle.pair_moves.proofs.Frames.{carry-below, name-more, carry-rest, name-rest, count-confirmed}
 use Rattle.pair_moves.proofs.Lines.{IsLine, both, up-first, heard-joined, hearing-there, hearing-back}

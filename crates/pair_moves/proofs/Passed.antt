@@ -1,6 +1,6 @@
 -- Moves of messages and frames are sound.
-use Rattle.pair_moves.proofs.Basics.{◌≡◌, inl, ℕ, zero, suc, true, false, ◌+◌, ◌≤◌, List, [], ◌∷◌, ◌++◌, length, drop, slice_get, count_by, refl, ap, sym, ◌∙◌, subst, arith, Some, drop-append-le}
-use Rattle.pair_moves.proofs.Definitions.{Message, last_accepted, Saying, UserMessage, is_order, is_answer, is_untrue, is_declaration, is_confirmation, Line, Side, Pair, turned_line, unreceived, BecomeAt, with_message, Accepts, TakesOut, Keeps, Places, HandsOver, with_status, with_statuses_left, with_sent, with_heard, with_frames_left, with_accepted, SendsStatus, SendsMessage, SendsEmpty, HearsStatus, TakesStatus, DoublesStatus, Drops, TakesEmpty, TakesMessage, Flows, user}
+use Rattle.pair_moves.proofs.Basics.{◌≡◌, inl, ℕ, zero, suc, Bool, true, false, ◌+◌, ◌≤◌, List, [], ◌∷◌, ◌++◌, length, drop, slice_get, count_by, refl, ap, sym, ◌∙◌, subst, arith, Some, drop-append-le}
+use Rattle.pair_moves.proofs.Definitions.{Message, last_accepted, Saying, UserMessage, is_order, is_answer, is_untrue, is_declaration, is_confirmation, Line, Side, Pair, turned_line, unreceived, BecomeAt, with_message, Accepts, TakesOut, Keeps, Places, HandsOver, with_status, with_statuses_left, with_sent, with_heard, with_frames_left, with_accepted, SendsStatus, SendsMessage, SendsEmpty, HearsStatus, TakesStatus, DoublesStatus, Drops, TakesEmpty, TakesMessage, Flows, one_if, saying, user}
 use Rattle.std.proofs.lemmas.Grind.{common_steps}
 use Rattle.pair_moves.proofs.Counts.{count-append, count-one, count-first}
 use Rattle.pair_moves.proofs.Words.{only-user, said}
@@ -80,18 +80,18 @@ module _ (read : Message → Saying) (p q : Pair) where
   pub sound-hands_over : HandsOver read p q → Sound read p → Sound read q
   sound-hands_over m h =
       let s : Side = record p.near { arrived = m.heard.rest; received = p.near.received ++ m.heard.message ∷ [] } in
-      let is : read m.heard.message ≡ UserMessage = m.heard.says in
+      let looked : (test : Saying → Bool) → count_by (saying read test) (m.heard.message ∷ []) ≡ one_if (test UserMessage) = said read m.heard.message UserMessage m.heard.says in
       subst (Sound read) (sym m.after)
       (kept-sound read p (record p { near = s }) [] (m.heard.message ∷ [])
       (books-side p s [] (m.heard.message ∷ []) (λ test. omega arith) (λ test. omega (arith, count-one test m.heard.message, count-first test p.near.arrived m.heard.message m.heard.rest m.heard.first)))
       (record {
         far = refl;
-        orders = λ link. omega arith;
-        answers = λ link. omega arith;
+        orders = λ link. omega (arith, looked (is_answer link));
+        answers = λ link. omega (arith, looked (is_order link));
         truth = λ link. omega (arith, h.there.words link);
         far_truth = λ link. h.back.words link;
-        declarations = λ code. omega arith;
-        confirmations = λ code. omega arith;
+        declarations = λ code. omega (arith, looked (is_confirmation code));
+        confirmations = λ code. omega (arith, looked (is_declaration code));
         accepted = λ test. omega arith;
         received = λ test. omega (arith, count-append (user read test) p.near.received (m.heard.message ∷ []));
       })

@@ -1,5 +1,5 @@
 -- Moves that make nothing and look at nothing.
-use Rattle.pair_moves.proofs.Basics.{◌≡◌, ◌⊎◌, ℕ, Bool, true, ◌+◌, ◌≤◌, [], count_by, refl, ap, arith}
+use Rattle.pair_moves.proofs.Basics.{◌≡◌, ◌⊎◌, ℕ, Bool, true, ◌+◌, [], count_by, refl, ap, arith}
 use Rattle.pair_moves.proofs.Definitions.{Message, Saying, last_accepted, LinkEnd, Line, Side, Pair, turned, turned_line, unreceived, BecomeAt, under_way, one_if, user}
 use Rattle.pair_moves.proofs.Counts.{way-within}
 use Rattle.pair_moves.proofs.Words.{untrue-more}
@@ -15,8 +15,8 @@ pub record SameLists (s t : Side) : Type 0 where
 
 -- the flags of a line let what is under way be
 pub record SameFlags (read : Message → Saying) (p : Pair) (link : ℕ) (z : Line) : Type 0 where
-  pub awaited : one_if (p.line link).near.awaited ≤ one_if z.near.awaited
-  pub far_awaited : one_if (p.line link).far.awaited ≤ one_if z.far.awaited
+  pub awaited : one_if (p.line link).near.awaited ≡ one_if z.near.awaited
+  pub far_awaited : one_if (p.line link).far.awaited ≡ one_if z.far.awaited
   pub truth : under_way (untrue_of read link z.near) p ≡ 0
   pub far_truth : under_way (untrue_of read link z.far) (turned p) ≡ 0
 

@@ -1,14 +1,13 @@
 -- Moves of a link that opens and returns are sound.
-use Rattle.pair_moves.proofs.Basics.{◌≡◌, ◌≢◌, inr, ℕ, Bool, true, ◌+◌, ◌≤◌, List, [], ◌∷◌, ◌++◌, drop, count_by, nat_eq, refl, ap, sym, ◌∙◌, subst, arith, ⊎_elim, cases_eq}
+use Rattle.pair_moves.proofs.Basics.{◌≡◌, ◌≢◌, inr, ℕ, Bool, true, ◌+◌, List, [], ◌∷◌, ◌++◌, drop, count_by, nat_eq, refl, ap, sym, ◌∙◌, subst, arith, ⊎_elim, cases_eq}
 use Rattle.pair_moves.proofs.Definitions.{Message, Queue, last_accepted, Saying, Declaration, Confirmation, is_order, is_answer, is_untrue, is_declaration, is_confirmation, LinkEnd, Line, Side, Pair, turned, turned_line, unreceived, with_message, opened_end, opened_first, opened_second, MayOpen, with_service, OpensFirst, OpensSecond, Enters, Declares, WaitsForTime, Confirms, EndsHold, IgnoresConfirmation, RunsLate, IsEnd, OpenedAlone, under_way, one_if, saying}
 use Rattle.pair_moves.proofs.Counts.{count-append, count-one, count-first, way-within}
-use Rattle.pair_moves.proofs.Words.{said, said-no_user, same-link, other-link, untrue-any, small}
-use Rattle.pair_moves.proofs.Lines.{IsLine, line-message}
+use Rattle.pair_moves.proofs.Words.{said, said-no_user, same-link, other-link, untrue-any, small, arrived-not}
+use Rattle.pair_moves.proofs.Lines.{IsLine, line-message, both}
 use Rattle.pair_moves.proofs.Books.{untrue_of, each-line}
 use Rattle.pair_moves.proofs.Sound.{Sound, kept-sound, books-side, books-line}
 use Rattle.pair_moves.proofs.Quiet.{quiet-side, quiet-line, still-true}
 use Rattle.pair_moves.proofs.Passed.{unreceived-appended}
-use Rattle.pair_moves.proofs.Failed.{sound-ignores}
 use Rattle.pair_moves.proofs.LinesChanged.{line-opened_first, line-opened_second, line-service, nothing-idle}
 use Rattle.pair_moves.proofs.Tells.{one-said, none-said, count-beyond}
 
@@ -116,10 +115,10 @@ module _ (read : Message → Saying) (p q : Pair) where
       (record {
         far = refl;
         orders = each-line p m.former y m.lines m.set
-            (λ k x. count_by (saying read (is_order k)) (m.declaration ∷ []) + one_if (p.line k).near.awaited ≤ one_if x.near.awaited + 0)
+            (λ k x. count_by (saying read (is_order k)) (m.declaration ∷ []) + one_if (p.line k).near.awaited ≡ one_if x.near.awaited + 0)
             (λ k d. omega (arith, made (is_order k))) (omega (arith, made (is_order m.former)));
         answers = each-line p m.former y m.lines m.set
-            (λ k x. count_by (saying read (is_answer k)) (m.declaration ∷ []) + one_if (p.line k).far.awaited ≤ one_if x.far.awaited + 0)
+            (λ k x. count_by (saying read (is_answer k)) (m.declaration ∷ []) + one_if (p.line k).far.awaited ≡ one_if x.far.awaited + 0)
             (λ k d. omega (arith, made (is_answer k))) (omega (arith, made (is_answer m.former)));
         truth = each-line p m.former y m.lines m.set
             (λ k x. under_way (untrue_of read k x.near) p + count_by (untrue_of read k x.near) (m.declaration ∷ []) ≡ 0)
@@ -130,7 +129,7 @@ module _ (read : Message → Saying) (p q : Pair) where
             (λ (e : code ≡ m.code). omega (
               arith,
               made (is_declaration code),
-              small (nat_eq m.code code),
+              one-said (nat_eq m.code code) (subst (λ (c : ℕ). nat_eq m.code c ≡ true) (sym e) (same-link m.code)),
               subst (λ (c : ℕ). one_if (p.near.outstanding c) ≡ 0) (sym e) (none-said (p.near.outstanding m.code) m.free),
               subst (λ (c : ℕ). one_if (m.outstanding c) ≡ 1) (sym e) (one-said (m.outstanding m.code) m.used),
             ))
@@ -185,9 +184,14 @@ module _ (read : Message → Saying) (p q : Pair) where
               arith,
               looked (is_confirmation code),
               small (p.near.outstanding code),
+              h.there.codes code,
+              count-first (saying read (is_confirmation code)) p.near.arrived m.heard.message m.heard.rest m.heard.first,
+              count-one (saying read (is_confirmation code)) m.heard.message,
               one-said (nat_eq m.code code) (subst (λ (c : ℕ). nat_eq m.code c ≡ true) (sym e) (same-link m.code)),
+              subst (λ (c : ℕ). one_if (m.outstanding c) ≡ 0) (sym e) (none-said (m.outstanding m.code) m.freed),
             ))
-            (λ (d : code ≢ m.code). let same : one_if (m.outstanding code) ≡ one_if (p.near.outstanding code) = ap one_if (m.others code d) in omega (arith, same))
+            (λ (d : code ≢ m.code). let same : one_if (m.outstanding code) ≡ one_if (p.near.outstanding code) = ap one_if (m.others code d) in
+            omega (arith, looked (is_confirmation code), none-said (nat_eq m.code code) (other-link m.code code d), same))
             (cases_eq code m.code);
         confirmations = λ code. omega arith;
         accepted = λ test. omega arith;
@@ -195,6 +199,9 @@ module _ (read : Message → Saying) (p q : Pair) where
       })
       h.lines h)
 
+  -- no confirmation comes of a code that isn't outstanding
   pub sound-ignores_confirmation : IgnoresConfirmation read p q → Sound read p → Sound read q
   sound-ignores_confirmation m h =
-      subst (Sound read) (sym m.after) (sound-ignores read p q m.heard.message (Confirmation m.code) m.heard.rest m.heard.first m.heard.says refl h)
+      let none : under_way (saying read (is_confirmation m.code)) (turned p) ≡ 0 = omega (arith, h.there.codes m.code, none-said (p.near.outstanding m.code) m.free) in
+      both (ap (is_confirmation m.code) m.heard.says ∙ same-link m.code)
+      (arrived-not (saying read (is_confirmation m.code)) p m.heard.message m.heard.rest m.heard.first none)

@@ -267,6 +267,8 @@ declaring =
 pub returns-run : Returns
 returns-run = record {
   moves = (opens-alone, (falls-alone, (opens-again, joining back.opened_again 0 back.declaring_run joins-again declaring)));
+  declaration = record { outstanding = refl; one = refl };
+  confirmation = record { outstanding = refl; one = refl };
   returned = record {
     accepted = refl;
     received = refl;

@@ -1,16 +1,17 @@
 -- A run of the moves: the only message stands on a link that fails under it, and comes to the far
 -- node by another.
-use Rattle.std.specs.Prelude.{◌≡◌, ℕ, Bool, true, false, List, [], ◌∷◌, ◌++◌, drop, slice_index, nat_eq}
+use Rattle.std.specs.Prelude.{◌≡◌, ℕ, ◌+◌, Bool, true, false, List, [], ◌∷◌, ◌++◌, drop, slice_index, nat_eq}
 use Rattle.std.specs.Prelude.{Option, Some, None, if◌then◌else◌}
 use Rattle.signalling_types.specs.Message.{Message, is_management}
 use Rattle.signalling_types.specs.Numbers.{number_of}
-use Rattle.pair_moves.specs.Sayings.{Saying, UserMessage, Order, Answer, Declaration, Confirmation}
+use Rattle.pair_moves.specs.Sayings.{Saying, UserMessage, Order, Answer, Declaration, Confirmation, is_order, is_answer}
 use Rattle.pair_moves.specs.Ends.{Line, Procedure, Changeover, Code, Time, Side, Pair, turned, first_pair}
 use Rattle.pair_moves.specs.Passing.{with_message}
 use Rattle.pair_moves.specs.Carrying.{with_status, with_statuses_left, with_sent, with_heard, with_frames_left, with_accepted}
 use Rattle.pair_moves.specs.Failing.{with_failure, with_completion}
 use Rattle.pair_moves.specs.Returning.{opened_first, opened_second, with_service}
 use Rattle.pair_moves.specs.Moves.{Moves, last_of}
+use Rattle.pair_moves.specs.Laws.{saying, under_way}
 
 -- how messages are read here: a management message has a heading, a link or a code, and three
 -- octets of a number
@@ -250,7 +251,15 @@ pub record HasCrossed (p : Pair) : Type 0 where
   pub far_down : (p.line 0).far.up ≡ false
   pub flags : RaisesNoFlag p
 
--- the run is one, and the message crosses the failure
+-- the near node awaits an answer about a link, and one order or answer about it is under way
+pub record AwaitsOne (p : Pair) (link : ℕ) : Type 0 where
+  pub awaited : (p.line link).near.awaited ≡ true
+  pub one :
+      under_way (saying read_plainly (is_order link)) p + under_way (saying read_plainly (is_answer link)) (turned p) ≡ 1
+
+-- the run is one, the order and its answer are awaited on their way, and the message crosses the failure
 pub record Crosses : Type 0 where
   pub moves : Moves read_plainly (first_pair 2) run
+  pub order : AwaitsOne order_sent 0
+  pub answer : AwaitsOne answer_sent 0
   pub crossed : HasCrossed (last_of (first_pair 2) run)

@@ -1,11 +1,13 @@
 -- The run goes on: the link that failed returns, and the flow goes back to it behind a declaration.
 -- A message that is accepted meanwhile waits in Held, and comes behind the first.
-use Rattle.std.specs.Prelude.{◌≡◌, ℕ, Bool, true, false, List, [], ◌∷◌, ◌++◌, nat_eq, Some, None}
+use Rattle.std.specs.Prelude.{◌≡◌, ℕ, ◌+◌, Bool, true, false, List, [], ◌∷◌, ◌++◌, nat_eq, Some, None}
 use Rattle.signalling_types.specs.Message.{Message}
+use Rattle.pair_moves.specs.Sayings.{is_declaration, is_confirmation}
 use Rattle.pair_moves.specs.Ends.{Procedure, Changeover, Code, Time, Pair, turned}
 use Rattle.pair_moves.specs.Passing.{with_message}
 use Rattle.pair_moves.specs.Failing.{with_failure}
 use Rattle.pair_moves.specs.Moves.{Moves, last_of}
+use Rattle.pair_moves.specs.Laws.{saying, under_way}
 use Rattle.pair_moves.specs.Crossing.{read_plainly, the_message, with_line, with_near, opens, joining, joined}
 use Rattle.pair_moves.specs.Crossing.{enters_near, after_placing}
 use Rattle.pair_moves.specs.Crossing.{after_sending_one, after_taking_one, handed_over, RaisesNoFlag}
@@ -133,7 +135,16 @@ pub record HasReturned (p : Pair) : Type 0 where
   pub stood : (p.line 0).near.queue.all ≡ second_message ∷ []
   pub flags : RaisesNoFlag p
 
+-- a code is outstanding at the near node, and one declaration with it or confirmation of it is under way
+pub record IsOutstanding (p : Pair) (code : ℕ) : Type 0 where
+  pub outstanding : p.near.outstanding code ≡ true
+  pub one :
+      under_way (saying read_plainly (is_declaration code)) p
+      + under_way (saying read_plainly (is_confirmation code)) (turned p) ≡ 1
+
 -- the run goes on so from where the first message was handed over
 pub record Returns : Type 0 where
   pub moves : Moves read_plainly handed_over return_run
+  pub declaration : IsOutstanding declaration_sent 0
+  pub confirmation : IsOutstanding confirmation_sent 0
   pub returned : HasReturned (last_of handed_over return_run)

@@ -1,5 +1,5 @@
 -- The laws of orders, answers, declarations and confirmations, by counts of the messages under way.
-use Rattle.std.specs.Prelude.{◌≡◌, ℕ, zero, suc, Bool, cond, ◌+◌, ◌≤◌, count_by}
+use Rattle.std.specs.Prelude.{◌≡◌, ℕ, zero, suc, Bool, cond, ◌+◌, count_by}
 use Rattle.signalling_types.specs.Message.{Message}
 use Rattle.link.specs.Queue.{last_accepted}
 use Rattle.pair_moves.specs.Sayings.{Saying, is_order, is_answer, is_untrue, is_declaration, is_confirmation}
@@ -26,13 +26,13 @@ module _ (read : Message → Saying) where
   abbrev pub saying : (Saying → Bool) → Message → Bool
   saying test m = test (read m)
 
-  -- law (ii): of the near node's orders about a link and the far node's answers about it, one at
-  -- most is under way, and only while the near node awaits the answer
+  -- law (ii): of the near node's orders about a link and the far node's answers about it, exactly
+  -- one is under way while the near node awaits the answer, and else none
   abbrev pub OrdersAreAwaited : Pair → Type 0
   OrdersAreAwaited p =
       (link : ℕ) →
       under_way (saying (is_order link)) p + under_way (saying (is_answer link)) (turned p)
-      ≤ one_if (p.line link).near.awaited
+      ≡ one_if (p.line link).near.awaited
 
   -- law (iii): an order or answer is under way only about a link that is down at its sender, with
   -- the number of the last message accepted there
@@ -42,9 +42,9 @@ module _ (read : Message → Saying) where
       under_way (saying (is_untrue link (p.line link).near.up (last_accepted (p.line link).near.queue))) p ≡ 0
 
   -- the law of codes: of the near node's declarations with a code and the far node's confirmations
-  -- of it, one at most is under way, and only while the code is outstanding
+  -- of it, exactly one is under way while the code is outstanding, and else none
   abbrev pub CodesAreOutstanding : Pair → Type 0
   CodesAreOutstanding p =
       (code : ℕ) →
       under_way (saying (is_declaration code)) p + under_way (saying (is_confirmation code)) (turned p)
-      ≤ one_if (p.near.outstanding code)
+      ≡ one_if (p.near.outstanding code)

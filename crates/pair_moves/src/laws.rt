@@ -29,9 +29,10 @@ pub fn frames_carry_what_was_not_received()
     ensures taken { messages_come_in_order }
 {}
 
-/// Law (ii). Of a node's changeover orders about a link and the peer's answers about it, one
-/// message at most is under way, and only while the node awaits that answer (Q.704 §5.4). So none
-/// is from either node when the link may open at both ends, nor where an end may follow the other.
+/// Law (ii). Of a node's changeover orders about a link and the peer's answers about it, exactly
+/// one is under way while the node awaits that answer, and else none (Q.704 §5.4): so no node awaits
+/// in vain. None is from either node when the link may open at both ends, nor where an end may
+/// follow the other.
 pub fn orders_and_answers_are_awaited()
     ensures awaited { orders_are_awaited }
     ensures opening { opens_with_nothing_under_way }
@@ -57,8 +58,8 @@ pub fn completions_move_what_the_peer_lacks()
     ensures answers { answers_move_what_is_lacked }
 {}
 
-/// Of a node's changeback declarations with a code and the peer's confirmations of it, one message
-/// at most is under way, and only while the code is outstanding (Q.704 §6.3).
+/// Of a node's changeback declarations with a code and the peer's confirmations of it, exactly one
+/// is under way while the code is outstanding, and else none (Q.704 §6.3).
 pub fn codes_are_outstanding_until_they_are_confirmed()
     ensures { codes_are_outstanding }
 {}

@@ -7,6 +7,7 @@ use Rattle.std.specs.Prelude.{unwrap_or}
 use Rattle.signalling_types.specs.declared.cause.Cause.TheVariants as causes
 use Rattle.link.specs.declared.fault.SeqFault.TheVariants.{BadFsn}
 use Rattle.exchange_rules.proofs.Moves.{serving-there}
+use Rattle.exchange_rules.proofs.Rules.{rules-of}
 use Rattle.exchange_rules.proofs.SteppingLinks.{advance-steps}
 use Rattle.signalling_types.specs.declared.notice.FrameFault.{FrameFault}
 use Rattle.link.specs.declared.action.Action.TheVariants as act
@@ -150,13 +151,13 @@ module _ (c : Configuration) (link : ℕ) where
   data-same (act.Go step) d m n f at e =
       let next : Node WholeQueues = advance whole c link step n in
       both d.bsn c n next (accept_data (act.Go step) link d c n) (advance-same d.bsn c link step n)
-      (accept-same d (numbers whole c link d next) m next (((advance-steps (fit-steps c) link UserData step n tt at).stay f).queues.each link) refl e)
+      (accept-same d (numbers whole c link d next) m next (((advance-steps (rules-of (fit-steps c)) link UserData step n tt at).stay f).queues.each link) refl e)
 
   handled-fits : (r : Result ℕ SeqFault) (d : Carrying) (m : Message) (n : Node WholeQueues) → Fits c n → in_service n.parts link ≡ true → numbers whole c link d n ≡ r → new_by r d ≡ Some m
       → Fits c (accept whole c link d (count_confirmed (numbers whole c link d n)) n)
   handled-fits (Ok count) d m n f serves e g =
       subst (λ (r : Result ℕ SeqFault). Fits c (accept whole c link d (count_confirmed r) n)) (sym e)
-      ((owing-steps (fit-steps c) link d.message (confirming c link d count n)).stay (((fit-steps c).accepted link d count n tt serves e).stay f))
+      ((owing-steps (rules-of (fit-steps c)) link d.message (confirming c link d count n)).stay (((fit-steps c).accepted link d count n tt serves e).stay f))
   handled-fits (Err fault) d m n f serves e g = absurd cc
 
   data-fits : (a : Action) (d : Carrying) (m : Message) (n : Node WholeQueues) → Fits c n → action_at (link_at n.parts link).alignment UserData ≡ a → new_at a link d c n ≡ Some m
@@ -165,7 +166,7 @@ module _ (c : Configuration) (link : ℕ) where
   data-fits act.Fail d m n f at e = absurd cc
   data-fits (act.Go step) d m n f at e =
       let next : Node WholeQueues = advance whole c link step n in
-      handled-fits (numbers whole c link d next) d m next ((advance-steps (fit-steps c) link UserData step n tt at).stay f)
+      handled-fits (numbers whole c link d next) d m next ((advance-steps (rules-of (fit-steps c)) link UserData step n tt at).stay f)
       (advance-serves c link UserData step n at ∙ data-serves (link_at n.parts link).alignment step at) refl e
 
   read-same : (r : Result FrameValue FrameFault) (m : Message) (n : Node WholeQueues) → Fits c n → new_of r link c n ≡ Some m

@@ -1,6 +1,7 @@
 -- The first frame in flight on a link is handed in: by moves.
 use Rattle.pair_rules.proofs.Basics.{slice_index_or, inl, ◌≡◌, ◌<◌, ℕ, Bool, true, false, not, List, [], ◌∷◌, length, Some, Result, Ok, Err, refl, ap, sym, subst, ◌∙◌, option_to_list}
 use Rattle.pair_rules.proofs.Definitions.{Message, FailureReason, Configuration, FrameValue, EmptyFrame, MessageFrame, Alignment, Down, NotAligned, Aligned, Proving, AlignedReady, InService, Action, UserData, Input, action_at, SeqFault, Link, after_failure, down_link, is_down, is_in_service, Node, with_parts, down, in_service, link_at, WholeQueues, whole, fail, Carrying, accept, act_by_data, empty_data, handle_by, message_data, numbers, owing, new_by, new_at, advance, Fits, fit-steps, confirming, owing-steps, fail-links, advance-serves, data-serves, users_of, all_wait, brought_by, accept_data, count_confirmed}
+use Rattle.exchange_rules.proofs.Rules.{rules-of}
 use Rattle.std.specs.Prelude.{map}
 use Rattle.signalling_types.specs.declared.notice.FailureReason.TheVariants as reasons
 use Rattle.link.specs.declared.action.Action.TheVariants as act
@@ -156,7 +157,7 @@ module _ (c z : Configuration) (j : IsJoined c z) where
     message-owed n up =
         relinked-passes c z (popped c z j w f) n (came ∷ []) [] link (record (link_at n.parts link) { acknowledgement_owed = true }) n.parts.timers refl
         (λ h gone. (let no : true ≡ false = sym gone ∙ up in absurd cc))
-        (owing-steps (fit-steps c) link (Some came) n)
+        (owing-steps (rules-of (fit-steps c)) link (Some came) n)
 
     message-handled : (r : Result ℕ SeqFault) (n : Node WholeQueues) → in_service n.parts link ≡ true → numbers whole c link d n ≡ r → ((other : ℕ) → Each (IsFlying z c) (w.to_near.user_data other))
         → all_wait c n.parts.holds n.queues.held ≡ true

@@ -97,7 +97,7 @@ module _ (c z : Configuration) (a : AreFacing c z) (p : PairState) (s : Stands c
 
   -- ---- what is under way
 
-  counted : (test : Message → Bool) → count_by test (unreceived p) ≡ under_way test (shown c z w)
+  pub counted : (test : Message → Bool) → count_by test (unreceived p) ≡ under_way test (shown c z w)
   counted test =
       let both : count_by test (unreceived p) ≡ count_by test (join_to (unreceived_on p) (length p.near.exchange.settings.links)) + count_by test p.near.exchange.node.queues.held =
       count-append test (join_to (unreceived_on p) (length p.near.exchange.settings.links)) p.near.exchange.node.queues.held in
@@ -105,7 +105,7 @@ module _ (c z : Configuration) (a : AreFacing c z) (p : PairState) (s : Stands c
       ap (λ (many : ℕ). count_by test (join_to (unreceived_on p) many)) (same-links c z a p s kept) ∙ count-join test (unreceived_on p) (length c.links) in
       omega (arith, both, links)
 
-  between : Each (IsBetween c z) (unreceived p)
+  pub between : Each (IsBetween c z) (unreceived p)
   between =
       each-behind (IsBetween c z) (join_to (unreceived_on p) (length p.near.exchange.settings.links)) p.near.exchange.node.queues.held
       (each-join (IsBetween c z) (unreceived_on p) (length p.near.exchange.settings.links)
@@ -274,7 +274,7 @@ lacked-there c z a p s kept = record {
 
 -- ---- always
 
-always : (Statement : PairState → Type 0) → ((c z : Configuration) (a : AreFacing c z) (p : PairState) → Stands c z p → LostNothing p → Statement p) → WhileNothingIsLost Statement
+pub always : (Statement : PairState → Type 0) → ((c z : Configuration) (a : AreFacing c z) (p : PairState) → Stands c z p → LostNothing p → Statement p) → WhileNothingIsLost Statement
 always Statement holds near far steps g kept =
     let p : PairState = after_steps steps (first_pair near far) in
     let s : Stands near far p = all-stand near far steps g in

@@ -4,7 +4,8 @@ use Rattle.pair_rules.proofs.Definitions.{Message, Flow, Handled, Ignored, Confi
 use Rattle.timers.specs.declared.name.TimerName.TheVariants as name
 use Rattle.flow_hold.specs.Holds as hold
 use Rattle.flow_hold.specs.declared.procedure.Procedure.TheVariants as held_by
-use Rattle.exchange_rules.proofs.SteppingLocal.{freed-steps}
+use Rattle.exchange_rules.proofs.SteppingReturns.{freed-steps}
+use Rattle.exchange_rules.proofs.Rules.{rules-of}
 use Rattle.pair_moves.specs.Ends as ends
 use Rattle.pair_moves.specs.Moves as moves
 use Rattle.pair_rules.proofs.World.{World, says_of, shown, holds_of, procedure_of}
@@ -184,12 +185,12 @@ module _ (c z : Configuration) (j : IsJoined c z) where
   pub late_time-passes : (w : World) (n : Node WholeQueues) (arrived loose : List Message) (link : ℕ)
       → Passes c z (at c z w n arrived loose) (at c z w (with_parts n (late_time link n.parts)) arrived loose)
   late_time-passes w n arrived loose link =
-      running-late w n arrived loose (held_by.Time link) (late_time link n.parts).notices (run_timer-steps (fit-steps c) (name.T3 link) n (λ of its e. tt))
+      running-late w n arrived loose (held_by.Time link) (late_time link n.parts).notices (run_timer-steps (rules-of (fit-steps c)) (name.T3 link) n (λ of its e. tt))
 
   pub late_code-passes : (w : World) (n : Node WholeQueues) (arrived loose : List Message) (set code : ℕ)
       → Passes c z (at c z w n arrived loose) (at c z w (with_parts n (late_code set code n.parts)) arrived loose)
   late_code-passes w n arrived loose set code =
-      running-late w n arrived loose (held_by.Code set code) (late_code set code n.parts).notices (run_timer-steps (fit-steps c) (name.T4 set code) n (λ of its e. tt))
+      running-late w n arrived loose (held_by.Code set code) (late_code set code n.parts).notices (run_timer-steps (rules-of (fit-steps c)) (name.T4 set code) n (λ of its e. tt))
 
   -- no hold of a rerouting is shown
   pub rerouting_ended-passes : (w : World) (n : Node WholeQueues) (arrived loose : List Message) (destination : ℕ)
@@ -202,7 +203,7 @@ module _ (c z : Configuration) (j : IsJoined c z) where
         goes-same (says_of c.links) _ _
         (ap (λ (holds : ends.Procedure → Flow → Bool). record (shown c z (at c z w n arrived loose)) { near = record (shown c z (at c z w n arrived loose)).near { holds = holds } }) same);
     good = λ g. record {
-      fits = (run_timer-steps (fit-steps c) (name.T6 destination) n (λ of its e. tt)).stay g.fits;
+      fits = (run_timer-steps (rules-of (fit-steps c)) (name.T6 destination) n (λ of its e. tt)).stay g.fits;
       alone = record { routes = g.alone.routes; adjacents = g.alone.adjacents };
       unawaited = g.unawaited;
       silent = g.silent;

@@ -41,6 +41,7 @@ pub mod CarriedTexts
 pub mod SaidWords
 pub mod MadeWords
 pub mod FourLaws
+pub mod Awaited
 pub mod Arrivals
 pub mod OtherCauses
 pub mod Outcomes

@@ -7,6 +7,8 @@ use Rattle.exchange_rules.specs.Holding as holding
 use Rattle.exchange_rules.proofs.LeavingMessages.{chosen_serves}
 use Rattle.exchange_rules.proofs.Settling.{Waits, go-waits, left-true, right-true}
 use Rattle.exchange_rules.proofs.SteppingMessages.{by_link-steps}
+use Rattle.exchange_rules.proofs.Rules.{rules-of}
+use Rattle.exchange_rules.proofs.Steps.{sends-of}
 use Rattle.pair_moves.specs.Moves as moves
 use Rattle.pair_rules.proofs.World.{World, says_of, read_says, management_says, said_by, unsaid, link_of_code, shown, route_of, line_of, end_of}
 use Rattle.pair_rules.proofs.Good.{IsSilent, Each, each-behind, IsBetween, IsJoined, Good, Passes, passes-none, passes-both, at}
@@ -204,7 +206,7 @@ module _ (c z : Configuration) (j : IsJoined c z) where
           placing w n arrived link m rest (chosen_serves c n.parts (flow_of m) link f) ((fit-steps c).routed link m n f)
           (λ g user. may-go n (m ∷ rest) arrived w m link g.loose.0.to (free-user n.parts.holds m (says-user c.links m user) e) wait f)
       by None f =
-          dropping w n (go_on whole c None m n) arrived m rest refl (subst (λ (link : Option ℕ). StaysFit c n (go_on whole c link m n)) f (go_by-steps (fit-steps c) false m n e)) refl refl refl refl refl
+          dropping w n (go_on whole c None m n) arrived m rest refl (subst (λ (link : Option ℕ). StaysFit c n (go_on whole c link m n)) f (go_by-steps (rules-of (fit-steps c)) false m n e)) refl refl refl refl refl
 
   pub go_each-passes : (w : World) (n : Node WholeQueues) (arrived ms : List Message) → all_wait c n.parts.holds n.queues.held ≡ true
       → Passes c z (at c z w n arrived (ms ++ [])) (at c z w (go_each whole c ms n) arrived [])
@@ -247,9 +249,9 @@ module _ (c z : Configuration) (j : IsJoined c z) where
   pub send-passes : (room : Option Cause) (link : Option ℕ) (w : World) (n : Node WholeQueues) (arrived : List Message) (m : Message) (rest : List Message) → is_management m ≡ true
       → link_of c n.parts (flow_of m) ≡ link → Passes c z (at c z w n arrived (m ∷ rest)) (at c z w (send whole c room link m n) arrived rest)
   send-passes (Some cause) link w n arrived m rest e f =
-      dropping w n (send whole c (Some cause) link m n) arrived m rest refl (by_link-steps (fit-steps c) (Some cause) link m n f) refl refl refl refl refl
+      dropping w n (send whole c (Some cause) link m n) arrived m rest refl (by_link-steps (sends-of (fit-steps c)) (Some cause) link m n f) refl refl refl refl refl
   send-passes None None w n arrived m rest e f =
-      dropping w n (send whole c None None m n) arrived m rest refl (by_link-steps (fit-steps c) None None m n f) refl refl refl refl refl
+      dropping w n (send whole c None None m n) arrived m rest refl (by_link-steps (sends-of (fit-steps c)) None None m n f) refl refl refl refl refl
   send-passes None (Some link) w n arrived m rest e f =
       placing w n arrived link m rest (chosen_serves c n.parts (flow_of m) link f) ((fit-steps c).routed link m n f) (λ g user. none-user m e user)
 

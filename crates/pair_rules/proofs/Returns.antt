@@ -4,6 +4,7 @@ use Rattle.pair_rules.proofs.Definitions.{Message, Flow, Configuration, Input, a
 use Rattle.link.specs.declared.action.Action.TheVariants.{Go}
 use Rattle.link.specs.declared.action.Transition.{Transition}
 use Rattle.exchange_rules.proofs.Entering.{known_links}
+use Rattle.exchange_rules.proofs.Rules.{rules-of}
 use Rattle.pair_moves.specs.Moves as moves
 use Rattle.pair_rules.proofs.Alone.{StaysAlone, alone-steps}
 use Rattle.pair_rules.proofs.World.{World, heard, is_heard, says_of, shown, shown_by, route_of, line_of, end_of}
@@ -238,10 +239,10 @@ module _ (c z : Configuration) (j : IsJoined c z) where
       }
 
       anew-fits : (again : Bool) → StaysFit c n (with_parts n (anew again))
-      anew-fits again = (fit-steps c).both _ _ _ ((fit-steps c).stepped link input step n tt e) (anew-steps (fit-steps c) again link (with_parts n once))
+      anew-fits again = (fit-steps c).both _ _ _ ((fit-steps c).stepped link input step n tt e) (anew-steps (rules-of (fit-steps c)) again link (with_parts n once))
 
       anew-alone : (again : Bool) → StaysAlone n (with_parts n (anew again))
-      anew-alone again = (alone-steps c).both _ _ _ ((alone-steps c).stepped link input step n tt e) (anew-steps (alone-steps c) again link (with_parts n once))
+      anew-alone again = (alone-steps c).both _ _ _ ((alone-steps c).stepped link input step n tt e) (anew-steps (rules-of (alone-steps c)) again link (with_parts n once))
 
       entered-by : (again : Bool) → (again ≡ true → has_other c link n.parts ≡ false) → link < length c.links
           → Passes c z (at c z w n arrived []) (at c z w (change_back whole c link (facts c n.parts) (with_parts n (anew again))) arrived [])

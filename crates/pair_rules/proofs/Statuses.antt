@@ -1,6 +1,7 @@
 -- Link statuses that come, timers that run out, and what the operator and the association do to a link: by moves.
 use Rattle.pair_rules.proofs.Basics.{inl, inr, ◌≡◌, ◌&&◌, ℕ, Bool, true, false, List, [], length, zero, suc, Option, Some, None, refl, ap, sym, subst, ◌∙◌, nat_eq, nat_lt, if◌then◌else◌, find, slice_index_or, option_map}
 use Rattle.pair_rules.proofs.Definitions.{FailureReason, Handled, Ignored, Cause, add_title, add_title_unless, remove_title, title_refusal, with_titles, Configuration, TitleEntry, FrameValue, StatusFrame, LinkStatus, Action, Status, Expiry, action_at, Route, RouteStatus, first_route, ticked, due_name, after_due, due_count, Node, Done, answer, refuse, with_parts, down, is_link, link_at, WholeQueues, whole, fail, activate, association_down, deactivate, end_association, fail_if_up, set_active, ask_by, facts, act_by_status, act_by_timer, advance, on_link_status, run_out, serve_status, in_service, with_busy, without_busy, serves-in, advance-serves, failed_if_up-down, set_active-steps, StaysFit, fit-steps, handed-fit, ticked-fit}
+use Rattle.exchange_rules.proofs.Rules.{rules-of}
 use Rattle.signalling_types.specs.declared.notice.FailureReason.TheVariants as reasons
 use Rattle.signalling_types.specs.declared.notice.ChangeoverTimer.TheVariants as timer
 use Rattle.signalling_types.specs.declared.cause.Cause.TheVariants.{NoSuchName}
@@ -173,7 +174,7 @@ module _ (c z : Configuration) (j : IsJoined c z) where
 
   set_active-passes : (active : Bool) (w : World) (n : Node WholeQueues) (link : ℕ) → Passes c z (at c z w n [] []) (at c z w (set_active whole c active link n) [] [])
   set_active-passes active w n link =
-      relinked-passes c z w n [] [] link (record (link_at n.parts link) { active = active }) n.parts.timers refl (λ h. h) (set_active-steps (fit-steps c) active link n)
+      relinked-passes c z w n [] [] link (record (link_at n.parts link) { active = active }) n.parts.timers refl (λ h. h) (set_active-steps (rules-of (fit-steps c)) active link n)
 
   end_association-passes : (w : World) (n : Node WholeQueues) (link : ℕ) → StaysFit c n (end_association whole c link n) → Passes c z (at c z w n [] []) (at c z w (end_association whole c link n) [] [])
   end_association-passes w n link stay = relinked-passes c z w n [] [] link (record (link_at n.parts link) { association = false }) n.parts.timers refl (λ h. h) stay

@@ -1,6 +1,7 @@
 -- A frame is fetched at the near node, and is in flight to the far one: by moves.
-use Rattle.pair_rules.proofs.Basics.{suc, ◌≡◌, ◌≢◌, ◌<◌, ◌≤◌, ◌^◌, ◌+◌, ℕ, Bool, true, false, not, List, [], ◌∷◌, ◌++◌, length, map, Option, Some, None, refl, ap, sym, subst, ◌∙◌, nat_lt, arith, if◌then◌else◌, slice_get, length-set, drop, nat_tests}
-use Rattle.pair_rules.proofs.Definitions.{Message, SIF_OCTETS, WINDOW, Configuration, FrameValue, EmptyFrame, MessageFrame, StatusFrame, IsSayable, spelled, LinkStatus, Queue, Sending, to_send, forward_number, sent_one, last_accepted, last_sent, Node, down, in_service, link_at, WholeQueues, queue_at, whole, Outgoing, SendsStatus, SendsMessage, Acknowledges, SendsNothing, after_sending, after_take, carried, frame_from, goes_out, may_send, next_message, without_owed, Fits, StaysFit, fit-steps, LinkEnd, Frame, each-set, take-steps, frame_taken, IsQueue, first_queue, BecomeAt}
+use Rattle.pair_rules.proofs.Basics.{suc, ◌-◌, ◌≡◌, ◌≢◌, ◌<◌, ◌≤◌, ◌^◌, ◌+◌, ◌&&◌, ℕ, Bool, true, false, not, List, [], ◌∷◌, ◌++◌, length, map, Option, Some, None, refl, ap, sym, subst, ◌∙◌, nat_lt, arith, if◌then◌else◌, slice_get, length-set, drop, nat_tests}
+use Rattle.pair_rules.proofs.Definitions.{Message, SIF_OCTETS, WINDOW, Configuration, FrameValue, EmptyFrame, MessageFrame, StatusFrame, IsSayable, spelled, LinkStatus, Queue, Sending, to_send, forward_number, numbered, sent_one, last_accepted, last_sent, Node, down, in_service, link_at, WholeQueues, queue_at, whole, Outgoing, SendsStatus, SendsMessage, Acknowledges, SendsNothing, after_sending, after_take, carried, frame_from, goes_out, may_send, next_message, without_owed, Fits, StaysFit, fit-steps, LinkEnd, Frame, each-set, take-steps, frame_taken, message_first, status_first, IsQueue, first_queue, BecomeAt}
+use Rattle.exchange_rules.proofs.Rules.{rules-of}
 use Rattle.link.specs.Queue as queue
 use Rattle.pair_moves.specs.Moves as moves
 use Rattle.pair_rules.proofs.World.{World, says_of, shown, line_of, end_of, frame_of}
@@ -302,4 +303,4 @@ module _ (c z : Configuration) (j : IsJoined c z) (w : World) (link : ℕ) where
     fetched SendsNothing frame e is a stay = absurd cc
 
     pub take-passes : (out : FrameValue) → frame_taken whole c link n ≡ Some out → AddsTo out f → FetchesTo out f n (after_take whole c link n)
-    take-passes out is a = fetched (goes_out whole c link n) out refl is a (take-steps (fit-steps c) link n tt)
+    take-passes out is a = fetched (goes_out whole c link n) out refl is a (take-steps (rules-of (fit-steps c)) link n tt)

@@ -1,6 +1,7 @@
 pub mod Pairs
 pub mod Promises
 pub mod Laws
+pub mod Awaiting
 pub mod Deliveries
 pub mod Accepting
 pub mod OneEndFirst

@@ -8,6 +8,7 @@
 ghost use Rattle.pair_rules.specs.Promises.{each_message_once, each_flow_in_order};
 ghost use Rattle.pair_rules.specs.Laws.{frames_carry, words_are_read, none_is_left, words_are_final};
 ghost use Rattle.pair_rules.specs.Laws.{moves_are_lacked};
+ghost use Rattle.pair_rules.specs.Awaiting.{nothing_is_awaited_in_vain};
 ghost use Rattle.pair_rules.specs.Deliveries.{deliveries_tell};
 ghost use Rattle.pair_rules.specs.Accepting.{accepted_goes_to_far};
 ghost use Rattle.pair_rules.specs.OneEndFirst.{ComesOnce};
@@ -50,6 +51,16 @@ pub fn orders_and_answers_say_their_word()
 /// there (Q.704 §5.4).
 pub fn links_open_with_no_word_left()
     ensures { none_is_left }
+{}
+
+/// Nothing is awaited in vain, in both directions: law (ii) to the full. While an end awaits the
+/// answer to its order to change over from a link, exactly one message says so: its order about that
+/// link, or the other end's answer, in Held or not received on a link (Q.704 §5.4). And while a code
+/// of it awaits its acknowledgement, exactly one does: a changeback declaration of it with that code,
+/// or an acknowledgement of the other end (Q.704 §6.3). Else none does. This holds while neither
+/// exchange may have lost a message.
+pub fn nothing_is_awaited_in_vain()
+    ensures { nothing_is_awaited_in_vain }
 {}
 
 /// Law (iii). While an order to change over or an answer about a link stands in Held or unreceived

@@ -1,0 +1,141 @@
+-- L4, L6 and L7, which may take a link into service or out of it, have no more ticks left than they are set to; and no tick sets one.
+use Rattle.exchange_rules.proofs.Basics.{◌≡◌, ◌≢◌, ◌⊎◌, inl, inr, ◌≤◌, ℕ, zero, suc, Bool, true, false, ◌&&◌, not, List, [], ◌∷◌, length, nat_eq, Option, Some, None, refl, ap, sym, ◌∙◌, subst, arith, max, ⊎_elim, if◌then◌else◌}
+use Rattle.exchange_rules.proofs.Definitions.{Message, flow_of, Configuration, FailureReason, Facts, Alignment, Action, Expiry, LinkTimer, Transition, action_at, opening, TimerName, Running, set_timer, clear_timer, left-set_other, left-clear_set_other, is_of_set, clear_set, timer_name, ticks_of, timed, timed_busy, timed_busy_ended, timed_confirming, timed_sending, without_timer, without_timer_if, with_timer, with_timer_if, without_timers, is_running, due_name, after_due, Parts, Node, with_parts, answer, Handled, Ignored, link_at, in_service, down, set_of, facts, suspended, fail_link, has_other, without_tests, make_unavailable, changing, begin, change_over, begin_by_peer, fail_by_peer, fail_by_order, complete_by_order, complete_if, completed, changeover_of, with_changeover, changeover_order, send_routed, changeover_acknowledgement, on_changeover_order, with_changeover_acknowledged, no_room, link_of, loses_flows, code_for, hold_flows, take_back_each, take_back, change_back, held_by_rerouting, with_set_reset, step_on, enters, begun_anew_if, moved_on, return_if, advance, act_by_timer, run_timer, run_due, run_next, run_times, with_timers, is_link, Carrying, carries, WholeQueues, whole}
+use Rattle.timers.specs.Timers.{start_unless_running}
+use Rattle.timers.proofs.Maps.{left-clear_set}
+use Rattle.timers.specs.declared.name.TimerName.TheVariants as name
+use Rattle.timers.specs.declared.name.RouteTimer.{RouteTimer}
+use Rattle.timers.specs.declared.name.RouteTimer.TheVariants as of_set
+use Rattle.signalling_types.specs.declared.notice.FailureReason.TheVariants as reasons
+use Rattle.link.specs.declared.action.Action.TheVariants as act
+use Rattle.link.specs.declared.action.LinkTimer.TheVariants as timer
+use Rattle.link.specs.declared.alignment.Alignment.TheVariants.{Down, NotAligned, Aligned, Proving, AlignedReady, InService}
+use Rattle.exchange_rules.specs.TickingAlone.{longest_turn}
+use Rattle.exchange_rules.proofs.Steps.{IsOfSends, IsOfRules, takes_links}
+use Rattle.exchange_rules.proofs.Asked.{any, IsOfAll}
+use Rattle.exchange_rules.proofs.SteppingEvents.{run_next-steps}
+use Rattle.exchange_rules.proofs.WillEnding.{no-way}
+use Rattle.exchange_rules.proofs.Eased.{Eased, is_waited_for, less-clear, less-without, send-eased, completed-eased, expired-eased, ran-eased, link-waited}
+use Rattle.exchange_rules.proofs.WithinTimes.{Within, within-set, handed_out-eased, lower}
+
+-- ---- from one node to another none of them is set
+
+pub record Kept (n m : Node WholeQueues) : Type 0 where
+  pub timers : (timer : TimerName) → takes_links timer ≡ true → (x : ℕ) → m.parts.timers.left timer ≡ Some x → n.parts.timers.left timer ≡ Some x
+
+pub kept-both : (n m o : Node WholeQueues) → Kept n m → Kept m o → Kept n o
+kept-both n m o e f = record { timers = λ timer t x h. e.timers timer t x (f.timers timer t x h) }
+
+pub kept-same : (n m : Node WholeQueues) → m.parts.timers ≡ n.parts.timers → Kept n m
+kept-same n m e = record { timers = λ timer t x h. sym (ap (λ (r : Running). r.left timer) e) ∙ h }
+
+pub kept-eased : (n m : Node WholeQueues) → Eased n m → Kept n m
+kept-eased n m e = record { timers = λ timer t x h. e.timers timer (link-waited timer t) x h }
+
+-- another timer is set, and those of a set are stopped
+pub other-set : (its : TimerName) (ticks : ℕ) (r : Running) → takes_links its ≡ false → (timer : TimerName) → takes_links timer ≡ true → (x : ℕ)
+    → (set_timer its ticks r).left timer ≡ Some x → r.left timer ≡ Some x
+other-set its ticks r none timer t x h =
+    sym (left-set_other its timer ticks r (λ same. no-way (takes_links its) none (ap takes_links same ∙ t))) ∙ h
+
+set-cleared : (of : RouteTimer) (set : ℕ) (r : Running) (timer : TimerName) (x : ℕ) → (clear_set of set r).left timer ≡ Some x → r.left timer ≡ Some x
+set-cleared of set r timer x h = by (is_of_set of set timer) refl
+  where
+    by : (b : Bool) → is_of_set of set timer ≡ b → r.left timer ≡ Some x
+    by true e = (let no : None ≡ Some x = sym (left-clear_set of set timer r e) ∙ h in absurd cc)
+    by false e = sym (left-clear_set_other of set timer r e) ∙ h
+
+module _ (c : Configuration) where
+  -- ---- a link fails
+
+  untested-kept : (others : Bool) (set : ℕ) (p : Parts) (timer : TimerName) (x : ℕ) → (if others then p else without_tests set p).timers.left timer ≡ Some x → p.timers.left timer ≡ Some x
+  untested-kept true set p timer x h = h
+  untested-kept false set p timer x h = set-cleared of_set.T10 set p.timers timer x h
+
+  gone-kept : (served : Bool) (link : ℕ) (why : FailureReason) (n : Node WholeQueues) → Kept n (make_unavailable whole c served link why n)
+  gone-kept false link why n = record { timers = λ timer t x h. less-without link n.parts.timers timer (link-waited timer t) x h }
+  gone-kept true link why n =
+      let failed : Parts = fail_link link why (suspended c link (whole.unconfirmed n.queues link) n.parts) in
+      record { timers = λ timer t x h. less-without link n.parts.timers timer (link-waited timer t) x (untested-kept (has_other c link failed) (set_of c link) failed timer x h) }
+
+  sent-kept : (m : Message) (n : Node WholeQueues) → Kept n (send_routed whole c m n)
+  sent-kept m n = kept-eased n _ (send-eased c (no_room whole c m n.queues) (link_of c n.parts (flow_of m)) m n)
+
+  begun-kept : (served ordered : Bool) (link : ℕ) (n : Node WholeQueues) → Kept n (if served then begin whole c ordered link n else n)
+  begun-kept false ordered link n = kept-same n n refl
+  begun-kept true true link n =
+      let next : Node WholeQueues = with_parts n (changing c true link n.parts) in
+      kept-both n next _ (record { timers = other-set (name.T2 link) c.timers.t2 n.parts.timers refl }) (sent-kept (changeover_order c link (whole.last_accepted n.queues link)) next)
+  begun-kept true false link n = record { timers = other-set (name.T1 link) c.timers.t1 n.parts.timers refl }
+
+  pub fails-kept : (served : Bool) (link : ℕ) (why : FailureReason) (n : Node WholeQueues) → Kept n (change_over whole c served link (make_unavailable whole c served link why n))
+  fails-kept false link why n = gone-kept false link why n
+  fails-kept true link why n =
+      let gone : Node WholeQueues = make_unavailable whole c true link why n in
+      kept-both n gone _ (gone-kept true link why n) (begun-kept true (has_other c link gone.parts) link gone)
+
+  by_peer-kept : (served : Bool) (link : ℕ) (n : Node WholeQueues) → Kept n (begin_by_peer whole c served link (make_unavailable whole c served link reasons.Changeover n))
+  by_peer-kept false link n = gone-kept false link reasons.Changeover n
+  by_peer-kept true link n =
+      kept-both n (make_unavailable whole c true link reasons.Changeover n) _ (gone-kept true link reasons.Changeover n) (kept-same (make_unavailable whole c true link reasons.Changeover n) _ refl)
+
+  ordered-kept : (is_down : Bool) (link : ℕ) (n : Node WholeQueues) → Kept n (if is_down then n else fail_by_peer whole c link n)
+  ordered-kept true link n = kept-same n n refl
+  ordered-kept false link n = by_peer-kept (in_service n.parts link) link n
+
+  pub orders-kept : (link : ℕ) (number : Option ℕ) (n : Node WholeQueues) → Kept n (on_changeover_order whole c link number n).left
+  orders-kept link number n =
+      let one : Node WholeQueues = fail_by_order whole c link n in
+      let standing : Node WholeQueues = with_parts one (with_changeover link (completed (changeover_of one.parts link)) one.parts) in
+      let two : Node WholeQueues = complete_by_order whole c link number one in
+      kept-both n one _ (ordered-kept (down n.parts link) link n)
+      (kept-both one two _ (kept-both one standing two (kept-same one standing refl) (kept-eased standing two (completed-eased c (changeover_of one.parts link).incomplete link number standing)))
+      (sent-kept (changeover_acknowledgement c link (whole.last_accepted two.queues link)) two))
+
+  pub acknowledges-kept : (awaited : Bool) (link : ℕ) (number : Option ℕ) (n : Node WholeQueues)
+      → Kept n (if awaited then answer Handled (complete_if whole c (changeover_of n.parts link).incomplete link number (with_parts n (with_changeover_acknowledged link n.parts)))
+      else answer Ignored n).left
+  acknowledges-kept false link number n = kept-same n n refl
+  acknowledges-kept true link number n =
+      let next : Node WholeQueues = with_parts n (with_changeover_acknowledged link n.parts) in
+      kept-both n next _ (record { timers = λ timer t x h. less-clear (name.T2 link) n.parts.timers timer (link-waited timer t) x h })
+      (kept-eased next _ (completed-eased c (changeover_of n.parts link).incomplete link number next))
+
+  -- ---- a link returns
+
+  pub returns-kept : (before after : Facts) (code : Option ℕ) (link other : ℕ) (n : Node WholeQueues) → Kept n (hold_flows whole c before after code link other n)
+  returns-kept before after (Some code) link other n = record { timers = other-set (name.T4 (set_of c link) code) c.timers.t4 n.parts.timers refl }
+  returns-kept before after None link other n = record { timers = other-set (name.T3 link) c.timers.t3 n.parts.timers refl }
+
+  pub reroutes-kept : (destination : ℕ) (selections : List ℕ) (n : Node WholeQueues) → Kept n (with_parts n (held_by_rerouting c destination selections n.parts))
+  reroutes-kept destination [] n = kept-same n n refl
+  reroutes-kept destination (sls ∷ others) n = record { timers = other-set (name.T6 destination) c.timers.t6 n.parts.timers refl }
+
+  taken_back-kept : (loses : Bool) (before after : Facts) (link other : ℕ) (n : Node WholeQueues)
+      → Kept n (if loses then hold_flows whole c before after (code_for whole c link other n) link other n else n)
+  taken_back-kept true before after link other n = returns-kept before after (code_for whole c link other n) link other n
+  taken_back-kept false before after link other n = kept-same n n refl
+
+  take_back_each-kept : (before after : Facts) (link many : ℕ) (n : Node WholeQueues) → Kept n (take_back_each whole c before after link many n)
+  unfolding take_back_each
+  take_back_each-kept before after link zero n = kept-same n n refl
+  take_back_each-kept before after link (suc other) n =
+      let one : Node WholeQueues = take_back_each whole c before after link other n in
+      kept-both n one _ (take_back_each-kept before after link other n) (taken_back-kept (loses_flows c before after other link) before after link other one)
+
+  returned-kept : (entered : Bool) (link : ℕ) (before : Facts) (n : Node WholeQueues) → Kept n (return_if whole c entered link before n)
+  returned-kept true link before n = take_back_each-kept before (facts c n.parts) link (length c.links) n
+  returned-kept false link before n = kept-same n n refl
+
+  anew-kept : (first : Bool) (link : ℕ) (n : Node WholeQueues) → Kept n (with_parts n (begun_anew_if first c link n.parts))
+  anew-kept true link n = record {
+    timers = λ timer t x h. set-cleared of_set.T8 (set_of c link) n.parts.timers timer x (set-cleared of_set.T10 (set_of c link) (clear_set of_set.T8 (set_of c link) n.parts.timers) timer x h);
+  }
+  anew-kept false link n = kept-same n n refl
+
+  pub advanced-kept : (link : ℕ) (step : Transition) (n : Node WholeQueues) → Kept n (with_parts n (step_on c link step n.parts)) → Kept n (advance whole c link step n)
+  advanced-kept link step n e =
+      let stepped : Node WholeQueues = with_parts n (step_on c link step n.parts) in
+      let moved : Node WholeQueues = with_parts n (moved_on c link step n.parts) in
+      kept-both n moved _ (kept-both n stepped moved e (anew-kept (enters link step n.parts && not (has_other c link n.parts)) link stepped))
+      (returned-kept (enters link step n.parts) link (facts c n.parts) moved)

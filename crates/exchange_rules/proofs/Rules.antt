@@ -1,0 +1,46 @@
+-- What holds of each step holds of each rule that changes holds, changeovers or the timers that end holds.
+use Rattle.exchange_rules.proofs.Basics.{ℕ, List, [], ◌∷◌}
+use Rattle.exchange_rules.proofs.Definitions.{Configuration, Node, with_parts, held_by_rerouting, WholeQueues}
+use Rattle.changeback.specs.Rerouting.{held_for}
+use Rattle.timers.specs.declared.name.TimerName.TheVariants as name
+use Rattle.exchange_rules.proofs.Places.{held_for-fits, lifted-fits}
+use Rattle.exchange_rules.proofs.Steps.{IsOfSteps, IsOfRules, sends-of}
+use Rattle.exchange_rules.proofs.SteppingTimers.{set-timed}
+use Rattle.exchange_rules.proofs.SteppingFailures.{fail-steps, on_changeover_order-steps, on_changeover_acknowledgement-steps, on_changeover_timer-steps}
+use Rattle.exchange_rules.proofs.SteppingReturns.{freed-steps, hold_flows-steps}
+
+module _ {c : Configuration} {Own Counts : ℕ → Type 0} {R : Node WholeQueues → Node WholeQueues → Type 0} (s : IsOfSteps c Own Counts R) where
+  reroutes-steps : (destination : ℕ) (selections : List ℕ) (n : Node WholeQueues) → R n (with_parts n (held_by_rerouting c destination selections n.parts))
+  reroutes-steps destination [] n = s.none n
+  reroutes-steps destination (sls ∷ others) n =
+      s.both _ _ _ (s.holding (held_for destination (sls ∷ others) n.parts.holds) n (record { fits = held_for-fits c n.parts.holds destination (sls ∷ others) }))
+      (s.timed _ _ (set-timed (name.T6 destination) c.timers.t6 n.parts.timers (λ link e. cc)))
+
+  pub rules-of : IsOfRules c Own Counts R
+  rules-of = record {
+    sends = sends-of s;
+    tested = s.tested;
+    held = s.held;
+    taken_out = s.taken_out;
+    late = s.late;
+    timed = λ r n e. s.timed r n e.timed;
+    rerouted = s.rerouted;
+    told = s.told;
+    titled = s.titled;
+    linked = s.linked;
+    parted = s.parted;
+    opened = s.opened;
+    stepped = s.stepped;
+    busied = s.busied;
+    resumed = s.resumed;
+    accepted = s.accepted;
+    sent = s.sent;
+    fails = fail-steps s;
+    orders = on_changeover_order-steps s;
+    acknowledges = on_changeover_acknowledgement-steps s;
+    expires = on_changeover_timer-steps s;
+    returns = hold_flows-steps s;
+    frees = freed-steps s;
+    reroutes = reroutes-steps;
+    lifts = λ procedure n. s.holding _ n (record { fits = lifted-fits c n.parts.holds procedure });
+  }

@@ -1,0 +1,54 @@
+-- What ticks alone end: laws.
+use Rattle.std.specs.Prelude.{◌≡◌, ◌≤◌, ◌+◌, ℕ, zero, suc, max, false, length, List, [], ◌∷◌}
+use Rattle.signalling_types.specs.declared.limits.TheConstants.Limits.{LINKS}
+use Rattle.settings_rows.specs.Configuration.{Configuration}
+use Rattle.settings_rows.specs.declared.timer_ticks.TimerTicks.{TimerTicks}
+use Rattle.timers.specs.declared.name.TimerName.TheVariants.{L4, L6, L7}
+use Rattle.timers.specs.Timers.{Running, is_running}
+use Rattle.flow_hold.specs.declared.procedure.Procedure.{Procedure}
+use Rattle.flow_hold.specs.Holds.{holds}
+use Rattle.exchange_rules.specs.Happening.{Asking, Happens, Ticked}
+use Rattle.exchange_rules.specs.Lasting.{after_each}
+use Rattle.exchange_rules.specs.Sound.{Abstract}
+use Rattle.exchange_rules.specs.First.{first_state}
+
+-- so many ticks, and nothing else
+abbrev pub ticks_alone : ℕ → List Asking
+ticks_alone zero = []
+ticks_alone (suc more) = Happens Ticked ∷ ticks_alone more
+
+-- no timer runs that may take a link into service or out of it: none is proved, no peer is busy, and nothing that was
+-- sent isn't confirmed
+pub record IsQuiet (r : Running) : Type 0 where
+  pub l4 : (link : ℕ) → is_running (L4 link) r ≡ false
+  pub l6 : (link : ℕ) → is_running (L6 link) r ≡ false
+  pub l7 : (link : ℕ) → is_running (L7 link) r ≡ false
+
+-- the longest of those timers; each runs one tick at least
+abbrev pub longest_turn : TimerTicks → ℕ
+longest_turn ticks = max 1 (max ticks.l4 (max ticks.l6 ticks.l7))
+
+-- the longest of the timers that complete changeovers and end holds
+abbrev pub longest_wait : TimerTicks → ℕ
+longest_wait ticks = max 1 (max ticks.t1 (max ticks.t2 (max ticks.t3 (max ticks.t4 ticks.t6))))
+
+-- no flow is held, and no message waits in Held
+pub record HoldsNothing (a : Abstract) : Type 0 where
+  pub flows : (procedure : Procedure) (destination sls : ℕ) →
+      holds a.node.parts.holds procedure destination sls ≡ false
+  pub messages : a.node.queues.held ≡ []
+
+-- so it is where nothing but ticks happens for as long, from each state that comes of the first and is quiet
+abbrev pub ticks_end_holds_where_it_is_quiet : Type 0
+ticks_end_holds_where_it_is_quiet =
+    (c : Configuration) (asked : List Asking) (many : ℕ) → length c.links ≤ LINKS →
+    IsQuiet (after_each asked (first_state c)).node.parts.timers → longest_wait c.timers ≤ many →
+    HoldsNothing (after_each (ticks_alone many) (after_each asked (first_state c)))
+
+-- from any other, where it happens for as long as the two times together: what takes links into service or out of it
+-- runs out first
+abbrev pub ticks_end_all_holds : Type 0
+ticks_end_all_holds =
+    (c : Configuration) (asked : List Asking) (many : ℕ) → length c.links ≤ LINKS →
+    longest_turn c.timers + longest_wait c.timers ≤ many →
+    HoldsNothing (after_each (ticks_alone many) (after_each asked (first_state c)))
