@@ -1,22 +1,14 @@
 -- L4, L6 and L7, which may take a link into service or out of it, have no more ticks left than they are set to; and no tick sets one.
-use Rattle.exchange_rules.proofs.Basics.{◌≡◌, ◌≢◌, ◌⊎◌, inl, inr, ◌≤◌, ℕ, zero, suc, Bool, true, false, ◌&&◌, not, List, [], ◌∷◌, length, nat_eq, Option, Some, None, refl, ap, sym, ◌∙◌, subst, arith, max, ⊎_elim, if◌then◌else◌}
-use Rattle.exchange_rules.proofs.Definitions.{Message, flow_of, Configuration, FailureReason, Facts, Alignment, Action, Expiry, LinkTimer, Transition, action_at, opening, TimerName, Running, set_timer, clear_timer, left-set_other, left-clear_set_other, is_of_set, clear_set, timer_name, ticks_of, timed, timed_busy, timed_busy_ended, timed_confirming, timed_sending, without_timer, without_timer_if, with_timer, with_timer_if, without_timers, is_running, due_name, after_due, Parts, Node, with_parts, answer, Handled, Ignored, link_at, in_service, down, set_of, facts, suspended, fail_link, has_other, without_tests, make_unavailable, changing, begin, change_over, begin_by_peer, fail_by_peer, fail_by_order, complete_by_order, complete_if, completed, changeover_of, with_changeover, changeover_order, send_routed, changeover_acknowledgement, on_changeover_order, with_changeover_acknowledged, no_room, link_of, loses_flows, code_for, hold_flows, take_back_each, take_back, change_back, held_by_rerouting, with_set_reset, step_on, enters, begun_anew_if, moved_on, return_if, advance, act_by_timer, run_timer, run_due, run_next, run_times, with_timers, is_link, Carrying, carries, WholeQueues, whole}
-use Rattle.timers.specs.Timers.{start_unless_running}
+use Rattle.exchange_rules.proofs.Basics.{◌≡◌, ℕ, zero, suc, Bool, true, false, ◌&&◌, not, List, [], ◌∷◌, length, Option, Some, None, refl, ap, sym, ◌∙◌, if◌then◌else◌}
+use Rattle.exchange_rules.proofs.Definitions.{Message, flow_of, Configuration, FailureReason, Facts, Transition, TimerName, Running, set_timer, left-set_other, left-clear_set_other, is_of_set, clear_set, Parts, Node, with_parts, answer, Handled, Ignored, in_service, down, set_of, facts, suspended, fail_link, has_other, without_tests, make_unavailable, changing, begin, change_over, begin_by_peer, fail_by_peer, fail_by_order, complete_by_order, complete_if, completed, changeover_of, with_changeover, changeover_order, send_routed, changeover_acknowledgement, on_changeover_order, with_changeover_acknowledged, no_room, link_of, loses_flows, code_for, hold_flows, take_back_each, held_by_rerouting, step_on, enters, begun_anew_if, moved_on, return_if, advance, WholeQueues, whole}
 use Rattle.timers.proofs.Maps.{left-clear_set}
 use Rattle.timers.specs.declared.name.TimerName.TheVariants as name
 use Rattle.timers.specs.declared.name.RouteTimer.{RouteTimer}
 use Rattle.timers.specs.declared.name.RouteTimer.TheVariants as of_set
 use Rattle.signalling_types.specs.declared.notice.FailureReason.TheVariants as reasons
-use Rattle.link.specs.declared.action.Action.TheVariants as act
-use Rattle.link.specs.declared.action.LinkTimer.TheVariants as timer
-use Rattle.link.specs.declared.alignment.Alignment.TheVariants.{Down, NotAligned, Aligned, Proving, AlignedReady, InService}
-use Rattle.exchange_rules.specs.TickingAlone.{longest_turn}
-use Rattle.exchange_rules.proofs.Steps.{IsOfSends, IsOfRules, takes_links}
-use Rattle.exchange_rules.proofs.Asked.{any, IsOfAll}
-use Rattle.exchange_rules.proofs.SteppingEvents.{run_next-steps}
+use Rattle.exchange_rules.proofs.Steps.{takes_links}
 use Rattle.exchange_rules.proofs.WillEnding.{no-way}
-use Rattle.exchange_rules.proofs.Eased.{Eased, is_waited_for, less-clear, less-without, send-eased, completed-eased, expired-eased, ran-eased, link-waited}
-use Rattle.exchange_rules.proofs.WithinTimes.{Within, within-set, handed_out-eased, lower}
+use Rattle.exchange_rules.proofs.Eased.{Eased, less-clear, less-without, send-eased, completed-eased, link-waited}
 
 -- ---- from one node to another none of them is set
 

@@ -13,7 +13,7 @@ use Rattle.exchange_rules.proofs.SteppingEvents.{settled-steps}
 use Rattle.exchange_rules.proofs.WillEnding.{no-way}
 use Rattle.exchange_rules.proofs.LastingHolds.{every-hold}
 use Rattle.exchange_rules.proofs.DueTimers.{Dues, dues-steps, all-handed_out, no-more-due, none-due}
-use Rattle.exchange_rules.proofs.Eased.{Eased, is_waited_for, eased-same, eased-both, ran-eased, settled-eased, link-waited}
+use Rattle.exchange_rules.proofs.Eased.{Eased, eased-same, eased-both, ran-eased, settled-eased, link-waited}
 use Rattle.exchange_rules.proofs.LinkTimes.{Kept, kept-both, kept-eased}
 use Rattle.exchange_rules.proofs.LinkTurns.{times-kept}
 use Rattle.exchange_rules.proofs.LinkTurns as turns

@@ -42,6 +42,7 @@ pub mod SaidWords
 pub mod MadeWords
 pub mod FourLaws
 pub mod Awaited
+pub mod HeldFlows
 pub mod Arrivals
 pub mod OtherCauses
 pub mod Outcomes

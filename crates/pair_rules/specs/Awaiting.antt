@@ -1,4 +1,5 @@
--- Nothing is awaited in vain: while an end awaits a word of the other, that word or what asks for it is under way.
+-- Nothing waits in vain: while an end awaits a word of the other, that word or what asks for it is under way; and every
+-- hold has its timer or its word.
 use Rattle.std.specs.Prelude.{◌≡◌, ◌+◌, ℕ, Bool, nat_eq, count_by, Option, Some, None, Result, Ok, Err, if◌then◌else◌}
 use Rattle.std.specs.Option.{option_eq}
 use Rattle.signalling_types.specs.Message.{Message, is_management, opc_of}
@@ -13,8 +14,10 @@ use Rattle.mtp3_codec.specs.declared.management.Management.TheVariants.{Changeba
 use Rattle.changeback.specs.Codes.{is_outstanding}
 use Rattle.exchange_rules.specs.Failing.{changeover_of}
 use Rattle.exchange_rules.specs.Local.{link_with_code}
+use Rattle.exchange_rules.specs.LastingHolds.{AllWillEnd}
 use Rattle.pair_moves.specs.Laws.{one_if}
 use Rattle.pair_rules.specs.Pairs.{PairState, turned}
+use Rattle.pair_rules.specs.Promises.{Always}
 use Rattle.pair_rules.specs.Laws.{WhileNothingIsLost, unreceived}
 
 -- ---- what a message says to the node with these settings, which it comes to from a point
@@ -71,3 +74,13 @@ pub record AwaitsNothingInVain (p : PairState) : Type 0 where
 
 abbrev pub nothing_is_awaited_in_vain : Type 0
 nothing_is_awaited_in_vain = WhileNothingIsLost AwaitsNothingInVain
+
+-- ---- what is held
+
+-- at both ends every hold has its timer or its word, whether or not a message may be lost
+pub record HoldInNoVain (p : PairState) : Type 0 where
+  pub near : AllWillEnd p.near.exchange.node.parts
+  pub far : AllWillEnd p.far.exchange.node.parts
+
+abbrev pub nothing_is_held_in_vain : Type 0
+nothing_is_held_in_vain = Always HoldInNoVain

@@ -8,7 +8,7 @@
 ghost use Rattle.pair_rules.specs.Promises.{each_message_once, each_flow_in_order};
 ghost use Rattle.pair_rules.specs.Laws.{frames_carry, words_are_read, none_is_left, words_are_final};
 ghost use Rattle.pair_rules.specs.Laws.{moves_are_lacked};
-ghost use Rattle.pair_rules.specs.Awaiting.{nothing_is_awaited_in_vain};
+ghost use Rattle.pair_rules.specs.Awaiting.{nothing_is_awaited_in_vain, nothing_is_held_in_vain};
 ghost use Rattle.pair_rules.specs.Deliveries.{deliveries_tell};
 ghost use Rattle.pair_rules.specs.Accepting.{accepted_goes_to_far};
 ghost use Rattle.pair_rules.specs.OneEndFirst.{ComesOnce};
@@ -61,6 +61,13 @@ pub fn links_open_with_no_word_left()
 /// exchange may have lost a message.
 pub fn nothing_is_awaited_in_vain()
     ensures { nothing_is_awaited_in_vain }
+{}
+
+/// Nothing is held in vain, at either end: the changeover that holds a flow isn't complete, and has T1
+/// running, or its answer awaited and T2 running; T4 of a code that holds one runs, T3 of a link that
+/// holds one by time (Q.704 §16.8). This holds whether or not a message may be lost.
+pub fn nothing_is_held_in_vain()
+    ensures { nothing_is_held_in_vain }
 {}
 
 /// Law (iii). While an order to change over or an answer about a link stands in Held or unreceived
