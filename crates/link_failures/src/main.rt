@@ -34,6 +34,9 @@
 //!   submitted again, the link comes back while these messages wait on the others, all is submitted a third time, and
 //!   rounds pass. Without a tick no timer of a changeover or a changeback runs out, so no flag is set. With ticks
 //!   after each round T1 to T4 run out, at either end or at both.
+//! - SCCP by title: as Stopped, without a tick, but only end 1 submits: a UDT for its own point on each of the 16
+//!   flows, whose title its one translation row leads to end 2. That has no row, and returns each by a UDTS, which end 1
+//!   refuses, since it has no subsystem. So each run accepts 48 UDTs at end 1 and as many UDTSs at end 2, and each comes.
 //! - Stopped again: `e1` stops at both ends at the first place and comes back. After the third submissions end 1
 //!   loses one of the links at one of the 13 places of the next round, while flows are taken back.
 //! - One end first: as Stopped, without a tick, where the link stops at the end that is to open first. It opens at
@@ -95,6 +98,7 @@ const BOTH: Clock = Clock { one: 1, two: 1 };
 
 fn main(rt: HostRuntime) -> io::Result<()> {
     stop_three(&rt)?;
+    stop_relaying(&rt)?;
     open_first(&rt)?;
     stop_again_or_late(&rt)?;
     stop_fewer(&rt)?;
@@ -159,8 +163,23 @@ fn stop_fewer(rt: &HostRuntime) -> io::Result<()> {
 
 /// One link of so many stops at each place.
 fn stop_one(rt: &HostRuntime, name: &str, links: u8, clock: Clock) -> io::Result<()> {
-    let total = stop_everywhere(rt.alloc(), Group { links, clock });
-    report(rt, name, &total)
+    let group = Group {
+        links,
+        clock,
+        relays: false,
+    };
+    report(rt, name, &stop_everywhere(rt.alloc(), group))
+}
+
+/// One link of three stops at each place, while end 1 relays.
+fn stop_relaying(rt: &HostRuntime) -> io::Result<()> {
+    let group = Group {
+        links: 3,
+        clock: Clock::STILL,
+        relays: true,
+    };
+    let name = "SCCP by title, stopped at 97 places, 3 links, 3 ends";
+    report(rt, name, &stop_everywhere(rt.alloc(), group))
 }
 
 /// A link stops again, and an answer is late.

@@ -5,8 +5,11 @@ use exchange::{Label, Limits, Msu, PointCode, Sls};
 /// The service information octet of the ISDN user part in the international network (Q.704 §14.2).
 const SIO: u8 = 0x85;
 
-/// Octets of a routing label, which stands in front of each message (Q.704 §2.2).
-const LABEL_OCTETS: usize = 4;
+/// The service information octet of SCCP in that network.
+const SCCP_SIO: u8 = 0x83;
+
+/// Octets of a number, which stands at the end of each message.
+const NUMBER_OCTETS: usize = 2;
 
 /// How many flows there are to a point: one for each signalling link selection.
 pub(crate) const FLOWS: u8 = Limits::SELECTIONS as u8;
@@ -35,13 +38,33 @@ pub(crate) fn message_of(mark: Mark, own: u16, adjacent: u16) -> Option<Msu> {
     Msu::new(SIO, &[a, b, c, d, high, low]).ok()
 }
 
-/// The mark of a message.
+/// The UDT of a mark, which a user part hands over for its own point: its called address is by a title whose first digit
+/// is 7, its calling one by subsystem number, it asks for a return on error, and its data is the number (Q.713 §4.10).
+pub(crate) fn unitdata_of(mark: Mark, own: u16) -> Option<Msu> {
+    let label = Label {
+        dpc: PointCode::new(own)?,
+        opc: PointCode::new(own)?,
+        sls: Sls::new(mark.flow)?,
+    };
+    let [a, b, c, d] = label.write();
+    let [high, low] = mark.number.to_be_bytes();
+    let sif = [
+        a, b, c, d, 0x09, 0x80, 0x03, 0x09, 0x0b, // label, UDT, class 0 with return on error, pointers
+        0x06, 0x12, 0x06, 0x00, 0x12, 0x04, 0x07, // called: by the title 70
+        0x02, 0x42, 0x08, // calling: subsystem 8
+        0x02, high, low, // data
+    ];
+    Msu::new(SCCP_SIO, &sif).ok()
+}
+
+/// The mark of a message: its last two octets have the number.
 pub(crate) fn mark_of(message: &Msu) -> Option<Mark> {
     let label = Label::read(message.sif())?;
-    let number = message.sif().get(LABEL_OCTETS..)?;
+    let place = message.sif().len().checked_sub(NUMBER_OCTETS)?;
+    let number = message.sif().get(place..)?;
     Some(Mark {
         flow: label.sls.number(),
-        number: u16::from_be_bytes(*number.first_chunk::<2>()?),
+        number: u16::from_be_bytes(*number.first_chunk::<NUMBER_OCTETS>()?),
     })
 }
 

@@ -59,6 +59,8 @@ pub(crate) struct Group {
     pub links: u8,
     /// What passes between two rounds.
     pub clock: Clock,
+    /// Whether the messages are SCCP that end 1 relays.
+    pub relays: bool,
 }
 
 /// One run for each place of eight rounds, before, between and behind their steps, for each link and each of the three
@@ -105,6 +107,9 @@ fn play(alloc: Global, group: Group, stop: &Stop, total: &mut Total) {
     let Some(mut world) = total.begin(alloc, group.links) else {
         return;
     };
+    if group.relays {
+        world.relay();
+    }
     let back = stop_and_return(&mut world, stop, group.clock);
     let settled = settle(&mut world, group.clock);
     total.end(alloc, world, back && settled);

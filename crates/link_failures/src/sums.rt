@@ -47,9 +47,12 @@ impl Pick for SameMessage {
 }
 
 /// Compares the sums of all messages from an end to the other, and that of one message, which the number of this
-/// comparison chooses.
-pub(crate) fn compare(nodes: &mut LinkedNodes, from: End, book: &Book, count: u64) -> Sums {
+/// comparison chooses, where there is one.
+pub(crate) fn compare(nodes: &mut LinkedNodes, from: End, book: &Book, count: Option<u64>) -> Sums {
     let all = compare_all(nodes, from, book);
+    let Some(count) = count else {
+        return all;
+    };
     match book.mark_by(count) {
         Some(mark) => all.and(compare_one(nodes, from, book, mark)),
         None => all,

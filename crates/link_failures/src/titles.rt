@@ -1,5 +1,4 @@
-//! The translation row that operators add and remove. It is for SCCP alone, so no message that a pair carries is
-//! translated.
+//! The translation row that operators add and remove.
 
 use exchange::{PointCode, TitleDigits, TitleKey, TitleRoute, TitleRow};
 use pair_world::{End, Step};

@@ -1,7 +1,7 @@
 //! Two nodes, what is done to them, and what they accepted.
 
 use crate::book::Book;
-use crate::marking::{Mark, message_of};
+use crate::marking::{Mark, mark_of, message_of, unitdata_of};
 use crate::outcomes::{is_accepted, is_ignored};
 use crate::points::{linked, points};
 use crate::sums::{Sums, compare};
@@ -28,6 +28,8 @@ pub(crate) struct World {
     starved: bool,
     /// Whether each step about a translation row added or removed it.
     kept_titles: bool,
+    /// Whether end 1 hands over SCCP for its own point, which it relays to end 2, and that returns it.
+    relays: bool,
     one: Book,
     two: Book,
     sums: Sums,
@@ -49,6 +51,7 @@ impl World {
             steps: 0,
             starved: false,
             kept_titles: true,
+            relays: false,
             one: Book::new(alloc),
             two: Book::new(alloc),
             sums: Sums::NONE,
@@ -132,6 +135,7 @@ impl World {
     fn turn(&mut self, step: Step) -> Outcome {
         self.compare_now_and_then();
         let outcome = self.nodes.turn(step);
+        self.note_returned();
         self.note_received();
         match outcome {
             Ok(outcome) => outcome,
@@ -231,14 +235,43 @@ impl World {
     /// An end submits its next message on a flow.
     pub(crate) fn submit(&mut self, end: End, flow: u8) {
         let mark = self.book(end).next_mark(flow);
-        let (own, adjacent) = points(end);
-        // There is one of each mark, since the points and the flow are in range.
-        let Some(message) = message_of(mark, own, adjacent) else {
+        let Some(message) = self.message(end, mark) else {
             return;
         };
         let outcome = self.turn(Step::Submit(end, message));
         if is_accepted(&outcome) {
             self.note_accepted(end, mark);
+        }
+    }
+
+    /// The message of a mark that an end submits; there is one, since the points and the flow are in range. Where SCCP
+    /// is relayed, end 2 submits none.
+    fn message(&self, end: End, mark: Mark) -> Option<Msu> {
+        let (own, adjacent) = points(end);
+        match (self.relays, end) {
+            (false, _) => message_of(mark, own, adjacent),
+            (true, End::One) => unitdata_of(mark, own),
+            (true, End::Two) => None,
+        }
+    }
+
+    /// From now on end 1 hands over SCCP, which its translation row leads to end 2.
+    pub(crate) fn relay(&mut self) {
+        self.translate(End::One);
+        self.relays = true;
+    }
+
+    /// End 2 has no translation row, so it accepts a UDTS for each UDT that came.
+    fn note_returned(&mut self) {
+        if !self.relays {
+            return;
+        }
+        let returned = self.two.accepted.len();
+        let Some(message) = self.received(End::Two).get(returned) else {
+            return;
+        };
+        if let Some(mark) = mark_of(message) {
+            self.note_accepted(End::Two, mark);
         }
     }
 
@@ -261,7 +294,8 @@ impl World {
 
     /// Compares what either end accepted with what the other received and what waits.
     fn compare_sums(&mut self) {
-        let count = self.steps / COMPARED_EVERY;
+        // What SCCP writes isn't that of a mark: then only the sums of all messages are compared.
+        let count = (!self.relays).then_some(self.steps / COMPARED_EVERY);
         let there = compare(&mut self.nodes, End::One, &self.one, count);
         let back = compare(&mut self.nodes, End::Two, &self.two, count);
         self.sums = self.sums.and(there).and(back);

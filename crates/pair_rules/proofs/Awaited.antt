@@ -82,7 +82,7 @@ module _ (c z : Configuration) (j : IsJoined c z) (k : IsJoined z c) (m : Messag
   is-alike w kind from reads (good.confirms slc code) = word-alike w kind from reads (Confirmation code) refl (λ link. refl) (λ link. refl) (λ named. refl) (λ named. refl)
 
   said-alike : IsSaid c m → SaysAlike c z m
-  said-alike (good.is_user kind user) = user-alike kind
+  said-alike (good.is_user kind) = user-alike kind
   said-alike (good.is_word kind zero_indicator from w reads is) = is-alike w kind from reads is
 
 -- ---- both directions

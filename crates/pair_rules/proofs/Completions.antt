@@ -1,6 +1,6 @@
 -- A changeover is completed by the peer's order, by its answer, or by a timer: by moves.
 use Rattle.pair_rules.proofs.Basics.{◌≡◌, ◌≢◌, ◌<◌, ◌&&◌, ℕ, Bool, true, false, not, List, [], ◌∷◌, ◌++◌, length, Option, Some, None, refl, ap, sym, subst, ◌∙◌, nat_eq, drop, if◌then◌else◌, is_some, slice_set, ⊎_elim, cases_eq}
-use Rattle.pair_rules.proofs.Definitions.{link_at, send_anew, Message, is_management, Configuration, Running, clear_timer, ToldTable, Link, link_in, is_down, lifted, leaves_others, Queue, emptied, first_queue, named_count, last_accepted, Standing, standing_at, with_standing, accepted_count, behind, users_of, managements_of, Node, Parts, Found, down, WholeQueues, queue_at, whole, changeover_of, concluded, lose, lose_each, send_each, Fits, StaysFit, each-set, Order, Answer, LinkEnd, Line, Pair, Side, ChangesOnly, with_completion}
+use Rattle.pair_rules.proofs.Definitions.{link_at, send_anew, Message, is_management, Configuration, Running, clear_timer, ToldTable, Link, link_in, is_down, lifted, leaves_others, Queue, emptied, first_queue, named_count, last_accepted, Standing, standing_at, with_standing, behind, users_of, managements_of, Node, Parts, Found, down, WholeQueues, queue_at, whole, changeover_of, concluded, lose, lose_each, send_each, Fits, StaysFit, each-set, Order, Answer, Pair, ChangesOnly, with_completion}
 use Rattle.signalling_types.specs.declared.cause.Cause.TheVariants.{LostUnconfirmed}
 use Rattle.timers.specs.declared.name.TimerName.TheVariants.{T1}
 use Rattle.flow_hold.specs.declared.procedure.Procedure.TheVariants as held_by

@@ -13,6 +13,7 @@ pub use Rattle.exchange_rules.proofs.SteppingFailures.{concluded-steps, fail-lin
 pub use Rattle.exchange_rules.proofs.SteppingLinks.{advance-serves, anew-steps, stepped-at, stepped-other, stepping-there, failed_if_up-down, set_active-steps}
 pub use Rattle.exchange_rules.proofs.Steps.{IsOfSteps, AreRerouted, AreOwnAllowed, any_status, ways_of, status_over, confirming, with_busy, without_busy}
 pub use Rattle.exchange_rules.proofs.TakenPairs.{IsAlike, take_back_each-alike}
+pub use Rattle.exchange_rules.specs.Conserving.{answered_in, brought_by, brought_here, brought_in, brought_to, taken_in, unitdata_in}
 pub use Rattle.exchange_rules.specs.ChangingBack.{code_for, declaration, hold_flows, loses_flows, on_changeback_acknowledgement, changeback_acknowledgement, freed, late_code, late_time, on_changeback_declaration, change_back, is_taken_back}
 unfoldable pub use Rattle.exchange_rules.specs.ChangingBack.{take_back_each}
 pub use Rattle.exchange_rules.specs.ChangingOver.{acknowledge_changeover, changeover_acknowledgement, complete_by_order, complete_if, fail_by_order, on_changeover_order, on_changeover_acknowledgement, send_each, with_changeover_acknowledged, concluded, lose, lose_each, on_changeover_timer, with_expiry}
@@ -22,6 +23,7 @@ pub use Rattle.exchange_rules.specs.Failing.{begin_by_peer, changeover_of, fail_
 pub use Rattle.exchange_rules.specs.Frames.{Carrying, accept, act_by_data, empty_data, handle_by, message_data, numbers, owing, data_of, receive, receive_frame, read, carries, carry}
 pub use Rattle.exchange_rules.specs.Happening.{CameUp, Happening, FrameCame, Submitted}
 pub use Rattle.exchange_rules.specs.Holding.{all_wait, waits, is_held_at, is_flow_held}
+pub use Rattle.exchange_rules.specs.Laws.{accept_data, accept_frame, accept_text}
 pub use Rattle.exchange_rules.specs.Links.{down, is_link, in_service, link_at, links_with}
 pub use Rattle.exchange_rules.specs.Local.{is_user, local, do_test, distribute, do_management, do_order, do_acknowledgement, is_adjacent, manage, on_management, sccp, testing, link_with_code}
 pub use Rattle.exchange_rules.specs.Made.{send, management_to, send_anew, send_routed}
@@ -46,7 +48,7 @@ pub use Rattle.flow_hold.specs.Flows.{with_flows}
 unfoldable pub use Rattle.flow_hold.specs.Flows.{any_flow, flows}
 pub use Rattle.flow_hold.specs.Holds.{lifted, HoldSet, by_numbers, holds, is_held, is_same, may_hold, no_holds}
 pub use Rattle.flow_hold.specs.declared.procedure.Procedure.{Procedure}
-pub use Rattle.link.specs.Queue.{Queue, appended, emptied, first_queue, named_count, last_accepted, IsQueue, accept_answer, after_answer, Sending, forward_number, numbered, to_send, sent_one, last_sent}
+pub use Rattle.link.specs.Queue.{count_confirmed, Queue, appended, emptied, first_queue, named_count, last_accepted, IsQueue, accept_answer, after_answer, Sending, forward_number, numbered, to_send, sent_one, last_sent}
 pub use Rattle.link.specs.Table.{action_at, Effect, Fails, Remembers, Enters, EntersServing, Serves, Cell, table, state_number, is_same_input, effect_in, action_of}
 pub use Rattle.link.specs.declared.action.Action.{Action}
 pub use Rattle.link.specs.declared.action.Input.{Input}
@@ -73,7 +75,7 @@ pub use Rattle.pair_moves.specs.Passing.{BecomeAt, MayGo}
 pub use Rattle.pair_moves.specs.Returning.{MayOpen, opened_end, AddsOnly, StaysOrIsHeld}
 pub use Rattle.pair_moves.specs.Sayings.{Saying, Order, Answer, Declaration, is_user_message, is_answer, is_order, is_untrue, UserMessage, Confirmation, is_of_flow, is_same_flow}
 pub use Rattle.pair_rules.specs.Laws.{messages_in, AreFinal, FramesCarry, IsCarried, IsFinal, IsInFlight, IsUnderWay, MovesLacked, NextIsFirst, NoneIsLeft, OpenedAlone, WhileNothingIsLost, Word, is_down_at, is_in_use, is_incomplete_at, unreceived, unreceived_on, word_of, frames_carry, moves_are_lacked, none_is_left, words_are_final, SayTheirWord, about, word_in, word_read, words_are_read}
-pub use Rattle.pair_rules.specs.Pairs.{AddsTitle, DeliversStatus, Doing, DoublesStatus, LosesStatus, RemovesTitle, Streams, Submits, Takes, Delivers, Loses, Ticks, Activates, Deactivates, OpensFirst, OpensSecond, PairState, Step, AtNear, AtFar, after_steps, did, may_follow, may_open_at, opens_first, opens_second, turn, turned, for_users, accepted_by, is_sccp, in_flight, first_pair, deliver_frame, without_data, without_status, End, happens, change_statuses, take_frame}
+pub use Rattle.pair_rules.specs.Pairs.{AddsTitle, DeliversStatus, Doing, DoublesStatus, LosesStatus, RemovesTitle, Streams, Submits, Takes, Delivers, Loses, Ticks, Activates, Deactivates, OpensFirst, OpensSecond, PairState, Step, AtNear, AtFar, after_steps, did, may_follow, may_open_at, opens_first, opens_second, turn, turned, in_flight, first_pair, deliver_frame, without_data, without_status, End, happens, change_statuses, take_frame}
 pub use Rattle.pair_rules.specs.Promises.{LostNothing, queue_of, AreJoined, waiting_on}
 pub use Rattle.route_management.specs.Told.{ToldTable, is_own_point, told_at, adjacent_place}
 pub use Rattle.routes.specs.Chosen.{chosen_link, Choice, taken_by, sets_of, members}

@@ -1,10 +1,11 @@
 -- The first frame in flight on a link is handed in: by moves.
 use Rattle.pair_rules.proofs.Basics.{slice_index_or, inl, ◌≡◌, ◌<◌, ℕ, Bool, true, false, not, List, [], ◌∷◌, length, Some, Result, Ok, Err, refl, ap, sym, subst, ◌∙◌, option_to_list}
-use Rattle.pair_rules.proofs.Definitions.{Message, FailureReason, Configuration, FrameValue, EmptyFrame, MessageFrame, Alignment, Down, NotAligned, Aligned, Proving, AlignedReady, InService, Action, UserData, Input, action_at, SeqFault, Link, after_failure, down_link, is_down, is_in_service, Node, with_parts, down, in_service, link_at, WholeQueues, whole, fail, Carrying, accept, act_by_data, empty_data, handle_by, message_data, numbers, owing, new_by, new_at, advance, Fits, fit-steps, confirming, owing-steps, fail-links, advance-serves, data-serves, for_users}
+use Rattle.pair_rules.proofs.Definitions.{Message, FailureReason, Configuration, FrameValue, EmptyFrame, MessageFrame, Alignment, Down, NotAligned, Aligned, Proving, AlignedReady, InService, Action, UserData, Input, action_at, SeqFault, Link, after_failure, down_link, is_down, is_in_service, Node, with_parts, down, in_service, link_at, WholeQueues, whole, fail, Carrying, accept, act_by_data, empty_data, handle_by, message_data, numbers, owing, new_by, new_at, advance, Fits, fit-steps, confirming, owing-steps, fail-links, advance-serves, data-serves, users_of, all_wait, brought_by, accept_data, count_confirmed}
 use Rattle.exchange_rules.proofs.Rules.{rules-of}
 use Rattle.std.specs.Prelude.{map}
 use Rattle.signalling_types.specs.declared.notice.FailureReason.TheVariants as reasons
 use Rattle.link.specs.declared.action.Action.TheVariants as act
+use Rattle.exchange_rules.proofs.AddedHolds.{advance-waits}
 use Rattle.pair_moves.specs.Moves as moves
 use Rattle.pair_rules.proofs.World.{World, says_of, line_of, frame_of}
 use Rattle.pair_rules.proofs.Good.{Each, IsBetween, IsFlying, IsJoined, Good, Passes, passes-none, passes-both, at}
@@ -15,7 +16,7 @@ use Rattle.pair_rules.proofs.Relinked.{relinked-passes}
 use Rattle.pair_rules.proofs.Failures.{fail-passes}
 use Rattle.pair_rules.proofs.Entries.{data-heard}
 use Rattle.pair_rules.proofs.Returns.{advance-passes}
-use Rattle.pair_rules.proofs.Frames.{Pops, popped, receiving, none-received, deliver-passes, dropping-frame, accepted-set, accepted-good}
+use Rattle.pair_rules.proofs.Frames.{Pops, popped, bringing, none-brought, deliver-passes, dropping-frame, accepted-set, accepted-good}
 
 -- ---- what the table of the alignment says
 
@@ -64,9 +65,9 @@ module _ (c z : Configuration) (j : IsJoined c z) where
   module _ (w : World) (link : ℕ) (frame : FrameValue) (f : ℕ → List FrameValue) (p : Pops c z j w link frame f) where
     -- it fails the link, and is dropped
     failing-frame : (n : Node WholeQueues) (why : FailureReason) → down n.parts link ≡ false
-        → Passes c z (at c z w n [] []) (at c z (receiving c z j (popped c z j w f) []) (fail whole c link why n) [] [])
+        → Passes c z (at c z w n [] []) (at c z (bringing c z j (popped c z j w f) [] []) (fail whole c link why n) [] [])
     failing-frame n why up =
-        none-received c z j (at c z w n [] []) (popped c z j w f) (fail whole c link why n) [] []
+        none-brought c z j (at c z w n [] []) (popped c z j w f) (fail whole c link why n) [] []
         (record {
           goes = λ g. (passes-both c z _ _ _ (fail-passes c z j w n [] link why up) (dropping-frame c z j w link frame f p (fail whole c link why n) (failed-down link why n g.fits p.inside))).goes g;
           good = λ g. (passes-both c z _ _ _ (fail-passes c z j w n [] link why up) (dropping-frame c z j w link frame f p (fail whole c link why n) (failed-down link why n g.fits p.inside))).good g;
@@ -98,14 +99,16 @@ module _ (c z : Configuration) (j : IsJoined c z) where
 
     empty-handled : (r : Result ℕ SeqFault) (n : Node WholeQueues) → in_service n.parts link ≡ true → numbers whole c link (empty_data bsn fsn) n ≡ r
         → Passes c z (at c z w n [] [])
-        (at c z (receiving c z j (popped c z j w f) (for_users (option_to_list (new_by r (empty_data bsn fsn))))) (handle_by whole c r link (empty_data bsn fsn) n).left [] [])
+        (at c z (bringing c z j (popped c z j w f) (users_of (option_to_list (new_by r (empty_data bsn fsn)))) (brought_by (new_by r (empty_data bsn fsn)) (handle_by whole c r link (empty_data bsn fsn) n).outcome c (accept whole c link (empty_data bsn fsn) (count_confirmed r) n)))
+        (handle_by whole c r link (empty_data bsn fsn) n).left [] [])
     empty-handled (Ok confirmed) n serves e =
-        none-received c z j (at c z w n [] []) (popped c z j w f) _ [] [] (empty-taken n confirmed serves e)
+        none-brought c z j (at c z w n [] []) (popped c z j w f) _ [] [] (empty-taken n confirmed serves e)
     empty-handled (Err fault) n serves e = failing-frame w link (EmptyFrame bsn fsn) f p n reasons.Sequence (serving-up (link_at n.parts link).alignment serves)
 
     pub empty-acted : (a : Action) (n : Node WholeQueues) → action_at (link_at n.parts link).alignment UserData ≡ a → down n.parts link ≡ false
         → Passes c z (at c z w n [] [])
-        (at c z (receiving c z j (popped c z j w f) (for_users (option_to_list (new_at a link (empty_data bsn fsn) c n)))) (act_by_data whole c a link (empty_data bsn fsn) n).left [] [])
+        (at c z (bringing c z j (popped c z j w f) (users_of (option_to_list (new_at a link (empty_data bsn fsn) c n))) (brought_by (new_at a link (empty_data bsn fsn) c n) (act_by_data whole c a link (empty_data bsn fsn) n).outcome c (accept_data a link (empty_data bsn fsn) c n)))
+        (act_by_data whole c a link (empty_data bsn fsn) n).left [] [])
     empty-acted act.Ignored n e up = (let no : false ≡ true = data-acts (link_at n.parts link).alignment up e in absurd cc)
     empty-acted act.Fail n e up = failing-frame w link (EmptyFrame bsn fsn) f p n reasons.Sequence up
     empty-acted (act.Go step) n e up =
@@ -157,18 +160,22 @@ module _ (c z : Configuration) (j : IsJoined c z) where
         (owing-steps (rules-of (fit-steps c)) link (Some came) n)
 
     message-handled : (r : Result ℕ SeqFault) (n : Node WholeQueues) → in_service n.parts link ≡ true → numbers whole c link d n ≡ r → ((other : ℕ) → Each (IsFlying z c) (w.to_near.user_data other))
-        → Passes c z (at c z w n [] []) (at c z (receiving c z j (popped c z j w f) (for_users (option_to_list (new_by r d)))) (handle_by whole c r link d n).left [] [])
-    message-handled (Ok confirmed) n serves e each =
+        → all_wait c n.parts.holds n.queues.held ≡ true
+        → Passes c z (at c z w n [] [])
+        (at c z (bringing c z j (popped c z j w f) (users_of (option_to_list (new_by r d))) (brought_by (new_by r d) (handle_by whole c r link d n).outcome c (accept whole c link d (count_confirmed r) n))) (handle_by whole c r link d n).left [] [])
+    message-handled (Ok confirmed) n serves e each wait =
         passes-both c z _ _ _ (message-taken n confirmed serves e)
         (passes-both c z _ _ _ (message-owed (confirming c link d confirmed n) (serving-up (link_at n.parts link).alignment serves))
-        (deliver-passes c z j (popped c z j w f) (accept whole c link d confirmed n) link came (between each)))
-    message-handled (Err fault) n serves e each = failing-frame w link (MessageFrame bsn fsn sio sif) f p n reasons.Sequence (serving-up (link_at n.parts link).alignment serves)
+        (deliver-passes c z j (popped c z j w f) (accept whole c link d confirmed n) link came (between each) wait))
+    message-handled (Err fault) n serves e each wait = failing-frame w link (MessageFrame bsn fsn sio sif) f p n reasons.Sequence (serving-up (link_at n.parts link).alignment serves)
 
     pub message-acted : (a : Action) (n : Node WholeQueues) → action_at (link_at n.parts link).alignment UserData ≡ a → down n.parts link ≡ false → ((other : ℕ) → Each (IsFlying z c) (w.to_near.user_data other))
-        → Passes c z (at c z w n [] []) (at c z (receiving c z j (popped c z j w f) (for_users (option_to_list (new_at a link d c n)))) (act_by_data whole c a link d n).left [] [])
-    message-acted act.Ignored n e up each = (let no : false ≡ true = data-acts (link_at n.parts link).alignment up e in absurd cc)
-    message-acted act.Fail n e up each = failing-frame w link (MessageFrame bsn fsn sio sif) f p n reasons.Sequence up
-    message-acted (act.Go step) n e up each =
+        → all_wait c n.parts.holds n.queues.held ≡ true
+        → Passes c z (at c z w n [] [])
+        (at c z (bringing c z j (popped c z j w f) (users_of (option_to_list (new_at a link d c n))) (brought_by (new_at a link d c n) (act_by_data whole c a link d n).outcome c (accept_data a link d c n))) (act_by_data whole c a link d n).left [] [])
+    message-acted act.Ignored n e up each wait = (let no : false ≡ true = data-acts (link_at n.parts link).alignment up e in absurd cc)
+    message-acted act.Fail n e up each wait = failing-frame w link (MessageFrame bsn fsn sio sif) f p n reasons.Sequence up
+    message-acted (act.Go step) n e up each wait =
         let next : Node WholeQueues = advance whole c link step n in
         passes-both c z _ _ _ (advance-passes c z j w n [] link UserData step e (inl (data-heard (link_at n.parts link).alignment step e)))
-        (message-handled (numbers whole c link d next) next (advance-serves c link UserData step n e ∙ data-serves (link_at n.parts link).alignment step e) refl each)
+        (message-handled (numbers whole c link d next) next (advance-serves c link UserData step n e ∙ data-serves (link_at n.parts link).alignment step e) refl each (advance-waits c link step n wait))

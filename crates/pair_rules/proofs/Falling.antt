@@ -1,6 +1,6 @@
 -- A link in service fails, with an order or without one: by moves.
 use Rattle.pair_rules.proofs.Basics.{◌≡◌, ◌≢◌, ◌<◌, ◌&&◌, ℕ, Bool, true, false, not, List, [], ◌∷◌, length, Option, Some, refl, ap, sym, subst, ◌∙◌, nat_eq, nat_lt, arith, ⊎_elim, cases_eq}
-use Rattle.pair_rules.proofs.Definitions.{SELECTIONS, goes_by, is_down, Management, Order, Message, Flow, FailureReason, Configuration, ExtendedChangeoverOrder, Running, HoldSet, with_flows, flows_add, flows_leave, Standing, no_changeover, with_standing, Link, after_failure, down_link, each-set, chosen_link, Node, Parts, with_parts, down, in_service, link_at, WholeQueues, queue_at, whole, changeover_of, changeover_order, fail_link, facts, entry_of, management_to, Fits, StaysFit, LinkEnd, Line, Suspends, with_failure}
+use Rattle.pair_rules.proofs.Definitions.{SELECTIONS, goes_by, is_down, Management, Order, Message, Flow, FailureReason, Configuration, ExtendedChangeoverOrder, Running, HoldSet, with_flows, flows_add, flows_leave, Standing, no_changeover, with_standing, Link, after_failure, down_link, each-set, chosen_link, Node, Parts, with_parts, down, in_service, link_at, WholeQueues, queue_at, whole, changeover_of, changeover_order, fail_link, facts, entry_of, management_to, Fits, StaysFit, Suspends, with_failure}
 use Rattle.pair_rules.proofs.Lines.{end_by, end-by, link-here, link-other, standing-here, standing-other}
 use Rattle.pair_rules.proofs.World.{said_by, unsaid}
 use Rattle.flow_hold.specs.Holds as hold

@@ -1,18 +1,18 @@
 -- A frame comes: by moves.
-use Rattle.pair_rules.proofs.Basics.{append-nil, suc, ⊎_elim, cases_eq, ◌≡◌, ◌≢◌, ◌<◌, ℕ, Bool, true, false, not, ◌&&◌, List, [], ◌∷◌, ◌++◌, length, Option, Some, Result, Ok, Err, refl, ap, sym, subst, ◌∙◌, nat_eq, arith, if◌then◌else◌, is_some, nat_tests}
-use Rattle.pair_rules.proofs.Definitions.{for_users, is_sccp, do_test, Message, is_management, opc_of, service_indicator, Local, Configuration, FrameValue, read_management, Management, MgmtFault, Queue, accept_answer, after_answer, first_queue, SeqFault, Discrimination, Node, Done, answer, refuse, down, in_service, WholeQueues, queue_at, whole, Carrying, carries, numbers, distribute, do_management, do_order, do_acknowledgement, is_adjacent, is_user, local, manage, on_management, sccp, testing, deliver, deliver_to, whither_goes, on_unitdata, on_changeback_acknowledgement, entry_of, Fits, fit-steps, each-set, confirming, UserMessage, Order, Answer, LinkEnd, Line, Pair, Frame, BecomeAt}
+use Rattle.pair_rules.proofs.Basics.{append-nil, ⊎_elim, cases_eq, ◌≡◌, ◌≢◌, ◌<◌, ℕ, Bool, true, false, not, List, [], ◌∷◌, ◌++◌, length, Option, Some, Result, Ok, Err, refl, ap, sym, subst, ◌∙◌, nat_eq, if◌then◌else◌, is_some}
+use Rattle.pair_rules.proofs.Definitions.{brought_here, brought_to, unitdata_in, do_test, users_of, all_wait, network_indicator, Message, is_management, opc_of, service_indicator, Configuration, FrameValue, read_management, Management, MgmtFault, Queue, accept_answer, after_answer, first_queue, SeqFault, Discrimination, Node, Done, refuse, down, in_service, WholeQueues, queue_at, whole, Carrying, carries, numbers, distribute, do_management, do_order, do_acknowledgement, is_adjacent, local, manage, on_management, testing, deliver, deliver_to, whither_goes, on_changeback_acknowledgement, entry_of, Fits, fit-steps, each-set, confirming, UserMessage, Order, Answer, LinkEnd, BecomeAt}
 use Rattle.pair_rules.proofs.Good.{AreFlying, IsFlying, IsTelling}
 use Rattle.link.specs.Queue as queue
 use Rattle.mtp3_codec.specs.LinkTests.{read_link_test}
 use Rattle.std.specs.Prelude.{map}
 use Rattle.signalling_types.specs.declared.cause.Cause.TheVariants as causes
-use Rattle.pair_moves.specs.Ends as ends
 use Rattle.pair_moves.specs.Carrying.{with_accepted, with_statuses_left}
 use Rattle.pair_moves.specs.Moves as moves
 use Rattle.pair_rules.proofs.World.{World, says_of, read_says, management_says, said_by, unsaid, shown, line_of, end_of, frame_of}
 use Rattle.pair_rules.proofs.Good.{Each, IsBetween, IsJoined, IsSaid, IsWord, Good, Passes, passes-none, passes-both, at}
 use Rattle.pair_rules.proofs.Good as good
 use Rattle.pair_rules.proofs.Going.{goes-one}
+use Rattle.pair_rules.proofs.Bringing.{accepting, here-network, local-passes, is-no-sccp}
 use Rattle.pair_rules.proofs.Lines.{queue-here, queue-other}
 use Rattle.pair_rules.proofs.Relinked.{note_outcome-passes}
 use Rattle.pair_rules.proofs.ChangingOver.{order-passes, acknowledgement-passes}
@@ -24,14 +24,17 @@ says-word : (links : _) (m : Message) (word : Management) → is_management m �
 says-word links m word e f =
     ap (λ (b : Bool). if b then read_says links (read_management m.sif) else UserMessage) e ∙ ap (read_says links) f
 
--- the tests that distribute a message
-pub for-users : (m : Message) (a b : Bool) → is_management m ≡ a → is_sccp m ≡ b → for_users (m ∷ []) ≡ (if not a && not b then m ∷ [] else [])
-for-users m a b e f = ap (λ (x : Bool). if not x && not (is_sccp m) then m ∷ [] else []) e ∙ ap (λ (y : Bool). if not a && not y then m ∷ [] else []) f
+-- a message is one of the user messages among itself unless it is management
+pub users-of : (m : Message) (b : Bool) → is_management m ≡ b → users_of (m ∷ []) ≡ (if not b then m ∷ [] else [])
+users-of m b e = ap (λ (x : Bool). if not x then m ∷ [] else []) e
 
 module _ (c z : Configuration) (j : IsJoined c z) where
-  -- one more message for the user parts here
+  -- messages are received here, and then messages are accepted
   abbrev pub receiving : World → List Message → World
   receiving w ms = record w { near = record w.near { received = w.near.received ++ ms } }
+
+  abbrev pub bringing : World → (received accepted : List Message) → World
+  bringing w ms ks = accepting c z j (receiving w ms) ks
 
   -- ---- a user message
 
@@ -55,15 +58,6 @@ module _ (c z : Configuration) (j : IsJoined c z) where
       coming = g.coming;
     };
   }
-
-  pub local-left : (m : Message) (n : Node WholeQueues) → nat_eq (service_indicator m) sccp ≡ false → (local whole c m n).left ≡ n
-  local-left m n e =
-      ap (λ (b : Bool). (if b then on_unitdata whole c m n else if is_user c (service_indicator m) then answer Local n else refuse causes.NoUserPart n).left) e
-      ∙ by (is_user c (service_indicator m))
-    where
-      by : (b : Bool) → (if b then answer Local n else refuse causes.NoUserPart n).left ≡ n
-      by true = refl
-      by false = refl
 
   -- ---- a word
 
@@ -104,36 +98,55 @@ module _ (c z : Configuration) (j : IsJoined c z) where
       tested : Bool → Done WholeQueues
       tested b = (if b then do_test whole c (read_link_test m.sif) link z.own n else do_management whole c (read_management m.sif) z.own n)
 
-  -- nothing is received
-  pub none-received : (v w : World) (n : Node WholeQueues) (arrived loose : List Message) → Passes c z v (at c z w n arrived loose) → Passes c z v (at c z (receiving w []) n arrived loose)
-  none-received v w n arrived loose p =
-      subst (λ (ms : List Message). Passes c z v (record w { near = record { node = n; arrived = arrived; loose = loose; accepted = w.near.accepted; received = ms } }))
-      (sym (append-nil w.near.received)) p
+  -- nothing is received or accepted
+  pub none-brought : (v w : World) (n : Node WholeQueues) (arrived loose : List Message) → Passes c z v (at c z w n arrived loose) → Passes c z v (at c z (bringing w [] []) n arrived loose)
+  none-brought v w n arrived loose p =
+      subst (λ (ms : List Message). Passes c z v (record w { near = record { node = n; arrived = arrived; loose = loose; accepted = w.near.accepted ++ []; received = ms } }))
+      (sym (append-nil w.near.received))
+      (subst (λ (ms : List Message). Passes c z v (record w { near = record { node = n; arrived = arrived; loose = loose; accepted = ms; received = w.near.received } }))
+      (sym (append-nil w.near.accepted)) p)
 
-  said-passes : (w : World) (n : Node WholeQueues) (link : ℕ) (m : Message) → IsSaid z m
-      → Passes c z (at c z w n (m ∷ []) []) (at c z (receiving w (for_users (m ∷ []))) (distribute whole c link m n).left [] [])
-  said-passes w n link m (good.is_user user part) =
-      let here : (distribute whole c link m n).left ≡ n =
-      ap (λ (b : Bool). (if b then manage whole c link m n else local whole c m n).left) user ∙ local-left m n part in
-      let ms : for_users (m ∷ []) ≡ m ∷ [] = for-users m false false user part in
-      subst (λ (o : Node WholeQueues). Passes c z (at c z w n (m ∷ []) []) (at c z (receiving w (for_users (m ∷ []))) o [] [])) (sym here)
-      (subst (λ (xs : List Message). Passes c z (at c z w n (m ∷ []) []) (at c z (receiving w xs) n [] [])) (sym ms) (handing w n m [] user))
-  said-passes w n link m (good.is_word e si from word f is) =
+  -- a message that was distributed, and what that brought
+  abbrev brought : World → (received : List Message) → (link : ℕ) → Message → Node WholeQueues → World
+  brought w ms link m n =
+      at c z (bringing w ms (brought_here (distribute whole c link m n).outcome c m n)) (distribute whole c link m n).left [] []
+
+  user-passes : (w : World) (n : Node WholeQueues) (link : ℕ) (m : Message) (b : Bool) → is_management m ≡ b → b ≡ false → network_indicator m ≡ c.network
+      → all_wait c n.parts.holds n.queues.held ≡ true
+      → Passes c z (at c z w n (m ∷ []) [])
+      (at c z (bringing w (if not b then m ∷ [] else []) (brought_here (if b then manage whole c link m n else local whole c m n).outcome c m n))
+      (if b then manage whole c link m n else local whole c m n).left [] [])
+  user-passes w n link m true user e network wait = absurd cc
+  user-passes w n link m false user e network wait =
+      passes-both c z _ _ _ (handing w n m [] user) (local-passes c z j (receiving w (m ∷ [])) n m user network wait)
+
+  said-passes : (w : World) (n : Node WholeQueues) (link : ℕ) (m : Message) → IsSaid z m → network_indicator m ≡ c.network → all_wait c n.parts.holds n.queues.held ≡ true
+      → Passes c z (at c z w n (m ∷ []) []) (brought w (users_of (m ∷ [])) link m n)
+  said-passes w n link m (good.is_user user) network wait = user-passes w n link m (is_management m) refl user network wait
+  said-passes w n link m (good.is_word e si from word f is) network wait =
       let here : (distribute whole c link m n).left ≡ (on_management whole c word z.own n).left =
       ap (λ (d : Done WholeQueues). d.left) (word-left link m n word e si from f) in
-      let ms : for_users (m ∷ []) ≡ [] = for-users m true (is_sccp m) e refl in
-      subst (λ (o : Node WholeQueues). Passes c z (at c z w n (m ∷ []) []) (at c z (receiving w (for_users (m ∷ []))) o [] [])) (sym here)
-      (subst (λ (xs : List Message). Passes c z (at c z w n (m ∷ []) []) (at c z (receiving w xs) (on_management whole c word z.own n).left [] [])) (sym ms)
-      (none-received (at c z w n (m ∷ []) []) w (on_management whole c word z.own n).left [] [] (hearing word is w n m [] (says-word c.links m word e f))))
+      let ms : users_of (m ∷ []) ≡ [] = users-of m true e in
+      let ks : brought_here (distribute whole c link m n).outcome c m n ≡ [] =
+      ap (λ (b : Bool). if b then unitdata_in (distribute whole c link m n).outcome c m n else []) (is-no-sccp m e) in
+      subst (λ (o : Node WholeQueues). Passes c z (at c z w n (m ∷ []) []) (at c z (bringing w (users_of (m ∷ [])) (brought_here (distribute whole c link m n).outcome c m n)) o [] [])) (sym here)
+      (subst (λ (xs : List Message). Passes c z (at c z w n (m ∷ []) []) (at c z (bringing w xs (brought_here (distribute whole c link m n).outcome c m n)) (on_management whole c word z.own n).left [] [])) (sym ms)
+      (subst (λ (xs : List Message). Passes c z (at c z w n (m ∷ []) []) (at c z (bringing w [] xs) (on_management whole c word z.own n).left [] [])) (sym ks)
+      (none-brought (at c z w n (m ∷ []) []) w (on_management whole c word z.own n).left [] [] (hearing word is w n m [] (says-word c.links m word e f)))))
 
-  pub deliver-passes : (w : World) (n : Node WholeQueues) (link : ℕ) (m : Message) → IsBetween z c m
-      → Passes c z (at c z w n (m ∷ []) []) (at c z (receiving w (for_users (m ∷ []))) (deliver whole c link m n).left [] [])
-  deliver-passes w n link m b =
+  pub deliver-passes : (w : World) (n : Node WholeQueues) (link : ℕ) (m : Message) → IsBetween z c m → all_wait c n.parts.holds n.queues.held ≡ true
+      → Passes c z (at c z w n (m ∷ []) [])
+      (at c z (bringing w (users_of (m ∷ [])) (brought_to (whither_goes c m) (deliver whole c link m n).outcome c m n)) (deliver whole c link m n).left [] [])
+  deliver-passes w n link m b wait =
       let d : Done WholeQueues = deliver_to whole c (whither_goes c m) link m n in
+      let v : World = bringing w (users_of (m ∷ [])) (brought_to (whither_goes c m) d.outcome c m n) in
       passes-both c z _ _ _
-      (subst (λ (x : Discrimination). Passes c z (at c z w n (m ∷ []) []) (at c z (receiving w (for_users (m ∷ []))) (deliver_to whole c x link m n).left [] [])) (sym b.here)
-      (said-passes w n link m b.said))
-      (note_outcome-passes c z d.outcome link (receiving w (for_users (m ∷ []))) d.left [] [])
+      (subst (λ (x : Discrimination).
+      Passes c z (at c z w n (m ∷ []) [])
+      (at c z (bringing w (users_of (m ∷ [])) (brought_to x (deliver_to whole c x link m n).outcome c m n)) (deliver_to whole c x link m n).left [] []))
+      (sym b.here)
+      (said-passes w n link m b.said (here-network c m b.label b.here) wait))
+      (note_outcome-passes c z d.outcome link v d.left [] [])
 
   -- ---- the next User Data in flight on a link comes
 

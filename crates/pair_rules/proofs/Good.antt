@@ -1,6 +1,6 @@
 -- What holds of a node at work, and of what is in flight to it; and that a rule goes by moves and keeps that.
 use Rattle.pair_rules.proofs.Basics.{zero, suc, subst, refl, ◌≡◌, ◌<◌, ◌^◌, ℕ, Bool, true, false, List, [], ◌∷◌, ◌++◌, length, Some, Ok, arith, slice_get}
-use Rattle.pair_rules.proofs.Definitions.{Message, is_management, service_indicator, dpc_of, opc_of, Configuration, destination_place, set_place, Label, FrameValue, EmptyFrame, MessageFrame, StatusFrame, IsSayable, LinkStatus, read_management, Management, ExtendedChangeoverOrder, ExtendedChangeoverAcknowledgement, ChangebackDeclaration, ChangebackAcknowledgement, Node, Link, is_down, down, link_at, WholeQueues, queue_at, changeover_of, entry_of, set_of, peer_of, management_to, link_with_code, whither_goes, Fits, is_sccp}
+use Rattle.pair_rules.proofs.Definitions.{Message, is_management, service_indicator, dpc_of, opc_of, Configuration, destination_place, set_place, Label, FrameValue, EmptyFrame, MessageFrame, StatusFrame, IsSayable, LinkStatus, read_management, Management, ExtendedChangeoverOrder, ExtendedChangeoverAcknowledgement, ChangebackDeclaration, ChangebackAcknowledgement, Node, Link, is_down, down, link_at, WholeQueues, queue_at, changeover_of, entry_of, set_of, peer_of, management_to, link_with_code, whither_goes, Fits}
 use Rattle.mtp3_codec.specs.declared.discrimination.Discrimination.TheVariants as whither
 use Rattle.signalling_types.specs.Numbers.{previous_number}
 use Rattle.pair_rules.proofs.Alone.{IsAlone}
@@ -37,7 +37,7 @@ pub data IsWord (c : Configuration) : Management → Type 0 where
   confirms : (slc code : ℕ) → IsWord c (ChangebackAcknowledgement slc code)
 
 pub data IsSaid (c : Configuration) (m : Message) : Type 0 where
-  is_user : is_management m ≡ false → is_sccp m ≡ false → IsSaid c m
+  is_user : is_management m ≡ false → IsSaid c m
   is_word : is_management m ≡ true → service_indicator m ≡ 0 → opc_of m ≡ c.own → (word : Management) → read_management m.sif ≡ Ok word → IsWord c word → IsSaid c m
 
 -- a message that the node with settings c accepted or made, for the one with settings z
@@ -101,6 +101,7 @@ pub record IsJoined (c z : Configuration) : Type 0 where
   pub heard : (link : ℕ) → link < length z.links → link_with_code c z.own (entry_of z link).slc ≡ Some link
   pub many : length z.links ≡ length c.links
   pub adjacent : set_place c z.own ≡ Some 0
+  pub network : c.network ≡ z.network
 
 -- where a link is down, nothing waits to go out
 abbrev pub IsSilent : Link → Type 0

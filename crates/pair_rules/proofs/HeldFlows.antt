@@ -1,7 +1,6 @@
 -- At both ends every hold has its timer or its word: each step asks an exchange one thing, or nothing.
-use Rattle.pair_rules.proofs.Basics.{ℕ, Bool, true, false, List, [], ◌∷◌, Option, Some, None, if◌then◌else◌, slice_get}
-use Rattle.pair_rules.proofs.Definitions.{Message, Refused, Configuration, FrameValue, Happening, whole, wants_of, PairState, after_steps, first_pair, turned, in_flight, may_follow, may_open_at, is_sccp}
-use Rattle.signalling_types.specs.declared.cause.Cause.TheVariants as causes
+use Rattle.pair_rules.proofs.Basics.{ℕ, Bool, true, false, List, [], ◌∷◌, Option, Some, None, slice_get}
+use Rattle.pair_rules.proofs.Definitions.{Message, Configuration, FrameValue, Happening, whole, wants_of, PairState, after_steps, first_pair, turned, in_flight, may_follow, may_open_at}
 use Rattle.settings.specs.Well.{IsWell}
 use Rattle.exchange_rules.specs.declared.wants.Wants.{Wants}
 use Rattle.exchange_rules.specs.declared.wants.Wants.TheVariants as wants
@@ -37,10 +36,8 @@ taken-timed link a t = record { places = places-stay (Takes link ∷ []) a t.pla
 
 -- ---- each step
 
-submit-timed : (sccp : Bool) (m : Message) (p : PairState) → BothTimed p
-    → BothTimed (if sccp then record { outcome = Refused causes.NotInProfile; left = p } else pairs.handed_over m p).left
-submit-timed true m p t = t
-submit-timed false m p t = record { near = happened-timed (happening.Submitted m) p.near.exchange t.near; far = t.far }
+submit-timed : (m : Message) (p : PairState) → BothTimed p → BothTimed (pairs.submit m p).left
+submit-timed m p t = record { near = happened-timed (happening.Submitted m) p.near.exchange t.near; far = t.far }
 
 take-timed : (frame : Option FrameValue) (link : ℕ) (p : PairState) → BothTimed p → BothTimed (pairs.take_frame frame link p).left
 take-timed None link p t = t
@@ -70,7 +67,7 @@ happens-timed : (what : Happening) (p : PairState) → BothTimed p → BothTimed
 happens-timed what p t = record { near = happened-timed what p.near.exchange t.near; far = t.far }
 
 did-timed : (what : Doing) (p : PairState) → BothTimed p → BothTimed (did what p).left
-did-timed (pairs.Submits m) p t = submit-timed (is_sccp m) m p t
+did-timed (pairs.Submits m) p t = submit-timed m p t
 did-timed (pairs.Takes link) p t = take-timed (frame_to_take whole p.near.exchange link) link p t
 did-timed (pairs.Delivers link) p t = deliver-timed (slice_get (in_flight p.near.incoming.user_data link) 0) link (pairs.without_data link p.near.incoming) p t
 did-timed (pairs.DeliversStatus link) p t = deliver-timed (slice_get (in_flight p.near.incoming.statuses link) 0) link (pairs.without_status link p.near.incoming) p t

@@ -127,6 +127,7 @@ module _ (near far : Configuration) (near_well : IsWell near) (far_well : IsWell
     heard = code-means far near (facing-turned near far f) near_well;
     many = sym (links-alike near far f);
     adjacent = set-found near far.own f.near_leads near_well;
+    network = f.network;
   }
 
 pub joined : (near far : Configuration) → IsWell near → IsWell far → IsFacing near far → IsJoined near far

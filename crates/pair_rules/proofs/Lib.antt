@@ -6,6 +6,8 @@ pub mod Alone
 pub mod Good
 pub mod Lines
 pub mod Messages
+pub mod Written
+pub mod Bringing
 pub mod Routes
 pub mod Falling
 pub mod Failures
@@ -41,7 +43,11 @@ pub mod MadeWords
 pub mod FourLaws
 pub mod Awaited
 pub mod HeldFlows
+pub mod Arrivals
+pub mod OtherCauses
 pub mod Outcomes
+pub mod Behind
+pub mod Counted
 pub mod Accepted
 pub mod RunSettings
 pub mod OneEndFirst

@@ -1,9 +1,9 @@
 -- A link opens at one end: by one move.
 use Rattle.pair_rules.proofs.Basics.{◌≡◌, ◌≢◌, ◌<◌, ◌&&◌, ℕ, Bool, true, false, not, List, [], length, map, Option, refl, ap, sym, subst, ◌∙◌, nat_lt, arith, if◌then◌else◌, ⊎_elim, and_parts, cases_eq, nat_tests}
-use Rattle.pair_rules.proofs.Definitions.{Flow, Handled, Configuration, FrameValue, Queue, first_queue, Standing, may_restart, Alignment, Link, down_link, is_down, is_in_service, opened, serving_alike, Facts, Nothing, Open, Close, Node, Parts, Done, answer, down, is_link, link_at, WholeQueues, queue_at, whole, changeover_of, association_up, may_open, open_link, wanted, wanted_down, facts, sets_in, Fits, fit-steps, each-set, LinkEnd, Line, Pair, BecomeAt, MayOpen, opened_end}
+use Rattle.pair_rules.proofs.Definitions.{Flow, Handled, Configuration, FrameValue, Queue, first_queue, Standing, may_restart, Alignment, Link, down_link, is_down, is_in_service, opened, serving_alike, Facts, Nothing, Open, Close, Node, Parts, Done, answer, down, is_link, link_at, WholeQueues, queue_at, whole, changeover_of, association_up, may_open, open_link, wanted, wanted_down, facts, sets_in, Fits, fit-steps, each-set, LinkEnd, Line, MayOpen, opened_end}
 use Rattle.pair_rules.proofs.Deliveries.{serving-up}
 use Rattle.pair_moves.specs.Moves as moves
-use Rattle.pair_rules.proofs.World.{Flying, Mid, World, says_of, shown, shown_by, route_of, line_of, end_of, frame_of}
+use Rattle.pair_rules.proofs.World.{Flying, World, says_of, shown, shown_by, route_of, line_of, end_of, frame_of}
 use Rattle.pair_rules.proofs.Good.{AreFlying, Each, IsBetween, IsSilent, Good}
 use Rattle.pair_rules.proofs.Going.{Goes, goes-one}
 use Rattle.pair_rules.proofs.Lines.{end-by, end_by, link-here, link-other, queue-here, queue-other}

@@ -1,17 +1,23 @@
--- What a frame that is handed in comes to tells what it brought.
-use Rattle.pair_rules.proofs.Basics.{◌≡◌, ◌≢◌, ◌&&◌, ℕ, Bool, true, false, not, List, [], ◌∷◌, ◌++◌, zero, suc, length, Option, Some, None, Result, Ok, Err, refl, ap, sym, subst, ◌∙◌, if◌then◌else◌, drop, option_to_list, slice_get}
-use Rattle.pair_rules.proofs.Definitions.{Message, service_indicator, Outcome, Handled, Ignored, Local, Refused, Queued, Held, Configuration, FrameValue, EmptyFrame, MessageFrame, StatusFrame, read_frame, Discrimination, Management, Action, UserData, action_at, SeqFault, is_outstanding, set_place, Node, Done, answer, refuse, FrameCame, down, is_link, link_at, WholeQueues, whole, changeover_of, on_changeover_acknowledgement, on_changeback_acknowledgement, Carrying, accept, act_by_data, carry, data_of, empty_data, handle_by, message_data, numbers, read, receive, receive_frame, distribute, do_order, do_acknowledgement, is_user, link_with_code, local, manage, on_management, sccp, deliver, deliver_to, whither_goes, on_unitdata, is_idle, new_at, new_by, new_in, new_message, new_of, advance, outcome_of, PairState, Streams, Delivers, DeliversStatus, after_steps, deliver_frame, first_pair, for_users, in_flight, is_sccp, turned, without_data, without_status}
+-- What a frame that is handed in comes to tells what it brought, and what was accepted of that.
+use Rattle.pair_rules.proofs.Basics.{◌≡◌, ◌≢◌, inl, inr, ℕ, Bool, true, false, List, [], ◌∷◌, ◌++◌, length, Option, Some, None, Ok, refl, ap, sym, subst, ◌∙◌, nat_eq, not, ◌⊎◌, if◌then◌else◌, drop, option_to_list, slice_get}
+use Rattle.pair_rules.proofs.Definitions.{Message, is_management, service_indicator, Cause, Outcome, Handled, Ignored, Local, Refused, Queued, Held, Configuration, TitleEntry, FrameValue, read_frame, Discrimination, Management, is_outstanding, set_place, Node, Done, answer, refuse, FrameCame, WholeQueues, whole, changeover_of, on_changeback_acknowledgement, accept_text, answered_in, brought_by, brought_here, brought_in, brought_to, taken_in, unitdata_in, distribute, do_order, do_acknowledgement, is_user, local, manage, on_management, sccp, deliver, deliver_to, whither_goes, on_unitdata, is_idle, new_message, outcome_of, receive, users_of, PairState, Streams, Delivers, DeliversStatus, after_steps, deliver_frame, first_pair, in_flight, turned, without_data, without_status}
 use Rattle.signalling_types.specs.declared.cause.Cause.TheVariants as causes
-use Rattle.signalling_types.specs.declared.notice.FrameFault.{FrameFault}
-use Rattle.link.specs.declared.action.Action.TheVariants as act
+use Rattle.sccp_relay.specs.Relay as relays
+use Rattle.sccp_relay.specs.Return.{returned}
+use Rattle.exchange_rules.specs.Arrival.{transfer}
+use Rattle.exchange_rules.specs.Conserving.{relayed_in, returned_in}
+use Rattle.exchange_rules.specs.Relaying.{in_place_of, own_of, relay_by}
 use Rattle.exchange_rules.specs.Sound.{Abstract}
 use Rattle.exchange_rules.proofs.Received.{nothing-delivered}
 use Rattle.exchange_rules.specs.Laws.{carried_message}
 use Rattle.exchange_rules.proofs.CarriedMessages.{new-carried}
-use Rattle.pair_rules.specs.Deliveries.{ComesTo, Tells, deliveries_tell}
+use Rattle.pair_rules.specs.Deliveries.{ComesOf, ComesTo, GoesOn, IsQuiet, IsRefused, IsRelayed, IsReturnedAtMost, Tells, deliveries_tell}
+use Rattle.pair_rules.proofs.OtherCauses.{is_other, is_relay_other, is_way_on, other-cause, relay-other, transfer-other}
 use Rattle.pair_rules.proofs.Good.{Each, IsBetween, IsFlying, IsTelling, IsJoined, IsSaid, IsWord}
 use Rattle.pair_rules.proofs.Good as good
-use Rattle.pair_rules.proofs.Frames.{for-users, word-left}
+use Rattle.pair_rules.proofs.Bringing.{is-no-sccp}
+use Rattle.pair_rules.proofs.Frames.{users-of, word-left}
+use Rattle.pair_rules.proofs.Arrivals.{accepted-titles, received-as}
 use Rattle.pair_rules.proofs.Flights.{IsFirst, first-frame, flies-back, tells-back}
 use Rattle.pair_rules.proofs.CarriedTexts.{tells-none}
 use Rattle.pair_rules.proofs.Standing.{Stands}
@@ -19,18 +25,21 @@ use Rattle.pair_rules.proofs.Steps.{outcome-same}
 use Rattle.pair_rules.proofs.AllSteps.{AreFacing, facing-back, stands-turned}
 use Rattle.pair_rules.proofs.Promised.{all-stand, are-facing}
 
--- neither of the two
-abbrev Quiet : Outcome → Type 0
-Quiet outcome = (outcome ≢ Local) × (outcome ≢ Refused causes.NoUserPart)
+-- what tells of no message
+record Quiet (outcome : Outcome) : Type 0 where
+  pub local : outcome ≢ Local
+  pub no_user_part : outcome ≢ Refused causes.NoUserPart
+  pub queued : (link : ℕ) → outcome ≢ Queued link
+  pub held : outcome ≢ Held
 
 handled : Quiet Handled
-handled = (λ e. absurd cc, λ e. absurd cc)
+handled = record { local = λ e. absurd cc; no_user_part = λ e. absurd cc; queued = λ link e. absurd cc; held = λ e. absurd cc }
 
 ignored : Quiet Ignored
-ignored = (λ e. absurd cc, λ e. absurd cc)
+ignored = record { local = λ e. absurd cc; no_user_part = λ e. absurd cc; queued = λ link e. absurd cc; held = λ e. absurd cc }
 
 refused-management : Quiet (Refused causes.BadManagement)
-refused-management = (λ e. absurd cc, λ e. absurd cc)
+refused-management = record { local = λ e. absurd cc; no_user_part = λ e. absurd cc; queued = λ link e. absurd cc; held = λ e. absurd cc }
 
 idle-quiet : (o : Outcome) → is_idle o ≡ true → Quiet o
 idle-quiet Handled e = handled
@@ -38,7 +47,15 @@ idle-quiet Ignored e = ignored
 idle-quiet Local e = absurd cc
 idle-quiet Held e = absurd cc
 idle-quiet (Queued link) e = absurd cc
-idle-quiet (Refused cause) e = (λ f. absurd cc, λ f. let no : is_idle (Refused causes.NoUserPart) ≡ true = ap is_idle (sym f) ∙ e in absurd cc)
+idle-quiet (Refused cause) e = record {
+  local = λ f. absurd cc;
+  no_user_part = λ f. let no : is_idle (Refused causes.NoUserPart) ≡ true = ap is_idle (sym f) ∙ e in absurd cc;
+  queued = λ link f. absurd cc;
+  held = λ f. absurd cc;
+}
+
+accepts-nothing : (o : Outcome) (ms : List Message) → Quiet o → ms ≡ [] → IsQuiet o ms
+accepts-nothing o ms q e = record { local = q.local; no_user_part = q.no_user_part; queued = q.queued; held = q.held; nothing = e }
 
 -- ---- a message
 
@@ -70,62 +87,119 @@ module _ (c z : Configuration) (j : IsJoined c z) (link : ℕ) where
   parted true n = refl
   parted false n = refl
 
-  said-tells : (m : Message) (n : Node WholeQueues) → IsSaid z m → ComesTo c (for_users (m ∷ [])) (distribute whole c link m n).outcome
-  said-tells m n (good.is_user user part) =
-      let here : (distribute whole c link m n).outcome ≡ (if is_user c (service_indicator m) then answer Local n else refuse causes.NoUserPart n).outcome =
-      ap (λ (b : Bool). (if b then manage whole c link m n else local whole c m n).outcome) user
-      ∙ ap (λ (b : Bool). (if b then on_unitdata whole c m n else if is_user c (service_indicator m) then answer Local n else refuse causes.NoUserPart n).outcome)
-      part in
-      let ms : for_users (m ∷ []) ≡ m ∷ [] = for-users m false false user part in
-      subst (λ (xs : List Message). ComesTo c xs (distribute whole c link m n).outcome) (sym ms) (here ∙ parted (is_user c (service_indicator m)) n)
-  said-tells m n (good.is_word e si from word f is) =
-      let here : (distribute whole c link m n).outcome ≡ (on_management whole c word z.own n).outcome =
-      ap (λ (d : Done WholeQueues). d.outcome) (word-left c z j link m n word e si from f) in
-      let ms : for_users (m ∷ []) ≡ [] = for-users m true (is_sccp m) e refl in
-      subst (λ (xs : List Message). ComesTo c xs (distribute whole c link m n).outcome) (sym ms) (subst Quiet (sym here) (word-quiet word is n))
+  module _ (m : Message) (n : Node WholeQueues) where
+    abbrev rows : List TitleEntry
+    rows = n.parts.titles
 
-  deliver-tells : (m : Message) → IsBetween z c m → (n : Node WholeQueues) → ComesTo c (for_users (m ∷ [])) (deliver whole c link m n).outcome
+    taken-at-most : (o : Outcome) (m : Message) → (taken_in o m ≡ []) ⊎ (taken_in o m ≡ m ∷ [])
+    taken-at-most (Queued link) m = inr refl
+    taken-at-most Held m = inr refl
+    taken-at-most Local m = inl refl
+    taken-at-most Handled m = inl refl
+    taken-at-most Ignored m = inl refl
+    taken-at-most (Refused cause) m = inl refl
+
+    returned-at-most : (udts : Option (List ℕ)) → IsReturnedAtMost udts m (returned_in udts c m n)
+    returned-at-most (Some sif) = taken-at-most (transfer whole c None (in_place_of m sif) n).outcome (in_place_of m sif)
+    returned-at-most None = refl
+
+    refused-for : (cause : Cause) → is_other cause ≡ true → IsRefused c rows cause m (answered_in (Refused cause) c m n)
+    refused-for cause e = record { other = other-cause cause e; returned = returned-at-most (returned (own_of c) rows m.sif cause) }
+
+    goes-on : (sif : List ℕ) (o : Outcome) → is_way_on o ≡ true → GoesOn sif c rows m o (taken_in o (in_place_of m sif) ++ answered_in o c m n)
+    goes-on sif (Queued link) e = refl
+    goes-on sif Held e = refl
+    goes-on sif (Refused cause) e = refused-for cause e
+    goes-on sif Local e = absurd cc
+    goes-on sif Handled e = absurd cc
+    goes-on sif Ignored e = absurd cc
+
+    is-relayed : (v : relays.RelayedValue) → is_relay_other v ≡ true
+        → IsRelayed v c rows m (relay_by whole c v m n).outcome (relayed_in v (relay_by whole c v m n).outcome m ++ answered_in (relay_by whole c v m n).outcome c m n)
+    is-relayed relays.Delivered e = (refl, refl)
+    is-relayed (relays.Onward sif) e = goes-on sif (transfer whole c None (in_place_of m sif) n).outcome (transfer-other c (in_place_of m sif) n)
+    is-relayed (relays.Refused cause) e = (refl, refused-for cause e)
+
+    comes-of : (is_sccp : Bool)
+        → ComesOf is_sccp c rows m (if is_sccp then on_unitdata whole c m n else if is_user c (service_indicator m) then answer Local n else refuse causes.NoUserPart n).outcome
+        (if is_sccp then unitdata_in (if is_sccp then on_unitdata whole c m n else if is_user c (service_indicator m) then answer Local n else refuse causes.NoUserPart n).outcome c m n else [])
+    comes-of true = is-relayed (relays.relay (own_of c) rows m.sif) (relay-other (own_of c) rows m.sif)
+    comes-of false = (parted (is_user c (service_indicator m)) n, refl)
+
+    user-tells : (b : Bool) → is_management m ≡ b → b ≡ false
+        → ComesTo c rows (if not b then m ∷ [] else []) (brought_here (if b then manage whole c link m n else local whole c m n).outcome c m n) (if b then manage whole c link m n else local whole c m n).outcome
+    user-tells true e f = absurd cc
+    user-tells false e f = comes-of (nat_eq (service_indicator m) sccp)
+
+    said-tells : IsSaid z m → ComesTo c rows (users_of (m ∷ [])) (brought_here (distribute whole c link m n).outcome c m n) (distribute whole c link m n).outcome
+    said-tells (good.is_user user) = user-tells (is_management m) refl user
+    said-tells (good.is_word e si from word f is) =
+        let here : (distribute whole c link m n).outcome ≡ (on_management whole c word z.own n).outcome =
+        ap (λ (d : Done WholeQueues). d.outcome) (word-left c z j link m n word e si from f) in
+        let ks : brought_here (distribute whole c link m n).outcome c m n ≡ [] =
+        ap (λ (b : Bool). if b then unitdata_in (distribute whole c link m n).outcome c m n else []) (is-no-sccp m e) in
+        subst (λ (xs : List Message). ComesTo c rows xs (brought_here (distribute whole c link m n).outcome c m n) (distribute whole c link m n).outcome) (sym (users-of m true e))
+        (accepts-nothing (distribute whole c link m n).outcome (brought_here (distribute whole c link m n).outcome c m n) (subst Quiet (sym here) (word-quiet word is n)) ks)
+
+  deliver-tells : (m : Message) → IsBetween z c m → (n : Node WholeQueues)
+      → ComesTo c n.parts.titles (users_of (m ∷ [])) (brought_to (whither_goes c m) (deliver whole c link m n).outcome c m n) (deliver whole c link m n).outcome
   deliver-tells m b n =
-      subst (λ (x : Discrimination). ComesTo c (for_users (m ∷ [])) (deliver_to whole c x link m n).outcome) (sym b.here) (said-tells m n b.said)
-
-  -- ---- a frame that newly carries one
-
-  module _ (m : Message) (P : Outcome → Type 0) (delivers : (n : Node WholeQueues) → P (deliver whole c link m n).outcome) where
-    handled-as : (r : Result ℕ SeqFault) (d : Carrying) (n : Node WholeQueues) → new_by r d ≡ Some m → P (handle_by whole c r link d n).outcome
-    handled-as (Ok confirmed) d n e =
-        subst (λ (o : Option Message). P (carry whole c link o (accept whole c link d confirmed n)).outcome) (sym e) (delivers (accept whole c link d confirmed n))
-    handled-as (Err fault) d n e = absurd cc
-
-    acted-as : (a : Action) (d : Carrying) (n : Node WholeQueues) → new_at a link d c n ≡ Some m → P (act_by_data whole c a link d n).outcome
-    acted-as act.Ignored d n e = absurd cc
-    acted-as act.Fail d n e = absurd cc
-    acted-as (act.Go step) d n e =
-        handled-as (numbers whole c link d (advance whole c link step n)) d (advance whole c link step n) e
-
-    framed-as : (frame : FrameValue) (n : Node WholeQueues) → new_in (data_of frame) link c n ≡ Some m → P (receive_frame whole c link frame n).outcome
-    framed-as (EmptyFrame bsn fsn) n e = acted-as (action_at (link_at n.parts link).alignment UserData) (empty_data bsn fsn) n e
-    framed-as (MessageFrame bsn fsn sio sif) n e = acted-as (action_at (link_at n.parts link).alignment UserData) (message_data bsn fsn sio sif) n e
-    framed-as (StatusFrame bsn fsn status) n e = absurd cc
-
-    read-as : (r : Result FrameValue FrameFault) (n : Node WholeQueues) → new_of r link c n ≡ Some m → P (read whole c link r n).outcome
-    read-as (Ok frame) n e = framed-as frame n e
-    read-as (Err fault) n e = absurd cc
-
-    received-by : (l b : Bool) (r : Result FrameValue FrameFault) (n : Node WholeQueues) → (if l && not b then new_of r link c n else None) ≡ Some m
-        → P (if l then (if b then answer Ignored n else read whole c link r n) else refuse causes.NoSuchName n).outcome
-    received-by true true r n e = absurd cc
-    received-by true false r n e = read-as r n e
-    received-by false b r n e = absurd cc
-
-    received-as : (text : List ℕ) (n : Node WholeQueues) → new_message link text (record { settings = c; node = n }) ≡ Some m → P (receive whole c link text n).outcome
-    received-as text n e = received-by (is_link n.parts link) (down n.parts link) (read_frame text) n e
+      subst (λ (x : Discrimination). ComesTo c n.parts.titles (users_of (m ∷ [])) (brought_to x (deliver_to whole c x link m n).outcome c m n) (deliver_to whole c x link m n).outcome)
+      (sym b.here) (said-tells m n b.said)
 
   -- it is the message in the frame
   same-carried : (frame : FrameValue) (m : Message) → IsFlying z c frame → carried_message (Ok frame) ≡ Some m → IsBetween z c m
   same-carried _ m (good.empty bsn fsn s) e = absurd cc
   same-carried _ m (good.carrying bsn fsn sio sif s b) e = subst (IsBetween z c) (let same : record { sio = sio; sif = sif } ≡ m = cc in same) b
 
--- ---- what was received before is dropped
+  -- ---- a frame
+
+  module _ (n : Node WholeQueues) (text : List ℕ) where
+    abbrev there : Abstract
+    there = record { settings = c; node = n }
+
+    pub came-between : (frame : FrameValue) (m : Message) → read_frame text ≡ Ok frame → IsFlying z c frame → new_message link text there ≡ Some m → IsBetween z c m
+    came-between frame m reads flying e = same-carried frame m flying (ap carried_message (sym reads) ∙ new-carried link text there m e)
+
+    -- a link status brings none
+    pub status-none : {A : Type 0} (frame : FrameValue) (m : Message) → read_frame text ≡ Ok frame → IsTelling frame → new_message link text there ≡ Some m → A
+    status-none frame m reads says e =
+        (let no : None ≡ Some m = sym (tells-none frame says) ∙ ap carried_message (sym reads) ∙ new-carried link text there m e in absurd cc)
+
+    -- what it newly carries, and what that came to
+    abbrev Came : Option Message → Type 0
+    Came o =
+        ComesTo c n.parts.titles (users_of (option_to_list o)) (brought_by o (outcome_of whole (FrameCame link text) there) c (accept_text link (read_frame text) there))
+        (outcome_of whole (FrameCame link text) there)
+
+    none-came : new_message link text there ≡ None → Came None
+    none-came e = accepts-nothing (outcome_of whole (FrameCame link text) there) [] (idle-quiet (outcome_of whole (FrameCame link text) there) (nothing-delivered there link text e)) refl
+
+    data-came : (frame : FrameValue) → read_frame text ≡ Ok frame → IsFlying z c frame → (o : Option Message) → new_message link text there ≡ o → Came o
+    data-came frame reads flying None e = none-came e
+    data-came frame reads flying (Some m) e =
+        let left : Node WholeQueues = accept_text link (read_frame text) there in
+        subst (λ (o : Outcome). ComesTo c n.parts.titles (users_of (m ∷ [])) (brought_by (Some m) o c left) o) (sym (outcome-same c (FrameCame link text) n))
+        (subst (λ (rows : List TitleEntry). ComesTo c rows (users_of (m ∷ [])) (brought_by (Some m) (receive whole c link text n).outcome c left) (receive whole c link text n).outcome)
+        (accepted-titles c link (read_frame text) n)
+        (received-as c link m (λ o x. ComesTo c x.parts.titles (users_of (m ∷ [])) (brought_to (whither_goes c m) o c m x) o) (deliver-tells m (came-between frame m reads flying e)) text n e))
+
+    status-came : (frame : FrameValue) → read_frame text ≡ Ok frame → IsTelling frame → (o : Option Message) → new_message link text there ≡ o → Came o
+    status-came frame reads says None e = none-came e
+    status-came frame reads says (Some m) e = status-none frame m reads says e
+
+-- the next frame in flight, by what it reads as
+pub record IsNext (z c : Configuration) (text : List ℕ) : Type 0 where
+  pub frame : FrameValue
+  pub reads : read_frame text ≡ Ok frame
+  pub flying : IsFlying z c frame
+
+pub record IsNextStatus (text : List ℕ) : Type 0 where
+  pub frame : FrameValue
+  pub reads : read_frame text ≡ Ok frame
+  pub telling : IsTelling frame
+
+-- ---- what was there before is dropped
 
 drop-before : (xs ys : List Message) → drop (length xs) (xs ++ ys) ≡ ys
 drop-before [] ys = refl
@@ -139,65 +213,69 @@ module _ (c z : Configuration) (f : AreFacing c z) (p : PairState) (s : Stands c
   abbrev a : Abstract
   a = p.near.exchange
 
-  frame-tells : (text : List ℕ) (frame : FrameValue) → read_frame text ≡ Ok frame → IsFlying z c frame → (o : Option Message) → new_message link text a ≡ o
-      → ComesTo c (for_users (option_to_list o)) (outcome_of whole (FrameCame link text) a)
-  frame-tells text frame reads flying None e = idle-quiet (outcome_of whole (FrameCame link text) a) (nothing-delivered a link text e)
-  frame-tells text frame reads flying (Some m) e =
-      let known : a ≡ record { settings = c; node = a.node } = ap (λ (x : Configuration). record { settings = x; node = a.node }) s.near_settings in
-      let b : IsBetween z c m =
-      same-carried c z f.near_joined link frame m flying (ap carried_message (sym reads) ∙ new-carried link text a m e) in
-      subst (λ (x : Abstract). ComesTo c (for_users (m ∷ [])) (outcome_of whole (FrameCame link text) x)) (sym known)
-      (subst (ComesTo c (for_users (m ∷ []))) (sym (outcome-same c (FrameCame link text) a.node))
-      (received-as c z f.near_joined link m (ComesTo c (for_users (m ∷ []))) (deliver-tells c z f.near_joined link m b) text a.node
-      (ap (new_message link text) (sym known) ∙ e)))
-
-  -- a link status brings none
-  status-tells : (text : List ℕ) (frame : FrameValue) → read_frame text ≡ Ok frame → IsTelling frame → (o : Option Message) → new_message link text a ≡ o
-      → ComesTo c (for_users (option_to_list o)) (outcome_of whole (FrameCame link text) a)
-  status-tells text frame reads says None e = idle-quiet (outcome_of whole (FrameCame link text) a) (nothing-delivered a link text e)
-  status-tells text frame reads says (Some m) e =
-      (let no : None ≡ Some m = sym (tells-none frame says) ∙ ap carried_message (sym reads) ∙ new-carried link text a m e in absurd cc)
+  -- what was received and accepted by something that came to this
+  abbrev TellsAt : Configuration → (received accepted : List Message) → Outcome → Type 0
+  TellsAt x received accepted outcome = ComesTo x a.node.parts.titles (drop (length p.near.received) received) (drop (length p.near.accepted) accepted) outcome
 
   -- whichever frame comes, and what it leaves in flight
-  came-tells : (text : List ℕ) (left : Streams) → ComesTo c (for_users (option_to_list (new_message link text a))) (outcome_of whole (FrameCame link text) a)
-      → ComesTo p.near.exchange.settings (drop (length p.near.received) (deliver_frame (Some text) link left p).left.near.received) (deliver_frame (Some text) link left p).outcome
-  came-tells text left h =
-      subst (λ (x : Configuration). ComesTo x (drop (length p.near.received) (deliver_frame (Some text) link left p).left.near.received) (deliver_frame (Some text) link left p).outcome) (sym s.near_settings)
-      (subst (λ (ms : List Message). ComesTo c ms (outcome_of whole (FrameCame link text) a))
-      (sym (drop-before p.near.received (for_users (option_to_list (new_message link text a))))) h)
+  came-tells : (text : List ℕ) → Came c z f.near_joined link a.node text (new_message link text (record { settings = c; node = a.node }))
+      → TellsAt a.settings (p.near.received ++ users_of (option_to_list (new_message link text a))) (p.near.accepted ++ brought_in (FrameCame link text) a) (outcome_of whole (FrameCame link text) a)
+  came-tells text h =
+      subst (λ (x : Configuration).
+      let b : Abstract = record { settings = x; node = a.node } in
+      TellsAt x (p.near.received ++ users_of (option_to_list (new_message link text b))) (p.near.accepted ++ brought_in (FrameCame link text) b) (outcome_of whole (FrameCame link text) b))
+      (sym s.near_settings)
+      (let b : Abstract = record { settings = c; node = a.node } in
+      let ms : List Message = users_of (option_to_list (new_message link text b)) in
+      let ks : List Message = brought_in (FrameCame link text) b in
+      subst (λ (xs : List Message). ComesTo c a.node.parts.titles xs (drop (length p.near.accepted) (p.near.accepted ++ ks)) (outcome_of whole (FrameCame link text) b)) (sym (drop-before p.near.received ms))
+      (subst (λ (xs : List Message). ComesTo c a.node.parts.titles ms xs (outcome_of whole (FrameCame link text) b)) (sym (drop-before p.near.accepted ks)) h))
 
-  none-tells : ComesTo p.near.exchange.settings (drop (length p.near.received) p.near.received) Ignored
-  none-tells = subst (λ (ms : List Message). ComesTo p.near.exchange.settings ms Ignored) (sym (drop-all p.near.received)) ignored
+  none-tells : TellsAt a.settings p.near.received p.near.accepted Ignored
+  none-tells =
+      subst (λ (xs : List Message). ComesTo a.settings a.node.parts.titles xs (drop (length p.near.accepted) p.near.accepted) Ignored) (sym (drop-all p.near.received))
+      (accepts-nothing Ignored (drop (length p.near.accepted) p.near.accepted) ignored (drop-all p.near.accepted))
 
-  abbrev data_left : Streams
-  data_left = without_data link p.near.incoming
+  -- the User Data that comes flies
+  pub next-flies : (text : List ℕ) → slice_get (in_flight p.near.incoming.user_data link) 0 ≡ Some text → IsNext z c text
+  next-flies text e =
+      let first : IsFirst (s.to_near.user_data link) (in_flight p.near.incoming.user_data link) text =
+      first-frame (s.to_near.user_data link) (in_flight p.near.incoming.user_data link) text (s.near_texts.user_data.each link) e in
+      let flying : IsFlying z c first.frame = (subst (Each (IsFlying z c)) first.first (s.near_good.coming.user_data link)).0 in
+      record { frame = first.frame; reads = ap read_frame first.spells ∙ flies-back z c first.frame flying; flying = flying }
 
-  abbrev statuses_left : Streams
-  statuses_left = without_status link p.near.incoming
+  pub next-tells : (text : List ℕ) → slice_get (in_flight p.near.incoming.statuses link) 0 ≡ Some text → IsNextStatus text
+  next-tells text e =
+      let first : IsFirst (s.to_near.statuses link) (in_flight p.near.incoming.statuses link) text =
+      first-frame (s.to_near.statuses link) (in_flight p.near.incoming.statuses link) text (s.near_texts.statuses.each link) e in
+      let telling : IsTelling first.frame = (subst (Each IsTelling) first.first (s.near_good.coming.statuses link)).0 in
+      record { frame = first.frame; reads = ap read_frame first.spells ∙ tells-back first.frame telling; telling = telling }
 
   pub delivery-tells : Tells (Delivers link) p
   delivery-tells = by (slice_get (in_flight p.near.incoming.user_data link) 0) refl
     where
+      left : Streams
+      left = without_data link p.near.incoming
+
       by : (o : Option (List ℕ)) → slice_get (in_flight p.near.incoming.user_data link) 0 ≡ o
-          → ComesTo p.near.exchange.settings (drop (length p.near.received) (deliver_frame o link data_left p).left.near.received) (deliver_frame o link data_left p).outcome
+          → TellsAt a.settings (deliver_frame o link left p).left.near.received (deliver_frame o link left p).left.near.accepted (deliver_frame o link left p).outcome
       by None e = none-tells
       by (Some text) e =
-          let first : IsFirst (s.to_near.user_data link) (in_flight p.near.incoming.user_data link) text =
-          first-frame (s.to_near.user_data link) (in_flight p.near.incoming.user_data link) text (s.near_texts.user_data.each link) e in
-          let flying : IsFlying z c first.frame = (subst (Each (IsFlying z c)) first.first (s.near_good.coming.user_data link)).0 in
-          came-tells text data_left (frame-tells text first.frame (ap read_frame first.spells ∙ flies-back z c first.frame flying) flying (new_message link text a) refl)
+          let next : IsNext z c text = next-flies text e in
+          came-tells text (data-came c z f.near_joined link a.node text next.frame next.reads next.flying (new_message link text (record { settings = c; node = a.node })) refl)
 
   pub status_delivery-tells : Tells (DeliversStatus link) p
   status_delivery-tells = by (slice_get (in_flight p.near.incoming.statuses link) 0) refl
     where
+      left : Streams
+      left = without_status link p.near.incoming
+
       by : (o : Option (List ℕ)) → slice_get (in_flight p.near.incoming.statuses link) 0 ≡ o
-          → ComesTo p.near.exchange.settings (drop (length p.near.received) (deliver_frame o link statuses_left p).left.near.received) (deliver_frame o link statuses_left p).outcome
+          → TellsAt a.settings (deliver_frame o link left p).left.near.received (deliver_frame o link left p).left.near.accepted (deliver_frame o link left p).outcome
       by None e = none-tells
       by (Some text) e =
-          let first : IsFirst (s.to_near.statuses link) (in_flight p.near.incoming.statuses link) text =
-          first-frame (s.to_near.statuses link) (in_flight p.near.incoming.statuses link) text (s.near_texts.statuses.each link) e in
-          let telling : IsTelling first.frame = (subst (Each IsTelling) first.first (s.near_good.coming.statuses link)).0 in
-          came-tells text statuses_left (status-tells text first.frame (ap read_frame first.spells ∙ tells-back first.frame telling) telling (new_message link text a) refl)
+          let next : IsNextStatus text = next-tells text e in
+          came-tells text (status-came c z f.near_joined link a.node text next.frame next.reads next.telling (new_message link text (record { settings = c; node = a.node })) refl)
 
 pub tells : deliveries_tell
 tells near far steps g =

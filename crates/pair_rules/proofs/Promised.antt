@@ -178,7 +178,7 @@ joined-turned near far g = record { near_well = g.far_well; far_well = g.near_we
 no-texts : (c : Configuration) → AreTexts c (replicate (length c.links) []) (λ link. [])
 no-texts c = record { many = length-replicate (length c.links) []; each = λ link. each-replicate (λ (ts : List (List ℕ)). ts ≡ []) (length c.links) link [] refl }
 
-first-stands : (near far : Configuration) (g : AreJoined near far) → Stands near far (first_pair near far)
+pub first-stands : (near far : Configuration) (g : AreJoined near far) → Stands near far (first_pair near far)
 first-stands near far g = record {
   near_settings = refl;
   far_settings = refl;

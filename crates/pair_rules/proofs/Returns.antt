@@ -1,5 +1,5 @@
 -- A link takes a step of its alignment, and where it enters service it takes its flows back from one link after another: by moves.
-use Rattle.pair_rules.proofs.Basics.{◌≡◌, ◌≢◌, ◌⊎◌, inl, inr, ◌<◌, ◌&&◌, ℕ, zero, suc, Bool, true, false, not, List, [], ◌∷◌, length, map, Option, refl, ap, sym, subst, ◌∙◌, ⊎_elim, fun_ext, and_parts, cases_eq}
+use Rattle.pair_rules.proofs.Basics.{◌≡◌, ◌≢◌, ◌⊎◌, inl, inr, ◌<◌, ◌&&◌, ℕ, zero, suc, Bool, true, false, not, List, [], length, Option, refl, ap, sym, subst, ◌∙◌, ⊎_elim, fun_ext, and_parts, cases_eq}
 use Rattle.pair_rules.proofs.Definitions.{Message, Flow, Configuration, Input, action_at, Running, Link, down_link, is_down, is_in_service, stepped, FrameValue, each-set, facts_alike, ToldTable, Route, Facts, Node, Parts, with_parts, down, in_service, link_at, WholeQueues, whole, has_other, facts, network_of, change_back, loses_flows, take_back_each, advance, begun_anew_if, enters, return_if, step_on, StaysFit, fit-steps, each-step, anew-steps, stepped-at, stepped-other, stepping-there, IsAlike, take_back_each-alike, LinkEnd}
 use Rattle.link.specs.declared.action.Action.TheVariants.{Go}
 use Rattle.link.specs.declared.action.Transition.{Transition}
@@ -7,7 +7,7 @@ use Rattle.exchange_rules.proofs.Entering.{known_links}
 use Rattle.exchange_rules.proofs.Rules.{rules-of}
 use Rattle.pair_moves.specs.Moves as moves
 use Rattle.pair_rules.proofs.Alone.{StaysAlone, alone-steps}
-use Rattle.pair_rules.proofs.World.{World, heard, is_heard, says_of, shown, shown_by, route_of, line_of, end_of, frame_of}
+use Rattle.pair_rules.proofs.World.{World, heard, is_heard, says_of, shown, shown_by, route_of, line_of, end_of}
 use Rattle.pair_rules.proofs.Good.{IsSilent, IsJoined, Good, Passes, at}
 use Rattle.pair_rules.proofs.Going.{Goes, goes-both, goes-none, goes-one, goes-same}
 use Rattle.pair_rules.proofs.Lines.{becomes}

@@ -1,6 +1,6 @@
 -- The links of flows, once a link is down: a flow on another link stays there.
 use Rattle.pair_rules.proofs.Basics.{◌≡◌, ◌≢◌, ◌<◌, ◌&&◌, ◌||◌, ℕ, Bool, true, false, List, Option, Some, None, refl, ap, sym, ◌∙◌, nat_eq, nat_lt, arith, if◌then◌else◌, slice_set, option_and_then, ⊎_elim, nat_tests}
-use Rattle.pair_rules.proofs.Definitions.{SELECTIONS, destination_place, Flow, Configuration, HoldSet, Link, after_failure, serving_set, Facts, with_link, chosen_link, Parts, link_at, facts, link_of, sets_in}
+use Rattle.pair_rules.proofs.Definitions.{SELECTIONS, destination_place, Flow, Configuration, Link, after_failure, serving_set, Facts, with_link, chosen_link, Parts, link_at, facts, link_of, sets_in}
 use Rattle.routes.proofs.Leaving.{goes_or_stays}
 use Rattle.pair_rules.proofs.World.{route_of}
 use Rattle.pair_rules.proofs.Good.{IsJoined}

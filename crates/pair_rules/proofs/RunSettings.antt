@@ -1,6 +1,6 @@
 -- The settings of the run keep every limit, and face each other.
-use Rattle.pair_rules.proofs.Basics.{◌≡◌, ◌≢◌, ◌≤◌, ◌<◌, ◌^◌, ◌&&◌, ◌||◌, ℕ, zero, suc, Bool, true, false, List, [], ◌∷◌, refl, sym, ap, subst, arith, nat_eq, Some, IsTrue, slice_get, IsDistinct, list_any, nat_tests, All-from_recursion}
-use Rattle.pair_rules.proofs.Definitions.{SetEntry, LinkEntry, DestinationEntry, LINKS, SETS, DESTINATIONS, POOL, WINDOW, TICKS, IsLink, IsSet, IsDestination, IsTitle, IsWell, IsWithin, all_ticks, is_led_first, IsFacing, AreJoined}
+use Rattle.pair_rules.proofs.Basics.{◌≡◌, ◌≢◌, ◌≤◌, ◌<◌, ◌^◌, ◌&&◌, ◌||◌, ℕ, zero, suc, Bool, true, false, List, [], ◌∷◌, refl, ap, subst, arith, nat_eq, Some, IsTrue, slice_get, IsDistinct, list_any, nat_tests, All-from_recursion}
+use Rattle.pair_rules.proofs.Definitions.{SetEntry, LinkEntry, DestinationEntry, LINKS, SETS, DESTINATIONS, POOL, WINDOW, TICKS, IsLink, IsSet, IsDestination, IsTitle, IsWell, IsWithin, all_ticks, is_led_first, AreJoined}
 use Rattle.std.proofs.lemmas.List.Sums.{count_by-le-length}
 use Rattle.pair_rules.specs.OneEndFirst.{far_settings, near_settings, settings_of, ticks}
 

@@ -120,6 +120,6 @@ module _ (c z : Configuration) (j : IsJoined c z) (k : IsJoined z c) where
   between-says m word b e = by b.said
     where
       by : IsSaid c m → Says c m word
-      by (good.is_user kind user) =
+      by (good.is_user kind) =
           (let no : None ≡ Some word = sym (ap (λ (b : Bool). if b then word_read z (opc_of m) (read_management m.sif) else None) kind) ∙ e in absurd cc)
       by (good.is_word kind zero_indicator from w reads is) = word-says m word w kind from reads is e

@@ -1,6 +1,6 @@
 -- Two exchanges after some steps, as the machine of moves shows them; and what each step at the near end does to that.
 use Rattle.pair_rules.proofs.Basics.{◌≡◌, ℕ, Bool, true, List, [], length, map, refl}
-use Rattle.pair_rules.proofs.Definitions.{Message, Configuration, FrameValue, spelled, Node, Happening, WholeQueues, whole, all_wait, apply, handle_event, done-waits, Pair, End, PairState, Streams, happens, in_flight, may_follow}
+use Rattle.pair_rules.proofs.Definitions.{Message, Configuration, FrameValue, spelled, Node, Happening, WholeQueues, whole, all_wait, apply, handle_event, done-waits, End, PairState, Streams, happens, in_flight, may_follow}
 use Rattle.pair_moves.specs.Ends as ends
 use Rattle.pair_rules.proofs.World.{Flying, Mid, World, says_of, shown, turned_world}
 use Rattle.pair_rules.proofs.Good.{IsJoined, Good, Passes, at}

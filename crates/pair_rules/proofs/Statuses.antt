@@ -22,7 +22,7 @@ use Rattle.pair_rules.proofs.World.{World}
 use Rattle.pair_rules.proofs.Good.{IsJoined, Good, Passes, passes-none, passes-both, at}
 use Rattle.pair_rules.proofs.Relinked.{relinked-passes, timed-passes, titled-passes}
 use Rattle.pair_rules.proofs.Failures.{fail-passes}
-use Rattle.pair_rules.proofs.Frames.{Retells, retold, receiving, none-received, status-taken}
+use Rattle.pair_rules.proofs.Frames.{Retells, retold, bringing, none-brought, status-taken}
 use Rattle.pair_rules.proofs.Deliveries.{fails-up}
 use Rattle.pair_rules.proofs.Expiries.{changeover_timer-passes}
 use Rattle.pair_rules.proofs.Entries.{IsComing, expiry-heard}
@@ -91,10 +91,10 @@ module _ (c z : Configuration) (j : IsJoined c z) where
 
   pub status-passes : (w : World) (n : Node WholeQueues) (link bsn fsn : ℕ) (status : LinkStatus) (rest : List FrameValue) (f : ℕ → List FrameValue)
       → Retells c z j w link (StatusFrame bsn fsn status) rest rest f
-      → Passes c z (at c z w n [] []) (at c z (receiving c z j (retold c z j w f) []) (on_link_status whole c link status n).left [] [])
+      → Passes c z (at c z w n [] []) (at c z (bringing c z j (retold c z j w f) [] []) (on_link_status whole c link status n).left [] [])
   status-passes w n link bsn fsn status rest f r =
       let acted : Node WholeQueues = (on_link_status whole c link status n).left in
-      none-received c z j (at c z w n [] []) (retold c z j w f) acted [] []
+      none-brought c z j (at c z w n [] []) (retold c z j w f) acted [] []
       (passes-both c z _ _ _ (status-acted (action_at (link_at n.parts link).alignment (Status status)) w n link status refl (record { frame = StatusFrame bsn fsn status; rest = rest; first = r.first }))
       (status-taken c z j w link (StatusFrame bsn fsn status) rest f r acted))
 

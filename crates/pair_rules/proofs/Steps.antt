@@ -1,19 +1,18 @@
 -- Each step of a pair goes by moves.
-use Rattle.pair_rules.proofs.Basics.{◌≡◌, ◌≢◌, ◌<◌, ◌≤◌, ◌&&◌, ℕ, Bool, true, false, List, [], ◌∷◌, ◌++◌, length, Option, Some, None, refl, ap, sym, subst, ◌∙◌, nat_eq, nat_lt, arith, if◌then◌else◌, drop, option_to_list, slice_get, slice_set, take, ⊎_elim, cases_eq, cases_lt, nat_tests, get_or_past}
-use Rattle.pair_rules.proofs.Definitions.{Message, dpc_of, network_indicator, SIF_OCTETS, Outcome, Configuration, FrameValue, EmptyFrame, MessageFrame, StatusFrame, spelled, read_frame, Link, down_link, Discrimination, Label, Node, Happening, FrameCame, Submitted, WholeQueues, whole, whither_goes, after, apply, handle_event, outcome_of, frame_to_take, new_message, after_take, frame_from, frame_taken, may_send, message_first, status_first, Refused, done-waits, comes-here, PairState, Streams, accepted_by, change_statuses, deliver_frame, in_flight, for_users, is_sccp, may_follow, take_frame}
+use Rattle.pair_rules.proofs.Basics.{◌≡◌, ◌≢◌, ◌<◌, ◌≤◌, ℕ, Bool, true, false, List, [], ◌∷◌, ◌++◌, length, Option, Some, None, refl, ap, sym, subst, ◌∙◌, nat_eq, nat_lt, arith, if◌then◌else◌, drop, option_to_list, slice_get, slice_set, take, ⊎_elim, cases_eq, cases_lt, nat_tests, get_or_past}
+use Rattle.pair_rules.proofs.Definitions.{Message, dpc_of, network_indicator, SIF_OCTETS, Outcome, Configuration, FrameValue, EmptyFrame, MessageFrame, StatusFrame, spelled, read_frame, Link, down_link, Label, Node, Happening, FrameCame, Submitted, WholeQueues, whole, whither_goes, apply, handle_event, outcome_of, frame_to_take, new_message, after_take, frame_from, frame_taken, may_send, message_first, status_first, done-waits, comes-here, PairState, Streams, change_statuses, deliver_frame, in_flight, may_follow, take_frame, brought_in, brought_by, brought_to, users_of, accept_text}
 use Rattle.std.specs.Prelude.{map}
-use Rattle.signalling_types.specs.declared.cause.Cause.TheVariants as causes
 use Rattle.mtp3_codec.specs.Label.{label_at}
 use Rattle.mtp3_codec.specs.declared.discrimination.Discrimination.TheVariants as whither
-use Rattle.mtp3_codec.specs.Discrimination.{fault_or_destination}
 use Rattle.exchange_rules.proofs.Settling.{take-waits}
 use Rattle.pair_rules.specs.Pairs as pairs
 use Rattle.pair_rules.proofs.World.{Flying, World, says_of, turned_world}
 use Rattle.pair_rules.proofs.Good.{AreFlying, Each, each-behind, IsFlying, IsTelling, IsJoined, Good, Passes, at}
 use Rattle.pair_rules.proofs.Good as good
 use Rattle.pair_rules.proofs.Going.{goes-both}
-use Rattle.pair_rules.proofs.Events.{accepting, data-received, event-passes, status-received, submitted}
-use Rattle.pair_rules.proofs.Frames.{Pops, Retells, popped, receiving, retold, status-doubled, status-taken}
+use Rattle.pair_rules.proofs.Bringing.{accepting, decided-on, submitted}
+use Rattle.pair_rules.proofs.Events.{data-received, event-passes, handed, status-received}
+use Rattle.pair_rules.proofs.Frames.{Pops, Retells, bringing, popped, retold, status-doubled, status-taken}
 use Rattle.pair_rules.proofs.Taking.{Adds, AddsStatus, Fetches, FetchesStatus, take-passes}
 use Rattle.pair_rules.proofs.Standing.{AreStreams, AreTexts, Stands, end_with, regood, rests, world_of}
 use Rattle.pair_rules.proofs.Flights.{IsFirst, changed-here, changed-other, changed_at, first-flies, first-frame, flies-back, map-behind, tells-back, texts-changed}
@@ -39,18 +38,6 @@ outcome-same c what n = refl
 
 -- ---- where a message goes
 
-abbrev decided : (long short ours own : Bool) → Label → Discrimination
-decided long short ours own label =
-    if long then whither.Refused causes.TooLong
-    else fault_or_destination (if short then Some causes.NoLabel else (if ours then None else Some causes.WrongNetwork)) (if own then whither.Here label else whither.Transfer label)
-
-decided-on : (long short ours own : Bool) (its label : Label) → decided long short ours own its ≡ whither.Transfer label → (long ≡ false) × (short ≡ false) × (ours ≡ true)
-decided-on true short ours own its label e = absurd cc
-decided-on false true ours own its label e = absurd cc
-decided-on false false false own its label e = absurd cc
-decided-on false false true true its label e = absurd cc
-decided-on false false true false its label e = (refl, refl, refl)
-
 module _ (c z : Configuration) (j : IsJoined c z) (apart : c.own ≢ z.own) (network : c.network ≡ z.network) where
   -- ---- a message that a user part hands over for the far point
 
@@ -67,15 +54,16 @@ module _ (c z : Configuration) (j : IsJoined c z) (apart : c.own ≢ z.own) (net
     abbrev p : PairState
     p = record { near = end_with c n ni nv na nr; far = end_with z m fi fv fa fr }
 
-    handed-over : (message : Message) → Stands c z p → is_sccp message ≡ false → Stands c z (pairs.handed_over message p).left
-    handed-over message s plain =
+    pub submit-stands : (message : Message) → Stands c z p → Stands c z (pairs.submit message p).left
+    submit-stands message s =
         let w : World = world_of p s.to_near s.to_far in
-        let handled : Passes c z (at c z w n [] []) (at c z (accepting c z j w (accepted_by (handle_event whole c (Submitted message) n).outcome message)) (handle_event whole c (Submitted message) n).left [] []) =
-        submitted c z j (whither_goes c message) w n message plain refl
-        (λ label e user to. record { to = to; label = label_at message.sif; here = goes-on message label to e; said = good.is_user user plain }) s.near_waits in
-        let known : accepted_by (handle_event whole c (Submitted message) n).outcome message ≡ accepted_by (outcome_of whole (Submitted message) p.near.exchange) message =
-        ap (λ (o : Outcome). accepted_by o message) (sym (outcome-same c (Submitted message) n)) in
-        let v : World = accepting c z j w (accepted_by (outcome_of whole (Submitted message) p.near.exchange) message) in
+        let handled : Passes c z (at c z w n [] [])
+        (at c z (accepting c z j w (brought_to (whither_goes c message) (handle_event whole c (Submitted message) n).outcome c message n)) (handle_event whole c (Submitted message) n).left [] []) =
+        submitted c z j (whither_goes c message) w n message refl
+        (λ label e user to. record { to = to; label = label_at message.sif; here = goes-on message label to e; said = good.is_user user }) s.near_waits in
+        let known : brought_to (whither_goes c message) (handle_event whole c (Submitted message) n).outcome c message n ≡ brought_in (Submitted message) p.near.exchange =
+        ap (λ (o : Outcome). brought_to (whither_goes c message) o c message n) (sym (outcome-same c (Submitted message) n)) in
+        let v : World = accepting c z j w (brought_in (Submitted message) p.near.exchange) in
         let x : Passes c z (at c z w n [] []) (at c z v (apply whole c (Submitted message) n).left [] []) =
         event-passes c z j (Submitted message) w v n
         (subst (λ (ms : List Message). Passes c z (at c z w n [] []) (at c z (accepting c z j w ms) (handle_event whole c (Submitted message) n).left [] [])) known handled) in
@@ -94,13 +82,6 @@ module _ (c z : Configuration) (j : IsJoined c z) (apart : c.own ≢ z.own) (net
           far_good = regood z c (rests p.far) (rests p.near) _ s.to_far s.to_near s.to_near _ _ _ _ s.far_good;
           goes = goes-both (says_of c.links) _ _ _ s.goes (x.goes s.near_good);
         }
-
-    pub submit-stands : (message : Message) → Stands c z p → Stands c z (pairs.submit message p).left
-    submit-stands message s = by (is_sccp message) refl
-      where
-        by : (b : Bool) → is_sccp message ≡ b → Stands c z (if b then record { outcome = Refused causes.NotInProfile; left = p } else pairs.handed_over message p).left
-        by true e = s
-        by false e = handed-over message s e
 
     -- ---- a frame is fetched
 
@@ -233,8 +214,20 @@ module _ (c z : Configuration) (j : IsJoined c z) (apart : c.own ≢ z.own) (net
 
     -- ---- a frame comes
 
-    abbrev newly : ℕ → List ℕ → List Message
-    newly link text = for_users (option_to_list (new_message link text p.near.exchange))
+    -- the world with what it brings
+    abbrev brings : World → ℕ → List ℕ → World
+    brings v link text =
+        bringing c z j v (users_of (option_to_list (new_message link text p.near.exchange))) (brought_in (FrameCame link text) p.near.exchange)
+
+    handed-brings : (v w : World) (link : ℕ) (text : List ℕ)
+        → Passes c z v (at c z (handed c z j w link text n) (handle_event whole c (FrameCame link text) n).left [] [])
+        → Passes c z v (at c z (brings w link text) (handle_event whole c (FrameCame link text) n).left [] [])
+    handed-brings v w link text x =
+        subst (λ (o : Outcome).
+        Passes c z v
+        (at c z (bringing c z j w (users_of (option_to_list (new_message link text p.near.exchange))) (brought_by (new_message link text p.near.exchange) o c (accept_text link (read_frame text) p.near.exchange)))
+        (handle_event whole c (FrameCame link text) n).left [] []))
+        (sym (outcome-same c (FrameCame link text) n)) x
 
     pub deliver-stands : (link : ℕ) → Stands c z p → Stands c z (deliver_frame (slice_get (in_flight ni.user_data link) 0) link (pairs.without_data link ni) p).left
     deliver-stands link s = by (slice_get (in_flight ni.user_data link) 0) refl
@@ -255,9 +248,11 @@ module _ (c z : Configuration) (j : IsJoined c z) (apart : c.own ≢ z.own) (net
               inside = l;
             } in
             let flying : IsFlying z c first.frame = (subst (Each (IsFlying z c)) first.first (s.near_good.coming.user_data link)).0 in
-            let v : World = receiving c z j (popped c z j w f) (newly link text) in
+            let v : World = brings (popped c z j w f) link text in
             let x : Passes c z (at c z w n [] []) (at c z v (apply whole c (FrameCame link text) n).left [] []) =
-            event-passes c z j (FrameCame link text) w v n (data-received c z j w link f first.frame pops text (ap read_frame first.spells ∙ flies-back z c first.frame flying) n) in
+            event-passes c z j (FrameCame link text) w v n
+            (handed-brings (at c z w n [] []) (popped c z j w f) link text
+            (data-received c z j w link f first.frame pops text (ap read_frame first.spells ∙ flies-back z c first.frame flying) n s.near_waits)) in
             record {
               near_settings = refl;
               far_settings = refl;
@@ -320,10 +315,11 @@ module _ (c z : Configuration) (j : IsJoined c z) (apart : c.own ≢ z.own) (net
             let i : FirstStatus s link text = first-status s link text e in
             let w : World = world_of p s.to_near s.to_far in
             let f : ℕ → List FrameValue = changed_at link i.first.rest s.to_near.statuses in
-            let v : World = receiving c z j (retold c z j w f) (newly link text) in
+            let v : World = brings (retold c z j w f) link text in
             let x : Passes c z (at c z w n [] []) (at c z v (apply whole c (FrameCame link text) n).left [] []) =
             event-passes c z j (FrameCame link text) w v n
-            (status-received c z j w link i.first.rest f i.first.frame (retells s link text i i.first.rest) text (ap read_frame i.first.spells ∙ tells-back i.first.frame i.telling) n) in
+            (handed-brings (at c z w n [] []) (retold c z j w f) link text
+            (status-received c z j w link i.first.rest f i.first.frame (retells s link text i i.first.rest) text (ap read_frame i.first.spells ∙ tells-back i.first.frame i.telling) n)) in
             record {
               near_settings = refl;
               far_settings = refl;

@@ -1,6 +1,6 @@
 -- The user messages and the management messages of a list, by what they say.
 use Rattle.pair_rules.proofs.Basics.{◌≡◌, ℕ, Bool, true, false, not, List, [], ◌∷◌, zero, suc, refl, ap, ◌∙◌, drop, filter, if◌then◌else◌}
-use Rattle.pair_rules.proofs.Definitions.{Message, is_management, LinkEntry, read_management, users_of, managements_of, UserMessage, is_user_message, ChangesOnly, with_completion}
+use Rattle.pair_rules.proofs.Definitions.{Message, is_management, LinkEntry, read_management, users_of, managements_of, UserMessage, is_user_message}
 use Rattle.pair_moves.specs.Failing as coarse
 use Rattle.pair_rules.proofs.World.{says_of, read_says}
 use Rattle.pair_rules.proofs.Good.{Each}

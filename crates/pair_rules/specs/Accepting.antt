@@ -1,14 +1,13 @@
--- What an end accepts from its user parts.
+-- What an end accepts.
 use Rattle.std.specs.Prelude.{◌≡◌, ℕ, false, All}
 use Rattle.signalling_types.specs.Message.{Message, dpc_of, is_management}
-use Rattle.pair_rules.specs.Pairs.{PairState, is_sccp}
+use Rattle.pair_rules.specs.Pairs.{PairState}
 use Rattle.pair_rules.specs.Promises.{Always, BothWays}
 
--- a user message for a point, and none of SCCP
+-- a user message for a point
 pub record IsUserMessageTo (point : ℕ) (m : Message) : Type 0 where
   pub destination : dpc_of m ≡ point
   pub user : is_management m ≡ false
-  pub plain : is_sccp m ≡ false
 
 -- all that the near end accepted is for the far point
 abbrev pub AreForFarPoint : PairState → Type 0

@@ -1,27 +1,88 @@
--- What a delivery comes to tells what it brought.
-use Rattle.std.specs.Prelude.{◌≡◌, ◌≢◌, ℕ, List, [], ◌∷◌, drop, length, if◌then◌else◌}
+-- What a delivery comes to tells what it brought, and what the end accepted of that.
+use Rattle.std.specs.Prelude.{◌≡◌, ◌≢◌, ◌⊎◌, ℕ, Bool, true, false, List, [], ◌∷◌, drop, length, if◌then◌else◌}
+use Rattle.std.specs.Prelude.{nat_eq, Option, Some, None}
 use Rattle.signalling_types.specs.Message.{Message, service_indicator}
+use Rattle.signalling_types.specs.declared.cause.Cause.{Cause}
 use Rattle.signalling_types.specs.declared.cause.Cause.TheVariants.{NoUserPart}
 use Rattle.signalling_types.specs.declared.outcome.Outcome.{Outcome}
-use Rattle.signalling_types.specs.declared.outcome.Outcome.TheVariants.{Local, Refused}
-use Rattle.settings_rows.specs.Configuration.{Configuration}
-use Rattle.exchange_rules.specs.Local.{is_user}
+use Rattle.signalling_types.specs.declared.outcome.Outcome.TheVariants.{Queued, Held, Local, Handled, Ignored, Refused}
+use Rattle.settings_rows.specs.Configuration.{Configuration, TitleEntry}
+use Rattle.sccp_relay.specs.Relay.{RelayedValue, relay}
+use Rattle.sccp_relay.specs.Relay as relays
+use Rattle.sccp_relay.specs.Return.{returned}
+use Rattle.exchange_rules.specs.Local.{is_user, sccp}
+use Rattle.exchange_rules.specs.Relaying.{in_place_of, own_of}
 use Rattle.pair_rules.specs.Pairs.{PairState, Doing, Delivers, DeliversStatus, did}
 use Rattle.pair_rules.specs.Promises.{Always, BothWays}
 
--- by what was brought for user parts: Local if a message came for a part that the settings list, NoUserPart if one came
--- for another, and neither if none came
-abbrev pub ComesTo : Configuration → (brought : List Message) → Outcome → Type 0
-ComesTo c [] outcome = (outcome ≢ Local) × (outcome ≢ Refused NoUserPart)
-ComesTo c (m ∷ ms) outcome = outcome ≡ (if is_user c (service_indicator m) then Local else Refused NoUserPart)
+-- ---- what came of a message of SCCP
 
--- what the near end received by something done there
-abbrev pub brought_by : Doing → PairState → List Message
-brought_by what p = drop (length p.near.received) (did what p).left.near.received
+-- of one that is refused the end accepts at most the UDTS that returns it
+abbrev pub IsReturnedAtMost : Option (List ℕ) → Message → (accepted : List Message) → Type 0
+IsReturnedAtMost None m accepted = accepted ≡ []
+IsReturnedAtMost (Some udts) m accepted = (accepted ≡ []) ⊎ (accepted ≡ in_place_of m udts ∷ [])
 
--- something done at the near end tells what it brought
+-- for a cause that isn't that of user parts
+pub record IsRefused (c : Configuration) (rows : List TitleEntry) (cause : Cause) (m : Message)
+    (accepted : List Message) : Type 0 where
+  pub other : cause ≢ NoUserPart
+  pub returned : IsReturnedAtMost (returned (own_of c) rows m.sif cause) m accepted
+
+-- one that goes on, written anew, is queued or held, and nothing else is accepted; or it is refused
+abbrev pub GoesOn : (sif : List ℕ) → Configuration → List TitleEntry → Message → Outcome → (accepted : List Message)
+    → Type 0
+GoesOn sif c rows m (Queued link) accepted = accepted ≡ in_place_of m sif ∷ []
+GoesOn sif c rows m Held accepted = accepted ≡ in_place_of m sif ∷ []
+GoesOn sif c rows m (Refused cause) accepted = IsRefused c rows cause m accepted
+GoesOn sif c rows m Local accepted = ⊥
+GoesOn sif c rows m Handled accepted = ⊥
+GoesOn sif c rows m Ignored accepted = ⊥
+
+-- by what becomes of it at this point: one for a subsystem here is delivered
+abbrev pub IsRelayed : RelayedValue → Configuration → List TitleEntry → Message → Outcome → (accepted : List Message)
+    → Type 0
+IsRelayed relays.Delivered c rows m outcome accepted = (outcome ≡ Local) × (accepted ≡ [])
+IsRelayed (relays.Onward sif) c rows m outcome accepted = GoesOn sif c rows m outcome accepted
+IsRelayed (relays.Refused cause) c rows m outcome accepted =
+    (outcome ≡ Refused cause) × IsRefused c rows cause m accepted
+
+-- ---- what came of a message
+
+abbrev pub ComesOf : (is_sccp : Bool) → Configuration → List TitleEntry → Message → Outcome → (accepted : List Message)
+    → Type 0
+ComesOf true c rows m outcome accepted = IsRelayed (relay (own_of c) rows m.sif) c rows m outcome accepted
+ComesOf false c rows m outcome accepted =
+    (outcome ≡ (if is_user c (service_indicator m) then Local else Refused NoUserPart)) × (accepted ≡ [])
+
+-- nothing was delivered, taken on or accepted
+pub record IsQuiet (outcome : Outcome) (accepted : List Message) : Type 0 where
+  pub local : outcome ≢ Local
+  pub no_user_part : outcome ≢ Refused NoUserPart
+  pub queued : (link : ℕ) → outcome ≢ Queued link
+  pub held : outcome ≢ Held
+  pub nothing : accepted ≡ []
+
+-- by what was received, at an end with these settings and translation rows: Local if a message came for a user part
+-- that the settings list, NoUserPart if one came for another, and what SCCP makes of it if one came for SCCP
+abbrev pub ComesTo : Configuration → List TitleEntry → (received accepted : List Message) → Outcome → Type 0
+ComesTo c rows [] accepted outcome = IsQuiet outcome accepted
+ComesTo c rows (m ∷ ms) accepted outcome =
+    ComesOf (nat_eq (service_indicator m) sccp) c rows m outcome accepted
+
+-- what the near end received by something done there, and what it accepted
+abbrev pub received_by : Doing → PairState → List Message
+received_by what p = drop (length p.near.received) (did what p).left.near.received
+
+abbrev pub accepted_by : Doing → PairState → List Message
+accepted_by what p = drop (length p.near.accepted) (did what p).left.near.accepted
+
+-- what something done at an end came to tells both
+abbrev pub TellsOf : Doing → PairState → Outcome → Type 0
+TellsOf what p outcome =
+    ComesTo p.near.exchange.settings p.near.exchange.node.parts.titles (received_by what p) (accepted_by what p) outcome
+
 abbrev pub Tells : Doing → PairState → Type 0
-Tells what p = ComesTo p.near.exchange.settings (brought_by what p) (did what p).outcome
+Tells what p = TellsOf what p (did what p).outcome
 
 -- a delivery at the near end does, of User Data or of a link status
 pub record TellsWhatCame (p : PairState) : Type 0 where

@@ -1,21 +1,21 @@
 -- Two exchanges that face each other, and the frames in flight between them.
-use Rattle.std.specs.Prelude.{◌&&◌, ℕ, Bool, true, false, not, nat_eq, List, [], ◌∷◌, ◌++◌, drop, length}
-use Rattle.std.specs.Prelude.{replicate, Option, Some, None, filter, slice_get, slice_index_or, slice_set}
-use Rattle.std.specs.Prelude.{option_to_list, take, if◌then◌else◌}
-use Rattle.signalling_types.specs.Message.{Message, is_management, service_indicator}
-use Rattle.signalling_types.specs.declared.cause.Cause.TheVariants.{NotInProfile}
+use Rattle.std.specs.Prelude.{◌&&◌, ℕ, Bool, true, false, List, [], ◌∷◌, ◌++◌, drop, length}
+use Rattle.std.specs.Prelude.{replicate, Option, Some, None, slice_get, slice_index_or, slice_set}
+use Rattle.std.specs.Prelude.{option_to_list, take}
+use Rattle.signalling_types.specs.Message.{Message}
 use Rattle.signalling_types.specs.declared.outcome.Outcome.{Outcome}
-use Rattle.signalling_types.specs.declared.outcome.Outcome.TheVariants.{Handled, Held, Ignored, Local, Queued, Refused}
+use Rattle.signalling_types.specs.declared.outcome.Outcome.TheVariants.{Handled, Ignored}
 use Rattle.settings_rows.specs.Configuration.{Configuration, TitleEntry}
 use Rattle.sccp_codec.specs.declared.title.TitleKey.{TitleKey}
 use Rattle.m2pa_codec.specs.Frames.{FrameValue, EmptyFrame, MessageFrame, StatusFrame, spelled}
+use Rattle.changeover.specs.Completion.{users_of}
 use Rattle.changeover.specs.Standing.{may_restart}
+use Rattle.exchange_rules.specs.Conserving.{brought_in}
 use Rattle.exchange_rules.specs.declared.wants.Wants.{Wants}
 use Rattle.exchange_rules.specs.declared.wants.Wants.TheVariants.{Open}
 use Rattle.exchange_rules.specs.Happening.{Happening, CameUp, WentDown, FrameCame, Ticked, Submitted}
 use Rattle.exchange_rules.specs.Happening.{Activated, Deactivated, TitleAdded, TitleRemoved}
 use Rattle.exchange_rules.specs.Links.{down}
-use Rattle.exchange_rules.specs.Local.{sccp}
 use Rattle.exchange_rules.specs.Failing.{changeover_of}
 use Rattle.exchange_rules.specs.Sound.{Abstract}
 use Rattle.exchange_rules.specs.First.{first_state}
@@ -30,7 +30,8 @@ pub record Streams : Type 0 where
   pub user_data : List (List (List ℕ))
 
 -- an end: its exchange; what is in flight to it; of each link whether it may follow the other end, which opened first;
--- all user messages that it accepted from its user parts, and all that came to it from the other end
+-- all user messages that it accepted, and all that came to it from the other end. It accepts what an event there brings
+-- into a queue or Held: what a user part hands over, what SCCP relays, and the UDTS that it returns
 pub record End : Type 0 where
   pub exchange : Abstract
   pub incoming : Streams
@@ -100,15 +101,6 @@ may_open_at e link = down e.exchange.node.parts link && may_restart (changeover_
 abbrev pub ignored : PairState → Turn
 ignored p = record { outcome = Ignored; left = p }
 
--- it was accepted where it stands in a queue or in Held: so it is for the far end, since no other is kept
-abbrev pub accepted_by : Outcome → Message → List Message
-accepted_by (Queued link) m = m ∷ []
-accepted_by Held m = m ∷ []
-accepted_by Local m = []
-accepted_by Handled m = []
-accepted_by Ignored m = []
-accepted_by (Refused cause) m = []
-
 -- what the near end's exchange does about what happens
 abbrev pub happens : Happening → PairState → Turn
 happens what p = record {
@@ -117,23 +109,16 @@ happens what p = record {
 }
 
 -- a message that is submitted to the near end's exchange
-abbrev pub handed_over : Message → PairState → Turn
-handed_over m p = record {
+abbrev pub submit : Message → PairState → Turn
+submit m p = record {
   outcome = outcome_of whole (Submitted m) p.near.exchange;
   left = record p {
     near = record p.near {
       exchange = after whole (Submitted m) p.near.exchange;
-      accepted = p.near.accepted ++ accepted_by (outcome_of whole (Submitted m) p.near.exchange) m;
+      accepted = p.near.accepted ++ brought_in (Submitted m) p.near.exchange;
     };
   };
 }
-
--- whether a message is one of SCCP, which is relayed: a pair has none
-abbrev pub is_sccp : Message → Bool
-is_sccp m = nat_eq (service_indicator m) sccp
-
-abbrev pub submit : Message → PairState → Turn
-submit m p = if is_sccp m then record { outcome = Refused NotInProfile; left = p } else handed_over m p
 
 -- a frame is in flight behind the others of its stream
 abbrev pub behind_statuses : List ℕ → (link : ℕ) → Streams → Streams
@@ -160,10 +145,6 @@ take_frame (Some frame) link p = record {
   };
 }
 
--- the user messages among these: all but management, testing and SCCP
-abbrev pub for_users : List Message → List Message
-for_users ms = filter (λ m. not (is_management m) && not (is_sccp m)) ms
-
 -- the streams without the first of one link
 abbrev pub without_status : (link : ℕ) → Streams → Streams
 without_status link s = record s { statuses = slice_set s.statuses link (drop 1 (in_flight s.statuses link)) }
@@ -171,7 +152,8 @@ without_status link s = record s { statuses = slice_set s.statuses link (drop 1 
 abbrev pub without_data : (link : ℕ) → Streams → Streams
 without_data link s = record s { user_data = slice_set s.user_data link (drop 1 (in_flight s.user_data link)) }
 
--- a frame comes that was in flight on a link, and with it the message that it newly carries; so much is left in flight
+-- a frame comes that was in flight on a link, and with it the user message that it newly carries; of that the end may
+-- accept what SCCP makes of it, for the other end. So much is left in flight
 abbrev pub deliver_frame : Option (List ℕ) → (link : ℕ) → (left : Streams) → PairState → Turn
 deliver_frame None link left p = ignored p
 deliver_frame (Some text) link left p = record {
@@ -180,7 +162,8 @@ deliver_frame (Some text) link left p = record {
     near = record p.near {
       exchange = after whole (FrameCame link text) p.near.exchange;
       incoming = left;
-      received = p.near.received ++ for_users (option_to_list (new_message link text p.near.exchange));
+      accepted = p.near.accepted ++ brought_in (FrameCame link text) p.near.exchange;
+      received = p.near.received ++ users_of (option_to_list (new_message link text p.near.exchange));
     };
   };
 }

@@ -86,17 +86,19 @@ pub fn completions_move_what_the_peer_lacks()
     ensures { moves_are_lacked }
 {}
 
-/// Received means delivered, at either end. A frame that is handed in comes to Local exactly if
-/// what the end received grew by a message of a user part that its settings list, and to NoUserPart
-/// exactly if it grew by one of another part (Q.704 §2.4). This holds whether or not a message may
-/// be lost.
+/// Received means delivered, or handled by SCCP, at either end. A frame that is handed in comes to
+/// Local exactly if what the end received grew by a message of a user part that its settings list,
+/// or by one of SCCP for a subsystem there; to NoUserPart exactly if it grew by one of another part;
+/// and to Queued or Held exactly if it grew by one of SCCP that goes on by its title. What the end
+/// accepted then grew by that one as its relay wrote it, and by nothing else. If one of SCCP is
+/// refused, it grew by the UDTS that returns it, or by nothing; otherwise it didn't grow (Q.704 §2.4,
+/// Q.714 §2.3, §4.2). This holds whether or not a message may be lost.
 pub fn deliveries_tell_what_came()
     ensures { deliveries_tell }
 {}
 
-/// All that an end accepted from its user parts, so that it stood in a queue or in Held, is for the
-/// point of the other end, and none of it is of management, testing or SCCP. This holds whether or
-/// not a message may be lost.
+/// All that an end accepted, so that it stood in a queue or in Held, is for the point of the other
+/// end, and none of it is of management or testing. This holds whether or not a message may be lost.
 pub fn accepted_messages_are_for_the_far_point()
     ensures { accepted_goes_to_far }
 {}

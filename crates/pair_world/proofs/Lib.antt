@@ -1,4 +1,6 @@
+pub mod InOrder
 pub mod Newly
+pub mod Brought
 pub mod Reached
 pub mod Rules
 pub mod Turns

@@ -1,12 +1,18 @@
 -- What holds of a pair that some steps led to.
-use Rattle.std.proofs.Common.{◌≡◌, List, [], ◌∷◌, ◌++◌, length, refl, ap, sym, subst, ◌∙◌}
+use Rattle.std.proofs.Common.{◌≡◌, ℕ, List, [], ◌∷◌, ◌++◌, length, refl, ap, sym, subst, ◌∙◌}
 use Rattle.settings_rows.specs.Configuration.{Configuration}
 use Rattle.exchange_rules.specs.Lasting.{HasAllPlaces}
-use Rattle.pair_rules.specs.Pairs.{PairState, Step, after_steps, first_pair, turn, turned}
+use Rattle.std.specs.Prelude.{slice_get, Some}
+use Rattle.signalling_types.specs.Message.{Message}
+use Rattle.exchange_rules.specs.Receiving.{new_message}
+use Rattle.pair_rules.specs.Pairs.{in_flight, PairState, Step, after_steps, first_pair, turn, turned}
 use Rattle.pair_rules.specs.Promises.{AreJoined}
 use Rattle.pair_rules.proofs.Standing.{Stands}
 use Rattle.pair_rules.proofs.AllSteps.{AreFacing, facing-back, stands-turned}
+use Rattle.pair_rules.proofs.Good.{IsBetween}
+use Rattle.pair_rules.proofs.Outcomes.{IsNext, IsNextStatus, came-between, next-flies, next-tells, status-none}
 use Rattle.pair_rules.proofs.Promised.{all-stand, are-facing}
+use Rattle.pair_world.proofs.Brought.{IsHere}
 use Rattle.pair_world.specs.Stands.{IsReached}
 
 -- the near end has all its places, and the far end as many links, with two lists of frames for each of them
@@ -15,6 +21,12 @@ pub record IsReady (p : PairState) : Type 0 where
   pub statuses : length p.far.incoming.statuses ≡ length p.near.exchange.node.parts.links
   pub user_data : length p.far.incoming.user_data ≡ length p.near.exchange.node.parts.links
   pub links : length p.far.exchange.node.parts.links ≡ length p.near.exchange.node.parts.links
+  -- a message that the next frame newly carries is for the near point
+  pub data_here : (link : ℕ) (text : List ℕ) → slice_get (in_flight p.near.incoming.user_data link) 0 ≡ Some text → (m : Message) → new_message link text p.near.exchange ≡ Some m → IsHere p.near.exchange.settings m
+  pub status_here : (link : ℕ) (text : List ℕ) → slice_get (in_flight p.near.incoming.statuses link) 0 ≡ Some text → (m : Message) → new_message link text p.near.exchange ≡ Some m → IsHere p.near.exchange.settings m
+
+is-here : (c z : Configuration) (m : Message) → IsBetween z c m → IsHere c m
+is-here c z m b = record { label = b.label; here = b.here }
 
 ready : (c z : Configuration) → AreFacing c z → (p : PairState) → Stands c z p → IsReady p
 ready c z f p s = record {
@@ -22,6 +34,14 @@ ready c z f p s = record {
   statuses = s.far_texts.statuses.many ∙ f.near_joined.many ∙ sym s.near_good.fits.places.parts.links;
   user_data = s.far_texts.user_data.many ∙ f.near_joined.many ∙ sym s.near_good.fits.places.parts.links;
   links = s.far_good.fits.places.parts.links ∙ f.near_joined.many ∙ sym s.near_good.fits.places.parts.links;
+  data_here = λ link text e m.
+      let next : IsNext z c text = next-flies c z f p s link text e in
+      subst (λ (x : Configuration). new_message link text (record { settings = x; node = p.near.exchange.node }) ≡ Some m → IsHere x m) (sym s.near_settings)
+      (λ n. is-here c z m (came-between c z f.near_joined link p.near.exchange.node text next.frame m next.reads next.flying n));
+  status_here = λ link text e m.
+      let next : IsNextStatus text = next-tells c z f p s link text e in
+      subst (λ (x : Configuration). new_message link text (record { settings = x; node = p.near.exchange.node }) ≡ Some m → IsHere x m) (sym s.near_settings)
+      (λ n. status-none c z f.near_joined link p.near.exchange.node text next.frame m next.reads next.telling n);
 }
 
 -- at both ends

@@ -6,8 +6,7 @@ use Rattle.std.proofs.lemmas.Bool.Decides.{nat_tests}
 use Rattle.std.proofs.lemmas.List.{set-get_or}
 use Rattle.signalling_types.specs.Message.{Message}
 use Rattle.settings_rows.specs.Configuration.{Configuration}
-use Rattle.signalling_types.specs.declared.cause.Cause.TheVariants.{NotInProfile}
-use Rattle.signalling_types.specs.declared.outcome.Outcome.TheVariants.{Handled, Ignored, Refused}
+use Rattle.signalling_types.specs.declared.outcome.Outcome.TheVariants.{Handled, Ignored}
 use Rattle.m2pa_codec.specs.Frames.{FrameValue, EmptyFrame, MessageFrame, StatusFrame, spelled}
 use Rattle.exchange_rules.specs.declared.wants.Wants.{Wants}
 use Rattle.exchange_rules.specs.declared.wants.Wants.TheVariants as wants
@@ -16,17 +15,18 @@ use Rattle.exchange_rules.specs.State.{Node}
 use Rattle.exchange_rules.specs.Queues.{WholeQueues, whole}
 use Rattle.exchange_rules.specs.Happening.{Happening, CameUp, WentDown, FrameCame, Ticked, Submitted, Activated, Deactivated, TitleAdded, TitleRemoved}
 use Rattle.exchange_rules.specs.Sending.{Outgoing, SendsStatus, SendsMessage, Acknowledges, SendsNothing, frame_from, after_sending, goes_out}
-use Rattle.exchange_rules.specs.Exchange.{after, outcome_of, frame_to_take, taken, wants_of}
+use Rattle.exchange_rules.specs.Exchange.{frame_to_take, taken, wants_of}
+use Rattle.exchange_rules.specs.Receiving.{new_message}
 use Rattle.exchange_rules.specs.Sound.{Abstract, IsSound}
-use Rattle.exchange.specs.KeptQueues.{kept}
 use Rattle.exchange.specs.Stands.{StandsFor, kept_of}
 use Rattle.exchange.specs.Views.{may_restart_at}
 use Rattle.exchange.proofs.Standing.{stands-after, stands-outcome, stands-frame, stands-taken}
-use Rattle.pair_rules.specs.Pairs.{PairState, Streams, Turn, Doing, Submits, Takes, Delivers, DeliversStatus, LosesStatus, DoublesStatus, Loses, Ticks, Activates, Deactivates, AddsTitle, RemovesTitle, OpensFirst, OpensSecond, accepted_by, change_statuses, deliver_frame, did, emptied, handed_over, happens, in_flight, is_sccp, launched, may_follow, may_open_at, opens_first, opens_second, take_frame, with_status_twice, without_data, without_status}
+use Rattle.pair_rules.specs.Pairs.{PairState, Streams, Turn, Doing, Submits, Takes, Delivers, DeliversStatus, LosesStatus, DoublesStatus, Loses, Ticks, Activates, Deactivates, AddsTitle, RemovesTitle, OpensFirst, OpensSecond, change_statuses, deliver_frame, did, emptied, happens, in_flight, launched, submit, may_follow, may_open_at, opens_first, opens_second, take_frame, with_status_twice, without_data, without_status}
 use Rattle.pair_rules.proofs.Opening.{wants-open}
 use Rattle.pair_rules.proofs.Steps.{taken-there}
-use Rattle.pair_world.specs.KeptEnds.{KeptEnd, behind_its, end_changes, end_follows, end_happens, end_hears, kept_end_of}
+use Rattle.pair_world.specs.KeptEnds.{KeptEnd, behind_its, end_changes, end_follows, end_happens, end_hears, end_submits, kept_end_of}
 use Rattle.pair_world.specs.KeptPairs.{KeptTurn, alone, has_link, kept_did, kept_fetched, kept_ignored, kept_opens_first, kept_pair_of, kept_takes, kept_turn_of}
+use Rattle.pair_world.proofs.Brought.{IsHere, frame-same, submission-same}
 use Rattle.pair_world.proofs.Newly.{newly-same, stands-itself}
 use Rattle.pair_world.proofs.Reached.{IsReady}
 
@@ -82,21 +82,11 @@ module _ (p : PairState) (near : IsSound p.near.exchange) (far : IsSound p.far.e
 
   -- ---- a message is handed over
 
-  submit-by : (b : Bool) (m : Message)
-      → IsSame
-      (alone (if b then record { outcome = Refused NotInProfile; left = kept_end_of p.near }
-      else record {
-        outcome = outcome_of kept (Submitted m) (kept_of a);
-        left = record (kept_end_of p.near) {
-          exchange = after kept (Submitted m) (kept_of a);
-          accepted = p.near.accepted ++ accepted_by (outcome_of kept (Submitted m) (kept_of a)) m;
-        };
-      }) (kept_end_of p.far))
-      (if b then record { outcome = Refused NotInProfile; left = p } else handed_over m p)
-  submit-by true m = record { turn = refl; near = near; far = far }
-  submit-by false m =
+  submit-same : (m : Message) → IsReady p → IsSame (alone (end_submits m (kept_end_of p.near)) (kept_end_of p.far)) (submit m p)
+  submit-same m ready =
       let o = stands-outcome (Submitted m) (kept_of a) a k in
       let s = stands-after (Submitted m) (kept_of a) a k in
+      let b = submission-same a near ready.places m in
       record {
         turn = λ i. record {
           outcome = o i;
@@ -105,7 +95,7 @@ module _ (p : PairState) (near : IsSound p.near.exchange) (far : IsSound p.far.e
               exchange = s.kept i;
               incoming = p.near.incoming;
               following = p.near.following;
-              accepted = p.near.accepted ++ accepted_by (o i) m;
+              accepted = p.near.accepted ++ b i;
               received = p.near.received;
             };
             far = kept_end_of p.far;
@@ -185,12 +175,14 @@ module _ (p : PairState) (near : IsSound p.near.exchange) (far : IsSound p.far.e
 
   -- ---- a frame comes
 
-  hear-by : (link : ℕ) → IsReady p → (text : Option (List ℕ)) (left : Streams) → IsSame (alone (end_hears text link left (kept_end_of p.near)) (kept_end_of p.far)) (deliver_frame text link left p)
-  hear-by link ready None left = record { turn = refl; near = near; far = far }
-  hear-by link ready (Some text) left =
+  hear-by : (link : ℕ) → IsReady p → (text : Option (List ℕ)) (left : Streams) → ((t : List ℕ) → text ≡ Some t → (m : Message) → new_message link t a ≡ Some m → IsHere a.settings m)
+      → IsSame (alone (end_hears text link left (kept_end_of p.near)) (kept_end_of p.far)) (deliver_frame text link left p)
+  hear-by link ready None left here = record { turn = refl; near = near; far = far }
+  hear-by link ready (Some text) left here =
       let o = stands-outcome (FrameCame link text) (kept_of a) a k in
       let s = stands-after (FrameCame link text) (kept_of a) a k in
       let r = newly-same link text a near ready.places in
+      let b = frame-same a near ready.places link text (here text refl) in
       record {
         turn = λ i. record {
           outcome = o i;
@@ -199,7 +191,7 @@ module _ (p : PairState) (near : IsSound p.near.exchange) (far : IsSound p.far.e
               exchange = s.kept i;
               incoming = left;
               following = p.near.following;
-              accepted = p.near.accepted;
+              accepted = p.near.accepted ++ b i;
               received = p.near.received ++ r i;
             };
             far = kept_end_of p.far;
@@ -289,10 +281,10 @@ module _ (p : PairState) (near : IsSound p.near.exchange) (far : IsSound p.far.e
   -- ---- all that is done at one end
 
   pub did-same : (what : Doing) → IsReady p → IsSame (kept_did what (kept_pair_of p)) (did what p)
-  did-same (Submits m) ready = submit-by (is_sccp m) m
+  did-same (Submits m) ready = submit-same m ready
   did-same (Takes link) ready = take-same link ready
-  did-same (Delivers link) ready = hear-by link ready (slice_get (in_flight p.near.incoming.user_data link) 0) (without_data link p.near.incoming)
-  did-same (DeliversStatus link) ready = hear-by link ready (slice_get (in_flight p.near.incoming.statuses link) 0) (without_status link p.near.incoming)
+  did-same (Delivers link) ready = hear-by link ready (slice_get (in_flight p.near.incoming.user_data link) 0) (without_data link p.near.incoming) (λ t e m n. ready.data_here link t e m n)
+  did-same (DeliversStatus link) ready = hear-by link ready (slice_get (in_flight p.near.incoming.statuses link) 0) (without_status link p.near.incoming) (λ t e m n. ready.status_here link t e m n)
   did-same (LosesStatus link) ready = change-by (slice_get (in_flight p.near.incoming.statuses link) 0) (without_status link p.near.incoming)
   did-same (DoublesStatus link) ready = change-by (slice_get (in_flight p.near.incoming.statuses link) 0) (with_status_twice link p.near.incoming)
   did-same (AddsTitle row is_memory_refused) ready = happens-same (TitleAdded row is_memory_refused)

@@ -5,9 +5,9 @@ use Rattle.std.specs.Prelude.{Option, Some, None}
 use Rattle.std.specs.Prelude.{option_to_list, slice_index_or, if◌then◌else◌}
 use Rattle.std.specs.Option.{option_map}
 use Rattle.signalling_types.specs.Message.{Message}
-use Rattle.signalling_types.specs.declared.cause.Cause.TheVariants.{NotInProfile}
 use Rattle.signalling_types.specs.declared.outcome.Outcome.{Outcome}
-use Rattle.signalling_types.specs.declared.outcome.Outcome.TheVariants.{Handled, Ignored, Refused}
+use Rattle.signalling_types.specs.declared.outcome.Outcome.TheVariants.{Handled, Ignored}
+use Rattle.changeover.specs.Completion.{users_of}
 use Rattle.m2pa_codec.specs.Frames.{link_status, spelled}
 use Rattle.m2pa_codec.specs.Reading.{read_frame}
 use Rattle.exchange_rules.specs.Happening.{Happening, CameUp, FrameCame, Submitted}
@@ -19,8 +19,9 @@ use Rattle.exchange.specs.declared.view.LinkView.{LinkView}
 use Rattle.exchange.specs.KeptQueues.{kept}
 use Rattle.exchange.specs.Stands.{Kept, kept_of}
 use Rattle.exchange.specs.Views.{link_view}
-use Rattle.pair_rules.specs.Pairs.{End, Streams, accepted_by, emptied, for_users, in_flight, is_sccp}
+use Rattle.pair_rules.specs.Pairs.{End, Streams, emptied, in_flight}
 use Rattle.pair_rules.specs.Pairs.{with_status_twice, without_data, without_status}
+use Rattle.pair_world.specs.Bringing.{kept_in, kept_in_all, number_in}
 
 -- an end: what is kept of its exchange, what is in flight to it, on which links it may follow the other, and what it
 -- accepted and received
@@ -57,16 +58,14 @@ end_happens what e = record {
 -- ---- a message is handed over
 
 abbrev pub end_submits : Message → KeptEnd → EndTurn
-end_submits m e =
-    if is_sccp m
-    then record { outcome = Refused NotInProfile; left = e }
-    else record {
-      outcome = outcome_of kept (Submitted m) e.exchange;
-      left = record e {
-        exchange = after kept (Submitted m) e.exchange;
-        accepted = e.accepted ++ accepted_by (outcome_of kept (Submitted m) e.exchange) m;
-      };
-    }
+end_submits m e = record {
+  outcome = outcome_of kept (Submitted m) e.exchange;
+  left = record e {
+    exchange = after kept (Submitted m) e.exchange;
+    accepted = e.accepted
+        ++ kept_in 0 e.exchange (after kept (Submitted m) e.exchange) (outcome_of kept (Submitted m) e.exchange) m;
+  };
+}
 
 -- ---- a frame comes
 
@@ -78,11 +77,11 @@ number_shown None = 0
 abbrev pub accepted_number : Kept → (link : ℕ) → ℕ
 accepted_number k link = number_shown (link_view kept k link)
 
--- the message in a frame, where it is one for user parts
+-- the message in a frame, where it is a user message
 abbrev pub user_message_in : List ℕ → List Message
-user_message_in text = for_users (option_to_list (carried_message (read_frame text)))
+user_message_in text = users_of (option_to_list (carried_message (read_frame text)))
 
--- the message that a frame newly brings for user parts: that in the frame, where the number of the last message that
+-- the user message that a frame newly brings: that in the frame, where the number of the last message that
 -- was accepted on its link isn't what it was before
 abbrev pub new_if_other : (number_before number_after : ℕ) → (text : List ℕ) → List Message
 new_if_other number_before number_after text =
@@ -91,6 +90,12 @@ new_if_other number_before number_after text =
 abbrev pub newly_received : (link : ℕ) → (text : List ℕ) → Kept → List Message
 newly_received link text k =
     new_if_other (accepted_number k link) (accepted_number (after kept (FrameCame link text) k) link) text
+
+-- what that brings in, in its turn
+abbrev pub newly_accepted : (link : ℕ) → (text : List ℕ) → Kept → List Message
+newly_accepted link text k =
+    kept_in_all (number_in (read_frame text)) k (after kept (FrameCame link text) k)
+    (outcome_of kept (FrameCame link text) k) (newly_received link text k)
 
 -- the frames of one stream without the first of a link
 abbrev pub without_first : Option (List ℕ) → (link : ℕ) → List (List (List ℕ)) → List (List (List ℕ))
@@ -105,7 +110,7 @@ end_hears (Some text) link left e = record {
     exchange = after kept (FrameCame link text) e.exchange;
     incoming = left;
     following = e.following;
-    accepted = e.accepted;
+    accepted = e.accepted ++ newly_accepted link text e.exchange;
     received = e.received ++ newly_received link text e.exchange;
   };
 }

@@ -1,4 +1,5 @@
 pub mod Faults
+pub mod Bringing
 pub mod KeptEnds
 pub mod KeptPairs
 pub mod Told

@@ -1,36 +1,137 @@
-//! What a frame brings that comes to an end of a pair.
+//! What comes to an end of a pair: a message that a user part hands over, and a frame.
 
-ghost use Rattle.std.specs.Prelude.{◌≡◌, ◌≤◌, ◌<◌, ◌∷◌, [], ◌++◌, length, option_to_list, vec_len, vec_capacity};
-ghost use Rattle.exchange_rules.specs.Happening.{FrameCame};
+ghost use Rattle.std.specs.Prelude.{◌≡◌, ◌≤◌, ◌<◌, ◌∷◌, [], Ok, ◌++◌, length, option_to_list, vec_len, vec_capacity};
+ghost use Rattle.m2pa_codec.specs.Reading.{read_frame};
+ghost use Rattle.m2pa_codec.specs.Values.{value_of};
+ghost use Rattle.changeover.specs.Completion.{users_of};
+ghost use Rattle.exchange_rules.specs.Happening.{FrameCame, Submitted};
 ghost use Rattle.exchange_rules.specs.Exchange.{outcome_of, after};
 ghost use Rattle.exchange.specs.KeptQueues.{kept};
-ghost use Rattle.pair_rules.specs.Pairs.{for_users};
-ghost use Rattle.pair_world.specs.KeptEnds.{accepted_number, newly_received, new_if_other, user_message_in};
+ghost use Rattle.pair_world.specs.Bringing.{kept_in, number_in};
+ghost use Rattle.pair_world.specs.KeptEnds.{accepted_number, newly_accepted, newly_received, new_if_other};
+ghost use Rattle.pair_world.specs.KeptEnds.{user_message_in};
 
+use crate::bringing::{count_standing, is_sccp, told_in};
 use exchange::{Event, Exchange, Frame, FrameText, LONGEST_FRAME, decode};
+use sccp_relay::Translations;
 use settings::{Limits, LinkId, Msu, Outcome};
 use signalling_types::Number24;
 
-/// The user part that is SCCP (Q.704 §14.2.1).
-pub(crate) const SCCP: u8 = 3;
+/// A user part hands a message over. What that brings in joins what was accepted.
+pub(crate) fn hand_over(
+    exchange: &mut Exchange,
+    accepted: &mut Vec<Msu>,
+    rows: &Translations,
+    message: &Msu,
+) -> Outcome
+    requires room { vec_len accepted.old < vec_capacity accepted.old }
+    requires rows { rows.now ≡ exchange.old.node.parts.titles }
+    ensures outcome { result ≡ outcome_of kept (Submitted message.now) exchange.old }
+    ensures state { exchange.new ≡ after kept (Submitted message.now) exchange.old }
+    ensures accepted { accepted.new.items ≡ accepted.old.items
+        ++ kept_in 0 exchange.old (after kept (Submitted message.now) exchange.old)
+        (outcome_of kept (Submitted message.now) exchange.old) message.now }
+{
+    let counts = is_sccp(message);
+    let before = count_standing(exchange, counts, Number24::zero());
+    let outcome = exchange.step(&Event::Submit(message.lend()));
+    let after = count_standing(exchange, counts, Number24::zero());
+    let brought = told_in(
+        &outcome,
+        before != after,
+        exchange.settings(),
+        rows,
+        message,
+    );
+    add(accepted, brought);
+    outcome
+}
 
-/// A frame is handed in. What it newly brings for user parts joins what was received.
+/// A frame is handed in. The user message that it newly brings joins what was received, and what that brings in joins
+/// what was accepted.
 pub(crate) fn hand_in(
     exchange: &mut Exchange,
+    accepted: &mut Vec<Msu>,
     received: &mut Vec<Msu>,
+    rows: &Translations,
     link: LinkId,
     text: &FrameText,
 ) -> Outcome
-    requires { vec_len received.old < vec_capacity received.old }
+    requires accepted { vec_len accepted.old < vec_capacity accepted.old }
+    requires received { vec_len received.old < vec_capacity received.old }
+    requires rows { rows.now ≡ exchange.old.node.parts.titles }
     ensures outcome { result ≡ outcome_of kept (FrameCame link text.now) exchange.old }
     ensures state { exchange.new ≡ after kept (FrameCame link text.now) exchange.old }
+    ensures accepted { accepted.new.items ≡ accepted.old.items ++ newly_accepted link text.now exchange.old }
     ensures received { received.new.items ≡ received.old.items ++ newly_received link text.now exchange.old }
 {
-    let before = last_accepted(exchange, link);
+    match user_message(text.octets()) {
+        Some(message) => {
+            hand_in_message(exchange, accepted, received, rows, link, text, message)
+        }
+        None => exchange.step(&Event::Frame(link, text.octets())),
+    }
+}
+
+/// The same, of a frame with a user message.
+fn hand_in_message(
+    exchange: &mut Exchange,
+    accepted: &mut Vec<Msu>,
+    received: &mut Vec<Msu>,
+    rows: &Translations,
+    link: LinkId,
+    text: &FrameText,
+    message: Msu,
+) -> Outcome
+    requires accepted { vec_len accepted.old < vec_capacity accepted.old }
+    requires received { vec_len received.old < vec_capacity received.old }
+    requires rows { rows.now ≡ exchange.old.node.parts.titles }
+    requires message { user_message_in text.now ≡ message ∷ [] }
+    ensures outcome { result ≡ outcome_of kept (FrameCame link text.now) exchange.old }
+    ensures state { exchange.new ≡ after kept (FrameCame link text.now) exchange.old }
+    ensures accepted { accepted.new.items ≡ accepted.old.items ++ newly_accepted link text.now exchange.old }
+    ensures received { received.new.items ≡ received.old.items ++ newly_received link text.now exchange.old }
+{
+    let number = number_in(text.octets());
+    let counts = is_sccp(&message);
+    let before = count_standing(exchange, counts, number);
+    let last = last_accepted(exchange, link);
     let outcome = exchange.step(&Event::Frame(link, text.octets()));
-    let after = last_accepted(exchange, link);
-    add(received, new_message(before, after, text.octets()));
+    let after = count_standing(exchange, counts, number);
+    if last != last_accepted(exchange, link) {
+        let brought = told_in(
+            &outcome,
+            before != after,
+            exchange.settings(),
+            rows,
+            &message,
+        );
+        add(accepted, brought);
+        add(received, Some(message));
+    }
     outcome
+}
+
+/// The number with which a frame confirms; 0 where it can't be read.
+fn number_in(octets: &[u8]) -> Number24
+    requires { length octets.now ≤ LONGEST_FRAME }
+    ensures { result ≡ number_in (read_frame octets.now) }
+{
+    match decode(octets) {
+        Ok(frame) => number_of(frame),
+        Err(_) => Number24::zero(),
+    }
+}
+
+/// The number with which a frame confirms.
+fn number_of(frame: Frame<'_>) -> Number24
+    ensures { result ≡ number_in (Ok (value_of frame.entry)) }
+{
+    match frame {
+        Frame::Message { bsn, .. } => bsn,
+        Frame::Empty { bsn, .. } => bsn,
+        Frame::Status { bsn, .. } => bsn,
+    }
 }
 
 /// The number of the last message that was accepted on a link; 0 where the link isn't there.
@@ -53,40 +154,28 @@ pub(crate) fn add(messages: &mut Vec<Msu>, message: Option<Msu>)
     }
 }
 
-/// The message of a frame, where it is one for user parts, and the number of the last message that was accepted on its
-/// link isn't what it was before.
-fn new_message(before: Number24, after: Number24, octets: &[u8]) -> Option<Msu>
-    requires { length octets.now ≤ LONGEST_FRAME }
-    ensures { option_to_list result ≡ new_if_other before after octets.now }
-{
-    if before == after {
-        return None;
-    }
-    user_message(octets)
-}
-
-/// The message of a frame, where it is one for user parts.
+/// The message of a frame, where it is a user message.
 fn user_message(octets: &[u8]) -> Option<Msu>
     requires { length octets.now ≤ LONGEST_FRAME }
     ensures { option_to_list result ≡ user_message_in octets.now }
 {
     match decode(octets) {
-        Ok(Frame::Message { sio, sif, .. }) => for_user_part(sio, sif),
+        Ok(Frame::Message { sio, sif, .. }) => if_user(sio, sif),
         Ok(Frame::Empty { .. }) => None,
         Ok(Frame::Status { .. }) => None,
         Err(_) => None,
     }
 }
 
-/// The message of a service information octet and a field, where it is one for user parts.
-fn for_user_part(sio: u8, sif: &[u8]) -> Option<Msu>
+/// The message of a service information octet and a field, where it is a user message.
+fn if_user(sio: u8, sif: &[u8]) -> Option<Msu>
     requires { length sif.now ≤ Limits.SIF_OCTETS }
-    ensures { option_to_list result ≡ for_users (record { sio = sio; sif = sif.now } ∷ []) }
+    ensures { option_to_list result ≡ users_of (record { sio = sio; sif = sif.now } ∷ []) }
 {
     let Ok(message) = Msu::new(sio, sif) else {
         unreachable!()
     };
-    if message.is_management() || message.service_indicator() == SCCP {
+    if message.is_management() {
         None
     } else {
         Some(message)

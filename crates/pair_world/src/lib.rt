@@ -2,6 +2,7 @@
 #![tactic(auto)]
 
 mod act;
+mod bringing;
 mod counting;
 pub mod fault;
 mod flight;

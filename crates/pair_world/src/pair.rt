@@ -24,7 +24,7 @@ use std::alloc::Global;
 use std::marker::Model;
 
 /// Two exchanges that face each other, the frames in flight between them, and all user messages that each of them
-/// accepted from its user parts and received from the other.
+/// accepted and received from the other.
 ///
 /// It stands for two abstract exchanges that some steps led to from the first on (`StandsFor`): `new` makes it so, and
 /// each `turn` keeps it.
@@ -93,7 +93,8 @@ impl Pair {
         // For every abstract pair that it stood for, the outcome is that of the abstract step,
         ensures outcome { (p : PairState) → StandsFor self.old p →
             IfOk result (λ outcome. outcome ≡ (pairs.turn (step_told step outcome) p).outcome) }
-        // which for a delivery says what came: Local or NoUserPart exactly if the end received a message,
+        // which for a delivery says what came, and what was accepted of that: Local or NoUserPart exactly if the end
+        // received a message for a user part or for a subsystem here,
         ensures told { (p : PairState) → StandsFor self.old p →
             IfOk result (λ outcome. Tells (step_told step outcome) p outcome) }
         // and the pair stands for the one after it.
@@ -104,8 +105,8 @@ impl Pair {
         self.apply(step)
     }
 
-    /// All messages that an end accepted from its user parts, in order: all that it queued or held.
-    /// They are for the other end, and none is of management, testing or SCCP.
+    /// All user messages that an end accepted, in order: all that it queued or held. A user part handed them over, or
+    /// SCCP relayed them, or made them to return others. They are for the other end.
     pub fn accepted(&self, end: End) -> &[Msu]
         ensures accepted { (p : PairState) → StandsFor self.now p → result.now ≡ (seen_from end p).near.accepted }
         ensures destination { (p : PairState) → StandsFor self.now p →
@@ -120,7 +121,7 @@ impl Pair {
         self.side(end).accepted()
     }
 
-    /// All messages for user parts that frames newly brought to an end from the other, in order.
+    /// All user messages that frames newly brought to an end from the other, in order, those of SCCP among them.
     pub fn received(&self, end: End) -> &[Msu]
         ensures received { (p : PairState) → StandsFor self.now p → result.now ≡ (seen_from end p).near.received }
         // "Exactly once"

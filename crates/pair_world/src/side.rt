@@ -1,7 +1,7 @@
 //! One end of a pair.
 
 ghost use Rattle.std.specs.Prelude.{◌≡◌, ◌<◌, [], false, ◌&&◌, nat_lt, length};
-ghost use Rattle.std.specs.Prelude.{slice_index_or, option_to_list};
+ghost use Rattle.std.specs.Prelude.{slice_index_or};
 ghost use Rattle.std.specs.Prelude.{IfOk, OnOk, OnErr};
 ghost use Rattle.exchange_rules.specs.Exchange.{taken, wants_of};
 ghost use Rattle.exchange_rules.specs.First.{first_state};
@@ -9,7 +9,7 @@ ghost use Rattle.exchange.specs.Calls.{happened};
 ghost use Rattle.exchange.specs.KeptQueues.{kept};
 ghost use Rattle.exchange.specs.Stands.{kept_of};
 ghost use Rattle.exchange.specs.Views.{may_restart_at};
-ghost use Rattle.pair_rules.specs.Pairs.{Streams, is_sccp, accepted_by, first_end};
+ghost use Rattle.pair_rules.specs.Pairs.{Streams, first_end};
 ghost use Rattle.pair_world.specs.KeptEnds.{kept_end_of, end_happens, end_submits, end_delivers};
 ghost use Rattle.pair_world.specs.KeptEnds.{end_delivers_status, end_loses_status, end_doubles_status};
 ghost use Rattle.pair_world.specs.KeptEnds.{end_opens_first, end_may_follow, end_opens_second};
@@ -17,14 +17,15 @@ ghost use Rattle.pair_world.specs.KeptEnds.{text_to_take, behind_its, take_outco
 ghost use Rattle.pair_world.specs.KeptPairs.{has_link};
 ghost use Rattle.pair_world.specs.Waiting.{kept_waiting};
 
+use crate::bringing::rows_of;
 use crate::counting::count_waiting;
 use crate::flight::{
     Flight, clear_flight, double_in_flight, is_noted, next_in_flight, none_follows, note,
     nothing_in_flight, take_behind,
 };
-use crate::hearing::{SCCP, add, hand_in};
+use crate::hearing::{hand_in, hand_over};
 use exchange::{Event, Exchange, NoMemory, Pick, Wants};
-use settings::{Cause, LinkId, Msu, Outcome, Settings};
+use settings::{LinkId, Msu, Outcome, Settings};
 use std::alloc::Global;
 use std::marker::Model;
 
@@ -32,6 +33,7 @@ use std::marker::Model;
 /// other end there, and what it accepted and received since it was booted.
 #[derive(Drop)]
 pub(crate) struct Side {
+    alloc: Global,
     exchange: Exchange,
     statuses: Vec<Flight>,
     user_data: Vec<Flight>,
@@ -90,6 +92,7 @@ impl Side {
         } }
     {
         Side {
+            alloc,
             exchange,
             statuses,
             user_data,
@@ -164,13 +167,10 @@ impl Side {
         ensures state { OnOk result (self.new ≡ (end_submits message self.old).left) }
         ensures unchanged { OnErr result (self.new ≡ self.old) }
     {
-        if message.service_indicator() == SCCP {
-            return Ok(Outcome::Refused(Cause::NotInProfile));
-        }
+        let rows = rows_of(self.alloc, &self.exchange)?;
         self.accepted.reserve(1)?;
-        let outcome = self.exchange.step(&Event::Submit(message.lend()));
-        add(&mut self.accepted, accepted_by(&outcome, message));
-        Ok(outcome)
+        let accepted = &mut self.accepted;
+        Ok(hand_over(&mut self.exchange, accepted, &rows, &message))
     }
 
     /// The next User Data in flight on a link comes, where there is some.
@@ -179,11 +179,14 @@ impl Side {
         ensures state { OnOk result (self.new ≡ (end_delivers link self.old).left) }
         ensures unchanged { OnErr result (self.new ≡ self.old) }
     {
+        let rows = rows_of(self.alloc, &self.exchange)?;
+        self.accepted.reserve(1)?;
         self.received.reserve(1)?;
-        match next_in_flight(&mut self.user_data, link) {
-            Some(text) => Ok(hand_in(&mut self.exchange, &mut self.received, link, &text)),
-            None => Ok(Outcome::Ignored),
-        }
+        let Some(text) = next_in_flight(&mut self.user_data, link) else {
+            return Ok(Outcome::Ignored);
+        };
+        let (accepted, received) = (&mut self.accepted, &mut self.received);
+        Ok(hand_in(&mut self.exchange, accepted, received, &rows, link, &text))
     }
 
     /// The next link status in flight on a link comes, where there is one.
@@ -192,11 +195,14 @@ impl Side {
         ensures state { OnOk result (self.new ≡ (end_delivers_status link self.old).left) }
         ensures unchanged { OnErr result (self.new ≡ self.old) }
     {
+        let rows = rows_of(self.alloc, &self.exchange)?;
+        self.accepted.reserve(1)?;
         self.received.reserve(1)?;
-        match next_in_flight(&mut self.statuses, link) {
-            Some(text) => Ok(hand_in(&mut self.exchange, &mut self.received, link, &text)),
-            None => Ok(Outcome::Ignored),
-        }
+        let Some(text) = next_in_flight(&mut self.statuses, link) else {
+            return Ok(Outcome::Ignored);
+        };
+        let (accepted, received) = (&mut self.accepted, &mut self.received);
+        Ok(hand_in(&mut self.exchange, accepted, received, &rows, link, &text))
     }
 
     /// The next link status in flight on a link is lost, where there is one.
@@ -275,15 +281,5 @@ impl Side {
             }
             _ => Outcome::Ignored,
         }
-    }
-}
-
-/// The message, where it was accepted: where it stands in a queue or in Held.
-fn accepted_by(outcome: &Outcome, message: Msu) -> Option<Msu>
-    ensures { option_to_list result ≡ accepted_by outcome.now message }
-{
-    match outcome {
-        Outcome::Queued(_) | Outcome::Held => Some(message),
-        Outcome::Local | Outcome::Handled | Outcome::Ignored | Outcome::Refused(_) => None,
     }
 }

@@ -15,8 +15,7 @@ pub enum End {
 /// One step of a pair.
 #[derive(Drop)]
 pub enum Step {
-    /// A user part of an end hands a message over. Refused NotInProfile where it is one of SCCP, since a pair has no
-    /// relay; else the outcome is that of the exchange.
+    /// A user part of an end hands a message over.
     Submit(End, Msu),
     /// The next frame of a link is fetched from an end, and is then in flight to the other, on the stream of link
     /// statuses or on that of User Data (RFC 4165 §2). Ignored where there is none.

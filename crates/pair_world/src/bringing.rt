@@ -1,0 +1,179 @@
+//! What an event brings into a queue or Held at an end of a pair.
+
+ghost use Rattle.std.specs.Prelude.{◌≡◌, ◌≤◌, ◌*◌, ◌^◌, true, Some, length, option_to_list, IfOk};
+ghost use Rattle.pair_moves.specs.Laws.{sum_to};
+ghost use Rattle.mtp3_codec.specs.declared.label.Label.{Label};
+ghost use Rattle.exchange_rules.specs.Messages.{whither_goes};
+ghost use Rattle.exchange_rules.specs.Relaying.{in_place_of, own_of};
+ghost use Rattle.sccp_relay.specs.Relay as rule;
+ghost use Rattle.sccp_relay.specs.Return.{returned};
+ghost use Rattle.sccp_relay.specs.Values.{own_value};
+ghost use Rattle.pair_world.specs.Bringing.{is_sccp, kept_behind, kept_standing, kept_standing_if, goes_on};
+ghost use Rattle.pair_world.specs.Bringing.{comes_back, told_in, written_as, udts_as};
+
+use exchange::{Exchange, NoMemory, Pick};
+use mtp3_codec::{Discrimination, discriminate};
+use sccp_relay::{Own, Relayed, Translations, relay, returned};
+use settings::{Cause, Limits, LinkId, Msu, Outcome, Settings};
+use signalling_types::Number24;
+use std::alloc::Global;
+
+/// The user part that is SCCP (Q.704 §14.2.1).
+const SCCP: u8 = 3;
+
+/// The choice of all messages.
+struct Every;
+
+impl Pick for Every {
+    ghost picks = { λ choice message. true };
+
+    fn picks(&self, _message: &Msu) -> bool {
+        true
+    }
+}
+
+/// Whether a message is one of SCCP.
+pub(crate) fn is_sccp(message: &Msu) -> bool
+    ensures { result ≡ is_sccp message.now }
+{
+    message.service_indicator() == SCCP
+}
+
+/// The translation rows of an exchange, in a table.
+pub(crate) fn rows_of(alloc: Global, exchange: &Exchange) -> Result<Translations, NoMemory>
+    ensures { IfOk result (λ rows. rows ≡ exchange.now.node.parts.titles) }
+{
+    let mut rows = Translations::new(alloc);
+    for index in 0..exchange.title_count() {
+        let Some(row) = exchange.title(index) else {
+            unreachable!()
+        };
+        if rows.add(row).is_err() {
+            return Err(NoMemory);
+        }
+    }
+    Ok(rows)
+}
+
+/// How many user messages stand at an exchange, behind a number on each link and in Held; 0 unless they are counted.
+pub(crate) fn count_standing(exchange: &mut Exchange, counts: bool, number: Number24) -> u128
+    ensures count { result ≡ kept_standing_if counts number exchange.old }
+    ensures unchanged { exchange.new ≡ exchange.old }
+{
+    if !counts {
+        return 0;
+    }
+    let links = exchange.settings().link_count() as u8;
+    let on_links = count_behind(exchange, links, number);
+    on_links + exchange.count_held_picked(&Every) as u128
+}
+
+/// The same, on the first so many links. Each link's count has 64 bits, so the sum has room in 128.
+fn count_behind(exchange: &mut Exchange, links: u8, number: Number24) -> u128
+    ensures count { result ≡ sum_to (kept_behind number exchange.old) links }
+    ensures few { result ≤ links * 2 ^ 64 }
+    ensures unchanged { exchange.new ≡ exchange.old }
+{
+    let mut count = 0u128;
+    for link in 0..links {
+        count += exchange.count_behind(LinkId::new(link), number, &Every) as u128;
+    }
+    count
+}
+
+/// What a message brings in, by what became of it, and by whether more user messages stand then.
+pub(crate) fn told_in(
+    outcome: &Outcome,
+    is_more: bool,
+    settings: &Settings,
+    rows: &Translations,
+    message: &Msu,
+) -> Option<Msu>
+    ensures { option_to_list result ≡ told_in outcome.now is_more settings.now rows.now message.now }
+{
+    match outcome {
+        Outcome::Queued(_) | Outcome::Held => goes_on(settings, rows, message),
+        Outcome::Refused(cause) if is_more => comes_back(*cause, settings, rows, message),
+        Outcome::Refused(_) | Outcome::Local | Outcome::Handled | Outcome::Ignored => None,
+    }
+}
+
+/// What a message brings in that is queued or held.
+fn goes_on(settings: &Settings, rows: &Translations, message: &Msu) -> Option<Msu>
+    ensures { option_to_list result ≡
+        goes_on (whither_goes settings.now message.now) settings.now rows.now message.now }
+{
+    match whither_goes(settings, message) {
+        Discrimination::Here(_) if is_sccp(message) => written(settings, rows, message),
+        Discrimination::Here(_) | Discrimination::Refused(_) => None,
+        Discrimination::Transfer(_) => Some(*message),
+    }
+}
+
+/// What returns a message that is refused, if anything does.
+fn comes_back(cause: Cause, settings: &Settings, rows: &Translations, message: &Msu) -> Option<Msu>
+    ensures { option_to_list result ≡
+        comes_back (whither_goes settings.now message.now) cause settings.now rows.now message.now }
+{
+    match whither_goes(settings, message) {
+        Discrimination::Here(_) if is_sccp(message) => udts(cause, settings, rows, message),
+        Discrimination::Here(_) | Discrimination::Refused(_) | Discrimination::Transfer(_) => None,
+    }
+}
+
+/// Where a message goes.
+fn whither_goes(settings: &Settings, message: &Msu) -> Discrimination
+    ensures whither { result ≡ whither_goes settings.now message.now }
+    ensures whole { (label : Label) → result ≡ Discrimination.Here label → 4 ≤ length message.now.sif }
+{
+    let lent = message.lend();
+    if lent.sif.len() > Limits::SIF_OCTETS {
+        return Discrimination::Refused(Cause::TooLong);
+    }
+    discriminate(lent, settings.own(), settings.network())
+}
+
+/// An SCCP message as its relay writes it, where it goes on.
+fn written(settings: &Settings, rows: &Translations, message: &Msu) -> Option<Msu>
+    requires { 4 ≤ length message.now.sif }
+    ensures { option_to_list result ≡
+        written_as (rule.relay (own_of settings.now) rows.now message.now.sif) message.now }
+{
+    let mut field = [0; Limits::SIF_OCTETS];
+    match relay(message.sif(), rows, &own_of(settings), &mut field) {
+        Relayed::Onward(count) => in_place_of(message, &field[..count]),
+        Relayed::Delivered | Relayed::Refused(_) => None,
+    }
+}
+
+/// The UDTS that returns an SCCP message, if one does.
+fn udts(cause: Cause, settings: &Settings, rows: &Translations, message: &Msu) -> Option<Msu>
+    requires { 4 ≤ length message.now.sif }
+    ensures { option_to_list result ≡
+        udts_as (returned (own_of settings.now) rows.now message.now.sif cause) message.now }
+{
+    let mut field = [0; Limits::SIF_OCTETS];
+    let count = returned(message.sif(), cause, rows, &own_of(settings), &mut field)?;
+    in_place_of(message, &field[..count])
+}
+
+/// The point that a node is, and its subsystems.
+fn own_of(settings: &Settings) -> Own<'_>
+    ensures { own_value result ≡ own_of settings.now }
+{
+    Own {
+        point: settings.own(),
+        subsystems: settings.subsystems(),
+    }
+}
+
+/// A message with another field, and the same service information octet.
+fn in_place_of(message: &Msu, sif: &[u8]) -> Option<Msu>
+    requires { length sif.now ≤ Limits.SIF_OCTETS }
+    ensures { result ≡ Some (in_place_of message.now sif.now) }
+{
+    let Ok(other) = Msu::new(message.sio(), sif) else {
+        unreachable!()
+    };
+    Some(other)
+}
