@@ -7,13 +7,17 @@ ghost use Rattle.sctp_endpoint.specs.Settings.{settings_of};
 mod aborts;
 mod answering;
 mod beating;
+mod bundling;
 mod cookies;
 mod echoing;
 mod ending;
+mod flushing;
+mod giving;
 mod init_acks;
 mod opening;
 mod replying;
 mod retrying;
+mod sacking;
 mod sending;
 mod ties;
 
