@@ -7,4 +7,5 @@ pub mod Endpoints
 pub mod Drawn
 pub mod Beginning
 pub mod Hearing
+pub mod Arriving
 pub mod Inside

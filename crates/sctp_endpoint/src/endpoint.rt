@@ -14,7 +14,9 @@ mod init_acks;
 mod opening;
 mod replying;
 mod retrying;
+mod sacks;
 mod sending;
+mod shutting;
 mod ties;
 
 use crate::address::Address;

@@ -113,6 +113,13 @@ impl Sender {
             && self.finds_window(MOST_OCTETS)
     }
 
+    /// How many messages were taken and aren't confirmed.
+    pub fn len(&self) -> usize
+        ensures { result ≡ length self.now.out }
+    {
+        self.outbox.len()
+    }
+
     /// Whether less is under way than the congestion window has.
     fn has_credit(&self) -> bool
         ensures { result ≡ has_credit self.now }
