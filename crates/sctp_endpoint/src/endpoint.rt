@@ -18,6 +18,7 @@ mod sacks;
 mod sending;
 mod shutting;
 mod ties;
+mod unknown;
 
 use crate::address::Address;
 use crate::beginnings::Beginnings;
