@@ -8,4 +8,5 @@ pub mod Drawn
 pub mod Beginning
 pub mod Hearing
 pub mod Bundling
+pub mod Arriving
 pub mod Inside

@@ -18,8 +18,11 @@ mod opening;
 mod replying;
 mod retrying;
 mod sacking;
+mod sacks;
 mod sending;
+mod shutting;
 mod ties;
+mod unknown;
 
 use crate::address::Address;
 use crate::beginnings::Beginnings;

@@ -2,17 +2,16 @@
 
 ghost use Rattle.std.specs.Prelude.{◌≡◌, ◌≤◌, ◌^◌, sum_by, take};
 ghost use Rattle.sctp_rules.specs.State.{with_association};
-ghost use Rattle.sctp_rules.specs.Data.{takes_sack};
 ghost use Rattle.sctp_rules.specs.Sending.{data_of, with_data_sent, flush};
 ghost use Rattle.sctp_endpoint.specs.Bundling.{Bundles, way_of, draft_of};
 ghost use Rattle.sctp_endpoint.specs.Endpoints.{Does};
 ghost use Rattle.sctp_endpoint.specs.Replies.{size_of};
 
 use crate::endpoint::Endpoint;
+use crate::endpoint::sacks::takes_sack;
 use crate::packets::{blank, write_at};
 use crate::watch::Watch;
 use sctp_codec::PacketBuffer;
-use sctp_rules::Phase;
 
 impl Endpoint {
     /// All that is due goes out, bundled into packets: the answers that wait, SACK, and DATA, as much as may.
@@ -65,14 +64,4 @@ impl Endpoint {
             end
         }
     }
-}
-
-/// The states in which SACK counts, and DATA goes out.
-fn takes_sack(phase: Phase) -> bool
-    ensures { result ≡ takes_sack phase }
-{
-    matches!(
-        phase,
-        Phase::Established | Phase::ShutdownPending | Phase::ShutdownReceived
-    )
 }

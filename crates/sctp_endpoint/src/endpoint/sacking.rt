@@ -54,7 +54,7 @@ impl Endpoint {
         }
         let at = self.bundle_shutdown(out, end, watch);
         let at = self.bundle_sack(out, at, watch);
-        self.note_sack(now);
+        self.note_outgoing_sack(now);
         at
     }
 
@@ -107,7 +107,7 @@ impl Endpoint {
     }
 
     /// SACK went out; T2 begins anew where a SHUTDOWN did.
-    fn note_sack(&mut self, now: u64)
+    fn note_outgoing_sack(&mut self, now: u64)
         requires { now ≤ 2 ^ 63 }
         ensures { self.new ≡ record self.old {
           state = with_association self.old.state (record (sacked self.old.state.association) {
