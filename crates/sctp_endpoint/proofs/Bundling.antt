@@ -1,6 +1,6 @@
 -- Chunks that are bundled into packets.
-use Rattle.std.proofs.Common.{◌≡◌, ℕ, zero, suc, ◌+◌, ◌*◌, ◌-◌, ◌<◌, ◌≤◌, Bool, true, false, List, [], ◌∷◌, ◌++◌, length, map, Option, Some, None, refl, sym, ap, subst, ◌∙◌, length-append, arith}
-use Rattle.std.specs.Prelude.{sum_by, ◌&&◌, nat_lt, if◌then◌else◌, replicate}
+use Rattle.std.proofs.Common.{◌≡◌, ℕ, ◌+◌, ◌<◌, ◌≤◌, Bool, true, false, List, [], ◌∷◌, ◌++◌, length, map, refl, sym, ap, subst, ◌∙◌, length-append, arith}
+use Rattle.std.specs.Prelude.{sum_by, if◌then◌else◌, replicate}
 use Rattle.std.proofs.lemmas.Bool.{le-ltb, lt-ltb}
 use Rattle.std.proofs.lemmas.List.{append_assoc, append-nil, map-append}
 use Rattle.std.proofs.lemmas.List.Sums.{sum_by-cons, sum_by-append}
@@ -9,7 +9,7 @@ use Rattle.sctp_codec.specs.Packets.{ChunkValue}
 use Rattle.sctp_codec.specs.Writing.{chunk_item, chunk_octets, value_octets, header_octets, headed}
 use Rattle.sctp_rules.specs.Settings.{Address}
 use Rattle.sctp_rules.specs.State.{Told, packet_to}
-use Rattle.sctp_rules.specs.Sending.{is_some, closed, bundled}
+use Rattle.sctp_rules.specs.Sending.{closed, bundled}
 use Rattle.sctp_endpoint.specs.Replies.{size_of}
 use Rattle.sctp_endpoint.specs.ChunkRows.{row_of, packet_text}
 use Rattle.sctp_endpoint.specs.Watching.{Sent, sent_as}

@@ -10,7 +10,7 @@ use Rattle.sctp_sending.specs.Outgoing.{Outgoing, outgoing_at, tsn_at, gone_out,
 use Rattle.sctp_sending.specs.Sending.{Sending, next_place, gone, gone_next, gone_again, gone_first}
 use Rattle.sctp_sending.specs.declared.message.Message.{Message}
 use Rattle.sctp_rules.specs.State.{Told}
-use Rattle.sctp_rules.specs.Confirming.{Gone, data_of, data_at, gone_from, behind_chunk, going}
+use Rattle.sctp_rules.specs.Confirming.{Gone, data_of, data_at, gone_from, going}
 use Rattle.sctp_endpoint.specs.Endpoints.{Endpoint}
 use Rattle.sctp_endpoint.specs.Watching.{Sent}
 use Rattle.sctp_endpoint.specs.Bundling.{Way, way_of, Bundles, next_chunks, with_sender}

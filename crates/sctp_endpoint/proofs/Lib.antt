@@ -8,3 +8,4 @@ pub mod Bundling
 pub mod Sacks
 pub mod Going
 pub mod Flushing
+pub mod Ticking

@@ -1,8 +1,8 @@
 -- SACK and SHUTDOWN that go out.
-use Rattle.std.proofs.Common.{◌≡◌, ◌≢◌, ℕ, ◌+◌, ◌*◌, ◌^◌, ◌<◌, ◌≤◌, Bool, true, false, List, [], ◌∷◌, ◌++◌, length, take, map, refl, sym, ap, subst, ◌∙◌, length-append, arith}
+use Rattle.std.proofs.Common.{◌≡◌, ◌≢◌, ℕ, ◌+◌, ◌*◌, ◌^◌, ◌<◌, ◌≤◌, true, false, List, [], ◌∷◌, ◌++◌, length, take, map, refl, sym, ap, ◌∙◌, arith}
 use Rattle.std.specs.Prelude.{get_or, set}
 use Rattle.std.proofs.lemmas.List.{take_more, take_more_set, map-append, length-map, length-take-le}
-use Rattle.sctp_codec.specs.Packets.{ChunkValue, BlockValue, SackValue, SackChunk, ShutdownChunk}
+use Rattle.sctp_codec.specs.Packets.{BlockValue, SackValue, SackChunk, ShutdownChunk}
 use Rattle.sctp_codec.specs.Values as value
 use Rattle.sctp_codec.specs.Writing.{chunk_octets, sack_octets}
 use Rattle.sctp_codec.specs.declared.chunk.Block as codec
@@ -17,7 +17,7 @@ use Rattle.sctp_rules.specs.declared.phase.Phase.TheVariants.{ShutdownPending, S
 use Rattle.sctp_rules.specs.declared.phase.Phase.TheVariants.{ShutdownAckSent}
 use Rattle.sctp_rules.specs.State.{Association, Told}
 use Rattle.sctp_rules.specs.Data.{block_of, sack_of}
-use Rattle.sctp_rules.specs.Sending.{acknowledgement, acknowledgement_in, is_acknowledging, with_acknowledged}
+use Rattle.sctp_rules.specs.Sending.{acknowledgement, acknowledgement_in, is_acknowledging}
 use Rattle.sctp_endpoint.specs.Replies.{size_of}
 use Rattle.sctp_endpoint.specs.Watching.{Sent}
 use Rattle.sctp_endpoint.specs.Bundling.{Way, HasMadeRoom, Bundles, shutdown_chunks}

@@ -13,6 +13,7 @@ mod echoing;
 mod ending;
 mod flushing;
 mod giving;
+mod heartbeats;
 mod init_acks;
 mod opening;
 mod replying;
@@ -21,7 +22,9 @@ mod sacking;
 mod sacks;
 mod sending;
 mod shutting;
+mod ticking;
 mod ties;
+mod timing;
 mod unknown;
 
 use crate::address::Address;

@@ -1,8 +1,8 @@
-use Rattle.std.proofs.Common.{◌≡◌, ◌<◌, length, take, ap, subst, sym, List, arith, ◌∙◌}
+use Rattle.std.proofs.Common.{◌≡◌, length, take, ap, subst, sym, List, arith, ◌∙◌}
 use Rattle.sctp_codec.specs.Packets.{ChunkValue}
 use Rattle.sctp_sending.specs.Sending.{Sending}
 use Rattle.sctp_endpoint.specs.Inside.{endpoint_in}
-use Rattle.sctp_endpoint.specs.Bundling.{way_of, Bundles, next_chunks}
+use Rattle.sctp_endpoint.specs.Bundling.{way_of, Bundles}
 use Rattle.sctp_endpoint.proofs.Bundling.{bundles-none}
 use Rattle.sctp_endpoint.proofs.Going.{gone-long, next-said}
 use Rattle.sctp_endpoint.proofs.endpoint.Endpoint.bundle_next.Goals as goal

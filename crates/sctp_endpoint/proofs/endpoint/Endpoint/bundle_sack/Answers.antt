@@ -1,8 +1,7 @@
-use Rattle.std.proofs.Common.{◌≡◌, ◌+◌, ◌*◌, ℕ, length, map, take, refl, ap, subst, ◌∷◌, [], ◌∙◌, arith}
+use Rattle.std.proofs.Common.{◌≡◌, ◌+◌, ◌*◌, length, map, take, refl, ap, subst, ◌∷◌, [], ◌∙◌, arith}
 use Rattle.sctp_codec.specs.Packets.{ChunkValue, SackChunk}
 use Rattle.sctp_codec.specs.Values as value
-use Rattle.sctp_rules.specs.Data.{sack_of, block_of}
-use Rattle.sctp_receiving.specs.Sack.{blocks}
+use Rattle.sctp_rules.specs.Data.{sack_of}
 use Rattle.sctp_endpoint.specs.Replies.{size_of}
 use Rattle.sctp_endpoint.specs.Endpoints.{Endpoint}
 use Rattle.sctp_endpoint.specs.Bundling.{way_of, Bundles}

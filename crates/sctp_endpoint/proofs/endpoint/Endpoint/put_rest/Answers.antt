@@ -1,4 +1,4 @@
-use Rattle.std.proofs.Common.{take, length, arith}
+use Rattle.std.proofs.Common.{take, arith}
 use Rattle.std.proofs.lemmas.List.{length-take-le}
 use Rattle.sctp_endpoint.specs.Bundling.{way_of}
 use Rattle.sctp_endpoint.proofs.Bundling.{rest-some, rest-none}

@@ -1,4 +1,4 @@
-use Rattle.std.proofs.Common.{◌≡◌, ◌<◌, length, refl, ◌∙◌, ap, arith}
+use Rattle.std.proofs.Common.{◌<◌, length, refl, ◌∙◌, arith}
 use Rattle.std.specs.Prelude.{get_or}
 use Rattle.std.proofs.lemmas.List.{length-set}
 use Rattle.sctp_endpoint.proofs.Sacks.{block-more}
