@@ -6,7 +6,7 @@ use Rattle.sctp_cookie.specs.declared.cookie.Cookie.{Cookie}
 use Rattle.sctp_codec.specs.Packets.{ChunkValue, PacketValue, kind_of, SackChunk, HeartbeatChunk, CookieAckChunk}
 use Rattle.sctp_codec.specs.Packets.{AbortChunk, ShutdownAckChunk, InitChunk, InitAckChunk, HeartbeatAckChunk}
 use Rattle.sctp_codec.specs.Packets.{InitValue}
-use Rattle.sctp_codec.specs.Packets.{UnknownChunk, DataChunk, ShutdownCompleteChunk}
+use Rattle.sctp_codec.specs.Packets.{UnknownChunk, DataChunk, ShutdownChunk, ShutdownCompleteChunk}
 use Rattle.sctp_codec.specs.Parameters.{information_of}
 use Rattle.sctp_rules.specs.declared.phase.Phase.TheVariants.{Closed, CookieWait, CookieEchoed, Established}
 use Rattle.sctp_rules.specs.declared.phase.Phase.TheVariants.{ShutdownPending, ShutdownSent, ShutdownAckSent}
@@ -230,6 +230,23 @@ other_echoes = other (comes 5 (packet answers_other)) other_tries.left
 abbrev pub restart_is_a_loss : Type 0
 restart_is_a_loss =
     Does (far (comes 6 (packet other_echoes)) answers_other.left) Closed ((9 ∷ []) ∷ []) (Down Restart ∷ [])
+
+-- in SHUTDOWN-ACK-SENT it isn't: SHUTDOWN ACK goes out again, and ERROR by itself
+abbrev pub restarts_late : Done
+restarts_late = far (Flushes 11) (far (comes 11 (of_chunk 20 (ShutdownChunk 99))) answers_other.left).left
+
+abbrev pub refuses_restart : Done
+refuses_restart = far (comes 12 (packet other_echoes)) restarts_late.left
+
+abbrev pub restart_is_refused_in_shutdown : Type 0
+restart_is_refused_in_shutdown = Does refuses_restart ShutdownAckSent ((8 ∷ []) ∷ (9 ∷ []) ∷ []) []
+
+-- by the answer to SHUTDOWN ACK the association ends
+abbrev pub answers_late_shutdown : Done
+answers_late_shutdown = other (comes 13 (packet refuses_restart)) other_echoes.left
+
+abbrev pub restarted_peer_completes : Type 0
+restarted_peer_completes = Does (far (comes 14 (packet answers_late_shutdown)) refuses_restart.left) Closed [] []
 
 -- ---- DATA and SACK (§6)
 
