@@ -985,7 +985,7 @@ module _ (own far : Secrets) (mark : ℕ) (other : End) (good : AreGood own) whe
   heard-chunk c now wire tag (packets.ShutdownCompleteChunk is_reflected) s h t =
       hearing tag s _ t
       (handled-either (arriving.has_tag s.association wire (packets.ShutdownCompleteChunk is_reflected)) s
-      (arriving.while_there (shutdown.heard_shutdown_complete c s)) (arriving.while_there (silent s))
+      (arriving.while_there wire (shutdown.heard_shutdown_complete c s)) (arriving.while_there wire (silent s))
       (shutdown-complete-in s.association.phase c s) (stays s))
   heard-chunk c now wire tag (packets.UnknownChunk kind flags value) s h t = hearing tag s _ t (heard-unknown kind flags value s)
   heard-chunk c now wire tag (packets.MalformedChunk kind) s h t = hearing tag s _ t (stays s)

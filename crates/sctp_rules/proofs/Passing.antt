@@ -810,7 +810,7 @@ module _ {IsCome : DataValue → Type 0} {R : State → Done → Type 0} (steps 
   heard-chunk c k now tag packets.CookieAckChunk s h r = heard-cookie-ack c now s r
   heard-chunk c k now tag (packets.ShutdownCompleteChunk is_reflected) s h r =
       handled-either (arriving.has_tag s.association tag (packets.ShutdownCompleteChunk is_reflected)) s
-      (arriving.while_there (shutdown.heard_shutdown_complete c s)) (arriving.while_there (silent s))
+      (arriving.while_there tag (shutdown.heard_shutdown_complete c s)) (arriving.while_there tag (silent s))
       (shutdown-complete-in s.association.phase c s r) (stays s [] r)
   heard-chunk c k now tag (packets.UnknownChunk kind flags value) s h r = heard-unknown kind flags value s r
   heard-chunk c k now tag (packets.MalformedChunk kind) s h r = stays s [] r

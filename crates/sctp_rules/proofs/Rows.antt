@@ -177,6 +177,10 @@ pub stale_cookie_begins_anew : rows.stale_cookie_begins_anew
 unfolding after going drained run_from blocks_from lost_from named_below passed_below given next_place gone_again gone_first confirmation confirmed settled acknowledged after_t3 stopped
 stale_cookie_begins_anew = record { phase_is = refl; sent_is = refl; told_is = refl }
 
+pub former_try_opens_nothing : rows.former_try_opens_nothing
+unfolding after going drained run_from blocks_from lost_from named_below passed_below given next_place gone_again gone_first confirmation confirmed settled acknowledged after_t3 stopped
+former_try_opens_nothing = record { phase_is = refl; sent_is = refl; told_is = refl }
+
 pub unusable_init_ack_ends_the_try : rows.unusable_init_ack_ends_the_try
 unfolding after going drained run_from blocks_from lost_from named_below passed_below given next_place gone_again gone_first confirmation confirmed settled acknowledged after_t3 stopped
 unusable_init_ack_ends_the_try = record { phase_is = refl; sent_is = refl; told_is = refl }

@@ -1,5 +1,5 @@
 -- Rows of the state table, at two endpoints that face each other.
-use Rattle.std.specs.Prelude.{◌≡◌, ℕ, true, false, ◌+◌, List, [], ◌∷◌, Option, Some, None, map, length}
+use Rattle.std.specs.Prelude.{◌≡◌, ℕ, true, false, ◌+◌, List, [], ◌∷◌, ◌++◌, Option, Some, None, map, length}
 use Rattle.sctp_receiving.specs.Pieces as pieces
 use Rattle.sctp_sending.specs.Outgoing.{Message}
 use Rattle.sctp_cookie.specs.declared.cookie.Cookie.{Cookie}
@@ -7,7 +7,7 @@ use Rattle.sctp_codec.specs.Packets.{ChunkValue, PacketValue, kind_of, SackChunk
 use Rattle.sctp_codec.specs.Packets.{AbortChunk, ShutdownAckChunk, InitChunk, InitAckChunk, HeartbeatAckChunk}
 use Rattle.sctp_codec.specs.Packets.{InitValue}
 use Rattle.sctp_codec.specs.Packets.{UnknownChunk, DataChunk, ShutdownChunk, ShutdownCompleteChunk}
-use Rattle.sctp_codec.specs.Parameters.{information_of}
+use Rattle.sctp_codec.specs.Parameters.{information_of, state_cookie}
 use Rattle.sctp_rules.specs.declared.phase.Phase.TheVariants.{Closed, CookieWait, CookieEchoed, Established}
 use Rattle.sctp_rules.specs.declared.phase.Phase.TheVariants.{ShutdownPending, ShutdownSent, ShutdownAckSent}
 use Rattle.sctp_rules.specs.declared.phase.Phase.{Phase}
@@ -407,6 +407,18 @@ refuses_old_cookie = far (comes 60002 (packet echoes)) answers.left
 abbrev pub stale_cookie_begins_anew : Type 0
 stale_cookie_begins_anew =
     Does (near (comes 60003 (packet refuses_old_cookie)) echoes.left) CookieWait ((1 ∷ []) ∷ []) []
+
+abbrev pub init_with_cookie : List ℕ → InitValue
+init_with_cookie cookie =
+    init_of (record { tag = 20; first = 5 }) (record { kind = state_cookie; value = cookie } ∷ [])
+
+-- chunks behind that ERROR are of the try that is over
+abbrev pub opening_behind : PacketValue → PacketValue
+opening_behind p = record p { chunks = p.chunks ++ InitAckChunk (init_with_cookie (1 ∷ [])) ∷ CookieAckChunk ∷ [] }
+
+abbrev pub former_try_opens_nothing : Type 0
+former_try_opens_nothing =
+    Does (near (comes 60003 (opening_behind (packet refuses_old_cookie))) echoes.left) CookieWait ((1 ∷ []) ∷ []) []
 
 abbrev pub too_few_streams : InitValue
 too_few_streams = record (init_of (record { tag = 20; first = 5 }) []) { incoming = 1 }
