@@ -154,6 +154,7 @@ impl Sender {
         ensures tsn { result.tsn ≡ tsn_at self.now.first place }
         ensures sequence { result.sequence ≡ (outgoing_at self.now.out place).sequence }
         ensures message { given_as result.message ≡ (outgoing_at self.now.out place).message }
+        ensures most { length result.message.octets.now ≤ 290 }
     {
         let cell = self.outbox.get(place);
         Data {
