@@ -4,3 +4,8 @@ pub mod Keyed
 pub mod Answering
 pub mod Hearing
 pub mod Complaining
+pub mod Draining
+pub mod Chained
+pub mod Growing
+pub mod Counting
+pub mod Dispatching

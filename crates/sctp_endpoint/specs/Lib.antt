@@ -8,4 +8,6 @@ pub mod Drawn
 pub mod Beginning
 pub mod Hearing
 pub mod Arriving
+pub mod Draining
+pub mod Dispatching
 pub mod Inside
