@@ -11,7 +11,7 @@ use Rattle.sctp_receiving.specs.Receiver as receiving
 use Rattle.sctp_codec.specs.Items.{ItemValue}
 use Rattle.sctp_codec.specs.Packets as packets
 use Rattle.sctp_codec.specs.Packets.{ChunkValue, InitValue, SackValue, DataValue, PacketValue}
-use Rattle.sctp_codec.specs.Parameters.{CauseValue, InvalidParameter, EndedByUser, NoUserData}
+use Rattle.sctp_codec.specs.Parameters.{CauseValue, InvalidParameter, EndedByUser, NoUserData, CookieInShutdown}
 use Rattle.sctp_codec.specs.Parameters.{UnrecognizedChunk, cause_item, cookie_in, host_name_in, has_stale_cookie}
 use Rattle.sctp_codec.specs.Parameters.{information_of}
 use Rattle.sctp_sending.specs.Outgoing.{Message}
@@ -548,8 +548,11 @@ module _ {IsCome : DataValue → Type 0} {R : State → Done → Type 0} (steps 
   restarted : (phase : Phase) (c : Settings) (source : Address) (cookie : Cookie) (s : State) → Right s →
       Passes R s (opening.restarted phase c source cookie s)
   restarted ShutdownAckSent c source cookie s r =
-      let x : Done = opening.restarted ShutdownAckSent c source cookie s in
-      plainly s x.left x.sent (record { generation = refl; up = refl; own_tag = refl; peer = refl; receiver = refl; takes = λ e. e }) (record { right = r.right })
+      let again : Done = state.put c s.association.address s.association.far_tag (packets.ShutdownAckChunk ∷ []) s in
+      let error : List ChunkValue = packets.ErrorChunk (cause_item CookieInShutdown ∷ []) ∷ [] in
+      next s again (λ left. state.put c source cookie.peer_tag error left)
+      (putting c s.association.address s.association.far_tag (packets.ShutdownAckChunk ∷ []) s r)
+      (λ left q. putting c source cookie.peer_tag error left q)
   restarted Closed c source cookie s r = restart c source cookie s
   restarted CookieWait c source cookie s r = restart c source cookie s
   restarted CookieEchoed c source cookie s r = restart c source cookie s
@@ -807,7 +810,7 @@ module _ {IsCome : DataValue → Type 0} {R : State → Done → Type 0} (steps 
   heard-chunk c k now tag packets.CookieAckChunk s h r = heard-cookie-ack c now s r
   heard-chunk c k now tag (packets.ShutdownCompleteChunk is_reflected) s h r =
       handled-either (arriving.has_tag s.association tag (packets.ShutdownCompleteChunk is_reflected)) s
-      (arriving.while_there (shutdown.heard_shutdown_complete c s)) (arriving.while_there (silent s))
+      (arriving.while_there tag (shutdown.heard_shutdown_complete c s)) (arriving.while_there tag (silent s))
       (shutdown-complete-in s.association.phase c s r) (stays s [] r)
   heard-chunk c k now tag (packets.UnknownChunk kind flags value) s h r = heard-unknown kind flags value s r
   heard-chunk c k now tag (packets.MalformedChunk kind) s h r = stays s [] r
