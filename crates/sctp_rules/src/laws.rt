@@ -11,8 +11,9 @@ pub fn users_are_told_in_turn()
     ensures { told_in_turn }
 {}
 
-/// Whatever happens, the receiver of an association is one to which chunks of packets came, from the peer's first TSN
-/// on; and the messages that were told since Up are those that it told.
+/// Whatever happens: all that the user is told in an association, from Up to Down, is what a receiver tells to which
+/// DATA came that came with the association's own tag since it opened, in the packet that opened it or later, counted
+/// from the peer's first TSN on. And while DATA counts that receiver is the endpoint's.
 pub fn what_is_told_was_received()
     ensures { messages_are_received }
 {}
