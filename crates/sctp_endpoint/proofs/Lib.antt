@@ -4,3 +4,8 @@ pub mod Keyed
 pub mod Answering
 pub mod Hearing
 pub mod Complaining
+pub mod Bundling
+pub mod Sacks
+pub mod Going
+pub mod Flushing
+pub mod Ticking

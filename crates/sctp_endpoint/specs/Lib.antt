@@ -7,4 +7,6 @@ pub mod Endpoints
 pub mod Drawn
 pub mod Beginning
 pub mod Hearing
+pub mod Bundling
+pub mod Arriving
 pub mod Inside

@@ -37,7 +37,7 @@ impl Endpoint {
     }
 
     /// It ends, and the answers that wait don't go out.
-    fn end_alone<W: Watch>(&mut self, why: Loss, last: Option<&Reply<'_>>, watch: &mut W)
+    pub(super) fn end_alone<W: Watch>(&mut self, why: Loss, last: Option<&Reply<'_>>, watch: &mut W)
         requires generation { self.old.state.generation < 2 ^ 64 - 1 }
         requires last { size_of_last last ≤ 64 }
         ensures { Does W.sent W.told watch.old watch.new self.old self.new
