@@ -1,0 +1,142 @@
+//! All that an endpoint ever put out and told.
+
+ghost use Rattle.std.specs.Prelude.{◌≡◌, [], ◌∷◌, ◌++◌, IfOk, OnOk};
+ghost use Rattle.sctp_endpoint.specs.Settings.{address_of};
+ghost use Rattle.sctp_endpoint.specs.Watching.{told_of};
+ghost use Rattle.sctp_world.specs.Kept.{told_by_entry};
+
+use crate::text::Text;
+use sctp_endpoint::{Address, Event, Watch};
+use sctp_rules::Loss;
+use std::alloc::{AllocError, Global};
+use std::marker::Model;
+use std::process::Abort;
+
+/// A datagram that was put out.
+#[derive(Drop)]
+pub struct Datagram {
+    octets: Vec<u8>,
+    to: Address,
+}
+
+impl Model for Datagram {
+    ghost use Rattle.sctp_endpoint.specs.Settings.{address_of};
+    ghost use Rattle.sctp_endpoint.specs.Watching.{Sent};
+
+    ghost Value = { Sent };
+
+    ghost view = { λ datagram. record { octets = datagram.octets.items; to = address_of datagram.to } };
+}
+
+/// What the user was told.
+#[derive(Drop)]
+pub enum Entry {
+    /// The association is there.
+    Up,
+    /// A message of the peer.
+    Heard(Text),
+    /// The association is over.
+    Down(Loss),
+    /// No association came to be.
+    Failed(Loss),
+}
+
+/// What the user was told, as it is kept.
+#[derive(Drop)]
+pub struct Kept {
+    what: Entry,
+}
+
+impl Model for Kept {
+    ghost use Rattle.sctp_rules.specs.State.{Told};
+    ghost use Rattle.sctp_world.specs.Kept.{told_by_entry};
+
+    ghost Value = { Told };
+
+    ghost view = { λ kept. told_by_entry kept.what };
+}
+
+/// All datagrams that an endpoint ever put out, and all that its user was told, in order. Where memory runs out for
+/// one more, the process ends.
+#[derive(Drop)]
+pub struct Log<'r, R: Abort> {
+    handle: &'r R,
+    alloc: Global,
+    sent: Vec<Datagram>,
+    told: Vec<Kept>,
+}
+
+impl<'r, R: Abort> Log<'r, R> {
+    /// Nothing was put out, and nothing told.
+    pub fn new(handle: &'r R, alloc: Global) -> Log<'r, R>
+        ensures sent { result.sent.items ≡ [] }
+        ensures told { result.told.items ≡ [] }
+    {
+        Log {
+            handle,
+            alloc,
+            sent: Vec::new(alloc),
+            told: Vec::new(alloc),
+        }
+    }
+
+    /// Keeps a datagram.
+    fn keep(&mut self, octets: &[u8], to: &Address) -> Result<(), AllocError>
+        ensures sent { OnOk result
+            (self.new.sent.items ≡ self.old.sent.items ++ record { octets = octets.now; to = address_of to.now } ∷ []) }
+        ensures told { self.new.told.items ≡ self.old.told.items }
+    {
+        let mut copy = Vec::new(self.alloc);
+        copy.extend_from_slice(octets)?;
+        self.sent.push(Datagram {
+            octets: copy,
+            to: *to,
+        })?;
+        Ok(())
+    }
+
+    /// Keeps what is told.
+    fn note(&mut self, event: &Event<'_>) -> Result<(), AllocError>
+        ensures sent { self.new.sent.items ≡ self.old.sent.items }
+        ensures told { OnOk result (self.new.told.items ≡ self.old.told.items ++ told_of event.now ∷ []) }
+    {
+        let what = entry_of(self.alloc, event)?;
+        self.told.push(Kept { what })?;
+        Ok(())
+    }
+}
+
+/// What is told, with octets of its own.
+fn entry_of(alloc: Global, event: &Event<'_>) -> Result<Entry, AllocError>
+    ensures { IfOk result (λ what. told_by_entry what ≡ told_of event.now) }
+{
+    match event {
+        Event::Up => Ok(Entry::Up),
+        Event::Heard(message) => {
+            let text = Text::new(alloc, message.stream, message.protocol, message.octets)?;
+            Ok(Entry::Heard(text))
+        }
+        Event::Down(why) => Ok(Entry::Down(*why)),
+        Event::Failed(why) => Ok(Entry::Failed(*why)),
+    }
+}
+
+impl<'r, R: Abort> Watch for Log<'r, R> {
+    ghost sent = { λ log. log.sent.items };
+
+    ghost told = { λ log. log.told.items };
+
+    fn send(&mut self, octets: &[u8], to: &Address) {
+        match self.keep(octets, to) {
+            Ok(()) => {}
+            Err(AllocError) => self.handle.abort(),
+        }
+    }
+
+    fn tell(&mut self, event: &Event<'_>) {
+        match self.note(event) {
+            Ok(()) => {}
+            Err(AllocError) => self.handle.abort(),
+        }
+    }
+}
