@@ -7,12 +7,21 @@ use Rattle.sctp_codec.specs.Packets.{InitValue}
 use Rattle.sctp_cookie.specs.declared.cookie.Cookie.{Cookie}
 use Rattle.sctp_rules.specs.declared.loss.Loss.TheVariants.{Restart}
 use Rattle.sctp_rules.specs.Settings.{Address}
-use Rattle.sctp_rules.specs.State.{Told, State, Done, silent, followed_by}
+use Rattle.sctp_rules.specs.State.{Told, State, Done, silent, behind, followed_by}
 use Rattle.sctp_rules.specs.Ending.{ended}
 use Rattle.sctp_rules.specs.Opening.{stale, staleness, is_waiting, begun_anew, answered_alike, answered_if_trying, answered_echoed}
 use Rattle.sctp_endpoint.specs.Watching.{Sent, sent_as, Gives}
 use Rattle.sctp_endpoint.specs.Endpoints.{Endpoint, Does, secrets_of}
 use Rattle.sctp_endpoint.specs.Hearing.{heard_another, heard_in_time}
+
+-- a watch that one rule gave to, and then another
+pub given-behind : {W : Type 0} (sent : W → List Sent) (told : W → List Told) (w v u : W) (first second : Done)
+    → Gives sent told w v first → Gives sent told v u second → Gives sent told w u (behind first second)
+given-behind sent told w v u first second g h = record {
+  sent_is = h.sent_is ∙ ap (λ (xs : List Sent). xs ++ map sent_as second.sent) g.sent_is ∙ append_assoc (sent w) (map sent_as first.sent) (map sent_as second.sent)
+      ∙ ap (λ (xs : List Sent). sent w ++ xs) (sym (map-append sent_as first.sent second.sent));
+  told_is = h.told_is ∙ ap (λ (xs : List Told). xs ++ second.told) g.told_is ∙ append_assoc (told w) first.told second.told;
+}
 
 pub stale-in-time : {W : Type 0} (sent : W → List Sent) (told : W → List Told) (w v : W) (e : Endpoint) (source : Address) (now : ℕ) (cookie : Cookie)
     → nat_eq cookie.generation e.state.generation ≡ false → Gives sent told w v (stale e.settings source 1 cookie e.state)
@@ -35,14 +44,7 @@ lost-restarted sent told w v u e f source cookie d g =
     let first : Done = ended e.settings Restart e.state in
     let second : Done = stale e.settings source 1 cookie first.left in
     let h : Gives sent told v u second = subst (λ (x : Endpoint). Gives sent told v u (stale x.settings source 1 cookie x.state)) d.left_is g in
-    record {
-      gives = record {
-        sent_is = h.sent_is ∙ ap (λ (xs : List Sent). xs ++ map sent_as second.sent) d.gives.sent_is ∙ append_assoc (sent w) (map sent_as first.sent) (map sent_as second.sent)
-            ∙ ap (λ (xs : List Sent). sent w ++ xs) (sym (map-append sent_as first.sent second.sent));
-        told_is = h.told_is ∙ ap (λ (xs : List Told). xs ++ second.told) d.gives.told_is ∙ append_assoc (told w) first.told second.told;
-      };
-      left_is = d.left_is;
-    }
+    record { gives = given-behind sent told w v u first second d.gives h; left_is = d.left_is }
 
 if-left : (b : Bool) (x y : Done) (s : State) → x.left ≡ s → y.left ≡ s → (if b then x else y).left ≡ s
 if-left true x y s p q = p
@@ -61,10 +63,6 @@ begun-answered sent told w v u e f to source now init here other d g =
     let h : Gives sent told v u second = subst (λ (x : Endpoint). Gives sent told v u (answered_if_trying x.settings (secrets_of x) now source init x.state)) b.left_is g in
     let left : second.left ≡ first.left = if-left (is_waiting first.left.association.phase) (answered_alike e.settings (secrets_of e) now source init first.left) (silent first.left) first.left refl refl in
     rw other (record {
-      gives = record {
-        sent_is = h.sent_is ∙ ap (λ (xs : List Sent). xs ++ map sent_as second.sent) b.gives.sent_is ∙ append_assoc (sent w) (map sent_as first.sent) (map sent_as second.sent)
-            ∙ ap (λ (xs : List Sent). sent w ++ xs) (sym (map-append sent_as first.sent second.sent));
-        told_is = h.told_is ∙ ap (λ (xs : List Told). xs ++ second.told) b.gives.told_is ∙ append_assoc (told w) first.told second.told;
-      };
+      gives = given-behind sent told w v u first second b.gives h;
       left_is = b.left_is ∙ ap (λ (t : State). record e { state = t }) (sym left);
     })

@@ -4,3 +4,13 @@ pub mod Keyed
 pub mod Answering
 pub mod Hearing
 pub mod Complaining
+pub mod Draining
+pub mod Chained
+pub mod Growing
+pub mod Counting
+pub mod Dispatching
+pub mod Bundling
+pub mod Sacks
+pub mod Going
+pub mod Flushing
+pub mod Ticking

@@ -7,4 +7,8 @@ pub mod Endpoints
 pub mod Drawn
 pub mod Beginning
 pub mod Hearing
+pub mod Bundling
+pub mod Arriving
+pub mod Draining
+pub mod Dispatching
 pub mod Inside

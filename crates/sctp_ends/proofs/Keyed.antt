@@ -1,5 +1,5 @@
 -- What is drawn and signed under keys is good.
-use Rattle.std.proofs.Common.{◌≡◌, ◌≢◌, ℕ, zero, suc, ◌+◌, ◌-◌, ◌^◌, ◌<◌, ◌≤◌, arith, Bool, true, false, List, [], ◌∷◌, Option, Some, None, inl, inr, refl, ap, sym, ◌∙◌, subst}
+use Rattle.std.proofs.Common.{◌≡◌, ◌≢◌, ℕ, zero, suc, ◌+◌, ◌-◌, ◌^◌, ◌<◌, ◌≤◌, arith, Bool, true, false, List, [], ◌∷◌, Option, Some, None, inl, inr, refl, ap, sym, ◌∙◌, subst, length, length-append}
 use Rattle.std.specs.Prelude.{◌&&◌, if◌then◌else◌, nat_lt}
 use Rattle.std.specs.Str.{bytes_eq}
 use Rattle.std.proofs.lemmas.Bool.{cases_lt, cases_eq, eq-eqb, ne_eqb, lt-ltb, le-ltb}
@@ -11,7 +11,8 @@ use Rattle.sctp_cookie.specs.Tags.{Drawing, permutation, numbers, next_given, af
 use Rattle.sctp_cookie.proofs.CookieTexts.{length-hmac, cookie_in-signed}
 use Rattle.sctp_cookie.proofs.Drawing.{permutation-permutes}
 use Rattle.sctp_rules.specs.Settings.{Beginning}
-use Rattle.sctp_ends.specs.Keyed.{drawing_after, beginning_of, does_fit, opened_under, keyed_secrets_are_good}
+use Rattle.sctp_ends.specs.Keyed.{drawing_after, beginning_of, does_fit, opened_under, keyed_secrets_are_good, keyed_secrets_fit}
+use Rattle.sctp_rules.specs.WrittenPackets.{If, IsBeginning, HasTags}
 
 some-is : {A : Type 0} (x y : A) → Some x ≡ Some y → x ≡ y
 some-is x y e = cc
@@ -213,4 +214,32 @@ keyed-good tag_key cookie_key = record {
       let small : permutation (drawing_after tag_key i).key t.number < numbers = (permutation-permutes (drawing_after tag_key i).key).fits t.number t.fits in
       omega (arith, small, t.is, b.1);
   cookies_fit = λ octets opened e. (fits opened (opened-is cookie_key octets opened e).0).own_first_tsn;
+}
+
+-- ---- and it fits
+
+tag-fits : (key : List ℕ) (n tag : ℕ) → next_tag (drawing_after key n) ≡ Some tag → tag < 2 ^ 32
+tag-fits key n tag e =
+    let t : IsTagOf (drawing_after key n) tag = tag-of (drawing_after key n) tag e in
+    let small : permutation (drawing_after key n).key t.number < numbers = (permutation-permutes (drawing_after key n).key).fits t.number t.fits in
+    omega (arith, small, t.is)
+
+begins-fit : (o : Option ℕ) → ((tag : ℕ) → o ≡ Some tag → tag < 2 ^ 32) → If IsBeginning (beginning_of o)
+begins-fit None h = tt
+begins-fit (Some tag) h = record { tag = h tag refl; first = h tag refl }
+
+opens-fit : (o : Option Cookie) → ((c : Cookie) → o ≡ Some c → Fits c) → If HasTags o
+opens-fit None h = tt
+opens-fit (Some c) h = let f = h c refl in record { own = f.own_tag; far = f.peer_tag; first = f.own_first_tsn }
+
+signed-length : (b : Bool) (key : List ℕ) (c : Cookie) → length (if b then signed key c else []) ≤ 660
+unfolding body_of
+signed-length true key c = omega (arith, length-append (hmac key (body_of c)) (body_of c), length-hmac key (body_of c))
+signed-length false key c = omega arith
+
+pub keyed-fit : keyed_secrets_fit
+keyed-fit tag_key cookie_key = record {
+  beginnings = λ n. begins-fit (next_tag (drawing_after tag_key n)) (tag-fits tag_key n);
+  cookies = λ octets. opens-fit (opened_under cookie_key octets) (λ c e. fits c (opened-is cookie_key octets c e).0);
+  signed = λ c. signed-length (does_fit c) cookie_key c;
 }

@@ -13,6 +13,7 @@ use Rattle.sctp_codec.specs.Items.{ItemValue}
 use Rattle.sctp_codec.specs.Packets as packets
 use Rattle.sctp_codec.specs.Packets.{ChunkValue, InitValue, SackValue, DataValue, PacketValue}
 use Rattle.sctp_codec.specs.Parameters.{CauseValue, InvalidParameter, EndedByUser, NoUserData, StaleCookie}
+use Rattle.sctp_codec.specs.Parameters.{CookieInShutdown}
 use Rattle.sctp_codec.specs.Parameters.{UnrecognizedChunk, cause_item, cookie_in, host_name_in, has_stale_cookie}
 use Rattle.sctp_codec.specs.Parameters.{information_of}
 use Rattle.sctp_sending.specs.Outgoing.{Message}
@@ -604,7 +605,12 @@ module _ (own far : Secrets) (mark : ℕ) (other : End) (good : AreGood own) whe
 
   restarted : (phase : Phase) (c : Settings) (source : Address) (cookie : Cookie) (s : State) →
       Can s (opening.restarted phase c source cookie s)
-  restarted ShutdownAckSent c source cookie s = putting c source cookie.peer_tag _ s (tt, (tt, tt))
+  restarted ShutdownAckSent c source cookie s =
+      let again : Done = state.put c s.association.address s.association.far_tag (packets.ShutdownAckChunk ∷ []) s in
+      let error : List ChunkValue = packets.ErrorChunk (cause_item CookieInShutdown ∷ []) ∷ [] in
+      next s again (λ left. state.put c source cookie.peer_tag error left)
+      (putting c s.association.address s.association.far_tag (packets.ShutdownAckChunk ∷ []) s (tt, tt))
+      (putting c source cookie.peer_tag error s (tt, tt))
   restarted Closed c source cookie s = restart c source cookie s
   restarted CookieWait c source cookie s = restart c source cookie s
   restarted CookieEchoed c source cookie s = restart c source cookie s
@@ -979,7 +985,7 @@ module _ (own far : Secrets) (mark : ℕ) (other : End) (good : AreGood own) whe
   heard-chunk c now wire tag (packets.ShutdownCompleteChunk is_reflected) s h t =
       hearing tag s _ t
       (handled-either (arriving.has_tag s.association wire (packets.ShutdownCompleteChunk is_reflected)) s
-      (arriving.while_there (shutdown.heard_shutdown_complete c s)) (arriving.while_there (silent s))
+      (arriving.while_there wire (shutdown.heard_shutdown_complete c s)) (arriving.while_there wire (silent s))
       (shutdown-complete-in s.association.phase c s) (stays s))
   heard-chunk c now wire tag (packets.UnknownChunk kind flags value) s h t = hearing tag s _ t (heard-unknown kind flags value s)
   heard-chunk c now wire tag (packets.MalformedChunk kind) s h t = hearing tag s _ t (stays s)

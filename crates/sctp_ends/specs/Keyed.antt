@@ -6,6 +6,7 @@ use Rattle.sctp_cookie.specs.declared.cookie.Cookie.{Cookie}
 use Rattle.sctp_cookie.specs.Cookies.{signed, cookie_in}
 use Rattle.sctp_cookie.specs.Tags.{Drawing, first_drawing, next_tag, after_draw}
 use Rattle.sctp_rules.specs.Settings.{Beginning, Secrets}
+use Rattle.sctp_rules.specs.WrittenPackets.{AreFit}
 use Rattle.sctp_ends.specs.Shown.{AreGood}
 
 -- what tags are drawn from after so many draws
@@ -55,3 +56,7 @@ keyed tag_key cookie_key = record {
 
 abbrev pub keyed_secrets_are_good : Type 0
 keyed_secrets_are_good = (tag_key cookie_key : List ℕ) → AreGood (keyed tag_key cookie_key)
+
+-- and as many bits as on the wire are enough for it
+abbrev pub keyed_secrets_fit : Type 0
+keyed_secrets_fit = (tag_key cookie_key : List ℕ) → AreFit (keyed tag_key cookie_key)

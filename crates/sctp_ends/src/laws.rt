@@ -2,7 +2,7 @@
 //! The statements are those of `specs/Theorems.antt`.
 
 ghost use Rattle.sctp_ends.specs.Example.{Happens, given_twice_told_thrice};
-ghost use Rattle.sctp_ends.specs.Keyed.{keyed_secrets_are_good};
+ghost use Rattle.sctp_ends.specs.Keyed.{keyed_secrets_are_good, keyed_secrets_fit};
 ghost use Rattle.sctp_ends.specs.Theorems.{associations_have_the_laws, steps_are_moves, steps_go_on};
 ghost use Rattle.sctp_ends.specs.Theorems.{told_messages_were_given, worlds_are_shown};
 
@@ -38,9 +38,10 @@ pub fn associations_of_two_endpoints_have_the_laws()
 {}
 
 /// What is drawn and signed under keys, by `sctp_cookie`, is as these laws assume: no tag comes twice, and a cookie
-/// that was signed opens as itself.
+/// that was signed opens as itself. Nor is it longer than on the wire.
 pub fn secrets_under_keys_are_good()
-    ensures { keyed_secrets_are_good }
+    ensures good { keyed_secrets_are_good }
+    ensures fit { keyed_secrets_fit }
 {}
 
 /// These laws aren't empty: in a run of 14 steps an association opens at both endpoints, the packet of a second message

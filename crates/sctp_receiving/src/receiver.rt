@@ -140,7 +140,8 @@ impl Receiver {
 
     /// The TSNs that came again since the last report, 20 at most.
     pub fn duplicates(&self) -> &[u32]
-        ensures { result.now ≡ self.now.duplicates }
+        ensures numbers { result.now ≡ self.now.duplicates }
+        ensures most { length result.now ≤ DUPLICATES }
     {
         &self.duplicates
     }

@@ -4,3 +4,5 @@ pub mod GivenMessages
 pub mod Passing
 pub mod ReceivedMessages
 pub mod Openings
+pub mod Written
+pub mod Fitting

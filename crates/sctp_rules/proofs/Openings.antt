@@ -24,7 +24,7 @@ use Rattle.sctp_rules.specs.Endpoint.{Happening, after, after_all}
 use Rattle.sctp_rules.specs.Openings.{openings, generations_grow, cookies_open_in_their_generation, other_tags_are_dropped}
 use Rattle.sctp_rules.specs.Openings.{has_own_rule}
 use Rattle.sctp_rules.proofs.Passing.{AreSteps, Passes, Right, happens, off, answer-alike}
-use Rattle.sctp_rules.proofs.Telling.{AnyData, any-happening}
+use Rattle.sctp_rules.proofs.Telling.{AnyData, AnyTag, any-happening}
 
 -- ---- the generation
 
@@ -83,14 +83,14 @@ each-grows c (told ∷ more) s =
     also-grows s (data_rules.told_one c told s) (λ left. data_rules.told_each c more left) (one-grows c told s)
     (each-grows c more (data_rules.told_one c told s).left)
 
-growing-steps : AreSteps AnyData Grows
+growing-steps : AreSteps AnyData AnyTag Grows
 growing-steps = record {
   alike = λ s left sent a. record { grows = omega (arith, a.generation) };
   ended = ended-grows;
   tries = λ s left sent i. record { grows = omega (arith, i.generation) };
-  opens = λ c now own far first peer address s d. record { grows = omega arith };
+  opens = λ c now own far first peer address s t d. record { grows = omega arith };
   shuts = λ s left sent g d e. record { grows = omega (arith, g, none-shut s.association.is_up losses.Shutdown) };
-  takes = λ c d s come up now-takes.
+  takes = λ c d s come t up now-takes.
       let steps : receiving.Steps = received s.association.receiver d.tsn (data_rules.piece_of d) in
       let taken : State = state.with_association s (record s.association { receiver = steps.left; is_sack_due = true }) in
       record { grows = (each-grows c steps.told taken).grows };

@@ -1,6 +1,7 @@
 -- One pass over all rules, for laws that hold of every list of happenings.
 use Rattle.std.proofs.Common.{◌≡◌, ◌≤◌, ℕ, ◌+◌, ◌-◌, ◌*◌, arith, Bool, true, false, List, [], ◌∷◌, ◌++◌, Option, Some, None, refl, ap, sym, ◌∙◌, subst}
 use Rattle.std.proofs.Common.{nat_eq, nat_lt, nat_le, length}
+use Rattle.std.proofs.lemmas.Bool.Decides.{nat_tests}
 use Rattle.std.specs.Prelude.{◌&&◌, ◌||◌, not, if◌then◌else◌}
 use Rattle.std.specs.Str.{bytes_eq}
 use Rattle.std.specs.List.{list_any}
@@ -11,7 +12,7 @@ use Rattle.sctp_receiving.specs.Receiver as receiving
 use Rattle.sctp_codec.specs.Items.{ItemValue}
 use Rattle.sctp_codec.specs.Packets as packets
 use Rattle.sctp_codec.specs.Packets.{ChunkValue, InitValue, SackValue, DataValue, PacketValue}
-use Rattle.sctp_codec.specs.Parameters.{CauseValue, InvalidParameter, EndedByUser, NoUserData}
+use Rattle.sctp_codec.specs.Parameters.{CauseValue, InvalidParameter, EndedByUser, NoUserData, CookieInShutdown}
 use Rattle.sctp_codec.specs.Parameters.{UnrecognizedChunk, cause_item, cookie_in, host_name_in, has_stale_cookie}
 use Rattle.sctp_codec.specs.Parameters.{information_of}
 use Rattle.sctp_sending.specs.Outgoing.{Message}
@@ -65,7 +66,7 @@ pub record IsTry (s left : State) : Type 0 where
   pub takes_none : data_rules.takes_data left.association.phase ≡ false
 
 -- what rules are made of, and what a relation between a state and what a rule does then has to hold of
-pub record AreSteps (IsCome : DataValue → Type 0) (R : State → Done → Type 0) : Type 0 where
+pub record AreSteps (IsCome : DataValue → Type 0) (IsTag : ℕ → Type 0) (R : State → Done → Type 0) : Type 0 where
   pub alike :
       (s left : State) (sent : List Datagram) → Alike s left →
       R s (record { sent = sent; told = []; left = left })
@@ -74,13 +75,13 @@ pub record AreSteps (IsCome : DataValue → Type 0) (R : State → Done → Type
       (s left : State) (sent : List Datagram) → IsTry s left → R s (record { sent = sent; told = []; left = left })
   pub opens :
       (c : Settings) (now own_tag far_tag own_first : ℕ) (peer : state.Peer) (address : Address) (s : State) →
-      s.association.is_up ≡ false → R s (opening.opened c now own_tag far_tag own_first peer address s)
+      IsTag own_tag → s.association.is_up ≡ false → R s (opening.opened c now own_tag far_tag own_first peer address s)
   pub shuts :
       (s left : State) (sent : List Datagram) → s.generation ≡ left.generation → left.association.is_up ≡ false →
       data_rules.takes_data left.association.phase ≡ false →
       R s (record { sent = sent; told = if s.association.is_up then Down losses.Shutdown ∷ [] else []; left = left })
   pub takes :
-      (c : Settings) (d : DataValue) (s : State) → IsCome d → s.association.is_up ≡ true →
+      (c : Settings) (d : DataValue) (s : State) → IsCome d → IsTag s.association.own_tag → s.association.is_up ≡ true →
       data_rules.takes_data s.association.phase ≡ true →
       R s (data_rules.after_data c (received s.association.receiver d.tsn (data_rules.piece_of d)) s)
   pub reports : (s : State) → R s (silent (state.with_association s (data_rules.sacked s.association)))
@@ -142,6 +143,13 @@ echoing = record { up = λ e. absurd (cc); down = λ e. refl }
 
 there : IsRight Established true
 there = record { up = λ e. refl; down = λ e. absurd (cc) }
+
+same-number : (m n : ℕ) → nat_eq m n ≡ true → m ≡ n
+same-number m n e = grind (arith, nat_tests, e)
+
+second-true : (x y : Bool) → (x && y) ≡ true → y ≡ true
+second-true true y e = e
+second-true false y e = absurd (cc)
 
 both-true : (x y : Bool) → (x && y) ≡ true → x ≡ true
 both-true true y e = refl
@@ -246,14 +254,10 @@ abbrev pub HaveCome : (DataValue → Type 0) → List ChunkValue → Type 0
 HaveCome IsCome [] = Unit {0}
 HaveCome IsCome (chunk ∷ chunks) = HasCome IsCome chunk × HaveCome IsCome chunks
 
-abbrev pub Comes : (DataValue → Type 0) → Happening → Type 0
-Comes IsCome (Came now source packet) = HaveCome IsCome packet.chunks
-Comes IsCome what = Unit {0}
-
-looked-at : (IsCome : DataValue → Type 0) (b : Bool) (first : ChunkValue) (more : List ChunkValue) → HaveCome IsCome (first ∷ more) →
-    HaveCome IsCome (first ∷ (if b then [] else more))
-looked-at IsCome true first more h = (h.0, tt)
-looked-at IsCome false first more h = h
+-- what comes, and the tag that it comes with
+abbrev pub Comes : (DataValue → Type 0) → (ℕ → Type 0) → Happening → Type 0
+Comes IsCome IsTag (Came now source packet) = HaveCome IsCome packet.chunks × IsTag packet.tag
+Comes IsCome IsTag what = Unit {0}
 
 told-right : (c : Settings) (tolds : List consuming.Told) (s : State) → Right s → Right (data_rules.told_each c tolds s).left
 told-right c [] s r = r
@@ -296,7 +300,7 @@ data-goes false now s r = record { same = record { generation = refl; up = refl;
 
 -- ---- the pass
 
-module _ {IsCome : DataValue → Type 0} {R : State → Done → Type 0} (steps : AreSteps IsCome R) where
+module _ {IsCome : DataValue → Type 0} {IsTag : ℕ → Type 0} {R : State → Done → Type 0} (steps : AreSteps IsCome IsTag R) where
   -- a rule, and then another
   next-there : (s : State) (d : Done) (rule : State → Done) → Passes R s d → Passes R d.left (rule d.left) → Passes R s (followed_by d rule)
   next-there s d rule t u = record { kept = steps.also s d rule t.kept u.kept; left = u.left }
@@ -499,18 +503,18 @@ module _ {IsCome : DataValue → Type 0} {R : State → Done → Type 0} (steps 
       (λ e. stays s [] r)
 
   opened : (c : Settings) (now own_tag far_tag own_first : ℕ) (peer : state.Peer) (address : Address) (s : State) →
-      s.association.is_up ≡ false → Passes R s (opening.opened c now own_tag far_tag own_first peer address s)
-  opened c now own_tag far_tag own_first peer address s d = record {
-    kept = steps.opens c now own_tag far_tag own_first peer address s d;
+      IsTag own_tag → s.association.is_up ≡ false → Passes R s (opening.opened c now own_tag far_tag own_first peer address s)
+  opened c now own_tag far_tag own_first peer address s t d = record {
+    kept = steps.opens c now own_tag far_tag own_first peer address s t d;
     left = record { right = there };
   }
 
-  heard-cookie-ack : (c : Settings) (now : ℕ) (s : State) → Right s → Passes R s (opening.heard_cookie_ack c now s)
-  heard-cookie-ack c now s r =
+  heard-cookie-ack : (c : Settings) (now : ℕ) (s : State) → IsTag s.association.own_tag → Right s → Passes R s (opening.heard_cookie_ack c now s)
+  heard-cookie-ack c now s t r =
       let a : Association = s.association in
       let up : Done = opening.opened c now a.own_tag a.far_tag a.own_first a.peer a.address s in
       either-so (opening.is_echoed a.phase) s up (silent s)
-      (λ e. opened c now a.own_tag a.far_tag a.own_first a.peer a.address s (r.right.down (echoed-down a.phase e)))
+      (λ e. opened c now a.own_tag a.far_tag a.own_first a.peer a.address s t (r.right.down (echoed-down a.phase e)))
       (λ e. stays s [] r)
 
   -- ---- answers
@@ -518,20 +522,49 @@ module _ {IsCome : DataValue → Type 0} {R : State → Done → Type 0} (steps 
   answered : (chunk : ChunkValue) (s : State) → Right s → Passes R s (silent (ending.answered chunk s))
   answered chunk s r = then-silent s (ending.answered chunk s) (answer-follows chunk s r)
 
-  opened-by : (c : Settings) (now : ℕ) (source : Address) (cookie : Cookie) (s : State) → s.association.is_up ≡ false →
-      Passes R s (opening.opened_by c now source cookie s).does
-  opened-by c now source cookie s d =
+  -- a packet that begins with COOKIE ECHO: behind it the packet's tag is that of the association
+  record Echoes (tag : ℕ) (s : State) (x : opening.Echo) : Type 0 where
+    passes : Passes R s x.does
+    tag_is : x.goes_on ≡ true → x.does.left.association.own_tag ≡ tag
+
+  echo-stops : (tag : ℕ) (s : State) (d : Done) → Passes R s d → Echoes tag s (opening.stops d)
+  echo-stops tag s d t = record { passes = t; tag_is = λ e. absurd (cc) }
+
+  echo-either : (b : Bool) (tag : ℕ) (s : State) (x y : opening.Echo) → Echoes tag s x → Echoes tag s y → Echoes tag s (if b then x else y)
+  echo-either true tag s x y t u = t
+  echo-either false tag s x y t u = u
+
+  echo-either-so : (b : Bool) (tag : ℕ) (s : State) (x y : opening.Echo) → (b ≡ true → Echoes tag s x) → Echoes tag s y →
+      Echoes tag s (if b then x else y)
+  echo-either-so true tag s x y t u = t refl
+  echo-either-so false tag s x y t u = u
+
+  tag-stays : (b : Bool) (a : Association) (control : List ChunkValue) →
+      (if b then record a { control = control } else a).own_tag ≡ a.own_tag
+  tag-stays true a control = refl
+  tag-stays false a control = refl
+
+  opened-by : (c : Settings) (now tag : ℕ) (source : Address) (cookie : Cookie) (s : State) → cookie.own_tag ≡ tag → IsTag cookie.own_tag →
+      s.association.is_up ≡ false → Echoes tag s (opening.opened_by c now source cookie s)
+  opened-by c now tag source cookie s same t d =
       let peer : state.Peer = record { first = cookie.peer_first_tsn; window = cookie.peer_window } in
       let up : Done = opening.opened c now cookie.own_tag cookie.peer_tag cookie.own_first_tsn peer source s in
       let rule : State → Done = λ left. silent (ending.answered packets.CookieAckChunk left) in
-      next s up rule (opened c now cookie.own_tag cookie.peer_tag cookie.own_first_tsn peer source s d)
-      (λ left q. answered packets.CookieAckChunk left q)
+      record {
+        passes = next s up rule (opened c now cookie.own_tag cookie.peer_tag cookie.own_first_tsn peer source s t d)
+            (λ left q. answered packets.CookieAckChunk left q);
+        tag_is = λ e. tag-stays (ending.has_place [] packets.CookieAckChunk) up.left.association (packets.CookieAckChunk ∷ []) ∙ same;
+      }
 
-  acknowledged-again : (s : State) → Right s → Passes R s (opening.acknowledged_again s).does
-  acknowledged-again s r =
+  acknowledged-again : (tag : ℕ) (s : State) → s.association.own_tag ≡ tag → Right s → Echoes tag s (opening.acknowledged_again s)
+  acknowledged-again tag s same r =
       let a : Association = s.association in
-      then-silent s (state.with_association s (ending.with_answer_first packets.CookieAckChunk a))
-      (choice (ending.has_place a.control packets.CookieAckChunk) s a (packets.CookieAckChunk ∷ a.control) (itself s) r.right)
+      let place : Bool = ending.has_place a.control packets.CookieAckChunk in
+      record {
+        passes = then-silent s (state.with_association s (ending.with_answer_first packets.CookieAckChunk a))
+            (choice place s a (packets.CookieAckChunk ∷ a.control) (itself s) r.right);
+        tag_is = λ e. tag-stays place a (packets.CookieAckChunk ∷ a.control) ∙ same;
+      }
 
   stale : (c : Settings) (source : Address) (microseconds : ℕ) (cookie : Cookie) (s : State) → Right s →
       Passes R s (opening.stale c source microseconds cookie s)
@@ -548,8 +581,11 @@ module _ {IsCome : DataValue → Type 0} {R : State → Done → Type 0} (steps 
   restarted : (phase : Phase) (c : Settings) (source : Address) (cookie : Cookie) (s : State) → Right s →
       Passes R s (opening.restarted phase c source cookie s)
   restarted ShutdownAckSent c source cookie s r =
-      let x : Done = opening.restarted ShutdownAckSent c source cookie s in
-      plainly s x.left x.sent (record { generation = refl; up = refl; own_tag = refl; peer = refl; receiver = refl; takes = λ e. e }) (record { right = r.right })
+      let again : Done = state.put c s.association.address s.association.far_tag (packets.ShutdownAckChunk ∷ []) s in
+      let error : List ChunkValue = packets.ErrorChunk (cause_item CookieInShutdown ∷ []) ∷ [] in
+      next s again (λ left. state.put c source cookie.peer_tag error left)
+      (putting c s.association.address s.association.far_tag (packets.ShutdownAckChunk ∷ []) s r)
+      (λ left q. putting c source cookie.peer_tag error left q)
   restarted Closed c source cookie s r = restart c source cookie s
   restarted CookieWait c source cookie s r = restart c source cookie s
   restarted CookieEchoed c source cookie s r = restart c source cookie s
@@ -558,59 +594,72 @@ module _ {IsCome : DataValue → Type 0} {R : State → Done → Type 0} (steps 
   restarted ShutdownSent c source cookie s r = restart c source cookie s
   restarted ShutdownReceived c source cookie s r = restart c source cookie s
 
-  echo-either : (b : Bool) (s : State) (x y : opening.Echo) → Passes R s x.does → Passes R s y.does → Passes R s (if b then x else y).does
-  echo-either true s x y t u = t
-  echo-either false s x y t u = u
-
   -- nothing becomes of a packet
   abbrev nothing : State → opening.Echo
   nothing s = opening.stops (silent s)
 
-  echo-in : (phase : Phase) (c : Settings) (source : Address) (cookie : Cookie) (s : State) → Right s →
-      Passes R s (opening.echo_in_association phase c source cookie s).does
-  echo-in phase c source cookie s r =
+  echo-in : (phase : Phase) (c : Settings) (tag : ℕ) (source : Address) (cookie : Cookie) (s : State) → Right s →
+      Echoes tag s (opening.echo_in_association phase c source cookie s)
+  echo-in phase c tag source cookie s r =
       let a : Association = s.association in
-      echo-either (not (opening.is_own cookie a) && not (opening.is_far cookie a) && opening.is_tied cookie a) s
-      (opening.stops (opening.restarted phase c source cookie s)) (nothing s) (restarted phase c source cookie s r) (stays s [] r)
+      echo-either (not (opening.is_own cookie a) && not (opening.is_far cookie a) && opening.is_tied cookie a) tag s
+      (opening.stops (opening.restarted phase c source cookie s)) (nothing s)
+      (echo-stops tag s (opening.restarted phase c source cookie s) (restarted phase c source cookie s r)) (echo-stops tag s (silent s) (stays s [] r))
 
-  good-echo : (phase : Phase) (c : Settings) (now : ℕ) (source : Address) (cookie : Cookie) (s : State) →
-      s.association.phase ≡ phase → Right s → Passes R s (opening.good_echo_in phase c now source cookie s).does
-  good-echo Closed c now source cookie s e r =
-      echo-either s.is_wanted s (opening.opened_by c now source cookie s) (nothing s)
-      (opened-by c now source cookie s (r.right.down (ap opening.is_there e))) (stays s [] r)
-  good-echo CookieWait c now source cookie s e r =
-      echo-either (opening.is_own cookie s.association) s (opening.opened_by c now source cookie s) (nothing s)
-      (opened-by c now source cookie s (r.right.down (ap opening.is_there e))) (stays s [] r)
-  good-echo CookieEchoed c now source cookie s e r =
-      echo-either (opening.is_own cookie s.association && opening.is_far cookie s.association) s
+  good-echo : (phase : Phase) (c : Settings) (now tag : ℕ) (source : Address) (cookie : Cookie) (s : State) →
+      s.association.phase ≡ phase → cookie.own_tag ≡ tag → IsTag cookie.own_tag → Right s →
+      Echoes tag s (opening.good_echo_in phase c now source cookie s)
+  good-echo Closed c now tag source cookie s e same t r =
+      echo-either s.is_wanted tag s (opening.opened_by c now source cookie s) (nothing s)
+      (opened-by c now tag source cookie s same t (r.right.down (ap opening.is_there e))) (echo-stops tag s (silent s) (stays s [] r))
+  good-echo CookieWait c now tag source cookie s e same t r =
+      echo-either (opening.is_own cookie s.association) tag s (opening.opened_by c now source cookie s) (nothing s)
+      (opened-by c now tag source cookie s same t (r.right.down (ap opening.is_there e))) (echo-stops tag s (silent s) (stays s [] r))
+  good-echo CookieEchoed c now tag source cookie s e same t r =
+      echo-either (opening.is_own cookie s.association && opening.is_far cookie s.association) tag s
       (opening.opened_by c now source cookie s) (nothing s)
-      (opened-by c now source cookie s (r.right.down (ap opening.is_there e))) (stays s [] r)
-  good-echo Established c now source cookie s e r = echo-in Established c source cookie s r
-  good-echo ShutdownPending c now source cookie s e r = echo-in ShutdownPending c source cookie s r
-  good-echo ShutdownSent c now source cookie s e r = echo-in ShutdownSent c source cookie s r
-  good-echo ShutdownReceived c now source cookie s e r = echo-in ShutdownReceived c source cookie s r
-  good-echo ShutdownAckSent c now source cookie s e r = echo-in ShutdownAckSent c source cookie s r
+      (opened-by c now tag source cookie s same t (r.right.down (ap opening.is_there e))) (echo-stops tag s (silent s) (stays s [] r))
+  good-echo Established c now tag source cookie s e same t r = echo-in Established c tag source cookie s r
+  good-echo ShutdownPending c now tag source cookie s e same t r = echo-in ShutdownPending c tag source cookie s r
+  good-echo ShutdownSent c now tag source cookie s e same t r = echo-in ShutdownSent c tag source cookie s r
+  good-echo ShutdownReceived c now tag source cookie s e same t r = echo-in ShutdownReceived c tag source cookie s r
+  good-echo ShutdownAckSent c now tag source cookie s e same t r = echo-in ShutdownAckSent c tag source cookie s r
 
-  heard-cookie : (c : Settings) (now : ℕ) (source : Address) (cookie : Cookie) (s : State) → Right s →
-      Passes R s (opening.heard_cookie c now source cookie s).does
-  heard-cookie c now source cookie s r =
+  own-tag : (there own far : Bool) → (there && own && far) ≡ true → own ≡ true
+  own-tag true true far e = refl
+  own-tag true false far e = absurd (cc)
+  own-tag false own far e = absurd (cc)
+
+  heard-cookie : (c : Settings) (now tag : ℕ) (source : Address) (cookie : Cookie) (s : State) → cookie.own_tag ≡ tag → IsTag cookie.own_tag → Right s →
+      Echoes tag s (opening.heard_cookie c now source cookie s)
+  heard-cookie c now tag source cookie s same t r =
       let a : Association = s.association in
       let good : opening.Echo = opening.good_echo_in a.phase c now source cookie s in
-      let old : opening.Echo = opening.stops (opening.stale c source 1 cookie s) in
-      let late : opening.Echo = opening.stops (opening.stale c source (opening.staleness now cookie) cookie s) in
+      let stale-now : Done = opening.stale c source 1 cookie s in
+      let stale-late : Done = opening.stale c source (opening.staleness now cookie) cookie s in
+      let old : opening.Echo = opening.stops stale-now in
+      let late : opening.Echo = opening.stops stale-late in
       let fresh : opening.Echo = if nat_eq cookie.generation s.generation then good else old in
-      echo-either (opening.is_there a.phase && opening.is_own cookie a && opening.is_far cookie a) s
-      (opening.acknowledged_again s) (if nat_lt cookie.life (now - cookie.made) then late else fresh) (acknowledged-again s r)
-      (echo-either (nat_lt cookie.life (now - cookie.made)) s late fresh (stale c source (opening.staleness now cookie) cookie s r)
-      (echo-either (nat_eq cookie.generation s.generation) s good old
-      (good-echo a.phase c now source cookie s refl r) (stale c source 1 cookie s r)))
+      echo-either-so (opening.is_there a.phase && opening.is_own cookie a && opening.is_far cookie a) tag s
+      (opening.acknowledged_again s) (if nat_lt cookie.life (now - cookie.made) then late else fresh)
+      (λ e. acknowledged-again tag s
+      (sym (same-number cookie.own_tag a.own_tag (own-tag (opening.is_there a.phase) (opening.is_own cookie a) (opening.is_far cookie a) e)) ∙ same) r)
+      (echo-either (nat_lt cookie.life (now - cookie.made)) tag s late fresh
+      (echo-stops tag s stale-late (stale c source (opening.staleness now cookie) cookie s r))
+      (echo-either (nat_eq cookie.generation s.generation) tag s good old
+      (good-echo a.phase c now tag source cookie s refl same t r) (echo-stops tag s stale-now (stale c source 1 cookie s r))))
 
-  heard-echo : (cookie : Option Cookie) (c : Settings) (now tag : ℕ) (source : Address) (s : State) → Right s →
-      Passes R s (opening.heard_echo_of cookie c now tag source s).does
-  heard-echo None c now tag source s r = stays s [] r
-  heard-echo (Some cookie) c now tag source s r =
-      echo-either (nat_eq cookie.own_tag tag && nat_eq cookie.peer_port c.far_port) s
-      (opening.heard_cookie c now source cookie s) (nothing s) (heard-cookie c now source cookie s r) (stays s [] r)
+  heard-echo : (cookie : Option Cookie) (c : Settings) (now tag : ℕ) (source : Address) (s : State) → IsTag tag → Right s →
+      Echoes tag s (opening.heard_echo_of cookie c now tag source s)
+  heard-echo None c now tag source s t r = echo-stops tag s (silent s) (stays s [] r)
+  heard-echo (Some cookie) c now tag source s t r =
+      echo-either-so (nat_eq cookie.own_tag tag && nat_eq cookie.peer_port c.far_port) tag s
+      (opening.heard_cookie c now source cookie s) (nothing s)
+      (λ e.
+      let same : cookie.own_tag ≡ tag =
+      same-number cookie.own_tag tag (both-true (nat_eq cookie.own_tag tag) (nat_eq cookie.peer_port c.far_port) e) in
+      heard-cookie c now tag source cookie s same (subst IsTag (sym same) t) r)
+      (echo-stops tag s (silent s) (stays s [] r))
 
   begun-after-stale : (c : Settings) (k : Secrets) (now : ℕ) (t : Option Try) (s : State) → s.association.is_up ≡ false → Right s →
       Passes R s (opening.begun_after_stale c k now t s)
@@ -727,8 +776,8 @@ module _ {IsCome : DataValue → Type 0} {R : State → Done → Type 0} (steps 
 
   -- ---- DATA, SACK and HEARTBEAT
 
-  heard-data : (c : Settings) (d : DataValue) (s : State) → IsCome d → Right s → Passes R s (data_rules.heard_data c d s)
-  heard-data c d s come r =
+  heard-data : (c : Settings) (d : DataValue) (s : State) → IsCome d → IsTag s.association.own_tag → Right s → Passes R s (data_rules.heard_data c d s)
+  heard-data c d s come tag r =
       let steps-of : receiving.Steps = received s.association.receiver d.tsn (data_rules.piece_of d) in
       let taken : State = state.with_association s (record s.association { receiver = steps-of.left; is_sack_due = true }) in
       let empty : Done = ending.aborted c losses.Protocol (NoUserData d.tsn) s in
@@ -736,7 +785,7 @@ module _ {IsCome : DataValue → Type 0} {R : State → Done → Type 0} (steps 
       either-so (data_rules.takes_data s.association.phase) s (if nat_eq (length d.octets) 0 then empty else tells) (silent s)
       (λ e.
       either (nat_eq (length d.octets) 0) s empty tells (aborted c losses.Protocol (NoUserData d.tsn) s)
-      (record { kept = steps.takes c d s come (r.right.up e) e; left = told-right c steps-of.told taken (record { right = r.right }) }))
+      (record { kept = steps.takes c d s come tag (r.right.up e) e; left = told-right c steps-of.told taken (record { right = r.right }) }))
       (λ e. stays s [] r)
 
   heard-sack-of : (c : Settings) (now : ℕ) (sack : SackValue) (s : State) → Right s → Passes R s (data_rules.heard_sack_of c now sack s)
@@ -791,43 +840,121 @@ module _ {IsCome : DataValue → Type 0} {R : State → Done → Type 0} (steps 
   handled-either true s x y t u = t
   handled-either false s x y t u = u
 
-  heard-chunk : (c : Settings) (k : Secrets) (now tag : ℕ) (chunk : ChunkValue) (s : State) → HasCome IsCome chunk → Right s →
-      Passes R s (arriving.heard_chunk c k now tag chunk s).does
-  heard-chunk c k now tag (packets.DataChunk carried) s h r = heard-data c carried s h r
-  heard-chunk c k now tag (packets.InitChunk init) s h r = stays s [] r
-  heard-chunk c k now tag (packets.InitAckChunk init) s h r = heard-init-ack c now init s r
-  heard-chunk c k now tag (packets.SackChunk sack) s h r = heard-sack c now sack s r
-  heard-chunk c k now tag (packets.HeartbeatChunk information) s h r = heard-heartbeat information s r
-  heard-chunk c k now tag (packets.HeartbeatAckChunk information) s h r = heard-answer s.association.beat c now information s r
-  heard-chunk c k now tag (packets.AbortChunk is_reflected causes) s h r = heard-abort c tag (packets.AbortChunk is_reflected causes) s r
-  heard-chunk c k now tag (packets.ShutdownChunk cumulative) s h r = heard-shutdown c now cumulative s r
-  heard-chunk c k now tag packets.ShutdownAckChunk s h r = shutdown-ack-in s.association.phase c s r
-  heard-chunk c k now tag (packets.ErrorChunk causes) s h r = heard-error c k now causes s r
-  heard-chunk c k now tag (packets.CookieEchoChunk cookie) s h r = stays s [] r
-  heard-chunk c k now tag packets.CookieAckChunk s h r = heard-cookie-ack c now s r
-  heard-chunk c k now tag (packets.ShutdownCompleteChunk is_reflected) s h r =
-      handled-either (arriving.has_tag s.association tag (packets.ShutdownCompleteChunk is_reflected)) s
-      (arriving.while_there (shutdown.heard_shutdown_complete c s)) (arriving.while_there (silent s))
-      (shutdown-complete-in s.association.phase c s r) (stays s [] r)
-  heard-chunk c k now tag (packets.UnknownChunk kind flags value) s h r = heard-unknown kind flags value s r
-  heard-chunk c k now tag (packets.MalformedChunk kind) s h r = stays s [] r
+  -- DATA and COOKIE ACK count only with the tag of this end
+  abbrev IsTagged : ℕ → State → ChunkValue → Type 0
+  IsTagged tag s (packets.DataChunk carried) = s.association.own_tag ≡ tag
+  IsTagged tag s packets.CookieAckChunk = s.association.own_tag ≡ tag
+  IsTagged tag s chunk = Unit {0}
 
-  heard-chunks : (c : Settings) (k : Secrets) (now tag : ℕ) (chunks : List ChunkValue) (s : State) → HaveCome IsCome chunks →
-      Right s → Passes R s (arriving.heard_chunks c k now tag chunks s)
-  heard-chunks c k now tag [] s h r = stays s [] r
-  heard-chunks c k now tag (chunk ∷ chunks) s h r =
+  heard-chunk : (c : Settings) (k : Secrets) (now tag : ℕ) (chunk : ChunkValue) (s : State) → HasCome IsCome chunk → IsTag tag →
+      IsTagged tag s chunk → Right s → Passes R s (arriving.heard_chunk c k now tag chunk s).does
+  heard-chunk c k now tag (packets.DataChunk carried) s h t same r = heard-data c carried s h (subst IsTag (sym same) t) r
+  heard-chunk c k now tag (packets.InitChunk init) s h t same r = stays s [] r
+  heard-chunk c k now tag (packets.InitAckChunk init) s h t same r = heard-init-ack c now init s r
+  heard-chunk c k now tag (packets.SackChunk sack) s h t same r = heard-sack c now sack s r
+  heard-chunk c k now tag (packets.HeartbeatChunk information) s h t same r = heard-heartbeat information s r
+  heard-chunk c k now tag (packets.HeartbeatAckChunk information) s h t same r = heard-answer s.association.beat c now information s r
+  heard-chunk c k now tag (packets.AbortChunk is_reflected causes) s h t same r = heard-abort c tag (packets.AbortChunk is_reflected causes) s r
+  heard-chunk c k now tag (packets.ShutdownChunk cumulative) s h t same r = heard-shutdown c now cumulative s r
+  heard-chunk c k now tag packets.ShutdownAckChunk s h t same r = shutdown-ack-in s.association.phase c s r
+  heard-chunk c k now tag (packets.ErrorChunk causes) s h t same r = heard-error c k now causes s r
+  heard-chunk c k now tag (packets.CookieEchoChunk cookie) s h t same r = stays s [] r
+  heard-chunk c k now tag packets.CookieAckChunk s h t same r = heard-cookie-ack c now s (subst IsTag (sym same) t) r
+  heard-chunk c k now tag (packets.ShutdownCompleteChunk is_reflected) s h t same r =
+      handled-either (arriving.has_tag s.association tag (packets.ShutdownCompleteChunk is_reflected)) s
+      (arriving.while_there tag (shutdown.heard_shutdown_complete c s)) (arriving.while_there tag (silent s))
+      (shutdown-complete-in s.association.phase c s r) (stays s [] r)
+  heard-chunk c k now tag (packets.UnknownChunk kind flags value) s h t same r = heard-unknown kind flags value s r
+  heard-chunk c k now tag (packets.MalformedChunk kind) s h t same r = stays s [] r
+
+  tagged : (chunk : ChunkValue) (tag : ℕ) (s : State) → s.association.own_tag ≡ tag → IsTagged tag s chunk
+  tagged (packets.DataChunk carried) tag s e = e
+  tagged (packets.InitChunk init) tag s e = tt
+  tagged (packets.InitAckChunk init) tag s e = tt
+  tagged (packets.SackChunk sack) tag s e = tt
+  tagged (packets.HeartbeatChunk information) tag s e = tt
+  tagged (packets.HeartbeatAckChunk information) tag s e = tt
+  tagged (packets.AbortChunk is_reflected causes) tag s e = tt
+  tagged (packets.ShutdownChunk cumulative) tag s e = tt
+  tagged packets.ShutdownAckChunk tag s e = tt
+  tagged (packets.ErrorChunk causes) tag s e = tt
+  tagged (packets.CookieEchoChunk cookie) tag s e = tt
+  tagged packets.CookieAckChunk tag s e = e
+  tagged (packets.ShutdownCompleteChunk is_reflected) tag s e = tt
+  tagged (packets.UnknownChunk kind flags value) tag s e = tt
+  tagged (packets.MalformedChunk kind) tag s e = tt
+
+  -- where the chunks behind one count, the tag is still that of this end
+  abbrev IsStill : (tag : ℕ) → arriving.Handled → Type 0
+  IsStill tag x = x.goes_on ≡ true → x.does.left.association.own_tag ≡ tag
+
+  still-there : (tag : ℕ) (d : Done) → IsStill tag (arriving.while_there tag d)
+  still-there tag d e = same-number d.left.association.own_tag tag (second-true (not (opening.is_closed d.left.association.phase)) (nat_eq d.left.association.own_tag tag) e)
+
+  still-either : (b : Bool) (tag : ℕ) (x y : arriving.Handled) → IsStill tag x → IsStill tag y → IsStill tag (if b then x else y)
+  still-either true tag x y t u = t
+  still-either false tag x y t u = u
+
+  reported-tag : (b : Bool) (chunk : ChunkValue) (s : State) →
+      (if b then silent (ending.answered chunk s) else silent s).left.association.own_tag ≡ s.association.own_tag
+  reported-tag true chunk s = tag-stays (ending.has_place s.association.control chunk) s.association (s.association.control ++ chunk ∷ [])
+  reported-tag false chunk s = refl
+
+  still : (c : Settings) (k : Secrets) (now tag : ℕ) (chunk : ChunkValue) (s : State) → s.association.own_tag ≡ tag →
+      IsStill tag (arriving.heard_chunk c k now tag chunk s)
+  still c k now tag (packets.DataChunk carried) s same = still-there tag (data_rules.heard_data c carried s)
+  still c k now tag (packets.InitChunk init) s same = still-there tag (silent s)
+  still c k now tag (packets.InitAckChunk init) s same = still-there tag (opening.heard_init_ack c now init s)
+  still c k now tag (packets.SackChunk sack) s same = still-there tag (data_rules.heard_sack_chunk c now sack s)
+  still c k now tag (packets.HeartbeatChunk information) s same = still-there tag (data_rules.heard_heartbeat information s)
+  still c k now tag (packets.HeartbeatAckChunk information) s same = still-there tag (data_rules.heard_heartbeat_ack c now information s)
+  still c k now tag (packets.AbortChunk is_reflected causes) s same = λ e. absurd (cc)
+  still c k now tag (packets.ShutdownChunk cumulative) s same = still-there tag (shutdown.heard_shutdown c now cumulative s)
+  still c k now tag packets.ShutdownAckChunk s same = still-there tag (shutdown.heard_shutdown_ack c s)
+  still c k now tag (packets.ErrorChunk causes) s same = still-there tag (opening.heard_error c k now causes s)
+  still c k now tag (packets.CookieEchoChunk cookie) s same = still-there tag (silent s)
+  still c k now tag packets.CookieAckChunk s same = still-there tag (opening.heard_cookie_ack c now s)
+  still c k now tag (packets.ShutdownCompleteChunk is_reflected) s same =
+      still-either (arriving.has_tag s.association tag (packets.ShutdownCompleteChunk is_reflected)) tag
+      (arriving.while_there tag (shutdown.heard_shutdown_complete c s)) (arriving.while_there tag (silent s))
+      (still-there tag (shutdown.heard_shutdown_complete c s)) (still-there tag (silent s))
+  still c k now tag (packets.UnknownChunk kind flags value) s same =
+      λ e. reported-tag (arriving.is_reported kind) (packets.ErrorChunk (cause_item (UnrecognizedChunk kind flags value) ∷ [])) s ∙ same
+  still c k now tag (packets.MalformedChunk kind) s same = still-there tag (silent s)
+
+  heard-chunks : (c : Settings) (k : Secrets) (now tag : ℕ) (chunks : List ChunkValue) (s : State) → HaveCome IsCome chunks → IsTag tag →
+      s.association.own_tag ≡ tag → Right s → Passes R s (arriving.heard_chunks c k now tag chunks s)
+  heard-chunks c k now tag [] s h t same r = stays s [] r
+  heard-chunks c k now tag (chunk ∷ chunks) s h t same r =
       let handled : arriving.Handled = arriving.heard_chunk c k now tag chunk s in
-      let t : Passes R s handled.does = heard-chunk c k now tag chunk s h.0 r in
+      let p : Passes R s handled.does = heard-chunk c k now tag chunk s h.0 t (tagged chunk tag s same) r in
       let rule : State → Done = λ left. arriving.heard_chunks c k now tag chunks left in
+      either-so handled.goes_on s (followed_by handled.does rule) handled.does
+      (λ e. next-there s handled.does rule p
+      (heard-chunks c k now tag chunks handled.does.left h.1 t (still c k now tag chunk s same e) p.left)) (λ e. p)
+
+  -- one chunk alone, which may have the peer's tag
+  heard-alone : (c : Settings) (k : Secrets) (now tag : ℕ) (chunk : ChunkValue) (s : State) → HasCome IsCome chunk → IsTag tag →
+      IsTagged tag s chunk → Right s → Passes R s (arriving.heard_chunks c k now tag (chunk ∷ []) s)
+  heard-alone c k now tag chunk s h t same r =
+      let handled : arriving.Handled = arriving.heard_chunk c k now tag chunk s in
+      let p : Passes R s handled.does = heard-chunk c k now tag chunk s h t same r in
+      let rule : State → Done = λ left. silent left in
       either handled.goes_on s (followed_by handled.does rule) handled.does
-      (next-there s handled.does rule t (heard-chunks c k now tag chunks handled.does.left h.1 t.left)) t
+      (next-there s handled.does rule p (stays handled.does.left [] p.left)) p
+
+  source-tag : (b : Bool) (s : State) (source : Address) →
+      (if b then s else state.with_association s (record s.association { address = source })).association.own_tag ≡ s.association.own_tag
+  source-tag true s source = refl
+  source-tag false s source = refl
 
   by-tag : (c : Settings) (k : Secrets) (now : ℕ) (source : Address) (tag : ℕ) (chunks : List ChunkValue) (s : State) →
-      HaveCome IsCome chunks → Right s → Passes R s (arriving.heard_by_tag c k now source tag chunks s)
-  by-tag c k now source tag chunks s h r =
+      HaveCome IsCome chunks → IsTag tag → s.association.own_tag ≡ tag → Right s → Passes R s (arriving.heard_by_tag c k now source tag chunks s)
+  by-tag c k now source tag chunks s h t same r =
       let there-now : State = arriving.from_source source s in
       let f : Follows s there-now = from-source (opening.is_waiting s.association.phase) s source r in
-      moved s there-now (arriving.heard_by_tag c k now source tag chunks s) f (heard-chunks c k now tag chunks there-now h f.right)
+      moved s there-now (arriving.heard_by_tag c k now source tag chunks s) f
+      (heard-chunks c k now tag chunks there-now h t (source-tag (opening.is_waiting s.association.phase) s source ∙ same) f.right)
 
   blue : (c : Settings) (source : Address) (tag : ℕ) (first : ChunkValue) (more : List ChunkValue) (s : State) → Right s →
       Passes R s (arriving.out_of_the_blue c source tag first more s)
@@ -836,9 +963,40 @@ module _ {IsCome : DataValue → Type 0} {R : State → Done → Type 0} (steps 
       (state.put c source tag (arriving.answer_to first ∷ []) s) (stays s [] r)
       (putting c source tag (arriving.answer_to first ∷ []) s r)
 
+  -- a chunk with the peer's tag is neither DATA nor COOKIE ACK
+  peer-tagged : (chunk : ChunkValue) (tag : ℕ) (s : State) → arriving.has_peer_tag chunk ≡ true → IsTagged tag s chunk
+  peer-tagged (packets.DataChunk carried) tag s e = absurd (cc)
+  peer-tagged (packets.InitChunk init) tag s e = tt
+  peer-tagged (packets.InitAckChunk init) tag s e = tt
+  peer-tagged (packets.SackChunk sack) tag s e = tt
+  peer-tagged (packets.HeartbeatChunk information) tag s e = tt
+  peer-tagged (packets.HeartbeatAckChunk information) tag s e = tt
+  peer-tagged (packets.AbortChunk is_reflected causes) tag s e = tt
+  peer-tagged (packets.ShutdownChunk cumulative) tag s e = tt
+  peer-tagged packets.ShutdownAckChunk tag s e = tt
+  peer-tagged (packets.ErrorChunk causes) tag s e = tt
+  peer-tagged (packets.CookieEchoChunk cookie) tag s e = tt
+  peer-tagged packets.CookieAckChunk tag s e = absurd (cc)
+  peer-tagged (packets.ShutdownCompleteChunk is_reflected) tag s e = tt
+  peer-tagged (packets.UnknownChunk kind flags value) tag s e = tt
+  peer-tagged (packets.MalformedChunk kind) tag s e = tt
+
+  -- a packet with the right tag
+  by-first : (b : Bool) (c : Settings) (k : Secrets) (now : ℕ) (source : Address) (tag : ℕ) (first : ChunkValue) (more : List ChunkValue) (s : State) →
+      HaveCome IsCome (first ∷ more) → IsTag tag → arriving.has_peer_tag first ≡ b →
+      (if b then not (nat_eq s.association.far_tag 0) && nat_eq tag s.association.far_tag else nat_eq tag s.association.own_tag) ≡ true → Right s →
+      Passes R s (arriving.heard_by_tag c k now source tag (first ∷ (if b then [] else more)) s)
+  by-first true c k now source tag first more s h t e right-tag r =
+      let there-now : State = arriving.from_source source s in
+      let f : Follows s there-now = from-source (opening.is_waiting s.association.phase) s source r in
+      moved s there-now (arriving.heard_by_tag c k now source tag (first ∷ []) s) f
+      (heard-alone c k now tag first there-now h.0 t (peer-tagged first tag there-now e) f.right)
+  by-first false c k now source tag first more s h t e right-tag r =
+      by-tag c k now source tag (first ∷ more) s h t (sym (same-number tag s.association.own_tag right-tag)) r
+
   otherwise : (c : Settings) (k : Secrets) (now : ℕ) (source : Address) (tag : ℕ) (first : ChunkValue) (more : List ChunkValue) (s : State) →
-      HaveCome IsCome (first ∷ more) → Right s → Passes R s (arriving.heard_otherwise c k now source tag first more s)
-  otherwise c k now source tag first more s h r =
+      HaveCome IsCome (first ∷ more) → IsTag tag → Right s → Passes R s (arriving.heard_otherwise c k now source tag first more s)
+  otherwise c k now source tag first more s h t r =
       let complete : List ChunkValue = packets.ShutdownCompleteChunk true ∷ [] in
       let taken : Done = arriving.heard_by_tag c k now source tag (arriving.looked_at first more) s in
       let late : Bool = arriving.is_late_shutdown s.association.phase first in
@@ -847,37 +1005,39 @@ module _ {IsCome : DataValue → Type 0} {R : State → Done → Type 0} (steps 
       (if late then state.put c source tag complete s else (if right-tag then taken else silent s))
       (blue c source tag first more s r)
       (either late s (state.put c source tag complete s) (if right-tag then taken else silent s) (putting c source tag complete s r)
-      (either right-tag s taken (silent s) (by-tag c k now source tag (arriving.looked_at first more) s (looked-at IsCome (arriving.has_peer_tag first) first more h) r) (stays s [] r)))
+      (either-so right-tag s taken (silent s)
+      (λ e. by-first (arriving.has_peer_tag first) c k now source tag first more s h t refl e r) (λ e. stays s [] r)))
 
   after-echo : (c : Settings) (k : Secrets) (now : ℕ) (source : Address) (tag : ℕ) (more : List ChunkValue) (s : State) (echo : opening.Echo) →
-      HaveCome IsCome more → Passes R s echo.does → Passes R s (arriving.after_echo c k now source tag more echo)
-  after-echo c k now source tag more s echo h t =
+      HaveCome IsCome more → IsTag tag → Echoes tag s echo → Passes R s (arriving.after_echo c k now source tag more echo)
+  after-echo c k now source tag more s echo h t x =
       let rule : State → Done = λ left. arriving.heard_by_tag c k now source tag more left in
-      either echo.goes_on s (followed_by echo.does rule) echo.does
-      (next s echo.does rule t (λ left q. by-tag c k now source tag more left h q)) t
+      let p : Passes R s echo.does = x.passes in
+      either-so echo.goes_on s (followed_by echo.does rule) echo.does
+      (λ e. next-there s echo.does rule p (by-tag c k now source tag more echo.does.left h t (x.tag_is e) p.left)) (λ e. p)
 
   heard-first : (c : Settings) (k : Secrets) (now : ℕ) (source : Address) (tag : ℕ) (first : ChunkValue) (more : List ChunkValue) (s : State) →
-      HaveCome IsCome (first ∷ more) → Right s → Passes R s (arriving.heard_first c k now source tag first more s)
-  heard-first c k now source tag (packets.InitChunk init) more s h r = heard-init c k now source init s r
-  heard-first c k now source tag (packets.CookieEchoChunk cookie) more s h r =
-      after-echo c k now source tag more s (opening.heard_cookie_echo c k now tag source cookie s) h.1
-      (heard-echo (k.cookie_in cookie) c now tag source s r)
-  heard-first c k now source tag (packets.MalformedChunk kind) more s h r =
+      HaveCome IsCome (first ∷ more) → IsTag tag → Right s → Passes R s (arriving.heard_first c k now source tag first more s)
+  heard-first c k now source tag (packets.InitChunk init) more s h t r = heard-init c k now source init s r
+  heard-first c k now source tag (packets.CookieEchoChunk cookie) more s h t r =
+      after-echo c k now source tag more s (opening.heard_cookie_echo c k now tag source cookie s) h.1 t
+      (heard-echo (k.cookie_in cookie) c now tag source s t r)
+  heard-first c k now source tag (packets.MalformedChunk kind) more s h t r =
       either (nat_eq kind 1) s (silent s) (arriving.heard_otherwise c k now source tag (packets.MalformedChunk kind) more s)
-      (stays s [] r) (otherwise c k now source tag (packets.MalformedChunk kind) more s h r)
-  heard-first c k now source tag first more s h r = otherwise c k now source tag first more s h r
+      (stays s [] r) (otherwise c k now source tag (packets.MalformedChunk kind) more s h t r)
+  heard-first c k now source tag first more s h t r = otherwise c k now source tag first more s h t r
 
   heard-all : (c : Settings) (k : Secrets) (now : ℕ) (source : Address) (tag : ℕ) (chunks : List ChunkValue) (s : State) →
-      HaveCome IsCome chunks → Right s → Passes R s (arriving.heard_all c k now source tag chunks s)
-  heard-all c k now source tag [] s h r = stays s [] r
-  heard-all c k now source tag (first ∷ more) s h r = heard-first c k now source tag first more s h r
+      HaveCome IsCome chunks → IsTag tag → Right s → Passes R s (arriving.heard_all c k now source tag chunks s)
+  heard-all c k now source tag [] s h t r = stays s [] r
+  heard-all c k now source tag (first ∷ more) s h t r = heard-first c k now source tag first more s h t r
 
-  heard : (c : Settings) (k : Secrets) (now : ℕ) (source : Address) (p : PacketValue) (s : State) → HaveCome IsCome p.chunks → Right s →
+  heard : (c : Settings) (k : Secrets) (now : ℕ) (source : Address) (p : PacketValue) (s : State) → HaveCome IsCome p.chunks → IsTag p.tag → Right s →
       Passes R s (arriving.heard c k now source p s)
-  heard c k now source p s h r =
+  heard c k now source p s h t r =
       either (nat_eq p.destination c.own_port && nat_eq p.source c.far_port) s
       (arriving.heard_all c k now source p.tag p.chunks s) (silent s)
-      (heard-all c k now source p.tag p.chunks s h r) (stays s [] r)
+      (heard-all c k now source p.tag p.chunks s h t r) (stays s [] r)
 
   -- ---- timers
 
@@ -1000,10 +1160,10 @@ module _ {IsCome : DataValue → Type 0} {R : State → Done → Type 0} (steps 
 
   -- ---- all that can happen
 
-  pub happens : (c : Settings) (k : Secrets) (what : Happening) (s : State) → Comes IsCome what → Right s → Passes R s (after c k what s)
+  pub happens : (c : Settings) (k : Secrets) (what : Happening) (s : State) → Comes IsCome IsTag what → Right s → Passes R s (after c k what s)
   unfolding after
   happens c k (Opens now is_active) s h r = opened-by-user c k now is_active s r
-  happens c k (Came now source packet) s h r = heard c k now source packet s h r
+  happens c k (Came now source packet) s h r = heard c k now source packet s h.0 h.1 r
   happens c k (Ticked now) s h r = ticked c k now s r
   happens c k (Sends message) s h r = sends message s r
   happens c k Aborts s h r = abort-tells c s

@@ -85,6 +85,14 @@ pub restart_is_a_loss : rows.restart_is_a_loss
 unfolding after going drained run_from blocks_from lost_from named_below passed_below given next_place gone_again gone_first confirmation confirmed settled acknowledged after_t3 stopped
 restart_is_a_loss = record { phase_is = refl; sent_is = refl; told_is = refl }
 
+pub restart_is_refused_in_shutdown : rows.restart_is_refused_in_shutdown
+unfolding after going drained run_from blocks_from lost_from named_below passed_below given next_place gone_again gone_first confirmation confirmed settled acknowledged after_t3 stopped
+restart_is_refused_in_shutdown = record { phase_is = refl; sent_is = refl; told_is = refl }
+
+pub restarted_peer_completes : rows.restarted_peer_completes
+unfolding after going drained run_from blocks_from lost_from named_below passed_below given next_place gone_again gone_first confirmation confirmed settled acknowledged after_t3 stopped
+restarted_peer_completes = record { phase_is = refl; sent_is = refl; told_is = refl }
+
 pub data_goes_out : rows.data_goes_out
 unfolding after going drained run_from blocks_from lost_from named_below passed_below given next_place gone_again gone_first confirmation confirmed settled acknowledged after_t3 stopped
 data_goes_out = record { phase_is = refl; sent_is = refl; told_is = refl }
@@ -168,6 +176,10 @@ cookie_is_too_old = record { phase_is = refl; sent_is = refl; told_is = refl }
 pub stale_cookie_begins_anew : rows.stale_cookie_begins_anew
 unfolding after going drained run_from blocks_from lost_from named_below passed_below given next_place gone_again gone_first confirmation confirmed settled acknowledged after_t3 stopped
 stale_cookie_begins_anew = record { phase_is = refl; sent_is = refl; told_is = refl }
+
+pub former_try_opens_nothing : rows.former_try_opens_nothing
+unfolding after going drained run_from blocks_from lost_from named_below passed_below given next_place gone_again gone_first confirmation confirmed settled acknowledged after_t3 stopped
+former_try_opens_nothing = record { phase_is = refl; sent_is = refl; told_is = refl }
 
 pub unusable_init_ack_ends_the_try : rows.unusable_init_ack_ends_the_try
 unfolding after going drained run_from blocks_from lost_from named_below passed_below given next_place gone_again gone_first confirmation confirmed settled acknowledged after_t3 stopped

@@ -139,14 +139,17 @@ each-turns c (consuming.Violates v ∷ one ∷ more) s h u = let e : true ≡ fa
 abbrev pub AnyData : DataValue → Type 0
 AnyData d = Unit {0}
 
-turn-steps : AreSteps AnyData Turns
+abbrev pub AnyTag : ℕ → Type 0
+AnyTag tag = Unit {0}
+
+turn-steps : AreSteps AnyData AnyTag Turns
 turn-steps = record {
   alike = λ s left sent a. record { turn = ap (λ (up : Bool). Some up) a.up };
   ended = ended-turns;
   tries = λ s left sent i. record { turn = ap (λ (up : Bool). Some up) (i.was_down ∙ sym i.is_down) };
-  opens = λ c now own far first peer address s d. record { turn = ap (λ (up : Bool). turned_by (Up ∷ []) up) d };
+  opens = λ c now own far first peer address s t d. record { turn = ap (λ (up : Bool). turned_by (Up ∷ []) up) d };
   shuts = λ s left sent g d e. record { turn = shut-turn s.association.is_up losses.Shutdown ∙ ap (λ (up : Bool). Some up) (sym d) };
-  takes = λ c d s come up now-takes.
+  takes = λ c d s come t up now-takes.
       let steps : receiving.Steps = received s.association.receiver d.tsn (data_rules.piece_of d) in
       let taken : State = state.with_association s (record s.association { receiver = steps.left; is_sack_due = true }) in
       record { turn = (each-turns c steps.told taken (received-last s.association.receiver d.tsn (data_rules.piece_of d)) up).turn };
@@ -172,8 +175,8 @@ any-data (packets.ShutdownCompleteChunk is_reflected ∷ chunks) = (tt, any-data
 any-data (packets.UnknownChunk kind flags value ∷ chunks) = (tt, any-data chunks)
 any-data (packets.MalformedChunk kind ∷ chunks) = (tt, any-data chunks)
 
-pub any-happening : (what : Happening) → Comes AnyData what
-any-happening (Came now source packet) = any-data packet.chunks
+pub any-happening : (what : Happening) → Comes AnyData AnyTag what
+any-happening (Came now source packet) = (any-data packet.chunks, tt)
 any-happening (Opens now is_active) = tt
 any-happening (Ticked now) = tt
 any-happening (Sends message) = tt

@@ -14,3 +14,4 @@ pub mod Telling
 pub mod GivenMessages
 pub mod ReceivedMessages
 pub mod Openings
+pub mod WrittenPackets

@@ -345,10 +345,15 @@ abbrev pub stale : Settings → Address → (microseconds : ℕ) → Cookie → 
 stale c source microseconds cookie s =
     put c source cookie.peer_tag (ErrorChunk (cause_item (StaleCookie microseconds) ∷ []) ∷ []) s
 
+-- SHUTDOWN ACK goes out again, as before; and ERROR, to where the cookie came from (case A)
+abbrev pub refused_in_shutdown : Settings → Address → Cookie → State → Done
+refused_in_shutdown c source cookie s =
+    followed_by (put c s.association.address s.association.far_tag (ShutdownAckChunk ∷ []) s)
+    (λ left. put c source cookie.peer_tag (ErrorChunk (cause_item CookieInShutdown ∷ []) ∷ []) left)
+
 -- the peer has begun anew: the association is lost, and the user must want the next one first (case A)
 abbrev pub restarted : Phase → Settings → Address → Cookie → State → Done
-restarted ShutdownAckSent c source cookie s =
-    put c source cookie.peer_tag (ShutdownAckChunk ∷ ErrorChunk (cause_item CookieInShutdown ∷ []) ∷ []) s
+restarted ShutdownAckSent c source cookie s = refused_in_shutdown c source cookie s
 restarted phase c source cookie s = followed_by (ended c Restart s) (stale c source 1 cookie)
 
 -- where there is an association

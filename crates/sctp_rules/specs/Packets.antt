@@ -39,9 +39,12 @@ pub record Handled : Type 0 where
   pub does : Done
   pub goes_on : Bool
 
--- those behind it count unless it ended the association
-abbrev pub while_there : Done → Handled
-while_there d = record { does = d; goes_on = not (is_closed d.left.association.phase) }
+-- those behind it count unless it ended the association, or its try began anew: they have the tag of the former one
+abbrev pub while_there : (tag : ℕ) → Done → Handled
+while_there tag d = record {
+  does = d;
+  goes_on = not (is_closed d.left.association.phase) && nat_eq d.left.association.own_tag tag;
+}
 
 -- ABORT comes (§9.1): a try that was not answered before is refused by it
 abbrev pub loss_by_abort : Phase → Loss
@@ -73,24 +76,24 @@ heard_unknown kind flags value s = record {
 
 -- each chunk by its type; one that is too short for its fields is skipped, and so is a COOKIE ECHO that isn't the first
 abbrev pub heard_chunk : Settings → Secrets → (now tag : ℕ) → ChunkValue → State → Handled
-heard_chunk c k now tag (DataChunk carried) s = while_there (heard_data c carried s)
-heard_chunk c k now tag (InitChunk init) s = while_there (silent s)
-heard_chunk c k now tag (InitAckChunk init) s = while_there (heard_init_ack c now init s)
-heard_chunk c k now tag (SackChunk sack) s = while_there (heard_sack_chunk c now sack s)
-heard_chunk c k now tag (HeartbeatChunk information) s = while_there (heard_heartbeat information s)
-heard_chunk c k now tag (HeartbeatAckChunk information) s = while_there (heard_heartbeat_ack c now information s)
+heard_chunk c k now tag (DataChunk carried) s = while_there tag (heard_data c carried s)
+heard_chunk c k now tag (InitChunk init) s = while_there tag (silent s)
+heard_chunk c k now tag (InitAckChunk init) s = while_there tag (heard_init_ack c now init s)
+heard_chunk c k now tag (SackChunk sack) s = while_there tag (heard_sack_chunk c now sack s)
+heard_chunk c k now tag (HeartbeatChunk information) s = while_there tag (heard_heartbeat information s)
+heard_chunk c k now tag (HeartbeatAckChunk information) s = while_there tag (heard_heartbeat_ack c now information s)
 heard_chunk c k now tag (AbortChunk is_reflected causes) s = heard_abort c tag (AbortChunk is_reflected causes) s
-heard_chunk c k now tag (ShutdownChunk cumulative) s = while_there (heard_shutdown c now cumulative s)
-heard_chunk c k now tag ShutdownAckChunk s = while_there (heard_shutdown_ack c s)
-heard_chunk c k now tag (ErrorChunk causes) s = while_there (heard_error c k now causes s)
-heard_chunk c k now tag (CookieEchoChunk cookie) s = while_there (silent s)
-heard_chunk c k now tag CookieAckChunk s = while_there (heard_cookie_ack c now s)
+heard_chunk c k now tag (ShutdownChunk cumulative) s = while_there tag (heard_shutdown c now cumulative s)
+heard_chunk c k now tag ShutdownAckChunk s = while_there tag (heard_shutdown_ack c s)
+heard_chunk c k now tag (ErrorChunk causes) s = while_there tag (heard_error c k now causes s)
+heard_chunk c k now tag (CookieEchoChunk cookie) s = while_there tag (silent s)
+heard_chunk c k now tag CookieAckChunk s = while_there tag (heard_cookie_ack c now s)
 heard_chunk c k now tag (ShutdownCompleteChunk is_reflected) s =
     if has_tag s.association tag (ShutdownCompleteChunk is_reflected)
-    then while_there (heard_shutdown_complete c s)
-    else while_there (silent s)
+    then while_there tag (heard_shutdown_complete c s)
+    else while_there tag (silent s)
 heard_chunk c k now tag (UnknownChunk kind flags value) s = heard_unknown kind flags value s
-heard_chunk c k now tag (MalformedChunk kind) s = while_there (silent s)
+heard_chunk c k now tag (MalformedChunk kind) s = while_there tag (silent s)
 
 -- one after another
 abbrev pub heard_chunks : Settings → Secrets → (now tag : ℕ) → List ChunkValue → State → Done

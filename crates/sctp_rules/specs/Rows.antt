@@ -1,13 +1,13 @@
 -- Rows of the state table, at two endpoints that face each other.
-use Rattle.std.specs.Prelude.{◌≡◌, ℕ, true, false, ◌+◌, List, [], ◌∷◌, Option, Some, None, map, length}
+use Rattle.std.specs.Prelude.{◌≡◌, ℕ, true, false, ◌+◌, List, [], ◌∷◌, ◌++◌, Option, Some, None, map, length}
 use Rattle.sctp_receiving.specs.Pieces as pieces
 use Rattle.sctp_sending.specs.Outgoing.{Message}
 use Rattle.sctp_cookie.specs.declared.cookie.Cookie.{Cookie}
 use Rattle.sctp_codec.specs.Packets.{ChunkValue, PacketValue, kind_of, SackChunk, HeartbeatChunk, CookieAckChunk}
 use Rattle.sctp_codec.specs.Packets.{AbortChunk, ShutdownAckChunk, InitChunk, InitAckChunk, HeartbeatAckChunk}
 use Rattle.sctp_codec.specs.Packets.{InitValue}
-use Rattle.sctp_codec.specs.Packets.{UnknownChunk, DataChunk, ShutdownCompleteChunk}
-use Rattle.sctp_codec.specs.Parameters.{information_of}
+use Rattle.sctp_codec.specs.Packets.{UnknownChunk, DataChunk, ShutdownChunk, ShutdownCompleteChunk}
+use Rattle.sctp_codec.specs.Parameters.{information_of, state_cookie}
 use Rattle.sctp_rules.specs.declared.phase.Phase.TheVariants.{Closed, CookieWait, CookieEchoed, Established}
 use Rattle.sctp_rules.specs.declared.phase.Phase.TheVariants.{ShutdownPending, ShutdownSent, ShutdownAckSent}
 use Rattle.sctp_rules.specs.declared.phase.Phase.{Phase}
@@ -231,6 +231,23 @@ abbrev pub restart_is_a_loss : Type 0
 restart_is_a_loss =
     Does (far (comes 6 (packet other_echoes)) answers_other.left) Closed ((9 ∷ []) ∷ []) (Down Restart ∷ [])
 
+-- in SHUTDOWN-ACK-SENT it isn't: SHUTDOWN ACK goes out again, and ERROR by itself
+abbrev pub restarts_late : Done
+restarts_late = far (Flushes 11) (far (comes 11 (of_chunk 20 (ShutdownChunk 99))) answers_other.left).left
+
+abbrev pub refuses_restart : Done
+refuses_restart = far (comes 12 (packet other_echoes)) restarts_late.left
+
+abbrev pub restart_is_refused_in_shutdown : Type 0
+restart_is_refused_in_shutdown = Does refuses_restart ShutdownAckSent ((8 ∷ []) ∷ (9 ∷ []) ∷ []) []
+
+-- by the answer to SHUTDOWN ACK the association ends
+abbrev pub answers_late_shutdown : Done
+answers_late_shutdown = other (comes 13 (packet refuses_restart)) other_echoes.left
+
+abbrev pub restarted_peer_completes : Type 0
+restarted_peer_completes = Does (far (comes 14 (packet answers_late_shutdown)) refuses_restart.left) Closed [] []
+
 -- ---- DATA and SACK (§6)
 
 abbrev pub given : Message
@@ -390,6 +407,18 @@ refuses_old_cookie = far (comes 60002 (packet echoes)) answers.left
 abbrev pub stale_cookie_begins_anew : Type 0
 stale_cookie_begins_anew =
     Does (near (comes 60003 (packet refuses_old_cookie)) echoes.left) CookieWait ((1 ∷ []) ∷ []) []
+
+abbrev pub init_with_cookie : List ℕ → InitValue
+init_with_cookie cookie =
+    init_of (record { tag = 20; first = 5 }) (record { kind = state_cookie; value = cookie } ∷ [])
+
+-- chunks behind that ERROR are of the try that is over
+abbrev pub opening_behind : PacketValue → PacketValue
+opening_behind p = record p { chunks = p.chunks ++ InitAckChunk (init_with_cookie (1 ∷ [])) ∷ CookieAckChunk ∷ [] }
+
+abbrev pub former_try_opens_nothing : Type 0
+former_try_opens_nothing =
+    Does (near (comes 60003 (opening_behind (packet refuses_old_cookie))) echoes.left) CookieWait ((1 ∷ []) ∷ []) []
 
 abbrev pub too_few_streams : InitValue
 too_few_streams = record (init_of (record { tag = 20; first = 5 }) []) { incoming = 1 }

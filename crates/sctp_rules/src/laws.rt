@@ -4,14 +4,16 @@ ghost use Rattle.sctp_rules.specs.GivenMessages.{given_messages_go_out};
 ghost use Rattle.sctp_rules.specs.Openings.{generations_grow, cookies_open_in_their_generation, other_tags_are_dropped};
 ghost use Rattle.sctp_rules.specs.ReceivedMessages.{messages_are_received};
 ghost use Rattle.sctp_rules.specs.Telling.{told_in_turn};
+ghost use Rattle.sctp_rules.specs.WrittenPackets.{packets_are_written, packets_are_read};
 
 /// Whatever happens, the user is told in turn: Up, then messages, then Down; and Failed only while none is up.
 pub fn users_are_told_in_turn()
     ensures { told_in_turn }
 {}
 
-/// Whatever happens, the receiver of an association is one to which chunks of packets came, from the peer's first TSN
-/// on; and the messages that were told since Up are those that it told.
+/// Whatever happens: all that the user is told in an association, from Up to Down, is what a receiver tells to which
+/// DATA came that came with the association's own tag since it opened, in the packet that opened it or later, counted
+/// from the peer's first TSN on. And while DATA counts that receiver is the endpoint's.
 pub fn what_is_told_was_received()
     ensures { messages_are_received }
 {}
@@ -33,4 +35,11 @@ pub fn a_cookie_opens_once()
 /// ABORT or SHUTDOWN COMPLETE with the peer's tag.
 pub fn packets_with_other_tags_are_dropped()
     ensures { other_tags_are_dropped }
+{}
+
+/// Whatever comes, each packet that goes out can be written in full, and what is written for it reads back as it: if
+/// the ports, and the tags that are drawn and signed, have as many bits as on the wire.
+pub fn what_goes_out_reads_back()
+    ensures written { packets_are_written }
+    ensures read { packets_are_read }
 {}

@@ -86,7 +86,8 @@ impl Cell {
 
     /// The message.
     pub fn message(&self) -> Message<'_>
-        ensures { given_as result ≡ self.now.message }
+        ensures message { given_as result ≡ self.now.message }
+        ensures most { length result.octets.now ≤ 290 }
     {
         Message {
             stream: self.stream,

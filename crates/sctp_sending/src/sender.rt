@@ -113,6 +113,13 @@ impl Sender {
             && self.finds_window(MOST_OCTETS)
     }
 
+    /// How many messages were taken and aren't confirmed.
+    pub fn len(&self) -> usize
+        ensures { result ≡ length self.now.out }
+    {
+        self.outbox.len()
+    }
+
     /// Whether less is under way than the congestion window has.
     fn has_credit(&self) -> bool
         ensures { result ≡ has_credit self.now }
@@ -147,6 +154,7 @@ impl Sender {
         ensures tsn { result.tsn ≡ tsn_at self.now.first place }
         ensures sequence { result.sequence ≡ (outgoing_at self.now.out place).sequence }
         ensures message { given_as result.message ≡ (outgoing_at self.now.out place).message }
+        ensures most { length result.message.octets.now ≤ 290 }
     {
         let cell = self.outbox.get(place);
         Data {

@@ -26,7 +26,7 @@ impl Endpoint {
 
     /// Whether a packet that begins with ABORT or SHUTDOWN COMPLETE has the right tag: that of the peer, where it is
     /// reflected.
-    fn has_tag(&self, tag: u32, is_reflected: bool) -> bool
+    pub(super) fn has_tag(&self, tag: u32, is_reflected: bool) -> bool
         ensures { result ≡ has_tag self.now.state.association tag (AbortChunk is_reflected []) }
     {
         if is_reflected {
@@ -37,7 +37,7 @@ impl Endpoint {
     }
 
     /// It ends, and the answers that wait don't go out.
-    fn end_alone<W: Watch>(&mut self, why: Loss, last: Option<&Reply<'_>>, watch: &mut W)
+    pub(super) fn end_alone<W: Watch>(&mut self, why: Loss, last: Option<&Reply<'_>>, watch: &mut W)
         requires generation { self.old.state.generation < 2 ^ 64 - 1 }
         requires last { size_of_last last ≤ 64 }
         ensures { Does W.sent W.told watch.old watch.new self.old self.new

@@ -1,15 +1,14 @@
 //! COOKIE ECHO that comes (RFC 9260 §5.1.5, §5.2.4).
 
-ghost use Rattle.std.specs.Prelude.{◌≡◌, ◌<◌, ◌≤◌, ◌^◌, ◌-◌, [], ◌∷◌};
-ghost use Rattle.sctp_codec.specs.Packets.{ShutdownAckChunk, ErrorChunk};
-ghost use Rattle.sctp_codec.specs.Parameters.{CookieInShutdown, cause_item};
-ghost use Rattle.sctp_rules.specs.State.{put, followed_by};
+ghost use Rattle.std.specs.Prelude.{◌≡◌, ◌<◌, ◌≤◌, ◌^◌, ◌-◌};
+ghost use Rattle.sctp_rules.specs.State.{followed_by};
 ghost use Rattle.sctp_rules.specs.Ending.{ended};
 ghost use Rattle.sctp_rules.specs.declared.loss.Loss.TheVariants.{Restart};
 ghost use Rattle.sctp_rules.specs.Opening.{
   opened_by,
   acknowledged_again,
   stale,
+  refused_in_shutdown,
   restarted,
   echo_in_association,
   good_echo_in,
@@ -23,7 +22,6 @@ ghost use Rattle.sctp_endpoint.specs.Endpoints.{Does, secrets_of};
 ghost use Rattle.sctp_endpoint.specs.Hearing.{heard_another, heard_in_time};
 
 use crate::address::Address;
-use crate::chunks::Chunks;
 use crate::endpoint::Endpoint;
 use crate::endpoint::ties::staleness;
 use crate::peer::{Names, Peer};
@@ -258,16 +256,19 @@ impl Endpoint {
         self.tell_stale(source, 1, cookie, watch);
     }
 
-    /// In SHUTDOWN-ACK-SENT a peer that has begun anew is told so, behind another SHUTDOWN ACK.
+    /// In SHUTDOWN-ACK-SENT the association stays: SHUTDOWN ACK goes out again, and the peer is told by ERROR where the
+    /// cookie came from.
     fn refuse_in_shutdown<W: Watch>(&self, source: &Address, cookie: &Cookie, watch: &mut W)
         ensures { Gives W.sent W.told watch.old watch.new
-            (put self.now.settings (address_of source.now) cookie.now.peer_tag
-            (ShutdownAckChunk ∷ ErrorChunk (cause_item CookieInShutdown ∷ []) ∷ []) self.now.state) }
+            (refused_in_shutdown self.now.settings (address_of source.now) cookie.now self.now.state) }
     {
-        let mut chunks = Chunks::new();
-        chunks.add(&Reply::ShutdownAck);
-        chunks.add(&Reply::Error(Cause::CookieInShutdown));
-        self.put_all(source, cookie.peer_tag, &chunks, watch);
+        self.put(&self.address, self.far_tag, &Reply::ShutdownAck, watch);
+        self.put(
+            source,
+            cookie.peer_tag,
+            &Reply::Error(Cause::CookieInShutdown),
+            watch,
+        );
     }
 
     /// The peer is told that a cookie is stale.

@@ -59,6 +59,8 @@ impl Sender {
     pub fn put_out(&mut self, now: u64) -> Option<usize>
         requires { now ≤ 2 ^ 63 }
         ensures place { result ≡ next_place self.old }
+        ensures within { IfSome result (λ place. place < length self.old.out) }
+        ensures next { IfSome result (λ place. place ≤ self.old.went) }
         ensures sending { self.new ≡ gone_next self.old now result }
     {
         match self.next_place() {

@@ -1,0 +1,214 @@
+-- Chunks that are bundled into packets.
+use Rattle.std.proofs.Common.{◌≡◌, ℕ, ◌+◌, ◌<◌, ◌≤◌, Bool, true, false, List, [], ◌∷◌, ◌++◌, length, map, refl, sym, ap, subst, ◌∙◌, length-append, arith}
+use Rattle.std.specs.Prelude.{sum_by, if◌then◌else◌, replicate}
+use Rattle.std.proofs.lemmas.Bool.{le-ltb, lt-ltb}
+use Rattle.std.proofs.lemmas.List.{append_assoc, append-nil, map-append}
+use Rattle.std.proofs.lemmas.List.Sums.{sum_by-cons, sum_by-append}
+use Rattle.sctp_codec.specs.Items.{item_octets, padding_behind}
+use Rattle.sctp_codec.specs.Packets.{ChunkValue}
+use Rattle.sctp_codec.specs.Writing.{chunk_item, chunk_octets, value_octets, header_octets, headed}
+use Rattle.sctp_rules.specs.Settings.{Address}
+use Rattle.sctp_rules.specs.State.{Told, packet_to}
+use Rattle.sctp_rules.specs.Sending.{closed, bundled}
+use Rattle.sctp_endpoint.specs.Replies.{size_of}
+use Rattle.sctp_endpoint.specs.ChunkRows.{row_of, packet_text}
+use Rattle.sctp_endpoint.specs.Watching.{Sent, sent_as}
+use Rattle.sctp_endpoint.specs.Bundling.{Bundle, Way, bundle, behind_packet, is_full_for, room_for, draft_of, packet_on, IsBundled, HasMadeRoom, Bundles}
+use Rattle.sctp_endpoint.proofs.Rows.{row-length, row-more, row-none, packet-text}
+
+-- ---- sizes
+
+pub draft-long : (w : Way) (chunks : List ChunkValue) → length (draft_of w chunks) ≡ 12 + sum_by size_of chunks
+unfolding draft_of
+draft-long w chunks =
+    let whole = length-append (header_octets w.settings.own_port w.settings.far_port w.tag 0) (row_of chunks) in
+    omega (arith, whole, row-length chunks)
+
+chunk-some : (chunk : ChunkValue) → 4 ≤ size_of chunk
+chunk-some chunk =
+    let whole = length-append (item_octets (chunk_item chunk)) (replicate (padding_behind (length (value_octets chunk))) 0) in
+    omega (arith, whole)
+
+draft-more : (w : Way) (chunks : List ChunkValue) (chunk : ChunkValue) → draft_of w (chunks ++ chunk ∷ []) ≡ draft_of w chunks ++ chunk_octets chunk
+unfolding draft_of
+draft-more w chunks chunk =
+    let header = header_octets w.settings.own_port w.settings.far_port w.tag 0 in
+    ap (λ (t : List ℕ). header ++ t) (row-more chunks chunk) ∙ sym (append_assoc header (row_of chunks) (chunk_octets chunk))
+
+pub draft-none : (w : Way) → header_octets w.settings.own_port w.settings.far_port w.tag 0 ≡ draft_of w []
+unfolding draft_of
+draft-none w =
+    let header = header_octets w.settings.own_port w.settings.far_port w.tag 0 in
+    sym (ap (λ (t : List ℕ). header ++ t) row-none ∙ append-nil header)
+
+-- chunks behind the header
+pub draft-front : (w : Way) (chunks : List ChunkValue) (t u front : List ℕ) → t ≡ draft_of w [] → u ≡ t ++ front → front ≡ row_of chunks → u ≡ draft_of w chunks
+unfolding draft_of
+draft-front w chunks t u front e m f =
+    let header = header_octets w.settings.own_port w.settings.far_port w.tag 0 in
+    m ∙ ap (λ (x : List ℕ). x ++ front) (e ∙ sym (draft-none w)) ∙ ap (λ (x : List ℕ). header ++ x) f
+
+draft-finished : (w : Way) (waiting : List ChunkValue) (old new : List ℕ)
+    → ((source destination tag : ℕ) (chunks : List ℕ) → old ≡ header_octets source destination tag 0 ++ chunks → new ≡ headed source destination tag chunks)
+    → old ≡ draft_of w waiting → new ≡ packet_text (packet_to w.settings w.tag waiting)
+unfolding draft_of
+draft-finished w waiting old new finish e =
+    finish w.settings.own_port w.settings.far_port w.tag (row_of waiting) e ∙ packet-text w.settings.own_port w.settings.far_port w.tag waiting
+
+-- the packet that is written goes out
+pub draft-sent : (w : Way) (waiting : List ChunkValue) (old new : List ℕ) (before after : List Sent) (to : Address)
+    → ((source destination tag : ℕ) (chunks : List ℕ) → old ≡ header_octets source destination tag 0 ++ chunks → new ≡ headed source destination tag chunks)
+    → after ≡ before ++ record { octets = new; to = to } ∷ [] → to ≡ w.to → old ≡ draft_of w waiting → after ≡ before ++ sent_as (packet_on w waiting) ∷ []
+draft-sent w waiting old new before after to finish s here e =
+    s ∙ ap (λ (t : List ℕ). before ++ record { octets = t; to = to } ∷ []) (draft-finished w waiting old new finish e)
+    ∙ ap (λ (a : Address). before ++ record { octets = packet_text (packet_to w.settings w.tag waiting); to = a } ∷ []) here
+
+pub rest-some : (w : Way) (waiting : List ChunkValue) (end : ℕ) (text : List ℕ) (before after : List Sent) → length text ≡ end → 12 < end → text ≡ draft_of w waiting
+    → after ≡ before ++ sent_as (packet_on w waiting) ∷ [] → after ≡ before ++ map sent_as (map (packet_on w) (closed waiting))
+rest-some w [] end text before after l some e s = absurd (omega (arith, l, some, ap length e, draft-long w []))
+rest-some w (chunk ∷ chunks) end text before after l some e s = s
+
+pub rest-none : (w : Way) (waiting : List ChunkValue) (end : ℕ) (text : List ℕ) (before : List Sent) → length text ≡ end → end ≤ 12 → text ≡ draft_of w waiting
+    → before ≡ before ++ map sent_as (map (packet_on w) (closed waiting))
+rest-none w [] end text before l none e = sym (append-nil before)
+rest-none w (chunk ∷ chunks) end text before l none e =
+    absurd (omega (arith, l, none, ap length e, draft-long w (chunk ∷ chunks), sum_by-cons size_of chunk chunks, chunk-some chunk))
+
+-- ---- room
+
+pub room-left : (waiting : List ChunkValue) (end octets : ℕ) → end ≡ 12 + sum_by size_of waiting → end + octets ≤ 1200 → room_for waiting octets ≡ record { full = []; waiting = waiting }
+room-left [] end octets e l = refl
+room-left (chunk ∷ chunks) end octets e l = rw (le-ltb 1200 (12 + sum_by size_of (chunk ∷ chunks) + octets) (omega (arith, e, l))) refl
+
+pub room-over : (waiting : List ChunkValue) (end octets : ℕ) → end ≡ 12 + sum_by size_of waiting → 1200 < end + octets → octets ≤ 1188 → room_for waiting octets ≡ record { full = waiting ∷ []; waiting = [] }
+room-over [] end octets e l m = absurd (omega (arith, e, l, m))
+room-over (chunk ∷ chunks) end octets e l m = rw (lt-ltb 1200 (12 + sum_by size_of (chunk ∷ chunks) + octets) (omega (arith, e, l))) refl
+
+pub room-kept : {W : Type 0} (sent : W → List Sent) (told : W → List Told) (w : Way) (watch : W) (text : List ℕ) (end octets : ℕ) → length text ≡ end → end + octets ≤ 1200
+    → HasMadeRoom sent told w watch watch text text octets
+room-kept sent told w watch text end octets l m = record {
+  told_is = refl;
+  made = λ waiting e.
+      subst (λ (b : Bundle). IsBundled w (sent watch) (sent watch) text b) (sym (room-left waiting end octets (sym l ∙ ap length e ∙ draft-long w waiting) m))
+      (record { text_is = e; sent_is = sym (append-nil (sent watch)) });
+}
+
+pub room-begun : {W : Type 0} (sent : W → List Sent) (told : W → List Told) (w : Way) (before after : W) (text new : List ℕ) (end octets : ℕ) → length text ≡ end → 1200 < end + octets → octets ≤ 1188
+    → told after ≡ told before → ((waiting : List ChunkValue) → text ≡ draft_of w waiting → sent after ≡ sent before ++ sent_as (packet_on w waiting) ∷ []) → new ≡ draft_of w []
+    → HasMadeRoom sent told w before after text new octets
+room-begun sent told w before after text new end octets l m few t s n = record {
+  told_is = t;
+  made = λ waiting e.
+      subst (λ (b : Bundle). IsBundled w (sent before) (sent after) new b) (sym (room-over waiting end octets (sym l ∙ ap length e ∙ draft-long w waiting) m few))
+      (record { text_is = n; sent_is = s waiting e });
+}
+
+-- ---- one chunk
+
+abbrev with_chunk : Bundle → ChunkValue → Bundle
+with_chunk b chunk = record { full = b.full; waiting = b.waiting ++ chunk ∷ [] }
+
+one-by : (b : Bool) (waiting : List ChunkValue) (chunk : ChunkValue) →
+    (if b then behind_packet waiting (bundle (chunk ∷ []) []) else bundle (waiting ++ chunk ∷ []) [])
+    ≡ with_chunk (if b then record { full = waiting ∷ []; waiting = [] } else record { full = []; waiting = waiting }) chunk
+unfolding bundle
+one-by true waiting chunk = refl
+one-by false waiting chunk = refl
+
+bundle-one : (waiting : List ChunkValue) (chunk : ChunkValue) → bundle waiting (chunk ∷ []) ≡ with_chunk (room_for waiting (size_of chunk)) chunk
+unfolding bundle
+bundle-one waiting chunk = one-by (is_full_for waiting chunk) waiting chunk
+
+-- a chunk that is written behind the room for it
+pub chunk-bundled : {W : Type 0} (sent : W → List Sent) (told : W → List Told) (w : Way) (before after : W) (old mid new : List ℕ) (octets : ℕ) (chunk : ChunkValue)
+    → HasMadeRoom sent told w before after old mid octets → octets ≡ size_of chunk → new ≡ mid ++ chunk_octets chunk → Bundles sent told w before after old new (chunk ∷ [])
+chunk-bundled sent told w before after old mid new octets chunk h same text = record {
+  told_is = h.told_is;
+  bundled = λ waiting e.
+      let room = room_for waiting (size_of chunk) in
+      let made : IsBundled w (sent before) (sent after) mid room = subst (λ (n : ℕ). IsBundled w (sent before) (sent after) mid (room_for waiting n)) same (h.made waiting e) in
+      let whole : IsBundled w (sent before) (sent after) new (with_chunk room chunk) = record {
+        text_is = text ∙ ap (λ (t : List ℕ). t ++ chunk_octets chunk) made.text_is ∙ sym (draft-more w room.waiting chunk);
+        sent_is = made.sent_is;
+      } in
+      subst (λ (b : Bundle). IsBundled w (sent before) (sent after) new b) (sym (bundle-one waiting chunk)) whole;
+}
+
+-- ---- chunks behind others
+
+abbrev joined : Bundle → Bundle → Bundle
+joined b c = record { full = b.full ++ c.full; waiting = c.waiting }
+
+join-by : (b : Bool) (packet : List ChunkValue) (full left full_all left_all : Bundle) (ys : List ChunkValue)
+    → full_all ≡ joined full (bundle full.waiting ys) → left_all ≡ joined left (bundle left.waiting ys)
+    → (if b then behind_packet packet full_all else left_all)
+    ≡ joined (if b then behind_packet packet full else left) (bundle (if b then behind_packet packet full else left).waiting ys)
+join-by true packet full left full_all left_all ys p q = ap (behind_packet packet) p
+join-by false packet full left full_all left_all ys p q = q
+
+bundle-append : (waiting xs ys : List ChunkValue) → bundle waiting (xs ++ ys) ≡ joined (bundle waiting xs) (bundle (bundle waiting xs).waiting ys)
+unfolding bundle
+bundle-append waiting [] ys = refl
+bundle-append waiting (x ∷ xs) ys =
+    join-by (is_full_for waiting x) waiting (bundle (x ∷ []) xs) (bundle (waiting ++ x ∷ []) xs) (bundle (x ∷ []) (xs ++ ys)) (bundle (waiting ++ x ∷ []) (xs ++ ys)) ys
+    (bundle-append (x ∷ []) xs ys) (bundle-append (waiting ++ x ∷ []) xs ys)
+
+pub sent-more : (w : Way) (a b c : List Sent) (xs ys : List (List ChunkValue)) → b ≡ a ++ map sent_as (map (packet_on w) xs) → c ≡ b ++ map sent_as (map (packet_on w) ys) → c ≡ a ++ map sent_as (map (packet_on w) (xs ++ ys))
+sent-more w a b c xs ys p q =
+    let x = map (packet_on w) xs in
+    let y = map (packet_on w) ys in
+    q ∙ ap (λ (t : List Sent). t ++ map sent_as y) p ∙ append_assoc a (map sent_as x) (map sent_as y)
+    ∙ ap (λ (t : List Sent). a ++ t) (sym (ap (map sent_as) (map-append (packet_on w) xs ys) ∙ map-append sent_as x y))
+
+pub bundles-then : {W : Type 0} (sent : W → List Sent) (told : W → List Told) (w : Way) (before between after : W) (old mid new : List ℕ) (xs ys : List ChunkValue)
+    → Bundles sent told w before between old mid xs → Bundles sent told w between after mid new ys → Bundles sent told w before after old new (xs ++ ys)
+bundles-then sent told w before between after old mid new xs ys b c = record {
+  told_is = c.told_is ∙ b.told_is;
+  bundled = λ waiting e.
+      let first = b.bundled waiting e in
+      let second = c.bundled (bundle waiting xs).waiting first.text_is in
+      let whole : IsBundled w (sent before) (sent after) new (joined (bundle waiting xs) (bundle (bundle waiting xs).waiting ys)) = record {
+        text_is = second.text_is;
+        sent_is = sent-more w (sent before) (sent between) (sent after) (bundle waiting xs).full (bundle (bundle waiting xs).waiting ys).full first.sent_is second.sent_is;
+      } in
+      subst (λ (p : Bundle). IsBundled w (sent before) (sent after) new p) (sym (bundle-append waiting xs ys)) whole;
+}
+
+pub bundles-none : {W : Type 0} (sent : W → List Sent) (told : W → List Told) (w : Way) (before : W) (old : List ℕ) → Bundles sent told w before before old old []
+unfolding bundle
+bundles-none sent told w before old = record {
+  told_is = refl;
+  bundled = λ waiting e. record { text_is = e; sent_is = sym (append-nil (sent before)) };
+}
+
+-- ---- all chunks, by the rule
+
+bundled-by : (b : Bool) (packet : List ChunkValue) (full left : Bundle) (xs ys : List (List ChunkValue)) → xs ≡ full.full ++ closed full.waiting → ys ≡ left.full ++ closed left.waiting
+    → (if b then packet ∷ xs else ys) ≡ (if b then behind_packet packet full else left).full ++ closed (if b then behind_packet packet full else left).waiting
+bundled-by true packet full left xs ys p q = ap (λ (t : List (List ChunkValue)). packet ∷ t) p
+bundled-by false packet full left xs ys p q = q
+
+pub bundled-is : (waiting chunks : List ChunkValue) (octets : ℕ) → octets ≡ 12 + sum_by size_of waiting → bundled waiting octets chunks ≡ (bundle waiting chunks).full ++ closed (bundle waiting chunks).waiting
+unfolding bundle
+bundled-is waiting [] octets e = refl
+bundled-is waiting (chunk ∷ chunks) octets e =
+    let first : 12 + size_of chunk ≡ 12 + sum_by size_of (chunk ∷ []) = omega (arith, sum_by-cons size_of chunk []) in
+    let more : 12 + sum_by size_of waiting + size_of chunk ≡ 12 + sum_by size_of (waiting ++ chunk ∷ []) = omega (arith, sum_by-append size_of waiting (chunk ∷ []), sum_by-cons size_of chunk []) in
+    rw e (bundled-by (is_full_for waiting chunk) waiting (bundle (chunk ∷ []) chunks) (bundle (waiting ++ chunk ∷ []) chunks)
+    (bundled (chunk ∷ []) (12 + size_of chunk) chunks) (bundled (waiting ++ chunk ∷ []) (12 + sum_by size_of waiting + size_of chunk) chunks)
+    (bundled-is (chunk ∷ []) chunks (12 + size_of chunk) first) (bundled-is (waiting ++ chunk ∷ []) chunks (12 + sum_by size_of waiting + size_of chunk) more))
+
+fits-by : (waiting : List ChunkValue) (chunk : ChunkValue) → sum_by size_of waiting + size_of chunk ≤ 1188 → is_full_for waiting chunk ≡ false
+fits-by [] chunk m = refl
+fits-by (first ∷ waiting) chunk m = le-ltb 1200 (12 + sum_by size_of (first ∷ waiting) + size_of chunk) (omega (arith, m))
+
+-- chunks that fit into one packet
+pub bundle-front : (waiting xs ys : List ChunkValue) → sum_by size_of waiting + sum_by size_of xs ≤ 1188 → bundle waiting (xs ++ ys) ≡ bundle (waiting ++ xs) ys
+unfolding bundle
+bundle-front waiting [] ys m = ap (λ (t : List ChunkValue). bundle t ys) (sym (append-nil waiting))
+bundle-front waiting (x ∷ xs) ys m =
+    let both = sum_by-cons size_of x xs in
+    let more = sum_by-append size_of waiting (x ∷ []) in
+    let one = sum_by-cons size_of x [] in
+    rw (fits-by waiting x (omega (arith, both, m)))
+    (bundle-front (waiting ++ x ∷ []) xs ys (omega (arith, both, more, one, m)) ∙ ap (λ (t : List ChunkValue). bundle t ys) (append_assoc waiting (x ∷ []) xs))
