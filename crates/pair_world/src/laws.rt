@@ -1,9 +1,12 @@
-//! The four laws of a link, of a pair at any time: they hold in both directions while neither exchange
-//! may have lost a message (`specs/Laws.antt` of `pair_rules`). Each function says its law by its
-//! contract, and does nothing.
+//! The four laws of a link, and that nothing waits in vain, of a pair at any time: all but the last hold in both
+//! directions while neither exchange may have lost a message (`specs/Laws.antt` and `specs/Awaiting.antt` of
+//! `pair_rules`). Each function says its law by its contract, and does nothing.
 
+ghost use Rattle.pair_rules.specs.Awaiting.{AwaitsNothingInVain, HoldInNoVain};
 ghost use Rattle.pair_rules.specs.Laws.{IsCarried, NoneIsLeft, AreFinal, MovesLacked};
+ghost use Rattle.pair_rules.specs.Pairs.{PairState};
 ghost use Rattle.pair_world.specs.Promised.{HoldsBothWays};
+ghost use Rattle.pair_world.specs.Stands.{StandsFor};
 
 use crate::pair::Pair;
 
@@ -39,4 +42,17 @@ pub fn words_carry_the_final_number(pair: &Pair)
 /// changeover moves the messages that the peer lacks, and no other (Q.704 §5.4, §5.5).
 pub fn completions_move_what_the_peer_lacks(pair: &Pair)
     ensures { HoldsBothWays MovesLacked pair.now }
+{}
+
+/// While an end awaits the answer to its order to change over, exactly one order of it about that link, or answer about
+/// it, is under way; while a changeback code of it awaits its answer, exactly one declaration or answer with that code
+/// (Q.704 §5.4, §6.3). Else none is.
+pub fn nothing_is_awaited_in_vain(pair: &Pair)
+    ensures { HoldsBothWays AwaitsNothingInVain pair.now }
+{}
+
+/// At both ends every hold has its timer or its word, whether or not a message may have been lost
+/// (`every_hold_has_its_timer_or_its_word` of `exchange_rules`): so each ends.
+pub fn nothing_is_held_in_vain(pair: &Pair)
+    ensures { (p : PairState) → StandsFor pair.now p → HoldInNoVain p }
 {}
