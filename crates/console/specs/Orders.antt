@@ -9,11 +9,7 @@ use Rattle.exchange.specs.declared.event.Order.{Order}
 use Rattle.exchange.specs.declared.event.Order.TheVariants.{Activate, Deactivate, AddTitle, RemoveTitle}
 use Rattle.console.specs.declared.order.OrderText.{OrderText}
 use Rattle.console.specs.declared.order.OrderText.TheVariants as text
-use Rattle.console.specs.declared.order.Parsed.{Parsed}
-use Rattle.console.specs.declared.order.Parsed.TheVariants as parsed
 use Rattle.point_format.specs.declared.point.PointFormat.{PointFormat}
-use Rattle.console.specs.Words.{words}
-use Rattle.console.specs.Commands.{command_named}
 use Rattle.console.specs.TitleWords.{name_written, row_written}
 use Rattle.console.specs.declared.title_words.RowName.{RowName}
 use Rattle.console.specs.declared.commands.Command.{Command}
@@ -29,12 +25,6 @@ pub data Instruction : Type 0 where
 -- a word that is there
 abbrev pub is_some_word : List ℕ → Bool
 is_some_word word = not (nat_eq (length word) 0)
-
--- the order that a command gives about this link, where it is one of orders
-abbrev pub instructed_about : Command → List ℕ → Option Instruction
-instructed_about command.Activate link = Some (ToActivate link)
-instructed_about command.Deactivate link = Some (ToDeactivate link)
-instructed_about _ link = None
 
 -- the order about the row of this name: it is removed, or added with the words behind
 abbrev pub title_order_about : PointFormat → RowName → (verb : List ℕ) → List (List ℕ) → Option Instruction
@@ -56,15 +46,7 @@ abbrev pub instructed_by : PointFormat → Command → List (List ℕ) → Optio
 instructed_by points command.Title behind = title_order points behind
 instructed_by points _ behind = None
 
--- the order that words give: `activate LINK`, `deactivate LINK`, or one about a translation row
-abbrev pub instructed : PointFormat → List (List ℕ) → Option Instruction
-instructed points [] = None
-instructed points (word ∷ []) = None
-instructed points (word ∷ link ∷ []) =
-    if is_some_word link then option_and_then (λ command. instructed_about command link) (command_named word) else None
-instructed points (word ∷ first ∷ second ∷ more) =
-    option_and_then (λ command. instructed_by points command (first ∷ second ∷ more)) (command_named word)
-
+-- the order of a text
 abbrev pub instruction : OrderText → Instruction
 instruction (text.Activate link) = ToActivate link.now
 instruction (text.Deactivate link) = ToDeactivate link.now
@@ -81,15 +63,3 @@ order_named c (ToActivate name) = option_map (λ link. Activate link) (link_plac
 order_named c (ToDeactivate name) = option_map (λ link. Deactivate link) (link_place c name)
 order_named c (ToAddTitle row) = Some (AddTitle row)
 order_named c (ToRemoveTitle key digits) = Some (RemoveTitle key (record { items = digits }))
-
-abbrev pub parsed_named : Option Order → Parsed
-parsed_named None = parsed.NoSuchName
-parsed_named (Some order) = parsed.Order order
-
-abbrev pub parsed_by : Configuration → Option Instruction → Parsed
-parsed_by c None = parsed.Malformed
-parsed_by c (Some instruction) = parsed_named (order_named c instruction)
-
--- what a text orders a node with these settings to do
-abbrev pub parsed_order : PointFormat → Configuration → List ℕ → Parsed
-parsed_order points c octets = parsed_by c (instructed points (words octets))

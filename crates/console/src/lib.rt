@@ -21,6 +21,6 @@ pub use links::show_links;
 pub use names::link_name;
 pub use notices::show_notices;
 pub use numbers::read_number;
-pub use order::{OrderText, Parsed, order_by, parse_order};
+pub use order::{OrderText, order_by};
 pub use route_lines::show_routes;
 pub use titles::show_titles;

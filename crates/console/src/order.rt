@@ -2,8 +2,7 @@
 
 ghost use Rattle.std.specs.Prelude.{◌≡◌};
 ghost use Rattle.console.specs.Words.{words};
-ghost use Rattle.console.specs.Orders.{instructed, instructed_about, instructed_by, instruction_of, instruction};
-ghost use Rattle.console.specs.Orders.{title_order, order_named, parsed_order};
+ghost use Rattle.console.specs.Orders.{instructed_by, instruction, instruction_of, order_named, title_order};
 
 use crate::commands::Command;
 use crate::title_words::{read_name, read_row};
@@ -39,57 +38,6 @@ pub enum OrderText<'a> {
     },
 }
 
-/// What a text orders a node to do.
-#[derive(Drop)]
-pub enum Parsed {
-    /// This.
-    Order(Order),
-    /// An order about a link that the settings don't have.
-    NoSuchName,
-    /// It is no order.
-    Malformed,
-}
-
-/// The order that a text, without its line end, gives to a node with these settings: `activate LINK`, `deactivate
-/// LINK`, `title add T P N DIGITS POINT ROUTE SSN` or `title remove T P N DIGITS`, with one space between the words, and
-/// points in this format.
-pub fn parse_order(text: &[u8], settings: &Settings, points: PointFormat) -> Parsed
-    ensures { result ≡ parsed_order points settings.now text.now }
-{
-    match read_order(text, points) {
-        Some(order) => match order.named(settings) {
-            Some(order) => Parsed::Order(order),
-            None => Parsed::NoSuchName,
-        },
-        None => Parsed::Malformed,
-    }
-}
-
-/// The order that a text without a line end is, whether its link has that name or not.
-#[tactic(auto, using(crate::proofs::Ordered::order_steps))]
-fn read_order(text: &[u8], points: PointFormat) -> Option<OrderText<'_>>
-    ensures { instruction_of result ≡ instructed points (words text.now) }
-{
-    let (word, rest) = cut(text);
-    let behind = rest?;
-    match cut(behind) {
-        (link, None) if !link.is_empty() => order_about(Command::named(word)?, link),
-        (_, None) => None,
-        (_, Some(_)) => order_by(Command::named(word)?, behind, points),
-    }
-}
-
-/// The order that a command gives about the link of this name, where it is one of orders.
-fn order_about(command: Command, link: &[u8]) -> Option<OrderText<'_>>
-    ensures { instruction_of result ≡ instructed_about command link.now }
-{
-    match command {
-        Command::Activate => Some(OrderText::Activate { link }),
-        Command::Deactivate => Some(OrderText::Deactivate { link }),
-        _ => None,
-    }
-}
-
 /// The order that a command gives with these words after it, two or more, and points in this format.
 pub fn order_by(command: Command, behind: &[u8], points: PointFormat) -> Option<OrderText<'_>>
     ensures { instruction_of result ≡ instructed_by points command (words behind.now) }
@@ -101,7 +49,7 @@ pub fn order_by(command: Command, behind: &[u8], points: PointFormat) -> Option<
 }
 
 /// The order that the words behind `title` give.
-#[tactic(auto, using(crate::proofs::Ordered::order_steps))]
+#[tactic(auto, using(crate::proofs::Ordered::about_some))]
 fn title_order(text: &[u8], points: PointFormat) -> Option<OrderText<'_>>
     ensures { instruction_of result ≡ title_order points (words text.now) }
 {

@@ -1,5 +1,5 @@
 -- A digit is one octet.
-use Rattle.std.proofs.Common.{◌≡◌, length, arith}
+use Rattle.std.proofs.Common.{arith}
 use Rattle.std.proofs.lemmas.Str.{length-encode, len_utf8_ascii}
 use Rattle.console.proofs.titles.push_digit.Goals as goal
 
