@@ -52,7 +52,7 @@ pub fn nothing_is_awaited_in_vain(pair: &Pair)
 {}
 
 /// At both ends every hold has its timer or its word, whether or not a message may have been lost
-/// (`every_hold_has_its_timer_or_its_word` of `exchange_rules`): so each ends.
+/// (`every_hold_has_its_timer_or_its_word` of `exchange_rules`): so ticks end each (`ticks_end_all_holds`).
 pub fn nothing_is_held_in_vain(pair: &Pair)
     ensures { (p : PairState) → StandsFor pair.now p → HoldInNoVain p }
 {}

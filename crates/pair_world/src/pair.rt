@@ -93,8 +93,8 @@ impl Pair {
         // For every abstract pair that it stood for, the outcome is that of the abstract step,
         ensures outcome { (p : PairState) → StandsFor self.old p →
             IfOk result (λ outcome. outcome ≡ (pairs.turn (step_told step outcome) p).outcome) }
-        // which for a delivery says what came, and what was accepted of that: Local or NoUserPart exactly if the end
-        // received a message for a user part or for a subsystem here,
+        // which for a delivery says what came, and what was accepted of that: Local exactly if the end received a
+        // message for a user part or a subsystem here, NoUserPart exactly if one for another user part,
         ensures told { (p : PairState) → StandsFor self.old p →
             IfOk result (λ outcome. Tells (step_told step outcome) p outcome) }
         // and the pair stands for the one after it.
