@@ -108,7 +108,11 @@ impl Part for Network {
             "prohibit" => self
                 .routes
                 .set_status(first, SetId::new(high), RouteStatus::Prohibited),
-            "unknown" => return self.routes.facts().status_of(first, SetId::new(high)).is_none(),
+            "unknown" => return self
+                .routes
+                .facts()
+                .status_of(first, SetId::new(high))
+                .is_none(),
             "sets" => return self.routes.facts().sets_of(first).len() == second,
             "fail" => {
                 let sls = Sls::of_low_bits(u32::from(high));
