@@ -2,7 +2,10 @@
 #![tactic(auto)]
 
 mod log;
+mod messages;
+mod site;
 mod text;
 
-pub use log::{Datagram, Entry, Log};
+pub use log::{Datagram, Entry, Kept, Log};
+pub use messages::Messages;
 pub use text::Text;

@@ -47,6 +47,24 @@ pub struct Kept {
     what: Entry,
 }
 
+impl Kept {
+    /// What it was.
+    pub fn what(&self) -> &Entry
+        ensures { told_by_entry result.now ≡ self.now }
+    {
+        &self.what
+    }
+}
+
+impl Datagram {
+    /// Its octets.
+    pub fn octets(&self) -> &[u8]
+        ensures { result.now ≡ self.now.octets }
+    {
+        self.octets.as_slice()
+    }
+}
+
 impl Model for Kept {
     ghost use Rattle.sctp_rules.specs.State.{Told};
     ghost use Rattle.sctp_world.specs.Kept.{told_by_entry};
@@ -66,11 +84,18 @@ pub struct Log<'r, R: Abort> {
     told: Vec<Kept>,
 }
 
+impl<'r, R: Abort> Model for Log<'r, R> {
+    ghost use Rattle.sctp_world.specs.Kept.{KeptLog};
+
+    ghost Value = { KeptLog };
+
+    ghost view = { λ log. record { sent = log.sent.items; told = log.told.items } };
+}
+
 impl<'r, R: Abort> Log<'r, R> {
     /// Nothing was put out, and nothing told.
     pub fn new(handle: &'r R, alloc: Global) -> Log<'r, R>
-        ensures sent { result.sent.items ≡ [] }
-        ensures told { result.told.items ≡ [] }
+        ensures { result ≡ record { sent = []; told = [] } }
     {
         Log {
             handle,
@@ -80,11 +105,35 @@ impl<'r, R: Abort> Log<'r, R> {
         }
     }
 
+    /// All datagrams.
+    pub fn sent(&self) -> &[Datagram]
+        ensures { result.now ≡ self.now.sent }
+    {
+        self.sent.as_slice()
+    }
+
+    /// All that was told.
+    pub fn told(&self) -> &[Kept]
+        ensures { result.now ≡ self.now.told }
+    {
+        self.told.as_slice()
+    }
+
+    /// Memory for more.
+    pub fn alloc(&self) -> Global {
+        self.alloc
+    }
+
+    /// Memory ran out.
+    pub fn give_up(&self) -> ! {
+        self.handle.abort()
+    }
+
     /// Keeps a datagram.
     fn keep(&mut self, octets: &[u8], to: &Address) -> Result<(), AllocError>
-        ensures sent { OnOk result
-            (self.new.sent.items ≡ self.old.sent.items ++ record { octets = octets.now; to = address_of to.now } ∷ []) }
-        ensures told { self.new.told.items ≡ self.old.told.items }
+        ensures { OnOk result (self.new ≡ record self.old {
+          sent = self.old.sent ++ record { octets = octets.now; to = address_of to.now } ∷ [];
+        }) }
     {
         let mut copy = Vec::new(self.alloc);
         copy.extend_from_slice(octets)?;
@@ -97,8 +146,7 @@ impl<'r, R: Abort> Log<'r, R> {
 
     /// Keeps what is told.
     fn note(&mut self, event: &Event<'_>) -> Result<(), AllocError>
-        ensures sent { self.new.sent.items ≡ self.old.sent.items }
-        ensures told { OnOk result (self.new.told.items ≡ self.old.told.items ++ told_of event.now ∷ []) }
+        ensures { OnOk result (self.new ≡ record self.old { told = self.old.told ++ told_of event.now ∷ [] }) }
     {
         let what = entry_of(self.alloc, event)?;
         self.told.push(Kept { what })?;
@@ -122,9 +170,9 @@ fn entry_of(alloc: Global, event: &Event<'_>) -> Result<Entry, AllocError>
 }
 
 impl<'r, R: Abort> Watch for Log<'r, R> {
-    ghost sent = { λ log. log.sent.items };
+    ghost sent = { λ log. log.sent };
 
-    ghost told = { λ log. log.told.items };
+    ghost told = { λ log. log.told };
 
     fn send(&mut self, octets: &[u8], to: &Address) {
         match self.keep(octets, to) {
