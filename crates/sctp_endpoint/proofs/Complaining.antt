@@ -1,12 +1,11 @@
 -- ERROR with the parameters that are to be reported.
-use Rattle.std.proofs.Common.{◌≡◌, ◌≢◌, ℕ, ◌+◌, ◌^◌, ◌<◌, ◌≤◌, List, [], ◌∷◌, ◌++◌, length, take, refl, sym, ap, ◌∙◌, length-append, arith}
-use Rattle.std.specs.Prelude.{All, replicate}
-use Rattle.std.proofs.lemmas.List.{append-nil, length-replicate}
+use Rattle.std.proofs.Common.{◌≡◌, ℕ, ◌+◌, ◌<◌, ◌≤◌, List, [], ◌∷◌, ◌++◌, length, refl, length-append, arith}
+use Rattle.std.specs.Prelude.{replicate}
 use Rattle.std.proofs.lemmas.List.Elements.{All-cons, All-nil}
 use Rattle.sctp_codec.specs.Items.{ItemValue, IsItem, padding_behind, item_octets, padded_item, joined_items}
 use Rattle.sctp_codec.specs.Packets.{ChunkValue, ErrorChunk, CookieEchoChunk}
 use Rattle.sctp_codec.specs.Parameters.{unrecognized_parameters}
-use Rattle.sctp_codec.specs.Writing.{IsChunk, chunk_item, chunk_octets}
+use Rattle.sctp_codec.specs.Writing.{IsChunk, chunk_item}
 use Rattle.sctp_rules.specs.Opening.{echo_of}
 use Rattle.sctp_endpoint.specs.Replies.{size_of, complaint_of}
 

@@ -9,3 +9,8 @@ pub mod Sacks
 pub mod Going
 pub mod Flushing
 pub mod Ticking
+pub mod Draining
+pub mod Chained
+pub mod Growing
+pub mod Counting
+pub mod Dispatching

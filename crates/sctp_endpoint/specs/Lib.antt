@@ -9,4 +9,6 @@ pub mod Beginning
 pub mod Hearing
 pub mod Bundling
 pub mod Arriving
+pub mod Draining
+pub mod Dispatching
 pub mod Inside

@@ -26,7 +26,7 @@ impl Endpoint {
 
     /// Whether a packet that begins with ABORT or SHUTDOWN COMPLETE has the right tag: that of the peer, where it is
     /// reflected.
-    fn has_tag(&self, tag: u32, is_reflected: bool) -> bool
+    pub(super) fn has_tag(&self, tag: u32, is_reflected: bool) -> bool
         ensures { result ≡ has_tag self.now.state.association tag (AbortChunk is_reflected []) }
     {
         if is_reflected {

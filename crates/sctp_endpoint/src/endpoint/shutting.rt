@@ -74,10 +74,7 @@ impl Endpoint {
             }
             Phase::ShutdownReceived => self.confirm_in_shutdown(cumulative, now),
             Phase::ShutdownSent => self.answer_shutdown(now),
-            Phase::Closed
-            | Phase::CookieWait
-            | Phase::CookieEchoed
-            | Phase::ShutdownAckSent => {}
+            Phase::Closed | Phase::CookieWait | Phase::CookieEchoed | Phase::ShutdownAckSent => {}
         }
     }
 

@@ -16,18 +16,15 @@ use sctp_rules::limits::CONTROL_OCTETS;
 const REPORT_OCTETS: usize = 12;
 
 impl Endpoint {
-    /// A chunk of an unknown type came: it is reported with the next packet, where its type asks for that. Answers
-    /// whether the chunks behind it count.
-    pub(super) fn hear_unknown(&mut self, kind: u8, flags: u8, value: &[u8]) -> bool
-        ensures does { self.new ≡ record self.old {
+    /// A chunk of an unknown type came: it is reported with the next packet, where its type asks for that.
+    pub(super) fn hear_unknown(&mut self, kind: u8, flags: u8, value: &[u8])
+        ensures { self.new ≡ record self.old {
           state = (heard_unknown kind flags value.now self.old.state).does.left;
         } }
-        ensures goes_on { result ≡ (heard_unknown kind flags value.now self.old.state).goes_on }
     {
         if is_reported(kind) {
             self.report_unknown(kind, flags, value);
         }
-        is_skipped(kind)
     }
 
     /// ERROR with the chunk goes out with the next packet, where there is room for it.
@@ -37,8 +34,7 @@ impl Endpoint {
         } }
     {
         if self.control.size() + octets_of_report(kind, flags, value) <= CONTROL_OCTETS {
-            self.control
-                .add(&Reply::Error(Cause::UnrecognizedChunk { kind, flags, value }));
+            self.control.add(&Reply::Error(Cause::UnrecognizedChunk { kind, flags, value }));
         }
     }
 }
@@ -59,7 +55,7 @@ fn is_reported(kind: u8) -> bool
 }
 
 /// Whether the chunks behind an unknown one of a type count: the highest bit.
-fn is_skipped(kind: u8) -> bool
+pub(super) fn is_skipped(kind: u8) -> bool
     ensures { result ≡ is_skipped kind }
 {
     (kind >> 7) % 2 == 1

@@ -1,9 +1,9 @@
-use Rattle.std.proofs.Common.{◌≡◌, ℕ, ◌+◌, ◌≤◌, ◌<◌, List, ◌∷◌, [], ◌++◌, length, take, sum_by, sym, ap, ◌∙◌, arith}
+use Rattle.std.proofs.Common.{◌≡◌, ℕ, ◌+◌, ◌≤◌, List, ◌∷◌, [], ◌++◌, length, take, sum_by, sym, ap, ◌∙◌, arith}
 use Rattle.sctp_codec.specs.Packets.{ChunkValue, ErrorChunk}
 use Rattle.sctp_codec.specs.Parameters.{unrecognized_parameters, complained_of}
 use Rattle.sctp_codec.specs.Values.{items_of}
 use Rattle.sctp_codec.specs.Writing.{chunk_octets}
-use Rattle.sctp_endpoint.specs.Replies.{size_of, complaint_of}
+use Rattle.sctp_endpoint.specs.Replies.{size_of}
 use Rattle.sctp_endpoint.specs.Written.{chunks_in}
 use Rattle.sctp_endpoint.proofs.Rows.{are_long, are_more}
 use Rattle.sctp_endpoint.proofs.Complaining.{complaint-said, some-complained, fits-packet, fits-behind, at-most, above}

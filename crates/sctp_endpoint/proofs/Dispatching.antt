@@ -1,0 +1,116 @@
+-- Whether the chunks behind one count.
+use Rattle.std.proofs.Common.{◌≡◌, ℕ, Bool, true, false, List, [], refl, subst}
+use Rattle.std.specs.Prelude.{not, ◌&&◌, nat_eq, if◌then◌else◌}
+use Rattle.sctp_codec.specs.Packets as packets
+use Rattle.sctp_codec.specs.Packets.{ChunkValue}
+use Rattle.sctp_rules.specs.Settings.{Settings, Secrets, Address}
+use Rattle.sctp_rules.specs.State.{Told, State, Done, silent, followed_by, with_association}
+use Rattle.sctp_rules.specs.Opening.{Echo, is_closed, is_waiting, heard_cookie_echo}
+use Rattle.sctp_rules.specs.Shutdown.{heard_shutdown_complete}
+use Rattle.sctp_rules.specs.Packets.{Handled, has_tag, has_peer_tag, while_there, heard_chunk, heard_chunks, from_source, heard_by_tag, looked_at}
+use Rattle.sctp_endpoint.specs.Dispatching.{counts_behind, heard_echo}
+use Rattle.sctp_endpoint.specs.Draining.{and_on}
+use Rattle.sctp_endpoint.specs.Watching.{Sent}
+use Rattle.sctp_endpoint.specs.Endpoints.{Endpoint, Does, secrets_of}
+use Rattle.sctp_endpoint.proofs.Chained.{then-does, if-on}
+use Rattle.sctp_endpoint.proofs.Draining.{nothing-behind, if-true, if-false}
+
+either-there : (b : Bool) (tag : ℕ) (d e : Done) → (if b then while_there tag d else while_there tag e).goes_on
+    ≡ (not (is_closed (if b then while_there tag d else while_there tag e).does.left.association.phase)
+    && nat_eq (if b then while_there tag d else while_there tag e).does.left.association.own_tag tag)
+either-there true tag d e = refl
+either-there false tag d e = refl
+
+pub goes-on : (c : Settings) (k : Secrets) (now tag : ℕ) (chunk : ChunkValue) (s : State)
+    → (heard_chunk c k now tag chunk s).goes_on ≡ counts_behind chunk tag (heard_chunk c k now tag chunk s).does.left
+goes-on c k now tag (packets.ShutdownCompleteChunk is_reflected) s =
+    either-there (has_tag s.association tag (packets.ShutdownCompleteChunk is_reflected)) tag (heard_shutdown_complete c s) (silent s)
+goes-on c k now tag (packets.AbortChunk is_reflected causes) s = refl
+goes-on c k now tag (packets.UnknownChunk kind flags value) s = refl
+goes-on c k now tag (packets.DataChunk d) s = refl
+goes-on c k now tag (packets.InitChunk init) s = refl
+goes-on c k now tag (packets.InitAckChunk init) s = refl
+goes-on c k now tag (packets.SackChunk sack) s = refl
+goes-on c k now tag (packets.HeartbeatChunk information) s = refl
+goes-on c k now tag (packets.HeartbeatAckChunk information) s = refl
+goes-on c k now tag (packets.ShutdownChunk cumulative) s = refl
+goes-on c k now tag packets.ShutdownAckChunk s = refl
+goes-on c k now tag (packets.ErrorChunk causes) s = refl
+goes-on c k now tag (packets.CookieEchoChunk cookie) s = refl
+goes-on c k now tag packets.CookieAckChunk s = refl
+goes-on c k now tag (packets.MalformedChunk kind) s = refl
+
+-- ---- the first chunk of a packet with the right tag, and those behind it
+
+nothing-on : (goes_on : Bool) (d : Done) → (if goes_on then followed_by d (λ left. silent left) else d) ≡ d
+nothing-on true d = nothing-behind d
+nothing-on false d = refl
+
+nothing-more : (handled : Handled) → and_on handled (λ left. silent left) ≡ handled.does
+nothing-more handled = nothing-on handled.goes_on handled.does
+
+pub chunk-goes : {W : Type 0} (sent : W → List Sent) (told : W → List Told) (w v u : W) (e here f g : Endpoint) (now : ℕ) (source : Address) (tag : ℕ) (first : ChunkValue) (more : List ChunkValue)
+    → here ≡ record e { state = from_source source e.state }
+    → Does sent told w v here f (heard_chunk here.settings (secrets_of here) now tag first here.state).does
+    → (heard_chunk here.settings (secrets_of here) now tag first here.state).goes_on ≡ true → has_peer_tag first ≡ false
+    → Does sent told v u f g (heard_chunks f.settings (secrets_of f) now tag more f.state)
+    → Does sent told w u e g (heard_by_tag e.settings (secrets_of e) now source tag (looked_at first more) e.state)
+chunk-goes sent told w v u e here f g now source tag first more is d goes own h =
+    let k : Secrets = secrets_of e in
+    let s : State = from_source source e.state in
+    let handled : Handled = heard_chunk e.settings k now tag first s in
+    let one = subst (λ (x : Endpoint). Does sent told w v x f (heard_chunk x.settings (secrets_of x) now tag first x.state).does) is d in
+    let on = subst (λ (x : Endpoint). (heard_chunk x.settings (secrets_of x) now tag first x.state).goes_on ≡ true) is goes in
+    let both = then-does sent told w v u (record e { state = s }) f g handled.does (λ (x : Endpoint). heard_chunks x.settings (secrets_of x) now tag more x.state) one h in
+    let all : Does sent told w u (record e { state = s }) g (and_on handled (λ left. heard_chunks e.settings k now tag more left)) = rw (if-on handled (λ left. heard_chunks e.settings k now tag more left) true on) both in
+    rw (if-false (has_peer_tag first) [] more own) (record { gives = all.gives; left_is = all.left_is })
+
+pub chunk-stops : {W : Type 0} (sent : W → List Sent) (told : W → List Told) (w v : W) (e here f : Endpoint) (now : ℕ) (source : Address) (tag : ℕ) (first : ChunkValue) (more : List ChunkValue)
+    → here ≡ record e { state = from_source source e.state }
+    → Does sent told w v here f (heard_chunk here.settings (secrets_of here) now tag first here.state).does
+    → (heard_chunk here.settings (secrets_of here) now tag first here.state).goes_on ≡ false
+    → Does sent told w v e f (heard_by_tag e.settings (secrets_of e) now source tag (looked_at first more) e.state)
+chunk-stops sent told w v e here f now source tag first more is d stops =
+    let k : Secrets = secrets_of e in
+    let s : State = from_source source e.state in
+    let handled : Handled = heard_chunk e.settings k now tag first s in
+    let rest : List ChunkValue = if has_peer_tag first then [] else more in
+    let one = subst (λ (x : Endpoint). Does sent told w v x f (heard_chunk x.settings (secrets_of x) now tag first x.state).does) is d in
+    let off = subst (λ (x : Endpoint). (heard_chunk x.settings (secrets_of x) now tag first x.state).goes_on ≡ false) is stops in
+    let all : Does sent told w v (record e { state = s }) f (and_on handled (λ left. heard_chunks e.settings k now tag rest left)) = rw (if-on handled (λ left. heard_chunks e.settings k now tag rest left) false off) one in
+    record { gives = all.gives; left_is = all.left_is }
+
+pub chunk-alone : {W : Type 0} (sent : W → List Sent) (told : W → List Told) (w v : W) (e here f : Endpoint) (now : ℕ) (source : Address) (tag : ℕ) (first : ChunkValue) (more : List ChunkValue)
+    → here ≡ record e { state = from_source source e.state }
+    → Does sent told w v here f (heard_chunk here.settings (secrets_of here) now tag first here.state).does
+    → has_peer_tag first ≡ true
+    → Does sent told w v e f (heard_by_tag e.settings (secrets_of e) now source tag (looked_at first more) e.state)
+chunk-alone sent told w v e here f now source tag first more is d peer =
+    let k : Secrets = secrets_of e in
+    let s : State = from_source source e.state in
+    let handled : Handled = heard_chunk e.settings k now tag first s in
+    let one = subst (λ (x : Endpoint). Does sent told w v x f (heard_chunk x.settings (secrets_of x) now tag first x.state).does) is d in
+    let all : Does sent told w v (record e { state = s }) f (and_on handled (λ left. heard_chunks e.settings k now tag [] left)) = rw (nothing-more handled) one in
+    rw (if-true (has_peer_tag first) [] more peer) (record { gives = all.gives; left_is = all.left_is })
+
+-- ---- a cookie at the front, and the chunks behind it
+
+pub echo-goes : {W : Type 0} (sent : W → List Sent) (told : W → List Told) (w v u : W) (e f g : Endpoint) (now : ℕ) (source : Address) (tag : ℕ) (cookie : List ℕ) (more : List ChunkValue)
+    → Does sent told w v e f (heard_cookie_echo e.settings (secrets_of e) now tag source cookie e.state).does
+    → (heard_cookie_echo e.settings (secrets_of e) now tag source cookie e.state).goes_on ≡ true
+    → Does sent told v u f g (heard_by_tag f.settings (secrets_of f) now source tag more f.state)
+    → Does sent told w u e g (heard_echo e.settings (secrets_of e) now source tag cookie more e.state)
+echo-goes sent told w v u e f g now source tag cookie more d goes h =
+    let k : Secrets = secrets_of e in
+    let echo : Echo = heard_cookie_echo e.settings k now tag source cookie e.state in
+    let both = then-does sent told w v u e f g echo.does (λ (x : Endpoint). heard_by_tag x.settings (secrets_of x) now source tag more x.state) d h in
+    rw (if-true echo.goes_on (followed_by echo.does (λ left. heard_by_tag e.settings k now source tag more left)) echo.does goes) both
+
+-- ---- where the next answer goes
+
+source-stays-in : (b : Bool) (s t : State) → t.generation ≡ s.generation → (if b then s else t).generation ≡ s.generation
+source-stays-in true s t e = refl
+source-stays-in false s t e = e
+
+pub source-stays : (source : Address) (s : State) → (from_source source s).generation ≡ s.generation
+source-stays source s = source-stays-in (is_waiting s.association.phase) s (with_association s (record s.association { address = source })) refl
