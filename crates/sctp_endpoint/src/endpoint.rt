@@ -19,6 +19,7 @@ mod heartbeats;
 mod handling;
 mod hearing;
 mod init_acks;
+mod lasting;
 mod opening;
 mod replying;
 mod retrying;

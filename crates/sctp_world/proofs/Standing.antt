@@ -1,29 +1,38 @@
 -- What happens at an endpoint in code is a step of the world that it stands in.
-use Rattle.std.proofs.Common.{◌≡◌, ◌≤◌, ℕ, ◌+◌, ◌*◌, ◌<◌, ◌^◌, List, [], ◌∷◌, ◌++◌, Option, Some, None, map, refl, sym, ap, subst, ◌∙◌, arith}
-use Rattle.std.specs.Prelude.{All, length}
+use Rattle.std.proofs.Common.{◌≡◌, ℕ, suc, List, [], ◌∷◌, ◌++◌, Option, Some, map, refl, sym, ap, subst, ◌∙◌, arith}
+use Rattle.std.specs.Prelude.{All}
 use Rattle.std.specs.List.{Contains}
-use Rattle.std.proofs.lemmas.List.Elements.{All-nil, All-cons, All-head, All-tail, All-append, All-weaker, All-contains, All-map, Contains-append_left, Contains-append_right}
+use Rattle.std.proofs.lemmas.List.Elements.{All-nil, All-cons, All-head, All-tail, All-append, All-weaker, All-contains, Contains-append_left, Contains-append_right}
 use Rattle.sctp_codec.specs.Packets as packets
 use Rattle.sctp_codec.specs.Packets.{ChunkValue, PacketValue}
 use Rattle.sctp_codec.specs.Reading.{read_packet}
 use Rattle.sctp_codec.specs.Writing.{IsChunk, IsPacket}
 use Rattle.sctp_codec.proofs.ChunkTexts.{packet-back}
-use Rattle.sctp_rules.specs.Settings.{Settings, Secrets, Address}
-use Rattle.sctp_rules.specs.State.{State, Datagram, Told, Done, no_association}
+use Rattle.sctp_rules.specs.Settings.{Settings, Address}
+use Rattle.sctp_rules.specs.State.{State, Datagram, Told, Done}
 use Rattle.sctp_rules.specs.Endpoint.{Happening, Opens, Came, Ticked, Sends, Aborts, ShutsDown, Flushes, after}
-use Rattle.sctp_rules.specs.WrittenPackets.{HasPorts, AreFit, HasNumbers, IsFit, Fits, IsWritten}
+use Rattle.sctp_rules.specs.WrittenPackets.{HasPorts, AreFit, IsFit, Fits, IsWritten}
+use Rattle.sctp_rules.specs.WrittenPackets as wire
 use Rattle.sctp_rules.proofs.Fitting.{Kept, Puts, happens, kept-first}
 use Rattle.sctp_moves.specs.Ends.{Message}
-use Rattle.sctp_ends.specs.Told.{opened_by, given_by}
+use Rattle.sctp_ends.specs.Told.{opened_by, given_by, told_by}
 use Rattle.sctp_ends.specs.Worlds.{Emitted, Site, World, Make, Step, Steps, at_near, at_far, new_site, new_world, last_world, emitted, happened, Arrives, MayHappen}
-use Rattle.sctp_ends.specs.Theorems.{DeliverBoth, AreAssociated}
+use Rattle.sctp_ends.specs.Theorems.{DeliverBoth, Delivers, AreAssociated}
+use Rattle.sctp_world.specs.declared.step.End.{End}
+use Rattle.sctp_world.specs.declared.step.End.TheVariants.{Near, Far}
 use Rattle.sctp_ends.proofs.Keyed.{keyed-good, keyed-fit}
 use Rattle.sctp_ends.proofs.World.{were-given, have-the-laws}
 use Rattle.sctp_endpoint.specs.ChunkRows.{packet_text}
 use Rattle.sctp_endpoint.specs.Watching.{Sent, sent_as}
-use Rattle.sctp_endpoint.specs.Endpoints.{Endpoint, secrets_of}
-use Rattle.sctp_world.specs.Kept.{KeptSite, KeptWorld, kept_happened}
-use Rattle.sctp_world.specs.Stands.{DoesFit, FitStep, FitSteps, IsPutOut, IsSentBy, SiteStands, make_of, first_of, StandsFor, GoesOn, IsYoung}
+use Rattle.sctp_endpoint.specs.Endpoints.{secrets_of}
+use Rattle.sctp_sending.specs.Cells.{given_as}
+use Rattle.sctp_endpoint.specs.Settings.{address_of}
+use Rattle.sctp_endpoint.specs.Dispatching.{heard_datagram}
+use Rattle.sctp_world.specs.declared.step.Doing.{Doing}
+use Rattle.sctp_world.specs.declared.step.Doing.TheVariants.{Open, Send, Abort, ShutDown, Tick, Flush, Hear}
+use Rattle.sctp_world.specs.Doing.{kept_did, HasNumbers, MayCome, other_site}
+use Rattle.sctp_world.specs.Kept.{KeptSite, KeptWorld, kept_happened, with_done, first_kept, kept_at, octets_at}
+use Rattle.sctp_world.specs.Stands.{FitStep, FitSteps, IsSentBy, SiteStands, make_of, first_of, StandsFor, GoesOn, IsYoung}
 
 -- ---- steps
 
@@ -42,7 +51,6 @@ plain-steps near far w (v ∷ rest) h = let step = h.0 in (step.0, plain-steps n
 
 -- ---- all that was put out is packets
 
-
 record SiteFits (c : Settings) (s : Site) : Type 0 where
   kept : Kept c s.state.association
   packets : All (λ e. IsPacket e.packet) s.packets
@@ -51,7 +59,7 @@ record WorldFits (near far : Make) (w : World) : Type 0 where
   near_fits : SiteFits near.settings w.near
   far_fits : SiteFits far.settings w.far
 
-numbers-of : (chunk : ChunkValue) → IsChunk chunk → HasNumbers chunk
+numbers-of : (chunk : ChunkValue) → IsChunk chunk → wire.HasNumbers chunk
 numbers-of (packets.DataChunk carried) h = let f = h.fields in f.tsn
 numbers-of (packets.InitChunk init) h = let f = h.fields in f.tag
 numbers-of (packets.InitAckChunk init) h = let f = h.fields in f.tag
@@ -69,7 +77,7 @@ numbers-of (packets.UnknownChunk kind flags value) h = tt
 numbers-of (packets.MalformedChunk kind) h = tt
 
 fit-of : (p : PacketValue) → IsPacket p → IsFit p
-fit-of p h = record { tag = h.tag; chunks = All-weaker IsChunk HasNumbers numbers-of p.chunks h.chunks }
+fit-of p h = record { tag = h.tag; chunks = All-weaker IsChunk wire.HasNumbers numbers-of p.chunks h.chunks }
 
 emitted-fit : (made : ℕ) (sent : List Datagram) → All IsWritten sent → All (λ (e : Emitted). IsPacket e.packet) (map (emitted made) sent)
 emitted-fit made [] h = All-nil (λ (e : Emitted). IsPacket e.packet)
@@ -238,3 +246,81 @@ pub read-from-near : (k : KeptWorld) (w : World) (octets : List ℕ) → StandsF
 read-from-near k w octets h y =
     let f : WorldFits (make_of k.near) (make_of k.far) w = stands-fits k w h in
     read-so k.near.endpoint.settings w.near y.one octets f.near_fits y.there y.text
+
+-- ---- what is done at an end
+
+heard-so : (octets : List ℕ) (k : KeptSite) (now : ℕ) (source : Address) (p : PacketValue) → read_packet octets ≡ Some p →
+    with_done (heard_datagram (read_packet octets) k.endpoint.settings (secrets_of k.endpoint) now source k.endpoint.state) k.given k
+    ≡ kept_happened (Came now source p) k
+unfolding after
+heard-so octets k now source p e =
+    ap (λ (o : Option PacketValue). with_done (heard_datagram o k.endpoint.settings (secrets_of k.endpoint) now source k.endpoint.state) k.given k) e
+
+pub did-near : (what : Doing) (now : ℕ) (k : KeptWorld) (w : World) → StandsFor k w → HasNumbers what → MayCome what k.far w.far →
+    GoesOn (record k { near = kept_did what now k.far k.near }) w
+did-near (Open is_active) now k w h fits may = goes-near (Opens now is_active) k w h tt tt
+did-near (Send message) now k w h fits may = goes-near (Sends (given_as message)) k w h tt fits
+did-near Abort now k w h fits may = goes-near Aborts k w h tt tt
+did-near ShutDown now k w h fits may = goes-near (ShutsDown now) k w h tt tt
+did-near Tick now k w h fits may = goes-near (Ticked now) k w h tt tt
+did-near Flush now k w h fits may = goes-near (Flushes now) k w h tt tt
+did-near (Hear place source) now k w h fits may =
+    let octets : List ℕ = octets_at k.far place in
+    let one : Emitted = may.one in
+    let f : WorldFits (make_of k.near) (make_of k.far) w = stands-fits k w h in
+    let packet : IsPacket one.packet = packet-there k.far.endpoint.settings w.far one f.far_fits may.there in
+    let come : Happening = Came now (address_of source) one.packet in
+    subst (λ (s : KeptSite). GoesOn (record k { near = s }) w)
+    (sym (heard-so octets k.near now (address_of source) one.packet (read-from-far k w octets h may)))
+    (goes-near come k w h (arrives w.far octets may) (fit-of one.packet packet))
+
+pub did-far : (what : Doing) (now : ℕ) (k : KeptWorld) (w : World) → StandsFor k w → HasNumbers what → MayCome what k.near w.near →
+    GoesOn (record k { far = kept_did what now k.near k.far }) w
+did-far (Open is_active) now k w h fits may = goes-far (Opens now is_active) k w h tt tt
+did-far (Send message) now k w h fits may = goes-far (Sends (given_as message)) k w h tt fits
+did-far Abort now k w h fits may = goes-far Aborts k w h tt tt
+did-far ShutDown now k w h fits may = goes-far (ShutsDown now) k w h tt tt
+did-far Tick now k w h fits may = goes-far (Ticked now) k w h tt tt
+did-far Flush now k w h fits may = goes-far (Flushes now) k w h tt tt
+did-far (Hear place source) now k w h fits may =
+    let octets : List ℕ = octets_at k.near place in
+    let one : Emitted = may.one in
+    let f : WorldFits (make_of k.near) (make_of k.far) w = stands-fits k w h in
+    let packet : IsPacket one.packet = packet-there k.near.endpoint.settings w.near one f.near_fits may.there in
+    let come : Happening = Came now (address_of source) one.packet in
+    subst (λ (s : KeptSite). GoesOn (record k { far = s }) w)
+    (sym (heard-so octets k.far now (address_of source) one.packet (read-from-near k w octets h may)))
+    (goes-far come k w h (arrives w.near octets may) (fit-of one.packet packet))
+
+-- ---- the first world
+
+site-first : (c : Settings) (tag_key cookie_key : List ℕ) → HasPorts c → SiteStands (first_kept c tag_key cookie_key) (new_site c)
+site-first c tag_key cookie_key ports =
+    record { state = refl; told = refl; given = refl; sent = All-nil (IsSentBy (new_site c)); ports = ports }
+
+pub first-stands : (c d : Settings) (a b e f : List ℕ) → HasPorts c → HasPorts d →
+    StandsFor (record { near = first_kept c a b; far = first_kept d e f }) (first_of (record { near = first_kept c a b; far = first_kept d e f }))
+first-stands c d a b e f near far =
+    record { list = []; steps = tt; last = refl; near = site-first c a b near; far = site-first d e f far }
+
+-- ---- what users were told
+
+pub told-delivers : (end : End) (k : KeptWorld) (told : List Told) → told ≡ (kept_at end k).log.told → (w : World) → StandsFor k w →
+    Delivers (told_by [] told) (other_site end w).given
+told-delivers Near k told e w h =
+    let n : SiteStands k.near w.near = h.near in
+    let d = delivers k w h in
+    subst (λ (l : List Told). Delivers (told_by [] l) w.far.given) (sym (e ∙ n.told)) d.there
+told-delivers Far k told e w h =
+    let f : SiteStands k.far w.far = h.far in
+    let d = delivers k w h in
+    subst (λ (l : List Told). Delivers (told_by [] l) w.near.given) (sym (e ∙ f.told)) d.back
+
+-- what is done at either end
+pub did-at-near : (what : Doing) (now : ℕ) (k : KeptWorld) (near : KeptSite) → near ≡ kept_did what now k.far k.near → HasNumbers what →
+    (w : World) → StandsFor k w → MayCome what k.far w.far → GoesOn (record k { near = near }) w
+did-at-near what now k near e fits w h may = subst (λ (s : KeptSite). GoesOn (record k { near = s }) w) (sym e) (did-near what now k w h fits may)
+
+pub did-at-far : (what : Doing) (now : ℕ) (k : KeptWorld) (far : KeptSite) → far ≡ kept_did what now k.near k.far → HasNumbers what →
+    (w : World) → StandsFor k w → MayCome what k.near w.near → GoesOn (record k { far = far }) w
+did-at-far what now k far e fits w h may = subst (λ (s : KeptSite). GoesOn (record k { far = s }) w) (sym e) (did-far what now k w h fits may)

@@ -1,7 +1,6 @@
 -- When two endpoints in code stand for two of the rules, with all packets that they ever put out.
 use Rattle.std.specs.Prelude.{◌≡◌, ◌≤◌, ℕ, ◌+◌, ◌*◌, All, List, [], ◌∷◌}
 use Rattle.std.specs.List.{Contains}
-use Rattle.sctp_rules.specs.Endpoint.{Happening}
 use Rattle.sctp_rules.specs.WrittenPackets.{HasPorts, Fits}
 use Rattle.sctp_moves.specs.Numbers.{modulus, window}
 use Rattle.sctp_ends.specs.Worlds.{Emitted, Site, World, Make, Step, at_near, at_far, new_world, last_world, messages_at}

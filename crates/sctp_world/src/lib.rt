@@ -4,8 +4,12 @@
 mod log;
 mod messages;
 mod site;
+mod step;
 mod text;
+pub mod world;
 
-pub use log::{Datagram, Entry, Kept, Log};
+pub use log::{Datagram, Entry, Kept};
 pub use messages::Messages;
+pub use step::{Doing, End};
 pub use text::Text;
+pub use world::{Making, World};

@@ -1,15 +1,23 @@
 //! An endpoint, with all that it ever put out.
 
-ghost use Rattle.std.specs.Prelude.{◌≡◌, ◌<◌, ◌≤◌, ◌^◌, ◌-◌, [], ◌∷◌, drop};
-ghost use Rattle.sctp_rules.specs.Endpoint.{Aborts};
+ghost use Rattle.std.specs.Prelude.{◌≡◌, ◌<◌, ◌≤◌, ◌^◌, ◌&&◌, [], ◌∷◌, nat_lt, reverse, length, drop, IfOk, OnOk};
+ghost use Rattle.sctp_codec.specs.Reading.{read_packet};
+ghost use Rattle.sctp_sending.specs.Cells.{given_as};
+ghost use Rattle.sctp_rules.specs.Sending.{may_send};
+ghost use Rattle.sctp_rules.specs.Endpoint.{Opens, Ticked, Sends, Aborts, ShutsDown, Flushes};
+ghost use Rattle.sctp_ends.specs.Told.{opened_by, with_last, text_given};
+ghost use Rattle.sctp_endpoint.specs.Settings.{settings_of, address_of};
+ghost use Rattle.sctp_endpoint.specs.Endpoints.{secrets_of};
+ghost use Rattle.sctp_endpoint.specs.Dispatching.{heard_datagram};
+ghost use Rattle.sctp_world.specs.Kept.{kept_happened, with_done, is_up_at, first_kept, octets_at};
 
-ghost use Rattle.sctp_ends.specs.Told.{opened_by};
-ghost use Rattle.sctp_world.specs.Kept.{kept_happened};
-
-use crate::log::{Entry, Log};
+use crate::log::{Datagram, Entry, Kept, Log};
 use crate::messages::Messages;
-
-use sctp_endpoint::Endpoint;
+use crate::text::Text;
+use sctp_endpoint::endpoint::KEY_OCTETS;
+use sctp_endpoint::{Address, Endpoint, Settings};
+use sctp_sending::Message;
+use std::alloc::{AllocError, Global};
 use std::marker::Model;
 use std::process::Abort;
 
@@ -31,6 +39,79 @@ impl<'r, R: Abort> Model for Site<'r, R> {
 }
 
 impl<'r, R: Abort> Site<'r, R> {
+    /// A new endpoint, under these keys. The error means that memory ran out.
+    pub(crate) fn new(
+        handle: &'r R,
+        alloc: Global,
+        settings: Settings,
+        tag_key: [u8; KEY_OCTETS],
+        cookie_key: [u8; KEY_OCTETS],
+    ) -> Result<Site<'r, R>, AllocError>
+        requires initial { settings.bounds.initial ≤ settings.bounds.most }
+        requires least { settings.bounds.least ≤ settings.bounds.most }
+        requires most { settings.bounds.most ≤ 2 ^ 24 }
+        ensures { IfOk result (λ site. site ≡ first_kept (settings_of settings) tag_key cookie_key) }
+    {
+        let endpoint = Endpoint::new(alloc, settings, tag_key, cookie_key)?;
+        Ok(Site {
+            endpoint,
+            log: Log::new(handle, alloc),
+            given: Vec::new(alloc),
+        })
+    }
+
+    /// Whether the endpoint lasts.
+    pub(crate) fn lasts(&self) -> bool
+        ensures { result
+            ≡ (nat_lt self.now.endpoint.state.generation (2 ^ 63) && nat_lt self.now.endpoint.state.nonces (2 ^ 63)) }
+    {
+        self.endpoint.lasts()
+    }
+
+    /// All datagrams that the endpoint put out, in order.
+    pub(crate) fn sent(&self) -> &[Datagram]
+        ensures { result.now ≡ self.now.log.sent }
+    {
+        self.log.sent()
+    }
+
+    /// The octets of the datagram in a place of these; none where there is no such datagram.
+    pub(crate) fn octets_at(&self, place: usize) -> &[u8]
+        ensures { result.now ≡ octets_at self.now place }
+    {
+        match self.log.sent().get(place) {
+            Some(datagram) => datagram.octets(),
+            None => &[],
+        }
+    }
+
+    /// All that its user gave in each association, the first one first.
+    pub(crate) fn given(&self) -> &[Messages]
+        ensures { reverse result.now ≡ self.now.given }
+    {
+        self.given.as_slice()
+    }
+
+    /// All that its user was told, in order.
+    pub(crate) fn told(&self) -> &[Kept]
+        ensures { result.now ≡ self.now.log.told }
+    {
+        self.log.told()
+    }
+}
+
+impl<'r, R: Abort> Site<'r, R> {
+    /// The user wants an association.
+    pub(crate) fn open(&mut self, is_active: bool, now: u64)
+        requires generation { self.old.endpoint.state.generation < 2 ^ 63 }
+        requires now { now ≤ 2 ^ 63 }
+        ensures { self.new ≡ kept_happened (Opens now is_active) self.old }
+    {
+        let from = self.log.told().len();
+        self.endpoint.open(is_active, now, &mut self.log);
+        self.begin_lists(from);
+    }
+
     /// The user ends the association.
     pub(crate) fn abort(&mut self)
         requires { self.old.endpoint.state.generation < 2 ^ 63 }
@@ -39,6 +120,96 @@ impl<'r, R: Abort> Site<'r, R> {
         let from = self.log.told().len();
         self.endpoint.abort(&mut self.log);
         self.begin_lists(from);
+    }
+
+    /// The user ends it once all that was sent is confirmed.
+    pub(crate) fn shut_down(&mut self, now: u64)
+        requires generation { self.old.endpoint.state.generation < 2 ^ 63 }
+        requires now { now ≤ 2 ^ 63 }
+        ensures { self.new ≡ kept_happened (ShutsDown now) self.old }
+    {
+        let from = self.log.told().len();
+        self.endpoint.shutdown(now, &mut self.log);
+        self.begin_lists(from);
+    }
+
+    /// Time went by.
+    pub(crate) fn tick(&mut self, now: u64)
+        requires generation { self.old.endpoint.state.generation < 2 ^ 63 }
+        requires nonces { self.old.endpoint.state.nonces < 2 ^ 63 }
+        requires now { now ≤ 2 ^ 63 }
+        ensures { self.new ≡ kept_happened (Ticked now) self.old }
+    {
+        let from = self.log.told().len();
+        self.endpoint.tick(now, &mut self.log);
+        self.begin_lists(from);
+    }
+
+    /// Packets are asked for.
+    pub(crate) fn flush(&mut self, now: u64)
+        requires { now ≤ 2 ^ 63 }
+        ensures { self.new ≡ kept_happened (Flushes now) self.old }
+    {
+        let from = self.log.told().len();
+        self.endpoint.flush(now, &mut self.log);
+        self.begin_lists(from);
+    }
+
+    /// A datagram came.
+    pub(crate) fn hear(&mut self, octets: &[u8], source: &Address, now: u64)
+        requires generation { self.old.endpoint.state.generation < 2 ^ 63 }
+        requires now { now ≤ 2 ^ 63 }
+        ensures { self.new ≡ with_done (heard_datagram (read_packet octets.now) self.old.endpoint.settings
+            (secrets_of self.old.endpoint) now (address_of source.now) self.old.endpoint.state) self.old.given self.old }
+    {
+        let from = self.log.told().len();
+        self.endpoint.hear(octets, source, now, &mut self.log);
+        self.begin_lists(from);
+    }
+
+    /// The user sends a message; answers whether it was taken.
+    pub(crate) fn send(&mut self, message: Message<'_>) -> bool
+        ensures taken { result ≡ may_send (given_as message.entry) self.old.endpoint.state }
+        ensures left { self.new ≡ kept_happened (Sends (given_as message.entry)) self.old }
+    {
+        if !self.endpoint.send(message) {
+            return false;
+        }
+        self.note(message);
+        true
+    }
+}
+
+impl<'r, R: Abort> Site<'r, R> {
+    /// The user gave a message in the latest association.
+    fn note(&mut self, message: Message<'_>)
+        ensures { self.new ≡ record self.old {
+          given = with_last (text_given (given_as message.entry)) self.old.given;
+        } }
+    {
+        match self.keep(message) {
+            Ok(()) => {}
+            Err(AllocError) => self.log.give_up(),
+        }
+    }
+
+    /// The same, where there is memory for it.
+    fn keep(&mut self, message: Message<'_>) -> Result<(), AllocError>
+        ensures { OnOk result (self.new ≡ record self.old {
+          given = with_last (text_given (given_as message.entry)) self.old.given;
+        }) }
+    {
+        let text = Text::new(
+            self.log.alloc(),
+            message.stream,
+            message.protocol,
+            message.octets,
+        )?;
+        if let Some(mut latest) = self.given.pop() {
+            latest.push(text)?;
+            self.given.push(latest)?;
+        }
+        Ok(())
     }
 
     /// For each association that opened, by what was told from a place on, the user gives messages of its own.
@@ -53,7 +224,9 @@ impl<'r, R: Abort> Site<'r, R> {
     }
 
     /// Whether what was told at a place is Up.
-    fn is_opening(&self, place: usize) -> bool {
+    fn is_opening(&self, place: usize) -> bool
+        ensures { result ≡ is_up_at self.now.log.told place }
+    {
         match self.log.told().get(place) {
             Some(kept) => matches!(kept.what(), Entry::Up),
             None => false,
