@@ -1,12 +1,13 @@
 -- One rule after another, by two calls.
-use Rattle.std.proofs.Common.{◌≡◌, Bool, true, false, List, ◌++◌, map, refl, sym, ap, subst, ◌∙◌}
+use Rattle.std.proofs.Common.{◌≡◌, Bool, true, false, List, refl, sym, ap, subst}
 use Rattle.std.specs.Prelude.{if◌then◌else◌}
-use Rattle.std.proofs.lemmas.List.{append_assoc, append-nil, map-append}
+use Rattle.std.proofs.lemmas.List.{append-nil}
 use Rattle.sctp_rules.specs.State.{Told, State, Done, silent, behind, followed_by}
 use Rattle.sctp_rules.specs.Packets.{Handled}
-use Rattle.sctp_endpoint.specs.Watching.{Sent, sent_as}
+use Rattle.sctp_endpoint.specs.Watching.{Sent}
 use Rattle.sctp_endpoint.specs.Endpoints.{Endpoint, Does}
 use Rattle.sctp_endpoint.specs.Draining.{and_on}
+use Rattle.sctp_endpoint.proofs.Hearing.{given-behind}
 
 -- a rule that asks for the endpoint that the first one left
 pub then-does : {W : Type 0} (sent : W → List Sent) (told : W → List Told) (w v u : W) (e f g : Endpoint) (first : Done) (rule : Endpoint → Done)
@@ -15,14 +16,7 @@ pub then-does : {W : Type 0} (sent : W → List Sent) (told : W → List Told) (
 then-does sent told w v u e f g first rule d h =
     let second : Done = rule (record e { state = first.left }) in
     let k : Does sent told v u (record e { state = first.left }) g second = subst (λ (x : Endpoint). Does sent told v u x g (rule x)) d.left_is h in
-    record {
-      gives = record {
-        sent_is = k.gives.sent_is ∙ ap (λ (xs : List Sent). xs ++ map sent_as second.sent) d.gives.sent_is ∙ append_assoc (sent w) (map sent_as first.sent) (map sent_as second.sent)
-            ∙ ap (λ (xs : List Sent). sent w ++ xs) (sym (map-append sent_as first.sent second.sent));
-        told_is = k.gives.told_is ∙ ap (λ (xs : List Told). xs ++ second.told) d.gives.told_is ∙ append_assoc (told w) first.told second.told;
-      };
-      left_is = k.left_is;
-    }
+    record { gives = given-behind sent told w v u first second d.gives k.gives; left_is = k.left_is }
 
 -- what is left to do from here leads to what is to be done from the start
 abbrev pub LeadsTo : {W : Type 0} (sent : W → List Sent) (told : W → List Told) (start here : W) (was is : Endpoint) (all rest : Done) → Type 0

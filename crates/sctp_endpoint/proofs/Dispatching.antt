@@ -13,7 +13,7 @@ use Rattle.sctp_endpoint.specs.Draining.{and_on}
 use Rattle.sctp_endpoint.specs.Watching.{Sent}
 use Rattle.sctp_endpoint.specs.Endpoints.{Endpoint, Does, secrets_of}
 use Rattle.sctp_endpoint.proofs.Chained.{then-does, if-on}
-use Rattle.sctp_endpoint.proofs.Draining.{nothing-behind, if-true, if-false}
+use Rattle.sctp_endpoint.proofs.Draining.{if-true, if-false}
 
 either-there : (b : Bool) (tag : ℕ) (d e : Done) → (if b then while_there tag d else while_there tag e).goes_on
     ≡ (not (is_closed (if b then while_there tag d else while_there tag e).does.left.association.phase)
@@ -42,13 +42,6 @@ goes-on c k now tag (packets.MalformedChunk kind) s = refl
 
 -- ---- the first chunk of a packet with the right tag, and those behind it
 
-nothing-on : (goes_on : Bool) (d : Done) → (if goes_on then followed_by d (λ left. silent left) else d) ≡ d
-nothing-on true d = nothing-behind d
-nothing-on false d = refl
-
-nothing-more : (handled : Handled) → and_on handled (λ left. silent left) ≡ handled.does
-nothing-more handled = nothing-on handled.goes_on handled.does
-
 pub chunk-goes : {W : Type 0} (sent : W → List Sent) (told : W → List Told) (w v u : W) (e here f g : Endpoint) (now : ℕ) (source : Address) (tag : ℕ) (first : ChunkValue) (more : List ChunkValue)
     → here ≡ record e { state = from_source source e.state }
     → Does sent told w v here f (heard_chunk here.settings (secrets_of here) now tag first here.state).does
@@ -64,34 +57,6 @@ chunk-goes sent told w v u e here f g now source tag first more is d goes own h 
     let both = then-does sent told w v u (record e { state = s }) f g handled.does (λ (x : Endpoint). heard_chunks x.settings (secrets_of x) now tag more x.state) one h in
     let all : Does sent told w u (record e { state = s }) g (and_on handled (λ left. heard_chunks e.settings k now tag more left)) = rw (if-on handled (λ left. heard_chunks e.settings k now tag more left) true on) both in
     rw (if-false (has_peer_tag first) [] more own) (record { gives = all.gives; left_is = all.left_is })
-
-pub chunk-stops : {W : Type 0} (sent : W → List Sent) (told : W → List Told) (w v : W) (e here f : Endpoint) (now : ℕ) (source : Address) (tag : ℕ) (first : ChunkValue) (more : List ChunkValue)
-    → here ≡ record e { state = from_source source e.state }
-    → Does sent told w v here f (heard_chunk here.settings (secrets_of here) now tag first here.state).does
-    → (heard_chunk here.settings (secrets_of here) now tag first here.state).goes_on ≡ false
-    → Does sent told w v e f (heard_by_tag e.settings (secrets_of e) now source tag (looked_at first more) e.state)
-chunk-stops sent told w v e here f now source tag first more is d stops =
-    let k : Secrets = secrets_of e in
-    let s : State = from_source source e.state in
-    let handled : Handled = heard_chunk e.settings k now tag first s in
-    let rest : List ChunkValue = if has_peer_tag first then [] else more in
-    let one = subst (λ (x : Endpoint). Does sent told w v x f (heard_chunk x.settings (secrets_of x) now tag first x.state).does) is d in
-    let off = subst (λ (x : Endpoint). (heard_chunk x.settings (secrets_of x) now tag first x.state).goes_on ≡ false) is stops in
-    let all : Does sent told w v (record e { state = s }) f (and_on handled (λ left. heard_chunks e.settings k now tag rest left)) = rw (if-on handled (λ left. heard_chunks e.settings k now tag rest left) false off) one in
-    record { gives = all.gives; left_is = all.left_is }
-
-pub chunk-alone : {W : Type 0} (sent : W → List Sent) (told : W → List Told) (w v : W) (e here f : Endpoint) (now : ℕ) (source : Address) (tag : ℕ) (first : ChunkValue) (more : List ChunkValue)
-    → here ≡ record e { state = from_source source e.state }
-    → Does sent told w v here f (heard_chunk here.settings (secrets_of here) now tag first here.state).does
-    → has_peer_tag first ≡ true
-    → Does sent told w v e f (heard_by_tag e.settings (secrets_of e) now source tag (looked_at first more) e.state)
-chunk-alone sent told w v e here f now source tag first more is d peer =
-    let k : Secrets = secrets_of e in
-    let s : State = from_source source e.state in
-    let handled : Handled = heard_chunk e.settings k now tag first s in
-    let one = subst (λ (x : Endpoint). Does sent told w v x f (heard_chunk x.settings (secrets_of x) now tag first x.state).does) is d in
-    let all : Does sent told w v (record e { state = s }) f (and_on handled (λ left. heard_chunks e.settings k now tag [] left)) = rw (nothing-more handled) one in
-    rw (if-true (has_peer_tag first) [] more peer) (record { gives = all.gives; left_is = all.left_is })
 
 -- ---- a cookie at the front, and the chunks behind it
 

@@ -1,5 +1,5 @@
 -- A chunk makes the generation grow by one at most.
-use Rattle.std.proofs.Common.{◌≡◌, ◌≤◌, ℕ, zero, suc, ◌+◌, ◌-◌, Bool, true, false, List, [], ◌∷◌, Option, Some, None, refl, arith, nat_eq, nat_lt}
+use Rattle.std.proofs.Common.{◌≡◌, ◌≤◌, ℕ, zero, suc, ◌+◌, Bool, true, false, List, [], ◌∷◌, Option, Some, None, refl, arith, nat_eq, nat_lt}
 use Rattle.std.specs.Prelude.{◌&&◌, not, if◌then◌else◌, length}
 use Rattle.sctp_receiving.specs.Consuming as consuming
 use Rattle.sctp_receiving.specs.Receiver.{Step, received, is_violation, hear, take_next, next_held}
@@ -9,7 +9,6 @@ use Rattle.sctp_codec.specs.Packets.{ChunkValue, DataValue, SackValue, InitValue
 use Rattle.sctp_codec.specs.Packets as packets
 use Rattle.sctp_codec.specs.Items.{ItemValue}
 use Rattle.sctp_codec.specs.Parameters as parameters
-use Rattle.sctp_cookie.specs.declared.cookie.Cookie.{Cookie}
 use Rattle.sctp_sending.specs.Sending.{confirmation}
 use Rattle.sctp_rules.specs.declared.phase.Phase.{Phase}
 use Rattle.sctp_rules.specs.declared.phase.Phase.TheVariants as phases
@@ -230,65 +229,6 @@ cookie-ack-grows : (c : Settings) (now : ℕ) (s : State) → Grows s (opening.h
 cookie-ack-grows c now s =
     let a = s.association in
     either s (opening.is_echoed a.phase) (opening.opened c now a.own_tag a.far_tag a.own_first a.peer a.address s) (silent s) (omega arith) (quiet s)
-
--- ---- a cookie
-
-opened-by-grows : (c : Settings) (now : ℕ) (source : Address) (cookie : Cookie) (s : State) → Grows s (opening.opened_by c now source cookie s).does
-opened-by-grows c now source cookie s = omega arith
-
-either-echo : (s : State) (b : Bool) (x y : opening.Echo) → Grows s x.does → Grows s y.does → Grows s (if b then x else y).does
-either-echo s true x y g h = g
-either-echo s false x y g h = h
-
-restarted-grows : (phase : Phase) (c : Settings) (source : Address) (cookie : Cookie) (s : State) → Grows s (opening.restarted phase c source cookie s)
-restarted-grows phases.Closed c source cookie s = omega arith
-restarted-grows phases.CookieWait c source cookie s = omega arith
-restarted-grows phases.CookieEchoed c source cookie s = omega arith
-restarted-grows phases.Established c source cookie s = omega arith
-restarted-grows phases.ShutdownPending c source cookie s = omega arith
-restarted-grows phases.ShutdownSent c source cookie s = omega arith
-restarted-grows phases.ShutdownReceived c source cookie s = omega arith
-restarted-grows phases.ShutdownAckSent c source cookie s = omega arith
-
-in-association-grows : (phase : Phase) (c : Settings) (source : Address) (cookie : Cookie) (s : State) → Grows s (opening.echo_in_association phase c source cookie s).does
-in-association-grows phase c source cookie s =
-    let a = s.association in
-    either-echo s (not (opening.is_own cookie a) && not (opening.is_far cookie a) && opening.is_tied cookie a) (opening.stops (opening.restarted phase c source cookie s)) (opening.stops (silent s))
-    (restarted-grows phase c source cookie s) (quiet s)
-
-good-grows : (phase : Phase) (c : Settings) (now : ℕ) (source : Address) (cookie : Cookie) (s : State) → Grows s (opening.good_echo_in phase c now source cookie s).does
-good-grows phases.Closed c now source cookie s =
-    either-echo s s.is_wanted (opening.opened_by c now source cookie s) (opening.stops (silent s)) (opened-by-grows c now source cookie s) (quiet s)
-good-grows phases.CookieWait c now source cookie s =
-    either-echo s (opening.is_own cookie s.association) (opening.opened_by c now source cookie s) (opening.stops (silent s)) (opened-by-grows c now source cookie s) (quiet s)
-good-grows phases.CookieEchoed c now source cookie s =
-    either-echo s (opening.is_own cookie s.association && opening.is_far cookie s.association) (opening.opened_by c now source cookie s) (opening.stops (silent s)) (opened-by-grows c now source cookie s) (quiet s)
-good-grows phases.Established c now source cookie s = in-association-grows phases.Established c source cookie s
-good-grows phases.ShutdownPending c now source cookie s = in-association-grows phases.ShutdownPending c source cookie s
-good-grows phases.ShutdownSent c now source cookie s = in-association-grows phases.ShutdownSent c source cookie s
-good-grows phases.ShutdownReceived c now source cookie s = in-association-grows phases.ShutdownReceived c source cookie s
-good-grows phases.ShutdownAckSent c now source cookie s = in-association-grows phases.ShutdownAckSent c source cookie s
-
-heard-cookie-grows : (c : Settings) (now : ℕ) (source : Address) (cookie : Cookie) (s : State) → Grows s (opening.heard_cookie c now source cookie s).does
-heard-cookie-grows c now source cookie s =
-    let a = s.association in
-    let good : opening.Echo = opening.good_echo_in a.phase c now source cookie s in
-    let old : opening.Echo = opening.stops (opening.stale c source 1 cookie s) in
-    let late : opening.Echo = opening.stops (opening.stale c source (opening.staleness now cookie) cookie s) in
-    let fresh : opening.Echo = if nat_eq cookie.generation s.generation then good else old in
-    either-echo s (opening.is_there a.phase && opening.is_own cookie a && opening.is_far cookie a) (opening.acknowledged_again s) (if nat_lt cookie.life (now - cookie.made) then late else fresh) (omega arith)
-    (either-echo s (nat_lt cookie.life (now - cookie.made)) late fresh (omega arith)
-    (either-echo s (nat_eq cookie.generation s.generation) good old (good-grows a.phase c now source cookie s) (omega arith)))
-
-echo-of-grows : (found : Option Cookie) (c : Settings) (now tag : ℕ) (source : Address) (s : State) → Grows s (opening.heard_echo_of found c now tag source s).does
-echo-of-grows None c now tag source s = quiet s
-echo-of-grows (Some cookie) c now tag source s =
-    either-echo s (nat_eq cookie.own_tag tag && nat_eq cookie.peer_port c.far_port) (opening.heard_cookie c now source cookie s) (opening.stops (silent s))
-    (heard-cookie-grows c now source cookie s) (quiet s)
-
--- COOKIE ECHO at the front of a packet
-pub echo-grows : (c : Settings) (k : Secrets) (now tag : ℕ) (source : Address) (octets : List ℕ) (s : State) → Grows s (opening.heard_cookie_echo c k now tag source octets s).does
-echo-grows c k now tag source octets s = echo-of-grows (k.cookie_in octets) c now tag source s
 
 -- ---- any chunk
 

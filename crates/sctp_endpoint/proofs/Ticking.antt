@@ -1,8 +1,7 @@
 -- Timers that run out, one after another.
-use Rattle.std.proofs.Common.{◌≡◌, ℕ, ◌+◌, ◌≤◌, Bool, true, false, List, [], ◌∷◌, ◌++◌, map, Option, Some, None, refl, sym, ap, subst, ◌∙◌, arith}
+use Rattle.std.proofs.Common.{◌≡◌, ℕ, ◌+◌, ◌≤◌, Bool, true, false, List, [], ◌∷◌, ◌++◌, Option, Some, None, refl, sym, ap, subst, ◌∙◌, arith}
 use Rattle.std.specs.Prelude.{nat_lt, nat_le, sum_by, if◌then◌else◌}
 use Rattle.std.proofs.lemmas.Bool.{le-leb}
-use Rattle.std.proofs.lemmas.List.{append_assoc, map-append}
 use Rattle.sctp_codec.specs.Packets.{ChunkValue, HeartbeatChunk}
 use Rattle.sctp_codec.specs.Parameters.{EndedByUser, information_of}
 use Rattle.sctp_rules.specs.declared.loss.Loss.TheVariants.{NoAnswer}
@@ -12,24 +11,10 @@ use Rattle.sctp_rules.specs.Ending.{aborted, ended, violation}
 use Rattle.sctp_rules.specs.Opening.{tried_again, trying_with}
 use Rattle.sctp_rules.specs.Timers.{is_due, unanswered, retry, tick_t1, tick_t5, tick_t2, t2_out, tick_t3, t3_out, tick_beat, beating, ticked}
 use Rattle.sctp_sending.specs.RoundTrips.{backed_off}
-use Rattle.sctp_endpoint.specs.Watching.{Sent, sent_as}
+use Rattle.sctp_endpoint.specs.Watching.{Sent}
 use Rattle.sctp_endpoint.specs.Endpoints.{Endpoint, Does, secrets_of}
 use Rattle.sctp_endpoint.specs.Replies.{size_of}
-
--- one rule, and then another
-pub does-both : {W : Type 0} (sent : W → List Sent) (told : W → List Told) (w v u : W) (e f g : Endpoint) (first : Done) (rule : Endpoint → Done)
-    → Does sent told w v e f first → Does sent told v u f g (rule f) → Does sent told w u e g (behind first (rule (record e { state = first.left })))
-does-both sent told w v u e f g first rule d h =
-    let second : Done = rule (record e { state = first.left }) in
-    let k : Does sent told v u (record e { state = first.left }) g second = subst (λ (x : Endpoint). Does sent told v u x g (rule x)) d.left_is h in
-    record {
-      gives = record {
-        sent_is = k.gives.sent_is ∙ ap (λ (xs : List Sent). xs ++ map sent_as second.sent) d.gives.sent_is ∙ append_assoc (sent w) (map sent_as first.sent) (map sent_as second.sent)
-            ∙ ap (λ (xs : List Sent). sent w ++ xs) (sym (map-append sent_as first.sent second.sent));
-        told_is = k.gives.told_is ∙ ap (λ (xs : List Told). xs ++ second.told) d.gives.told_is ∙ append_assoc (told w) first.told second.told;
-      };
-      left_is = k.left_is;
-    }
+use Rattle.sctp_endpoint.proofs.Chained.{then-does}
 
 -- a timer makes the generation grow by one at most, and draws no number
 pub record IsCalm (generation nonces : ℕ) (s : State) : Type 0 where
@@ -89,10 +74,10 @@ ticked-does sent told now w0 w1 w2 w3 w4 w5 e f1 f2 f3 f4 f5 a b c d h =
     let d2 : Done = behind d1 (tick_t5 e.settings now d1.left) in
     let d3 : Done = behind d2 (tick_t2 e.settings now d2.left) in
     let d4 : Done = behind d3 (tick_t3 e.settings now d3.left) in
-    let two = does-both sent told w0 w1 w2 e f1 f2 d1 (λ x. tick_t5 x.settings now x.state) a b in
-    let three = does-both sent told w0 w2 w3 e f2 f3 d2 (λ x. tick_t2 x.settings now x.state) two c in
-    let four = does-both sent told w0 w3 w4 e f3 f4 d3 (λ x. tick_t3 x.settings now x.state) three d in
-    does-both sent told w0 w4 w5 e f4 f5 d4 (λ x. tick_beat x.settings (secrets_of x) now x.state) four h
+    let two = then-does sent told w0 w1 w2 e f1 f2 d1 (λ x. tick_t5 x.settings now x.state) a b in
+    let three = then-does sent told w0 w2 w3 e f2 f3 d2 (λ x. tick_t2 x.settings now x.state) two c in
+    let four = then-does sent told w0 w3 w4 e f3 f4 d3 (λ x. tick_t3 x.settings now x.state) three d in
+    then-does sent told w0 w4 w5 e f4 f5 d4 (λ x. tick_beat x.settings (secrets_of x) now x.state) four h
 
 -- a heartbeat for which there is room
 pub heartbeat-added : (e : Endpoint) (now wait : ℕ) (control : List ChunkValue) (information : List ℕ) → sum_by size_of e.state.association.control + 16 ≤ 1024

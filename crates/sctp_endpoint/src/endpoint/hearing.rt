@@ -7,6 +7,7 @@ ghost use Rattle.sctp_rules.specs.Packets.{
   heard_chunks,
   from_source,
   heard_by_tag,
+  is_late_shutdown,
   looked_at,
   heard_otherwise,
   heard_first,
@@ -19,8 +20,8 @@ ghost use Rattle.sctp_endpoint.specs.Dispatching.{heard_datagram, heard_echo};
 
 use crate::address::Address;
 use crate::endpoint::Endpoint;
-use crate::endpoint::blue::{INIT, is_late_shutdown, is_unanswered};
 use crate::endpoint::handling::{has_peer_tag, is_closed};
+use crate::endpoint::out_of_the_blue::{INIT, is_unanswered};
 use crate::reply::Reply;
 use crate::watch::Watch;
 use sctp_codec::{Chunk, Chunks, Packet};
@@ -148,7 +149,7 @@ impl Endpoint {
     {
         if is_closed(self.phase) {
             if !is_unanswered(first, more) {
-                self.answer_from_nowhere(source, tag, first, watch);
+                self.answer_out_of_the_blue(source, tag, first, watch);
             }
         } else if is_late_shutdown(self.phase, first) {
             self.put(source, tag, &Reply::ShutdownComplete(true), watch);
@@ -220,5 +221,15 @@ impl Endpoint {
                 return;
             }
         }
+    }
+}
+
+/// Whether SHUTDOWN ACK comes to a try, and is answered whatever its tag is (RFC 9260 §8.5.1 E).
+fn is_late_shutdown(phase: Phase, chunk: &Chunk<'_>) -> bool
+    ensures { result ≡ is_late_shutdown phase (chunk_value chunk.now) }
+{
+    match chunk {
+        Chunk::ShutdownAck => matches!(phase, Phase::CookieWait | Phase::CookieEchoed),
+        _ => false,
     }
 }

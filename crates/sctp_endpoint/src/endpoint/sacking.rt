@@ -5,11 +5,12 @@ ghost use Rattle.sctp_codec.specs.Values as value;
 ghost use Rattle.sctp_receiving.specs.Sack.{blocks};
 ghost use Rattle.sctp_receiving.specs.Receiver.{window};
 ghost use Rattle.sctp_rules.specs.State.{with_association};
-ghost use Rattle.sctp_rules.specs.Data.{takes_data, block_of, sack_of, sacked};
+ghost use Rattle.sctp_rules.specs.Data.{block_of, sack_of, sacked};
 ghost use Rattle.sctp_rules.specs.Sending.{acknowledgement, is_acknowledging, with_acknowledged, t2_in};
 ghost use Rattle.sctp_endpoint.specs.Bundling.{Bundles, way_of, shutdown_chunks};
 
 use crate::endpoint::Endpoint;
+use crate::endpoint::data::takes_data;
 use crate::watch::Watch;
 use sctp_codec::{Block, PacketBuffer, write_sack, write_shutdown};
 use sctp_receiving::Receiver;
@@ -151,14 +152,4 @@ fn window_of(receiver: &Receiver) -> u32
     ensures { result ≡ window receiver.now }
 {
     receiver.window() as u32
-}
-
-/// The states in which DATA counts, and is acknowledged.
-fn takes_data(phase: Phase) -> bool
-    ensures { result ≡ takes_data phase }
-{
-    matches!(
-        phase,
-        Phase::Established | Phase::ShutdownPending | Phase::ShutdownSent
-    )
 }

@@ -4,7 +4,7 @@ ghost use Rattle.std.specs.Prelude.{◌≡◌, [], ◌∷◌, ◌||◌};
 ghost use Rattle.std.specs.List.{list_any};
 ghost use Rattle.sctp_codec.specs.Values.{chunk_value, chunks_of};
 ghost use Rattle.sctp_rules.specs.State.{put};
-ghost use Rattle.sctp_rules.specs.Packets.{is_quiet, is_quiet_first, answer_to, is_late_shutdown};
+ghost use Rattle.sctp_rules.specs.Packets.{is_quiet, is_quiet_first, answer_to};
 ghost use Rattle.sctp_endpoint.specs.Settings.{address_of};
 ghost use Rattle.sctp_endpoint.specs.Watching.{Gives};
 
@@ -13,7 +13,6 @@ use crate::endpoint::Endpoint;
 use crate::reply::Reply;
 use crate::watch::Watch;
 use sctp_codec::{Chunk, Chunks};
-use sctp_rules::Phase;
 
 /// The type of INIT.
 pub(super) const INIT: u8 = 1;
@@ -26,7 +25,7 @@ const ERROR: u8 = 9;
 
 impl Endpoint {
     /// A packet out of the blue is answered by its first chunk: SHUTDOWN ACK by SHUTDOWN COMPLETE, any other by ABORT.
-    pub(super) fn answer_from_nowhere<W: Watch>(
+    pub(super) fn answer_out_of_the_blue<W: Watch>(
         &self,
         source: &Address,
         tag: u32,
@@ -77,16 +76,6 @@ fn is_quiet(chunk: &Chunk<'_>) -> bool
     match chunk {
         Chunk::Abort { .. } | Chunk::InitAck(_) | Chunk::Error(_) => true,
         Chunk::Malformed { kind } => *kind == INIT || *kind == INIT_ACK || *kind == ERROR,
-        _ => false,
-    }
-}
-
-/// Whether SHUTDOWN ACK comes to a try, and is answered whatever its tag is (RFC 9260 §8.5.1 E).
-pub(super) fn is_late_shutdown(phase: Phase, chunk: &Chunk<'_>) -> bool
-    ensures { result ≡ is_late_shutdown phase (chunk_value chunk.now) }
-{
-    match chunk {
-        Chunk::ShutdownAck => matches!(phase, Phase::CookieWait | Phase::CookieEchoed),
         _ => false,
     }
 }
