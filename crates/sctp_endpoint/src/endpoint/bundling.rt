@@ -20,10 +20,8 @@ ghost use Rattle.sctp_endpoint.specs.Watching.{sent_as};
 
 use crate::endpoint::Endpoint;
 use crate::watch::Watch;
-use sctp_codec::{Data, PACKET_OCTETS, PacketBuffer, begin, finish, write_data};
-
-/// Octets of the header of a packet.
-const HEADER_OCTETS: usize = 12;
+use sctp_codec::{Data, PacketBuffer, begin, finish, write_data};
+use sctp_rules::limits::{HEADER_OCTETS, PACKET_OCTETS};
 
 /// Octets of the header and the fields of a DATA chunk (RFC 9260 §3.3.1).
 const DATA_HEADER_OCTETS: usize = 16;

@@ -11,14 +11,12 @@ ghost use Rattle.sctp_endpoint.specs.Bundling.{Bundles, way_of, shutdown_chunks}
 
 use crate::endpoint::Endpoint;
 use crate::endpoint::data::takes_data;
+use crate::endpoint::shutting::SHUTDOWN_OCTETS;
 use crate::watch::Watch;
 use sctp_codec::{Block, PacketBuffer, write_sack, write_shutdown};
 use sctp_receiving::Receiver;
 use sctp_receiving::limits::BLOCKS;
 use sctp_rules::Phase;
-
-/// Octets of a SHUTDOWN chunk.
-const SHUTDOWN_OCTETS: usize = 8;
 
 /// Octets of a SACK chunk without gap blocks and duplicates.
 const SACK_OCTETS: usize = 16;

@@ -32,10 +32,10 @@ use sctp_rules::{Loss, Phase};
 use sctp_sending::Confirmation;
 
 /// Octets of a SHUTDOWN chunk.
-const SHUTDOWN_OCTETS: usize = 8;
+pub(super) const SHUTDOWN_OCTETS: usize = 8;
 
 /// Octets of a SHUTDOWN ACK chunk.
-const SHUTDOWN_ACK_OCTETS: usize = 4;
+pub(super) const SHUTDOWN_ACK_OCTETS: usize = 4;
 
 /// How often RTO.Max goes into T5-shutdown-guard.
 const GUARD_TIMEOUTS: u64 = 5;

@@ -8,17 +8,12 @@ ghost use Rattle.sctp_rules.specs.Timers.{is_due, unanswered, tick_t5, tick_t2, 
 ghost use Rattle.sctp_endpoint.specs.Endpoints.{Does};
 
 use crate::endpoint::Endpoint;
+use crate::endpoint::shutting::{SHUTDOWN_ACK_OCTETS, SHUTDOWN_OCTETS};
 use crate::reply::Reply;
 use crate::watch::Watch;
 use sctp_codec::Cause;
 use sctp_rules::limits::CONTROL_OCTETS;
 use sctp_rules::{Loss, Phase};
-
-/// Octets of a SHUTDOWN chunk.
-const SHUTDOWN_OCTETS: usize = 8;
-
-/// Octets of a SHUTDOWN ACK chunk.
-const SHUTDOWN_ACK_OCTETS: usize = 4;
 
 impl Endpoint {
     /// T5-shutdown-guard runs out, where it is due: it ends by ABORT.
