@@ -11,7 +11,7 @@ use Rattle.sctp_world.specs.declared.step.Doing.{Doing}
 use Rattle.sctp_world.specs.declared.step.Doing.TheVariants.{Open, Send, Abort, ShutDown, Tick, Flush, Hear}
 use Rattle.sctp_world.specs.declared.step.End.{End}
 use Rattle.sctp_world.specs.declared.step.End.TheVariants.{Near, Far}
-use Rattle.sctp_world.specs.Kept.{KeptSite, KeptWorld, kept_happened, with_done, octets_at}
+use Rattle.sctp_world.specs.Kept.{KeptSite, kept_happened, with_done, octets_at}
 use Rattle.sctp_world.specs.Stands.{IsYoung}
 
 -- what is done at an endpoint; a datagram that comes is one that the other put out
@@ -37,10 +37,6 @@ MayCome (Hear place source) other site = IsYoung site (octets_at other place)
 MayCome what other site = Unit {0}
 
 -- ---- the ends
-
-abbrev pub kept_done : End → KeptSite → KeptWorld → KeptWorld
-kept_done Near site k = record k { near = site }
-kept_done Far site k = record k { far = site }
 
 abbrev pub site_at : End → worlds.World → worlds.Site
 site_at Near w = w.near

@@ -1,5 +1,5 @@
 -- What is kept of two endpoints.
-use Rattle.std.specs.Prelude.{ℕ, Bool, true, false, List, [], ◌++◌, map, Option, Some, None, slice_get}
+use Rattle.std.specs.Prelude.{◌≡◌, ℕ, Bool, true, false, ◌&&◌, List, [], ◌++◌, map, Option, Some, None, slice_get}
 use Rattle.sctp_rules.specs.Settings.{Settings}
 use Rattle.sctp_moves.specs.Ends.{Message}
 use Rattle.sctp_receiving.specs.Pieces as pieces
@@ -33,10 +33,16 @@ is_up (Some (Failed why)) = false
 abbrev pub is_up_at : List Told → (place : ℕ) → Bool
 is_up_at told place = is_up (slice_get told place)
 
--- all datagrams that were put out, and all that the user was told
+-- all datagrams that were put out, and all that the user was told, unless memory ran out for one of them
 pub record KeptLog : Type 0 where
   pub sent : List Sent
   pub told : List Told
+  pub is_whole : Bool
+
+-- these were put out, and this was told
+pub record HasAll (log : KeptLog) (sent : List Sent) (told : List Told) : Type 0 where
+  pub sent_is : log.is_whole ≡ true → log.sent ≡ sent
+  pub told_is : log.is_whole ≡ true → log.told ≡ told
 
 -- an endpoint, and what the user gave in each association, the latest first
 pub record KeptSite : Type 0 where
@@ -55,7 +61,7 @@ octets_at k place = octets_of (slice_get k.log.sent place)
 abbrev pub first_kept : Settings → (tag_key cookie_key : List ℕ) → KeptSite
 first_kept c tag_key cookie_key = record {
   endpoint = record { settings = c; tag_key = tag_key; cookie_key = cookie_key; state = first_state c };
-  log = record { sent = []; told = [] };
+  log = record { sent = []; told = []; is_whole = true };
   given = [];
 }
 
@@ -63,7 +69,7 @@ first_kept c tag_key cookie_key = record {
 abbrev pub with_done : Done → List (List Message) → KeptSite → KeptSite
 with_done d given s = record {
   endpoint = record s.endpoint { state = d.left };
-  log = record { sent = s.log.sent ++ map sent_as d.sent; told = s.log.told ++ d.told };
+  log = record s.log { sent = s.log.sent ++ map sent_as d.sent; told = s.log.told ++ d.told };
   given = opened_by given d.told;
 }
 
@@ -71,6 +77,12 @@ abbrev pub kept_happened : Happening → KeptSite → KeptSite
 kept_happened what s =
     with_done (after s.endpoint.settings (secrets_of s.endpoint) what s.endpoint.state)
     (given_by what s.endpoint.state s.given) s
+
+-- the endpoint is as it should be, and so is all that is kept of it, unless memory ran out for that, now or before
+pub record Keeps (was should is : KeptSite) : Type 0 where
+  pub endpoint_is : is.endpoint ≡ should.endpoint
+  pub was_whole : is.log.is_whole ≡ true → was.log.is_whole ≡ true
+  pub all_is : is.log.is_whole ≡ true → is ≡ should
 
 pub record KeptWorld : Type 0 where
   pub near : KeptSite
@@ -83,3 +95,7 @@ kept_at Far k = k.far
 abbrev pub other_kept : End → KeptWorld → KeptSite
 other_kept Near k = k.far
 other_kept Far k = k.near
+
+-- all of both is kept
+abbrev pub is_whole : KeptWorld → Bool
+is_whole k = k.near.log.is_whole && k.far.log.is_whole

@@ -9,7 +9,7 @@ ghost use Rattle.sctp_ends.specs.Told.{opened_by, with_last, text_given};
 ghost use Rattle.sctp_endpoint.specs.Settings.{settings_of, address_of};
 ghost use Rattle.sctp_endpoint.specs.Endpoints.{secrets_of};
 ghost use Rattle.sctp_endpoint.specs.Dispatching.{heard_datagram};
-ghost use Rattle.sctp_world.specs.Kept.{kept_happened, with_done, is_up_at, first_kept, octets_at};
+ghost use Rattle.sctp_world.specs.Kept.{Keeps, kept_happened, with_done, is_up_at, first_kept, octets_at};
 
 use crate::log::{Datagram, Entry, Kept, Log};
 use crate::messages::Messages;
@@ -19,17 +19,16 @@ use sctp_endpoint::{Address, Endpoint, Settings};
 use sctp_sending::Message;
 use std::alloc::{AllocError, Global};
 use std::marker::Model;
-use std::process::Abort;
 
 /// An endpoint, all datagrams that it put out, all that its user was told, and all that the user gave.
 #[derive(Drop)]
-pub(crate) struct Site<'r, R: Abort> {
+pub(crate) struct Site {
     endpoint: Endpoint,
-    log: Log<'r, R>,
+    log: Log,
     given: Vec<Messages>,
 }
 
-impl<'r, R: Abort> Model for Site<'r, R> {
+impl Model for Site {
     ghost use Rattle.std.specs.Prelude.{reverse};
     ghost use Rattle.sctp_world.specs.Kept.{KeptSite};
 
@@ -38,15 +37,14 @@ impl<'r, R: Abort> Model for Site<'r, R> {
     ghost view = { λ site. record { endpoint = site.endpoint; log = site.log; given = reverse site.given.items } };
 }
 
-impl<'r, R: Abort> Site<'r, R> {
+impl Site {
     /// A new endpoint, under these keys. The error means that memory ran out.
     pub(crate) fn new(
-        handle: &'r R,
         alloc: Global,
         settings: Settings,
         tag_key: [u8; KEY_OCTETS],
         cookie_key: [u8; KEY_OCTETS],
-    ) -> Result<Site<'r, R>, AllocError>
+    ) -> Result<Site, AllocError>
         requires initial { settings.bounds.initial ≤ settings.bounds.most }
         requires least { settings.bounds.least ≤ settings.bounds.most }
         requires most { settings.bounds.most ≤ 2 ^ 24 }
@@ -55,7 +53,7 @@ impl<'r, R: Abort> Site<'r, R> {
         let endpoint = Endpoint::new(alloc, settings, tag_key, cookie_key)?;
         Ok(Site {
             endpoint,
-            log: Log::new(handle, alloc),
+            log: Log::new(alloc),
             given: Vec::new(alloc),
         })
     }
@@ -92,6 +90,13 @@ impl<'r, R: Abort> Site<'r, R> {
         self.given.as_slice()
     }
 
+    /// Whether memory never ran out for what is kept.
+    pub(crate) fn is_whole(&self) -> bool
+        ensures { result ≡ self.now.log.is_whole }
+    {
+        self.log.is_whole()
+    }
+
     /// All that its user was told, in order.
     pub(crate) fn told(&self) -> &[Kept]
         ensures { result.now ≡ self.now.log.told }
@@ -100,12 +105,12 @@ impl<'r, R: Abort> Site<'r, R> {
     }
 }
 
-impl<'r, R: Abort> Site<'r, R> {
+impl Site {
     /// The user wants an association.
     pub(crate) fn open(&mut self, is_active: bool, now: u64)
         requires generation { self.old.endpoint.state.generation < 2 ^ 63 }
         requires now { now ≤ 2 ^ 63 }
-        ensures { self.new ≡ kept_happened (Opens now is_active) self.old }
+        ensures { Keeps self.old (kept_happened (Opens now is_active) self.old) self.new }
     {
         let from = self.log.told().len();
         self.endpoint.open(is_active, now, &mut self.log);
@@ -115,7 +120,7 @@ impl<'r, R: Abort> Site<'r, R> {
     /// The user ends the association.
     pub(crate) fn abort(&mut self)
         requires { self.old.endpoint.state.generation < 2 ^ 63 }
-        ensures { self.new ≡ kept_happened Aborts self.old }
+        ensures { Keeps self.old (kept_happened Aborts self.old) self.new }
     {
         let from = self.log.told().len();
         self.endpoint.abort(&mut self.log);
@@ -126,7 +131,7 @@ impl<'r, R: Abort> Site<'r, R> {
     pub(crate) fn shut_down(&mut self, now: u64)
         requires generation { self.old.endpoint.state.generation < 2 ^ 63 }
         requires now { now ≤ 2 ^ 63 }
-        ensures { self.new ≡ kept_happened (ShutsDown now) self.old }
+        ensures { Keeps self.old (kept_happened (ShutsDown now) self.old) self.new }
     {
         let from = self.log.told().len();
         self.endpoint.shutdown(now, &mut self.log);
@@ -138,7 +143,7 @@ impl<'r, R: Abort> Site<'r, R> {
         requires generation { self.old.endpoint.state.generation < 2 ^ 63 }
         requires nonces { self.old.endpoint.state.nonces < 2 ^ 63 }
         requires now { now ≤ 2 ^ 63 }
-        ensures { self.new ≡ kept_happened (Ticked now) self.old }
+        ensures { Keeps self.old (kept_happened (Ticked now) self.old) self.new }
     {
         let from = self.log.told().len();
         self.endpoint.tick(now, &mut self.log);
@@ -148,7 +153,7 @@ impl<'r, R: Abort> Site<'r, R> {
     /// Packets are asked for.
     pub(crate) fn flush(&mut self, now: u64)
         requires { now ≤ 2 ^ 63 }
-        ensures { self.new ≡ kept_happened (Flushes now) self.old }
+        ensures { Keeps self.old (kept_happened (Flushes now) self.old) self.new }
     {
         let from = self.log.told().len();
         self.endpoint.flush(now, &mut self.log);
@@ -159,8 +164,9 @@ impl<'r, R: Abort> Site<'r, R> {
     pub(crate) fn hear(&mut self, octets: &[u8], source: &Address, now: u64)
         requires generation { self.old.endpoint.state.generation < 2 ^ 63 }
         requires now { now ≤ 2 ^ 63 }
-        ensures { self.new ≡ with_done (heard_datagram (read_packet octets.now) self.old.endpoint.settings
-            (secrets_of self.old.endpoint) now (address_of source.now) self.old.endpoint.state) self.old.given self.old }
+        ensures { Keeps self.old (with_done (heard_datagram (read_packet octets.now) self.old.endpoint.settings
+            (secrets_of self.old.endpoint) now (address_of source.now) self.old.endpoint.state) self.old.given self.old)
+            self.new }
     {
         let from = self.log.told().len();
         self.endpoint.hear(octets, source, now, &mut self.log);
@@ -170,7 +176,7 @@ impl<'r, R: Abort> Site<'r, R> {
     /// The user sends a message; answers whether it was taken.
     pub(crate) fn send(&mut self, message: Message<'_>) -> bool
         ensures taken { result ≡ may_send (given_as message.entry) self.old.endpoint.state }
-        ensures left { self.new ≡ kept_happened (Sends (given_as message.entry)) self.old }
+        ensures left { Keeps self.old (kept_happened (Sends (given_as message.entry)) self.old) self.new }
     {
         if !self.endpoint.send(message) {
             return false;
@@ -180,24 +186,24 @@ impl<'r, R: Abort> Site<'r, R> {
     }
 }
 
-impl<'r, R: Abort> Site<'r, R> {
+impl Site {
     /// The user gave a message in the latest association.
     fn note(&mut self, message: Message<'_>)
-        ensures { self.new ≡ record self.old {
+        ensures { Keeps self.old (record self.old {
           given = with_last (text_given (given_as message.entry)) self.old.given;
-        } }
+        }) self.new }
     {
-        match self.keep(message) {
-            Ok(()) => {}
-            Err(AllocError) => self.log.give_up(),
+        if self.keep(message).is_err() {
+            self.log.lose();
         }
     }
 
     /// The same, where there is memory for it.
     fn keep(&mut self, message: Message<'_>) -> Result<(), AllocError>
-        ensures { OnOk result (self.new ≡ record self.old {
+        ensures given { OnOk result (self.new ≡ record self.old {
           given = with_last (text_given (given_as message.entry)) self.old.given;
         }) }
+        ensures rest { self.new ≡ record self.old { given = self.new.given } }
     {
         let text = Text::new(
             self.log.alloc(),
@@ -214,7 +220,8 @@ impl<'r, R: Abort> Site<'r, R> {
 
     /// For each association that opened, by what was told from a place on, the user gives messages of its own.
     fn begin_lists(&mut self, from: usize)
-        ensures { self.new ≡ record self.old { given = opened_by self.old.given (drop from self.old.log.told) } }
+        ensures { Keeps self.old (record self.old { given = opened_by self.old.given (drop from self.old.log.told) })
+            self.new }
     {
         for i in from..self.log.told().len() {
             if self.is_opening(i) {
@@ -235,12 +242,11 @@ impl<'r, R: Abort> Site<'r, R> {
 
     /// The user may give messages of another association.
     fn begin_list(&mut self)
-        ensures { self.new ≡ record self.old { given = [] ∷ self.old.given } }
+        ensures { Keeps self.old (record self.old { given = [] ∷ self.old.given }) self.new }
     {
         let alloc = self.log.alloc();
-        match self.given.push(Messages::new(alloc)) {
-            Ok(()) => {}
-            Err(_) => self.log.give_up(),
+        if self.given.push(Messages::new(alloc)).is_err() {
+            self.log.lose();
         }
     }
 }

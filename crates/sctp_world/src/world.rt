@@ -6,8 +6,8 @@ ghost use Rattle.sctp_ends.specs.Worlds as worlds;
 ghost use Rattle.sctp_ends.specs.Theorems.{Delivers, AreAssociated};
 ghost use Rattle.sctp_ends.specs.Told.{told_by};
 ghost use Rattle.sctp_endpoint.specs.Settings.{settings_of};
-ghost use Rattle.sctp_world.specs.Kept.{first_kept, kept_at, other_kept};
-ghost use Rattle.sctp_world.specs.Doing.{kept_did, kept_done, HasNumbers, MayCome, site_at, other_site};
+ghost use Rattle.sctp_world.specs.Kept.{Keeps, first_kept, kept_at, other_kept, is_whole};
+ghost use Rattle.sctp_world.specs.Doing.{kept_did, HasNumbers, MayCome, site_at, other_site};
 ghost use Rattle.sctp_world.specs.Stands.{StandsFor, GoesOn, make_of, first_of};
 
 use crate::log::{Datagram, Kept};
@@ -18,7 +18,6 @@ use sctp_endpoint::Settings;
 use sctp_endpoint::endpoint::KEY_OCTETS;
 use std::alloc::{AllocError, Global};
 use std::marker::Model;
-use std::process::Abort;
 
 /// The latest time, in milliseconds.
 const LATEST: u64 = 1 << 63;
@@ -27,14 +26,16 @@ const LATEST: u64 = 1 << 63;
 ///
 /// The network is no more than these datagrams: any of them may come to the other end, at any moment, any number of
 /// times, in any order, or never. It stands for two endpoints of the rules to which steps led from two new ones on
-/// (`StandsFor`): `new` makes it so, and each `act` keeps it. Where memory runs out, the process ends.
+/// (`StandsFor`): `new` makes it so, and each `act` keeps it, unless memory runs out for what is put out, told or
+/// given. Then it isn't whole any more (`is_whole`), and only its endpoints go on by their rules. No contract says that
+/// it is whole as long as there is memory, since none can speak of memory.
 #[derive(Drop)]
-pub struct World<'r, R: Abort> {
-    near: Site<'r, R>,
-    far: Site<'r, R>,
+pub struct World {
+    near: Site,
+    far: Site,
 }
 
-impl<'r, R: Abort> Model for World<'r, R> {
+impl Model for World {
     ghost use Rattle.sctp_world.specs.Kept.{KeptWorld};
 
     ghost Value = { KeptWorld };
@@ -53,14 +54,9 @@ pub struct Making {
     pub cookie_key: [u8; KEY_OCTETS],
 }
 
-impl<'r, R: Abort> World<'r, R> {
+impl World {
     /// Two new endpoints, and nothing that was put out. The error means that memory ran out.
-    pub fn new(
-        handle: &'r R,
-        alloc: Global,
-        near: Making,
-        far: Making,
-    ) -> Result<World<'r, R>, AllocError>
+    pub fn new(alloc: Global, near: Making, far: Making) -> Result<World, AllocError>
         requires near_initial { near.settings.bounds.initial ≤ near.settings.bounds.most }
         requires near_least { near.settings.bounds.least ≤ near.settings.bounds.most }
         requires near_most { near.settings.bounds.most ≤ 2 ^ 24 }
@@ -77,20 +73,23 @@ impl<'r, R: Abort> World<'r, R> {
         has_ports(&near.settings);
         has_ports(&far.settings);
         Ok(World {
-            near: Site::new(handle, alloc, near.settings, near.tag_key, near.cookie_key)?,
-            far: Site::new(handle, alloc, far.settings, far.tag_key, far.cookie_key)?,
+            near: Site::new(alloc, near.settings, near.tag_key, near.cookie_key)?,
+            far: Site::new(alloc, far.settings, far.tag_key, far.cookie_key)?,
         })
     }
 
     /// Does something at an end, at a time in milliseconds. Answers whether it was done: not where the time is over
     /// 2^63 ms, where the endpoint doesn't last (`Endpoint::lasts`), or where there is no such datagram.
     pub fn act(&mut self, end: End, what: Doing<'_>, now: u64) -> bool
-        // What it does is the rule's,
-        ensures done { result ≡ true → self.new ≡ kept_done end (kept_did what.entry now (other_kept end self.old)
-            (kept_at end self.old)) self.old }
+        // What it does is the rule's: at the endpoint in any case, and in all that is kept of it if that is whole.
+        ensures done { result ≡ true → Keeps (kept_at end self.old) (kept_did what.entry now (other_kept end self.old)
+            (kept_at end self.old)) (kept_at end self.new) }
+        ensures other { other_kept end self.new ≡ other_kept end self.old }
         ensures unchanged { result ≡ false → self.new ≡ self.old }
-        // and is a step of each world that it stood for, if a datagram that comes isn't too old,
-        ensures goes_on { (w : worlds.World) → StandsFor self.old w → result ≡ true →
+        // What isn't whole never is again.
+        ensures whole { is_whole self.new ≡ true → is_whole self.old ≡ true }
+        // It is a step of each world that it stood for, if it is whole, and a datagram that comes isn't too old.
+        ensures goes_on { (w : worlds.World) → StandsFor self.old w → result ≡ true → is_whole self.new ≡ true →
             MayCome what.entry (other_kept end self.old) (other_site end w) → GoesOn self.new w }
     {
         has_numbers(what);
@@ -100,7 +99,14 @@ impl<'r, R: Abort> World<'r, R> {
         }
     }
 
-    /// All datagrams that an end ever put out, in order.
+    /// Whether memory never ran out for what was put out, told or given.
+    pub fn is_whole(&self) -> bool
+        ensures { result ≡ is_whole self.now }
+    {
+        self.near.is_whole() && self.far.is_whole()
+    }
+
+    /// All datagrams that an end ever put out, in order, if it is whole.
     pub fn sent(&self, end: End) -> &[Datagram]
         ensures { result.now ≡ (kept_at end self.now).log.sent }
     {
@@ -133,7 +139,7 @@ impl<'r, R: Abort> World<'r, R> {
     {}
 
     /// An end.
-    fn site(&self, end: End) -> &Site<'r, R>
+    fn site(&self, end: End) -> &Site
         ensures { result.now ≡ kept_at end self.now }
     {
         match end {
@@ -166,9 +172,10 @@ fn has_numbers(what: Doing<'_>)
 }
 
 /// Does something at an endpoint, where the other one put out some datagrams.
-fn act_at<R: Abort>(site: &mut Site<'_, R>, other: &Site<'_, R>, what: Doing<'_>, now: u64) -> bool
-    ensures did { result ≡ true → site.new ≡ kept_did what.entry now other.now site.old }
+fn act_at(site: &mut Site, other: &Site, what: Doing<'_>, now: u64) -> bool
+    ensures did { result ≡ true → Keeps site.old (kept_did what.entry now other.now site.old) site.new }
     ensures unchanged { result ≡ false → site.new ≡ site.old }
+    ensures whole { site.new.log.is_whole ≡ true → site.old.log.is_whole ≡ true }
 {
     if now > LATEST || !site.lasts() {
         return false;

@@ -2,4 +2,4 @@ use Rattle.sctp_world.proofs.Standing.{associated}
 use Rattle.sctp_world.proofs.world.World.associations_have_the_laws.Goals as goal
 
 pub returns : goal.returns
-returns g c = associated c.args.self.now
+returns c = associated c.args.self.now
