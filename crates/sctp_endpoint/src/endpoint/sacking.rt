@@ -42,7 +42,7 @@ impl Endpoint {
         requires now { now ≤ 2 ^ 63 }
         ensures front { 12 ≤ result }
         ensures room { result ≤ 1200 }
-        ensures bundled { Bundles W.sent W.told (way_of self.old) watch.old watch.new (take end out.old)
+        ensures bundled { Bundles W.has (way_of self.old) watch.old watch.new (take end out.old)
             (take result out.new) (acknowledgement self.old.state.association) }
         ensures left { self.new ≡ record self.old {
           state = with_association self.old.state (with_acknowledged now self.old.state.association);
@@ -70,7 +70,7 @@ impl Endpoint {
         requires room { end ≤ 1200 }
         ensures front { 12 ≤ result }
         ensures room { result ≤ 1200 }
-        ensures bundled { Bundles W.sent W.told (way_of self.now) watch.old watch.new (take end out.old)
+        ensures bundled { Bundles W.has (way_of self.now) watch.old watch.new (take end out.old)
             (take result out.new) (shutdown_chunks self.now.state.association.phase self.now.state.association) }
     {
         if let Phase::ShutdownSent = self.phase {
@@ -87,7 +87,7 @@ impl Endpoint {
         requires room { end ≤ 1200 }
         ensures front { 12 ≤ result }
         ensures room { result ≤ 1200 }
-        ensures bundled { Bundles W.sent W.told (way_of self.now) watch.old watch.new (take end out.old)
+        ensures bundled { Bundles W.has (way_of self.now) watch.old watch.new (take end out.old)
             (take result out.new) (sack_of self.now.state.association.receiver ∷ []) }
     {
         let mut blocks = [NO_BLOCK; BLOCKS];

@@ -19,7 +19,7 @@ impl Endpoint {
     /// T5-shutdown-guard runs out, where it is due: it ends by ABORT.
     pub(super) fn tick_t5<W: Watch>(&mut self, now: u64, watch: &mut W)
         requires { self.old.state.generation < 2 ^ 64 - 1 }
-        ensures { Does W.sent W.told watch.old watch.new self.old self.new
+        ensures { Does W.has watch.old watch.new self.old self.new
             (tick_t5 self.old.settings now self.old.state) }
     {
         if is_due(now, self.t5) {
@@ -35,7 +35,7 @@ impl Endpoint {
     pub(super) fn tick_t2<W: Watch>(&mut self, now: u64, watch: &mut W)
         requires generation { self.old.state.generation < 2 ^ 64 - 1 }
         requires now { now ≤ 2 ^ 63 }
-        ensures { Does W.sent W.told watch.old watch.new self.old self.new
+        ensures { Does W.has watch.old watch.new self.old self.new
             (tick_t2 self.old.settings now self.old.state) }
     {
         if is_due(now, self.t2) {
@@ -47,7 +47,7 @@ impl Endpoint {
     fn run_t2<W: Watch>(&mut self, now: u64, watch: &mut W)
         requires generation { self.old.state.generation < 2 ^ 64 - 1 }
         requires now { now ≤ 2 ^ 63 }
-        ensures { Does W.sent W.told watch.old watch.new self.old self.new
+        ensures { Does W.has watch.old watch.new self.old self.new
             (unanswered self.old.settings (λ left. t2_out self.old.settings now left) self.old.state) }
     {
         if self.count_failure() {
@@ -89,7 +89,7 @@ impl Endpoint {
     pub(super) fn tick_t3<W: Watch>(&mut self, now: u64, watch: &mut W)
         requires generation { self.old.state.generation < 2 ^ 64 - 1 }
         requires now { now ≤ 2 ^ 63 }
-        ensures { Does W.sent W.told watch.old watch.new self.old self.new
+        ensures { Does W.has watch.old watch.new self.old self.new
             (tick_t3 self.old.settings now self.old.state) }
     {
         if is_due(now, self.sender.t3()) {
@@ -101,7 +101,7 @@ impl Endpoint {
     fn run_t3<W: Watch>(&mut self, now: u64, watch: &mut W)
         requires generation { self.old.state.generation < 2 ^ 64 - 1 }
         requires now { now ≤ 2 ^ 63 }
-        ensures { Does W.sent W.told watch.old watch.new self.old self.new
+        ensures { Does W.has watch.old watch.new self.old self.new
             (unanswered self.old.settings (λ left. t3_out self.old.settings now left) self.old.state) }
     {
         if self.count_failure() {
@@ -131,7 +131,7 @@ impl Endpoint {
     /// The peer doesn't answer: it ends by ABORT.
     pub(super) fn give_up<W: Watch>(&mut self, watch: &mut W)
         requires { self.old.state.generation < 2 ^ 64 - 1 }
-        ensures { Does W.sent W.told watch.old watch.new self.old self.new
+        ensures { Does W.has watch.old watch.new self.old self.new
             (aborted self.old.settings NoAnswer violation self.old.state) }
     {
         self.end_with(
