@@ -1,4 +1,5 @@
 pub mod Definitions
+pub mod Places
 pub mod Basics
 pub mod World
 pub mod Going

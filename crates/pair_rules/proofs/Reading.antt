@@ -2,7 +2,7 @@
 use Rattle.pair_rules.proofs.Basics.{◌≡◌, ℕ, List, Option, map, position, nat_eq, Ok, Err, Result, refl, ap, sym, ◌∙◌}
 use Rattle.pair_rules.proofs.Definitions.{Message, is_management, Configuration, LinkEntry, IsFacing, read_management, MgmtFault, Management, Saying, UserMessage, Order, Answer}
 use Rattle.std.proofs.Common.{if◌then◌else◌}
-use Rattle.settings.proofs.Places.{position-map}
+use Rattle.pair_rules.proofs.Places.{position-map}
 use Rattle.mtp3_codec.specs.declared.management.Management.TheVariants as says
 use Rattle.pair_rules.proofs.World.{link_of_code, said_by, unsaid, management_says, read_says, says_of}
 
