@@ -18,6 +18,7 @@ mod handling;
 mod hearing;
 mod heartbeats;
 mod init_acks;
+mod lasting;
 mod opening;
 mod out_of_the_blue;
 mod replying;
