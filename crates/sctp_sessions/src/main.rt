@@ -20,7 +20,6 @@
 #![tactic(auto)]
 
 mod fitting;
-mod history;
 mod names;
 mod recorder;
 mod rows;

@@ -1,12 +1,6 @@
 //! Keeps what an endpoint tells, as lines, and what of its datagrams a session needs.
 
-ghost use Rattle.std.specs.Prelude.{◌≡◌, [], map};
-ghost use Rattle.sctp_endpoint.specs.Watching.{told_of};
-ghost use Rattle.sctp_sessions.specs.History.{sent_in, told_in, told_as};
-
-use crate::history::{Note, Octets};
 use crate::names::{Name, add};
-use http_server::Log;
 use sctp_codec::{Chunk, Init, Packet, cookie};
 use sctp_cookie::COOKIE_OCTETS;
 use sctp_endpoint::{Address, Event, Watch};
@@ -15,9 +9,9 @@ use sctp_sending::Message;
 use std::alloc::{AllocError, Global};
 use std::fmt::Write;
 
-/// What is kept of an endpoint.
+/// Takes what an endpoint puts out and tells.
 #[derive(Drop)]
-pub struct Kept {
+pub struct Recorder {
     /// What it told, a line each. What finds no memory is left out, so that the session goes wrong.
     pub told: String,
     /// How many datagrams it put out.
@@ -28,22 +22,19 @@ pub struct Kept {
     pub cookie: [u8; COOKIE_OCTETS],
 }
 
-impl Kept {
-    /// Learns the names and the cookie of a datagram.
-    fn learn(&mut self, datagram: &[u8]) {
-        self.put_out = self.put_out.saturating_add(1);
-        let Some(packet) = Packet::read(datagram) else {
-            return;
-        };
-        for chunk in packet.chunks() {
-            if let Chunk::Init(init) | Chunk::InitAck(init) = chunk {
-                self.learn_offer(&init);
-            }
+impl Recorder {
+    /// Nothing was put out, and nothing told.
+    pub fn new(alloc: Global) -> Recorder {
+        Recorder {
+            told: String::new(alloc),
+            put_out: 0,
+            names: Vec::new(alloc),
+            cookie: [0; COOKIE_OCTETS],
         }
     }
 
-    /// The same, of an INIT or INIT ACK.
-    fn learn_offer(&mut self, init: &Init<'_>) {
+    /// Learns the name and the cookie of an INIT or INIT ACK.
+    fn learn(&mut self, init: &Init<'_>) {
         let name = Name {
             tag: init.offer.tag,
             first: init.offer.first_tsn,
@@ -55,9 +46,25 @@ impl Kept {
             self.cookie = *cookie;
         }
     }
+}
 
-    /// Writes what is told, as a line.
-    fn write(&mut self, event: &Event<'_>) {
+impl Watch for Recorder {
+    // nothing is proved of it
+    ghost has = { λ _ _ _. Unit {0} };
+
+    fn send(&mut self, octets: &[u8], _to: &Address) {
+        self.put_out = self.put_out.saturating_add(1);
+        let Some(packet) = Packet::read(octets) else {
+            return;
+        };
+        for chunk in packet.chunks() {
+            if let Chunk::Init(init) | Chunk::InitAck(init) = chunk {
+                self.learn(&init);
+            }
+        }
+    }
+
+    fn tell(&mut self, event: &Event<'_>) {
         let _ = match event {
             Event::Up => write!(self.told, " up\n"),
             Event::Heard(message) => write_message(&mut self.told, message),
@@ -89,65 +96,5 @@ fn word_of(why: Loss) -> &'static str {
         Loss::BadInitAck => "bad_init_ack",
         Loss::StaleCookie => "stale_cookie",
         Loss::NoTag => "no_tag",
-    }
-}
-
-/// What is told, without a message's octets, and these.
-fn noted(event: &Event<'_>) -> (Note, Octets)
-    ensures { told_as result.0 result.1 ≡ told_of event.now }
-{
-    match event {
-        Event::Up => (Note::Up, Octets::of(&[])),
-        Event::Heard(message) => {
-            let note = Note::Heard {
-                stream: message.stream,
-                protocol: message.protocol,
-            };
-            (note, Octets::of(message.octets))
-        }
-        Event::Down(why) => (Note::Down(*why), Octets::of(&[])),
-        Event::Failed(why) => (Note::Failed(*why), Octets::of(&[])),
-    }
-}
-
-/// Takes what an endpoint puts out and tells.
-#[derive(Drop)]
-pub struct Recorder {
-    /// What is kept of it.
-    pub kept: Kept,
-    sent: Log<Octets, Address>,
-    told: Log<Note, Octets>,
-}
-
-impl Recorder {
-    /// Nothing was put out, and nothing told.
-    pub fn new(alloc: Global) -> Recorder {
-        Recorder {
-            kept: Kept {
-                told: String::new(alloc),
-                put_out: 0,
-                names: Vec::new(alloc),
-                cookie: [0; COOKIE_OCTETS],
-            },
-            sent: Log::new(),
-            told: Log::new(),
-        }
-    }
-}
-
-impl Watch for Recorder {
-    ghost sent = { λ recorder. map sent_in recorder.sent.items };
-
-    ghost told = { λ recorder. map told_in recorder.told.items };
-
-    fn send(&mut self, octets: &[u8], to: &Address) {
-        self.kept.learn(octets);
-        self.sent = self.sent.and(&Octets::of(octets), to);
-    }
-
-    fn tell(&mut self, event: &Event<'_>) {
-        self.kept.write(event);
-        let (note, octets) = noted(event);
-        self.told = self.told.and(&note, &octets);
     }
 }

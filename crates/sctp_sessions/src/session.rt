@@ -107,12 +107,12 @@ impl Session {
     fn hear(&mut self, row: &str, now: u64) {
         let mut buffer = [0; OCTETS];
         let datagram = octets(row, 2, &mut buffer);
-        let kept = &self.recorder.kept;
+        let own = &self.recorder;
         fit(
             datagram,
             self.names.as_slice(),
-            kept.names.as_slice(),
-            &kept.cookie,
+            own.names.as_slice(),
+            &own.cookie,
         );
         self.heard = self.heard.saturating_add(1);
         if now <= LATEST && self.endpoint.lasts() {
@@ -149,7 +149,7 @@ impl Session {
 
     /// What the user was told, a line each.
     pub fn told(&self) -> &str {
-        self.recorder.kept.told.as_str()
+        self.recorder.told.as_str()
     }
 
     /// How many datagrams were heard.
@@ -159,7 +159,7 @@ impl Session {
 
     /// How many datagrams were put out.
     pub fn put_out(&self) -> u32 {
-        self.recorder.kept.put_out
+        self.recorder.put_out
     }
 
     /// Whether the user was told what was recorded.
