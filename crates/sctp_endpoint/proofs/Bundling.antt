@@ -8,12 +8,13 @@ use Rattle.sctp_codec.specs.Items.{item_octets, padding_behind}
 use Rattle.sctp_codec.specs.Packets.{ChunkValue}
 use Rattle.sctp_codec.specs.Writing.{chunk_item, chunk_octets, value_octets, header_octets, headed}
 use Rattle.sctp_rules.specs.Settings.{Address}
-use Rattle.sctp_rules.specs.State.{Told, packet_to}
+use Rattle.sctp_rules.specs.State.{Told, Datagram, packet_to}
 use Rattle.sctp_rules.specs.Sending.{closed, bundled}
 use Rattle.sctp_endpoint.specs.Replies.{size_of}
 use Rattle.sctp_endpoint.specs.ChunkRows.{row_of, packet_text}
-use Rattle.sctp_endpoint.specs.Watching.{Sent, sent_as}
+use Rattle.sctp_endpoint.specs.Watching.{Sent, Puts}
 use Rattle.sctp_endpoint.specs.Bundling.{Bundle, Way, bundle, behind_packet, is_full_for, room_for, draft_of, packet_on, IsBundled, HasMadeRoom, Bundles}
+use Rattle.sctp_endpoint.proofs.Hearing.{puts-then, puts-none}
 use Rattle.sctp_endpoint.proofs.Rows.{row-length, row-more, row-none, packet-text}
 
 -- ---- sizes
@@ -56,22 +57,25 @@ draft-finished w waiting old new finish e =
     finish w.settings.own_port w.settings.far_port w.tag (row_of waiting) e ∙ packet-text w.settings.own_port w.settings.far_port w.tag waiting
 
 -- the packet that is written goes out
-pub draft-sent : (w : Way) (waiting : List ChunkValue) (old new : List ℕ) (before after : List Sent) (to : Address)
+pub draft-sent : {W : Type 0} (has : W → List Sent → List Told → Type 0) (w : Way) (before after : W) (waiting : List ChunkValue) (old new : List ℕ) (to : Address)
     → ((source destination tag : ℕ) (chunks : List ℕ) → old ≡ header_octets source destination tag 0 ++ chunks → new ≡ headed source destination tag chunks)
-    → after ≡ before ++ record { octets = new; to = to } ∷ [] → to ≡ w.to → old ≡ draft_of w waiting → after ≡ before ++ sent_as (packet_on w waiting) ∷ []
-draft-sent w waiting old new before after to finish s here e =
-    s ∙ ap (λ (t : List ℕ). before ++ record { octets = t; to = to } ∷ []) (draft-finished w waiting old new finish e)
-    ∙ ap (λ (a : Address). before ++ record { octets = packet_text (packet_to w.settings w.tag waiting); to = a } ∷ []) here
+    → ((sent : List Sent) (told : List Told) → has before sent told → has after (sent ++ record { octets = new; to = to } ∷ []) told)
+    → to ≡ w.to → old ≡ draft_of w waiting → Puts has before after (packet_on w waiting ∷ [])
+draft-sent has w before after waiting old new to finish s here e = record {
+  more = λ sent told is.
+      subst (λ (a : Address). has after (sent ++ record { octets = packet_text (packet_to w.settings w.tag waiting); to = a } ∷ []) told) here
+      (subst (λ (t : List ℕ). has after (sent ++ record { octets = t; to = to } ∷ []) told) (draft-finished w waiting old new finish e) (s sent told is));
+}
 
-pub rest-some : (w : Way) (waiting : List ChunkValue) (end : ℕ) (text : List ℕ) (before after : List Sent) → length text ≡ end → 12 < end → text ≡ draft_of w waiting
-    → after ≡ before ++ sent_as (packet_on w waiting) ∷ [] → after ≡ before ++ map sent_as (map (packet_on w) (closed waiting))
-rest-some w [] end text before after l some e s = absurd (omega (arith, l, some, ap length e, draft-long w []))
-rest-some w (chunk ∷ chunks) end text before after l some e s = s
+pub rest-some : {W : Type 0} (has : W → List Sent → List Told → Type 0) (w : Way) (before after : W) (waiting : List ChunkValue) (end : ℕ) (text : List ℕ) → length text ≡ end → 12 < end
+    → text ≡ draft_of w waiting → Puts has before after (packet_on w waiting ∷ []) → Puts has before after (map (packet_on w) (closed waiting))
+rest-some has w before after [] end text l some e s = absurd (omega (arith, l, some, ap length e, draft-long w []))
+rest-some has w before after (chunk ∷ chunks) end text l some e s = s
 
-pub rest-none : (w : Way) (waiting : List ChunkValue) (end : ℕ) (text : List ℕ) (before : List Sent) → length text ≡ end → end ≤ 12 → text ≡ draft_of w waiting
-    → before ≡ before ++ map sent_as (map (packet_on w) (closed waiting))
-rest-none w [] end text before l none e = sym (append-nil before)
-rest-none w (chunk ∷ chunks) end text before l none e =
+pub rest-none : {W : Type 0} (has : W → List Sent → List Told → Type 0) (w : Way) (watch : W) (waiting : List ChunkValue) (end : ℕ) (text : List ℕ) → length text ≡ end → end ≤ 12
+    → text ≡ draft_of w waiting → Puts has watch watch (map (packet_on w) (closed waiting))
+rest-none has w watch [] end text l none e = puts-none has watch
+rest-none has w watch (chunk ∷ chunks) end text l none e =
     absurd (omega (arith, l, none, ap length e, draft-long w (chunk ∷ chunks), sum_by-cons size_of chunk chunks, chunk-some chunk))
 
 -- ---- room
@@ -84,23 +88,21 @@ pub room-over : (waiting : List ChunkValue) (end octets : ℕ) → end ≡ 12 + 
 room-over [] end octets e l m = absurd (omega (arith, e, l, m))
 room-over (chunk ∷ chunks) end octets e l m = rw (lt-ltb 1200 (12 + sum_by size_of (chunk ∷ chunks) + octets) (omega (arith, e, l))) refl
 
-pub room-kept : {W : Type 0} (sent : W → List Sent) (told : W → List Told) (w : Way) (watch : W) (text : List ℕ) (end octets : ℕ) → length text ≡ end → end + octets ≤ 1200
-    → HasMadeRoom sent told w watch watch text text octets
-room-kept sent told w watch text end octets l m = record {
-  told_is = refl;
+pub room-kept : {W : Type 0} (has : W → List Sent → List Told → Type 0) (w : Way) (watch : W) (text : List ℕ) (end octets : ℕ) → length text ≡ end → end + octets ≤ 1200
+    → HasMadeRoom has w watch watch text text octets
+room-kept has w watch text end octets l m = record {
   made = λ waiting e.
-      subst (λ (b : Bundle). IsBundled w (sent watch) (sent watch) text b) (sym (room-left waiting end octets (sym l ∙ ap length e ∙ draft-long w waiting) m))
-      (record { text_is = e; sent_is = sym (append-nil (sent watch)) });
+      subst (λ (b : Bundle). IsBundled has w watch watch text b) (sym (room-left waiting end octets (sym l ∙ ap length e ∙ draft-long w waiting) m))
+      (record { text_is = e; full_out = puts-none has watch });
 }
 
-pub room-begun : {W : Type 0} (sent : W → List Sent) (told : W → List Told) (w : Way) (before after : W) (text new : List ℕ) (end octets : ℕ) → length text ≡ end → 1200 < end + octets → octets ≤ 1188
-    → told after ≡ told before → ((waiting : List ChunkValue) → text ≡ draft_of w waiting → sent after ≡ sent before ++ sent_as (packet_on w waiting) ∷ []) → new ≡ draft_of w []
-    → HasMadeRoom sent told w before after text new octets
-room-begun sent told w before after text new end octets l m few t s n = record {
-  told_is = t;
+pub room-begun : {W : Type 0} (has : W → List Sent → List Told → Type 0) (w : Way) (before after : W) (text new : List ℕ) (end octets : ℕ) → length text ≡ end → 1200 < end + octets → octets ≤ 1188
+    → ((waiting : List ChunkValue) → text ≡ draft_of w waiting → Puts has before after (packet_on w waiting ∷ [])) → new ≡ draft_of w []
+    → HasMadeRoom has w before after text new octets
+room-begun has w before after text new end octets l m few s n = record {
   made = λ waiting e.
-      subst (λ (b : Bundle). IsBundled w (sent before) (sent after) new b) (sym (room-over waiting end octets (sym l ∙ ap length e ∙ draft-long w waiting) m few))
-      (record { text_is = n; sent_is = s waiting e });
+      subst (λ (b : Bundle). IsBundled has w before after new b) (sym (room-over waiting end octets (sym l ∙ ap length e ∙ draft-long w waiting) m few))
+      (record { text_is = n; full_out = s waiting e });
 }
 
 -- ---- one chunk
@@ -120,18 +122,17 @@ unfolding bundle
 bundle-one waiting chunk = one-by (is_full_for waiting chunk) waiting chunk
 
 -- a chunk that is written behind the room for it
-pub chunk-bundled : {W : Type 0} (sent : W → List Sent) (told : W → List Told) (w : Way) (before after : W) (old mid new : List ℕ) (octets : ℕ) (chunk : ChunkValue)
-    → HasMadeRoom sent told w before after old mid octets → octets ≡ size_of chunk → new ≡ mid ++ chunk_octets chunk → Bundles sent told w before after old new (chunk ∷ [])
-chunk-bundled sent told w before after old mid new octets chunk h same text = record {
-  told_is = h.told_is;
+pub chunk-bundled : {W : Type 0} (has : W → List Sent → List Told → Type 0) (w : Way) (before after : W) (old mid new : List ℕ) (octets : ℕ) (chunk : ChunkValue)
+    → HasMadeRoom has w before after old mid octets → octets ≡ size_of chunk → new ≡ mid ++ chunk_octets chunk → Bundles has w before after old new (chunk ∷ [])
+chunk-bundled has w before after old mid new octets chunk h same text = record {
   bundled = λ waiting e.
       let room = room_for waiting (size_of chunk) in
-      let made : IsBundled w (sent before) (sent after) mid room = subst (λ (n : ℕ). IsBundled w (sent before) (sent after) mid (room_for waiting n)) same (h.made waiting e) in
-      let whole : IsBundled w (sent before) (sent after) new (with_chunk room chunk) = record {
+      let made : IsBundled has w before after mid room = subst (λ (n : ℕ). IsBundled has w before after mid (room_for waiting n)) same (h.made waiting e) in
+      let whole : IsBundled has w before after new (with_chunk room chunk) = record {
         text_is = text ∙ ap (λ (t : List ℕ). t ++ chunk_octets chunk) made.text_is ∙ sym (draft-more w room.waiting chunk);
-        sent_is = made.sent_is;
+        full_out = made.full_out;
       } in
-      subst (λ (b : Bundle). IsBundled w (sent before) (sent after) new b) (sym (bundle-one waiting chunk)) whole;
+      subst (λ (b : Bundle). IsBundled has w before after new b) (sym (bundle-one waiting chunk)) whole;
 }
 
 -- ---- chunks behind others
@@ -153,32 +154,28 @@ bundle-append waiting (x ∷ xs) ys =
     join-by (is_full_for waiting x) waiting (bundle (x ∷ []) xs) (bundle (waiting ++ x ∷ []) xs) (bundle (x ∷ []) (xs ++ ys)) (bundle (waiting ++ x ∷ []) (xs ++ ys)) ys
     (bundle-append (x ∷ []) xs ys) (bundle-append (waiting ++ x ∷ []) xs ys)
 
-pub sent-more : (w : Way) (a b c : List Sent) (xs ys : List (List ChunkValue)) → b ≡ a ++ map sent_as (map (packet_on w) xs) → c ≡ b ++ map sent_as (map (packet_on w) ys) → c ≡ a ++ map sent_as (map (packet_on w) (xs ++ ys))
-sent-more w a b c xs ys p q =
-    let x = map (packet_on w) xs in
-    let y = map (packet_on w) ys in
-    q ∙ ap (λ (t : List Sent). t ++ map sent_as y) p ∙ append_assoc a (map sent_as x) (map sent_as y)
-    ∙ ap (λ (t : List Sent). a ++ t) (sym (ap (map sent_as) (map-append (packet_on w) xs ys) ∙ map-append sent_as x y))
+pub puts-more : {W : Type 0} (has : W → List Sent → List Told → Type 0) (w : Way) (before between after : W) (xs ys : List (List ChunkValue))
+    → Puts has before between (map (packet_on w) xs) → Puts has between after (map (packet_on w) ys) → Puts has before after (map (packet_on w) (xs ++ ys))
+puts-more has w before between after xs ys p q =
+    subst (λ (ds : List Datagram). Puts has before after ds) (sym (map-append (packet_on w) xs ys)) (puts-then has before between after (map (packet_on w) xs) (map (packet_on w) ys) p q)
 
-pub bundles-then : {W : Type 0} (sent : W → List Sent) (told : W → List Told) (w : Way) (before between after : W) (old mid new : List ℕ) (xs ys : List ChunkValue)
-    → Bundles sent told w before between old mid xs → Bundles sent told w between after mid new ys → Bundles sent told w before after old new (xs ++ ys)
-bundles-then sent told w before between after old mid new xs ys b c = record {
-  told_is = c.told_is ∙ b.told_is;
+pub bundles-then : {W : Type 0} (has : W → List Sent → List Told → Type 0) (w : Way) (before between after : W) (old mid new : List ℕ) (xs ys : List ChunkValue)
+    → Bundles has w before between old mid xs → Bundles has w between after mid new ys → Bundles has w before after old new (xs ++ ys)
+bundles-then has w before between after old mid new xs ys b c = record {
   bundled = λ waiting e.
       let first = b.bundled waiting e in
       let second = c.bundled (bundle waiting xs).waiting first.text_is in
-      let whole : IsBundled w (sent before) (sent after) new (joined (bundle waiting xs) (bundle (bundle waiting xs).waiting ys)) = record {
+      let whole : IsBundled has w before after new (joined (bundle waiting xs) (bundle (bundle waiting xs).waiting ys)) = record {
         text_is = second.text_is;
-        sent_is = sent-more w (sent before) (sent between) (sent after) (bundle waiting xs).full (bundle (bundle waiting xs).waiting ys).full first.sent_is second.sent_is;
+        full_out = puts-more has w before between after (bundle waiting xs).full (bundle (bundle waiting xs).waiting ys).full first.full_out second.full_out;
       } in
-      subst (λ (p : Bundle). IsBundled w (sent before) (sent after) new p) (sym (bundle-append waiting xs ys)) whole;
+      subst (λ (p : Bundle). IsBundled has w before after new p) (sym (bundle-append waiting xs ys)) whole;
 }
 
-pub bundles-none : {W : Type 0} (sent : W → List Sent) (told : W → List Told) (w : Way) (before : W) (old : List ℕ) → Bundles sent told w before before old old []
+pub bundles-none : {W : Type 0} (has : W → List Sent → List Told → Type 0) (w : Way) (before : W) (old : List ℕ) → Bundles has w before before old old []
 unfolding bundle
-bundles-none sent told w before old = record {
-  told_is = refl;
-  bundled = λ waiting e. record { text_is = e; sent_is = sym (append-nil (sent before)) };
+bundles-none has w before old = record {
+  bundled = λ waiting e. record { text_is = e; full_out = puts-none has before };
 }
 
 -- ---- all chunks, by the rule

@@ -42,33 +42,33 @@ goes-on c k now tag (packets.MalformedChunk kind) s = refl
 
 -- ---- the first chunk of a packet with the right tag, and those behind it
 
-pub chunk-goes : {W : Type 0} (sent : W → List Sent) (told : W → List Told) (w v u : W) (e here f g : Endpoint) (now : ℕ) (source : Address) (tag : ℕ) (first : ChunkValue) (more : List ChunkValue)
+pub chunk-goes : {W : Type 0} (has : W → List Sent → List Told → Type 0) (w v u : W) (e here f g : Endpoint) (now : ℕ) (source : Address) (tag : ℕ) (first : ChunkValue) (more : List ChunkValue)
     → here ≡ record e { state = from_source source e.state }
-    → Does sent told w v here f (heard_chunk here.settings (secrets_of here) now tag first here.state).does
+    → Does has w v here f (heard_chunk here.settings (secrets_of here) now tag first here.state).does
     → (heard_chunk here.settings (secrets_of here) now tag first here.state).goes_on ≡ true → has_peer_tag first ≡ false
-    → Does sent told v u f g (heard_chunks f.settings (secrets_of f) now tag more f.state)
-    → Does sent told w u e g (heard_by_tag e.settings (secrets_of e) now source tag (looked_at first more) e.state)
-chunk-goes sent told w v u e here f g now source tag first more is d goes own h =
+    → Does has v u f g (heard_chunks f.settings (secrets_of f) now tag more f.state)
+    → Does has w u e g (heard_by_tag e.settings (secrets_of e) now source tag (looked_at first more) e.state)
+chunk-goes has w v u e here f g now source tag first more is d goes own h =
     let k : Secrets = secrets_of e in
     let s : State = from_source source e.state in
     let handled : Handled = heard_chunk e.settings k now tag first s in
-    let one = subst (λ (x : Endpoint). Does sent told w v x f (heard_chunk x.settings (secrets_of x) now tag first x.state).does) is d in
+    let one = subst (λ (x : Endpoint). Does has w v x f (heard_chunk x.settings (secrets_of x) now tag first x.state).does) is d in
     let on = subst (λ (x : Endpoint). (heard_chunk x.settings (secrets_of x) now tag first x.state).goes_on ≡ true) is goes in
-    let both = then-does sent told w v u (record e { state = s }) f g handled.does (λ (x : Endpoint). heard_chunks x.settings (secrets_of x) now tag more x.state) one h in
-    let all : Does sent told w u (record e { state = s }) g (and_on handled (λ left. heard_chunks e.settings k now tag more left)) = rw (if-on handled (λ left. heard_chunks e.settings k now tag more left) true on) both in
+    let both = then-does has w v u (record e { state = s }) f g handled.does (λ (x : Endpoint). heard_chunks x.settings (secrets_of x) now tag more x.state) one h in
+    let all : Does has w u (record e { state = s }) g (and_on handled (λ left. heard_chunks e.settings k now tag more left)) = rw (if-on handled (λ left. heard_chunks e.settings k now tag more left) true on) both in
     rw (if-false (has_peer_tag first) [] more own) (record { gives = all.gives; left_is = all.left_is })
 
 -- ---- a cookie at the front, and the chunks behind it
 
-pub echo-goes : {W : Type 0} (sent : W → List Sent) (told : W → List Told) (w v u : W) (e f g : Endpoint) (now : ℕ) (source : Address) (tag : ℕ) (cookie : List ℕ) (more : List ChunkValue)
-    → Does sent told w v e f (heard_cookie_echo e.settings (secrets_of e) now tag source cookie e.state).does
+pub echo-goes : {W : Type 0} (has : W → List Sent → List Told → Type 0) (w v u : W) (e f g : Endpoint) (now : ℕ) (source : Address) (tag : ℕ) (cookie : List ℕ) (more : List ChunkValue)
+    → Does has w v e f (heard_cookie_echo e.settings (secrets_of e) now tag source cookie e.state).does
     → (heard_cookie_echo e.settings (secrets_of e) now tag source cookie e.state).goes_on ≡ true
-    → Does sent told v u f g (heard_by_tag f.settings (secrets_of f) now source tag more f.state)
-    → Does sent told w u e g (heard_echo e.settings (secrets_of e) now source tag cookie more e.state)
-echo-goes sent told w v u e f g now source tag cookie more d goes h =
+    → Does has v u f g (heard_by_tag f.settings (secrets_of f) now source tag more f.state)
+    → Does has w u e g (heard_echo e.settings (secrets_of e) now source tag cookie more e.state)
+echo-goes has w v u e f g now source tag cookie more d goes h =
     let k : Secrets = secrets_of e in
     let echo : Echo = heard_cookie_echo e.settings k now tag source cookie e.state in
-    let both = then-does sent told w v u e f g echo.does (λ (x : Endpoint). heard_by_tag x.settings (secrets_of x) now source tag more x.state) d h in
+    let both = then-does has w v u e f g echo.does (λ (x : Endpoint). heard_by_tag x.settings (secrets_of x) now source tag more x.state) d h in
     rw (if-true echo.goes_on (followed_by echo.does (λ left. heard_by_tag e.settings k now source tag more left)) echo.does goes) both
 
 -- ---- where the next answer goes

@@ -16,6 +16,7 @@ use Rattle.sctp_rules.specs.Data.{no_stream, told_one, told_each, after_data}
 use Rattle.sctp_rules.specs.Packets.{Handled}
 use Rattle.sctp_endpoint.specs.Watching.{Sent}
 use Rattle.sctp_endpoint.specs.Endpoints.{Endpoint, Does}
+use Rattle.sctp_endpoint.proofs.Hearing.{given-none}
 use Rattle.sctp_endpoint.proofs.Chained.{then-does, if-on}
 use Rattle.sctp_endpoint.specs.Draining.{told_step, heard_piece, told_next, and_on, told_held}
 
@@ -163,13 +164,13 @@ stops-at c s e = if-false (is_some (next_held s.association.receiver)) (told_ste
 pub stops-there : (c : Settings) (s : State) → is_some (next_held s.association.receiver) ≡ false → (told_next c s).goes_on ≡ false
 stops-there c s e = ap (λ (h : Handled). h.goes_on) (stops-at c s e)
 
-pub nothing-next : {W : Type 0} (sent : W → List Sent) (told : W → List state.Told) (w : W) (e f : Endpoint)
+pub nothing-next : {W : Type 0} (has : W → List Sent → List state.Told → Type 0) (w : W) (e f : Endpoint)
     → is_some (next_held e.state.association.receiver) ≡ false
     → f ≡ record e { state = with_receiver (take_next e.state.association.receiver).left e.state }
-    → Does sent told w w e f (told_next e.settings e.state).does
-nothing-next sent told w e f none is =
+    → Does has w w e f (told_next e.settings e.state).does
+nothing-next has w e f none is =
     rw (stops-at e.settings e.state none) (record {
-      gives = record { sent_is = sym (append-nil (sent w)); told_is = sym (append-nil (told w)) };
+      gives = given-none has w e.state;
       left_is = is ∙ ap (λ (r : Receiver). record e { state = with_receiver r e.state }) (none-left (next_held e.state.association.receiver) e.state.association.receiver none);
     })
 
@@ -189,27 +190,27 @@ held-done c i s h =
 
 -- ---- DATA is taken by two calls
 
-pub data-goes : {W : Type 0} (sent : W → List Sent) (told : W → List state.Told) (w v u : W) (e due f g : Endpoint) (tsn : ℕ) (p : Piece)
-    → due ≡ record e { state = sack_due e.state } → Does sent told w v due f (heard_piece due.settings tsn p due.state).does
-    → (heard_piece due.settings tsn p due.state).goes_on ≡ true → Does sent told v u f g (told_held f.settings 256 f.state)
-    → Does sent told w u e g (after_data e.settings (received e.state.association.receiver tsn p) e.state)
-data-goes sent told w v u e due f g tsn p is d goes h =
+pub data-goes : {W : Type 0} (has : W → List Sent → List state.Told → Type 0) (w v u : W) (e due f g : Endpoint) (tsn : ℕ) (p : Piece)
+    → due ≡ record e { state = sack_due e.state } → Does has w v due f (heard_piece due.settings tsn p due.state).does
+    → (heard_piece due.settings tsn p due.state).goes_on ≡ true → Does has v u f g (told_held f.settings 256 f.state)
+    → Does has w u e g (after_data e.settings (received e.state.association.receiver tsn p) e.state)
+data-goes has w v u e due f g tsn p is d goes h =
     let was : Endpoint = record e { state = sack_due e.state } in
-    let first = subst (λ (x : Endpoint). Does sent told w v x f (heard_piece x.settings tsn p x.state).does) is d in
+    let first = subst (λ (x : Endpoint). Does has w v x f (heard_piece x.settings tsn p x.state).does) is d in
     let on = subst (λ (x : Endpoint). (heard_piece x.settings tsn p x.state).goes_on ≡ true) is goes in
-    let both = then-does sent told w v u was f g (heard_piece e.settings tsn p was.state).does (λ (x : Endpoint). told_held x.settings 256 x.state) first h in
-    let k : Does sent told w u was g (and_on (heard_piece e.settings tsn p was.state) (λ left. told_held e.settings 256 left)) =
+    let both = then-does has w v u was f g (heard_piece e.settings tsn p was.state).does (λ (x : Endpoint). told_held x.settings 256 x.state) first h in
+    let k : Does has w u was g (and_on (heard_piece e.settings tsn p was.state) (λ left. told_held e.settings 256 left)) =
     rw (if-on (heard_piece e.settings tsn p was.state) (λ left. told_held e.settings 256 left) true on) both in
     rw (data-told e.settings tsn p e.state) (record { gives = k.gives; left_is = k.left_is })
 
-pub data-stops : {W : Type 0} (sent : W → List Sent) (told : W → List state.Told) (w v : W) (e due f : Endpoint) (tsn : ℕ) (p : Piece)
-    → due ≡ record e { state = sack_due e.state } → Does sent told w v due f (heard_piece due.settings tsn p due.state).does
+pub data-stops : {W : Type 0} (has : W → List Sent → List state.Told → Type 0) (w v : W) (e due f : Endpoint) (tsn : ℕ) (p : Piece)
+    → due ≡ record e { state = sack_due e.state } → Does has w v due f (heard_piece due.settings tsn p due.state).does
     → (heard_piece due.settings tsn p due.state).goes_on ≡ false
-    → Does sent told w v e f (after_data e.settings (received e.state.association.receiver tsn p) e.state)
-data-stops sent told w v e due f tsn p is d stops =
+    → Does has w v e f (after_data e.settings (received e.state.association.receiver tsn p) e.state)
+data-stops has w v e due f tsn p is d stops =
     let was : Endpoint = record e { state = sack_due e.state } in
-    let first = subst (λ (x : Endpoint). Does sent told w v x f (heard_piece x.settings tsn p x.state).does) is d in
+    let first = subst (λ (x : Endpoint). Does has w v x f (heard_piece x.settings tsn p x.state).does) is d in
     let off = subst (λ (x : Endpoint). (heard_piece x.settings tsn p x.state).goes_on ≡ false) is stops in
-    let k : Does sent told w v was f (and_on (heard_piece e.settings tsn p was.state) (λ left. told_held e.settings 256 left)) =
+    let k : Does has w v was f (and_on (heard_piece e.settings tsn p was.state) (λ left. told_held e.settings 256 left)) =
     rw (if-on (heard_piece e.settings tsn p was.state) (λ left. told_held e.settings 256 left) false off) first in
     rw (data-told e.settings tsn p e.state) (record { gives = k.gives; left_is = k.left_is })

@@ -103,33 +103,33 @@ turn-left e f i now r l went is m =
     ap (λ (x : Endpoint). (going (257 - (i + 1)) now x.state.association.sender).left) m
     ∙ sym (ap (λ (g : Gone). g.left) (going-at i now s l) ∙ from-more-left (257 - (i + 1)) now s (next_place s) (sym is ∙ went))
 
-pub turn-bundled : {W : Type 0} (sent : W → List Sent) (told : W → List Told) (first e f : Endpoint) (i now : ℕ) (r : Bool) (watch next last : W) (old mid new : List ℕ)
+pub turn-bundled : {W : Type 0} (has : W → List Sent → List Told → Type 0) (first e f : Endpoint) (i now : ℕ) (r : Bool) (watch next last : W) (old mid new : List ℕ)
     → i < 257 → r ≡ true → r ≡ is_some (next_place e.state.association.sender) → e ≡ with_sender first e.state.association.sender
     → f ≡ with_sender e (gone_next e.state.association.sender now (next_place e.state.association.sender))
-    → Bundles sent told (way_of e) watch next old mid (next_chunks e.state.association.sender (next_place e.state.association.sender))
-    → Bundles sent told (way_of first) next last mid new (map DataChunk (going (257 - (i + 1)) now f.state.association.sender).chunks)
-    → Bundles sent told (way_of first) watch last old new (map DataChunk (going (257 - i) now e.state.association.sender).chunks)
-turn-bundled sent told first e f i now r watch next last old mid new l went is k m b more =
+    → Bundles has (way_of e) watch next old mid (next_chunks e.state.association.sender (next_place e.state.association.sender))
+    → Bundles has (way_of first) next last mid new (map DataChunk (going (257 - (i + 1)) now f.state.association.sender).chunks)
+    → Bundles has (way_of first) watch last old new (map DataChunk (going (257 - i) now e.state.association.sender).chunks)
+turn-bundled has first e f i now r watch next last old mid new l went is k m b more =
     let s = e.state.association.sender in
     let t : Sending = gone_next s now (next_place s) in
-    let here : Bundles sent told (way_of first) watch next old mid (next_chunks s (next_place s)) =
-    subst (λ (w : Way). Bundles sent told w watch next old mid (next_chunks s (next_place s))) (ap way_of k) b in
-    let rest : Bundles sent told (way_of first) next last mid new (map DataChunk (going (257 - (i + 1)) now t).chunks) =
-    subst (λ (x : Endpoint). Bundles sent told (way_of first) next last mid new (map DataChunk (going (257 - (i + 1)) now x.state.association.sender).chunks)) m more in
+    let here : Bundles has (way_of first) watch next old mid (next_chunks s (next_place s)) =
+    subst (λ (w : Way). Bundles has w watch next old mid (next_chunks s (next_place s))) (ap way_of k) b in
+    let rest : Bundles has (way_of first) next last mid new (map DataChunk (going (257 - (i + 1)) now t).chunks) =
+    subst (λ (x : Endpoint). Bundles has (way_of first) next last mid new (map DataChunk (going (257 - (i + 1)) now x.state.association.sender).chunks)) m more in
     let chunks = ap (λ (g : Gone). map DataChunk g.chunks) (going-at i now s l) ∙ from-more (257 - (i + 1)) now s (next_place s) (sym is ∙ went) in
-    subst (λ (xs : List ChunkValue). Bundles sent told (way_of first) watch last old new xs) (sym chunks)
-    (bundles-then sent told (way_of first) watch next last old mid new (next_chunks s (next_place s)) (map DataChunk (going (257 - (i + 1)) now t).chunks) here rest)
+    subst (λ (xs : List ChunkValue). Bundles has (way_of first) watch last old new xs) (sym chunks)
+    (bundles-then has (way_of first) watch next last old mid new (next_chunks s (next_place s)) (map DataChunk (going (257 - (i + 1)) now t).chunks) here rest)
 
 -- no message may go out
-pub stop-bundled : {W : Type 0} (sent : W → List Sent) (told : W → List Told) (first e : Endpoint) (i now : ℕ) (r : Bool) (watch next : W) (old new : List ℕ)
+pub stop-bundled : {W : Type 0} (has : W → List Sent → List Told → Type 0) (first e : Endpoint) (i now : ℕ) (r : Bool) (watch next : W) (old new : List ℕ)
     → i < 257 → r ≡ false → r ≡ is_some (next_place e.state.association.sender) → e ≡ with_sender first e.state.association.sender
-    → Bundles sent told (way_of e) watch next old new (next_chunks e.state.association.sender (next_place e.state.association.sender))
-    → Bundles sent told (way_of first) watch next old new (map DataChunk (going (257 - i) now e.state.association.sender).chunks)
-stop-bundled sent told first e i now r watch next old new l stays is k b =
+    → Bundles has (way_of e) watch next old new (next_chunks e.state.association.sender (next_place e.state.association.sender))
+    → Bundles has (way_of first) watch next old new (map DataChunk (going (257 - i) now e.state.association.sender).chunks)
+stop-bundled has first e i now r watch next old new l stays is k b =
     let s = e.state.association.sender in
     let chunks = ap (λ (g : Gone). map DataChunk g.chunks) (going-at i now s l) ∙ from-none (257 - (i + 1)) now s (next_place s) (sym is ∙ stays) in
-    subst (λ (xs : List ChunkValue). Bundles sent told (way_of first) watch next old new xs) (sym chunks)
-    (subst (λ (w : Way). Bundles sent told w watch next old new (next_chunks s (next_place s))) (ap way_of k) b)
+    subst (λ (xs : List ChunkValue). Bundles has (way_of first) watch next old new xs) (sym chunks)
+    (subst (λ (w : Way). Bundles has w watch next old new (next_chunks s (next_place s))) (ap way_of k) b)
 
 pub stop-left : (first e f : Endpoint) (i now : ℕ) (r : Bool) (last : Sending) → i < 257 → r ≡ false → r ≡ is_some (next_place e.state.association.sender) → e ≡ with_sender first e.state.association.sender
     → f ≡ with_sender e (gone_next e.state.association.sender now (next_place e.state.association.sender)) → (going (257 - i) now e.state.association.sender).left ≡ last → f ≡ with_sender first last
@@ -145,9 +145,9 @@ over i now s m =
     let none : 257 - i ≡ 0 = omega (arith, m) in
     ap (λ (n : ℕ). going n now s) none
 
-pub over-bundled : {W : Type 0} (sent : W → List Sent) (told : W → List Told) (w : Way) (watch : W) (old : List ℕ) (i now : ℕ) (s : Sending) → 257 ≤ i
-    → Bundles sent told w watch watch old old (map DataChunk (going (257 - i) now s).chunks)
-over-bundled sent told w watch old i now s m = rw (over i now s m) (bundles-none sent told w watch old)
+pub over-bundled : {W : Type 0} (has : W → List Sent → List Told → Type 0) (w : Way) (watch : W) (old : List ℕ) (i now : ℕ) (s : Sending) → 257 ≤ i
+    → Bundles has w watch watch old old (map DataChunk (going (257 - i) now s).chunks)
+over-bundled has w watch old i now s m = rw (over i now s m) (bundles-none has w watch old)
 
 pub over-left : (first e : Endpoint) (i now : ℕ) (last : Sending) → 257 ≤ i → e ≡ with_sender first e.state.association.sender → (going (257 - i) now e.state.association.sender).left ≡ last → e ≡ with_sender first last
 over-left first e i now last m k is_last =

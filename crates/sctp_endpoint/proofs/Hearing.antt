@@ -1,68 +1,105 @@
 -- Cookies that come, and what a watch is given by one rule after another.
-use Rattle.std.proofs.Common.{◌≡◌, ◌<◌, ◌-◌, ℕ, Bool, true, false, List, ◌++◌, map, refl, sym, ap, subst, ◌∙◌, nat_eq}
+use Rattle.std.proofs.Common.{◌≡◌, ◌<◌, ◌-◌, ℕ, Bool, true, false, List, [], ◌∷◌, ◌++◌, map, refl, sym, ap, subst, ◌∙◌, nat_eq}
 use Rattle.std.specs.Prelude.{if◌then◌else◌}
 use Rattle.std.proofs.lemmas.Bool.{lt-ltb}
-use Rattle.std.proofs.lemmas.List.{append_assoc, map-append}
+use Rattle.std.proofs.lemmas.List.{append_assoc, append-nil, map-append}
 use Rattle.sctp_codec.specs.Packets.{InitValue}
 use Rattle.sctp_cookie.specs.declared.cookie.Cookie.{Cookie}
 use Rattle.sctp_rules.specs.declared.loss.Loss.TheVariants.{Restart}
 use Rattle.sctp_rules.specs.Settings.{Address}
-use Rattle.sctp_rules.specs.State.{Told, State, Done, silent, behind, followed_by}
+use Rattle.sctp_rules.specs.State.{Told, State, Done, Datagram, silent, behind, followed_by}
 use Rattle.sctp_rules.specs.Ending.{ended}
 use Rattle.sctp_rules.specs.Opening.{stale, staleness, is_waiting, begun_anew, answered_alike, answered_if_trying, answered_echoed}
-use Rattle.sctp_endpoint.specs.Watching.{Sent, sent_as, Gives}
+use Rattle.sctp_endpoint.specs.ChunkRows.{packet_text}
+use Rattle.sctp_endpoint.specs.Watching.{Sent, sent_as, Puts, Gives}
 use Rattle.sctp_endpoint.specs.Endpoints.{Endpoint, Does, secrets_of}
 use Rattle.sctp_endpoint.specs.Hearing.{heard_another, heard_in_time}
 
--- a watch that one rule gave to, and then another
-pub given-behind : {W : Type 0} (sent : W → List Sent) (told : W → List Told) (w v u : W) (first second : Done)
-    → Gives sent told w v first → Gives sent told v u second → Gives sent told w u (behind first second)
-given-behind sent told w v u first second g h = record {
-  sent_is = h.sent_is ∙ ap (λ (xs : List Sent). xs ++ map sent_as second.sent) g.sent_is ∙ append_assoc (sent w) (map sent_as first.sent) (map sent_as second.sent)
-      ∙ ap (λ (xs : List Sent). sent w ++ xs) (sym (map-append sent_as first.sent second.sent));
-  told_is = h.told_is ∙ ap (λ (xs : List Told). xs ++ second.told) g.told_is ∙ append_assoc (told w) first.told second.told;
+sent-behind : (sent : List Sent) (xs ys : List Datagram) → (sent ++ map sent_as xs) ++ map sent_as ys ≡ sent ++ map sent_as (xs ++ ys)
+sent-behind sent xs ys = append_assoc sent (map sent_as xs) (map sent_as ys) ∙ ap (λ (zs : List Sent). sent ++ zs) (sym (map-append sent_as xs ys))
+
+-- a watch that datagrams were given to, and then others
+pub puts-then : {W : Type 0} (has : W → List Sent → List Told → Type 0) (w v u : W) (xs ys : List Datagram) → Puts has w v xs → Puts has v u ys → Puts has w u (xs ++ ys)
+puts-then has w v u xs ys g h = record {
+  more = λ sent told is.
+      subst (λ (zs : List Sent). has u zs told) (sent-behind sent xs ys) (h.more (sent ++ map sent_as xs) told (g.more sent told is));
 }
 
-pub stale-in-time : {W : Type 0} (sent : W → List Sent) (told : W → List Told) (w v : W) (e : Endpoint) (source : Address) (now : ℕ) (cookie : Cookie)
-    → nat_eq cookie.generation e.state.generation ≡ false → Gives sent told w v (stale e.settings source 1 cookie e.state)
-    → Does sent told w v e e (heard_in_time e.settings now source cookie e.state).does
-stale-in-time sent told w v e source now cookie other g = rw other (record { gives = g; left_is = refl })
+pub puts-none : {W : Type 0} (has : W → List Sent → List Told → Type 0) (w : W) → Puts has w w []
+puts-none has w = record { more = λ sent told is. subst (λ (xs : List Sent). has w xs told) (sym (append-nil sent)) is }
 
-pub stale-late : {W : Type 0} (sent : W → List Sent) (told : W → List Told) (w v : W) (e : Endpoint) (source : Address) (now : ℕ) (cookie : Cookie) (n : ℕ)
-    → n ≡ staleness now cookie → cookie.life < now - cookie.made → Gives sent told w v (stale e.settings source n cookie e.state)
-    → Does sent told w v e e (heard_another e.settings now source cookie e.state).does
-stale-late sent told w v e source now cookie n same late g =
+-- a watch that octets were given to
+pub put-one : {W : Type 0} (has : W → List Sent → List Told → Type 0) (w v : W) (octets : List ℕ) (d : Datagram)
+    → ((sent : List Sent) (told : List Told) → has w sent told → has v (sent ++ record { octets = octets; to = d.to } ∷ []) told)
+    → octets ≡ packet_text d.packet → Puts has w v (d ∷ [])
+put-one has w v octets d g e = record {
+  more = λ sent told is. subst (λ (t : List ℕ). has v (sent ++ record { octets = t; to = d.to } ∷ []) told) e (g sent told is);
+}
+
+-- a watch that one rule gave to, and then another
+pub given-behind : {W : Type 0} (has : W → List Sent → List Told → Type 0) (w v u : W) (first second : Done)
+    → Gives has w v first → Gives has v u second → Gives has w u (behind first second)
+given-behind has w v u first second g h = record {
+  more = λ sent told is.
+      subst (λ (xs : List Sent). has u xs (told ++ (first.told ++ second.told))) (sent-behind sent first.sent second.sent)
+      (subst (λ (xs : List Told). has u ((sent ++ map sent_as first.sent) ++ map sent_as second.sent) xs) (append_assoc told first.told second.told)
+      (h.more (sent ++ map sent_as first.sent) (told ++ first.told) (g.more sent told is)));
+}
+
+-- a watch that nothing was given to
+pub given-none : {W : Type 0} (has : W → List Sent → List Told → Type 0) (w : W) (s : State) → Gives has w w (silent s)
+given-none has w s = record {
+  more = λ sent told is.
+      subst (λ (xs : List Sent). has w xs (told ++ [])) (sym (append-nil sent)) (subst (λ (xs : List Told). has w sent xs) (sym (append-nil told)) is);
+}
+
+-- a watch that datagrams alone were given to
+pub given-put : {W : Type 0} (has : W → List Sent → List Told → Type 0) (w v : W) (d : Done) → d.told ≡ [] → Puts has w v d.sent → Gives has w v d
+given-put has w v d none p = record {
+  more = λ sent told is.
+      subst (λ (xs : List Told). has v (sent ++ map sent_as d.sent) xs) (sym (append-nil told) ∙ ap (λ (xs : List Told). told ++ xs) (sym none)) (p.more sent told is);
+}
+
+pub stale-in-time : {W : Type 0} (has : W → List Sent → List Told → Type 0) (w v : W) (e : Endpoint) (source : Address) (now : ℕ) (cookie : Cookie)
+    → nat_eq cookie.generation e.state.generation ≡ false → Gives has w v (stale e.settings source 1 cookie e.state)
+    → Does has w v e e (heard_in_time e.settings now source cookie e.state).does
+stale-in-time has w v e source now cookie other g = rw other (record { gives = g; left_is = refl })
+
+pub stale-late : {W : Type 0} (has : W → List Sent → List Told → Type 0) (w v : W) (e : Endpoint) (source : Address) (now : ℕ) (cookie : Cookie) (n : ℕ)
+    → n ≡ staleness now cookie → cookie.life < now - cookie.made → Gives has w v (stale e.settings source n cookie e.state)
+    → Does has w v e e (heard_another e.settings now source cookie e.state).does
+stale-late has w v e source now cookie n same late g =
     rw (lt-ltb cookie.life (now - cookie.made) late) (record {
-      gives = subst (λ (m : ℕ). Gives sent told w v (stale e.settings source m cookie e.state)) same g;
+      gives = subst (λ (m : ℕ). Gives has w v (stale e.settings source m cookie e.state)) same g;
       left_is = refl;
     })
 
-pub lost-restarted : {W : Type 0} (sent : W → List Sent) (told : W → List Told) (w v u : W) (e f : Endpoint) (source : Address) (cookie : Cookie)
-    → Does sent told w v e f (ended e.settings Restart e.state) → Gives sent told v u (stale f.settings source 1 cookie f.state)
-    → Does sent told w u e f (followed_by (ended e.settings Restart e.state) (stale e.settings source 1 cookie))
-lost-restarted sent told w v u e f source cookie d g =
+pub lost-restarted : {W : Type 0} (has : W → List Sent → List Told → Type 0) (w v u : W) (e f : Endpoint) (source : Address) (cookie : Cookie)
+    → Does has w v e f (ended e.settings Restart e.state) → Gives has v u (stale f.settings source 1 cookie f.state)
+    → Does has w u e f (followed_by (ended e.settings Restart e.state) (stale e.settings source 1 cookie))
+lost-restarted has w v u e f source cookie d g =
     let first : Done = ended e.settings Restart e.state in
     let second : Done = stale e.settings source 1 cookie first.left in
-    let h : Gives sent told v u second = subst (λ (x : Endpoint). Gives sent told v u (stale x.settings source 1 cookie x.state)) d.left_is g in
-    record { gives = given-behind sent told w v u first second d.gives h; left_is = d.left_is }
+    let h : Gives has v u second = subst (λ (x : Endpoint). Gives has v u (stale x.settings source 1 cookie x.state)) d.left_is g in
+    record { gives = given-behind has w v u first second d.gives h; left_is = d.left_is }
 
 if-left : (b : Bool) (x y : Done) (s : State) → x.left ≡ s → y.left ≡ s → (if b then x else y).left ≡ s
 if-left true x y s p q = p
 if-left false x y s p q = q
 
 -- a try that begins anew, and the answer to INIT behind it
-pub begun-answered : {W : Type 0} (sent : W → List Sent) (told : W → List Told) (w v u : W) (e f : Endpoint) (to source : Address) (now : ℕ) (init : InitValue)
+pub begun-answered : {W : Type 0} (has : W → List Sent → List Told → Type 0) (w v u : W) (e f : Endpoint) (to source : Address) (now : ℕ) (init : InitValue)
     → to ≡ e.state.association.address → nat_eq init.tag e.state.association.far_tag ≡ false
-    → Does sent told w v e f (begun_anew e.settings (secrets_of e) now 0 to e.state)
-    → Gives sent told v u (answered_if_trying f.settings (secrets_of f) now source init f.state)
-    → Does sent told w u e f (answered_echoed e.settings (secrets_of e) now source init e.state)
-begun-answered sent told w v u e f to source now init here other d g =
+    → Does has w v e f (begun_anew e.settings (secrets_of e) now 0 to e.state)
+    → Gives has v u (answered_if_trying f.settings (secrets_of f) now source init f.state)
+    → Does has w u e f (answered_echoed e.settings (secrets_of e) now source init e.state)
+begun-answered has w v u e f to source now init here other d g =
     let first : Done = begun_anew e.settings (secrets_of e) now 0 e.state.association.address e.state in
     let second : Done = answered_if_trying e.settings (secrets_of e) now source init first.left in
-    let b : Does sent told w v e f first = subst (λ (x : Address). Does sent told w v e f (begun_anew e.settings (secrets_of e) now 0 x e.state)) here d in
-    let h : Gives sent told v u second = subst (λ (x : Endpoint). Gives sent told v u (answered_if_trying x.settings (secrets_of x) now source init x.state)) b.left_is g in
+    let b : Does has w v e f first = subst (λ (x : Address). Does has w v e f (begun_anew e.settings (secrets_of e) now 0 x e.state)) here d in
+    let h : Gives has v u second = subst (λ (x : Endpoint). Gives has v u (answered_if_trying x.settings (secrets_of x) now source init x.state)) b.left_is g in
     let left : second.left ≡ first.left = if-left (is_waiting first.left.association.phase) (answered_alike e.settings (secrets_of e) now source init first.left) (silent first.left) first.left refl refl in
     rw other (record {
-      gives = given-behind sent told w v u first second b.gives h;
+      gives = given-behind has w v u first second b.gives h;
       left_is = b.left_is ∙ ap (λ (t : State). record e { state = t }) (sym left);
     })

@@ -51,11 +51,11 @@ sack-said r cumulative window bs ds a b c d =
 
 -- ---- SHUTDOWN in front of it
 
-pub shutdown-bundled : {W : Type 0} (sent : W → List Sent) (told : W → List Told) (w : Way) (before after : W) (old mid new : List ℕ) (phase : Phase) (a : Association) (cumulative : ℕ)
-    → phase ≡ ShutdownSent → cumulative ≡ a.receiver.cumulative → HasMadeRoom sent told w before after old mid 8 → new ≡ mid ++ chunk_octets (ShutdownChunk cumulative)
-    → Bundles sent told w before after old new (shutdown_chunks phase a)
-shutdown-bundled sent told w before after old mid new phase a cumulative is same room text =
-    rw is (chunk-bundled sent told w before after old mid new 8 (ShutdownChunk a.receiver.cumulative) room refl (text ∙ ap (λ (n : ℕ). mid ++ chunk_octets (ShutdownChunk n)) same))
+pub shutdown-bundled : {W : Type 0} (has : W → List Sent → List Told → Type 0) (w : Way) (before after : W) (old mid new : List ℕ) (phase : Phase) (a : Association) (cumulative : ℕ)
+    → phase ≡ ShutdownSent → cumulative ≡ a.receiver.cumulative → HasMadeRoom has w before after old mid 8 → new ≡ mid ++ chunk_octets (ShutdownChunk cumulative)
+    → Bundles has w before after old new (shutdown_chunks phase a)
+shutdown-bundled has w before after old mid new phase a cumulative is same room text =
+    rw is (chunk-bundled has w before after old mid new 8 (ShutdownChunk a.receiver.cumulative) room refl (text ∙ ap (λ (n : ℕ). mid ++ chunk_octets (ShutdownChunk n)) same))
 
 no-shutdown : (phase : Phase) (a : Association) → phase ≢ ShutdownSent → shutdown_chunks phase a ≡ []
 no-shutdown Closed a other = refl
@@ -67,9 +67,9 @@ no-shutdown ShutdownSent a other = absurd (other refl)
 no-shutdown ShutdownReceived a other = refl
 no-shutdown ShutdownAckSent a other = refl
 
-pub shutdown-none : {W : Type 0} (sent : W → List Sent) (told : W → List Told) (w : Way) (before : W) (old : List ℕ) (phase : Phase) (a : Association) → phase ≢ ShutdownSent
-    → Bundles sent told w before before old old (shutdown_chunks phase a)
-shutdown-none sent told w before old phase a other = rw (no-shutdown phase a other) (bundles-none sent told w before old)
+pub shutdown-none : {W : Type 0} (has : W → List Sent → List Told → Type 0) (w : Way) (before : W) (old : List ℕ) (phase : Phase) (a : Association) → phase ≢ ShutdownSent
+    → Bundles has w before before old old (shutdown_chunks phase a)
+shutdown-none has w before old phase a other = rw (no-shutdown phase a other) (bundles-none has w before old)
 
 -- ---- both
 
@@ -83,11 +83,11 @@ parts ShutdownSent a = refl
 parts ShutdownReceived a = refl
 parts ShutdownAckSent a = refl
 
-pub acknowledged-both : {W : Type 0} (sent : W → List Sent) (told : W → List Told) (w : Way) (before between after : W) (old mid new : List ℕ) (a : Association) → is_acknowledging a ≡ true
-    → Bundles sent told w before between old mid (shutdown_chunks a.phase a) → Bundles sent told w between after mid new (sack_of a.receiver ∷ []) → Bundles sent told w before after old new (acknowledgement a)
-acknowledged-both sent told w before between after old mid new a is x y =
-    rw (is, parts a.phase a) (bundles-then sent told w before between after old mid new (shutdown_chunks a.phase a) (sack_of a.receiver ∷ []) x y)
+pub acknowledged-both : {W : Type 0} (has : W → List Sent → List Told → Type 0) (w : Way) (before between after : W) (old mid new : List ℕ) (a : Association) → is_acknowledging a ≡ true
+    → Bundles has w before between old mid (shutdown_chunks a.phase a) → Bundles has w between after mid new (sack_of a.receiver ∷ []) → Bundles has w before after old new (acknowledgement a)
+acknowledged-both has w before between after old mid new a is x y =
+    rw (is, parts a.phase a) (bundles-then has w before between after old mid new (shutdown_chunks a.phase a) (sack_of a.receiver ∷ []) x y)
 
-pub acknowledged-none : {W : Type 0} (sent : W → List Sent) (told : W → List Told) (w : Way) (before : W) (old : List ℕ) (a : Association) → is_acknowledging a ≡ false
-    → Bundles sent told w before before old old (acknowledgement a)
-acknowledged-none sent told w before old a not = rw not (bundles-none sent told w before old)
+pub acknowledged-none : {W : Type 0} (has : W → List Sent → List Told → Type 0) (w : Way) (before : W) (old : List ℕ) (a : Association) → is_acknowledging a ≡ false
+    → Bundles has w before before old old (acknowledgement a)
+acknowledged-none has w before old a not = rw not (bundles-none has w before old)

@@ -21,9 +21,9 @@ pub record IsCalm (generation nonces : ℕ) (s : State) : Type 0 where
   pub grows : s.generation ≤ generation + 1
   pub same : s.nonces ≡ nonces
 
-pub calmed : {W : Type 0} (sent : W → List Sent) (told : W → List Told) (w v : W) (e f : Endpoint) (d : Done) → Does sent told w v e f d → IsCalm e.state.generation e.state.nonces d.left
+pub calmed : {W : Type 0} (has : W → List Sent → List Told → Type 0) (w v : W) (e f : Endpoint) (d : Done) → Does has w v e f d → IsCalm e.state.generation e.state.nonces d.left
     → IsCalm e.state.generation e.state.nonces f.state
-calmed sent told w v e f d h calm = subst (λ (x : Endpoint). IsCalm e.state.generation e.state.nonces x.state) (sym h.left_is) calm
+calmed has w v e f d h calm = subst (λ (x : Endpoint). IsCalm e.state.generation e.state.nonces x.state) (sym h.left_is) calm
 
 either : (g n : ℕ) (b : Bool) (d e : Done) → IsCalm g n d.left → IsCalm g n e.left → IsCalm g n (if b then d else e).left
 either g n true d e p q = p
@@ -66,18 +66,18 @@ calm-t3 c now s =
     (calm-unanswered c (λ left. t3_out c now left) s (λ t. record { grows = omega arith; same = refl })) (still s)
 
 -- all of them
-pub ticked-does : {W : Type 0} (sent : W → List Sent) (told : W → List Told) (now : ℕ) (w0 w1 w2 w3 w4 w5 : W) (e f1 f2 f3 f4 f5 : Endpoint) → Does sent told w0 w1 e f1 (tick_t1 e.settings now e.state)
-    → Does sent told w1 w2 f1 f2 (tick_t5 f1.settings now f1.state) → Does sent told w2 w3 f2 f3 (tick_t2 f2.settings now f2.state) → Does sent told w3 w4 f3 f4 (tick_t3 f3.settings now f3.state)
-    → Does sent told w4 w5 f4 f5 (tick_beat f4.settings (secrets_of f4) now f4.state) → Does sent told w0 w5 e f5 (ticked e.settings (secrets_of e) now e.state)
-ticked-does sent told now w0 w1 w2 w3 w4 w5 e f1 f2 f3 f4 f5 a b c d h =
+pub ticked-does : {W : Type 0} (has : W → List Sent → List Told → Type 0) (now : ℕ) (w0 w1 w2 w3 w4 w5 : W) (e f1 f2 f3 f4 f5 : Endpoint) → Does has w0 w1 e f1 (tick_t1 e.settings now e.state)
+    → Does has w1 w2 f1 f2 (tick_t5 f1.settings now f1.state) → Does has w2 w3 f2 f3 (tick_t2 f2.settings now f2.state) → Does has w3 w4 f3 f4 (tick_t3 f3.settings now f3.state)
+    → Does has w4 w5 f4 f5 (tick_beat f4.settings (secrets_of f4) now f4.state) → Does has w0 w5 e f5 (ticked e.settings (secrets_of e) now e.state)
+ticked-does has now w0 w1 w2 w3 w4 w5 e f1 f2 f3 f4 f5 a b c d h =
     let d1 : Done = tick_t1 e.settings now e.state in
     let d2 : Done = behind d1 (tick_t5 e.settings now d1.left) in
     let d3 : Done = behind d2 (tick_t2 e.settings now d2.left) in
     let d4 : Done = behind d3 (tick_t3 e.settings now d3.left) in
-    let two = then-does sent told w0 w1 w2 e f1 f2 d1 (λ x. tick_t5 x.settings now x.state) a b in
-    let three = then-does sent told w0 w2 w3 e f2 f3 d2 (λ x. tick_t2 x.settings now x.state) two c in
-    let four = then-does sent told w0 w3 w4 e f3 f4 d3 (λ x. tick_t3 x.settings now x.state) three d in
-    then-does sent told w0 w4 w5 e f4 f5 d4 (λ x. tick_beat x.settings (secrets_of x) now x.state) four h
+    let two = then-does has w0 w1 w2 e f1 f2 d1 (λ x. tick_t5 x.settings now x.state) a b in
+    let three = then-does has w0 w2 w3 e f2 f3 d2 (λ x. tick_t2 x.settings now x.state) two c in
+    let four = then-does has w0 w3 w4 e f3 f4 d3 (λ x. tick_t3 x.settings now x.state) three d in
+    then-does has w0 w4 w5 e f4 f5 d4 (λ x. tick_beat x.settings (secrets_of x) now x.state) four h
 
 -- a heartbeat for which there is room
 pub heartbeat-added : (e : Endpoint) (now wait : ℕ) (control : List ChunkValue) (information : List ℕ) → sum_by size_of e.state.association.control + 16 ≤ 1024

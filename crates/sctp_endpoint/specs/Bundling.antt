@@ -15,7 +15,7 @@ use Rattle.sctp_rules.specs.Sending.{is_some}
 use Rattle.sctp_endpoint.specs.Replies.{size_of}
 use Rattle.sctp_endpoint.specs.ChunkRows.{row_of}
 use Rattle.sctp_endpoint.specs.Endpoints.{Endpoint}
-use Rattle.sctp_endpoint.specs.Watching.{Sent, sent_as}
+use Rattle.sctp_endpoint.specs.Watching.{Sent, Puts}
 
 -- packets that are full, and the chunks of one that isn't
 pub record Bundle : Type 0 where
@@ -66,23 +66,22 @@ abbrev pub packet_on : Way → List ChunkValue → Datagram
 packet_on w chunks = datagram_to w.settings w.to w.tag chunks
 
 -- packets that are full went out, and the others wait in the one that is written
-pub record IsBundled (w : Way) (sent after : List Sent) (text : List ℕ) (b : Bundle) : Type 0 where
+pub record IsBundled {W : Type 0} (has : W → List Sent → List Told → Type 0) (w : Way) (before after : W)
+    (text : List ℕ) (b : Bundle) : Type 0 where
   pub text_is : text ≡ draft_of w b.waiting
-  pub sent_is : after ≡ sent ++ map sent_as (map (packet_on w) b.full)
+  pub full_out : Puts has before after (map (packet_on w) b.full)
 
 -- there is room for so many octets more, whatever waits in the packet that is written
-pub record HasMadeRoom {W : Type 0} (sent : W → List Sent) (told : W → List Told) (w : Way) (before after : W)
+pub record HasMadeRoom {W : Type 0} (has : W → List Sent → List Told → Type 0) (w : Way) (before after : W)
     (old new : List ℕ) (octets : ℕ) : Type 0 where
-  pub told_is : told after ≡ told before
   pub made : (waiting : List ChunkValue) → old ≡ draft_of w waiting
-      → IsBundled w (sent before) (sent after) new (room_for waiting octets)
+      → IsBundled has w before after new (room_for waiting octets)
 
 -- chunks were bundled into the packet that is written, whatever waits in it
-pub record Bundles {W : Type 0} (sent : W → List Sent) (told : W → List Told) (w : Way) (before after : W)
+pub record Bundles {W : Type 0} (has : W → List Sent → List Told → Type 0) (w : Way) (before after : W)
     (old new : List ℕ) (chunks : List ChunkValue) : Type 0 where
-  pub told_is : told after ≡ told before
   pub bundled : (waiting : List ChunkValue) → old ≡ draft_of w waiting
-      → IsBundled w (sent before) (sent after) new (bundle waiting chunks)
+      → IsBundled has w before after new (bundle waiting chunks)
 
 -- SHUTDOWN, in SHUTDOWN-SENT
 abbrev pub shutdown_chunks : Phase → Association → List ChunkValue

@@ -17,7 +17,7 @@ abbrev pub secrets_of : Endpoint → Secrets
 secrets_of e = keyed e.tag_key e.cookie_key
 
 -- what a rule does to an endpoint, and gives out
-pub record Does {W : Type 0} (sent : W → List Sent) (told : W → List Told) (before after : W) (was is : Endpoint)
+pub record Does {W : Type 0} (has : W → List Sent → List Told → Type 0) (before after : W) (was is : Endpoint)
     (done : Done) : Type 0 where
-  pub gives : Gives sent told before after done
+  pub gives : Gives has before after done
   pub left_is : is ≡ record was { state = done.left }

@@ -1,5 +1,5 @@
 -- What an endpoint gives out: datagrams, and what the user is told.
-use Rattle.std.specs.Prelude.{◌≡◌, ℕ, List, ◌++◌, map}
+use Rattle.std.specs.Prelude.{ℕ, List, ◌++◌, map}
 use Rattle.sctp_rules.specs.Settings.{Address}
 use Rattle.sctp_rules.specs.State.{Datagram, Told, Up, Heard, Down, Failed, Done}
 use Rattle.sctp_sending.specs.declared.message.Message.{Message}
@@ -25,8 +25,19 @@ told_of (events.Heard message) = Heard (message_of message)
 told_of (events.Down why) = Down why
 told_of (events.Failed why) = Failed why
 
--- what a watch was given by a rule
-pub record Gives {W : Type 0} (sent : W → List Sent) (told : W → List Told) (before after : W) (done : Done) :
+-- these datagrams went out, and nothing was told, whatever a watch had
+pub record Puts {W : Type 0} (has : W → List Sent → List Told → Type 0) (before after : W)
+    (datagrams : List Datagram) : Type 0 where
+  pub more : (sent : List Sent) (told : List Told) → has before sent told
+      → has after (sent ++ map sent_as datagrams) told
+
+-- this was told, and no datagram went out, whatever a watch had
+pub record Tells {W : Type 0} (has : W → List Sent → List Told → Type 0) (before after : W) (events : List Told) :
     Type 0 where
-  pub sent_is : sent after ≡ sent before ++ map sent_as done.sent
-  pub told_is : told after ≡ told before ++ done.told
+  pub more : (sent : List Sent) (told : List Told) → has before sent told → has after sent (told ++ events)
+
+-- what a watch was given by a rule, whatever it had
+pub record Gives {W : Type 0} (has : W → List Sent → List Told → Type 0) (before after : W) (done : Done) :
+    Type 0 where
+  pub more : (sent : List Sent) (told : List Told) → has before sent told
+      → has after (sent ++ map sent_as done.sent) (told ++ done.told)

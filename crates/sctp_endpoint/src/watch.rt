@@ -1,6 +1,6 @@
 //! What takes the datagrams and the events of an endpoint.
 
-ghost use Rattle.std.specs.Prelude.{◌≡◌, List, [], ◌∷◌, ◌++◌};
+ghost use Rattle.std.specs.Prelude.{List, [], ◌∷◌, ◌++◌};
 ghost use Rattle.sctp_rules.specs.State.{Told};
 ghost use Rattle.sctp_endpoint.specs.Settings.{address_of};
 ghost use Rattle.sctp_endpoint.specs.Watching.{Sent, told_of};
@@ -24,18 +24,16 @@ pub enum Event<'a> {
 
 /// What takes the datagrams and the events of an endpoint, as they are made: a socket and a user, or lists in memory.
 pub trait Watch {
-    // the datagrams that were sent so far, and what was told so far
-    ghost sent: { Self → List Sent };
-
-    ghost told: { Self → List Told };
+    // These datagrams were sent so far, and this was told. A watch that lost some of that may say so of any lists.
+    ghost has: { Self → List Sent → List Told → Type 0 };
 
     /// A datagram goes out to an address. It may be lost.
     fn send(&mut self, octets: &[u8], to: &Address)
-        ensures sent { sent self.new ≡ sent self.old ++ record { octets = octets.now; to = address_of to.now } ∷ [] }
-        ensures told { told self.new ≡ told self.old };
+        ensures { (sent : List Sent) (told : List Told) → has self.old sent told
+            → has self.new (sent ++ record { octets = octets.now; to = address_of to.now } ∷ []) told };
 
     /// The user is told of an event.
     fn tell(&mut self, event: &Event<'_>)
-        ensures sent { sent self.new ≡ sent self.old }
-        ensures told { told self.new ≡ told self.old ++ told_of event.now ∷ [] };
+        ensures { (sent : List Sent) (told : List Told) → has self.old sent told
+            → has self.new sent (told ++ told_of event.now ∷ []) };
 }

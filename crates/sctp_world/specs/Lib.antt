@@ -1,1 +1,3 @@
 pub mod Kept
+pub mod Stands
+pub mod Doing

@@ -2,7 +2,14 @@
 #![tactic(auto)]
 
 mod log;
+mod messages;
+mod site;
+mod step;
 mod text;
+pub mod world;
 
-pub use log::{Datagram, Entry, Log};
+pub use log::{Datagram, Entry, Kept};
+pub use messages::Messages;
+pub use step::{Doing, End};
 pub use text::Text;
+pub use world::{Making, World};

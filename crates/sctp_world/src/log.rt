@@ -1,16 +1,15 @@
 //! All that an endpoint ever put out and told.
 
-ghost use Rattle.std.specs.Prelude.{◌≡◌, [], ◌∷◌, ◌++◌, IfOk, OnOk};
+ghost use Rattle.std.specs.Prelude.{◌≡◌, [], ◌∷◌, ◌++◌, true, false, IfOk, OnOk};
 ghost use Rattle.sctp_endpoint.specs.Settings.{address_of};
 ghost use Rattle.sctp_endpoint.specs.Watching.{told_of};
-ghost use Rattle.sctp_world.specs.Kept.{told_by_entry};
+ghost use Rattle.sctp_world.specs.Kept.{told_by_entry, HasAll};
 
 use crate::text::Text;
 use sctp_endpoint::{Address, Event, Watch};
 use sctp_rules::Loss;
 use std::alloc::{AllocError, Global};
 use std::marker::Model;
-use std::process::Abort;
 
 /// A datagram that was put out.
 #[derive(Drop)]
@@ -47,6 +46,24 @@ pub struct Kept {
     what: Entry,
 }
 
+impl Kept {
+    /// What it was.
+    pub fn what(&self) -> &Entry
+        ensures { told_by_entry result.now ≡ self.now }
+    {
+        &self.what
+    }
+}
+
+impl Datagram {
+    /// Its octets.
+    pub fn octets(&self) -> &[u8]
+        ensures { result.now ≡ self.now.octets }
+    {
+        self.octets.as_slice()
+    }
+}
+
 impl Model for Kept {
     ghost use Rattle.sctp_rules.specs.State.{Told};
     ghost use Rattle.sctp_world.specs.Kept.{told_by_entry};
@@ -56,35 +73,75 @@ impl Model for Kept {
     ghost view = { λ kept. told_by_entry kept.what };
 }
 
-/// All datagrams that an endpoint ever put out, and all that its user was told, in order. Where memory runs out for
-/// one more, the process ends.
+/// All datagrams that an endpoint ever put out, and all that its user was told, in order. Once memory ran out for one
+/// of them, it isn't whole any more.
 #[derive(Drop)]
-pub struct Log<'r, R: Abort> {
-    handle: &'r R,
+pub struct Log {
     alloc: Global,
+    is_whole: bool,
     sent: Vec<Datagram>,
     told: Vec<Kept>,
 }
 
-impl<'r, R: Abort> Log<'r, R> {
+impl Model for Log {
+    ghost use Rattle.sctp_world.specs.Kept.{KeptLog};
+
+    ghost Value = { KeptLog };
+
+    ghost view = { λ log. record { sent = log.sent.items; told = log.told.items; is_whole = log.is_whole } };
+}
+
+impl Log {
     /// Nothing was put out, and nothing told.
-    pub fn new(handle: &'r R, alloc: Global) -> Log<'r, R>
-        ensures sent { result.sent.items ≡ [] }
-        ensures told { result.told.items ≡ [] }
+    pub fn new(alloc: Global) -> Log
+        ensures { result ≡ record { sent = []; told = []; is_whole = true } }
     {
         Log {
-            handle,
             alloc,
+            is_whole: true,
             sent: Vec::new(alloc),
             told: Vec::new(alloc),
         }
     }
 
+    /// All datagrams.
+    pub fn sent(&self) -> &[Datagram]
+        ensures { result.now ≡ self.now.sent }
+    {
+        self.sent.as_slice()
+    }
+
+    /// All that was told.
+    pub fn told(&self) -> &[Kept]
+        ensures { result.now ≡ self.now.told }
+    {
+        self.told.as_slice()
+    }
+
+    /// Memory for more.
+    pub fn alloc(&self) -> Global {
+        self.alloc
+    }
+
+    /// Whether all of it is there: memory never ran out.
+    pub fn is_whole(&self) -> bool
+        ensures { result ≡ self.now.is_whole }
+    {
+        self.is_whole
+    }
+
+    /// Memory ran out.
+    pub fn lose(&mut self)
+        ensures { self.new ≡ record self.old { is_whole = false } }
+    {
+        self.is_whole = false;
+    }
+
     /// Keeps a datagram.
     fn keep(&mut self, octets: &[u8], to: &Address) -> Result<(), AllocError>
-        ensures sent { OnOk result
-            (self.new.sent.items ≡ self.old.sent.items ++ record { octets = octets.now; to = address_of to.now } ∷ []) }
-        ensures told { self.new.told.items ≡ self.old.told.items }
+        ensures { OnOk result (self.new ≡ record self.old {
+          sent = self.old.sent ++ record { octets = octets.now; to = address_of to.now } ∷ [];
+        }) }
     {
         let mut copy = Vec::new(self.alloc);
         copy.extend_from_slice(octets)?;
@@ -97,8 +154,7 @@ impl<'r, R: Abort> Log<'r, R> {
 
     /// Keeps what is told.
     fn note(&mut self, event: &Event<'_>) -> Result<(), AllocError>
-        ensures sent { self.new.sent.items ≡ self.old.sent.items }
-        ensures told { OnOk result (self.new.told.items ≡ self.old.told.items ++ told_of event.now ∷ []) }
+        ensures { OnOk result (self.new ≡ record self.old { told = self.old.told ++ told_of event.now ∷ [] }) }
     {
         let what = entry_of(self.alloc, event)?;
         self.told.push(Kept { what })?;
@@ -121,22 +177,18 @@ fn entry_of(alloc: Global, event: &Event<'_>) -> Result<Entry, AllocError>
     }
 }
 
-impl<'r, R: Abort> Watch for Log<'r, R> {
-    ghost sent = { λ log. log.sent.items };
-
-    ghost told = { λ log. log.told.items };
+impl Watch for Log {
+    ghost has = { HasAll };
 
     fn send(&mut self, octets: &[u8], to: &Address) {
-        match self.keep(octets, to) {
-            Ok(()) => {}
-            Err(AllocError) => self.handle.abort(),
+        if self.keep(octets, to).is_err() {
+            self.lose();
         }
     }
 
     fn tell(&mut self, event: &Event<'_>) {
-        match self.note(event) {
-            Ok(()) => {}
-            Err(AllocError) => self.handle.abort(),
+        if self.note(event).is_err() {
+            self.lose();
         }
     }
 }

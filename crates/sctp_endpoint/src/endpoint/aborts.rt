@@ -16,7 +16,7 @@ impl Endpoint {
     /// ABORT came in a packet with a tag: where the tag is right it is over, whatever the causes are.
     pub(super) fn hear_abort<W: Watch>(&mut self, tag: u32, is_reflected: bool, watch: &mut W)
         requires { self.old.state.generation < 2 ^ 64 - 1 }
-        ensures { Does W.sent W.told watch.old watch.new self.old self.new
+        ensures { Does W.has watch.old watch.new self.old self.new
             (heard_abort self.old.settings tag (AbortChunk is_reflected []) self.old.state).does }
     {
         if self.has_tag(tag, is_reflected) {
@@ -40,7 +40,7 @@ impl Endpoint {
     pub(super) fn end_alone<W: Watch>(&mut self, why: Loss, last: Option<&Reply<'_>>, watch: &mut W)
         requires generation { self.old.state.generation < 2 ^ 64 - 1 }
         requires last { size_of_last last ≤ 64 }
-        ensures { Does W.sent W.told watch.old watch.new self.old self.new
+        ensures { Does W.has watch.old watch.new self.old self.new
             (ended_alone self.old.settings why (last_of last.entry) self.old.state) }
     {
         self.control.clear();

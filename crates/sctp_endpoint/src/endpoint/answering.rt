@@ -43,7 +43,7 @@ impl Endpoint {
     )
         requires generation { self.old.state.generation < 2 ^ 64 - 1 }
         requires now { now ≤ 2 ^ 63 }
-        ensures { Does W.sent W.told watch.old watch.new self.old self.new
+        ensures { Does W.has watch.old watch.new self.old self.new
             (heard_init self.old.settings (secrets_of self.old) now (address_of source.now) (init_of init.now)
             self.old.state) }
     {
@@ -60,7 +60,7 @@ impl Endpoint {
     fn judge_init<W: Watch>(&mut self, source: &Address, init: &Init<'_>, now: u64, watch: &mut W)
         requires generation { self.old.state.generation < 2 ^ 64 - 1 }
         requires now { now ≤ 2 ^ 63 }
-        ensures { Does W.sent W.told watch.old watch.new self.old self.new
+        ensures { Does W.has watch.old watch.new self.old self.new
             (judged_init None self.old.settings (secrets_of self.old) now (address_of source.now) (init_of init.now)
             self.old.state) }
     {
@@ -78,7 +78,7 @@ impl Endpoint {
 
     /// A host name gives no address.
     fn refuse_name<W: Watch>(&self, source: &Address, tag: u32, name: &[u8], watch: &mut W)
-        ensures { Gives W.sent W.told watch.old watch.new
+        ensures { Gives W.has watch.old watch.new
             (put self.now.settings (address_of source.now) tag (abort_for (no_address name.now) ∷ []) self.now.state) }
     {
         if name.len() <= HOST_NAME_OCTETS {
@@ -97,7 +97,7 @@ impl Endpoint {
     fn answer_init<W: Watch>(&mut self, source: &Address, init: &Init<'_>, now: u64, watch: &mut W)
         requires generation { self.old.state.generation < 2 ^ 64 - 1 }
         requires now { now ≤ 2 ^ 63 }
-        ensures { Does W.sent W.told watch.old watch.new self.old self.new
+        ensures { Does W.has watch.old watch.new self.old self.new
             (init_in self.old.state.association.phase self.old.settings (secrets_of self.old) now
             (address_of source.now) (init_of init.now) self.old.state) }
     {
@@ -122,7 +122,7 @@ impl Endpoint {
 
     /// INIT ACK with a new tag, which is also the first TSN; where no tag is left there is no answer.
     fn answer_anew<W: Watch>(&mut self, source: &Address, init: &Init<'_>, now: u64, watch: &mut W)
-        ensures { Does W.sent W.told watch.old watch.new self.old self.new
+        ensures { Does W.has watch.old watch.new self.old self.new
             (answered_anew self.old.settings (secrets_of self.old) now (address_of source.now) (init_of init.now)
             self.old.state) }
     {
@@ -133,7 +133,7 @@ impl Endpoint {
 
     /// INIT ACK with the tag and the first TSN of the own try.
     fn answer_alike<W: Watch>(&self, source: &Address, init: &Init<'_>, now: u64, watch: &mut W)
-        ensures { Gives W.sent W.told watch.old watch.new
+        ensures { Gives W.has watch.old watch.new
             (answered_alike self.now.settings (secrets_of self.now) now (address_of source.now) (init_of init.now)
             self.now.state) }
     {
@@ -150,7 +150,7 @@ impl Endpoint {
     )
         requires generation { self.old.state.generation < 2 ^ 64 - 1 }
         requires now { now ≤ 2 ^ 63 }
-        ensures { Does W.sent W.told watch.old watch.new self.old self.new
+        ensures { Does W.has watch.old watch.new self.old self.new
             (answered_echoed self.old.settings (secrets_of self.old) now (address_of source.now) (init_of init.now)
             self.old.state) }
     {
@@ -165,7 +165,7 @@ impl Endpoint {
 
     /// INIT ACK, where the end has begun anew.
     fn answer_if_trying<W: Watch>(&self, source: &Address, init: &Init<'_>, now: u64, watch: &mut W)
-        ensures { Gives W.sent W.told watch.old watch.new
+        ensures { Gives W.has watch.old watch.new
             (answered_if_trying self.now.settings (secrets_of self.now) now (address_of source.now) (init_of init.now)
             self.now.state) }
     {
@@ -184,7 +184,7 @@ impl Endpoint {
         now: u64,
         watch: &mut W,
     )
-        ensures { Gives W.sent W.told watch.old watch.new
+        ensures { Gives W.has watch.old watch.new
             (answered_with self.now.settings (secrets_of self.now) now (address_of source.now) (init_of init.now)
             (record { tag = tag; first = first_tsn }) self.now.state) }
     {

@@ -1,6 +1,6 @@
 //! Chunks that are bundled into packets (RFC 9260 §6.10).
 
-ghost use Rattle.std.specs.Prelude.{◌≡◌, ◌+◌, ◌*◌, ◌/◌, ◌≤◌, ◌<◌, ◌^◌, ◌++◌, [], ◌∷◌, List, length, take, map, is_some};
+ghost use Rattle.std.specs.Prelude.{◌≡◌, ◌+◌, ◌*◌, ◌/◌, ◌≤◌, ◌<◌, ◌^◌, [], ◌∷◌, List, length, take, map, is_some};
 ghost use Rattle.sctp_codec.specs.Packets.{ChunkValue, DataChunk};
 ghost use Rattle.sctp_codec.specs.Values.{data_of};
 ghost use Rattle.sctp_sending.specs.Sending.{next_place, gone_next};
@@ -16,14 +16,12 @@ ghost use Rattle.sctp_endpoint.specs.Bundling.{
   with_sender,
 };
 ghost use Rattle.sctp_endpoint.specs.Replies.{size_of};
-ghost use Rattle.sctp_endpoint.specs.Watching.{sent_as};
+ghost use Rattle.sctp_endpoint.specs.Watching.{Puts};
 
 use crate::endpoint::Endpoint;
 use crate::watch::Watch;
-use sctp_codec::{Data, PACKET_OCTETS, PacketBuffer, begin, finish, write_data};
-
-/// Octets of the header of a packet.
-const HEADER_OCTETS: usize = 12;
+use sctp_codec::{Data, PacketBuffer, begin, finish, write_data};
+use sctp_rules::limits::{HEADER_OCTETS, PACKET_OCTETS};
 
 /// Octets of the header and the fields of a DATA chunk (RFC 9260 §3.3.1).
 const DATA_HEADER_OCTETS: usize = 16;
@@ -49,9 +47,8 @@ impl Endpoint {
     fn put_packet<W: Watch>(&self, out: &mut PacketBuffer, end: usize, watch: &mut W)
         requires front { 12 ≤ end }
         requires room { end ≤ 1200 }
-        ensures sent { (waiting : List ChunkValue) → take end out.old ≡ draft_of (way_of self.now) waiting
-            → W.sent watch.new ≡ W.sent watch.old ++ sent_as (packet_on (way_of self.now) waiting) ∷ [] }
-        ensures told { W.told watch.new ≡ W.told watch.old }
+        ensures { (waiting : List ChunkValue) → take end out.old ≡ draft_of (way_of self.now) waiting
+            → Puts W.has watch.old watch.new (packet_on (way_of self.now) waiting ∷ []) }
     {
         finish(out, end);
         watch.send(&out[..end], &self.address);
@@ -61,9 +58,8 @@ impl Endpoint {
     pub(super) fn put_rest<W: Watch>(&self, out: &mut PacketBuffer, end: usize, watch: &mut W)
         requires front { 12 ≤ end }
         requires room { end ≤ 1200 }
-        ensures sent { (waiting : List ChunkValue) → take end out.old ≡ draft_of (way_of self.now) waiting
-            → W.sent watch.new ≡ W.sent watch.old ++ map sent_as (map (packet_on (way_of self.now)) (closed waiting)) }
-        ensures told { W.told watch.new ≡ W.told watch.old }
+        ensures { (waiting : List ChunkValue) → take end out.old ≡ draft_of (way_of self.now) waiting
+            → Puts W.has watch.old watch.new (map (packet_on (way_of self.now)) (closed waiting)) }
     {
         if HEADER_OCTETS < end {
             self.put_packet(out, end, watch);
@@ -84,7 +80,7 @@ impl Endpoint {
         requires octets { octets ≤ 1188 }
         ensures front { 12 ≤ result }
         ensures room { result + octets ≤ 1200 }
-        ensures made { HasMadeRoom W.sent W.told (way_of self.now) watch.old watch.new (take end out.old)
+        ensures made { HasMadeRoom W.has (way_of self.now) watch.old watch.new (take end out.old)
             (take result out.new) octets }
     {
         if end + octets <= PACKET_OCTETS {
@@ -107,7 +103,7 @@ impl Endpoint {
         requires now { now ≤ 2 ^ 63 }
         ensures front { 12 ≤ result }
         ensures room { result ≤ 1200 }
-        ensures bundled { Bundles W.sent W.told (way_of self.old) watch.old watch.new (take end out.old)
+        ensures bundled { Bundles W.has (way_of self.old) watch.old watch.new (take end out.old)
             (take result out.new) (map DataChunk (all_gone now self.old.state.association.sender).chunks) }
         ensures left { self.new ≡ with_sender self.old (all_gone now self.old.state.association.sender).left }
     {
@@ -134,7 +130,7 @@ impl Endpoint {
         ensures goes_on { result ≡ is_some (next_place self.old.state.association.sender) }
         ensures front { 12 ≤ end.new }
         ensures room { end.new ≤ 1200 }
-        ensures bundled { Bundles W.sent W.told (way_of self.old) watch.old watch.new (take end.old out.old)
+        ensures bundled { Bundles W.has (way_of self.old) watch.old watch.new (take end.old out.old)
             (take end.new out.new) (next_chunks self.old.state.association.sender
             (next_place self.old.state.association.sender)) }
         ensures left { self.new ≡ with_sender self.old (gone_next self.old.state.association.sender now
@@ -162,7 +158,7 @@ impl Endpoint {
         requires place { place < length self.now.state.association.sender.out }
         ensures front { 12 ≤ result }
         ensures room { result ≤ 1200 }
-        ensures bundled { Bundles W.sent W.told (way_of self.now) watch.old watch.new (take end out.old)
+        ensures bundled { Bundles W.has (way_of self.now) watch.old watch.new (take end out.old)
             (take result out.new) (DataChunk (data_at self.now.state.association.sender place) ∷ []) }
     {
         let data = self.sender.data(place);

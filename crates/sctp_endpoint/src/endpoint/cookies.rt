@@ -44,7 +44,7 @@ impl Endpoint {
     ) -> bool
         requires generation { self.old.state.generation < 2 ^ 64 - 1 }
         requires now { now ≤ 2 ^ 63 }
-        ensures does { Does W.sent W.told watch.old watch.new self.old self.new
+        ensures does { Does W.has watch.old watch.new self.old self.new
             (heard_cookie_echo self.old.settings (secrets_of self.old) now tag (address_of source.now) octets.now
             self.old.state).does }
         ensures goes_on { result
@@ -81,7 +81,7 @@ impl Endpoint {
     ) -> bool
         requires generation { self.old.state.generation < 2 ^ 64 - 1 }
         requires now { now ≤ 2 ^ 63 }
-        ensures does { Does W.sent W.told watch.old watch.new self.old self.new
+        ensures does { Does W.has watch.old watch.new self.old self.new
             (heard_cookie self.old.settings now (address_of source.now) cookie.now self.old.state).does }
         ensures goes_on { result
             ≡ (heard_cookie self.old.settings now (address_of source.now) cookie.now self.old.state).goes_on }
@@ -104,7 +104,7 @@ impl Endpoint {
     ) -> bool
         requires generation { self.old.state.generation < 2 ^ 64 - 1 }
         requires now { now ≤ 2 ^ 63 }
-        ensures does { Does W.sent W.told watch.old watch.new self.old self.new
+        ensures does { Does W.has watch.old watch.new self.old self.new
             (heard_another self.old.settings now (address_of source.now) cookie.now self.old.state).does }
         ensures goes_on { result
             ≡ (heard_another self.old.settings now (address_of source.now) cookie.now self.old.state).goes_on }
@@ -127,7 +127,7 @@ impl Endpoint {
     ) -> bool
         requires generation { self.old.state.generation < 2 ^ 64 - 1 }
         requires now { now ≤ 2 ^ 63 }
-        ensures does { Does W.sent W.told watch.old watch.new self.old self.new
+        ensures does { Does W.has watch.old watch.new self.old self.new
             (heard_in_time self.old.settings now (address_of source.now) cookie.now self.old.state).does }
         ensures goes_on { result
             ≡ (heard_in_time self.old.settings now (address_of source.now) cookie.now self.old.state).goes_on }
@@ -150,7 +150,7 @@ impl Endpoint {
     ) -> bool
         requires generation { self.old.state.generation < 2 ^ 64 - 1 }
         requires now { now ≤ 2 ^ 63 }
-        ensures does { Does W.sent W.told watch.old watch.new self.old self.new
+        ensures does { Does W.has watch.old watch.new self.old self.new
             (good_echo_in self.old.state.association.phase self.old.settings now (address_of source.now) cookie.now
             self.old.state).does }
         ensures goes_on { result
@@ -197,7 +197,7 @@ impl Endpoint {
     fn open_by<W: Watch>(&mut self, source: &Address, cookie: &Cookie, now: u64, watch: &mut W)
         requires generation { self.old.state.generation < 2 ^ 64 - 1 }
         requires now { now ≤ 2 ^ 63 }
-        ensures { Does W.sent W.told watch.old watch.new self.old self.new
+        ensures { Does W.has watch.old watch.new self.old self.new
             (opened_by self.old.settings now (address_of source.now) cookie.now self.old.state).does }
     {
         let names = Names {
@@ -217,7 +217,7 @@ impl Endpoint {
     /// is lost (case A).
     fn hear_other_cookie<W: Watch>(&mut self, source: &Address, cookie: &Cookie, watch: &mut W)
         requires { self.old.state.generation < 2 ^ 64 - 1 }
-        ensures { Does W.sent W.told watch.old watch.new self.old self.new
+        ensures { Does W.has watch.old watch.new self.old self.new
             (echo_in_association self.old.state.association.phase self.old.settings (address_of source.now) cookie.now
             self.old.state).does }
     {
@@ -229,7 +229,7 @@ impl Endpoint {
     /// The peer has begun anew.
     fn hear_restart<W: Watch>(&mut self, source: &Address, cookie: &Cookie, watch: &mut W)
         requires { self.old.state.generation < 2 ^ 64 - 1 }
-        ensures { Does W.sent W.told watch.old watch.new self.old self.new
+        ensures { Does W.has watch.old watch.new self.old self.new
             (restarted self.old.state.association.phase self.old.settings (address_of source.now) cookie.now
             self.old.state) }
     {
@@ -248,7 +248,7 @@ impl Endpoint {
     /// The association is lost, and the peer is to begin anew once more: the user must want the next one first.
     fn lose_restarted<W: Watch>(&mut self, source: &Address, cookie: &Cookie, watch: &mut W)
         requires { self.old.state.generation < 2 ^ 64 - 1 }
-        ensures { Does W.sent W.told watch.old watch.new self.old self.new
+        ensures { Does W.has watch.old watch.new self.old self.new
             (followed_by (ended self.old.settings Restart self.old.state)
             (stale self.old.settings (address_of source.now) 1 cookie.now)) }
     {
@@ -259,7 +259,7 @@ impl Endpoint {
     /// In SHUTDOWN-ACK-SENT the association stays: SHUTDOWN ACK goes out again, and the peer is told by ERROR where the
     /// cookie came from.
     fn refuse_in_shutdown<W: Watch>(&self, source: &Address, cookie: &Cookie, watch: &mut W)
-        ensures { Gives W.sent W.told watch.old watch.new
+        ensures { Gives W.has watch.old watch.new
             (refused_in_shutdown self.now.settings (address_of source.now) cookie.now self.now.state) }
     {
         self.put(&self.address, self.far_tag, &Reply::ShutdownAck, watch);
@@ -279,7 +279,7 @@ impl Endpoint {
         cookie: &Cookie,
         watch: &mut W,
     )
-        ensures { Gives W.sent W.told watch.old watch.new
+        ensures { Gives W.has watch.old watch.new
             (stale self.now.settings (address_of source.now) microseconds cookie.now self.now.state) }
     {
         self.put(

@@ -9,6 +9,7 @@ ghost use Rattle.sctp_rules.specs.Data.{takes_data, piece_of, no_stream, violate
 ghost use Rattle.sctp_rules.specs.Ending.{answered};
 ghost use Rattle.sctp_rules.specs.State.{Heard};
 ghost use Rattle.sctp_endpoint.specs.Endpoints.{Does};
+ghost use Rattle.sctp_endpoint.specs.Watching.{Tells};
 ghost use Rattle.sctp_endpoint.specs.Draining.{told_next, told_held, heard_piece};
 
 use crate::endpoint::Endpoint;
@@ -43,7 +44,7 @@ impl Endpoint {
     /// without data is a violation of its own kind.
     pub(super) fn hear_data<W: Watch>(&mut self, carried: &Data<'_>, watch: &mut W)
         requires { self.old.state.generation < 2 ^ 64 - 1 }
-        ensures { Does W.sent W.told watch.old watch.new self.old self.new
+        ensures { Does W.has watch.old watch.new self.old self.new
             (heard_data self.old.settings (data_of carried.now) self.old.state) }
     {
         if !takes_data(self.phase) {
@@ -63,7 +64,7 @@ impl Endpoint {
     /// DATA is taken: what it tells goes to the user, and then what the chunks tell that were held behind it.
     fn take_data<W: Watch>(&mut self, carried: &Data<'_>, watch: &mut W)
         requires { self.old.state.generation < 2 ^ 64 - 1 }
-        ensures { Does W.sent W.told watch.old watch.new self.old self.new
+        ensures { Does W.has watch.old watch.new self.old self.new
             (after_data self.old.settings
             (received self.old.state.association.receiver carried.now.tsn (piece_of (data_of carried.now)))
             self.old.state) }
@@ -83,7 +84,7 @@ impl Endpoint {
         watch: &mut W,
     ) -> bool
         requires { self.old.state.generation < 2 ^ 64 - 1 }
-        ensures does { Does W.sent W.told watch.old watch.new self.old self.new
+        ensures does { Does W.has watch.old watch.new self.old self.new
             (heard_piece self.old.settings carried.now.tsn (piece_of (data_of carried.now)) self.old.state).does }
         ensures goes_on { result
             ≡ (heard_piece self.old.settings carried.now.tsn (piece_of (data_of carried.now)) self.old.state).goes_on }
@@ -105,7 +106,7 @@ impl Endpoint {
     /// The chunks that were held behind one that was consumed are consumed, and what they tell goes to the user.
     fn take_held<W: Watch>(&mut self, buffer: &mut MessageBuffer, watch: &mut W)
         requires { self.old.state.generation < 2 ^ 64 - 1 }
-        ensures { Does W.sent W.told watch.old watch.new self.old self.new
+        ensures { Does W.has watch.old watch.new self.old self.new
             (told_held self.old.settings CHUNKS self.old.state) }
     {
         'each_chunk: for _ in 0..CHUNKS {
@@ -119,7 +120,7 @@ impl Endpoint {
     /// another.
     fn take_next<W: Watch>(&mut self, buffer: &mut MessageBuffer, watch: &mut W) -> bool
         requires { self.old.state.generation < 2 ^ 64 - 1 }
-        ensures does { Does W.sent W.told watch.old watch.new self.old self.new
+        ensures does { Does W.has watch.old watch.new self.old self.new
             (told_next self.old.settings self.old.state).does }
         ensures goes_on { result ≡ (told_next self.old.settings self.old.state).goes_on }
     {
@@ -141,7 +142,7 @@ impl Endpoint {
         watch: &mut W,
     )
         requires { self.old.state.generation < 2 ^ 64 - 1 }
-        ensures { Does W.sent W.told watch.old watch.new self.old self.new
+        ensures { Does W.has watch.old watch.new self.old self.new
             (told_one self.old.settings (told_by (lent piece.entry) buffer.now told) self.old.state) }
     {
         match told {
@@ -168,7 +169,7 @@ impl Endpoint {
     /// It is over, by ABORT; of a fragment of no stream the peer is told the stream, too.
     fn end_for<W: Watch>(&mut self, violation: Violation, watch: &mut W)
         requires { self.old.state.generation < 2 ^ 64 - 1 }
-        ensures { Does W.sent W.told watch.old watch.new self.old self.new
+        ensures { Does W.has watch.old watch.new self.old self.new
             (violated self.old.settings violation self.old.state) }
     {
         if let Violation::FragmentOfNoStream(stream) = violation {
@@ -180,9 +181,8 @@ impl Endpoint {
 
 /// A message of the peer goes to the user.
 fn tell_message<W: Watch>(stream: u16, protocol: u32, octets: &[u8], watch: &mut W)
-    ensures sent { W.sent watch.new ≡ W.sent watch.old }
-    ensures told { W.told watch.new ≡ W.told watch.old
-        ++ Heard (record { stream = stream; protocol = protocol; octets = octets.now }) ∷ [] }
+    ensures { Tells W.has watch.old watch.new
+        (Heard (record { stream = stream; protocol = protocol; octets = octets.now }) ∷ []) }
 {
     watch.tell(&Event::Heard(Message {
         stream,

@@ -18,7 +18,7 @@ impl Endpoint {
     pub(super) fn hear_cookie_ack<W: Watch>(&mut self, now: u64, watch: &mut W)
         requires generation { self.old.state.generation < 2 ^ 64 - 1 }
         requires now { now ≤ 2 ^ 63 }
-        ensures { Does W.sent W.told watch.old watch.new self.old self.new
+        ensures { Does W.has watch.old watch.new self.old self.new
             (heard_cookie_ack self.old.settings now self.old.state) }
     {
         if let Phase::CookieEchoed = self.phase {
@@ -44,7 +44,7 @@ impl Endpoint {
     )
         requires generation { self.old.state.generation < 2 ^ 64 - 1 }
         requires now { now ≤ 2 ^ 63 }
-        ensures { Does W.sent W.told watch.old watch.new self.old self.new
+        ensures { Does W.has watch.old watch.new self.old self.new
             (opened self.old.settings now names.own_tag names.far_tag names.own_first (peer_of peer)
             (address_of address.now) self.old.state) }
     {

@@ -1,11 +1,11 @@
 //! The end of an association, or of the try of one (RFC 9260 §9.1).
 
-ghost use Rattle.std.specs.Prelude.{◌≡◌, ◌<◌, ◌≤◌, ◌^◌, ◌-◌, ◌++◌, [], ◌∷◌, map};
+ghost use Rattle.std.specs.Prelude.{◌≡◌, ◌<◌, ◌≤◌, ◌^◌, ◌-◌, ◌++◌, [], ◌∷◌};
 ghost use Rattle.sctp_rules.specs.State.{put};
 ghost use Rattle.sctp_rules.specs.Ending.{ended, ended_with, aborted, abort, told_of_end, last_words, has_peer};
 ghost use Rattle.sctp_endpoint.specs.Settings.{address_of};
 ghost use Rattle.sctp_endpoint.specs.Replies.{chunk_of, size_of, last_of, size_of_last};
-ghost use Rattle.sctp_endpoint.specs.Watching.{Gives, sent_as};
+ghost use Rattle.sctp_endpoint.specs.Watching.{Gives, Puts, Tells};
 ghost use Rattle.sctp_endpoint.specs.Endpoints.{Does};
 
 use crate::address::Address;
@@ -21,7 +21,7 @@ impl Endpoint {
     /// A packet with one chunk goes out at once.
     pub(super) fn put<W: Watch>(&self, to: &Address, tag: u32, chunk: &Reply<'_>, watch: &mut W)
         requires { size_of (chunk_of chunk.now) ≤ 1188 }
-        ensures { Gives W.sent W.told watch.old watch.new
+        ensures { Gives W.has watch.old watch.new
             (put self.now.settings (address_of to.now) tag (chunk_of chunk.now ∷ []) self.now.state) }
     {
         let mut out = blank();
@@ -31,7 +31,7 @@ impl Endpoint {
 
     /// A packet with these chunks goes out at once.
     pub(super) fn put_all<W: Watch>(&self, to: &Address, tag: u32, chunks: &Chunks, watch: &mut W)
-        ensures { Gives W.sent W.told watch.old watch.new
+        ensures { Gives W.has watch.old watch.new
             (put self.now.settings (address_of to.now) tag chunks.now self.now.state) }
     {
         let mut out = blank();
@@ -42,7 +42,7 @@ impl Endpoint {
     /// The user ends the association, the try of one, or the wish for one.
     pub fn abort<W: Watch>(&mut self, watch: &mut W)
         requires { self.old.state.generation < 2 ^ 63 }
-        ensures { Does W.sent W.told watch.old watch.new self.old self.new (abort self.old.settings self.old.state) }
+        ensures { Does W.has watch.old watch.new self.old self.new (abort self.old.settings self.old.state) }
     {
         self.end_with(Loss::Local, Some(&Reply::Abort(Cause::EndedByUser)), watch);
     }
@@ -52,7 +52,7 @@ impl Endpoint {
     pub(super) fn end_with<W: Watch>(&mut self, why: Loss, last: Option<&Reply<'_>>, watch: &mut W)
         requires generation { self.old.state.generation < 2 ^ 64 - 1 }
         requires last { size_of_last last ≤ 64 }
-        ensures { Does W.sent W.told watch.old watch.new self.old self.new
+        ensures { Does W.has watch.old watch.new self.old self.new
             (ended_with self.old.settings why (last_of last.entry) self.old.state) }
     {
         self.send_last_words(last, watch);
@@ -65,10 +65,8 @@ impl Endpoint {
     /// The answers that wait go out, and a last chunk behind them, where there is a tag that the peer takes packets by.
     fn send_last_words<W: Watch>(&self, last: Option<&Reply<'_>>, watch: &mut W)
         requires { size_of_last last ≤ 64 }
-        ensures sent { W.sent watch.new ≡ W.sent watch.old ++ map sent_as
-            (last_words self.now.settings self.now.state.association
+        ensures { Puts W.has watch.old watch.new (last_words self.now.settings self.now.state.association
             (self.now.state.association.control ++ last_of last.entry)) }
-        ensures told { W.told watch.new ≡ W.told watch.old }
     {
         if !has_peer(self.phase) || (self.control.size() == 0 && last.is_none()) {
             return;
@@ -86,8 +84,7 @@ impl Endpoint {
 
     /// The user is told that it ended, if it was up or wanted.
     fn tell_end<W: Watch>(&self, why: Loss, watch: &mut W)
-        ensures told { W.told watch.new ≡ W.told watch.old ++ told_of_end why self.now.state }
-        ensures sent { W.sent watch.new ≡ W.sent watch.old }
+        ensures { Tells W.has watch.old watch.new (told_of_end why self.now.state) }
     {
         if self.is_up {
             watch.tell(&Event::Down(why));

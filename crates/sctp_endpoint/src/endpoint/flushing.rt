@@ -17,7 +17,7 @@ impl Endpoint {
     /// All that is due goes out, bundled into packets: the answers that wait, SACK, and DATA, as much as may.
     pub fn flush<W: Watch>(&mut self, now: u64, watch: &mut W)
         requires { now ≤ 2 ^ 63 }
-        ensures { Does W.sent W.told watch.old watch.new self.old self.new
+        ensures { Does W.has watch.old watch.new self.old self.new
             (flush self.old.settings now self.old.state) }
     {
         let mut out = blank();
@@ -52,7 +52,7 @@ impl Endpoint {
         requires now { now ≤ 2 ^ 63 }
         ensures front { 12 ≤ result }
         ensures room { result ≤ 1200 }
-        ensures bundled { Bundles W.sent W.told (way_of self.old) watch.old watch.new (take end out.old)
+        ensures bundled { Bundles W.has (way_of self.old) watch.old watch.new (take end out.old)
             (take result out.new) (data_of now self.old.state.association) }
         ensures left { self.new ≡ record self.old {
           state = with_association self.old.state (with_data_sent now self.old.state.association);

@@ -24,7 +24,7 @@ impl Endpoint {
     ) -> bool
         requires generation { self.old.state.generation < 2 ^ 64 - 1 }
         requires now { now ≤ 2 ^ 63 }
-        ensures does { Does W.sent W.told watch.old watch.new self.old self.new
+        ensures does { Does W.has watch.old watch.new self.old self.new
             (heard_chunk self.old.settings (secrets_of self.old) now tag (chunk_value chunk.now) self.old.state).does }
         ensures goes_on { result
             ≡ (heard_chunk self.old.settings (secrets_of self.old) now tag (chunk_value chunk.now)
@@ -39,7 +39,7 @@ impl Endpoint {
     fn handle<W: Watch>(&mut self, tag: u32, chunk: &Chunk<'_>, now: u64, watch: &mut W)
         requires generation { self.old.state.generation < 2 ^ 64 - 1 }
         requires now { now ≤ 2 ^ 63 }
-        ensures { Does W.sent W.told watch.old watch.new self.old self.new
+        ensures { Does W.has watch.old watch.new self.old self.new
             (heard_chunk self.old.settings (secrets_of self.old) now tag (chunk_value chunk.now) self.old.state).does }
     {
         match chunk {

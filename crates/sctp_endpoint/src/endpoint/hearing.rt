@@ -33,7 +33,7 @@ impl Endpoint {
     pub fn hear<W: Watch>(&mut self, octets: &[u8], source: &Address, now: u64, watch: &mut W)
         requires generation { self.old.state.generation < 2 ^ 63 }
         requires now { now ≤ 2 ^ 63 }
-        ensures { Does W.sent W.told watch.old watch.new self.old self.new
+        ensures { Does W.has watch.old watch.new self.old self.new
             (heard_datagram (read_packet octets.now) self.old.settings (secrets_of self.old) now (address_of source.now)
             self.old.state) }
     {
@@ -52,7 +52,7 @@ impl Endpoint {
     )
         requires generation { self.old.state.generation + length (packet_of packet.now).chunks < 2 ^ 64 - 1 }
         requires now { now ≤ 2 ^ 63 }
-        ensures { Does W.sent W.told watch.old watch.new self.old self.new
+        ensures { Does W.has watch.old watch.new self.old self.new
             (heard self.old.settings (secrets_of self.old) now (address_of source.now) (packet_of packet.now)
             self.old.state) }
     {
@@ -72,7 +72,7 @@ impl Endpoint {
     )
         requires generation { self.old.state.generation + length (chunks_of chunks) < 2 ^ 64 - 1 }
         requires now { now ≤ 2 ^ 63 }
-        ensures { Does W.sent W.told watch.old watch.new self.old self.new
+        ensures { Does W.has watch.old watch.new self.old self.new
             (heard_all self.old.settings (secrets_of self.old) now (address_of source.now) tag (chunks_of chunks.entry)
             self.old.state) }
     {
@@ -94,7 +94,7 @@ impl Endpoint {
     )
         requires generation { self.old.state.generation + length (chunks_of more) + 1 < 2 ^ 64 - 1 }
         requires now { now ≤ 2 ^ 63 }
-        ensures { Does W.sent W.told watch.old watch.new self.old self.new
+        ensures { Does W.has watch.old watch.new self.old self.new
             (heard_first self.old.settings (secrets_of self.old) now (address_of source.now) tag (chunk_value first.now)
             (chunks_of more.entry) self.old.state) }
     {
@@ -122,7 +122,7 @@ impl Endpoint {
     )
         requires generation { self.old.state.generation + length (chunks_of more) + 1 < 2 ^ 64 - 1 }
         requires now { now ≤ 2 ^ 63 }
-        ensures { Does W.sent W.told watch.old watch.new self.old self.new
+        ensures { Does W.has watch.old watch.new self.old self.new
             (heard_echo self.old.settings (secrets_of self.old) now (address_of source.now) tag cookie.now
             (chunks_of more.entry) self.old.state) }
     {
@@ -143,7 +143,7 @@ impl Endpoint {
     )
         requires generation { self.old.state.generation + length (chunks_of more) + 1 < 2 ^ 64 - 1 }
         requires now { now ≤ 2 ^ 63 }
-        ensures { Does W.sent W.told watch.old watch.new self.old self.new
+        ensures { Does W.has watch.old watch.new self.old self.new
             (heard_otherwise self.old.settings (secrets_of self.old) now (address_of source.now) tag
             (chunk_value first.now) (chunks_of more.entry) self.old.state) }
     {
@@ -170,7 +170,7 @@ impl Endpoint {
     )
         requires generation { self.old.state.generation + length (chunks_of more) + 1 < 2 ^ 64 - 1 }
         requires now { now ≤ 2 ^ 63 }
-        ensures { Does W.sent W.told watch.old watch.new self.old self.new
+        ensures { Does W.has watch.old watch.new self.old self.new
             (heard_by_tag self.old.settings (secrets_of self.old) now (address_of source.now) tag
             (looked_at (chunk_value first.now) (chunks_of more.entry)) self.old.state) }
     {
@@ -191,7 +191,7 @@ impl Endpoint {
     )
         requires generation { self.old.state.generation + length (chunks_of chunks) < 2 ^ 64 - 1 }
         requires now { now ≤ 2 ^ 63 }
-        ensures { Does W.sent W.told watch.old watch.new self.old self.new
+        ensures { Does W.has watch.old watch.new self.old self.new
             (heard_by_tag self.old.settings (secrets_of self.old) now (address_of source.now) tag
             (chunks_of chunks.entry) self.old.state) }
     {
@@ -213,7 +213,7 @@ impl Endpoint {
     fn hear_chunks<W: Watch>(&mut self, tag: u32, chunks: Chunks<'_>, now: u64, watch: &mut W)
         requires generation { self.old.state.generation + length (chunks_of chunks) < 2 ^ 64 - 1 }
         requires now { now ≤ 2 ^ 63 }
-        ensures { Does W.sent W.told watch.old watch.new self.old self.new
+        ensures { Does W.has watch.old watch.new self.old self.new
             (heard_chunks self.old.settings (secrets_of self.old) now tag (chunks_of chunks.entry) self.old.state) }
     {
         'each_chunk: for chunk in chunks {

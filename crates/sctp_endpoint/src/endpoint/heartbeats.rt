@@ -23,7 +23,7 @@ impl Endpoint {
         requires generation { self.old.state.generation < 2 ^ 64 - 1 }
         requires nonces { self.old.state.nonces < 2 ^ 64 - 1 }
         requires now { now ≤ 2 ^ 63 }
-        ensures { Does W.sent W.told watch.old watch.new self.old self.new
+        ensures { Does W.has watch.old watch.new self.old self.new
             (tick_beat self.old.settings (secrets_of self.old) now self.old.state) }
     {
         if is_due(now, self.beat_due) {
@@ -36,7 +36,7 @@ impl Endpoint {
         requires generation { self.old.state.generation < 2 ^ 64 - 1 }
         requires nonces { self.old.state.nonces < 2 ^ 64 - 1 }
         requires now { now ≤ 2 ^ 63 }
-        ensures { Does W.sent W.told watch.old watch.new self.old self.new
+        ensures { Does W.has watch.old watch.new self.old self.new
             (beat_in self.old.state.association.phase self.old.settings (secrets_of self.old) now self.old.state) }
     {
         match self.phase {
@@ -56,7 +56,7 @@ impl Endpoint {
         requires generation { self.old.state.generation < 2 ^ 64 - 1 }
         requires nonces { self.old.state.nonces < 2 ^ 64 - 1 }
         requires now { now ≤ 2 ^ 63 }
-        ensures { Does W.sent W.told watch.old watch.new self.old self.new
+        ensures { Does W.has watch.old watch.new self.old self.new
             (beat_again self.old.state.association.beat self.old.settings (secrets_of self.old) now self.old.state) }
     {
         match self.beat {
@@ -70,7 +70,7 @@ impl Endpoint {
         requires generation { self.old.state.generation < 2 ^ 64 - 1 }
         requires nonces { self.old.state.nonces < 2 ^ 64 - 1 }
         requires now { now ≤ 2 ^ 63 }
-        ensures { Does W.sent W.told watch.old watch.new self.old self.new
+        ensures { Does W.has watch.old watch.new self.old self.new
             (unanswered self.old.settings
             (λ left. silent (beating (secrets_of self.old) now (with_association left (with_back_off left.association))))
             self.old.state) }

@@ -25,7 +25,7 @@ impl Endpoint {
     pub(super) fn hear_init_ack<W: Watch>(&mut self, init: &Init<'_>, now: u64, watch: &mut W)
         requires generation { self.old.state.generation < 2 ^ 64 - 1 }
         requires now { now ≤ 2 ^ 63 }
-        ensures { Does W.sent W.told watch.old watch.new self.old self.new
+        ensures { Does W.has watch.old watch.new self.old self.new
             (heard_init_ack self.old.settings now (init_of init.now) self.old.state) }
     {
         if let Phase::CookieWait = self.phase {
@@ -37,7 +37,7 @@ impl Endpoint {
     fn take_init_ack<W: Watch>(&mut self, init: &Init<'_>, now: u64, watch: &mut W)
         requires generation { self.old.state.generation < 2 ^ 64 - 1 }
         requires now { now ≤ 2 ^ 63 }
-        ensures { Does W.sent W.told watch.old watch.new self.old self.new
+        ensures { Does W.has watch.old watch.new self.old self.new
             (echoed_if self.old.settings now (init_of init.now) self.old.state.association.trying
             (cookie_in (init_of init.now).parameters) self.old.state) }
     {
@@ -60,7 +60,7 @@ impl Endpoint {
     )
         requires generation { self.old.state.generation < 2 ^ 64 - 1 }
         requires now { now ≤ 2 ^ 63 }
-        ensures { Does W.sent W.told watch.old watch.new self.old self.new
+        ensures { Does W.has watch.old watch.new self.old self.new
             (echoed_or_refused self.old.settings now failures (init_of init.now) cookie.now self.old.state) }
     {
         if is_usable(init) && cookie.len() <= COOKIE_OCTETS {
@@ -81,7 +81,7 @@ impl Endpoint {
     )
         requires cookie { length cookie.now ≤ 660 }
         requires now { now ≤ 2 ^ 63 }
-        ensures { Does W.sent W.told watch.old watch.new self.old self.new
+        ensures { Does W.has watch.old watch.new self.old self.new
             (echoed self.old.settings now failures (init_of init.now) cookie.now self.old.state) }
     {
         self.note_peer(init);
@@ -107,7 +107,7 @@ impl Endpoint {
     /// INIT ACK can't be used: the try ends, and a peer with a tag is told.
     fn refuse_init_ack<W: Watch>(&mut self, init: &Init<'_>, watch: &mut W)
         requires { self.old.state.generation < 2 ^ 64 - 1 }
-        ensures { Does W.sent W.told watch.old watch.new self.old self.new
+        ensures { Does W.has watch.old watch.new self.old self.new
             (refused self.old.settings (init_of init.now) self.old.state) }
     {
         if init.offer.tag == 0 {
@@ -120,7 +120,7 @@ impl Endpoint {
     /// The peer is told by ABORT, and the try ends.
     fn abort_init_ack<W: Watch>(&mut self, tag: u32, watch: &mut W)
         requires { self.old.state.generation < 2 ^ 64 - 1 }
-        ensures { Does W.sent W.told watch.old watch.new self.old self.new
+        ensures { Does W.has watch.old watch.new self.old self.new
             (followed_by
             (put self.old.settings self.old.state.association.address tag (abort_for InvalidParameter ∷ []) self.old.state)
             (λ left. ended self.old.settings BadInitAck left)) }

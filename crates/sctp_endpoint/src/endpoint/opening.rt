@@ -27,7 +27,7 @@ impl Endpoint {
     pub fn open<W: Watch>(&mut self, is_active: bool, now: u64, watch: &mut W)
         requires generation { self.old.state.generation < 2 ^ 63 }
         requires now { now ≤ 2 ^ 63 }
-        ensures { Does W.sent W.told watch.old watch.new self.old self.new
+        ensures { Does W.has watch.old watch.new self.old self.new
             (opening self.old.settings (secrets_of self.old) now is_active self.old.state) }
     {
         if !self.may_open(is_active) {
@@ -58,7 +58,7 @@ impl Endpoint {
     )
         requires generation { self.old.state.generation < 2 ^ 64 - 1 }
         requires now { now ≤ 2 ^ 63 }
-        ensures { Does W.sent W.told watch.old watch.new self.old self.new
+        ensures { Does W.has watch.old watch.new self.old self.new
             (begun self.old.settings (secrets_of self.old) now failures (address_of address.now) self.old.state) }
     {
         match self.draw() {
@@ -77,7 +77,7 @@ impl Endpoint {
     )
         requires generation { self.old.state.generation < 2 ^ 64 - 1 }
         requires now { now ≤ 2 ^ 63 }
-        ensures { Does W.sent W.told watch.old watch.new self.old self.new
+        ensures { Does W.has watch.old watch.new self.old self.new
             (begun_anew self.old.settings (secrets_of self.old) now failures (address_of address.now) self.old.state) }
     {
         match self.draw() {
@@ -111,7 +111,7 @@ impl Endpoint {
         watch: &mut W,
     )
         requires now { now ≤ 2 ^ 63 }
-        ensures { Does W.sent W.told watch.old watch.new self.old self.new
+        ensures { Does W.has watch.old watch.new self.old self.new
             (begun_by self.old.settings now failures (address_of address.now) tag self.old.state) }
     {
         self.wait_for_cookie(tag, address);
@@ -143,7 +143,7 @@ impl Endpoint {
         watch: &mut W,
     )
         requires { now ≤ 2 ^ 63 }
-        ensures { Does W.sent W.told watch.old watch.new self.old self.new
+        ensures { Does W.has watch.old watch.new self.old self.new
             (trying_with self.old.settings now failures chunks self.old.state) }
     {
         let address = self.address;

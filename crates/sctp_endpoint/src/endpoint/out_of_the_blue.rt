@@ -32,7 +32,7 @@ impl Endpoint {
         first: &Chunk<'_>,
         watch: &mut W,
     )
-        ensures { Gives W.sent W.told watch.old watch.new
+        ensures { Gives W.has watch.old watch.new
             (put self.now.settings (address_of source.now) tag (answer_to (chunk_value first.now) ∷ []) self.now.state) }
     {
         match first {

@@ -18,7 +18,7 @@ impl Endpoint {
     pub(super) fn tick_t1<W: Watch>(&mut self, now: u64, watch: &mut W)
         requires generation { self.old.state.generation < 2 ^ 64 - 1 }
         requires now { now ≤ 2 ^ 63 }
-        ensures { Does W.sent W.told watch.old watch.new self.old self.new
+        ensures { Does W.has watch.old watch.new self.old self.new
             (tick_t1 self.old.settings now self.old.state) }
     {
         if let Some(Attempt { t1, .. }) = self.attempt {
@@ -32,7 +32,7 @@ impl Endpoint {
     fn retry<W: Watch>(&mut self, now: u64, watch: &mut W)
         requires generation { self.old.state.generation < 2 ^ 64 - 1 }
         requires now { now ≤ 2 ^ 63 }
-        ensures { Does W.sent W.told watch.old watch.new self.old self.new
+        ensures { Does W.has watch.old watch.new self.old self.new
             (again self.old.state.association.trying self.old.settings now self.old.state) }
     {
         if let Some(Attempt { failures, .. }) = self.attempt {
@@ -48,7 +48,7 @@ impl Endpoint {
     /// The chunks of a try go out again.
     fn try_on<W: Watch>(&mut self, failures: u32, now: u64, watch: &mut W)
         requires { now ≤ 2 ^ 63 }
-        ensures { Does W.sent W.told watch.old watch.new self.old self.new
+        ensures { Does W.has watch.old watch.new self.old self.new
             (trying_on self.old.state.association.trying self.old.settings now failures self.old.state) }
     {
         if self.attempt.is_some() {
@@ -63,7 +63,7 @@ impl Endpoint {
     pub(super) fn hear_error<W: Watch>(&mut self, causes: Items<'_>, now: u64, watch: &mut W)
         requires generation { self.old.state.generation < 2 ^ 64 - 1 }
         requires now { now ≤ 2 ^ 63 }
-        ensures { Does W.sent W.told watch.old watch.new self.old self.new
+        ensures { Does W.has watch.old watch.new self.old self.new
             (heard_error self.old.settings (secrets_of self.old) now (items_of causes.entry) self.old.state) }
     {
         if matches!(self.phase, Phase::CookieEchoed) && has_stale_cookie(causes) {
@@ -75,7 +75,7 @@ impl Endpoint {
     fn begin_after_stale<W: Watch>(&mut self, now: u64, watch: &mut W)
         requires generation { self.old.state.generation < 2 ^ 64 - 1 }
         requires now { now ≤ 2 ^ 63 }
-        ensures { Does W.sent W.told watch.old watch.new self.old self.new
+        ensures { Does W.has watch.old watch.new self.old self.new
             (begun_after_stale self.old.settings (secrets_of self.old) now self.old.state.association.trying
             self.old.state) }
     {

@@ -11,14 +11,12 @@ ghost use Rattle.sctp_endpoint.specs.Bundling.{Bundles, way_of, shutdown_chunks}
 
 use crate::endpoint::Endpoint;
 use crate::endpoint::data::takes_data;
+use crate::endpoint::shutting::SHUTDOWN_OCTETS;
 use crate::watch::Watch;
 use sctp_codec::{Block, PacketBuffer, write_sack, write_shutdown};
 use sctp_receiving::Receiver;
 use sctp_receiving::limits::BLOCKS;
 use sctp_rules::Phase;
-
-/// Octets of a SHUTDOWN chunk.
-const SHUTDOWN_OCTETS: usize = 8;
 
 /// Octets of a SACK chunk without gap blocks and duplicates.
 const SACK_OCTETS: usize = 16;
@@ -44,7 +42,7 @@ impl Endpoint {
         requires now { now ≤ 2 ^ 63 }
         ensures front { 12 ≤ result }
         ensures room { result ≤ 1200 }
-        ensures bundled { Bundles W.sent W.told (way_of self.old) watch.old watch.new (take end out.old)
+        ensures bundled { Bundles W.has (way_of self.old) watch.old watch.new (take end out.old)
             (take result out.new) (acknowledgement self.old.state.association) }
         ensures left { self.new ≡ record self.old {
           state = with_association self.old.state (with_acknowledged now self.old.state.association);
@@ -72,7 +70,7 @@ impl Endpoint {
         requires room { end ≤ 1200 }
         ensures front { 12 ≤ result }
         ensures room { result ≤ 1200 }
-        ensures bundled { Bundles W.sent W.told (way_of self.now) watch.old watch.new (take end out.old)
+        ensures bundled { Bundles W.has (way_of self.now) watch.old watch.new (take end out.old)
             (take result out.new) (shutdown_chunks self.now.state.association.phase self.now.state.association) }
     {
         if let Phase::ShutdownSent = self.phase {
@@ -89,7 +87,7 @@ impl Endpoint {
         requires room { end ≤ 1200 }
         ensures front { 12 ≤ result }
         ensures room { result ≤ 1200 }
-        ensures bundled { Bundles W.sent W.told (way_of self.now) watch.old watch.new (take end out.old)
+        ensures bundled { Bundles W.has (way_of self.now) watch.old watch.new (take end out.old)
             (take result out.new) (sack_of self.now.state.association.receiver ∷ []) }
     {
         let mut blocks = [NO_BLOCK; BLOCKS];

@@ -19,7 +19,7 @@ impl Endpoint {
     pub(super) fn hear_sack<W: Watch>(&mut self, sack: &Sack<'_>, now: u64, watch: &mut W)
         requires generation { self.old.state.generation < 2 ^ 64 - 1 }
         requires now { now ≤ 2 ^ 63 }
-        ensures { Does W.sent W.told watch.old watch.new self.old self.new
+        ensures { Does W.has watch.old watch.new self.old self.new
             (heard_sack_chunk self.old.settings now (sack_of sack.now) self.old.state) }
     {
         if takes_sack(self.phase) {
@@ -31,7 +31,7 @@ impl Endpoint {
     fn take_sack<W: Watch>(&mut self, sack: &Sack<'_>, now: u64, watch: &mut W)
         requires generation { self.old.state.generation < 2 ^ 64 - 1 }
         requires now { now ≤ 2 ^ 63 }
-        ensures { Does W.sent W.told watch.old watch.new self.old self.new
+        ensures { Does W.has watch.old watch.new self.old self.new
             (heard_sack_of self.old.settings now (sack_of sack.now) self.old.state) }
     {
         match self.note_sack(sack, now) {

@@ -32,10 +32,10 @@ use sctp_rules::{Loss, Phase};
 use sctp_sending::Confirmation;
 
 /// Octets of a SHUTDOWN chunk.
-const SHUTDOWN_OCTETS: usize = 8;
+pub(super) const SHUTDOWN_OCTETS: usize = 8;
 
 /// Octets of a SHUTDOWN ACK chunk.
-const SHUTDOWN_ACK_OCTETS: usize = 4;
+pub(super) const SHUTDOWN_ACK_OCTETS: usize = 4;
 
 /// How often RTO.Max goes into T5-shutdown-guard.
 const GUARD_TIMEOUTS: u64 = 5;
@@ -45,7 +45,7 @@ impl Endpoint {
     pub(super) fn hear_shutdown<W: Watch>(&mut self, cumulative: u32, now: u64, watch: &mut W)
         requires generation { self.old.state.generation < 2 ^ 64 - 1 }
         requires now { now ≤ 2 ^ 63 }
-        ensures { Does W.sent W.told watch.old watch.new self.old self.new
+        ensures { Does W.has watch.old watch.new self.old self.new
             (heard_shutdown self.old.settings now cumulative self.old.state) }
     {
         if takes_sack(self.phase) && self.is_beyond(cumulative) {
@@ -65,7 +65,7 @@ impl Endpoint {
     /// SHUTDOWN, by the state.
     fn take_shutdown<W: Watch>(&mut self, cumulative: u32, now: u64, watch: &mut W)
         requires { now ≤ 2 ^ 63 }
-        ensures { Does W.sent W.told watch.old watch.new self.old self.new
+        ensures { Does W.has watch.old watch.new self.old self.new
             (heard_shutdown_in self.old.state.association.phase self.old.settings now cumulative self.old.state) }
     {
         match self.phase {
@@ -81,7 +81,7 @@ impl Endpoint {
     /// The peer sends nothing more: to the user the association is over, and what went out is still confirmed.
     fn receive_shutdown<W: Watch>(&mut self, cumulative: u32, now: u64, watch: &mut W)
         requires { now ≤ 2 ^ 63 }
-        ensures { Does W.sent W.told watch.old watch.new self.old self.new
+        ensures { Does W.has watch.old watch.new self.old self.new
             (then_going_on self.old.settings now
             (shutdown_received (with_confirmed now cumulative self.old.state))) }
     {
@@ -111,7 +111,7 @@ impl Endpoint {
 
     /// SHUTDOWN-RECEIVED: what didn't go out is dropped, and the user is told.
     fn stop<W: Watch>(&mut self, watch: &mut W)
-        ensures { Does W.sent W.told watch.old watch.new self.old self.new (shutdown_received self.old.state) }
+        ensures { Does W.has watch.old watch.new self.old self.new (shutdown_received self.old.state) }
     {
         if self.is_up {
             watch.tell(&Event::Down(Loss::Shutdown));
@@ -185,7 +185,7 @@ impl Endpoint {
     /// SHUTDOWN ACK came: where it is waited for, SHUTDOWN COMPLETE goes out, and it is over.
     pub(super) fn hear_shutdown_ack<W: Watch>(&mut self, watch: &mut W)
         requires { self.old.state.generation < 2 ^ 64 - 1 }
-        ensures { Does W.sent W.told watch.old watch.new self.old self.new
+        ensures { Does W.has watch.old watch.new self.old self.new
             (heard_shutdown_ack self.old.settings self.old.state) }
     {
         match self.phase {
@@ -204,7 +204,7 @@ impl Endpoint {
     /// SHUTDOWN COMPLETE came: where it is waited for, it is over.
     pub(super) fn hear_shutdown_complete<W: Watch>(&mut self, watch: &mut W)
         requires { self.old.state.generation < 2 ^ 64 - 1 }
-        ensures { Does W.sent W.told watch.old watch.new self.old self.new
+        ensures { Does W.has watch.old watch.new self.old self.new
             (heard_shutdown_complete self.old.settings self.old.state) }
     {
         if let Phase::ShutdownAckSent = self.phase {
@@ -215,7 +215,7 @@ impl Endpoint {
     /// The peer violates the protocol: it is over, by ABORT.
     pub(super) fn abort_violation<W: Watch>(&mut self, watch: &mut W)
         requires { self.old.state.generation < 2 ^ 64 - 1 }
-        ensures { Does W.sent W.told watch.old watch.new self.old self.new
+        ensures { Does W.has watch.old watch.new self.old self.new
             (aborted self.old.settings Protocol violation self.old.state) }
     {
         self.end_with(

@@ -17,7 +17,7 @@ impl Endpoint {
         requires generation { self.old.state.generation < 2 ^ 63 }
         requires nonces { self.old.state.nonces < 2 ^ 63 }
         requires now { now ≤ 2 ^ 63 }
-        ensures { Does W.sent W.told watch.old watch.new self.old self.new
+        ensures { Does W.has watch.old watch.new self.old self.new
             (ticked self.old.settings (secrets_of self.old) now self.old.state) }
     {
         self.tick_t1(now, watch);
@@ -32,7 +32,7 @@ impl Endpoint {
     pub fn shutdown<W: Watch>(&mut self, now: u64, watch: &mut W)
         requires generation { self.old.state.generation < 2 ^ 63 }
         requires now { now ≤ 2 ^ 63 }
-        ensures { Does W.sent W.told watch.old watch.new self.old self.new
+        ensures { Does W.has watch.old watch.new self.old self.new
             (shutdown self.old.settings now self.old.state) }
     {
         match self.phase {

@@ -8,23 +8,18 @@ ghost use Rattle.sctp_rules.specs.Timers.{is_due, unanswered, tick_t5, tick_t2, 
 ghost use Rattle.sctp_endpoint.specs.Endpoints.{Does};
 
 use crate::endpoint::Endpoint;
+use crate::endpoint::shutting::{SHUTDOWN_ACK_OCTETS, SHUTDOWN_OCTETS};
 use crate::reply::Reply;
 use crate::watch::Watch;
 use sctp_codec::Cause;
 use sctp_rules::limits::CONTROL_OCTETS;
 use sctp_rules::{Loss, Phase};
 
-/// Octets of a SHUTDOWN chunk.
-const SHUTDOWN_OCTETS: usize = 8;
-
-/// Octets of a SHUTDOWN ACK chunk.
-const SHUTDOWN_ACK_OCTETS: usize = 4;
-
 impl Endpoint {
     /// T5-shutdown-guard runs out, where it is due: it ends by ABORT.
     pub(super) fn tick_t5<W: Watch>(&mut self, now: u64, watch: &mut W)
         requires { self.old.state.generation < 2 ^ 64 - 1 }
-        ensures { Does W.sent W.told watch.old watch.new self.old self.new
+        ensures { Does W.has watch.old watch.new self.old self.new
             (tick_t5 self.old.settings now self.old.state) }
     {
         if is_due(now, self.t5) {
@@ -40,7 +35,7 @@ impl Endpoint {
     pub(super) fn tick_t2<W: Watch>(&mut self, now: u64, watch: &mut W)
         requires generation { self.old.state.generation < 2 ^ 64 - 1 }
         requires now { now ≤ 2 ^ 63 }
-        ensures { Does W.sent W.told watch.old watch.new self.old self.new
+        ensures { Does W.has watch.old watch.new self.old self.new
             (tick_t2 self.old.settings now self.old.state) }
     {
         if is_due(now, self.t2) {
@@ -52,7 +47,7 @@ impl Endpoint {
     fn run_t2<W: Watch>(&mut self, now: u64, watch: &mut W)
         requires generation { self.old.state.generation < 2 ^ 64 - 1 }
         requires now { now ≤ 2 ^ 63 }
-        ensures { Does W.sent W.told watch.old watch.new self.old self.new
+        ensures { Does W.has watch.old watch.new self.old self.new
             (unanswered self.old.settings (λ left. t2_out self.old.settings now left) self.old.state) }
     {
         if self.count_failure() {
@@ -94,7 +89,7 @@ impl Endpoint {
     pub(super) fn tick_t3<W: Watch>(&mut self, now: u64, watch: &mut W)
         requires generation { self.old.state.generation < 2 ^ 64 - 1 }
         requires now { now ≤ 2 ^ 63 }
-        ensures { Does W.sent W.told watch.old watch.new self.old self.new
+        ensures { Does W.has watch.old watch.new self.old self.new
             (tick_t3 self.old.settings now self.old.state) }
     {
         if is_due(now, self.sender.t3()) {
@@ -106,7 +101,7 @@ impl Endpoint {
     fn run_t3<W: Watch>(&mut self, now: u64, watch: &mut W)
         requires generation { self.old.state.generation < 2 ^ 64 - 1 }
         requires now { now ≤ 2 ^ 63 }
-        ensures { Does W.sent W.told watch.old watch.new self.old self.new
+        ensures { Does W.has watch.old watch.new self.old self.new
             (unanswered self.old.settings (λ left. t3_out self.old.settings now left) self.old.state) }
     {
         if self.count_failure() {
@@ -136,7 +131,7 @@ impl Endpoint {
     /// The peer doesn't answer: it ends by ABORT.
     pub(super) fn give_up<W: Watch>(&mut self, watch: &mut W)
         requires { self.old.state.generation < 2 ^ 64 - 1 }
-        ensures { Does W.sent W.told watch.old watch.new self.old self.new
+        ensures { Does W.has watch.old watch.new self.old self.new
             (aborted self.old.settings NoAnswer violation self.old.state) }
     {
         self.end_with(

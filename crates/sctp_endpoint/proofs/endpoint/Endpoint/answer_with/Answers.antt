@@ -1,5 +1,4 @@
-use Rattle.std.proofs.Common.{[], ◌∷◌, ◌++◌, List, ℕ, take, sym, ap, subst, ◌∙◌}
-use Rattle.std.proofs.lemmas.List.{append-nil}
+use Rattle.std.proofs.Common.{take, ap, subst, ◌∙◌, refl}
 use Rattle.sctp_codec.specs.Values.{init_of, items_of}
 use Rattle.sctp_cookie.specs.declared.cookie.Cookie.{Cookie}
 use Rattle.sctp_rules.specs.Opening.{cookie_for}
@@ -7,8 +6,9 @@ use Rattle.sctp_cookie.specs.Cookies.{Fits, signed}
 use Rattle.sctp_ends.specs.Keyed.{signed_under}
 use Rattle.sctp_endpoint.proofs.Keyed.{signed-kept}
 use Rattle.sctp_endpoint.specs.Endpoints.{Endpoint}
-use Rattle.sctp_endpoint.specs.Settings.{settings_of, address_of}
+use Rattle.sctp_endpoint.specs.Settings.{settings_of}
 use Rattle.sctp_endpoint.proofs.Answering.{answer-text}
+use Rattle.sctp_endpoint.proofs.Hearing.{given-put, put-one}
 use Rattle.sctp_endpoint.proofs.endpoint.Endpoint.answer_with.Goals as goal
 
 pub returns : goal.returns
@@ -18,7 +18,4 @@ returns g c =
     let made : Cookie = cookie_for e.settings c.args.now e.state (record { tag = c.args.tag; first = c.args.first_tsn }) (init_of c.args.init.now) in
     let cookie = c.sign-cookie.ensures.signed.octets_are ∙ ap (signed key) c.cookie_for.ensures ∙ ap (λ (x : Endpoint). signed x.cookie_key made) c.self.view_is ∙ signed-kept e.cookie_key made (subst Fits c.cookie_for.ensures c.sign-cookie.ensures.signed.fits) in
     let text = answer-text (take c.write_init_answer-end.result c.write_init_answer-end.new.out) (settings_of c.self.inside.settings) c.args.self.now.settings c.args.init.now.offer.tag c.offer-offer.result (record { tag = c.args.tag; window = 65536; outgoing = 2; incoming = 2; first_tsn = c.args.first_tsn }) c.sign-cookie.result (signed_under e.cookie_key made) (items_of c.args.init.now.parameters) c.write_init_answer-end.ensures.text (ap (λ (x : Endpoint). x.settings) c.self.view_is) c.offer-offer.ensures cookie in
-    record {
-      sent_is = c.send.ensures.sent ∙ ap (λ (t : List ℕ). g.W.Watch.sent c.args.watch.now ++ record { octets = t; to = address_of c.args.source.now } ∷ []) text;
-      told_is = c.send.ensures.told ∙ sym (append-nil (g.W.Watch.told c.args.watch.now));
-    }
+    given-put g.W.Watch.has c.args.watch.now c.send.new.self _ refl (put-one g.W.Watch.has c.args.watch.now c.send.new.self _ _ c.send.ensures text)

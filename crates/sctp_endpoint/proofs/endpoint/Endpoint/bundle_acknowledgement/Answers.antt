@@ -5,10 +5,10 @@ use Rattle.sctp_endpoint.proofs.endpoint.Endpoint.bundle_acknowledgement.Goals a
 
 pub returns-then-not-is_acknowledging-clause-bundled : goal.returns-then-not-is_acknowledging-clause-bundled
 returns-then-not-is_acknowledging-clause-bundled g c =
-    acknowledged-none g.W.Watch.sent g.W.Watch.told (way_of c.args.self.now) c.args.watch.now (take c.args.end c.args.out.now) c.args.self.now.state.association (sym c.is_acknowledging.ensures ∙ c.if-not-is_acknowledging.true)
+    acknowledged-none g.W.Watch.has (way_of c.args.self.now) c.args.watch.now (take c.args.end c.args.out.now) c.args.self.now.state.association (sym c.is_acknowledging.ensures ∙ c.if-not-is_acknowledging.true)
 
 pub returns-clause-bundled : goal.returns-clause-bundled
 returns-clause-bundled g c =
-    acknowledged-both g.W.Watch.sent g.W.Watch.told (way_of c.args.self.now) c.args.watch.now c.bundle_shutdown-at.new.watch c.bundle_sack-at.new.watch (take c.args.end c.args.out.now)
+    acknowledged-both g.W.Watch.has (way_of c.args.self.now) c.args.watch.now c.bundle_shutdown-at.new.watch c.bundle_sack-at.new.watch (take c.args.end c.args.out.now)
     (take c.bundle_shutdown-at.result c.bundle_shutdown-at.new.out) (take c.bundle_sack-at.result c.bundle_sack-at.new.out) c.args.self.now.state.association (sym c.is_acknowledging.ensures ∙ c.if-not-is_acknowledging.false)
     c.bundle_shutdown-at.ensures.bundled c.bundle_sack-at.ensures.bundled

@@ -15,14 +15,14 @@ loop-preserved g c =
       left = turn-left c.loop.self c.bundle_next.new.self c.loop.counter c.args.now c.bundle_next.result c.loop-test.true c.if-not-bundle_next.false c.bundle_next.ensures.goes_on c.bundle_next.ensures.left ∙ c.loop.invariant.left;
       bundled = λ last text more.
           c.loop.invariant.bundled last text
-          (turn-bundled g.W.Watch.sent g.W.Watch.told c.args.self.now c.loop.self c.bundle_next.new.self c.loop.counter c.args.now c.bundle_next.result c.loop.watch c.bundle_next.new.watch last (take c.loop.at c.loop.out)
+          (turn-bundled g.W.Watch.has c.args.self.now c.loop.self c.bundle_next.new.self c.loop.counter c.args.now c.bundle_next.result c.loop.watch c.bundle_next.new.watch last (take c.loop.at c.loop.out)
           (take c.bundle_next.new.end c.bundle_next.new.out) text c.loop-test.true c.if-not-bundle_next.false c.bundle_next.ensures.goes_on c.loop.invariant.kept c.bundle_next.ensures.left c.bundle_next.ensures.bundled more);
     }
 
 pub returns-then-not-bundle_next-clause-bundled : goal.returns-then-not-bundle_next-clause-bundled
 returns-then-not-bundle_next-clause-bundled g c =
     c.loop.invariant.bundled c.bundle_next.new.watch (take c.bundle_next.new.end c.bundle_next.new.out)
-    (stop-bundled g.W.Watch.sent g.W.Watch.told c.args.self.now c.loop.self c.loop.counter c.args.now c.bundle_next.result c.loop.watch c.bundle_next.new.watch (take c.loop.at c.loop.out) (take c.bundle_next.new.end c.bundle_next.new.out)
+    (stop-bundled g.W.Watch.has c.args.self.now c.loop.self c.loop.counter c.args.now c.bundle_next.result c.loop.watch c.bundle_next.new.watch (take c.loop.at c.loop.out) (take c.bundle_next.new.end c.bundle_next.new.out)
     c.loop-test.true c.if-not-bundle_next.true c.bundle_next.ensures.goes_on c.loop.invariant.kept c.bundle_next.ensures.bundled)
 
 pub returns-then-not-bundle_next-clause-left : goal.returns-then-not-bundle_next-clause-left
@@ -33,7 +33,7 @@ returns-then-not-bundle_next-clause-left g c =
 pub returns-clause-bundled : goal.returns-clause-bundled
 returns-clause-bundled g c =
     c.loop.invariant.bundled c.loop.watch (take c.loop.at c.loop.out)
-    (over-bundled g.W.Watch.sent g.W.Watch.told (way_of c.args.self.now) c.loop.watch (take c.loop.at c.loop.out) c.loop.counter c.args.now c.loop.self.state.association.sender (omega (arith, c.loop-test.false)))
+    (over-bundled g.W.Watch.has (way_of c.args.self.now) c.loop.watch (take c.loop.at c.loop.out) c.loop.counter c.args.now c.loop.self.state.association.sender (omega (arith, c.loop-test.false)))
 
 pub returns-clause-left : goal.returns-clause-left
 returns-clause-left g c =

@@ -11,6 +11,6 @@ invariant-loop g l = record {
   kept : l.self ≡ with_sender l.fn.self l.self.state.association.sender;
   left : (going (257 - l.counter) l.now l.self.state.association.sender).left ≡ (all_gone l.now l.fn.self.state.association.sender).left;
   bundled : (last : g.row.W.Denot) (text : List ℕ)
-      → Bundles g.W.Watch.sent g.W.Watch.told (way_of l.fn.self) l.watch last (take l.at l.out) text (map DataChunk (going (257 - l.counter) l.now l.self.state.association.sender).chunks)
-      → Bundles g.W.Watch.sent g.W.Watch.told (way_of l.fn.self) l.fn.watch last (take l.end l.fn.out) text (map DataChunk (all_gone l.now l.fn.self.state.association.sender).chunks);
+      → Bundles g.W.Watch.has (way_of l.fn.self) l.watch last (take l.at l.out) text (map DataChunk (going (257 - l.counter) l.now l.self.state.association.sender).chunks)
+      → Bundles g.W.Watch.has (way_of l.fn.self) l.fn.watch last (take l.end l.fn.out) text (map DataChunk (all_gone l.now l.fn.self.state.association.sender).chunks);
 }

@@ -7,5 +7,5 @@ use Rattle.sctp_endpoint.proofs.endpoint.Endpoint.bundle_messages.Goals as goal
 
 pub returns-else-takes_sack-clause-bundled : goal.returns-else-takes_sack-clause-bundled
 returns-else-takes_sack-clause-bundled g c =
-    data-none g.W.Watch.sent g.W.Watch.told (way_of c.args.self.now) c.args.watch.now (take c.args.end c.args.out.now) c.args.now c.args.self.now.state.association
+    data-none g.W.Watch.has (way_of c.args.self.now) c.args.watch.now (take c.args.end c.args.out.now) c.args.now c.args.self.now.state.association
     (ap (λ (e : Endpoint). takes_sack e.state.association.phase) (sym c.self.view_is) ∙ sym c.takes_sack.ensures ∙ c.if-takes_sack.false)

@@ -15,9 +15,9 @@ bundle_message-requires-clause-place g c =
 pub returns-in-Some-clause-bundled : goal.returns-in-Some-clause-bundled
 returns-in-Some-clause-bundled g c =
     let said = next-said c.self.inside.sender c.in-Some.place c.put_out.new.self c.args.now (sym c.in-Some.ensures.place) c.in-Some.ensures.sending c.in-Some.ensures.within c.in-Some.ensures.next in
-    rw (← c.self.view_is) (subst (λ (xs : List ChunkValue). Bundles g.W.Watch.sent g.W.Watch.told (way_of (endpoint_in c.self.inside)) c.args.watch.now c.bundle_message.new.watch (take c.args.end.now c.args.out.now) (take c.bundle_message.result c.bundle_message.new.out) xs)
+    rw (← c.self.view_is) (subst (λ (xs : List ChunkValue). Bundles g.W.Watch.has (way_of (endpoint_in c.self.inside)) c.args.watch.now c.bundle_message.new.watch (take c.args.end.now c.args.out.now) (take c.bundle_message.result c.bundle_message.new.out) xs)
     (sym said) c.bundle_message.ensures.bundled)
 
 pub returns-in-None-clause-bundled : goal.returns-in-None-clause-bundled
 returns-in-None-clause-bundled g c =
-    rw (← c.self.view_is, ← c.in-None.ensures.place) (bundles-none g.W.Watch.sent g.W.Watch.told (way_of (endpoint_in c.self.inside)) c.args.watch.now (take c.args.end.now c.args.out.now))
+    rw (← c.self.view_is, ← c.in-None.ensures.place) (bundles-none g.W.Watch.has (way_of (endpoint_in c.self.inside)) c.args.watch.now (take c.args.end.now c.args.out.now))

@@ -20,7 +20,7 @@ returns-clause-bundled g c =
     let long : 16 + 4 * n + 4 * length numbers ≡ size_of (SackChunk s) = omega (arith, count, sack-size s) in
     let same = sack-said r c.cumulative.result c.window_of.result gaps numbers c.cumulative.ensures c.window_of.ensures c.write_gaps-count.ensures.blocks c.duplicates-duplicates.ensures.numbers
     ∙ ap (λ (e : Endpoint). sack_of e.state.association.receiver) c.self.view_is in
-    let whole = chunk-bundled g.W.Watch.sent g.W.Watch.told (way_of c.args.self.now) c.args.watch.now c.make_room-at.new.watch (take c.args.end c.args.out.now) (take c.make_room-at.result c.make_room-at.new.out)
+    let whole = chunk-bundled g.W.Watch.has (way_of c.args.self.now) c.args.watch.now c.make_room-at.new.watch (take c.args.end c.args.out.now) (take c.make_room-at.result c.make_room-at.new.out)
     (take c.write_sack.result c.write_sack.new.out) (16 + 4 * n + 4 * length numbers) (SackChunk s) c.make_room-at.ensures.made long c.write_sack.ensures.text in
-    subst (λ (x : ChunkValue). Bundles g.W.Watch.sent g.W.Watch.told (way_of c.args.self.now) c.args.watch.now c.make_room-at.new.watch (take c.args.end c.args.out.now) (take c.write_sack.result c.write_sack.new.out) (x ∷ []))
+    subst (λ (x : ChunkValue). Bundles g.W.Watch.has (way_of c.args.self.now) c.args.watch.now c.make_room-at.new.watch (take c.args.end c.args.out.now) (take c.write_sack.result c.write_sack.new.out) (x ∷ []))
     same whole

@@ -20,4 +20,4 @@ hear_chunks-requires-clause-generation g c =
 
 pub returns-then-not-has_peer_tag : goal.returns-then-not-has_peer_tag
 returns-then-not-has_peer_tag g c =
-    chunk-goes g.W.Watch.sent g.W.Watch.told c.args.watch.now c.hear_chunk.new.watch c.hear_chunks.new.watch c.args.self.now c.note_source.new.self c.hear_chunk.new.self c.hear_chunks.new.self c.args.now (address_of c.args.source.now) c.args.tag (chunk_value c.args.first.now) (chunks_of c.args.more) c.note_source.ensures c.hear_chunk.ensures.does (sym c.hear_chunk.ensures.goes_on ∙ c.if-hear_chunk.true) (sym c.has_peer_tag.ensures ∙ c.if-not-has_peer_tag.true) c.hear_chunks.ensures
+    chunk-goes g.W.Watch.has c.args.watch.now c.hear_chunk.new.watch c.hear_chunks.new.watch c.args.self.now c.note_source.new.self c.hear_chunk.new.self c.hear_chunks.new.self c.args.now (address_of c.args.source.now) c.args.tag (chunk_value c.args.first.now) (chunks_of c.args.more) c.note_source.ensures c.hear_chunk.ensures.does (sym c.hear_chunk.ensures.goes_on ∙ c.if-hear_chunk.true) (sym c.has_peer_tag.ensures ∙ c.if-not-has_peer_tag.true) c.hear_chunks.ensures

@@ -10,7 +10,7 @@ returns-in-None-clause-does g c =
     let r = c.self.inside.receiver in
     let none = none-held (is_some (next_held r)) (take_next r).told (c.in-None.ensures.told (record { stream = 0; sequence = 0; protocol = 0; begins = false; ends = false; unordered = false; octets = [] })) in
     rw (← c.self.view_is)
-    (nothing-next g.W.Watch.sent g.W.Watch.told c.args.watch.now (endpoint_in c.self.inside) (endpoint_in (record c.self.inside { receiver = c.take_next.new.self })) none
+    (nothing-next g.W.Watch.has c.args.watch.now (endpoint_in c.self.inside) (endpoint_in (record c.self.inside { receiver = c.take_next.new.self })) none
     (ap (λ (x : Receiver). endpoint_in (record c.self.inside { receiver = x })) c.take_next.ensures.left))
 
 pub returns-in-None-clause-goes_on : goal.returns-in-None-clause-goes_on

@@ -1,0 +1,15 @@
+use Rattle.std.proofs.Common.{ap, length, reverse}
+use Rattle.sctp_rules.specs.Timers.{ticked}
+use Rattle.sctp_rules.specs.Endpoint.{after}
+use Rattle.sctp_endpoint.specs.Endpoints.{secrets_of}
+use Rattle.sctp_world.specs.Kept.{KeptSite}
+use Rattle.sctp_world.proofs.Sites.{settled}
+use Rattle.sctp_world.proofs.site.Site.tick.Goals as goal
+
+pub returns : goal.returns
+unfolding after
+returns c =
+    let inside : KeptSite = record { endpoint = c.self.inside.endpoint; log = c.self.inside.log; given = reverse c.self.inside.given.items } in
+    settled (λ (k : KeptSite). ticked k.endpoint.settings (secrets_of k.endpoint) c.args.now k.endpoint.state) c.args.self.now inside
+    c.begin_lists.new.self c.tick.new.watch c.tick.new.self (length c.told-from.result.now) c.self.view_is c.begin_lists.ensures
+    (ap length c.told-from.ensures) c.tick.ensures
