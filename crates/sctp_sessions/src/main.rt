@@ -15,8 +15,8 @@
 //! those of usrsctp. Of the one message of 300 octets that the recorded end sent, an `Endpoint` takes the first 290.
 //!
 //! Below the name of a session is what the user was told, each message with its stream, its protocol and its octets;
-//! how many datagrams were heard, and put out; and whether that is what the recorded user was told. No recording says
-//! how many are put out: the other end put out fewer, 24, 10, 76 and 6, since it delayed SACK.
+//! how many datagrams were heard, and put out; and whether that is what the recorded user was told. How many are put
+//! out is no matter of the recording: the other end, which delayed SACK, put out 24, 10, 76 and 6.
 #![tactic(auto)]
 
 mod fitting;
